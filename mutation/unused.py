@@ -276,8 +276,8 @@ def copies(repository, gone):
         led = {}
         for it in file.imports:
             for there, here in it.names:
-                item = repository.target(repository.file_of(it.path), there)
-                led[here] = id(item) if item else ('.'.join(it.path), there)
+                found = repository.origin_of(it.path, there) or ('.'.join(it.path), there)
+                led[here] = id(found) if isinstance(found, reader.Item) else found
             if not it.has_names:
                 led[it.local_name()] = '.'.join(it.path)
         for item in file.items:

@@ -271,14 +271,22 @@ class Repository:
                 return self.file_of(it.path + path[3:], (*seen, key))
         return None
 
-    def target(self, file, name, seen=()):
+    def target(self, file, name):
         """The item that a name of a file leads to, over what the file passes on; or None."""
-        if file is None or file.path in seen:
-            return None
+        found = self.origin(file, name) if file else None
+        return found if isinstance(found, Item) else None
+
+    def origin(self, file, name, seen=()):
+        """What a name of a file leads to: an item, or a module of the kit and the name there; None if to nothing."""
         if name in file.by_name:
             return file.by_name[name]
         for it in file.imports:
             for there, here in it.names if it.is_public else []:
-                if here == name:
-                    return self.target(self.file_of(it.path), there, (*seen, file.path))
+                if here == name and file.path not in seen:
+                    return self.origin_of(it.path, there, (*seen, file.path))
         return None
+
+    def origin_of(self, path, name, seen=()):
+        """What a name of the module at a path leads to, as `origin` says."""
+        file = self.file_of(path)
+        return self.origin(file, name, seen) if file else ('.'.join(path), name)

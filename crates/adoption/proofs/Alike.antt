@@ -1,6 +1,6 @@
 -- Lists that are the same one by one.
-use Rattle.std.proofs.lemmas.Bool.{cases_lt}
 use Rattle.std.proofs.Common.{◌≡◌, ℕ, zero, suc, ◌<◌, ◌≤◌, List, [], ◌∷◌, length, slice_index_or, refl, sym, ap, ap₂, ◌∙◌, arith, ◌⊎◌, inl, inr}
+use Rattle.adoption.proofs.Common.{cases_lt}
 
 module _ {A : Type 0} where
   pub any_other : (xs : List A) (j : ℕ) → j < length xs → (d e : A) → slice_index_or xs j d ≡ slice_index_or xs j e
@@ -16,9 +16,11 @@ module _ {A : Type 0} where
   alike_all [] [] long h = refl
   alike_all [] (y ∷ ys) long h = absurd (omega (arith, long))
   alike_all (x ∷ xs) [] long h = absurd (omega (arith, long))
-  alike_all (x ∷ xs) (y ∷ ys) long h = ap₂ ◌∷◌ (h 0 (omega arith) x) (alike_all xs ys (omega (arith, long)) (λ j low d. h (suc j) (omega (arith, low)) d))
+  alike_all (x ∷ xs) (y ∷ ys) long h =
+      ap₂ ◌∷◌ (h 0 (omega arith) x) (alike_all xs ys (omega (arith, long)) (λ j low d. h (suc j) (omega (arith, low)) d))
 
-  pub alike_next : (n : ℕ) (xs ys : List A) (x y : A) → n < length xs → n < length ys → x ≡ slice_index_or xs n x → y ≡ slice_index_or ys n y → x ≡ y → AreAlikeTo n xs ys → AreAlikeTo (suc n) xs ys
+  pub alike_next : (n : ℕ) (xs ys : List A) (x y : A) → n < length xs → n < length ys → x ≡ slice_index_or xs n x
+      → y ≡ slice_index_or ys n y → x ≡ y → AreAlikeTo n xs ys → AreAlikeTo (suc n) xs ys
   alike_next n xs ys x y low_x low_y at_x at_y same h j low d = here (cases_lt j n)
     where
       here : (j < n) ⊎ (n ≤ j) → slice_index_or xs j d ≡ slice_index_or ys j d

@@ -5,7 +5,6 @@ use Rattle.std.proofs.Common.{Bool, ◌≡◌, ℕ, ◌≤◌, List, [], length,
 use Rattle.std.proofs.Math.Nat.{le_refl}
 use Rattle.sqlite.specs.Command.{Command}
 use Rattle.sqlite.specs.Command.TheVariants.{Select}
-use Rattle.sqlite.specs.Schema.{Schema}
 use Rattle.sqlite.specs.Listing.{understood, reads_listing, if_select, is_select, listing_schema}
 use Rattle.sqlite_ast.specs.declared.Select as written_select
 use Rattle.sqlite_ast.specs.declared.Statement.TheVariants as written
@@ -16,7 +15,7 @@ use Rattle.sqlite_resolve.specs.Compile.{first, meaning, planned, with_command, 
 use Rattle.sqlite_resolve.specs.Program.{query, program}
 use Rattle.sqlite_syntax.specs.declared.statement.Parsed.{Parsed}
 use Rattle.sqlite_tied.specs.Compute.{everything}
-use Rattle.adoption.specs.Versions.{version_text}
+use Rattle.adoption.proofs.Common.{Schema, version_text}
 
 -- the text is one query, without parameters, and does not read the time
 pub record IsQuery (p : Parsed) : Type 0 where
@@ -51,7 +50,8 @@ same_ok {A} {a} {b} p = ap (λ r. from r) p
     from (Ok x) = x
     from (Err e) = a
 
-reads_select : (schema : Schema) (s : written_select.Select) (k : Command) → read schema s ≡ Ok k → (p : Program) × (names : List (List ℕ)) × (k ≡ Select p names)
+reads_select : (schema : Schema) (s : written_select.Select) (k : Command) → read schema s ≡ Ok k
+    → (p : Program) × (names : List (List ℕ)) × (k ≡ Select p names)
 unfolding read
 reads_select schema s k = elim (query schema s) as (λ r. and_then r (λ q. and_then (program schema q.1 q.0.0) (λ p. Ok (Select p q.0.1))) ≡ Ok k → (p : Program) × (names : List (List ℕ)) × (k ≡ Select p names)) [
   | Ok q ↦ elim (program schema q.1 q.0.0) as (λ r. and_then r (λ p. Ok (Select p q.0.1)) ≡ Ok k → (p : Program) × (names : List (List ℕ)) × (k ≡ Select p names)) [
@@ -78,7 +78,8 @@ plans : (r : Checked Command) → and_then (and_then r shows_nothing) untimed �
 plans (Ok k) = refl
 plans (Err e) = refl
 
-plan_of : (schema : Schema) (s : written_select.Select) (p : Parsed) → p.statement ≡ written.Select s → p.formats ≡ [] → planned schema p ≡ and_then (read schema s) plain_plan
+plan_of : (schema : Schema) (s : written_select.Select) (p : Parsed) → p.statement ≡ written.Select s → p.formats ≡ []
+    → planned schema p ≡ and_then (read schema s) plain_plan
 unfolding planned meaning returning command timed
 plan_of schema s p is none = rw (is, none) (plans (read schema s))
 
@@ -87,11 +88,13 @@ compiled_with : (schema : Schema) (c : Compiled) → compiled schema version_tex
 unfolding compiled
 compiled_with schema c = at (first version_text) is_a_query
   where
-    at : (r : Checked Parsed) → HasQuery r → and_then r (λ p. and_then (planned schema p) (λ plan. Ok (with_command p plan))) ≡ Ok c → IsCompiledQuery c
+    at : (r : Checked Parsed) → HasQuery r
+        → and_then r (λ p. and_then (planned schema p) (λ plan. Ok (with_command p plan))) ≡ Ok c → IsCompiledQuery c
     at (Err e) it h = absurd it
     at (Ok p) it h = made (read schema it.query) refl (sym (ap (λ r. and_then r (λ plan. Ok (with_command p plan))) (plan_of schema it.query p it.statement it.formats)) ∙ h)
       where
-        made : (r : Checked Command) → read schema it.query ≡ r → and_then (and_then r plain_plan) (λ plan. Ok (with_command p plan)) ≡ Ok c → IsCompiledQuery c
+        made : (r : Checked Command) → read schema it.query ≡ r
+            → and_then (and_then r plain_plan) (λ plan. Ok (with_command p plan)) ≡ Ok c → IsCompiledQuery c
         made (Err e) is h = absurd (cc)
         made (Ok k) is h =
             let same = same_ok h in
@@ -110,7 +113,8 @@ if_ok : (r : Checked Compiled) (c : Compiled) → if_select r ≡ Ok c → r ≡
 if_ok (Err e) c h = absurd (cc)
 if_ok (Ok k) c h = at (is_select k.command) h
   where
-    at : (b : Bool) → ◌≡◌ {A = Checked Compiled} (if b then Ok k else Err NoSuchTable) (Ok c) → ◌≡◌ {A = Checked Compiled} (Ok k) (Ok c)
+    at : (b : Bool) → ◌≡◌ {A = Checked Compiled} (if b then Ok k else Err NoSuchTable) (Ok c)
+        → ◌≡◌ {A = Checked Compiled} (Ok k) (Ok c)
     at true h = h
     at false h = absurd (cc)
 

@@ -1,13 +1,5 @@
 -- The checks of the parts, one after another, tell the least cause.
 use Rattle.std.proofs.Common.{◌≡◌, ℕ, List, [], ◌∷◌, Bool, true, false, cond, ◌||◌, Option, Some, None, option_map, unwrap_or, inl, inr, refl, sym, ap, ◌∙◌}
-use Rattle.std.proofs.lemmas.Bool.{cases_Bool}
-use Rattle.sqlite.specs.Effect.{Database}
-use Rattle.sqlite.specs.Tree.{Trees}
-use Rattle.isad_core.specs.Words.{is_between}
-use Rattle.office_tables.specs.Versions.{Version, First, Second, encoding}
-use Rattle.catalogue_core.specs.CatalogueCauses.{places_are_bad, units_are_bad, elements_are_bad, containers_are_bad}
-use Rattle.office_tables.specs.Cells.{has_unread}
-use Rattle.office_tables.specs.CatalogueCells.{read_unit, read_element, read_container, read_housing}
 use Rattle.office_tables.specs.Schema as tables
 use Rattle.integrity_checks.specs.DeskChecks as desk
 use Rattle.integrity_checks.specs.declared.desk_defect.DeskDefect.{DeskDefect}
@@ -15,21 +7,15 @@ use Rattle.integrity_checks.specs.CatalogueChecks.{cause_of, catalogue_defect, u
 use Rattle.integrity_checks.specs.declared.catalogue_defect.CatalogueDefect.{CatalogueDefect}
 use Rattle.integrity_checks.specs.declared.catalogue_defect.CatalogueDefect.TheVariants.{Places, Units, Elements, Containers}
 use Rattle.integrity_checks.specs.PlaceChecks.{places_are_defective}
-use Rattle.state_encoding.specs.Causes.{around, first_held, day_is_broken}
-use Rattle.row_decoding.specs.TableRows.{places_are_unread}
-use Rattle.state_encoding.specs.CellCauses.{rows_in, cell_cause}
-use Rattle.state_encoding.specs.OfficeRows.{OfficeRows}
-use Rattle.adoption.specs.DeskCheck.{AreOfOffice, catalogue_cell_cause, of_desk}
-use Rattle.adoption.proofs.DeskChecked.{told_alike}
 use Rattle.adoption.specs.Causes.{CatalogueChecksTellTheCause}
 use Rattle.adoption.specs.Judgments.{HasGoodCatalogue}
-use Rattle.adoption.specs.OwnRows.{office_is_defective, own_of, own_row_of}
-use Rattle.adoption.specs.SoundTables.{AreGoodTables}
-use Rattle.adoption.specs.declared.own_row.OwnRow.{OwnRow}
+use Rattle.adoption.proofs.Common.{AreGoodTables, AreOfOffice, Database, First, OfficeRows, OwnRow, Second, Trees, Version, around, cases_Bool, catalogue_cell_cause, cell_cause, containers_are_bad, day_is_broken, elements_are_bad, encoding, first_held, has_unread, is_between, of_desk, office_is_defective, own_of, own_row_of, places_are_bad, places_are_unread, read_container, read_element, read_housing, read_unit, rows_in, units_are_bad}
+use Rattle.adoption.proofs.DeskChecked.{told_alike}
 
 -- ---- 2 to 5
 
-found : (b2 b3 b4 b5 : Bool) → option_map cause_of (cond b2 (Some Places) (cond b3 (Some Units) (cond b4 (Some Elements) (cond b5 (Some Containers) None))))
+found : (b2 b3 b4 b5 : Bool)
+    → option_map cause_of (cond b2 (Some Places) (cond b3 (Some Units) (cond b4 (Some Elements) (cond b5 (Some Containers) None))))
     ≡ first_held (false ∷ b2 ∷ b3 ∷ b4 ∷ b5 ∷ [])
 found true b3 b4 b5 = refl
 found false true b4 b5 = refl
@@ -56,7 +42,8 @@ module _ (db : Trees) where
 -- ---- all ten
 
 -- the first of five is the first of ten
-first_of_five : (b1 b2 b3 b4 b5 : Bool) (more : List Bool) (n : ℕ) → first_held (b1 ∷ b2 ∷ b3 ∷ b4 ∷ b5 ∷ []) ≡ Some n → first_held (b1 ∷ b2 ∷ b3 ∷ b4 ∷ b5 ∷ more) ≡ Some n
+first_of_five : (b1 b2 b3 b4 b5 : Bool) (more : List Bool) (n : ℕ) → first_held (b1 ∷ b2 ∷ b3 ∷ b4 ∷ b5 ∷ []) ≡ Some n
+    → first_held (b1 ∷ b2 ∷ b3 ∷ b4 ∷ b5 ∷ more) ≡ Some n
 first_of_five true b2 b3 b4 b5 more n h = h
 first_of_five false true b3 b4 b5 more n h = h
 first_of_five false false true b4 b5 more n h = h
@@ -120,27 +107,38 @@ module _ (version : Version) (db : Trees) where
   pub cause_of_office : office_is_defective version db ≡ true → cell_cause version db ≡ Some 1
   cause_of_office bad = ap (λ b. first_held (b ∷ b2 ∷ b3 ∷ b4 ∷ b5 ∷ b6 ∷ b7 ∷ b8 ∷ b9 ∷ day_is_broken t ∷ [])) bad
 
-  pub cause_of_catalogue : (defect : CatalogueDefect) → office_is_defective version db ≡ false → catalogue_defect version (rows_in version db).office.next_unit db ≡ Some defect
+  pub cause_of_catalogue : (defect : CatalogueDefect) → office_is_defective version db ≡ false
+      → catalogue_defect version (rows_in version db).office.next_unit db ≡ Some defect
       → cell_cause version db ≡ Some (cause_of defect)
   cause_of_catalogue defect fine is =
       first_of_five (office_is_defective version db) b2 b3 b4 b5 (b6 ∷ b7 ∷ b8 ∷ b9 ∷ day_is_broken t ∷ []) (cause_of defect) (sym (catalogue_told db version fine) ∙ ap (option_map cause_of) is)
 
-  pub no_cause_of_catalogue : office_is_defective version db ≡ false → catalogue_defect version (rows_in version db).office.next_unit db ≡ None → catalogue_cell_cause version db ≡ None
+  pub no_cause_of_catalogue : office_is_defective version db ≡ false
+      → catalogue_defect version (rows_in version db).office.next_unit db ≡ None
+      → catalogue_cell_cause version db ≡ None
   no_cause_of_catalogue fine is = sym (catalogue_told db version fine) ∙ ap (option_map cause_of) is
 
-  pub cause_of_desk : (defect : DeskDefect) (told : Option DeskDefect) → told ≡ Some defect → option_map desk.cause_of told ≡ of_desk (cell_cause version db) → cell_cause version db ≡ Some (desk.cause_of defect)
-  cause_of_desk defect told is alike = some_of_desk (cell_cause version db) (desk.cause_of defect) (ap (option_map desk.cause_of) (sym is) ∙ alike)
+  pub cause_of_desk : (defect : DeskDefect) (told : Option DeskDefect) → told ≡ Some defect
+      → option_map desk.cause_of told ≡ of_desk (cell_cause version db)
+      → cell_cause version db ≡ Some (desk.cause_of defect)
+  cause_of_desk defect told is alike =
+      some_of_desk (cell_cause version db) (desk.cause_of defect) (ap (option_map desk.cause_of) (sym is) ∙ alike)
 
-  pub no_cause_of_desk : (told : Option DeskDefect) → told ≡ None → option_map desk.cause_of told ≡ of_desk (cell_cause version db) → of_desk (cell_cause version db) ≡ None
+  pub no_cause_of_desk : (told : Option DeskDefect) → told ≡ None
+      → option_map desk.cause_of told ≡ of_desk (cell_cause version db) → of_desk (cell_cause version db) ≡ None
   no_cause_of_desk told is alike = sym alike ∙ ap (option_map desk.cause_of) is
 
-  last_cause : catalogue_cell_cause version db ≡ None → of_desk (cell_cause version db) ≡ None → cell_cause version db ≡ cond (day_is_broken (rows_in version db)) (Some 10) None
-  last_cause catalogue others = tenth (office_is_defective version db) b2 b3 b4 b5 b6 b7 b8 b9 (day_is_broken t) catalogue others
+  last_cause : catalogue_cell_cause version db ≡ None → of_desk (cell_cause version db) ≡ None
+      → cell_cause version db ≡ cond (day_is_broken (rows_in version db)) (Some 10) None
+  last_cause catalogue others =
+      tenth (office_is_defective version db) b2 b3 b4 b5 b6 b7 b8 b9 (day_is_broken t) catalogue others
 
-  pub broken_day : catalogue_cell_cause version db ≡ None → of_desk (cell_cause version db) ≡ None → day_is_broken (rows_in version db) ≡ true → cell_cause version db ≡ Some 10
+  pub broken_day : catalogue_cell_cause version db ≡ None → of_desk (cell_cause version db) ≡ None
+      → day_is_broken (rows_in version db) ≡ true → cell_cause version db ≡ Some 10
   broken_day catalogue others is = last_cause catalogue others ∙ ap (λ b. cond b (Some 10) None) is
 
-  pub kept_day : catalogue_cell_cause version db ≡ None → of_desk (cell_cause version db) ≡ None → day_is_broken (rows_in version db) ≡ false → cell_cause version db ≡ None
+  pub kept_day : catalogue_cell_cause version db ≡ None → of_desk (cell_cause version db) ≡ None
+      → day_is_broken (rows_in version db) ≡ false → cell_cause version db ≡ None
   kept_day catalogue others is = last_cause catalogue others ∙ ap (λ b. cond b (Some 10) None) is
 
   -- ---- by the office's own row
@@ -161,7 +159,8 @@ module _ (version : Version) (db : Trees) where
   own_row_is own some =
       ap (λ o. unwrap_or o own) (some ∙ ap (λ b. cond b None (Some (own_of (rows_in version db).office))) (own_row_is_fine own some))
 
-  pub own_limits : (own : OwnRow) → Some own ≡ own_row_of version db → AreOfOffice (rows_in version db).office own.limits own.today
+  pub own_limits : (own : OwnRow) → Some own ≡ own_row_of version db
+      → AreOfOffice (rows_in version db).office own.limits own.today
   own_limits own some =
       let is = own_row_is own some in
       record {
@@ -177,8 +176,10 @@ module _ (version : Version) (db : Trees) where
     next_is : own.next_unit ≡ (rows_in version db).office.next_unit
     next_is = ap (λ (o : OwnRow). o.next_unit) (own_row_is own is)
 
-    pub told_catalogue : (defect : CatalogueDefect) → Some defect ≡ catalogue_defect version own.next_unit db → cell_cause version db ≡ Some (cause_of defect)
-    told_catalogue defect told = cause_of_catalogue defect (own_row_is_fine own is) (sym (told ∙ ap (λ n. catalogue_defect version n db) next_is))
+    pub told_catalogue : (defect : CatalogueDefect) → Some defect ≡ catalogue_defect version own.next_unit db
+        → cell_cause version db ≡ Some (cause_of defect)
+    told_catalogue defect told =
+        cause_of_catalogue defect (own_row_is_fine own is) (sym (told ∙ ap (λ n. catalogue_defect version n db) next_is))
 
     pub fine_catalogue : None ≡ catalogue_defect version own.next_unit db → catalogue_cell_cause version db ≡ None
     fine_catalogue told = no_cause_of_catalogue (own_row_is_fine own is) (sym (told ∙ ap (λ n. catalogue_defect version n db) next_is))
@@ -187,13 +188,15 @@ module _ (version : Version) (db : Trees) where
       alike : option_map desk.cause_of (desk.desk_defect own.limits own.today db) ≡ of_desk (cell_cause version db)
       alike = told_alike version db own.limits own.today (own_limits own is) fine
 
-      pub told_desk : (defect : DeskDefect) → Some defect ≡ desk.desk_defect own.limits own.today db → cell_cause version db ≡ Some (desk.cause_of defect)
+      pub told_desk : (defect : DeskDefect) → Some defect ≡ desk.desk_defect own.limits own.today db
+          → cell_cause version db ≡ Some (desk.cause_of defect)
       told_desk defect told = cause_of_desk defect (desk.desk_defect own.limits own.today db) (sym told) alike
 
       fine_desk : None ≡ desk.desk_defect own.limits own.today db → of_desk (cell_cause version db) ≡ None
       fine_desk told = no_cause_of_desk (desk.desk_defect own.limits own.today db) (sym told) alike
 
-pub good_tables : (version : Version) (db : Database) (own : OwnRow) → HasGoodCatalogue version own db → None ≡ desk.desk_defect own.limits own.today db.trees → AreGoodTables version db
+pub good_tables : (version : Version) (db : Database) (own : OwnRow) → HasGoodCatalogue version own db
+    → None ≡ desk.desk_defect own.limits own.today db.trees → AreGoodTables version db
 good_tables version db own it told = record {
   schema_is = it.schema_is;
   live = it.live;

@@ -1,30 +1,17 @@
 -- Tables against which there is none of the causes 1 to 9: what is told of the state that they show is told of their rows.
 use Rattle.std.proofs.Common.{◌≡◌, ℕ, Bool, Some, Result, Ok, Err, IfErr, sym, ap}
-use Rattle.std.specs.Prelude.{⊤, IfOk}
-use Rattle.sqlite.specs.Held.{Held, state}
-use Rattle.sqlite.specs.State.{State, HasCleanDisk}
-use Rattle.sqlite.specs.Tree.{Trees}
+use Rattle.sqlite.specs.State.{State}
 use Rattle.sqlite_trees.specs.declared.store.Store as store
-use Rattle.tree_core.specs.Forest.{Forest}
-use Rattle.office_tables.specs.Versions.{Version}
-use Rattle.state_encoding.specs.Causes.{day_is_broken}
-use Rattle.state_encoding.specs.CellCauses.{rows_in}
 use Rattle.office_tables.specs.Calls.{Answers}
-use Rattle.office_tables.specs.Faults.{BlamesDisk}
-use Rattle.office_tables.specs.declared.fault.StoreFault.{StoreFault}
 use Rattle.refinement.specs.DayRules.{breaks_day_rules}
 use Rattle.refinement.specs.AccessConditions.{CanBeJudged, RepresentsWhole}
 use Rattle.refinement.proofs.Tellings.{looked_crash}
-use Rattle.adoption.specs.Catalogue.{described_state}
-use Rattle.adoption.specs.SoundTables.{AreGoodTables}
-use Rattle.adoption.specs.Tables.{GoodTablesRepresentTheirState}
-use Rattle.adoption.specs.Judgments.{Judges}
-use Rattle.adoption.specs.OwnRows.{own_row_of}
-use Rattle.adoption.specs.declared.own_row.OwnRow.{OwnRow}
-use Rattle.adoption.proofs.CauseLemmas.{own_row_is}
 use Rattle.std.proofs.lemmas.Result.{IfOk-weaker}
+use Rattle.adoption.proofs.Common.{AreGoodTables, BlamesDisk, Forest, GoodTablesRepresentTheirState, HasCleanDisk, Held, IfOk, Judges, OwnRow, StoreFault, Trees, Version, day_is_broken, described_state, own_row_of, rows_in, state, ⊤}
+use Rattle.adoption.proofs.CauseLemmas.{own_row_is}
 
-for_each : (r : Result Bool StoreFault) (A B : Type 0) (P : Bool → Type 0) → (A → B → IfOk r P) → IfOk r (λ broken. A → B → P broken)
+for_each : (r : Result Bool StoreFault) (A B : Type 0) (P : Bool → Type 0) → (A → B → IfOk r P)
+    → IfOk r (λ broken. A → B → P broken)
 for_each (Ok broken) A B P is = is
 for_each (Err e) A B P is = tt
 
@@ -40,7 +27,8 @@ module _ (places : Trees → Forest ℕ → Type 0) (v : Version) {S : Type 0} (
   TellsTheDay = Answers g (RepresentsWhole places v) CanBeJudged before after r (λ _. ⊤) (λ _ s broken. CanBeJudged s → own.today ≡ s.day → own.limits.hands ≡ s.settings.hands → broken ≡ breaks_day_rules s)
 
   module _ (law : GoodTablesRepresentTheirState places v old.now) (told : TellsTheDay) where
-    day_told : HasCleanDisk new → own_row_of v old.now.trees ≡ Some own → AreGoodTables v old.now → IfOk r (λ broken. broken ≡ day_is_broken (rows_in v old.now.trees))
+    day_told : HasCleanDisk new → own_row_of v old.now.trees ≡ Some own → AreGoodTables v old.now
+        → IfOk r (λ broken. broken ≡ day_is_broken (rows_in v old.now.trees))
     day_told clean mine good =
         let it = law good in
         let is = own_row_is v old.now.trees own (sym mine) in

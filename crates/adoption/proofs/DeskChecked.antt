@@ -1,30 +1,13 @@
 -- The check of the desk's tables tells what the list of causes does.
 use Rattle.std.proofs.Common.{◌≡◌, ℕ, ℤ, List, [], ◌∷◌, Bool, true, false, cond, ◌||◌, nat_eq, Option, Some, None, is_none, filter_map, option_map, refl, sym, ap, ap₂, ◌∙◌}
-use Rattle.std.specs.List.{list_any, cons_option}
 use Rattle.std.specs.Cmp.{both_ways}
-use Rattle.std.proofs.lemmas.Bool.{or_parts, eqb-true, eq-eqb}
-use Rattle.sqlite.specs.Order.{Row, column}
-use Rattle.sqlite.specs.Tree.{Trees}
-use Rattle.office_tables.specs.Versions.{Version, encoding}
-use Rattle.desk_core.specs.DeskCauses.{Around}
-use Rattle.desk_core.specs.Orders.{in_order}
 use Rattle.desk_core.specs.declared.reader.Limits.{Limits}
-use Rattle.catalogue_core.specs.CatalogueRows.{UnitRow, ContainerRow}
-use Rattle.catalogue_core.specs.CatalogueCauses.{places_are_bad, units_are_bad, elements_are_bad, containers_are_bad}
-use Rattle.office_tables.specs.Cells.{has_unread, number_in, whole_in, text_in, flag_in, or_null_in}
-use Rattle.office_tables.specs.CatalogueCells.{read_office, read_unit, read_element, read_container, read_housing}
 use Rattle.office_tables.specs.Schema as tables
 use Rattle.office_tables.proofs.ByNumber.{any_ordered}
-use Rattle.office_tables.proofs.CellTexts.{from_first}
-use Rattle.state_encoding.specs.Causes.{first_held, office_is_bad, around, day_is_broken}
-use Rattle.row_decoding.specs.TableRows.{by, places_are_unread}
-use Rattle.state_encoding.specs.CellCauses.{rows_in}
-use Rattle.state_encoding.specs.OfficeRows.{OfficeRows}
-use Rattle.state_encoding.proofs.Judging.{none_held}
 use Rattle.integrity_checks.specs.DeskChecks.{around_in, is_numbered, cause_of, registration_is_defective, orders_are_defective, holdings_are_defective, runs_are_defective, defect_of_desk}
 use Rattle.row_decoding.specs.Readings.{read_number}
 use Rattle.integrity_checks.specs.declared.desk_defect.DeskDefect.TheVariants.{Readers, Orders, Holdings, Runs}
-use Rattle.adoption.specs.DeskCheck.{of_desk, DeskChecksTellTheCause}
+use Rattle.adoption.proofs.Common.{Around, ContainerRow, DeskChecksTellTheCause, OfficeRows, Row, Trees, UnitRow, Version, around, by, column, cons_option, containers_are_bad, day_is_broken, elements_are_bad, encoding, eq-eqb, eqb-true, first_held, flag_in, from_first, has_unread, in_order, list_any, none_held, number_in, of_desk, office_is_bad, or_null_in, or_parts, places_are_bad, places_are_unread, read_container, read_element, read_housing, read_office, read_unit, rows_in, text_in, units_are_bad, whole_in}
 
 -- ---- which units and containers there are
 
@@ -32,18 +15,23 @@ same_back : (a b : ℕ) → nat_eq a b ≡ nat_eq b a
 same_back a b = both_ways (nat_eq a b) (nat_eq b a) (λ h. eq-eqb b a (sym (eqb-true a b h))) (λ h. eq-eqb a b (sym (eqb-true b a h)))
 
 module _ {X : Type 0} (read : Row → Option X) (id : X → ℕ) (keyed : (row : Row) (x : X) → read row ≡ Some x → read_number row ≡ Some (id x)) where
-  met : (n : ℕ) (rows : List Row) → has_unread read rows ≡ false → is_numbered rows n ≡ list_any (λ x. nat_eq (id x) n) (filter_map read rows)
+  met : (n : ℕ) (rows : List Row) → has_unread read rows ≡ false
+      → is_numbered rows n ≡ list_any (λ x. nat_eq (id x) n) (filter_map read rows)
   met n [] none = refl
   met n (row ∷ rows) none =
       let parts = or_parts (is_none (read row)) (has_unread read rows) none in
       at (met n rows parts.1) (read row) refl parts.0
     where
-      at : is_numbered rows n ≡ list_any (λ x. nat_eq (id x) n) (filter_map read rows) → (o : Option X) → read row ≡ o → is_none o ≡ false → is_numbered (row ∷ rows) n ≡ list_any (λ x. nat_eq (id x) n) (cons_option o (filter_map read rows))
+      at : is_numbered rows n ≡ list_any (λ x. nat_eq (id x) n) (filter_map read rows) → (o : Option X) → read row ≡ o
+          → is_none o ≡ false
+          → is_numbered (row ∷ rows) n ≡ list_any (λ x. nat_eq (id x) n) (cons_option o (filter_map read rows))
       at more None is h = absurd (let clash : true ≡ false = h in cc)
       at more (Some x) is h = ap (λ (o : Option ℕ). list_any (nat_eq n) (cons_option o (filter_map read_number rows))) (keyed row x is) ∙ ap₂ ◌||◌ (same_back n (id x)) more
 
-  pub are_met : (table : List Row) → has_unread read table ≡ false → (n : ℕ) → (before : X → X → Bool) → is_numbered table n ≡ list_any (λ x. nat_eq (id x) n) (in_order before (filter_map read table))
-  are_met table none n before = met n table none ∙ sym (any_ordered id (λ x. nat_eq (id x) n) before (filter_map read table))
+  pub are_met : (table : List Row) → has_unread read table ≡ false → (n : ℕ) → (before : X → X → Bool)
+      → is_numbered table n ≡ list_any (λ x. nat_eq (id x) n) (in_order before (filter_map read table))
+  are_met table none n before =
+      met n table none ∙ sym (any_ordered id (λ x. nat_eq (id x) n) before (filter_map read table))
 
 unit_keyed : (row : Row) (x : UnitRow) → read_unit row ≡ Some x → read_number row ≡ Some x.id
 unit_keyed row x h =
@@ -75,7 +63,8 @@ container_keyed row x h =
 
 -- ---- the first that holds
 
-found : (b6 b7 b8 b9 b10 : Bool) → option_map cause_of (cond b6 (Some Readers) (cond b7 (Some Orders) (cond b8 (Some Holdings) (cond b9 (Some Runs) None))))
+found : (b6 b7 b8 b9 b10 : Bool)
+    → option_map cause_of (cond b6 (Some Readers) (cond b7 (Some Orders) (cond b8 (Some Holdings) (cond b9 (Some Runs) None))))
     ≡ of_desk (first_held (false ∷ false ∷ false ∷ false ∷ false ∷ b6 ∷ b7 ∷ b8 ∷ b9 ∷ b10 ∷ []))
 found true b7 b8 b9 b10 = refl
 found false true b8 b9 b10 = refl

@@ -1,3 +1,4 @@
+pub mod Common
 pub mod Lookings
 pub mod JudgmentEnds
 pub mod DeskChecked

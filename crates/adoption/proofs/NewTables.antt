@@ -2,7 +2,7 @@
 use Rattle.std.proofs.Common.{◌≡◌, [], IsTrue, refl}
 use Rattle.sqlite.specs.State.{State}
 use Rattle.office_tables.specs.Creation.{IsMaking}
-use Rattle.office_tables.specs.Schema.{schema, no_schema, desk_schema, desk_tables}
+use Rattle.adoption.proofs.Common.{desk_schema, desk_tables, no_schema, schema}
 
 -- ---- as they are made
 

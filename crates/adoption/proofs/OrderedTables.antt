@@ -1,42 +1,24 @@
 -- The rows of the tables of an office of this product stand in order.
 use Rattle.std.proofs.Common.{◌≡◌, ℕ, ℤ, pos, List, [], ◌∷◌, map, Less, refl, sym, ap₂, subst, ◌∙◌, IsTrue, ap}
-use Rattle.std.specs.List.{AllByRecursion}
-use Rattle.std.specs.Ordering.{int_cmp}
-use Rattle.sqlite.specs.Effect.{Database}
-use Rattle.sqlite.specs.Order.{Row, column}
-use Rattle.sqlite.specs.Tree.{Trees, IsTable}
-use Rattle.sqlite.specs.declared.types.Value.TheVariants.{Int}
-use Rattle.sqlite_trees.specs.View.{is_int}
-use Rattle.sqlite_value.specs.Order.{value_cmp}
-use Rattle.sqlite_value.proofs.OrderLemmas.{value_cmp-Int}
-use Rattle.tree_core.specs.Forest.{Forest}
-use Rattle.office_tables.specs.Versions.{Version, First, Second, encoding}
 use Rattle.tree_core.specs.declared.rows.Link.{Link}
 use Rattle.tree_core.specs.declared.rows.Span.{Span}
 use Rattle.isad_core.specs.declared.values.BoxKey.{BoxKey}
-use Rattle.desk_core.specs.DeskRows.{ReaderRow, SeatRow, OrderRow, HoldingRow, RunRow}
-use Rattle.catalogue_core.specs.Units.{Unit}
-use Rattle.catalogue_statements.specs.Rows.{unit_row, container_row, counted_from}
-use Rattle.catalogue_statements.specs.Representation.{RepresentsLinkRows}
+use Rattle.catalogue_statements.specs.Rows.{unit_row, container_row}
 use Rattle.catalogue_statements.proofs.Numbered.{counted_rises as boxes_rise}
 use Rattle.office_core.specs.State.{State}
-use Rattle.office_tables.specs.RowNumbers.{HasNumbered}
-use Rattle.office_tables.specs.Order.{Rises}
-use Rattle.office_tables.specs.Permits.{permit_cells}
-use Rattle.office_tables.specs.RowCells.{element_cells, housing_cells, link_cells, span_cells, reader_cells, seat_cells, order_cells, holding_cells, run_cells, run_line_cells}
+use Rattle.office_tables.specs.RowCells.{element_cells, housing_cells}
 use Rattle.office_tables.specs.Schema as tables
-use Rattle.office_tables.specs.Schema.{schema}
-use Rattle.office_tables.proofs.numbered.Counted.{counted_rises}
 use Rattle.state_encoding.specs.OfficeRows.{tables as tables_of}
 use Rattle.refinement.specs.Representation.{RepresentsState}
 use Rattle.nested_sets.specs.Representation.{RepresentsSpanRows}
-use Rattle.adoption.specs.OrderedTables.{StandsInOrder, StandInOrder}
 use Rattle.adoption.specs.OwnTables.{ShownTablesStandInOrder}
+use Rattle.adoption.proofs.Common.{AllByRecursion, Database, First, Forest, HasNumbered, HoldingRow, Int, IsTable, OrderRow, ReaderRow, RepresentsLinkRows, Rises, Row, RunRow, SeatRow, Second, StandInOrder, StandsInOrder, Trees, Unit, Version, column, counted_from, counted_rises, encoding, holding_cells, int_cmp, is_int, link_cells, order_cells, permit_cells, reader_cells, run_cells, run_line_cells, schema, seat_cells, span_cells, value_cmp, value_cmp-Int}
 
 -- ---- a table whose rows stand by their numbers
 
 module _ {X : Type 0} (cells : X → Row) (number : X → ℤ) (first : (x : X) → column (cells x) 0 ≡ Int (number x)) where
-  later : (x : X) (xs : List X) → AllByRecursion (λ y. int_cmp (number x) (number y) ≡ Less) xs → AllByRecursion (λ row. value_cmp (column (cells x) 0) (column row 0) ≡ Less) (map cells xs)
+  later : (x : X) (xs : List X) → AllByRecursion (λ y. int_cmp (number x) (number y) ≡ Less) xs
+      → AllByRecursion (λ row. value_cmp (column (cells x) 0) (column row 0) ≡ Less) (map cells xs)
   later x [] h = tt
   later x (y ∷ ys) h = (ap₂ value_cmp (first x) (first y) ∙ (value_cmp-Int (number x) (number y) ∙ h.0), later x ys h.1)
 
@@ -48,12 +30,16 @@ module _ {X : Type 0} (cells : X → Row) (number : X → ℤ) (first : (x : X) 
   numbers [] = tt
   numbers (x ∷ xs) = (ap is_int (first x), numbers xs)
 
-  stored_ordered : (rows : List Row) (xs : List X) → rows ≡ map cells xs → Rises (λ x y. int_cmp (number x) (number y)) xs → StandsInOrder rows
-  stored_ordered rows xs stored up = subst StandsInOrder (sym stored) (record { rise = rise xs up; numbers = numbers xs })
+  stored_ordered : (rows : List Row) (xs : List X) → rows ≡ map cells xs
+      → Rises (λ x y. int_cmp (number x) (number y)) xs → StandsInOrder rows
+  stored_ordered rows xs stored up =
+      subst StandsInOrder (sym stored) (record { rise = rise xs up; numbers = numbers xs })
 
 -- the same of rows with a number of their own
-numbered_ordered : {R : Type 0} (cells : ℤ × R → Row) → ((x : ℤ × R) → column (cells x) 0 ≡ Int x.0) → (rows : List Row) (told : List R) → HasNumbered cells rows told → StandsInOrder rows
-numbered_ordered {R} cells first rows told has = stored_ordered cells (λ (x : ℤ × R). x.0) first rows has.numbered has.are has.rise
+numbered_ordered : {R : Type 0} (cells : ℤ × R → Row) → ((x : ℤ × R) → column (cells x) 0 ≡ Int x.0)
+    → (rows : List Row) (told : List R) → HasNumbered cells rows told → StandsInOrder rows
+numbered_ordered {R} cells first rows told has =
+    stored_ordered cells (λ (x : ℤ × R). x.0) first rows has.numbered has.are has.rise
 
 -- ---- all tables
 

@@ -1,53 +1,26 @@
 -- The office's own row is judged as the list of causes has it.
 use Rattle.std.proofs.Common.{◌≡◌, inl, inr, ℕ, pos, ◌+◌, List, [], ◌∷◌, ◌++◌, length, map, codes, Bool, true, false, cond, not, ◌&&◌, ◌||◌, nat_eq, Option, Some, None, is_none, filter_map, unwrap_or, refl, sym, ap, subst, subst₂, ◌∙◌, arith, length-append, ℤ}
 use Rattle.std.proofs.Math.Nat.{le_refl}
-use Rattle.std.specs.List.{AllByRecursion, cons_option}
-use Rattle.std.specs.Option.{option_map_or}
-use Rattle.std.specs.List.Sorted.{IsPermutation}
-use Rattle.std.proofs.lemmas.Bool.{cases_Bool, or_parts, eqb-true}
 use Rattle.std.proofs.lemmas.List.{length-map}
-use Rattle.std.proofs.lemmas.List.Sorted.{length_permutation}
-use Rattle.sqlite.specs.declared.types.Value.TheVariants.{Int}
-use Rattle.sqlite.specs.Order.{Row, column}
-use Rattle.sqlite.specs.Tree.{IsTable}
 use Rattle.sqlite.specs.Term.{Term, col}
 use Rattle.sqlite.specs.Collation.TheVariants.{Binary}
-use Rattle.sqlite_value.specs.Keys.{ascending}
 use Rattle.sqlite_value.specs.declared.keys.Key.{Key}
-use Rattle.sqlite_value.proofs.OrderLemmas.{then-Equal, value_cmp-Int}
 use Rattle.sqlite.specs.Command.TheVariants.{Select}
 use Rattle.sqlite.specs.Listing.{understood}
-use Rattle.sqlite.specs.State.{State, IsLive, Shown}
+use Rattle.sqlite.specs.State.{State, Shown}
 use Rattle.sqlite.proofs.Callers.{one_permutation}
-use Rattle.sqlite.specs.Effect.{Database, IsDatabase}
-use Rattle.sqlite.specs.Schema.{Schema}
-use Rattle.sqlite.specs.Table.{Table}
-use Rattle.adoption.specs.OrderedTables.{StandsInOrder, StandInOrder}
 use Rattle.sqlite_tied.specs.Compute.{everything}
-use Rattle.sqlite_value.specs.Order.{value_cmp}
 use Rattle.std.specs.declared.cmp.Ordering.TheVariants.{Less, Equal}
 use Rattle.isad_core.specs.Days.{is_day_number}
 use Rattle.isad_core.specs.Limits.{most_unit_numbers, most_seats, most_daily, most_hands, most_run_size}
-use Rattle.isad_core.specs.Words.{is_between}
 use Rattle.isad_core.specs.Texts.{Bytes}
-use Rattle.office_tables.specs.Versions.{Version, First, Second, version_number}
-use Rattle.catalogue_core.specs.CatalogueRows.{OfficeRow}
-use Rattle.office_core.specs.Soundness.{is_country, is_repository}
 use Rattle.office_core.specs.Words.{first}
-use Rattle.office_tables.specs.Cells.{has_unread, number_in, whole_in, text_in, from}
-use Rattle.office_tables.specs.CatalogueCells.{read_office}
 use Rattle.office_tables.specs.StatementMeaning.{Means}
-use Rattle.office_tables.specs.Schema.{schema, office}
-use Rattle.office_tables.proofs.CellTexts.{from_first}
-use Rattle.row_decoding.proofs.ToldCells.{is_number}
 use Rattle.office_tables.proofs.Queries.{asking}
 use Rattle.row_decoding.proofs.TableReads.{in_table, was_open}
 use Rattle.row_decoding.specs.Readings.{by_rowid}
-use Rattle.state_encoding.specs.Causes.{is_good_office}
-use Rattle.state_encoding.specs.CellCauses.{no_office}
-use Rattle.adoption.specs.OwnRows.{AreOwnRows, are_good_numbers, numbers_told, office_cells_back, own_from, own_judged, own_of}
 use Rattle.adoption.specs.declared.own_row.Numbers.{Numbers}
-use Rattle.adoption.specs.declared.own_row.OwnRow.{OwnRow}
+use Rattle.adoption.proofs.Common.{AllByRecursion, AreOwnRows, Database, First, Int, IsDatabase, IsLive, IsPermutation, IsTable, OfficeRow, OwnRow, Row, Schema, Second, StandInOrder, StandsInOrder, Table, Version, are_good_numbers, ascending, cases_Bool, column, cons_option, eqb-true, from, from_first, has_unread, is_between, is_country, is_good_office, is_number, is_repository, length_permutation, no_office, number_in, numbers_told, office, office_cells_back, option_map_or, or_parts, own_from, own_judged, own_of, read_office, schema, text_in, then-Equal, value_cmp, value_cmp-Int, version_number, whole_in}
 
 -- ---- one row
 
@@ -55,7 +28,8 @@ use Rattle.adoption.specs.declared.own_row.OwnRow.{OwnRow}
 abbrev own_told : Version → Row → Option OwnRow
 own_told version row = from (read_office row) (λ office. cond (is_good_office version office) (Some (own_of office)) None)
 
-mixed : (v c r rest : Bool) (n : Numbers) (own : OwnRow) (judge : Numbers → Option OwnRow) → judge n ≡ cond (v && rest) (Some own) None
+mixed : (v c r rest : Bool) (n : Numbers) (own : OwnRow) (judge : Numbers → Option OwnRow)
+    → judge n ≡ cond (v && rest) (Some own) None
     → cond (v && (c && (r && rest))) (Some own) None ≡ from (cond (c && r) (Some n) None) judge
 mixed v true true rest n own judge is = sym is
 mixed true true false rest n own judge is = refl
@@ -79,7 +53,8 @@ module _ (v : Version) where
       from country (λ country. from repo (λ repo.
       Some (record { version = n.version; country = country; repo = repo; seats = n.seats; daily = n.daily; hands = n.hands; run_size = n.run_size; day = n.day; next_unit = n.next_unit })))
 
-  told_with : (country repo : Option Bytes) (n : Numbers) → from (office_with country repo n) tell ≡ from (cond (has_texts country repo) (Some n) None) judge
+  told_with : (country repo : Option Bytes) (n : Numbers)
+      → from (office_with country repo n) tell ≡ from (cond (has_texts country repo) (Some n) None) judge
   told_with None repo n = refl
   told_with (Some country) None n = elim (is_country country) as (λ b. None ≡ from (cond (b && false) (Some n) None) judge) [ true ↦ refl | false ↦ refl ]
   told_with (Some country) (Some repo) n =
@@ -93,7 +68,8 @@ module _ (v : Version) where
       from version (λ version. from seats (λ seats. from daily (λ daily. from hands (λ hands. from run_size (λ run_size. from day (λ day. from next_unit (λ next_unit.
       Some (record { version = version; seats = seats; daily = daily; hands = hands; run_size = run_size; day = day; next_unit = next_unit }))))))))
 
-  abbrev office_of_cells : Option ℕ → Option ℕ → Option ℕ → Option ℕ → Option ℕ → Option ℤ → Option ℕ → Option Bytes → Option Bytes → Option OfficeRow
+  abbrev office_of_cells : Option ℕ → Option ℕ → Option ℕ → Option ℕ → Option ℕ → Option ℤ → Option ℕ → Option Bytes
+      → Option Bytes → Option OfficeRow
   office_of_cells version seats daily hands run_size day next_unit country repo =
       from version (λ version. from seats (λ seats. from daily (λ daily. from hands (λ hands. from run_size (λ run_size. from day (λ day. from next_unit (λ next_unit.
       from country (λ country. from repo (λ repo.
@@ -113,7 +89,8 @@ module _ (v : Version) where
       told_with c p (record { version = v; seats = s; daily = d; hands = h; run_size = r; day = y; next_unit = n })
 
   -- behind a row number that is 1
-  told_behind : (one : Option ℕ) (said : Option OfficeRow) (numbers : Option Numbers) (texts : Bool) → from said tell ≡ from (from numbers (λ n. cond texts (Some n) None)) judge
+  told_behind : (one : Option ℕ) (said : Option OfficeRow) (numbers : Option Numbers) (texts : Bool)
+      → from said tell ≡ from (from numbers (λ n. cond texts (Some n) None)) judge
       → from (from one (λ one. from (cond (nat_eq one 1) (Some one) None) (λ _. said))) tell
       ≡ from (from (from one (λ one. from (cond (nat_eq one 1) (Some one) None) (λ _. numbers))) (λ n. cond texts (Some n) None)) judge
   told_behind None said numbers texts is = refl
@@ -156,7 +133,8 @@ flip false x = refl
 one_there : (version : Version) (row : Row) → own_of_table version (row ∷ []) ≡ own_told version row
 one_there version row = at (read_office row)
   where
-    at : (o : Option OfficeRow) → cond ((is_none o || false) || not (is_good_office version (unwrap_or (first (cons_option o [])) no_office))) None (Some (own_of (unwrap_or (first (cons_option o [])) no_office)))
+    at : (o : Option OfficeRow)
+        → cond ((is_none o || false) || not (is_good_office version (unwrap_or (first (cons_option o [])) no_office))) None (Some (own_of (unwrap_or (first (cons_option o [])) no_office)))
         ≡ from o (λ office. cond (is_good_office version office) (Some (own_of office)) None)
     at None = refl
     at (Some office) = flip (is_good_office version office) (own_of office)
@@ -179,13 +157,15 @@ numbered_one row read = at (read_office row) refl read
         is_number (column row 0) a.0 a.1 ∙ ap (λ n. Int (pos n)) (is_first a.0 b.0 b.1)
 
 -- and no two rows have one number
-many_there : (version : Version) (a b : Row) (more : List Row) → IsTable (a ∷ b ∷ more) → own_of_table version (a ∷ b ∷ more) ≡ None
+many_there : (version : Version) (a b : Row) (more : List Row) → IsTable (a ∷ b ∷ more)
+    → own_of_table version (a ∷ b ∷ more) ≡ None
 many_there version a b more risen = elim (cases_Bool (has_unread read_office (a ∷ b ∷ more))) [
   | inl some ↦ ap (λ u. cond (u || not (is_good_office version (office_in (a ∷ b ∷ more)))) None (Some (own_of (office_in (a ∷ b ∷ more))))) some
   | inr none ↦
       let parts = or_parts (is_none (read_office a)) (has_unread read_office (b ∷ more)) none in
       let rest = or_parts (is_none (read_office b)) (has_unread read_office more) parts.1 in
-      let less : value_cmp (Int (pos 1)) (Int (pos 1)) ≡ Less = subst₂ (λ x y. value_cmp x y ≡ Less) (numbered_one a parts.0) (numbered_one b rest.0) risen.0.0 in
+      let less : value_cmp (Int (pos 1)) (Int (pos 1)) ≡ Less =
+      subst₂ (λ x y. value_cmp x y ≡ Less) (numbered_one a parts.0) (numbered_one b rest.0) risen.0.0 in
       let clash : Equal ≡ Less = sym (value_cmp-Int (pos 1) (pos 1)) ∙ less in
       absurd (cc)
 ]
@@ -221,7 +201,8 @@ shown_office row =
     column row 0 ∷ column row 2 ∷ column row 5 ∷ column row 6 ∷ column row 7 ∷ column row 8 ∷ column row 9 ∷ column row 10 ∷ column row 3 ∷ column row 4 ∷ []
 
 -- the tables keep their rules, and these are the rows
-pub scanned_office : (old new : State) (rows : List Row) (v : Version) → old.now.schema ≡ schema v → IsLive old → Shown own_text [] old new rows
+pub scanned_office : (old new : State) (rows : List Row) (v : Version) → old.now.schema ≡ schema v → IsLive old
+    → Shown own_text [] old new rows
     → IsDatabase old.now × (ys : List Row) × IsPermutation (old.now.trees 14) ys × (rows ≡ map shown_office ys)
 scanned_office old new rows v has live shown =
     let got = in_table office own_terms by_one own_names own_text v (own_means v) by_rowid (λ a b. then-Equal _) old new has rows shown in
@@ -231,21 +212,24 @@ module _ (version : Version) (ys rows : List Row) (count : ℕ) (told : Option N
   counted : (table : List Row) → IsPermutation table ys → count ≡ length table
   counted table same = held.counted ∙ ap length shown ∙ length-map ys shown_office ∙ length_permutation table ys same
 
-  pub judged_one : (table : List Row) → IsPermutation table ys → count ≡ 1 → own_judged (version_number version) told ≡ own_of_table version table
+  pub judged_one : (table : List Row) → IsPermutation table ys → count ≡ 1
+      → own_judged (version_number version) told ≡ own_of_table version table
   judged_one [] same one = absurd (omega (arith, one, counted [] same))
   judged_one (row ∷ []) same one =
       let alone : rows ≡ shown_office row ∷ [] = shown ∙ ap (map shown_office) (one_permutation row ys same) in
       ap (own_judged (version_number version)) (held.is (shown_office row) alone) ∙ sym (told_so version (shown_office row)) ∙ sym (one_there version row)
   judged_one (a ∷ b ∷ more) same one = absurd (omega (arith, one, counted (a ∷ b ∷ more) same))
 
-  pub judged_not_one : (table : List Row) → IsPermutation table ys → IsTable table → (count ≡ 1 → ⊥) → None ≡ own_of_table version table
+  pub judged_not_one : (table : List Row) → IsPermutation table ys → IsTable table → (count ≡ 1 → ⊥)
+      → None ≡ own_of_table version table
   judged_not_one [] same risen not_one = sym (none_there version)
   judged_not_one (row ∷ []) same risen not_one = absurd (not_one (counted (row ∷ []) same))
   judged_not_one (a ∷ b ∷ more) same risen not_one = sym (many_there version a b more risen)
 
 -- ---- one row more
 
-pub taken_more : (rows : List Row) (row : Row) (count : ℕ) (told : Option Numbers) (new : Option Numbers) → new ≡ numbers_told row → AreOwnRows rows count told → AreOwnRows (rows ++ row ∷ []) (count + 1) new
+pub taken_more : (rows : List Row) (row : Row) (count : ℕ) (told : Option Numbers) (new : Option Numbers)
+    → new ≡ numbers_told row → AreOwnRows rows count told → AreOwnRows (rows ++ row ∷ []) (count + 1) new
 taken_more rows row count told new is held = record {
   counted = omega (arith, held.counted, length-append rows (row ∷ []));
   is = λ cells alone. is ∙ ap numbers_told (last rows cells alone);

@@ -1,33 +1,21 @@
 -- What comes of the question for the version.
 use Rattle.std.proofs.Common.{◌≡◌, ◌≢◌, ◌⊎◌, ◌≤◌, ◌<◌, ◌&&◌, inl, inr, ℕ, zero, suc, pos, List, [], ◌∷◌, length, slice_index_or, Bool, true, false, cond, nat_le, nat_lt, Option, Some, None, unwrap_or, IsSome, IsTrue, arith, refl, sym, ap, subst, ◌∙◌}
-use Rattle.std.proofs.lemmas.Bool.{and_cases, and_parts, leb-false, leb-true, ltb-false, ltb-true}
-use Rattle.sqlite.specs.declared.types.Value.{Value}
-use Rattle.sqlite.specs.declared.types.Value.TheVariants.{Int}
-use Rattle.sqlite.specs.Order.{Row, column}
 use Rattle.sqlite.specs.Command.{Command}
-use Rattle.sqlite.specs.Tree.{Trees}
 use Rattle.sqlite_schema.specs.declared.program.Program.{Program}
 use Rattle.sqlite.specs.Command.TheVariants as command
-use Rattle.sqlite.specs.Effect.{Database, RefusesToRead, RefusesQuery}
-use Rattle.sqlite.specs.State.{State, HasCleanDisk, Survives, Shown, FailsToQuery, IsNotRun, IsNoStatement, IsUnchanged, Fails, CommitsShowing}
+use Rattle.sqlite.specs.State.{State, Shown, FailsToQuery, IsNotRun, CommitsShowing}
 use Rattle.sqlite.specs.declared.error.Error.{Error}
 use Rattle.sqlite.proofs.StateLemmas.{survives_weaker}
-use Rattle.office_tables.specs.Faults.{fault_of, IsUnlimited, HasCause, HasOuterCause}
-use Rattle.office_tables.specs.Step.{LeavesUnchanged, IsAborted}
 use Rattle.office_tables.specs.declared.fault.StoreFault.TheVariants as fault
-use Rattle.office_tables.proofs.Calls.{early, unchanged_on, stopped}
 use Rattle.office_tables.proofs.Causes.{failed_cause, failed_outer}
 use Rattle.office_tables.proofs.Errors.{fails}
-use Rattle.office_tables.specs.Versions.{newest, Version, First, Second, version_number}
-use Rattle.office_tables.specs.Cells.{number_in}
-use Rattle.row_decoding.proofs.ToldCells.{is_number}
 use Rattle.adoption.specs.declared.verdict.Verdict.TheVariants as verdict
-use Rattle.adoption.specs.Verdicts.{IsVersionVerdict, verdict_of_version}
-use Rattle.adoption.specs.Versions.{version_text, ShowsVersions, CannotTell, IsToldVersion, TellsVersion, TellsNoOther}
+use Rattle.adoption.proofs.Common.{CannotTell, Database, Fails, First, HasCause, HasCleanDisk, HasOuterCause, Int, IsAborted, IsNoStatement, IsToldVersion, IsUnchanged, IsUnlimited, IsVersionVerdict, LeavesUnchanged, RefusesQuery, RefusesToRead, Row, Second, ShowsVersions, Survives, TellsNoOther, TellsVersion, Trees, Value, Version, and_cases, and_parts, column, early, fault_of, is_number, leb-false, leb-true, ltb-false, ltb-true, newest, number_in, stopped, unchanged_on, verdict_of_version, version_number, version_text}
 use Rattle.adoption.proofs.Asked.{understood_with}
 
 -- a query that is refused, beside the failures of the store
-refused_badly : (k : Command) (p : Program) (names : List (List ℕ)) → k ≡ command.Select p names → (db : Database) (e : Error) → RefusesToRead None k db [] e → fault_of e ≡ fault.Schema
+refused_badly : (k : Command) (p : Program) (names : List (List ℕ)) → k ≡ command.Select p names
+    → (db : Database) (e : Error) → RefusesToRead None k db [] e → fault_of e ≡ fault.Schema
 refused_badly k p names is db e h = at (subst (λ k. RefusesToRead None k db [] e) is h)
   where
     at : RefusesQuery None db p [] e → fault_of e ≡ fault.Schema
@@ -36,7 +24,8 @@ refused_badly k p names is db e h = at (subst (λ k. RefusesToRead None k db [] 
     at (inr (inr h)) = ap fault_of h.0
 
 module _ (old new : State) where
-  pub shown_versions : (rows : List Row) → Shown version_text [] old new rows → ShowsVersions old.now rows × IsUnchanged old new
+  pub shown_versions : (rows : List Row) → Shown version_text [] old new rows
+      → ShowsVersions old.now rows × IsUnchanged old new
   unfolding Shown
   shown_versions rows h =
       let q = understood_with old.now.schema h.0 h.1.is in
@@ -55,7 +44,8 @@ module _ (old new : State) where
       let q = understood_with old.now.schema h.0 h.1 in
       absurd (elim h.2 [ inl long ↦ long.0 q.whole | inr (inl count) ↦ count.0 (sym (ap length q.names)) | inr (inr clock) ↦ clock.0 q.formats ])
 
-  pub versions_fail : (e : Error) → IsUnlimited old → FailsToQuery version_text [] old new e → IsRefused e ⊎ Fails old new ⊥ e
+  pub versions_fail : (e : Error) → IsUnlimited old → FailsToQuery version_text [] old new e
+      → IsRefused e ⊎ Fails old new ⊥ e
   unfolding FailsToQuery IsNotRun
   versions_fail e free (inl (inl h)) = inl (no_statement e h.0 h.1)
   versions_fail e free (inl (inr failed)) = inr failed
@@ -70,14 +60,16 @@ module _ (old new : State) where
       })
 
   -- where the fault is not that of the tables, the store failed
-  pub versions_cause : (e : Error) → IsUnlimited old → FailsToQuery version_text [] old new e → ¬ (fault_of e ≡ fault.Schema) → HasCause old new (fault_of e)
+  pub versions_cause : (e : Error) → IsUnlimited old → FailsToQuery version_text [] old new e
+      → ¬ (fault_of e ≡ fault.Schema) → HasCause old new (fault_of e)
   versions_cause e free h not = elim (versions_fail e free h) [ inl it ↦ absurd (not it.badly) | inr failed ↦ failed_cause old new e failed ]
 
   schema_only : (e : Error) → fault_of e ≡ fault.Schema → IsRefused e ⊎ Fails old new ⊥ e → IsRefused e
   schema_only e is (inl it) = it
   schema_only e is (inr failed) = absurd (subst (HasOuterCause old new) is (failed_outer old new e failed))
 
-  pub versions_refused : (e : Error) → IsUnlimited old → FailsToQuery version_text [] old new e → fault_of e ≡ fault.Schema → IsRefused e
+  pub versions_refused : (e : Error) → IsUnlimited old → FailsToQuery version_text [] old new e
+      → fault_of e ≡ fault.Schema → IsRefused e
   versions_refused e free h is = schema_only e is (versions_fail e free h)
 
   module _ (inside : HasCleanDisk old → IsTrue old.in_transaction) (kept : Survives old new (CommitsShowing version_text [] old)) where
@@ -120,18 +112,24 @@ module _ (db : Database) (row : Row) (only : ShowsVersions db (row ∷ [])) wher
   answers : (cell : Value) → column row 0 ≡ cell → TellsVersion db cell
   answers cell is = record { row = row; only = only; is = is }
 
-  no_other : (version : Version) → ((other : Version) → version_number other ≢ version_number version → column row 0 ≡ Int (pos (version_number other)) → ⊥) → TellsNoOther version db
+  no_other : (version : Version)
+      → ((other : Version) → version_number other ≢ version_number version → column row 0 ≡ Int (pos (version_number other)) → ⊥)
+      → TellsNoOther version db
   no_other version not = record { cell = column row 0; told = answers (column row 0) refl; not_other = not }
 
   -- the number that it tells is the version's, or not
-  is_told : (n : ℕ) (version : Version) → number_in (column row 0) ≡ Some n → version_number version ≡ n → IsToldVersion version db
-  is_told n version some is = answers (Int (pos (version_number version))) (is_number (column row 0) n some ∙ ap (λ k. Int (pos k)) (sym is))
+  is_told : (n : ℕ) (version : Version) → number_in (column row 0) ≡ Some n → version_number version ≡ n
+      → IsToldVersion version db
+  is_told n version some is =
+      answers (Int (pos (version_number version))) (is_number (column row 0) n some ∙ ap (λ k. Int (pos k)) (sym is))
 
   is_number_told : (n m : ℕ) → number_in (column row 0) ≡ Some n → column row 0 ≡ Int (pos m) → n ≡ m
   is_number_told n m some is = ap (λ o. unwrap_or o 0) (sym some ∙ ap number_in is)
 
-  number_judged : (version : Version) (n : ℕ) (older newer : Bool) → nat_le 1 n && nat_lt n (version_number version) ≡ older
-      → nat_lt (version_number version) n && nat_le n (version_number newest) ≡ newer → number_in (column row 0) ≡ Some n
+  number_judged : (version : Version) (n : ℕ) (older newer : Bool)
+      → nat_le 1 n && nat_lt n (version_number version) ≡ older
+      → nat_lt (version_number version) n && nat_le n (version_number newest) ≡ newer
+      → number_in (column row 0) ≡ Some n
       → IsVersionVerdict version db (cond older (Some verdict.OldVersion) (cond newer (Some verdict.NewVersion) None))
   number_judged version n true newer old new some =
       let h = and_parts (nat_le 1 n) (nat_lt n (version_number version)) old in
@@ -160,10 +158,12 @@ module _ (db : Database) (row : Row) (only : ShowsVersions db (row ∷ [])) wher
         ]
       ])
 
-  pub version_judged : (version : Version) → IsVersionVerdict version db (verdict_of_version (version_number version) (number_in (column row 0)))
+  pub version_judged : (version : Version)
+      → IsVersionVerdict version db (verdict_of_version (version_number version) (number_in (column row 0)))
   version_judged version = at (number_in (column row 0)) refl
     where
-      at : (o : Option ℕ) → number_in (column row 0) ≡ o → IsVersionVerdict version db (verdict_of_version (version_number version) o)
+      at : (o : Option ℕ) → number_in (column row 0) ≡ o
+          → IsVersionVerdict version db (verdict_of_version (version_number version) o)
       at None none = no_other version (λ other apart is. let clash : Some (version_number other) ≡ None = ap number_in (sym is) ∙ none in absurd (cc))
       at (Some n) some = number_judged version n _ _ refl refl some
 

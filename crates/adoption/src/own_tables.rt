@@ -3,21 +3,18 @@
 ghost use Rattle.std.specs.Prelude.{◌≡◌, ◌↔◌, IfErr, IfOk, IsTrue};
 ghost use Rattle.sqlite.specs.Held.{state};
 ghost use Rattle.sqlite.specs.Steps.{over_memory};
-ghost use Rattle.isad_core.specs.Limits.{IsNumber};
 ghost use Rattle.office_tables.specs.Schema.{schema};
 
 use crate::schema_comparison::Same;
 use catalogue_store::{OfficeRow, Places, create};
 use desk_store::create_desk;
 use isad_core::{Day, Text};
-use office_tables::{StoreFault, begin};
+use office_tables::{Number, StoreFault, begin};
 use sqlite::{Alter, Connection, MemStore};
 use std::alloc::Global;
 
 /// The row of some office, to make tables with.
-fn some_row(alloc: Global) -> Result<OfficeRow, StoreFault>
-    ensures small { IfOk result (λ row. IsNumber row.next_unit) }
-{
+fn some_row(alloc: Global) -> Result<OfficeRow, StoreFault> {
     let Some(day) = Day::from_number(0) else {
         return Err(StoreFault::Memory);
     };
@@ -29,7 +26,7 @@ fn some_row(alloc: Global) -> Result<OfficeRow, StoreFault>
         hands: 1,
         run_size: 1,
         day,
-        next_unit: 1,
+        next_unit: Number::from(1),
     })
 }
 

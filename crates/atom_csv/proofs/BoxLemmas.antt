@@ -1,26 +1,17 @@
 -- Containers, one more at a time.
 use Rattle.std.proofs.Common.{◌≡◌, ◌∙◌, ◌+◌, ◌<◌, ◌++◌, ◌∷◌, [], ℕ, suc, Bool, true, false, List, length, take, get_or, refl, sym, ap, ap₂, subst, arith, Bor, cond, Ordering}
-use Rattle.std.specs.Prelude.{◌&&◌, ◌||◌, not, filter, if◌then◌else◌}
-use Rattle.std.specs.List.{enumerate_from, list_any}
-use Rattle.std.specs.Str.{bytes_eq}
+use Rattle.std.specs.Prelude.{not, filter}
 use Rattle.std.specs.Ordering.{is_eq, nat_cmp, ordering_then}
 use Rattle.std.specs.declared.cmp.Ordering.TheVariants as ord
 use Rattle.std.specs.Cmp.Lexicographic.{slice_cmp}
 use Rattle.std.specs.BTreeSet.{BTreeSet, contains}
 use Rattle.std.proofs.lemmas.Map.Text.{is_eq-slice_cmp}
-use Rattle.std.proofs.lemmas.List.Elements.{filter-append}
-use Rattle.std.proofs.lemmas.List.{append-nil, length-map}
+use Rattle.std.proofs.lemmas.List.{append-nil}
 use Rattle.std.proofs.Math.ListN.{get_or-map}
 use Rattle.std.proofs.lemmas.List.FromFn.{get_or-enumerate_from, length-enumerate_from}
-use Rattle.std.proofs.Math.Seq.{take-suc}
 use Rattle.std.proofs.Math.Bool.{and_assoc}
-use Rattle.isad_core.specs.Texts.{Bytes}
 use Rattle.isad_core.proofs.BoxLemmas.{distinct_more, stood_more}
-use Rattle.atom_csv.specs.Fields.{is_empty, borrowed_fields}
-use Rattle.isad_core.specs.declared.values.BoxKey.{BoxKey}
-use Rattle.isad_core.specs.Boxes.{distinct, is_same}
-use Rattle.atom_csv.specs.Values.{entry_at, is_named_box, triple, triples}
-use Rattle.atom_csv.specs.KnownContainers.{Holds, has, key}
+use Rattle.atom_csv.proofs.Common.{BoxKey, Bytes, Holds, borrowed_fields, bytes_eq, distinct, entry_at, enumerate_from, filter-append, has, if◌then◌else◌, is_empty, is_named_box, is_same, key, length-map, list_any, take-suc, triple, triples, ◌&&◌, ◌||◌}
 
 -- ---- the set in which the code keeps them
 
@@ -45,7 +36,8 @@ same_compared a b =
     ∙ (ap₂ (λ x y. x && y) (eq_then (slice_cmp nat_cmp a.0.now b.0.now) (slice_cmp nat_cmp a.1.now b.1.now) ∙ ap₂ (λ x y. x && y) (is_eq-slice_cmp a.0.now b.0.now) (is_eq-slice_cmp a.1.now b.1.now)) (is_eq-slice_cmp a.2.now b.2.now)
     ∙ and_assoc (bytes_eq a.0.now b.0.now) (bytes_eq a.1.now b.1.now) (bytes_eq a.2.now b.2.now))
 
-any_compared : (a : Told) (ks : List Told) → list_any (λ k. is_eq (compared a k)) ks ≡ list_any (λ k. is_same (key_of a) (key_of k)) ks
+any_compared : (a : Told) (ks : List Told)
+    → list_any (λ k. is_eq (compared a k)) ks ≡ list_any (λ k. is_same (key_of a) (key_of k)) ks
 any_compared a [] = refl
 any_compared a (k ∷ ks) = ap₂ (λ x y. x || y) (same_compared a k) (any_compared a ks)
 
@@ -59,7 +51,8 @@ lent text = record { ref_ptr = (0, 0); now = text }
 abbrev pub asked : BoxKey → Told
 asked q = (lent q.name, lent q.location, lent q.kind)
 
-pub has_more : (old new : BTreeSet Told) (k : Told) → ((q : Told) → contains compared new q ≡ cond (is_eq (compared k q)) true (contains compared old q))
+pub has_more : (old new : BTreeSet Told) (k : Told)
+    → ((q : Told) → contains compared new q ≡ cond (is_eq (compared k q)) true (contains compared old q))
     → (q : BoxKey) → has new q ≡ (is_same (key_of k) q || has old q)
 has_more old new k updates q =
     sym (contains_has new (asked q)) ∙ (updates (asked q) ∙ (ap₂ (λ (b c : Bool). cond b true c) (same_compared k (asked q)) (contains_has old (asked q)) ∙ go (is_same (key_of k) q)))
@@ -114,17 +107,20 @@ abbrev pub Set : Type 0
 Set = BTreeSet Told
 
 -- a blank name adds nothing
-pub holds_blank : (known : Set) (boxes told : List BoxKey) (b : BoxKey) → is_empty b.name ≡ true → Holds known boxes told
+pub holds_blank : (known : Set) (boxes told : List BoxKey) (b : BoxKey) → is_empty b.name ≡ true
+    → Holds known boxes told
     → Holds known boxes (told ++ (if is_empty b.name then [] else b ∷ []))
 holds_blank known boxes told b blank h =
     subst (Holds known boxes) (sym (ap (λ (e : Bool). told ++ (if e then [] else b ∷ [])) blank ∙ append-nil told)) h
 
-stood_after : (old new : Set) (boxes told : List BoxKey) (b : BoxKey) → Holds old boxes told → ((q : BoxKey) → has new q ≡ (is_same b q || has old q))
+stood_after : (old new : Set) (boxes told : List BoxKey) (b : BoxKey) → Holds old boxes told
+    → ((q : BoxKey) → has new q ≡ (is_same b q || has old q))
     → (q : BoxKey) → has new q ≡ list_any (is_same q) (told ++ b ∷ [])
 stood_after old new boxes told b h added q = added q ∙ (ap (λ s. is_same b q || s) (h.stood q) ∙ sym (stood_more told b q))
 
 -- one that stood is kept once
-holds_again : (old new : Set) (boxes told : List BoxKey) (b : BoxKey) → Holds old boxes told → ((q : BoxKey) → has new q ≡ (is_same b q || has old q)) → has old b ≡ true
+holds_again : (old new : Set) (boxes told : List BoxKey) (b : BoxKey) → Holds old boxes told
+    → ((q : BoxKey) → has new q ≡ (is_same b q || has old q)) → has old b ≡ true
     → Holds new boxes (told ++ b ∷ [])
 holds_again old new boxes told b h added stood = record {
   kept = h.kept ∙ sym (distinct_more told b ∙ (ap (λ (s : Bool). distinct told ++ (if s then [] else b ∷ [])) (sym (h.stood b) ∙ stood) ∙ append-nil (distinct told)));
@@ -132,14 +128,16 @@ holds_again old new boxes told b h added stood = record {
 }
 
 -- a new one is added
-holds_new : (old new : Set) (boxes told : List BoxKey) (b : BoxKey) → Holds old boxes told → ((q : BoxKey) → has new q ≡ (is_same b q || has old q)) → has old b ≡ false
+holds_new : (old new : Set) (boxes told : List BoxKey) (b : BoxKey) → Holds old boxes told
+    → ((q : BoxKey) → has new q ≡ (is_same b q || has old q)) → has old b ≡ false
     → Holds new (boxes ++ b ∷ []) (told ++ b ∷ [])
 holds_new old new boxes told b h added stood = record {
   kept = ap (λ bs. bs ++ b ∷ []) h.kept ∙ sym (distinct_more told b ∙ ap (λ (s : Bool). distinct told ++ (if s then [] else b ∷ [])) (sym (h.stood b) ∙ stood));
   stood = stood_after old new boxes told b h added;
 }
 
-named_told : (known : Set) (boxes told : List BoxKey) (b : BoxKey) → is_empty b.name ≡ false → Holds known boxes (told ++ b ∷ [])
+named_told : (known : Set) (boxes told : List BoxKey) (b : BoxKey) → is_empty b.name ≡ false
+    → Holds known boxes (told ++ b ∷ [])
     → Holds known boxes (told ++ (if is_empty b.name then [] else b ∷ []))
 named_told known boxes told b there h =
     subst (Holds known boxes) (sym (ap (λ (e : Bool). told ++ (if e then [] else b ∷ [])) there)) h
@@ -152,22 +150,28 @@ not_true : (b : Bool) → true ≡ not b → b ≡ false
 not_true true e = cc
 not_true false e = refl
 
-pub holds_known : (old new : Set) (boxes told : List BoxKey) (b : BoxKey) (is_new : Bool) → is_empty b.name ≡ false → ((q : BoxKey) → has new q ≡ (is_same b q || has old q))
-    → is_new ≡ not (has old b) → is_new ≡ false → Holds old boxes told → Holds new boxes (told ++ (if is_empty b.name then [] else b ∷ []))
+pub holds_known : (old new : Set) (boxes told : List BoxKey) (b : BoxKey) (is_new : Bool) → is_empty b.name ≡ false
+    → ((q : BoxKey) → has new q ≡ (is_same b q || has old q))
+    → is_new ≡ not (has old b) → is_new ≡ false → Holds old boxes told
+    → Holds new boxes (told ++ (if is_empty b.name then [] else b ∷ []))
 holds_known old new boxes told b is_new there added is none h =
     named_told new boxes told b there (holds_again old new boxes told b h added (not_false (has old b) (sym none ∙ is)))
 
-pub holds_added : (old new : Set) (boxes after told : List BoxKey) (b item : BoxKey) (is_new : Bool) → is_empty b.name ≡ false → ((q : BoxKey) → has new q ≡ (is_same b q || has old q))
-    → is_new ≡ not (has old b) → is_new ≡ true → item ≡ b → after ≡ boxes ++ item ∷ [] → Holds old boxes told → Holds new after (told ++ (if is_empty b.name then [] else b ∷ []))
+pub holds_added : (old new : Set) (boxes after told : List BoxKey) (b item : BoxKey) (is_new : Bool)
+    → is_empty b.name ≡ false → ((q : BoxKey) → has new q ≡ (is_same b q || has old q))
+    → is_new ≡ not (has old b) → is_new ≡ true → item ≡ b → after ≡ boxes ++ item ∷ [] → Holds old boxes told
+    → Holds new after (told ++ (if is_empty b.name then [] else b ∷ []))
 holds_added old new boxes after told b item is_new there added is told_new same pushed h =
     subst (λ bs. Holds new bs (told ++ (if is_empty b.name then [] else b ∷ []))) (sym (pushed ∙ ap (λ x. boxes ++ x ∷ []) same))
     (named_told new (boxes ++ b ∷ []) told b there (holds_new old new boxes told b h added (not_true (has old b) (sym told_new ∙ is))))
 
-pub length-triples : (names : List (Bor Bytes)) (locations kinds : List Bytes) → length (triples (borrowed_fields names) locations kinds) ≡ length names
+pub length-triples : (names : List (Bor Bytes)) (locations kinds : List Bytes)
+    → length (triples (borrowed_fields names) locations kinds) ≡ length names
 length-triples names locations kinds =
     length-map (enumerate_from 0 (borrowed_fields names)) (triple locations kinds) ∙ (length-enumerate_from 0 (borrowed_fields names) ∙ length_seen names)
 
-pub holds_more : (names : List (Bor Bytes)) (locations kinds : List Bytes) (i : ℕ) (d : Bor Bytes) (known : Set) (boxes : List BoxKey) (location kind : Bytes) → i < length names
+pub holds_more : (names : List (Bor Bytes)) (locations kinds : List Bytes) (i : ℕ) (d : Bor Bytes) (known : Set) (boxes : List BoxKey) (location kind : Bytes)
+    → i < length names
     → location ≡ entry_at locations i → kind ≡ entry_at kinds i
     → Holds known boxes (filter is_named_box (take i (triples (borrowed_fields names) locations kinds))
     ++ (if is_empty (get_or names i d).now then [] else key (get_or names i d).now location kind ∷ []))

@@ -1,10 +1,8 @@
 -- The place of a column among all that are read.
 use Rattle.std.proofs.Common.{◌≡◌, ◌<◌, length, map, get_or, refl, lit<}
-use denote.Enum.Declared.{tag_of}
 use Rattle.atom_csv.specs.Columns.{columns}
-use Rattle.atom_csv.specs.contracts.column.Column.{the_type}
-use Rattle.atom_csv.specs.declared.column.Column.{Column}
 use Rattle.atom_csv.specs.declared.column.Column.TheVariants as column
+use Rattle.atom_csv.proofs.Common.{Column, tag_of, the_type}
 
 -- what is told of each column stands at the column's place
 pub at_place : {X : Type 0} (f : Column → X) (k : Column) (d : X) → get_or (map f columns) (tag_of the_type k) d ≡ f k

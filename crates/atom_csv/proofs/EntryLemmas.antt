@@ -1,17 +1,15 @@
 -- Entries that are joined one after another.
 use Rattle.std.proofs.Common.{◌≡◌, ◌∙◌, ◌++◌, ◌∷◌, [], ◌⊎◌, inl, inr, ℕ, suc, Bool, true, false, List, length, map, fold, refl, sym, ap, arith, append_assoc, append-nil, Bor, cond}
-use Rattle.std.specs.Prelude.{◌==◌, codes, if◌then◌else◌, not}
-use Rattle.std.proofs.lemmas.List.Elements.{filter-append}
-use Rattle.std.proofs.lemmas.Bool.{ne_eqb}
-use Rattle.isad_core.specs.Texts.{Bytes}
-use Rattle.atom_csv.specs.Fields.{is_empty, borrowed_fields}
-use Rattle.atom_csv.specs.Entries.{entry_of, nonblank_entries, joined, with_entry}
+use Rattle.std.specs.Prelude.{codes, not}
+use Rattle.atom_csv.proofs.Common.{Bytes, borrowed_fields, entry_of, filter-append, if◌then◌else◌, is_empty, joined, ne_eqb, nonblank_entries, with_entry, ◌==◌}
 
-pub entries_seen : (parts : List (Bor Bytes)) → map (λ part. entry_of part.now) parts ≡ map entry_of (borrowed_fields parts)
+pub entries_seen : (parts : List (Bor Bytes))
+    → map (λ part. entry_of part.now) parts ≡ map entry_of (borrowed_fields parts)
 entries_seen [] = refl
 entries_seen (p ∷ ps) = ap (λ es. entry_of p.now ∷ es) (entries_seen ps)
 
-joined_more : (e : Bytes) (es : List Bytes) (f : Bytes) → joined ((e ∷ es) ++ f ∷ []) ≡ joined (e ∷ es) ++ codes "; " ++ f
+joined_more : (e : Bytes) (es : List Bytes) (f : Bytes)
+    → joined ((e ∷ es) ++ f ∷ []) ≡ joined (e ∷ es) ++ codes "; " ++ f
 joined_more e [] f = refl
 joined_more e (d ∷ es) f =
     ap (λ t. e ++ codes "; " ++ t) (joined_more d es f)
@@ -40,13 +38,15 @@ unfolding Starts
 filled_starts [] = inl refl
 filled_starts (e ∷ es) = go (is_empty e) refl (filled_starts es)
   where
-    go : (b : Bool) → is_empty e ≡ b → (nonblank_entries es ≡ []) ⊎ ((f : Bytes) × (rest : List Bytes) × (nonblank_entries es ≡ f ∷ rest) × (is_empty f ≡ false))
+    go : (b : Bool) → is_empty e ≡ b
+        → (nonblank_entries es ≡ []) ⊎ ((f : Bytes) × (rest : List Bytes) × (nonblank_entries es ≡ f ∷ rest) × (is_empty f ≡ false))
         → (cond (not b) (e ∷ nonblank_entries es) (nonblank_entries es) ≡ []) ⊎ ((f : Bytes) × (rest : List Bytes) × (cond (not b) (e ∷ nonblank_entries es) (nonblank_entries es) ≡ f ∷ rest) × (is_empty f ≡ false))
     go true is later = later
     go false is later = inr (e, nonblank_entries es, refl, is)
 
 -- one more entry that is not blank
-added_there : (fs : List Bytes) (e : Bytes) → Starts fs → (if is_empty (joined fs) then e else joined fs ++ codes "; " ++ e) ≡ joined (fs ++ e ∷ [])
+added_there : (fs : List Bytes) (e : Bytes) → Starts fs
+    → (if is_empty (joined fs) then e else joined fs ++ codes "; " ++ e) ≡ joined (fs ++ e ∷ [])
 unfolding Starts
 added_there fs e starts = elim starts [
   | inl none ↦ ap (λ (gs : List Bytes). if is_empty (joined gs) then e else joined gs ++ codes "; " ++ e) none ∙ sym (ap (λ (gs : List Bytes). joined (gs ++ e ∷ [])) none)
@@ -57,7 +57,8 @@ added_there fs e starts = elim starts [
       ∙ (sym (joined_more f rest e) ∙ sym (ap (λ (gs : List Bytes). joined (gs ++ e ∷ [])) is)))
 ]
 
-added : (es : List Bytes) (e : Bytes) → with_entry (joined (nonblank_entries es)) e ≡ joined (nonblank_entries (es ++ e ∷ []))
+added : (es : List Bytes) (e : Bytes)
+    → with_entry (joined (nonblank_entries es)) e ≡ joined (nonblank_entries (es ++ e ∷ []))
 added es e = go (is_empty e) refl ∙ ap joined (sym (filter-append _ es (e ∷ [])))
   where
     go : (b : Bool) → is_empty e ≡ b
@@ -66,7 +67,8 @@ added es e = go (is_empty e) refl ∙ ap joined (sym (filter-append _ es (e ∷ 
     go false is = added_there (nonblank_entries es) e (filled_starts es)
 
 -- entries added in turn are the entries joined
-joined_from : (es fs : List Bytes) → fold with_entry (joined (nonblank_entries es)) fs ≡ joined (nonblank_entries (es ++ fs))
+joined_from : (es fs : List Bytes)
+    → fold with_entry (joined (nonblank_entries es)) fs ≡ joined (nonblank_entries (es ++ fs))
 joined_from es [] = ap (λ gs. joined (nonblank_entries gs)) (sym (append-nil es))
 joined_from es (f ∷ fs) =
     ap (λ t. fold with_entry t fs) (added es f) ∙ (joined_from (es ++ f ∷ []) fs ∙ ap (λ gs. joined (nonblank_entries gs)) (append_assoc es (f ∷ []) fs))

@@ -1,21 +1,15 @@
 -- Where columns stand, and what a record has there.
 use Rattle.std.proofs.Common.{◌≡◌, ◌∙◌, ◌+◌, ℕ, zero, suc, Bool, true, false, List, [], ◌∷◌, ◌++◌, take, Option, Some, None, option_map, refl, sym, ap, ap₂, arith, Bor, cond, map, get_or}
-use Rattle.std.specs.Prelude.{if◌then◌else◌, slice_get, unwrap_or, ◌&&◌, ◌||◌, position, count_by, fold, nat_lt}
-use Rattle.std.specs.List.{position_from, list_any}
+use Rattle.std.specs.Prelude.{fold, nat_lt}
 use Rattle.std.proofs.lemmas.Iterator.Adapters.{position_from-zero}
-use denote.Enum.Declared.{tag_of}
-use Rattle.atom_csv.specs.contracts.column.Column.{the_type}
-use Rattle.atom_csv.proofs.ColumnLemmas.{at_place}
 use Rattle.csv.specs.Records.{field_at}
-use Rattle.std.proofs.lemmas.List.{map-append}
 use Rattle.std.proofs.lemmas.List.Folds.{list_all-append}
-use Rattle.isad_core.specs.Texts.{Bytes}
-use Rattle.atom_csv.specs.Columns.{columns, name_of}
-use Rattle.atom_csv.specs.FileContents.{has_twice}
-use Rattle.atom_csv.specs.declared.column.Column.{Column}
-use Rattle.atom_csv.specs.Fields.{Fields, is_blank, is_empty, field_in, field_under, is_named, place_of, places_in, borrowed_fields, trimmed, value}
+use Rattle.atom_csv.specs.Columns.{columns}
+use Rattle.atom_csv.proofs.Common.{Bytes, Column, Fields, borrowed_fields, count_by, field_in, field_under, has_twice, if◌then◌else◌, is_blank, is_empty, is_named, list_any, map-append, name_of, place_of, places_in, position, position_from, slice_get, tag_of, the_type, trimmed, unwrap_or, value, ◌&&◌, ◌||◌}
+use Rattle.atom_csv.proofs.ColumnLemmas.{at_place}
 
-shift : {X : Type 0} (p : X → Bool) (i : ℕ) (xs : List X) → position_from p (i + 1) xs ≡ option_map (λ k. k + 1) (position_from p i xs)
+shift : {X : Type 0} (p : X → Bool) (i : ℕ) (xs : List X)
+    → position_from p (i + 1) xs ≡ option_map (λ k. k + 1) (position_from p i xs)
 shift p i [] = refl
 shift p i (x ∷ xs) = go (p x) (shift p (i + 1) xs)
   where
@@ -24,23 +18,28 @@ shift p i (x ∷ xs) = go (p x) (shift p (i + 1) xs)
     go true later = refl
     go false later = later
 
-seen_from : (p : Bytes → Bool) (i : ℕ) (xs : List (Bor Bytes)) → position_from (λ x. p x.now) i xs ≡ position_from p i (borrowed_fields xs)
+seen_from : (p : Bytes → Bool) (i : ℕ) (xs : List (Bor Bytes))
+    → position_from (λ x. p x.now) i xs ≡ position_from p i (borrowed_fields xs)
 seen_from p i [] = refl
 seen_from p i (x ∷ xs) = ap (λ o. cond (p x.now) (Some i) o) (seen_from p (i + 1) xs)
 
-place_seen : (name : Bytes) (xs : List (Bor Bytes)) → position (λ x. is_named name x.now) xs ≡ place_of name (borrowed_fields xs)
+place_seen : (name : Bytes) (xs : List (Bor Bytes))
+    → position (λ x. is_named name x.now) xs ≡ place_of name (borrowed_fields xs)
 place_seen name xs =
     position_from-zero (λ (x : Bor Bytes). is_named name x.now) xs ∙ (seen_from (is_named name) 0 xs ∙ sym (position_from-zero (is_named name) (borrowed_fields xs)))
 
-places_from : (cs : List Column) (xs : List (Bor Bytes)) → map (λ k. position (λ x. is_named (name_of k) x.now) xs) cs ≡ map (λ k. place_of (name_of k) (borrowed_fields xs)) cs
+places_from : (cs : List Column) (xs : List (Bor Bytes))
+    → map (λ k. position (λ x. is_named (name_of k) x.now) xs) cs ≡ map (λ k. place_of (name_of k) (borrowed_fields xs)) cs
 places_from [] xs = refl
 places_from (k ∷ ks) xs = ap₂ (λ o os. o ∷ os) (place_seen (name_of k) xs) (places_from ks xs)
 
-pub places_seen : (xs : List (Bor Bytes)) → map (λ k. position (λ x. is_named (name_of k) x.now) xs) columns ≡ places_in (borrowed_fields xs)
+pub places_seen : (xs : List (Bor Bytes))
+    → map (λ k. position (λ x. is_named (name_of k) x.now) xs) columns ≡ places_in (borrowed_fields xs)
 places_seen xs = places_from columns xs
 
 -- the field in a column's place is the one under its name
-value_from : (name : Bytes) (header fields : Fields) → field_in (position_from (is_named name) 0 header) fields ≡ field_under name header fields
+value_from : (name : Bytes) (header fields : Fields)
+    → field_in (position_from (is_named name) 0 header) fields ≡ field_under name header fields
 value_from name [] fields = refl
 value_from name (h ∷ hs) [] = go (position_from (is_named name) 0 (h ∷ hs))
   where
@@ -55,12 +54,15 @@ value_from name (h ∷ hs) (f ∷ fs) = go (is_named name h) ∙ ap (λ v. if is
         let e : k + 1 ≡ suc k = omega arith in
         ap (λ n. unwrap_or (slice_get (f ∷ fs) n) []) e
 
-    go : (b : Bool) → field_in (cond b (Some 0) (position_from (is_named name) 1 hs)) (f ∷ fs) ≡ (if b then f else field_in (position_from (is_named name) 0 hs) fs)
+    go : (b : Bool)
+        → field_in (cond b (Some 0) (position_from (is_named name) 1 hs)) (f ∷ fs) ≡ (if b then f else field_in (position_from (is_named name) 0 hs) fs)
     go true = refl
     go false = ap (λ o. field_in o (f ∷ fs)) (shift (is_named name) 0 hs) ∙ next (position_from (is_named name) 0 hs)
 
-pub value_in : (name : Bytes) (header fields : Fields) → field_in (place_of name header) fields ≡ field_under name header fields
-value_in name header fields = ap (λ o. field_in o fields) (position_from-zero (is_named name) header) ∙ value_from name header fields
+pub value_in : (name : Bytes) (header fields : Fields)
+    → field_in (place_of name header) fields ≡ field_under name header fields
+value_in name header fields =
+    ap (λ o. field_in o fields) (position_from-zero (is_named name) header) ∙ value_from name header fields
 
 -- the field of a record at a place, without the white space at its ends
 pub trimmed_at : (fs : List Bytes) (i : ℕ) → field_in (Some i) (map trimmed fs) ≡ trimmed (unwrap_or (field_at fs i) [])
@@ -88,13 +90,15 @@ take_fields (x ∷ xs) zero e = cc
 take_fields (x ∷ xs) (suc i) e = ap (λ ys. x ∷ ys) (take_fields xs i e)
 
 -- what a record has in a column
-pub value_at : (k : Column) (header fields : Fields) (places : List (Option ℕ)) (d : Option ℕ) → places ≡ places_in header
+pub value_at : (k : Column) (header fields : Fields) (places : List (Option ℕ)) (d : Option ℕ)
+    → places ≡ places_in header
     → field_in (get_or places (tag_of the_type k) d) fields ≡ value k header fields
 value_at k header fields places d is =
     ap (λ ps. field_in (get_or ps (tag_of the_type k) d) fields) is ∙ (ap (λ o. field_in o fields) (at_place (λ k. place_of (name_of k) header) k d) ∙ value_in (name_of k) header fields)
 
 -- a field that is not blank is one of a record that is not
-pub blank_not : (fs : List Bytes) (i : ℕ) (f : Bytes) → field_at fs i ≡ Some f → is_empty (trimmed f) ≡ false → is_blank (map trimmed fs) ≡ false
+pub blank_not : (fs : List Bytes) (i : ℕ) (f : Bytes) → field_at fs i ≡ Some f → is_empty (trimmed f) ≡ false
+    → is_blank (map trimmed fs) ≡ false
 unfolding field_at
 blank_not [] i f e there = cc
 blank_not (x ∷ xs) zero f e there =
@@ -108,7 +112,8 @@ blank_not (x ∷ xs) (suc i) f e there =
     go false = refl
 
 -- one more blank field
-pub blank_more : (fs : List Bytes) (i : ℕ) (f : Bytes) → field_at fs i ≡ Some f → is_empty (trimmed f) ≡ true → is_blank (map trimmed (take i fs)) ≡ true
+pub blank_more : (fs : List Bytes) (i : ℕ) (f : Bytes) → field_at fs i ≡ Some f → is_empty (trimmed f) ≡ true
+    → is_blank (map trimmed (take i fs)) ≡ true
     → is_blank (map trimmed (take (i + 1) fs)) ≡ true
 blank_more fs i f e blank before =
     ap (λ xs. is_blank (map trimmed xs)) (take_field fs i f e)
@@ -117,11 +122,13 @@ blank_more fs i f e blank before =
 
 -- ---- names in a header
 
-pub column_seen : (p : Bytes → Bool) (xs : List (Bor Bytes)) → list_any (λ x. p x.now) xs ≡ list_any p (borrowed_fields xs)
+pub column_seen : (p : Bytes → Bool) (xs : List (Bor Bytes))
+    → list_any (λ x. p x.now) xs ≡ list_any p (borrowed_fields xs)
 column_seen p [] = refl
 column_seen p (x ∷ xs) = ap (λ b. p x.now || b) (column_seen p xs)
 
-count_from : (p : Bytes → Bool) (n : ℕ) (xs : List (Bor Bytes)) → fold (λ a x. a + cond (p x.now) 1 0) n xs ≡ fold (λ a x. a + cond (p x) 1 0) n (borrowed_fields xs)
+count_from : (p : Bytes → Bool) (n : ℕ) (xs : List (Bor Bytes))
+    → fold (λ a x. a + cond (p x.now) 1 0) n xs ≡ fold (λ a x. a + cond (p x) 1 0) n (borrowed_fields xs)
 count_from p n [] = refl
 count_from p n (x ∷ xs) = count_from p (n + cond (p x.now) 1 0) xs
 
@@ -130,5 +137,6 @@ twice_from : (ks : List Column) (xs : List (Bor Bytes))
 twice_from [] xs = refl
 twice_from (k ∷ ks) xs = ap₂ (λ a b. nat_lt 1 a || b) (count_from (is_named (name_of k)) 0 xs) (twice_from ks xs)
 
-pub twice_seen : (xs : List (Bor Bytes)) → list_any (λ k. nat_lt 1 (count_by (λ x. is_named (name_of k) x.now) xs)) columns ≡ has_twice (borrowed_fields xs)
+pub twice_seen : (xs : List (Bor Bytes))
+    → list_any (λ k. nat_lt 1 (count_by (λ x. is_named (name_of k) x.now) xs)) columns ≡ has_twice (borrowed_fields xs)
 twice_seen xs = twice_from columns xs

@@ -1,28 +1,17 @@
 -- The texts that the rows of a file tell are UTF-8.
 use Rattle.std.proofs.Common.{◌+◌, ◌≡◌, ◌++◌, ◌∷◌, [], ℕ, zero, suc, Bool, true, false, List, Some, None, Ok, Err, length, map, reverse, refl, sym, ap, subst, arith, cond}
-use Rattle.std.specs.Prelude.{if◌then◌else◌, filter, filter_map, not, ◌==◌, ◌||◌, IfSome, IsUtf8, codes}
-use Rattle.std.specs.List.{AllByRecursion, cons_option, enumerate_from, flat_map, onto_first}
-use Rattle.std.specs.Str.{bytes_eq, is_utf8}
-use Rattle.std.proofs.lemmas.Bool.{eqb-true}
-use Rattle.std.proofs.lemmas.List.{reverse-append, reverse-reverse}
-use Rattle.std.proofs.lemmas.Str.{IsUtf8-nil, IsUtf8-append, IsUtf8-from_is_utf8}
-use Rattle.isad_core.specs.Texts.{Bytes, is_space}
+use Rattle.std.specs.Prelude.{filter, not, IsUtf8, codes}
+use Rattle.std.specs.Str.{is_utf8}
 use Rattle.isad_core.specs.LegibleValues.{IsLegibleBox, AreLegibleValues}
 use Rattle.isad_core.specs.declared.element.Element.{Element}
 use Rattle.isad_core.specs.declared.element.Element.TheVariants as element
-use Rattle.csv.specs.Reading.{default_config, records, strip_bom}
-use Rattle.atom_csv.specs.Causes.{number_of}
-use Rattle.atom_csv.specs.Columns.{columns_of, is_split, name_of}
-use Rattle.atom_csv.specs.Entries.{entries, entry_of, nonblank_entries, joined, parts_of}
-use Rattle.atom_csv.specs.Fields.{Fields, field_under, is_blank, is_empty, is_named, trim_start, trimmed, value}
-use Rattle.atom_csv.specs.FileContents.{Fault, below, faults, file_of, header_causes, is_told_again, lines_below, of_records, or_fault, records_of, row_of, row_told, rows, translations, under}
+use Rattle.csv.specs.Reading.{strip_bom}
 use Rattle.atom_csv.specs.FileProperties.{IsLegibleRow, AreLegibleRows}
-use Rattle.atom_csv.specs.Values.{boxes_of, text_elements, entry_at, is_named_box, nonblank, text_of, told_by, triple, triples, values_of}
-use Rattle.atom_csv.specs.declared.cause.Cause.{Cause}
+use Rattle.atom_csv.specs.Values.{text_elements}
 use Rattle.atom_csv.specs.declared.cause.Cause.TheVariants as cause
-use Rattle.atom_csv.specs.declared.column.Column.{Column}
 use Rattle.atom_csv.specs.declared.column.Column.TheVariants as column
 use Rattle.atom_csv.specs.declared.file.File.{File}
+use Rattle.atom_csv.proofs.Common.{AllByRecursion, Bytes, Cause, Column, Fault, Fields, IfSome, IsUtf8-append, IsUtf8-from_is_utf8, IsUtf8-nil, below, boxes_of, bytes_eq, columns_of, cons_option, default_config, entries, entry_at, entry_of, enumerate_from, eqb-true, faults, field_under, file_of, filter_map, flat_map, header_causes, if◌then◌else◌, is_blank, is_empty, is_named, is_named_box, is_space, is_split, is_told_again, joined, lines_below, name_of, nonblank, nonblank_entries, number_of, of_records, onto_first, or_fault, parts_of, records, records_of, reverse-append, reverse-reverse, row_of, row_told, rows, text_of, told_by, translations, trim_start, trimmed, triple, triples, under, value, values_of, ◌==◌, ◌||◌}
 use Rattle.atom_csv.proofs.LegibleRecords.{cut_at_ascii, records_legible, past_mark}
 use Rattle.atom_csv.proofs.LineLemmas.{line_at}
 use Rattle.atom_csv.proofs.ToldLemmas.{all_append, all_filter, all_distinct}
@@ -34,7 +23,8 @@ start_legible : (text : Bytes) → IsUtf8 text → IsUtf8 (trim_start text)
 start_legible [] u = u
 start_legible (b ∷ rest) u = at (is_space b) refl (start_legible rest)
   where
-    at : (s : Bool) → is_space b ≡ s → (IsUtf8 rest → IsUtf8 (trim_start rest)) → IsUtf8 (if s then trim_start rest else b ∷ rest)
+    at : (s : Bool) → is_space b ≡ s → (IsUtf8 rest → IsUtf8 (trim_start rest))
+        → IsUtf8 (if s then trim_start rest else b ∷ rest)
     at true e later = later (cut_at_ascii [] rest b (space_is_ascii b e) u).1
     at false e later = u
 
@@ -43,7 +33,8 @@ end_legible : (turned : Bytes) → IsUtf8 (reverse turned) → IsUtf8 (reverse (
 end_legible [] u = u
 end_legible (b ∷ rest) u = at (is_space b) refl (end_legible rest)
   where
-    at : (s : Bool) → is_space b ≡ s → (IsUtf8 (reverse rest) → IsUtf8 (reverse (trim_start rest))) → IsUtf8 (reverse (if s then trim_start rest else b ∷ rest))
+    at : (s : Bool) → is_space b ≡ s → (IsUtf8 (reverse rest) → IsUtf8 (reverse (trim_start rest)))
+        → IsUtf8 (reverse (if s then trim_start rest else b ∷ rest))
     at true e later = later (cut_at_ascii (reverse rest) [] b (space_is_ascii b e) (subst IsUtf8 (reverse-append (b ∷ []) rest) u)).0
     at false e later = u
 
@@ -64,7 +55,8 @@ unfolding with_front
 no_front [] h = tt
 no_front (part ∷ parts) h = h
 
-one_more : (front : Bytes) (b : ℕ) (parts : List Bytes) → AllByRecursion IsUtf8 (with_front (front ++ b ∷ []) parts) → AllByRecursion IsUtf8 (with_front front (onto_first b parts))
+one_more : (front : Bytes) (b : ℕ) (parts : List Bytes) → AllByRecursion IsUtf8 (with_front (front ++ b ∷ []) parts)
+    → AllByRecursion IsUtf8 (with_front front (onto_first b parts))
 unfolding with_front
 one_more front b [] h = h
 one_more front b (part ∷ parts) h = (subst IsUtf8 (append_over front b part) h.0, h.1)
@@ -86,7 +78,8 @@ parts_on (b ∷ text) front u = at (b == 124) refl (parts_on text)
     ends [] = refl
     ends (x ∷ xs) = ap (λ l. x ∷ l) (ends xs)
 
-    at : (bar : Bool) → (b == 124) ≡ bar → ((front : Bytes) → IsUtf8 (front ++ text) → AllByRecursion IsUtf8 (with_front front (parts_of text)))
+    at : (bar : Bool) → (b == 124) ≡ bar
+        → ((front : Bytes) → IsUtf8 (front ++ text) → AllByRecursion IsUtf8 (with_front front (parts_of text)))
         → AllByRecursion IsUtf8 (with_front front (cond bar ([] ∷ parts_of text) (onto_first b (parts_of text))))
     at true e later =
         let same = eqb-true b 124 e in
@@ -120,12 +113,14 @@ joined_legible (e ∷ []) h = h.0
 joined_legible (e ∷ f ∷ rest) h =
     IsUtf8-append (e ++ codes "; ") (joined (f ∷ rest)) (IsUtf8-append e (codes "; ") h.0 separator) (joined_legible (f ∷ rest) h.1)
 
-value_legible : (name : Bytes) (header fields : Fields) → AllByRecursion IsUtf8 fields → IsUtf8 (field_under name header fields)
+value_legible : (name : Bytes) (header fields : Fields) → AllByRecursion IsUtf8 fields
+    → IsUtf8 (field_under name header fields)
 value_legible name [] fields h = IsUtf8-nil
 value_legible name (head ∷ heads) [] h = IsUtf8-nil
 value_legible name (head ∷ heads) (field ∷ fields) h = at (is_named name head) (value_legible name heads fields h.1)
   where
-    at : (b : Bool) → IsUtf8 (field_under name heads fields) → IsUtf8 (if b then field else field_under name heads fields)
+    at : (b : Bool) → IsUtf8 (field_under name heads fields)
+        → IsUtf8 (if b then field else field_under name heads fields)
     at true later = h.0
     at false later = later
 
@@ -136,7 +131,8 @@ told_legible k text u = at (is_split k)
     at true = entries_legible text u
     at false = (u, tt)
 
-columns_legible : (header fields : Fields) → AllByRecursion IsUtf8 fields → (ks : List Column) → AllByRecursion IsUtf8 (flat_map (λ k. told_by k (value k header fields)) ks)
+columns_legible : (header fields : Fields) → AllByRecursion IsUtf8 fields → (ks : List Column)
+    → AllByRecursion IsUtf8 (flat_map (λ k. told_by k (value k header fields)) ks)
 columns_legible header fields h [] = tt
 columns_legible header fields h (k ∷ ks) =
     all_append IsUtf8 (told_by k (value k header fields)) (flat_map (λ j. told_by j (value j header fields)) ks)
@@ -154,9 +150,11 @@ some_legible text u = at (is_empty text)
     at true = tt
     at false = u
 
-texts_legible : (header fields : Fields) → AllByRecursion IsUtf8 fields → (es : List Element) → AllByRecursion (λ text. IfSome text IsUtf8) (map (λ e. nonblank (text_of header fields e)) es)
+texts_legible : (header fields : Fields) → AllByRecursion IsUtf8 fields → (es : List Element)
+    → AllByRecursion (λ text. IfSome text IsUtf8) (map (λ e. nonblank (text_of header fields e)) es)
 texts_legible header fields h [] = tt
-texts_legible header fields h (e ∷ es) = (some_legible (text_of header fields e) (text_legible header fields e h), texts_legible header fields h es)
+texts_legible header fields h (e ∷ es) =
+    (some_legible (text_of header fields e) (text_legible header fields e h), texts_legible header fields h es)
 
 -- ---- containers
 
@@ -165,12 +163,15 @@ at_legible [] i h = IsUtf8-nil
 at_legible (text ∷ texts) zero h = h.0
 at_legible (text ∷ texts) (suc i) h = at_legible texts i h.1
 
-triples_legible : (names locations kinds : List Bytes) (n : ℕ) → AllByRecursion IsUtf8 names → AllByRecursion IsUtf8 locations → AllByRecursion IsUtf8 kinds → AllByRecursion IsLegibleBox (map (triple locations kinds) (enumerate_from n names))
+triples_legible : (names locations kinds : List Bytes) (n : ℕ) → AllByRecursion IsUtf8 names
+    → AllByRecursion IsUtf8 locations → AllByRecursion IsUtf8 kinds
+    → AllByRecursion IsLegibleBox (map (triple locations kinds) (enumerate_from n names))
 triples_legible [] locations kinds n h l k = tt
 triples_legible (name ∷ names) locations kinds n h l k =
     (record { name = h.0; location = at_legible locations n l; kind = at_legible kinds n k }, triples_legible names locations kinds (n + 1) h.1 l k)
 
-boxes_legible : (names locations kinds : Bytes) → IsUtf8 names → IsUtf8 locations → IsUtf8 kinds → AllByRecursion IsLegibleBox (boxes_of names locations kinds)
+boxes_legible : (names locations kinds : Bytes) → IsUtf8 names → IsUtf8 locations → IsUtf8 kinds
+    → AllByRecursion IsLegibleBox (boxes_of names locations kinds)
 boxes_legible names locations kinds n l k =
     let all = triples (entries names) (entries locations) (entries kinds) in
     all_distinct IsLegibleBox (filter is_named_box all) (all_filter IsLegibleBox is_named_box all
@@ -194,31 +195,38 @@ row_legible header fields n h = record {
   values = values_legible header fields h;
 }
 
-rows_below : (header : Fields) (above rest : List Fields) → AllByRecursion (AllByRecursion IsUtf8) rest → AllByRecursion IsLegibleRow (filter_map (row_told header) (lines_below above rest))
+rows_below : (header : Fields) (above rest : List Fields) → AllByRecursion (AllByRecursion IsUtf8) rest
+    → AllByRecursion IsLegibleRow (filter_map (row_told header) (lines_below above rest))
 rows_below header above [] h = tt
 rows_below header above (fields ∷ rest) h = at (is_blank fields || is_told_again header (line_at above fields)) (rows_below header (above ++ fields ∷ []) rest h.1)
   where
-    at : (b : Bool) → AllByRecursion IsLegibleRow (filter_map (row_told header) (lines_below (above ++ fields ∷ []) rest))
+    at : (b : Bool)
+        → AllByRecursion IsLegibleRow (filter_map (row_told header) (lines_below (above ++ fields ∷ []) rest))
         → AllByRecursion IsLegibleRow (cons_option (if b then None else Some (row_of header fields (length above + 2))) (filter_map (row_told header) (lines_below (above ++ fields ∷ []) rest)))
     at true later = later
     at false later = (row_legible header fields (length above + 2) h.0, later)
 
 -- ---- the file
 
-below_legible : (header : Fields) (rest : List Fields) (file : File) → AllByRecursion (AllByRecursion IsUtf8) rest → below header rest ≡ Ok file → AreLegibleRows file
+below_legible : (header : Fields) (rest : List Fields) (file : File) → AllByRecursion (AllByRecursion IsUtf8) rest
+    → below header rest ≡ Ok file → AreLegibleRows file
 below_legible header rest file h e = at (faults header rest) e
   where
-    at : (fs : List Fault) → or_fault fs (record { rows = rows header rest; translations = translations header rest }) ≡ Ok file → AreLegibleRows file
+    at : (fs : List Fault)
+        → or_fault fs (record { rows = rows header rest; translations = translations header rest }) ≡ Ok file
+        → AreLegibleRows file
     at [] e =
         let same : record { rows = rows header rest; translations = translations header rest } ≡ file = cc in
         subst AreLegibleRows same (rows_below header [] rest h)
     at (f ∷ fs) e = absurd (cc)
 
-under_legible : (header : Fields) (cs : List Cause) (rest : List Fields) (file : File) → AllByRecursion (AllByRecursion IsUtf8) rest → under header cs rest ≡ Ok file → AreLegibleRows file
+under_legible : (header : Fields) (cs : List Cause) (rest : List Fields) (file : File)
+    → AllByRecursion (AllByRecursion IsUtf8) rest → under header cs rest ≡ Ok file → AreLegibleRows file
 under_legible header [] rest file h e = below_legible header rest file h e
 under_legible header (c ∷ cs) rest file h e = absurd (cc)
 
-records_legible_in : (all : List Fields) (file : File) → AllByRecursion (AllByRecursion IsUtf8) all → of_records all ≡ Ok file → AreLegibleRows file
+records_legible_in : (all : List Fields) (file : File) → AllByRecursion (AllByRecursion IsUtf8) all
+    → of_records all ≡ Ok file → AreLegibleRows file
 records_legible_in [] file h e = absurd (cc)
 records_legible_in (header ∷ rest) file h e = under_legible header (header_causes header) rest file h.1 e
 
@@ -226,14 +234,17 @@ each_trimmed : (fields : List Bytes) → AllByRecursion IsUtf8 fields → AllByR
 each_trimmed [] h = tt
 each_trimmed (field ∷ fields) h = (trimmed_legible field h.0, each_trimmed fields h.1)
 
-all_trimmed : (all : List (List Bytes)) → AllByRecursion (AllByRecursion IsUtf8) all → AllByRecursion (AllByRecursion IsUtf8) (map (map trimmed) all)
+all_trimmed : (all : List (List Bytes)) → AllByRecursion (AllByRecursion IsUtf8) all
+    → AllByRecursion (AllByRecursion IsUtf8) (map (map trimmed) all)
 all_trimmed [] h = tt
 all_trimmed (fields ∷ all) h = (each_trimmed fields h.0, all_trimmed all h.1)
 
 pub file_legible : (bytes : Bytes) (file : File) → file_of bytes ≡ Ok file → AreLegibleRows file
 file_legible bytes file e = at (is_utf8 bytes) refl e
   where
-    at : (b : Bool) → is_utf8 bytes ≡ b → (if b then of_records (records_of bytes) else Err (0, number_of cause.NotUtf8)) ≡ Ok file → AreLegibleRows file
+    at : (b : Bool) → is_utf8 bytes ≡ b
+        → (if b then of_records (records_of bytes) else Err (0, number_of cause.NotUtf8)) ≡ Ok file
+        → AreLegibleRows file
     at true u e =
         let text = past_mark bytes (IsUtf8-from_is_utf8 bytes u) in
         records_legible_in (records_of bytes) file (all_trimmed (records default_config (strip_bom bytes)) (records_legible (strip_bom bytes) text)) e

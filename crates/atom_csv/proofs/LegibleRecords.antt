@@ -1,16 +1,12 @@
 -- The fields of a text that is UTF-8 are UTF-8: what cuts fields, and what is left out of them, is ASCII.
 use Rattle.std.proofs.Common.{◌≡◌, ◌∙◌, ◌<◌, ◌++◌, ◌∷◌, [], ℕ, zero, suc, ◌+◌, Bool, true, false, List, Option, Some, None, length, take, drop, get_or, refl, sym, ap, subst, arith, append_assoc, length-append}
-use Rattle.std.specs.Prelude.{if◌then◌else◌, ◌==◌, ◌&&◌, ◌||◌, IsUtf8}
-use Rattle.std.specs.List.{AllByRecursion}
-use Rattle.std.proofs.lemmas.Bool.{eqb-true, false≢true}
-use Rattle.std.proofs.lemmas.Str.{IsUtf8-nil, IsUtf8-append, IsUtf8-take, IsUtf8-drop, IsUtf8-past_char, IsCharBoundary-before_ascii, IsCharBoundary-after_ascii}
-use Rattle.isad_core.specs.Texts.{Bytes}
-use Rattle.csv.specs.Machine.{Read, in_field, start_field, start_record, step, ends_at_end, is_end, fields_after, field_after, next_record}
-use Rattle.csv.specs.Reading.{default_config, records_next, records_from, records, is_bom, strip_bom}
-use Rattle.csv.specs.declared.parser.State.{State}
+use Rattle.std.specs.Prelude.{IsUtf8}
+use Rattle.csv.specs.Machine.{next_record}
+use Rattle.csv.specs.Reading.{records_from, strip_bom}
 use Rattle.csv.specs.declared.parser.State.TheVariants as st
 use Rattle.csv.specs.declared.parser.Action.{Action}
 use Rattle.csv.specs.declared.parser.Action.TheVariants as act
+use Rattle.atom_csv.proofs.Common.{AllByRecursion, Bytes, IsCharBoundary-after_ascii, IsCharBoundary-before_ascii, IsUtf8-append, IsUtf8-drop, IsUtf8-nil, IsUtf8-past_char, IsUtf8-take, Read, State, default_config, ends_at_end, eqb-true, false≢true, field_after, fields_after, if◌then◌else◌, in_field, is_bom, is_end, records, records_next, start_field, start_record, step, ◌&&◌, ◌==◌, ◌||◌}
 
 -- ---- a text that is cut at an ASCII byte
 
@@ -54,7 +50,8 @@ Joins b _ = b < 128
 GoesOn : ℕ → State × Action → Type 0
 GoesOn b to = IsNoComment to.0 × Joins b to.1
 
-either : (b : ℕ) (test : Bool) (x y : State × Action) → (test ≡ true → GoesOn b x) → GoesOn b y → GoesOn b (if test then x else y)
+either : (b : ℕ) (test : Bool) (x y : State × Action) → (test ≡ true → GoesOn b x) → GoesOn b y
+    → GoesOn b (if test then x else y)
 either b true x y h k = h refl
 either b false x y h k = k
 
@@ -68,7 +65,8 @@ break_small b e = at (b == 13) refl e
     at true f h = is_small 13 b (omega arith) f
     at false f h = is_small 10 b (omega arith) h
 
-after_break : (b : ℕ) → ((b == 13) || (b == 10)) ≡ true → GoesOn b (if b == 13 then st.AfterCr else st.StartRecord, act.EndRecord)
+after_break : (b : ℕ) → ((b == 13) || (b == 10)) ≡ true
+    → GoesOn b (if b == 13 then st.AfterCr else st.StartRecord, act.EndRecord)
 unfolding IsNoComment Joins GoesOn
 after_break b e = (at (b == 13), break_small b e)
   where
@@ -103,11 +101,13 @@ step_on st.AfterCr b h = either b (b == 10) _ _ (λ e. (tt, is_small 10 b (omega
 
 -- ---- the field at hand with all that follows is a text, and stays one
 
-more : (fields : List Bytes) (field : Bytes) → AllByRecursion IsUtf8 fields → IsUtf8 field → AllByRecursion IsUtf8 (fields ++ field ∷ [])
+more : (fields : List Bytes) (field : Bytes) → AllByRecursion IsUtf8 fields → IsUtf8 field
+    → AllByRecursion IsUtf8 (fields ++ field ∷ [])
 more [] field h u = (u, tt)
 more (f ∷ fields) field h u = (h.0, more fields field h.1 u)
 
-fields_on : (a : Action) (b : ℕ) (fields : List Bytes) (field rest : Bytes) → Joins b a → AllByRecursion IsUtf8 fields → IsUtf8 (field ++ b ∷ rest)
+fields_on : (a : Action) (b : ℕ) (fields : List Bytes) (field rest : Bytes) → Joins b a → AllByRecursion IsUtf8 fields
+    → IsUtf8 (field ++ b ∷ rest)
     → AllByRecursion IsUtf8 (fields_after a fields field) × IsUtf8 (field_after a b field ++ rest)
 unfolding Joins
 fields_on act.Copy b fields field rest low h u = (h, subst IsUtf8 (sym (append_assoc field (b ∷ []) rest)) u)
@@ -116,7 +116,8 @@ fields_on act.EndField b fields field rest low h u = let c = cut_at_ascii field 
 fields_on act.EndRecord b fields field rest low h u = let c = cut_at_ascii field rest b low u in (more fields field h c.0, c.1)
 
 -- an action that ends a record leaves no field at hand
-ended : (a : Action) (b : ℕ) (field rest : Bytes) → is_end a ≡ true → IsUtf8 (field_after a b field ++ rest) → IsUtf8 rest
+ended : (a : Action) (b : ℕ) (field rest : Bytes) → is_end a ≡ true → IsUtf8 (field_after a b field ++ rest)
+    → IsUtf8 rest
 ended act.Copy b field rest e u = absurd (false≢true e)
 ended act.Skip b field rest e u = absurd (false≢true e)
 ended act.EndField b field rest e u = absurd (false≢true e)
@@ -131,7 +132,9 @@ no_more : (xs : Bytes) → xs ++ [] ≡ xs
 no_more [] = refl
 no_more (x ∷ xs) = ap (λ l. x ∷ l) (no_more xs)
 
-next_on : (bytes : Bytes) (s : State) (fields : List Bytes) (field : Bytes) → IsNoComment s → AllByRecursion IsUtf8 fields → IsUtf8 (field ++ bytes) → IsLegibleRead (next_record default_config s fields field bytes)
+next_on : (bytes : Bytes) (s : State) (fields : List Bytes) (field : Bytes) → IsNoComment s
+    → AllByRecursion IsUtf8 fields → IsUtf8 (field ++ bytes)
+    → IsLegibleRead (next_record default_config s fields field bytes)
 unfolding IsNoComment GoesOn IsLegibleRead next_record
 next_on [] s fields field n h u = at (ends_at_end s)
   where
@@ -155,17 +158,21 @@ next_on (b ∷ rest) s fields field n h u =
 
 -- ---- all records
 
-records_on : (n : ℕ) (s : State) (bytes : Bytes) → IsNoComment s → IsUtf8 bytes → AllByRecursion (AllByRecursion IsUtf8) (records_from default_config n s bytes)
+records_on : (n : ℕ) (s : State) (bytes : Bytes) → IsNoComment s → IsUtf8 bytes
+    → AllByRecursion (AllByRecursion IsUtf8) (records_from default_config n s bytes)
 unfolding IsLegibleRead records_from
 records_on zero s bytes h u = tt
-records_on (suc n) s bytes h u = at (next_record default_config s [] [] bytes) (next_on bytes s [] [] h tt u) (records_on n)
+records_on (suc n) s bytes h u =
+    at (next_record default_config s [] [] bytes) (next_on bytes s [] [] h tt u) (records_on n)
   where
-    at : (r : Option Read) → IsLegibleRead r → ((t : State) (rest : Bytes) → IsNoComment t → IsUtf8 rest → AllByRecursion (AllByRecursion IsUtf8) (records_from default_config n t rest))
+    at : (r : Option Read) → IsLegibleRead r
+        → ((t : State) (rest : Bytes) → IsNoComment t → IsUtf8 rest → AllByRecursion (AllByRecursion IsUtf8) (records_from default_config n t rest))
         → AllByRecursion (AllByRecursion IsUtf8) (records_next (records_from default_config n) r)
     at None k later = tt
     at (Some read) k later = (k.0, later read.1 read.2 k.1 k.2)
 
-pub records_legible : (bytes : Bytes) → IsUtf8 bytes → AllByRecursion (AllByRecursion IsUtf8) (records default_config bytes)
+pub records_legible : (bytes : Bytes) → IsUtf8 bytes
+    → AllByRecursion (AllByRecursion IsUtf8) (records default_config bytes)
 unfolding IsNoComment
 records_legible bytes u = records_on (length bytes + 1) st.StartRecord bytes tt u
 
@@ -174,7 +181,8 @@ records_legible bytes u = records_on (length bytes + 1) st.StartRecord bytes tt 
 mark_parts : (a b c : ℕ) → is_bom a b c ≡ true → (a ≡ 0xEF) × (b ≡ 0xBB) × (c ≡ 0xBF)
 mark_parts a b c e = at (a == 0xEF) (b == 0xBB) refl refl e
   where
-    at : (x y : Bool) → (a == 0xEF) ≡ x → (b == 0xBB) ≡ y → (x && y && (c == 0xBF)) ≡ true → (a ≡ 0xEF) × (b ≡ 0xBB) × (c ≡ 0xBF)
+    at : (x y : Bool) → (a == 0xEF) ≡ x → (b == 0xBB) ≡ y → (x && y && (c == 0xBF)) ≡ true
+        → (a ≡ 0xEF) × (b ≡ 0xBB) × (c ≡ 0xBF)
     at true true f g h = (eqb-true a 0xEF f, eqb-true b 0xBB g, eqb-true c 0xBF h)
     at true false f g h = absurd (false≢true h)
     at false y f g h = absurd (false≢true h)

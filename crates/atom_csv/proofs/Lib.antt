@@ -1,3 +1,4 @@
+pub mod Common
 pub mod BoxLemmas
 pub mod ColumnLemmas
 pub mod EntryLemmas

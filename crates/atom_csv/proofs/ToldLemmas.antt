@@ -1,30 +1,19 @@
 -- What holds of every file that is told.
 use Rattle.std.proofs.Common.{◌+◌, ◌≡◌, ◌∙◌, ◌++◌, ◌∷◌, [], ℕ, Bool, true, false, List, Option, Some, None, Ok, Err, length, map, reverse, refl, sym, ap, ap₂, subst, cond, option_map}
-use Rattle.std.specs.Prelude.{if◌then◌else◌, filter, filter_map, find, is_some, not, ◌&&◌, ◌||◌, IfSome, codes}
-use Rattle.std.specs.List.{AllByRecursion, cons_option, enumerate_from, flat_map, list_all}
-use Rattle.std.specs.Str.{bytes_eq, is_utf8}
-use Rattle.std.proofs.lemmas.List.{reverse-append}
+use Rattle.std.specs.Prelude.{filter, not, codes}
+use Rattle.std.specs.Str.{is_utf8}
 use Rattle.std.proofs.lemmas.List.Folds.{list_all-append}
-use Rattle.isad_core.specs.Texts.{Bytes, is_blank_text, is_space}
 use Rattle.isad_core.specs.declared.element.Element.{Element}
-use Rattle.isad_core.specs.declared.values.BoxKey.{BoxKey}
-use Rattle.csv.specs.Reading.{default_config, records, strip_bom}
-use Rattle.atom_csv.specs.Causes.{number_of}
-use Rattle.atom_csv.specs.Fields.{Fields, field_under, is_blank, is_empty, is_named, trim_start, trimmed, value}
-use Rattle.atom_csv.specs.FileContents.{has_other_width, is_late, is_long, is_translation, has_slug_alone, Fault, below, causes, culture, fault_of, faults, file_of, first_culture, header_causes, is_told_again, legacy, lines_below, lowest, of_records, or_fault, records_of, row_causes, row_of, row_told, rows, stood_above, translations, under, when}
+use Rattle.csv.specs.Reading.{strip_bom}
 use Rattle.atom_csv.specs.FileProperties.{AllDiffer, AreValues, IsThere, IsTold}
-use Rattle.atom_csv.specs.Columns.{columns_of, is_split, name_of}
-use Rattle.atom_csv.specs.Entries.{entries, entry_of, nonblank_entries, joined, parts_of}
-use Rattle.atom_csv.specs.Values.{text_elements, is_named_box, nonblank, text_of, told_by, triple, values_of}
-use Rattle.isad_core.specs.Boxes.{distinct, is_same}
-use Rattle.atom_csv.specs.declared.column.Column.{Column}
+use Rattle.atom_csv.specs.Values.{text_elements}
 use Rattle.atom_csv.specs.declared.column.Column.TheVariants as column
 use Rattle.atom_csv.specs.declared.cause.Cause.TheVariants as cause
-use Rattle.atom_csv.proofs.EntryLemmas.{cons_there}
-use Rattle.atom_csv.proofs.LineLemmas.{line_at}
-use Rattle.atom_csv.specs.declared.cause.Cause.{Cause}
 use Rattle.atom_csv.specs.declared.file.File.{File}
 use Rattle.atom_csv.specs.declared.file.Row.{Row}
+use Rattle.atom_csv.proofs.Common.{AllByRecursion, BoxKey, Bytes, Cause, Column, Fault, Fields, IfSome, below, bytes_eq, causes, columns_of, cons_option, culture, default_config, distinct, entries, entry_of, enumerate_from, fault_of, faults, field_under, file_of, filter_map, find, first_culture, flat_map, has_other_width, has_slug_alone, header_causes, if◌then◌else◌, is_blank, is_blank_text, is_empty, is_late, is_long, is_named, is_named_box, is_same, is_some, is_space, is_split, is_told_again, is_translation, joined, legacy, lines_below, list_all, lowest, name_of, nonblank, nonblank_entries, number_of, of_records, or_fault, parts_of, records, records_of, reverse-append, row_causes, row_of, row_told, rows, stood_above, text_of, told_by, translations, trim_start, trimmed, triple, under, value, values_of, when, ◌&&◌, ◌||◌}
+use Rattle.atom_csv.proofs.EntryLemmas.{cons_there}
+use Rattle.atom_csv.proofs.LineLemmas.{line_at}
 
 -- ---- a text without white space at its ends is blank where nothing is left
 
@@ -88,11 +77,13 @@ field_tidy name (h ∷ hs) (f ∷ fs) t = go (is_named name h) t.0 (field_tidy n
 
 -- ---- lists
 
-pub all_append : {X : Type 0} (P : X → Type 0) (xs ys : List X) → AllByRecursion P xs → AllByRecursion P ys → AllByRecursion P (xs ++ ys)
+pub all_append : {X : Type 0} (P : X → Type 0) (xs ys : List X) → AllByRecursion P xs → AllByRecursion P ys
+    → AllByRecursion P (xs ++ ys)
 all_append P [] ys p q = q
 all_append P (x ∷ xs) ys p q = (p.0, all_append P xs ys p.1 q)
 
-pub all_filter : {X : Type 0} (P : X → Type 0) (p : X → Bool) (xs : List X) → AllByRecursion P xs → AllByRecursion P (filter p xs)
+pub all_filter : {X : Type 0} (P : X → Type 0) (p : X → Bool) (xs : List X) → AllByRecursion P xs
+    → AllByRecursion P (filter p xs)
 all_filter P p [] h = tt
 all_filter P p (x ∷ xs) h = go (p x) h.0 (all_filter P p xs h.1)
   where
@@ -100,7 +91,8 @@ all_filter P p (x ∷ xs) h = go (p x) h.0 (all_filter P p xs h.1)
     go true here later = (here, later)
     go false here later = later
 
-all_weaker : {X : Type 0} (P Q : X → Type 0) → ((x : X) → P x → Q x) → (xs : List X) → AllByRecursion P xs → AllByRecursion Q xs
+all_weaker : {X : Type 0} (P Q : X → Type 0) → ((x : X) → P x → Q x) → (xs : List X) → AllByRecursion P xs
+    → AllByRecursion Q xs
 all_weaker P Q f [] h = tt
 all_weaker P Q f (x ∷ xs) h = (f x h.0, all_weaker P Q f xs h.1)
 
@@ -109,15 +101,18 @@ all_passed : {X : Type 0} (p : X → Bool) (xs : List X) → AllByRecursion (λ 
 all_passed p [] = tt
 all_passed p (x ∷ xs) = go (p x) refl (all_passed p xs)
   where
-    go : (b : Bool) → p x ≡ b → AllByRecursion (λ x. p x ≡ true) (filter p xs) → AllByRecursion (λ x. p x ≡ true) (cond b (x ∷ filter p xs) (filter p xs))
+    go : (b : Bool) → p x ≡ b → AllByRecursion (λ x. p x ≡ true) (filter p xs)
+        → AllByRecursion (λ x. p x ≡ true) (cond b (x ∷ filter p xs) (filter p xs))
     go true e later = (e, later)
     go false e later = later
 
-differ_filter : {X : Type 0} (same : X → X → Bool) (p : X → Bool) (xs : List X) → AllDiffer same xs → AllDiffer same (filter p xs)
+differ_filter : {X : Type 0} (same : X → X → Bool) (p : X → Bool) (xs : List X) → AllDiffer same xs
+    → AllDiffer same (filter p xs)
 differ_filter same p [] h = tt
 differ_filter same p (x ∷ xs) h = go (p x) (all_filter (λ y. same x y ≡ false) p xs h.0) (differ_filter same p xs h.1)
   where
-    go : (b : Bool) → AllByRecursion (λ y. same x y ≡ false) (filter p xs) → AllDiffer same (filter p xs) → AllDiffer same (cond b (x ∷ filter p xs) (filter p xs))
+    go : (b : Bool) → AllByRecursion (λ y. same x y ≡ false) (filter p xs) → AllDiffer same (filter p xs)
+        → AllDiffer same (cond b (x ∷ filter p xs) (filter p xs))
     go true here later = (here, later)
     go false here later = later
 
@@ -141,7 +136,8 @@ told_tidy k text t = go (is_split k)
     go true = entries_tidy (parts_of text)
     go false = (t, tt)
 
-columns_tidy : (header fields : Fields) → AreTidy fields → (ks : List Column) → AreTidy (flat_map (λ k. told_by k (value k header fields)) ks)
+columns_tidy : (header fields : Fields) → AreTidy fields → (ks : List Column)
+    → AreTidy (flat_map (λ k. told_by k (value k header fields)) ks)
 columns_tidy header fields t [] = tt
 columns_tidy header fields t (k ∷ ks) =
     all_append IsTidy (told_by k (value k header fields)) (flat_map (λ j. told_by j (value j header fields)) ks)
@@ -157,7 +153,8 @@ filled_there : (es : List Bytes) → AreTidy es → AllByRecursion IsThere (nonb
 filled_there [] t = tt
 filled_there (e ∷ es) t = go (is_empty e) refl (filled_there es t.1)
   where
-    go : (b : Bool) → is_empty e ≡ b → AllByRecursion IsThere (nonblank_entries es) → AllByRecursion IsThere (cond (not b) (e ∷ nonblank_entries es) (nonblank_entries es))
+    go : (b : Bool) → is_empty e ≡ b → AllByRecursion IsThere (nonblank_entries es)
+        → AllByRecursion IsThere (cond (not b) (e ∷ nonblank_entries es) (nonblank_entries es))
     go true is later = later
     go false is later = (t.0 ∙ is, later)
 
@@ -170,18 +167,21 @@ text_there (e ∷ es) t = go (is_empty (joined (e ∷ es)))
     go true = tt
     go false = joined_blank e es t.0
 
-texts_there : (header fields : Fields) → AreTidy fields → (es : List Element) → AllByRecursion (λ text. IfSome text IsThere) (map (λ e. nonblank (text_of header fields e)) es)
+texts_there : (header fields : Fields) → AreTidy fields → (es : List Element)
+    → AllByRecursion (λ text. IfSome text IsThere) (map (λ e. nonblank (text_of header fields e)) es)
 texts_there header fields t [] = tt
 texts_there header fields t (e ∷ es) =
     (text_there (nonblank_entries (flat_map (λ k. told_by k (value k header fields)) (columns_of e))) (filled_there (flat_map (λ k. told_by k (value k header fields)) (columns_of e)) (columns_tidy header fields t (columns_of e))), texts_there header fields t es)
 
 -- ---- containers
 
-triples_tidy : (names locations kinds : List Bytes) (n : ℕ) → AreTidy names → AllByRecursion (λ (b : BoxKey). IsTidy b.name) (map (triple locations kinds) (enumerate_from n names))
+triples_tidy : (names locations kinds : List Bytes) (n : ℕ) → AreTidy names
+    → AllByRecursion (λ (b : BoxKey). IsTidy b.name) (map (triple locations kinds) (enumerate_from n names))
 triples_tidy [] locations kinds n t = tt
 triples_tidy (name ∷ names) locations kinds n t = (t.0, triples_tidy names locations kinds (n + 1) t.1)
 
-named_there : (bs : List BoxKey) → AllByRecursion (λ (b : BoxKey). IsTidy b.name) bs → AllByRecursion (λ (b : BoxKey). IsThere b.name) (filter is_named_box bs)
+named_there : (bs : List BoxKey) → AllByRecursion (λ (b : BoxKey). IsTidy b.name) bs
+    → AllByRecursion (λ (b : BoxKey). IsThere b.name) (filter is_named_box bs)
 named_there [] t = tt
 named_there (b ∷ bs) t = go (is_empty b.name) refl (named_there bs t.1)
   where
@@ -225,7 +225,8 @@ record Below (header : Fields) (above : List Fields) (r : Row) : Type 0 where
   new : first_culture header r.legacy above ≡ None
   values : AreValues r.values
 
-none_front : (p : Fields → Bool) (xs : List Fields) (x : Fields) → find p (xs ++ x ∷ []) ≡ None → (find p xs ≡ None) × (p x ≡ false)
+none_front : (p : Fields → Bool) (xs : List Fields) (x : Fields) → find p (xs ++ x ∷ []) ≡ None
+    → (find p xs ≡ None) × (p x ≡ false)
 none_front p [] x e = go (p x) e
   where
     go : (b : Bool) → cond b (Some x) None ≡ None → (find p [] ≡ None) × (b ≡ false)
@@ -233,7 +234,8 @@ none_front p [] x e = go (p x) e
     go false e = (refl, refl)
 none_front p (z ∷ zs) x e = go (p z) (none_front p zs x) e
   where
-    go : (b : Bool) → (find p (zs ++ x ∷ []) ≡ None → (find p zs ≡ None) × (p x ≡ false)) → cond b (Some z) (find p (zs ++ x ∷ [])) ≡ None → (cond b (Some z) (find p zs) ≡ None) × (p x ≡ false)
+    go : (b : Bool) → (find p (zs ++ x ∷ []) ≡ None → (find p zs ≡ None) × (p x ≡ false))
+        → cond b (Some z) (find p (zs ++ x ∷ [])) ≡ None → (cond b (Some z) (find p zs) ≡ None) × (p x ≡ false)
     go true later e = cc
     go false later e = later e
 
@@ -241,13 +243,16 @@ none_found : (header : Fields) (o : Option Fields) → option_map (culture heade
 none_found header None e = refl
 none_found header (Some x) e = cc
 
-new_front : (header : Fields) (above : List Fields) (x : Fields) (id : Bytes) → first_culture header id (above ++ x ∷ []) ≡ None → (first_culture header id above ≡ None) × (bytes_eq (legacy header x) id ≡ false)
+new_front : (header : Fields) (above : List Fields) (x : Fields) (id : Bytes)
+    → first_culture header id (above ++ x ∷ []) ≡ None
+    → (first_culture header id above ≡ None) × (bytes_eq (legacy header x) id ≡ false)
 new_front header above x id e =
     let front = none_front (λ fields. bytes_eq (legacy header fields) id) above x (none_found header _ e) in
     (ap (option_map (culture header)) front.0, front.1)
 
 -- a record with no cause has a legacyId that stood nowhere
-clean : (w n s g l t : Bool) → (when w cause.FieldCount ++ (when n cause.BlankLegacyId ++ (when s cause.Repeated ++ (when g cause.Slug ++ (when l cause.TooManyRows ++ when t cause.TooLong))))) ≡ []
+clean : (w n s g l t : Bool)
+    → (when w cause.FieldCount ++ (when n cause.BlankLegacyId ++ (when s cause.Repeated ++ (when g cause.Slug ++ (when l cause.TooManyRows ++ when t cause.TooLong))))) ≡ []
     → (n ≡ false) × (s ≡ false)
 clean true n s g l t e = cc
 clean false true s g l t e = cc
@@ -262,7 +267,8 @@ first_none : (o : Option Fault) (later : List Fault) → cons_option o later ≡
 first_none None later e = (refl, e)
 first_none (Some f) later e = cc
 
-stood_nowhere : (header : Fields) (above : List Fields) (x : Fields) → is_empty (legacy header x) ≡ false → is_some (stood_above header (line_at above x)) ≡ false → first_culture header (legacy header x) above ≡ None
+stood_nowhere : (header : Fields) (above : List Fields) (x : Fields) → is_empty (legacy header x) ≡ false
+    → is_some (stood_above header (line_at above x)) ≡ false → first_culture header (legacy header x) above ≡ None
 stood_nowhere header above x there none = gone (first_culture header (legacy header x) above) (ap (λ (b : Bool). is_some (if b then None else first_culture header (legacy header x) above)) (sym there) ∙ none)
   where
     gone : (o : Option Bytes) → is_some o ≡ false → o ≡ None
@@ -273,7 +279,8 @@ both_false : (a b : Bool) → (a || b) ≡ false → (a ≡ false) × (b ≡ fal
 both_false true b e = cc
 both_false false b e = (refl, e)
 
-clean_row : (header x : Fields) (stood : Option Bytes) (row : ℕ) → is_blank x ≡ false → is_translation header x stood ≡ false → row_causes header x stood row ≡ []
+clean_row : (header x : Fields) (stood : Option Bytes) (row : ℕ) → is_blank x ≡ false
+    → is_translation header x stood ≡ false → row_causes header x stood row ≡ []
     → (is_empty (legacy header x) ≡ false) × (is_some stood ≡ false)
 clean_row header x stood row blank again e =
     clean _ _ _ _ _ _ (sym (ap₂ (λ (b t : Bool). if b then when (is_late row) cause.TooManyRows
@@ -284,10 +291,13 @@ clean_row header x stood row blank again e =
 Facts : Fields → List Fields → List Row → Type 0
 Facts header above rs = AllByRecursion (Below header above) rs × AllDiffer same_legacy rs
 
-below_front : (header : Fields) (above : List Fields) (x : Fields) (r : Row) → Below header (above ++ x ∷ []) r → Below header above r
-below_front header above x r b = record { there = b.there; new = (new_front header above x r.legacy b.new).0; values = b.values }
+below_front : (header : Fields) (above : List Fields) (x : Fields) (r : Row) → Below header (above ++ x ∷ []) r
+    → Below header above r
+below_front header above x r b =
+    record { there = b.there; new = (new_front header above x r.legacy b.new).0; values = b.values }
 
-row_step : (header : Fields) (above : List Fields) (x : Fields) (rs : List Row) → AreTidy x → fault_of header (line_at above x) ≡ None → Facts header (above ++ x ∷ []) rs
+row_step : (header : Fields) (above : List Fields) (x : Fields) (rs : List Row) → AreTidy x
+    → fault_of header (line_at above x) ≡ None → Facts header (above ++ x ∷ []) rs
     → Facts header above (cons_option (row_told header (line_at above x)) rs)
 unfolding Facts
 row_step header above x rs tidy none later = go (is_blank x || is_told_again header (line_at above x)) refl
@@ -312,14 +322,17 @@ row_step header above x rs tidy none later = go (is_blank x || is_told_again hea
         } in
         ((first, fronts), (others, later.1))
 
-told_rows : (header : Fields) (above xs : List Fields) → AllByRecursion AreTidy xs → filter_map (fault_of header) (lines_below above xs) ≡ [] → Facts header above (filter_map (row_told header) (lines_below above xs))
+told_rows : (header : Fields) (above xs : List Fields) → AllByRecursion AreTidy xs
+    → filter_map (fault_of header) (lines_below above xs) ≡ []
+    → Facts header above (filter_map (row_told header) (lines_below above xs))
 unfolding Facts
 told_rows header above [] t e = (tt, tt)
 told_rows header above (x ∷ xs) t e =
     let parts = first_none (fault_of header (line_at above x)) (filter_map (fault_of header) (lines_below (above ++ x ∷ []) xs)) e in
     row_step header above x (filter_map (row_told header) (lines_below (above ++ x ∷ []) xs)) t.0 parts.0 (told_rows header (above ++ x ∷ []) xs t.1 parts.1)
 
-rows_sound : (header : Fields) (rest : List Fields) (n : ℕ) → AllByRecursion AreTidy rest → faults header rest ≡ [] → IsTold (record { rows = rows header rest; translations = n })
+rows_sound : (header : Fields) (rest : List Fields) (n : ℕ) → AllByRecursion AreTidy rest → faults header rest ≡ []
+    → IsTold (record { rows = rows header rest; translations = n })
 unfolding Facts
 rows_sound header rest n t none =
     let told = told_rows header [] rest t none in
@@ -329,16 +342,20 @@ rows_sound header rest n t none =
       values = all_weaker (Below header []) (λ r. AreValues r.values) (λ r b. b.values) (rows header rest) told.0;
     }
 
-below_sound : (header : Fields) (rest : List Fields) (file : File) → AllByRecursion AreTidy rest → below header rest ≡ Ok file → IsTold file
+below_sound : (header : Fields) (rest : List Fields) (file : File) → AllByRecursion AreTidy rest
+    → below header rest ≡ Ok file → IsTold file
 below_sound header rest file t e = go (faults header rest) refl e
   where
-    go : (fs : List Fault) → faults header rest ≡ fs → or_fault fs (record { rows = rows header rest; translations = translations header rest }) ≡ Ok file → IsTold file
+    go : (fs : List Fault) → faults header rest ≡ fs
+        → or_fault fs (record { rows = rows header rest; translations = translations header rest }) ≡ Ok file
+        → IsTold file
     go [] none e =
         let same : record { rows = rows header rest; translations = translations header rest } ≡ file = cc in
         subst IsTold same (rows_sound header rest (translations header rest) t none)
     go (f ∷ fs) some e = cc
 
-under_sound : (header : Fields) (cs : List Cause) (rest : List Fields) (file : File) → AllByRecursion AreTidy rest → under header cs rest ≡ Ok file → IsTold file
+under_sound : (header : Fields) (cs : List Cause) (rest : List Fields) (file : File) → AllByRecursion AreTidy rest
+    → under header cs rest ≡ Ok file → IsTold file
 under_sound header [] rest file t e = below_sound header rest file t e
 under_sound header (c ∷ cs) rest file t e = cc
 
@@ -349,6 +366,7 @@ records_sound (header ∷ rest) file t e = under_sound header (header_causes hea
 pub file_sound : (bytes : Bytes) (file : File) → file_of bytes ≡ Ok file → IsTold file
 file_sound bytes file e = go (is_utf8 bytes) e
   where
-    go : (b : Bool) → (if b then of_records (records_of bytes) else Err (0, number_of cause.NotUtf8)) ≡ Ok file → IsTold file
+    go : (b : Bool) → (if b then of_records (records_of bytes) else Err (0, number_of cause.NotUtf8)) ≡ Ok file
+        → IsTold file
     go true e = records_sound (records_of bytes) file (records_tidy (records default_config (strip_bom bytes))) e
     go false e = cc

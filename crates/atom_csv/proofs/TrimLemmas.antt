@@ -1,11 +1,6 @@
 -- White space at the ends of a text, one byte more or less.
 use Rattle.std.proofs.Common.{◌≡◌, ◌∙◌, ◌+◌, ◌<◌, ◌∷◌, [], ℕ, suc, Bool, true, false, List, length, take, drop, get_or, refl, sym, ap, arith, drop-cons, reverse}
-use Rattle.std.specs.Prelude.{if◌then◌else◌, ◌==◌, ◌||◌}
-use Rattle.std.proofs.lemmas.Bool.{eqb-true}
-use Rattle.std.proofs.lemmas.List.{reverse-append}
-use Rattle.std.proofs.Math.Seq.{take-suc}
-use Rattle.isad_core.specs.Texts.{is_line_break, is_space}
-use Rattle.atom_csv.specs.Fields.{trim_end, trim_start}
+use Rattle.atom_csv.proofs.Common.{eqb-true, if◌then◌else◌, is_line_break, is_space, reverse-append, take-suc, trim_end, trim_start, ◌==◌, ◌||◌}
 
 either : (a b : Bool) → (P : Type 0) → (a ≡ true → P) → (b ≡ true → P) → (a || b) ≡ true → P
 either true b P f g e = f refl
@@ -22,7 +17,8 @@ space_is_ascii b e =
     small : (n : ℕ) → b ≡ n → n < 128 → b < 128
     small n same lt = omega arith
 
-pub start_more : (xs : List ℕ) (i : ℕ) → i < length xs → is_space (get_or xs i 0) ≡ true → trim_start (drop (i + 1) xs) ≡ trim_start (drop i xs)
+pub start_more : (xs : List ℕ) (i : ℕ) → i < length xs → is_space (get_or xs i 0) ≡ true
+    → trim_start (drop (i + 1) xs) ≡ trim_start (drop i xs)
 start_more xs i lt is =
     let next : i + 1 ≡ suc i = omega arith in
     ap (λ n. trim_start (drop n xs)) next
@@ -31,6 +27,7 @@ start_more xs i lt is =
 last_first : (xs : List ℕ) (i : ℕ) → i < length xs → reverse (take (suc i) xs) ≡ get_or xs i 0 ∷ reverse (take i xs)
 last_first xs i lt = ap reverse (take-suc xs i 0 lt) ∙ reverse-append (take i xs) (get_or xs i 0 ∷ [])
 
-pub end_more : (xs : List ℕ) (i : ℕ) → i < length xs → is_space (get_or xs i 0) ≡ true → trim_end (take i xs) ≡ trim_end (take (suc i) xs)
+pub end_more : (xs : List ℕ) (i : ℕ) → i < length xs → is_space (get_or xs i 0) ≡ true
+    → trim_end (take i xs) ≡ trim_end (take (suc i) xs)
 end_more xs i lt is =
     sym (ap (λ ys. reverse (trim_start ys)) (last_first xs i lt) ∙ ap (λ (b : Bool). reverse (if b then trim_start (reverse (take i xs)) else get_or xs i 0 ∷ reverse (take i xs))) is)

@@ -1,49 +1,27 @@
 -- A unit that is closed, or whose closure ends, by the rules and in the tables.
 use Rattle.std.proofs.Common.{◌≡◌, ℕ, ℤ, Bool, true, false, cond, [], ◌∷◌, Option, None, refl, ap}
-use Rattle.std.specs.Prelude.{⊤}
 use Rattle.sqlite.specs.State as store
-use Rattle.sqlite.specs.State.{HasCleanDisk}
-use Rattle.sqlite.specs.Tree.{Trees}
-use Rattle.tree_core.specs.Forest.{Forest, cut, each, nodes}
-use Rattle.office_tables.specs.Versions.{Version}
-use Rattle.catalogue_core.specs.UnitLookup.{has_unit}
-use Rattle.catalogue_core.specs.GoodCatalogues.{IsSomeDay}
-use Rattle.catalogue_core.specs.LegibleCatalogues.{IsLegibleCatalogue}
-use Rattle.catalogue_core.specs.CatalogueMerge.{Catalogue}
 use Rattle.catalogue_core.specs.Statuses.{with_closure}
-use Rattle.catalogue_core.specs.Units.{Unit, has_id, is_closed, is_later}
-use Rattle.catalogue_core.proofs.DistinctLists.{all_so}
-use Rattle.catalogue_core.proofs.GoodChanges.{each_good}
 use Rattle.catalogue_core.proofs.ImportedAgain.{all_each}
 use Rattle.catalogue_core.proofs.KeptUnits.{closure_keeps}
 use Rattle.catalogue_core.proofs.LegibleMerges.{each_legible}
-use Rattle.catalogue_statements.specs.Representation.{Represents}
-use Rattle.catalogue_statements.specs.declared.office.OfficeRow.{OfficeRow}
-use Rattle.office_core.specs.Rules.{after, gate}
-use Rattle.office_core.specs.SoundOffice.{IsSoundOffice}
-use Rattle.office_core.specs.State.{State}
 use Rattle.office_core.specs.declared.command.Command.TheVariants as command
 use Rattle.office_core.specs.declared.done.Done.TheVariants as done
 use Rattle.office_tables.specs.Schema as tables
-use Rattle.office_tables.specs.Step.{OnlyTouches}
-use Rattle.refinement.specs.Gate.{OthersAreOpen}
-use Rattle.refinement.specs.AccessConditions.{CanBeJudged}
-use Rattle.refinement.specs.Representation.{office_of}
-use Rattle.refinement.proofs.Changed.{shown_with}
-use Rattle.refinement.proofs.Judged.{distinct_ids, judged_with}
-use Rattle.refinement.proofs.OpenElsewhere.{none_left, others_open, stays_changed}
 use Rattle.refinement.proofs.OpenedUnits.{OnlyOpens, passes}
-use Rattle.refinement.proofs.Passing.{IsChange}
+use Rattle.catalogue_commands.proofs.Common.{CanBeJudged, Catalogue, Forest, HasCleanDisk, IsChange, IsLegibleCatalogue, IsSomeDay, IsSoundOffice, OfficeRow, OnlyTouches, OthersAreOpen, Represents, State, Trees, Unit, Version, after, all_so, cut, distinct_ids, each, each_good, gate, has_id, has_unit, is_closed, is_later, judged_with, nodes, none_left, office_of, others_open, shown_with, stays_changed, ⊤}
 
 module _ (u : ℕ) (until : Option ℤ) where
   abbrev change : Unit → Unit
   change unit = cond (has_id u unit) (record unit { until = until }) unit
 
-  closure_day : (b : Bool) (unit : Unit) → IsSomeDay until → IsSomeDay unit.until → (let new : Unit = cond b (record unit { until = until }) unit in IsSomeDay new.until)
+  closure_day : (b : Bool) (unit : Unit) → IsSomeDay until → IsSomeDay unit.until
+      → (let new : Unit = cond b (record unit { until = until }) unit in IsSomeDay new.until)
   closure_day true unit new old = new
   closure_day false unit new old = old
 
-  legible_after : (s : State) → IsSoundOffice s → IsLegibleCatalogue (record s.catalogue { forest = each change s.catalogue.forest })
+  legible_after : (s : State) → IsSoundOffice s
+      → IsLegibleCatalogue (record s.catalogue { forest = each change s.catalogue.forest })
   legible_after s sound = each_legible s.catalogue change (closure_keeps until u) sound.texts.catalogue
 
   judged_after : (s : State) → IsSoundOffice s → IsSomeDay until → CanBeJudged (after s (command.SetClosure u until))
@@ -53,8 +31,10 @@ module _ (u : ℕ) (until : Option ℤ) where
       (all_each P change s.catalogue.forest (all_so P (λ (unit : Unit). P (change unit)) (λ unit old. closure_day (has_id u unit) unit day old) (nodes s.catalogue.forest) sound.sound.days.closures))
       (legible_after s sound)
 
-  pub closes : (places : Trees → Forest ℕ → Type 0) (version : Version) (old new : store.State) (today : ℤ) → IsSomeDay until
-      → (HasCleanDisk new → (o : OfficeRow) (k : Catalogue) → Represents places version old.now o k → ⊤ → Represents places version new.now o (with_closure u until k)) → (HasCleanDisk new → OnlyTouches (tables.unit.tree ∷ []) old.now new.now)
+  pub closes : (places : Trees → Forest ℕ → Type 0) (version : Version) (old new : store.State) (today : ℤ)
+      → IsSomeDay until
+      → (HasCleanDisk new → (o : OfficeRow) (k : Catalogue) → Represents places version old.now o k → ⊤ → Represents places version new.now o (with_closure u until k))
+      → (HasCleanDisk new → OnlyTouches (tables.unit.tree ∷ []) old.now new.now)
       → IsChange places version (λ s. (today ≡ s.day) × (has_unit s.catalogue.forest u ≡ true)) (command.SetClosure u until) today (done.SetClosure u) old new
   closes places version old new today day updates only = record {
     represents = λ clean s sound so it.
@@ -66,16 +46,19 @@ module _ (u : ℕ) (until : Option ℤ) where
     answers = λ clean s so it. refl;
   }
 
-  same_id : (b : Bool) (unit : Unit) → (let new : Unit = cond b (record unit { until = until }) unit in new.id) ≡ unit.id
+  same_id : (b : Bool) (unit : Unit)
+      → (let new : Unit = cond b (record unit { until = until }) unit in new.id) ≡ unit.id
   same_id true unit = refl
   same_id false unit = refl
 
-  same_boxes : (b : Bool) (unit : Unit) → (let new : Unit = cond b (record unit { until = until }) unit in new.values.boxes) ≡ unit.values.boxes
+  same_boxes : (b : Bool) (unit : Unit)
+      → (let new : Unit = cond b (record unit { until = until }) unit in new.values.boxes) ≡ unit.values.boxes
   same_boxes true unit = refl
   same_boxes false unit = refl
 
   -- of what is out only what is near the unit can be withheld by it
-  pub closes_near : (s : State) → IsSoundOffice s → IsSomeDay until → OthersAreOpen u (after s (command.SetClosure u until))
+  pub closes_near : (s : State) → IsSoundOffice s → IsSomeDay until
+      → OthersAreOpen u (after s (command.SetClosure u until))
   closes_near s sound day =
       let f = s.catalogue.forest in
       let judged = judged_after s sound day in
@@ -92,13 +75,16 @@ ended_opens u until day past = record {
   unclosed = λ unit is. unclosed (has_id u unit) unit is;
 }
   where
-    published : (b : Bool) (unit : Unit) → unit.draft ≡ false → (let new : Unit = cond b (record unit { until = until }) unit in new.draft) ≡ false
+    published : (b : Bool) (unit : Unit) → unit.draft ≡ false
+        → (let new : Unit = cond b (record unit { until = until }) unit in new.draft) ≡ false
     published true unit is = is
     published false unit is = is
 
-    unclosed : (b : Bool) (unit : Unit) → is_closed day unit ≡ false → is_closed day (cond b (record unit { until = until }) unit) ≡ false
+    unclosed : (b : Bool) (unit : Unit) → is_closed day unit ≡ false
+        → is_closed day (cond b (record unit { until = until }) unit) ≡ false
     unclosed true unit is = past
     unclosed false unit is = is
 
-pub ends : (u : ℕ) (until : Option ℤ) (s : State) → IsSoundOffice s → is_later s.day until ≡ false → gate (after s (command.SetClosure u until)) ≡ None
+pub ends : (u : ℕ) (until : Option ℤ) (s : State) → IsSoundOffice s → is_later s.day until ≡ false
+    → gate (after s (command.SetClosure u until)) ≡ None
 ends u until s sound past = passes s sound (change u until) (ended_opens u until s.day past)

@@ -1,4 +1,6 @@
+pub mod Common
 pub mod Closed
+pub mod KnownUnits
 pub mod MarkHeights
 pub mod CutMoved
 pub mod Moved

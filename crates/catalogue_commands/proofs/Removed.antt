@@ -1,60 +1,34 @@
 -- Units that are taken away, by the rules and in the tables.
 use Rattle.std.proofs.Common.{◌≡◌, ℕ, ℤ, Bool, true, List, length, refl, sym, ap, subst, ◌∙◌, nat_eq}
-use Rattle.std.specs.Prelude.{filter, not}
-use Rattle.std.specs.List.{AllByRecursion, list_any}
-use Rattle.std.proofs.lemmas.List.{length-map}
+use Rattle.std.specs.Prelude.{not}
 use Rattle.sqlite.specs.State as store
-use Rattle.sqlite.specs.State.{HasCleanDisk}
-use Rattle.sqlite.specs.Tree.{Trees}
 use Rattle.isad_core.specs.Days.{is_day_number}
 use Rattle.tree_core.specs.ChangeConditions.{MayCut}
-use Rattle.tree_core.specs.Forest.{Forest, branch, cut, each, nodes}
-use Rattle.office_tables.specs.Versions.{Version}
-use Rattle.tree_core.proofs.EachLemmas.{branch-each}
 use Rattle.desk_core.specs.DeskRows.{Desk, PermitRow}
-use Rattle.desk_store.specs.Holdings.{issued_of}
 use Rattle.desk_store.specs.declared.container_orders.ContainerOrder.{ContainerOrder}
 use Rattle.desk_store.specs.Representation.{IsNumberOf, RepresentsDesk}
-use Rattle.catalogue_core.specs.UnitLookup.{has_unit}
-use Rattle.catalogue_core.specs.GoodCatalogues.{IsSomeDay}
-use Rattle.catalogue_core.specs.LegibleCatalogues.{HasLegibleTexts, IsLegibleCatalogue}
-use Rattle.catalogue_core.specs.CatalogueMerge.{Catalogue}
-use Rattle.catalogue_core.specs.Units.{Unit, has_id}
-use Rattle.catalogue_core.proofs.DistinctLists.{all_so}
 use Rattle.catalogue_core.proofs.EachAfter.{all_cut}
-use Rattle.catalogue_core.proofs.EachOf.{all_filtered}
-use Rattle.catalogue_core.proofs.GoodChanges.{cut_good}
 use Rattle.catalogue_core.proofs.UnitsAfter.{each_there}
-use Rattle.catalogue_statements.specs.Representation.{Represents}
-use Rattle.catalogue_statements.specs.declared.office.OfficeRow.{OfficeRow}
 use Rattle.catalogue_store.specs.BranchRemoval.{HasNoBranch, tables_of_units}
-use Rattle.office_core.specs.Rules.{removed}
-use Rattle.office_core.specs.SoundOffice.{IsSoundOffice}
-use Rattle.office_core.specs.State.{Permit, State, is_permitted}
 use Rattle.office_core.specs.declared.command.Command.TheVariants as command
 use Rattle.office_core.specs.declared.done.Done.TheVariants as done
-use Rattle.state_encoding.specs.DeskEncoding.{permit_rows}
-use Rattle.state_encoding.specs.OfficeRows.{tables}
 use Rattle.state_encoding.proofs.LegibleRows.{desk_legible}
-use Rattle.refinement.specs.Gate.{AreAsked, AreEnough}
-use Rattle.refinement.specs.AccessConditions.{CanBeJudged}
-use Rattle.refinement.specs.Representation.{office_of}
 use Rattle.refinement.proofs.Gates.{enough_of}
-use Rattle.refinement.proofs.Judged.{distinct_ids, judged_with}
 use Rattle.refinement.proofs.OpenByPermits.{IsAlike, permitted_left}
-use Rattle.refinement.proofs.OpenElsewhere.{stays_permitted, still_open}
-use Rattle.refinement.proofs.Passing.{IsChange}
 use Rattle.refinement.proofs.PermitFrames.{desk_with_permits}
+use Rattle.catalogue_commands.proofs.Common.{AllByRecursion, AreAsked, AreEnough, CanBeJudged, Catalogue, Forest, HasCleanDisk, HasLegibleTexts, IsChange, IsLegibleCatalogue, IsSomeDay, IsSoundOffice, OfficeRow, Permit, Represents, State, Trees, Unit, Version, all_filtered, all_so, branch, branch-each, cut, cut_good, distinct_ids, each, filter, has_id, has_unit, is_permitted, issued_of, judged_with, length-map, list_any, nodes, office_of, permit_rows, removed, stays_permitted, still_open, tables}
 use Rattle.catalogue_commands.proofs.PermitsLeft.{permits_left}
 
 module _ (u : ℕ) where
   abbrev gone : State → PermitRow → Bool
   gone s row = not (list_any (nat_eq row.unit) (branch (nat_eq u) (each (λ (unit : Unit). unit.id) s.catalogue.forest)))
 
-  rows_are : (s : State) → IsSoundOffice s → has_unit s.catalogue.forest u ≡ true → permit_rows (removed s u) ≡ filter (gone s) (permit_rows s)
+  rows_are : (s : State) → IsSoundOffice s → has_unit s.catalogue.forest u ≡ true
+      → permit_rows (removed s u) ≡ filter (gone s) (permit_rows s)
   rows_are s sound there = permits_left s u (distinct_ids s.catalogue sound.sound.units) there sound.sound.permits
 
-  legible_after : (s : State) → IsSoundOffice s → IsLegibleCatalogue (record s.catalogue { forest = cut (has_id u) s.catalogue.forest })
+  legible_after : (s : State) → IsSoundOffice s
+      → IsLegibleCatalogue (record s.catalogue { forest = cut (has_id u) s.catalogue.forest })
   legible_after s sound = record { units = all_cut HasLegibleTexts (has_id u) s.catalogue.forest sound.texts.catalogue.units; containers = sound.texts.catalogue.containers }
 
   judged_after : (s : State) → IsSoundOffice s → has_unit s.catalogue.forest u ≡ true → CanBeJudged (removed s u)
@@ -108,7 +82,9 @@ module _ (u : ℕ) where
   left s t = filter (λ permit. has_unit (cut (has_id u) s.catalogue.forest) permit.unit) (s.permits t)
 
   -- of what is out only what is near the unit can be withheld by its removal
-  pub removes_near : (version : Version) (loans : List ContainerOrder) (s : State) → IsSoundOffice s → has_unit s.catalogue.forest u ≡ true → AreAsked u s (issued_of (tables version s).desk) loans → AreEnough loans (removed s u)
+  pub removes_near : (version : Version) (loans : List ContainerOrder) (s : State) → IsSoundOffice s
+      → has_unit s.catalogue.forest u ≡ true → AreAsked u s (issued_of (tables version s).desk) loans
+      → AreEnough loans (removed s u)
   removes_near version loans s sound there asked =
       let rest = cut (has_id u) s.catalogue.forest in
       enough_of version (removed s u) (judged_after s sound there) asked.test

@@ -1,45 +1,18 @@
 -- Units that become drafts or are published, by the rules and in the tables.
 use Rattle.std.proofs.Common.{◌≡◌, ℕ, ℤ, Bool, true, false, cond, List, [], ◌∷◌, length, None, inl, inr, refl, sym, ap, ◌∙◌, nat_eq}
-use Rattle.std.specs.Prelude.{◌||◌, ⊤}
-use Rattle.std.specs.List.{AllByRecursion, list_any}
-use Rattle.std.proofs.lemmas.Bool.{cases_Bool, false≢true}
 use Rattle.sqlite.specs.State as store
-use Rattle.sqlite.specs.State.{HasCleanDisk}
-use Rattle.sqlite.specs.Tree.{Trees}
-use Rattle.tree_core.specs.Forest.{Forest, HasDistinctIds, branch, cut, each, has, nodes}
-use Rattle.tree_core.proofs.EachLemmas.{cut-each, has-each}
 use Rattle.tree_core.proofs.Lists.{any_agree, eqb_comm}
 use Rattle.tree_core.proofs.SpanShifts.{tree_apart}
-use Rattle.office_tables.specs.Versions.{Version}
-use Rattle.catalogue_core.specs.UnitLookup.{has_unit}
-use Rattle.catalogue_core.specs.GoodCatalogues.{IsSomeDay}
-use Rattle.catalogue_core.specs.LegibleCatalogues.{IsLegibleCatalogue}
-use Rattle.catalogue_core.specs.CatalogueMerge.{Catalogue}
 use Rattle.catalogue_core.specs.Statuses.{chosen, chosen_units, is_chosen, with_status}
-use Rattle.catalogue_core.specs.Units.{Unit, has_id, is_closed}
-use Rattle.catalogue_core.proofs.DistinctLists.{all_so}
-use Rattle.catalogue_core.proofs.GoodChanges.{each_good}
 use Rattle.catalogue_core.proofs.ImportedAgain.{all_each}
 use Rattle.catalogue_core.proofs.KeptUnits.{status_keeps}
 use Rattle.catalogue_core.proofs.LegibleMerges.{each_legible}
 use Rattle.catalogue_core.proofs.UnitsAfter.{each_there}
-use Rattle.catalogue_statements.specs.Representation.{Represents}
-use Rattle.catalogue_statements.specs.declared.office.OfficeRow.{OfficeRow}
-use Rattle.office_core.specs.Rules.{after, gate}
-use Rattle.office_core.specs.SoundOffice.{IsSoundOffice}
-use Rattle.office_core.specs.State.{State}
 use Rattle.office_core.specs.declared.command.Command.TheVariants as command
 use Rattle.office_core.specs.declared.done.Done.TheVariants as done
 use Rattle.office_tables.specs.Schema as tables
-use Rattle.office_tables.specs.Step.{OnlyTouches}
-use Rattle.refinement.specs.Gate.{OthersAreOpen}
-use Rattle.refinement.specs.AccessConditions.{CanBeJudged}
-use Rattle.refinement.specs.Representation.{office_of}
-use Rattle.refinement.proofs.Changed.{shown_with}
-use Rattle.refinement.proofs.Judged.{distinct_ids, judged_with}
-use Rattle.refinement.proofs.OpenElsewhere.{none_left, others_open, stays_changed}
 use Rattle.refinement.proofs.OpenedUnits.{OnlyOpens, passes}
-use Rattle.refinement.proofs.Passing.{IsChange}
+use Rattle.catalogue_commands.proofs.Common.{AllByRecursion, CanBeJudged, Catalogue, Forest, HasCleanDisk, HasDistinctIds, IsChange, IsLegibleCatalogue, IsSomeDay, IsSoundOffice, OfficeRow, OnlyTouches, OthersAreOpen, Represents, State, Trees, Unit, Version, after, all_so, branch, cases_Bool, cut, cut-each, distinct_ids, each, each_good, false≢true, gate, has, has-each, has_id, has_unit, is_closed, judged_with, list_any, nodes, none_left, office_of, others_open, shown_with, stays_changed, ⊤, ◌||◌}
 
 abbrev id_of : Unit → ℕ
 id_of unit = unit.id
@@ -52,11 +25,13 @@ module _ (u : ℕ) (draft whole : Bool) where
   abbrev change : List ℕ → Unit → Unit
   change ids unit = cond (is_chosen ids unit) (record unit { draft = draft }) unit
 
-  status_day : (b : Bool) (unit : Unit) → IsSomeDay unit.until → (let new : Unit = cond b (record unit { draft = draft }) unit in IsSomeDay new.until)
+  status_day : (b : Bool) (unit : Unit) → IsSomeDay unit.until
+      → (let new : Unit = cond b (record unit { draft = draft }) unit in IsSomeDay new.until)
   status_day true unit old = old
   status_day false unit old = old
 
-  legible_after : (s : State) → IsSoundOffice s → IsLegibleCatalogue (record s.catalogue { forest = each (change (chosen whole u s.catalogue)) s.catalogue.forest })
+  legible_after : (s : State) → IsSoundOffice s
+      → IsLegibleCatalogue (record s.catalogue { forest = each (change (chosen whole u s.catalogue)) s.catalogue.forest })
   legible_after s sound = each_legible s.catalogue (change (chosen whole u s.catalogue)) (status_keeps (chosen whole u s.catalogue) draft) sound.texts.catalogue
 
   judged_after : (s : State) → IsSoundOffice s → CanBeJudged (after s (command.SetStatus u draft whole))
@@ -68,7 +43,8 @@ module _ (u : ℕ) (draft whole : Bool) where
       (legible_after s sound)
 
   pub sets : (places : Trees → Forest ℕ → Type 0) (version : Version) (old new : store.State) (today : ℤ) (n : ℕ)
-      → (HasCleanDisk new → (o : OfficeRow) (k : Catalogue) → Represents places version old.now o k → ⊤ → Represents places version new.now o (with_status (chosen whole u k) draft k)) → (HasCleanDisk new → OnlyTouches (tables.unit.tree ∷ []) old.now new.now)
+      → (HasCleanDisk new → (o : OfficeRow) (k : Catalogue) → Represents places version old.now o k → ⊤ → Represents places version new.now o (with_status (chosen whole u k) draft k))
+      → (HasCleanDisk new → OnlyTouches (tables.unit.tree ∷ []) old.now new.now)
       → (HasCleanDisk new → (f : Forest ℕ) → places old.now.trees f → n ≡ length (chosen_units whole u f))
       → IsChange places version (λ s. (today ≡ s.day) × (has_unit s.catalogue.forest u ≡ true)) (command.SetStatus u draft whole) today (done.SetStatus n) old new
   sets places version old new today n updates only count = record {
@@ -81,22 +57,26 @@ module _ (u : ℕ) (draft whole : Bool) where
     answers = λ clean s so it. ap done.SetStatus (count clean (each (λ (unit : Unit). unit.id) s.catalogue.forest) it.catalogue.shown);
   }
 
-  same_id : (b : Bool) (unit : Unit) → (let new : Unit = cond b (record unit { draft = draft }) unit in new.id) ≡ unit.id
+  same_id : (b : Bool) (unit : Unit)
+      → (let new : Unit = cond b (record unit { draft = draft }) unit in new.id) ≡ unit.id
   same_id true unit = refl
   same_id false unit = refl
 
-  same_boxes : (b : Bool) (unit : Unit) → (let new : Unit = cond b (record unit { draft = draft }) unit in new.values.boxes) ≡ unit.values.boxes
+  same_boxes : (b : Bool) (unit : Unit)
+      → (let new : Unit = cond b (record unit { draft = draft }) unit in new.values.boxes) ≡ unit.values.boxes
   same_boxes true unit = refl
   same_boxes false unit = refl
 
   -- what is left beside the branch is not chosen
-  not_chosen : (b : Bool) (f : Forest Unit) → HasDistinctIds (each id_of f) → has_unit f u ≡ true → AllByRecursion (λ (unit : Unit). is_chosen (chosen_units b u (each id_of f)) unit ≡ false) (nodes (cut (has_id u) f))
+  not_chosen : (b : Bool) (f : Forest Unit) → HasDistinctIds (each id_of f) → has_unit f u ≡ true
+      → AllByRecursion (λ (unit : Unit). is_chosen (chosen_units b u (each id_of f)) unit ≡ false) (nodes (cut (has_id u) f))
   not_chosen false f once there = all_so (λ (unit : Unit). has_id u unit ≡ false) (λ (unit : Unit). is_chosen (u ∷ []) unit ≡ false) (λ unit other. ap (λ b. b || false) other) (nodes (cut (has_id u) f)) (none_left u f)
   not_chosen true f once there =
       all_so (λ (unit : Unit). has (nat_eq unit.id) (each id_of (cut (has_id u) f)) ≡ true) (λ (unit : Unit). is_chosen (branch (nat_eq u) (each id_of f)) unit ≡ false) apart (nodes (cut (has_id u) f))
       (all_here (cut (has_id u) f))
     where
-      apart : (unit : Unit) → has (nat_eq unit.id) (each id_of (cut (has_id u) f)) ≡ true → is_chosen (branch (nat_eq u) (each id_of f)) unit ≡ false
+      apart : (unit : Unit) → has (nat_eq unit.id) (each id_of (cut (has_id u) f)) ≡ true
+          → is_chosen (branch (nat_eq u) (each id_of f)) unit ≡ false
       apart unit left = elim (cases_Bool (list_any (nat_eq unit.id) (branch (nat_eq u) (each id_of f)))) [
         | inl taken ↦
             let gone = tree_apart u unit.id (each id_of f) once (has-each (nat_eq u) id_of f ∙ there) taken in
@@ -105,7 +85,8 @@ module _ (u : ℕ) (draft whole : Bool) where
       ]
 
   -- of what is out only what is near the unit can be withheld by it
-  pub sets_near : (s : State) → IsSoundOffice s → has_unit s.catalogue.forest u ≡ true → OthersAreOpen u (after s (command.SetStatus u draft whole))
+  pub sets_near : (s : State) → IsSoundOffice s → has_unit s.catalogue.forest u ≡ true
+      → OthersAreOpen u (after s (command.SetStatus u draft whole))
   sets_near s sound there =
       let f = s.catalogue.forest in
       let ids = chosen whole u s.catalogue in
@@ -124,13 +105,17 @@ published_opens ids day u whole = record {
   unclosed = λ unit is. unclosed (is_chosen ids unit) unit is;
 }
   where
-    published : (b : Bool) (unit : Unit) → unit.draft ≡ false → (let new : Unit = cond b (record unit { draft = false }) unit in new.draft) ≡ false
+    published : (b : Bool) (unit : Unit) → unit.draft ≡ false
+        → (let new : Unit = cond b (record unit { draft = false }) unit in new.draft) ≡ false
     published true unit is = refl
     published false unit is = is
 
-    unclosed : (b : Bool) (unit : Unit) → is_closed day unit ≡ false → is_closed day (cond b (record unit { draft = false }) unit) ≡ false
+    unclosed : (b : Bool) (unit : Unit) → is_closed day unit ≡ false
+        → is_closed day (cond b (record unit { draft = false }) unit) ≡ false
     unclosed true unit is = is
     unclosed false unit is = is
 
-pub publishes : (u : ℕ) (whole : Bool) (s : State) → IsSoundOffice s → gate (after s (command.SetStatus u false whole)) ≡ None
-publishes u whole s sound = passes s sound (change u false whole (chosen whole u s.catalogue)) (published_opens (chosen whole u s.catalogue) s.day u whole)
+pub publishes : (u : ℕ) (whole : Bool) (s : State) → IsSoundOffice s
+    → gate (after s (command.SetStatus u false whole)) ≡ None
+publishes u whole s sound =
+    passes s sound (change u false whole (chosen whole u s.catalogue)) (published_opens (chosen whole u s.catalogue) s.day u whole)

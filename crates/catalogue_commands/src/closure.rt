@@ -1,27 +1,28 @@
 //! Closes units, and ends their closure.
 
 ghost use Rattle.std.specs.Prelude.{◌≡◌, true};
-ghost use Rattle.isad_core.specs.Limits.{IsNumber};
 ghost use Rattle.catalogue_core.specs.UnitLookup.{has_unit};
 ghost use Rattle.catalogue_core.specs.Units.{is_later};
 ghost use Rattle.catalogue_core.specs.GoodCatalogues.{IsSomeDay};
 ghost use Rattle.office_core.specs.declared.command.Command.TheVariants as command;
 ghost use Rattle.refinement.specs.CommandSteps.{Performs};
 
-use catalogue_store::{Places, is_unit, set_closure};
+use catalogue_store::{Places, find_unit, set_closure};
 use isad_core::Day;
 use office_core::{Done, Refusal};
-use office_tables::{StoreFault, Tables};
-use refinement::{is_closed, pass_near};
+use office_tables::{Number, StoreFault, Tables};
+use refinement::pass_near;
 use sqlite::Alter;
 use std::alloc::Global;
 
-/// If there is a day, it is one of the calendar.
-fn is_of_calendar(until: Option<Day>)
-    ensures { IsSomeDay until }
+/// Whether a closure lasts beyond this day. Its day, if it has one, is one of the calendar.
+fn lasts_beyond(until: &Option<Day>, today: Day) -> bool
+    ensures lasts { result ≡ is_later today until.now }
+    ensures calendar { IsSomeDay until.now }
 {
-    if let Some(day) = until {
-        let _ = day.number();
+    match until {
+        None => false,
+        Some(until) => today.number() < until.number(),
     }
 }
 
@@ -31,21 +32,21 @@ fn close_known<P: Places, S: Alter>(
     alloc: Global,
     tables: &mut Tables<P, S>,
     today: Day,
-    unit: u64,
+    unit: Number,
     until: Option<Day>,
     is_in_force: bool,
 ) -> Result<Result<Done, Refusal>, StoreFault>
-    requires small { IsNumber unit }
     requires calendar { IsSomeDay until }
     requires lasts { is_in_force ≡ is_later today until }
     ensures { Performs P.represents P.version S.Store (λ s. (today ≡ s.day) × (has_unit s.catalogue.forest unit ≡ true))
         (command.SetClosure unit until) tables.old tables.new result }
 {
     set_closure(tables, unit, until)?;
+    let done = Done::SetClosure { unit: unit.get() };
     if !is_in_force {
-        return Ok(Ok(Done::SetClosure { unit }));
+        return Ok(Ok(done));
     }
-    pass_near(alloc, tables, today, unit, Done::SetClosure { unit })
+    pass_near(alloc, tables, today, unit, done)
 }
 
 /// Closes a unit until a day, or ends its closure. Refuses if there is no such unit, or if this
@@ -61,10 +62,9 @@ pub fn change_closure<P: Places, S: Alter>(
     ensures { Performs P.represents P.version S.Store (λ s. today ≡ s.day) (command.SetClosure unit until) tables.old
         tables.new result }
 {
-    if !is_unit(alloc, tables, unit)? {
+    let Some(number) = find_unit(alloc, tables, unit)? else {
         return Ok(Err(Refusal::UnknownUnit));
-    }
-    is_of_calendar(until);
-    let is_in_force = is_closed(until, today);
-    close_known(alloc, tables, today, unit, until, is_in_force)
+    };
+    let is_in_force = lasts_beyond(&until, today);
+    close_known(alloc, tables, today, number, until, is_in_force)
 }

@@ -1,7 +1,6 @@
 //! Removes units.
 
 ghost use Rattle.std.specs.Prelude.{◌≡◌, true};
-ghost use Rattle.isad_core.specs.Limits.{IsNumber};
 ghost use Rattle.catalogue_core.specs.UnitLookup.{has_unit};
 ghost use Rattle.desk_store.specs.Holdings.{issued_of};
 ghost use Rattle.office_core.specs.declared.command.Command.TheVariants as command;
@@ -9,11 +8,11 @@ ghost use Rattle.state_encoding.specs.OfficeRows.{tables as tables_of};
 ghost use Rattle.refinement.specs.CommandSteps.{Performs};
 ghost use Rattle.refinement.specs.Gate.{AreAsked};
 
-use catalogue_store::{Places, is_unit, remove_branch};
+use catalogue_store::{Places, find_unit, remove_branch};
 use desk_store::ContainerOrder;
 use isad_core::Day;
 use office_core::{Done, Refusal};
-use office_tables::{StoreFault, Tables};
+use office_tables::{Number, StoreFault, Tables};
 use refinement::{loans_near, pass_of};
 use sqlite::Alter;
 use std::alloc::Global;
@@ -24,10 +23,9 @@ fn remove_beside<P: Places, S: Alter>(
     alloc: Global,
     tables: &mut Tables<P, S>,
     today: Day,
-    unit: u64,
+    unit: Number,
     loans: &[ContainerOrder],
 ) -> Result<Result<Done, Refusal>, StoreFault>
-    requires small { IsNumber unit }
     ensures { Performs P.represents P.version S.Store (λ s. (today ≡ s.day) × (has_unit s.catalogue.forest unit ≡ true)
         × AreAsked unit s (issued_of (tables_of P.version s).desk) loans.now) (command.Remove unit)
         tables.old tables.new result }
@@ -42,9 +40,8 @@ fn remove_known<P: Places, S: Alter>(
     alloc: Global,
     tables: &mut Tables<P, S>,
     today: Day,
-    unit: u64,
+    unit: Number,
 ) -> Result<Result<Done, Refusal>, StoreFault>
-    requires small { IsNumber unit }
     ensures { Performs P.represents P.version S.Store (λ s. (today ≡ s.day) × (has_unit s.catalogue.forest unit ≡ true))
         (command.Remove unit) tables.old tables.new result }
 {
@@ -65,8 +62,8 @@ pub fn remove_unit<P: Places, S: Alter>(
     ensures { Performs P.represents P.version S.Store (λ s. today ≡ s.day) (command.Remove unit) tables.old tables.new
         result }
 {
-    if !is_unit(alloc, tables, unit)? {
+    let Some(number) = find_unit(alloc, tables, unit)? else {
         return Ok(Err(Refusal::UnknownUnit));
-    }
-    remove_known(alloc, tables, today, unit)
+    };
+    remove_known(alloc, tables, today, number)
 }

@@ -1,15 +1,14 @@
 //! Makes units drafts, or publishes them.
 
 ghost use Rattle.std.specs.Prelude.{◌≡◌, true};
-ghost use Rattle.isad_core.specs.Limits.{IsNumber};
 ghost use Rattle.catalogue_core.specs.UnitLookup.{has_unit};
 ghost use Rattle.office_core.specs.declared.command.Command.TheVariants as command;
 ghost use Rattle.refinement.specs.CommandSteps.{Performs};
 
-use catalogue_store::{Places, is_unit, set_status};
+use catalogue_store::{Places, find_unit, set_status};
 use isad_core::Day;
 use office_core::{Done, Refusal};
-use office_tables::{StoreFault, Tables};
+use office_tables::{Number, StoreFault, Tables};
 use refinement::pass_near;
 use sqlite::Alter;
 use std::alloc::Global;
@@ -20,11 +19,10 @@ fn set_known<P: Places, S: Alter>(
     alloc: Global,
     tables: &mut Tables<P, S>,
     today: Day,
-    unit: u64,
+    unit: Number,
     draft: bool,
     whole: bool,
 ) -> Result<Result<Done, Refusal>, StoreFault>
-    requires small { IsNumber unit }
     ensures { Performs P.represents P.version S.Store (λ s. (today ≡ s.day) × (has_unit s.catalogue.forest unit ≡ true))
         (command.SetStatus unit draft whole) tables.old tables.new result }
 {
@@ -50,8 +48,8 @@ pub fn change_status<P: Places, S: Alter>(
     ensures { Performs P.represents P.version S.Store (λ s. today ≡ s.day) (command.SetStatus unit draft whole)
         tables.old tables.new result }
 {
-    if !is_unit(alloc, tables, unit)? {
+    let Some(number) = find_unit(alloc, tables, unit)? else {
         return Ok(Err(Refusal::UnknownUnit));
-    }
-    set_known(alloc, tables, today, unit, draft, whole)
+    };
+    set_known(alloc, tables, today, number, draft, whole)
 }

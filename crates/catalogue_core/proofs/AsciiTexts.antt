@@ -1,20 +1,19 @@
 -- Names of ASCII letters are UTF-8.
 use Rattle.std.proofs.Common.{◌≡◌, ℕ, zero, suc, ◌<◌, Bool, true, false, ◌||◌, [], ◌∷◌, arith}
-use Rattle.std.specs.Prelude.{◌&&◌, nat_le, nat_eq, length, IsUtf8, slice_index}
-use Rattle.std.specs.List.{list_all}
-use Rattle.std.proofs.lemmas.Bool.{eqb-true, and_parts, leb-true}
+use Rattle.std.specs.Prelude.{◌&&◌, nat_eq, length}
 use Rattle.std.proofs.lemmas.Str.{IsUtf8-from_ascii}
-use Rattle.isad_core.specs.Texts.{Bytes}
-use Rattle.catalogue_core.specs.Sources.{is_between, is_source_letter, is_source}
+use Rattle.catalogue_core.proofs.Common.{Bytes, IsUtf8, and_parts, eqb-true, is_between, is_source, is_source_letter, leb-true, list_all, nat_le, slice_index}
 
-each_low : (test : ℕ → Bool) → ((b : ℕ) → test b ≡ true → b < 128) → (bs : Bytes) → list_all test bs ≡ true → (i : ℕ) → slice_index bs i < 128
+each_low : (test : ℕ → Bool) → ((b : ℕ) → test b ≡ true → b < 128) → (bs : Bytes) → list_all test bs ≡ true → (i : ℕ)
+    → slice_index bs i < 128
 each_low test low [] h zero = omega arith
 each_low test low [] h (suc i) = omega arith
 each_low test low (b ∷ bs) h zero = low b (and_parts (test b) (list_all test bs) h).0
 each_low test low (b ∷ bs) h (suc i) = each_low test low bs (and_parts (test b) (list_all test bs) h).1 i
 
 -- a text whose every byte passes a test that passes ASCII alone
-pub ascii_legible : (test : ℕ → Bool) → ((b : ℕ) → test b ≡ true → b < 128) → (bs : Bytes) → list_all test bs ≡ true → IsUtf8 bs
+pub ascii_legible : (test : ℕ → Bool) → ((b : ℕ) → test b ≡ true → b < 128) → (bs : Bytes) → list_all test bs ≡ true
+    → IsUtf8 bs
 ascii_legible test low bs h = IsUtf8-from_ascii bs (each_low test low bs h)
 
 pub between_low : (low high b : ℕ) → high < 128 → is_between low high b ≡ true → b < 128

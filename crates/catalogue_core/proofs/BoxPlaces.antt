@@ -1,12 +1,8 @@
 -- The number of a container is its place.
 use Rattle.std.proofs.Common.{◌≡◌, ℕ, zero, suc, Bool, true, false, cond, not, List, [], ◌∷◌, Some, refl, sym, ap, ◌∙◌, subst}
-use Rattle.std.specs.Prelude.{filter, option_map, slice_get, unwrap_or}
-use Rattle.std.specs.List.{AllByRecursion}
-use Rattle.std.proofs.lemmas.Bool.{not-true}
-use Rattle.isad_core.specs.declared.values.BoxKey.{BoxKey}
-use Rattle.isad_core.specs.Boxes.{distinct, is_same as is_same_box}
-use Rattle.catalogue_core.specs.CatalogueMerge.{number_in}
-use Rattle.catalogue_core.specs.OneRule.{NumbersArePlaces}
+use Rattle.std.specs.Prelude.{filter}
+use Rattle.isad_core.specs.Boxes.{is_same as is_same_box}
+use Rattle.catalogue_core.proofs.Common.{AllByRecursion, BoxKey, NumbersArePlaces, distinct, not-true, number_in, option_map, slice_get, unwrap_or}
 use Rattle.catalogue_core.proofs.Imported.{distinct_filter}
 use Rattle.catalogue_core.proofs.ImportedAgain.{box_itself}
 
@@ -25,7 +21,8 @@ all_kept : (p : BoxKey → Bool) (xs : List BoxKey) → Pass p xs → filter p x
 all_kept p [] h = refl
 all_kept p (x ∷ xs) h = ap (λ b. cond b (x ∷ filter p xs) (filter p xs)) h.0 ∙ ap (λ l. x ∷ l) (all_kept p xs h.1)
 
-passes_at : (p : BoxKey → Bool) (xs : List BoxKey) (i : ℕ) (b : BoxKey) → Pass p xs → slice_get xs i ≡ Some b → p b ≡ true
+passes_at : (p : BoxKey → Bool) (xs : List BoxKey) (i : ℕ) (b : BoxKey) → Pass p xs → slice_get xs i ≡ Some b
+    → p b ≡ true
 passes_at p [] i b h e = absurd (cc)
 passes_at p (x ∷ xs) zero b h e = let same : x ≡ b = cc in subst (λ y. p y ≡ true) same h.0
 passes_at p (x ∷ xs) (suc i) b h e = passes_at p xs i b h.1 e
@@ -33,7 +30,8 @@ passes_at p (x ∷ xs) (suc i) b h e = passes_at p xs i b h.1 e
 tail_of : {X : Type 0} (x y : X) (xs ys : List X) → x ∷ xs ≡ y ∷ ys → xs ≡ ys
 tail_of x y xs ys e = cc
 
-place_in : (xs : List BoxKey) (i : ℕ) (b : BoxKey) → distinct xs ≡ xs → slice_get xs i ≡ Some b → number_in xs b ≡ Some (suc i)
+place_in : (xs : List BoxKey) (i : ℕ) (b : BoxKey) → distinct xs ≡ xs → slice_get xs i ≡ Some b
+    → number_in xs b ≡ Some (suc i)
 place_in [] i b d e = absurd (cc)
 place_in (x ∷ xs) zero b d e =
     let same : x ≡ b = cc in

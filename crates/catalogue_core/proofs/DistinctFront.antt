@@ -1,25 +1,25 @@
 -- Containers that stand once: which of them are known, and what others behind them add.
 use Rattle.std.proofs.Common.{◌≡◌, ℕ, suc, Bool, true, false, not, cond, ◌||◌, List, [], ◌∷◌, ◌++◌, Option, Some, None, refl, sym, ap, ◌∙◌, subst, inl, inr}
-use Rattle.std.specs.Prelude.{filter, is_some, option_map}
-use Rattle.std.specs.List.{list_any}
-use Rattle.std.proofs.lemmas.Bool.{cases_Bool}
-use Rattle.isad_core.specs.declared.values.BoxKey.{BoxKey}
-use Rattle.isad_core.specs.Boxes.{distinct, is_same}
+use Rattle.std.specs.Prelude.{filter}
+use Rattle.isad_core.specs.Boxes.{is_same}
 use Rattle.isad_core.proofs.BoxLemmas.{same_sym}
-use Rattle.catalogue_core.specs.CatalogueMerge.{number_in}
+use Rattle.catalogue_core.proofs.Common.{BoxKey, cases_Bool, distinct, is_some, list_any, number_in, option_map}
 use Rattle.catalogue_core.proofs.Imported.{distinct_append, distinct_again, same_box}
 
 -- another container is found as well where those like x are left out
-any_kept : (x b : BoxKey) → is_same x b ≡ false → (ys : List BoxKey) → list_any (λ y. is_same y b) (filter (λ later. not (is_same x later)) ys) ≡ list_any (λ y. is_same y b) ys
+any_kept : (x b : BoxKey) → is_same x b ≡ false → (ys : List BoxKey)
+    → list_any (λ y. is_same y b) (filter (λ later. not (is_same x later)) ys) ≡ list_any (λ y. is_same y b) ys
 any_kept x b other [] = refl
 any_kept x b other (y ∷ ys) = at (is_same x y) refl (any_kept x b other ys)
   where
-    at : (c : Bool) → is_same x y ≡ c → list_any (λ y. is_same y b) (filter (λ later. not (is_same x later)) ys) ≡ list_any (λ y. is_same y b) ys
+    at : (c : Bool) → is_same x y ≡ c
+        → list_any (λ y. is_same y b) (filter (λ later. not (is_same x later)) ys) ≡ list_any (λ y. is_same y b) ys
         → list_any (λ y. is_same y b) (cond (not c) (y ∷ filter (λ later. not (is_same x later)) ys) (filter (λ later. not (is_same x later)) ys)) ≡ (is_same y b || list_any (λ y. is_same y b) ys)
     at true e k = k ∙ sym (ap (λ c. c || list_any (λ y. is_same y b) ys) (subst (λ z. is_same z b ≡ false) (same_box x y e) other))
     at false e k = ap (λ c. is_same y b || c) k
 
-any_distinct : (b : BoxKey) (xs : List BoxKey) → list_any (λ x. is_same x b) (distinct xs) ≡ list_any (λ x. is_same x b) xs
+any_distinct : (b : BoxKey) (xs : List BoxKey)
+    → list_any (λ x. is_same x b) (distinct xs) ≡ list_any (λ x. is_same x b) xs
 any_distinct b [] = refl
 any_distinct b (x ∷ xs) = at (is_same x b) refl (any_distinct b xs)
   where

@@ -1,18 +1,10 @@
 -- What holds of the rows of a file that was read.
 use Rattle.std.proofs.Common.{◌≡◌, ℕ, Bool, true, false, cond, ◌||◌, List, [], ◌∷◌, ◌++◌, Option, Some, None, Ok, Err, refl, sym, ◌∙◌, subst}
-use Rattle.std.specs.Prelude.{filter_map, find, is_some, option_map, slice_get}
-use Rattle.std.specs.List.{list_any, AllByRecursion, cons_option}
-use Rattle.std.specs.Str.{bytes_eq, is_utf8}
-use Rattle.std.proofs.lemmas.Bool.{false≢true, or_parts}
-use Rattle.std.proofs.lemmas.List.Folds.{list_any-append}
-use Rattle.isad_core.specs.Texts.{Bytes}
 use Rattle.atom_csv.specs.Fields.{Fields, is_blank, is_empty}
-use Rattle.atom_csv.specs.FileContents.{Line, lines_below, row_number, when, header_causes, legacy, culture, first_culture, stood_above, has_other_width, has_slug_alone, is_late, is_long, causes, row_of, is_told_again, row_told, fault_of, faults, rows, translations, or_fault, under, of_records, records_of, file_of}
 use Rattle.atom_csv.specs.Causes.{number_of}
 use Rattle.atom_csv.specs.declared.cause.Cause.{Cause}
 use Rattle.atom_csv.specs.declared.cause.Cause.TheVariants as cause
-use Rattle.atom_csv.specs.declared.file.File.{File}
-use Rattle.atom_csv.specs.declared.file.Row.{Row}
+use Rattle.catalogue_core.proofs.Common.{AllByRecursion, Bytes, File, Line, Row, bytes_eq, causes, cons_option, culture, false≢true, fault_of, faults, file_of, filter_map, find, first_culture, has_other_width, has_slug_alone, header_causes, is_late, is_long, is_some, is_told_again, is_utf8, legacy, lines_below, list_any, list_any-append, of_records, option_map, or_fault, or_parts, records_of, row_number, row_of, row_told, rows, slice_get, stood_above, translations, under, when}
 use Rattle.catalogue_core.proofs.EachOf.{none_found}
 use Rattle.catalogue_core.proofs.DistinctLists.{all_so}
 
@@ -28,11 +20,13 @@ pub record IsRead (file : File) : Type 0 where
   pub no_fault : faults header rest ≡ []
   pub is : file ≡ record { rows = rows header rest; translations = translations header rest }
 
-read_at : (file : File) (header : Fields) (rest : List Fields) (fs : List (ℕ × ℕ)) → faults header rest ≡ fs → or_fault fs (record { rows = rows header rest; translations = translations header rest }) ≡ Ok file → IsRead file
+read_at : (file : File) (header : Fields) (rest : List Fields) (fs : List (ℕ × ℕ)) → faults header rest ≡ fs
+    → or_fault fs (record { rows = rows header rest; translations = translations header rest }) ≡ Ok file → IsRead file
 read_at file header rest [] f e = record { header = header; rest = rest; no_fault = f; is = (let same : record { rows = rows header rest; translations = translations header rest } ≡ file = cc in sym same) }
 read_at file header rest (fault ∷ fs) f e = absurd (cc)
 
-read_under : (file : File) (header : Fields) (cs : List Cause) (rest : List Fields) → under header cs rest ≡ Ok file → IsRead file
+read_under : (file : File) (header : Fields) (cs : List Cause) (rest : List Fields) → under header cs rest ≡ Ok file
+    → IsRead file
 read_under file header [] rest e = read_at file header rest (faults header rest) refl e
 read_under file header (c ∷ cs) rest e = absurd (cc)
 
@@ -72,7 +66,10 @@ none_stood : (x : Option Bytes) → is_some x ≡ false → x ≡ None
 none_stood None e = refl
 none_stood (Some culture) e = absurd (false≢true (sym e))
 
-tells_at : (header : Fields) (line : Line) (row : Row) (blank again : Bool) → cond (blank || again) None (Some (row_of header line.fields (row_number line))) ≡ Some row → cond blank (when (is_late (row_number line)) cause.TooManyRows) (cond again (when (has_other_width header line.fields) cause.FieldCount ++ when (is_late (row_number line)) cause.TooManyRows) (when (has_other_width header line.fields) cause.FieldCount ++ (when (is_empty (legacy header line.fields)) cause.BlankLegacyId ++ (when (is_some (stood_above header line)) cause.Repeated ++ (when (has_slug_alone header line.fields) cause.Slug ++ (when (is_late (row_number line)) cause.TooManyRows ++ when (is_long header line.fields) cause.TooLong)))))) ≡ [] → TellsRow header line row
+tells_at : (header : Fields) (line : Line) (row : Row) (blank again : Bool)
+    → cond (blank || again) None (Some (row_of header line.fields (row_number line))) ≡ Some row
+    → cond blank (when (is_late (row_number line)) cause.TooManyRows) (cond again (when (has_other_width header line.fields) cause.FieldCount ++ when (is_late (row_number line)) cause.TooManyRows) (when (has_other_width header line.fields) cause.FieldCount ++ (when (is_empty (legacy header line.fields)) cause.BlankLegacyId ++ (when (is_some (stood_above header line)) cause.Repeated ++ (when (has_slug_alone header line.fields) cause.Slug ++ (when (is_late (row_number line)) cause.TooManyRows ++ when (is_long header line.fields) cause.TooLong)))))) ≡ []
+    → TellsRow header line row
 tells_at header line row true again e c = absurd (cc)
 tells_at header line row false true e c = absurd (cc)
 tells_at header line row false false e c =
@@ -90,8 +87,10 @@ tells_at header line row false false e c =
       long = none_alone (is_long header line.fields) cause.TooLong g.1;
     }
 
-pub answers : (header : Fields) (line : Line) (row : Row) → fault_of header line ≡ None → row_told header line ≡ Some row → TellsRow header line row
-answers header line row f e = tells_at header line row (is_blank line.fields) (is_told_again header line) e (no_lowest (causes header line) (row_number line) f)
+pub answers : (header : Fields) (line : Line) (row : Row) → fault_of header line ≡ None
+    → row_told header line ≡ Some row → TellsRow header line row
+answers header line row f e =
+    tells_at header line row (is_blank line.fields) (is_told_again header line) e (no_lowest (causes header line) (row_number line) f)
 
 -- nobody above has its legacyId
 
@@ -103,11 +102,14 @@ none_mapped g (Some x) e = absurd (cc)
 abbrev pub has_id : Fields → Bytes → Fields → Bool
 has_id header id fields = bytes_eq (legacy header fields) id
 
-first_there : (header : Fields) (id : Bytes) (above : List Fields) (b : Bool) → b ≡ false → cond b None (first_culture header id above) ≡ None → list_any (has_id header id) above ≡ false
+first_there : (header : Fields) (id : Bytes) (above : List Fields) (b : Bool) → b ≡ false
+    → cond b None (first_culture header id above) ≡ None → list_any (has_id header id) above ≡ false
 first_there header id above true h e = absurd (false≢true (sym h))
-first_there header id above false h e = none_found (has_id header id) above (none_mapped (culture header) (find (has_id header id) above) e)
+first_there header id above false h e =
+    none_found (has_id header id) above (none_mapped (culture header) (find (has_id header id) above) e)
 
-pub stood_nowhere : (header : Fields) (line : Line) (row : Row) → TellsRow header line row → list_any (has_id header row.legacy) line.above ≡ false
+pub stood_nowhere : (header : Fields) (line : Line) (row : Row) → TellsRow header line row
+    → list_any (has_id header row.legacy) line.above ≡ false
 stood_nowhere header line row t =
     subst (λ r. list_any (has_id header r.legacy) line.above ≡ false) (sym t.is)
     (first_there header (legacy header line.fields) line.above (is_empty (legacy header line.fields)) t.told t.first)
@@ -117,36 +119,49 @@ stood_nowhere header line row t =
 abbrev pub line_at : List Fields → Fields → Line
 line_at above fields = record { above = above; fields = fields }
 
-pub no_fault_cons : (header : Fields) (above : List Fields) (fields : Fields) (rest : List Fields) → filter_map (fault_of header) (lines_below above (fields ∷ rest)) ≡ [] → (fault_of header (line_at above fields) ≡ None) × (filter_map (fault_of header) (lines_below (above ++ fields ∷ []) rest) ≡ [])
+pub no_fault_cons : (header : Fields) (above : List Fields) (fields : Fields) (rest : List Fields)
+    → filter_map (fault_of header) (lines_below above (fields ∷ rest)) ≡ []
+    → (fault_of header (line_at above fields) ≡ None) × (filter_map (fault_of header) (lines_below (above ++ fields ∷ []) rest) ≡ [])
 no_fault_cons header above fields rest e = at (fault_of header (line_at above fields)) e
   where
-    at : (x : Option (ℕ × ℕ)) → cons_option x (filter_map (fault_of header) (lines_below (above ++ fields ∷ []) rest)) ≡ [] → (x ≡ None) × (filter_map (fault_of header) (lines_below (above ++ fields ∷ []) rest) ≡ [])
+    at : (x : Option (ℕ × ℕ))
+        → cons_option x (filter_map (fault_of header) (lines_below (above ++ fields ∷ []) rest)) ≡ []
+        → (x ≡ None) × (filter_map (fault_of header) (lines_below (above ++ fields ∷ []) rest) ≡ [])
     at None h = (refl, h)
     at (Some fault) h = absurd (cc)
 
-not_above_less : (header : Fields) (above : List Fields) (fields : Fields) (row : Row) → list_any (has_id header row.legacy) (above ++ fields ∷ []) ≡ false → (list_any (has_id header row.legacy) above ≡ false) × (bytes_eq (legacy header fields) row.legacy ≡ false)
+not_above_less : (header : Fields) (above : List Fields) (fields : Fields) (row : Row)
+    → list_any (has_id header row.legacy) (above ++ fields ∷ []) ≡ false
+    → (list_any (has_id header row.legacy) above ≡ false) × (bytes_eq (legacy header fields) row.legacy ≡ false)
 not_above_less header above fields row h =
     let r = or_parts (list_any (has_id header row.legacy) above) (bytes_eq (legacy header fields) row.legacy || false) (sym (list_any-append (has_id header row.legacy) above (fields ∷ [])) ∙ h) in
     (r.0, (or_parts (bytes_eq (legacy header fields) row.legacy) false r.1).0)
 
-none_above : (header : Fields) (above rest : List Fields) → filter_map (fault_of header) (lines_below above rest) ≡ [] → AllByRecursion (λ row. list_any (has_id header row.legacy) above ≡ false) (filter_map (row_told header) (lines_below above rest))
+none_above : (header : Fields) (above rest : List Fields) → filter_map (fault_of header) (lines_below above rest) ≡ []
+    → AllByRecursion (λ row. list_any (has_id header row.legacy) above ≡ false) (filter_map (row_told header) (lines_below above rest))
 none_above header above [] f = tt
 none_above header above (fields ∷ rest) f =
     let x = no_fault_cons header above fields rest f in
     let later = all_so (λ row. list_any (has_id header row.legacy) (above ++ fields ∷ []) ≡ false) (λ row. list_any (has_id header row.legacy) above ≡ false) (λ row h. (not_above_less header above fields row h).0) (filter_map (row_told header) (lines_below (above ++ fields ∷ []) rest)) (none_above header (above ++ fields ∷ []) rest x.1) in
     at (row_told header (line_at above fields)) refl x.0 later
   where
-    at : (r : Option Row) → row_told header (line_at above fields) ≡ r → fault_of header (line_at above fields) ≡ None → AllByRecursion (λ row. list_any (has_id header row.legacy) above ≡ false) (filter_map (row_told header) (lines_below (above ++ fields ∷ []) rest)) → AllByRecursion (λ row. list_any (has_id header row.legacy) above ≡ false) (cons_option r (filter_map (row_told header) (lines_below (above ++ fields ∷ []) rest)))
+    at : (r : Option Row) → row_told header (line_at above fields) ≡ r → fault_of header (line_at above fields) ≡ None
+        → AllByRecursion (λ row. list_any (has_id header row.legacy) above ≡ false) (filter_map (row_told header) (lines_below (above ++ fields ∷ []) rest))
+        → AllByRecursion (λ row. list_any (has_id header row.legacy) above ≡ false) (cons_option r (filter_map (row_told header) (lines_below (above ++ fields ∷ []) rest)))
     at None e g k = k
     at (Some row) e g k = (stood_nowhere header (line_at above fields) row (answers header (line_at above fields) row g e), k)
 
-apart_below : (header : Fields) (above rest : List Fields) → filter_map (fault_of header) (lines_below above rest) ≡ [] → AreApartRows (filter_map (row_told header) (lines_below above rest))
+apart_below : (header : Fields) (above rest : List Fields) → filter_map (fault_of header) (lines_below above rest) ≡ []
+    → AreApartRows (filter_map (row_told header) (lines_below above rest))
 apart_below header above [] f = tt
 apart_below header above (fields ∷ rest) f =
     let x = no_fault_cons header above fields rest f in
     at (row_told header (line_at above fields)) refl x.0 (none_above header (above ++ fields ∷ []) rest x.1) (apart_below header (above ++ fields ∷ []) rest x.1)
   where
-    at : (r : Option Row) → row_told header (line_at above fields) ≡ r → fault_of header (line_at above fields) ≡ None → AllByRecursion (λ row. list_any (has_id header row.legacy) (above ++ fields ∷ []) ≡ false) (filter_map (row_told header) (lines_below (above ++ fields ∷ []) rest)) → AreApartRows (filter_map (row_told header) (lines_below (above ++ fields ∷ []) rest)) → AreApartRows (cons_option r (filter_map (row_told header) (lines_below (above ++ fields ∷ []) rest)))
+    at : (r : Option Row) → row_told header (line_at above fields) ≡ r → fault_of header (line_at above fields) ≡ None
+        → AllByRecursion (λ row. list_any (has_id header row.legacy) (above ++ fields ∷ []) ≡ false) (filter_map (row_told header) (lines_below (above ++ fields ∷ []) rest))
+        → AreApartRows (filter_map (row_told header) (lines_below (above ++ fields ∷ []) rest))
+        → AreApartRows (cons_option r (filter_map (row_told header) (lines_below (above ++ fields ∷ []) rest)))
     at None e g k a = a
     at (Some row) e g k a =
         let t = answers header (line_at above fields) row g e in (

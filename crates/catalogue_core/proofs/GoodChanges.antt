@@ -1,26 +1,11 @@
 -- The catalogue stays good where units are changed, removed or moved.
 use Rattle.std.proofs.Common.{◌≡◌, ℕ, ◌+◌, ◌<◌, ◌≤◌, Bool, true, false, cond, List, [], ◌∷◌, length, map, Option, Some, None, refl, sym, ap, ◌∙◌, subst, inl, inr, arith}
 use Rattle.std.specs.Prelude.{nat_eq}
-use Rattle.std.specs.List.{list_any, list_all, AllByRecursion, IsDistinct}
-use Rattle.std.specs.List.Sorted.{IsPermutation}
-use Rattle.std.proofs.lemmas.Bool.{cases_Bool, eq-eqb, eqb-true, false≢true}
-use Rattle.std.proofs.lemmas.List.Sorted.{IsPermutation-map, length_permutation}
+use Rattle.std.specs.List.{IsDistinct}
 use Rattle.std.proofs.lemmas.Map.Keys.{IsDistinct-IsPermutation}
-use Rattle.isad_core.specs.Texts.{is_blank_text}
-use Rattle.isad_core.specs.declared.values.BoxKey.{BoxKey}
-use Rattle.isad_core.specs.declared.values.Values.{Values}
-use Rattle.tree_core.specs.Forest.{Forest, Empty, Node, nodes, each, has_place, size, cut, move_last}
-use Rattle.tree_core.proofs.Lists.{eqb_comm}
-use Rattle.tree_core.proofs.EachLemmas.{nodes-each, size-each}
-use Rattle.isad_core.specs.Boxes.{distinct, is_same}
-use Rattle.catalogue_core.specs.CatalogueMerge.{Catalogue}
-use Rattle.catalogue_core.specs.Units.{Unit, has_id}
+use Rattle.isad_core.specs.Boxes.{is_same}
+use Rattle.catalogue_core.proofs.Common.{AllByRecursion, AreGoodUnits, BoxKey, Catalogue, Empty, Forest, IsGoodUnit, IsPermutation, IsPermutation-map, Node, Unit, Values, cases_Bool, cut, depth_after, distinct, each, eq-eqb, eqb-true, eqb_comm, false≢true, has_id, has_place, has_unit, is_blank_text, is_good_text, is_into_itself, is_same_unit, is_source, length_permutation, list_all, list_any, most_bytes, most_deep, most_units, move_last, nodes, nodes-each, size, size-each}
 use Rattle.catalogue_core.proofs.NodeLemmas.{length-nodes}
-use Rattle.catalogue_core.specs.UnitLookup.{has_unit}
-use Rattle.isad_core.specs.Limits.{most_units, most_deep, most_bytes}
-use Rattle.catalogue_core.specs.Moves.{is_into_itself, depth_after}
-use Rattle.catalogue_core.specs.Sources.{is_source}
-use Rattle.catalogue_core.specs.GoodCatalogues.{is_good_text, IsGoodUnit, is_same_unit, AreGoodUnits}
 use Rattle.catalogue_core.proofs.EachOf.{all_append, all_split}
 use Rattle.catalogue_core.proofs.ImportedAgain.{all_each}
 use Rattle.catalogue_core.proofs.DistinctLists.{all_so, distinct_so, distinct_mapped, distinct_unmapped, distinct_beside, distinct_parts}
@@ -31,7 +16,8 @@ use Rattle.catalogue_core.proofs.Heights.{height-each, height_cut, height_moved}
 
 -- ---- no two alike
 
-distinct_cut : {A : Type 0} (e : A → A → Bool) (gone : A → Bool) (f : Forest A) → IsDistinct e (nodes f) → IsDistinct e (nodes (cut gone f))
+distinct_cut : {A : Type 0} (e : A → A → Bool) (gone : A → Bool) (f : Forest A) → IsDistinct e (nodes f)
+    → IsDistinct e (nodes (cut gone f))
 unfolding IsDistinct
 distinct_cut e gone Empty d = tt
 distinct_cut e gone (Node a c o) d =
@@ -40,7 +26,11 @@ distinct_cut e gone (Node a c o) d =
     let across = all_cut (λ x. AllByRecursion (λ y. e x y ≡ false) (nodes (cut gone o))) gone c (all_so (λ x. AllByRecursion (λ y. e x y ≡ false) (nodes o)) (λ x. AllByRecursion (λ y. e x y ≡ false) (nodes (cut gone o))) (λ x. all_cut (λ y. e x y ≡ false) gone o) (nodes c) r.2) in
     at (gone a) (distinct_cut e gone c r.0) (distinct_cut e gone o r.1) across (all_cut (λ y. e a y ≡ false) gone c s.0) (all_cut (λ y. e a y ≡ false) gone o s.1)
   where
-    at : (b : Bool) → IsDistinct e (nodes (cut gone c)) → IsDistinct e (nodes (cut gone o)) → AllByRecursion (λ x. AllByRecursion (λ y. e x y ≡ false) (nodes (cut gone o))) (nodes (cut gone c)) → AllByRecursion (λ y. e a y ≡ false) (nodes (cut gone c)) → AllByRecursion (λ y. e a y ≡ false) (nodes (cut gone o)) → IsDistinct e (nodes (cond b (cut gone o) (Node a (cut gone c) (cut gone o))))
+    at : (b : Bool) → IsDistinct e (nodes (cut gone c)) → IsDistinct e (nodes (cut gone o))
+        → AllByRecursion (λ x. AllByRecursion (λ y. e x y ≡ false) (nodes (cut gone o))) (nodes (cut gone c))
+        → AllByRecursion (λ y. e a y ≡ false) (nodes (cut gone c))
+        → AllByRecursion (λ y. e a y ≡ false) (nodes (cut gone o))
+        → IsDistinct e (nodes (cond b (cut gone o) (Node a (cut gone c) (cut gone o))))
     at true l r x h k = r
     at false l r x h k = (all_append (λ y. e a y ≡ false) (nodes (cut gone c)) (nodes (cut gone o)) h k, distinct_beside e (nodes (cut gone c)) (nodes (cut gone o)) l r x)
 
@@ -57,12 +47,14 @@ abbrev same_number : Unit → Unit → Bool
 same_number a b = nat_eq a.id b.id
 
 -- no more than one passes, where those that pass are alike and no two are
-once : {X : Type 0} (e : X → X → Bool) (is : X → Bool) → ((a b : X) → is a ≡ true → is b ≡ true → e a b ≡ true) → (xs : List X) → IsDistinct e xs → many is xs ≤ 1
+once : {X : Type 0} (e : X → X → Bool) (is : X → Bool) → ((a b : X) → is a ≡ true → is b ≡ true → e a b ≡ true)
+    → (xs : List X) → IsDistinct e xs → many is xs ≤ 1
 unfolding IsDistinct
 once e is alike [] d = omega arith
 once e is alike (x ∷ xs) d = at (is x) refl (once e is alike xs d.1)
   where
-    none : {X : Type 0} (e : X → X → Bool) (is : X → Bool) → ((a b : X) → is a ≡ true → is b ≡ true → e a b ≡ true) → (x : X) → is x ≡ true → (xs : List X) → AllByRecursion (λ y. e x y ≡ false) xs → many is xs ≡ 0
+    none : {X : Type 0} (e : X → X → Bool) (is : X → Bool) → ((a b : X) → is a ≡ true → is b ≡ true → e a b ≡ true)
+        → (x : X) → is x ≡ true → (xs : List X) → AllByRecursion (λ y. e x y ≡ false) xs → many is xs ≡ 0
     none e is alike x t [] h = refl
     none e is alike x t (y ∷ ys) h = elim (cases_Bool (is y)) [ inl k ↦ absurd (false≢true (sym h.0 ∙ alike x y t k)) | inr n ↦ rw n (let z = none e is alike x t ys h.1 in omega (arith, z)) ]
 
@@ -85,7 +77,8 @@ pub record KeepsUnits (g : Unit → Unit) : Type 0 where
   pub legacy : (unit : Unit) → (g unit).legacy ≡ unit.legacy
   pub values : (unit : Unit) → (g unit).values ≡ unit.values
 
-kept_unit : (boxes : List BoxKey) (g : Unit → Unit) → KeepsUnits g → (unit : Unit) → IsGoodUnit boxes unit → IsGoodUnit boxes (g unit)
+kept_unit : (boxes : List BoxKey) (g : Unit → Unit) → KeepsUnits g → (unit : Unit) → IsGoodUnit boxes unit
+    → IsGoodUnit boxes (g unit)
 kept_unit boxes g k unit h =
     record {
       source = subst (λ x. is_source x ≡ true) (sym (k.source unit)) h.source;
@@ -105,7 +98,8 @@ same_numbers g k (u ∷ us) = ap (λ n. n ∷ map number (map g us)) (k.id u) �
 same_pair : (g : Unit → Unit) → KeepsUnits g → (a b : Unit) → is_same_unit a b ≡ is_same_unit (g a) (g b)
 same_pair g k a b = rw (k.source a, k.source b, k.legacy a, k.legacy b) refl
 
-pub each_good : (c : Catalogue) (g : Unit → Unit) → KeepsUnits g → AreGoodUnits c → AreGoodUnits (record c { forest = each g c.forest })
+pub each_good : (c : Catalogue) (g : Unit → Unit) → KeepsUnits g → AreGoodUnits c
+    → AreGoodUnits (record c { forest = each g c.forest })
 each_good c g k h =
     record {
       each = all_each (IsGoodUnit c.containers) g c.forest (all_so (IsGoodUnit c.containers) (λ unit. IsGoodUnit c.containers (g unit)) (kept_unit c.containers g k) (nodes c.forest) h.each);
@@ -124,11 +118,13 @@ size_cut : {A : Type 0} (gone : A → Bool) (f : Forest A) → size (cut gone f)
 size_cut gone Empty = omega arith
 size_cut gone (Node a c o) = at (gone a) (size_cut gone c) (size_cut gone o)
   where
-    at : (b : Bool) → size (cut gone c) ≤ size c → size (cut gone o) ≤ size o → size (cond b (cut gone o) (Node a (cut gone c) (cut gone o))) ≤ 1 + (size c + size o)
+    at : (b : Bool) → size (cut gone c) ≤ size c → size (cut gone o) ≤ size o
+        → size (cond b (cut gone o) (Node a (cut gone c) (cut gone o))) ≤ 1 + (size c + size o)
     at true x y = omega (arith, y)
     at false x y = omega (arith, x, y)
 
-pub cut_good : (c : Catalogue) (gone : Unit → Bool) → AreGoodUnits c → AreGoodUnits (record c { forest = cut gone c.forest })
+pub cut_good : (c : Catalogue) (gone : Unit → Bool) → AreGoodUnits c
+    → AreGoodUnits (record c { forest = cut gone c.forest })
 cut_good c gone h =
     let less = size_cut gone c.forest in
     let lower = height_cut gone c.forest in
@@ -144,7 +140,8 @@ cut_good c gone h =
 
 -- ---- a branch goes below another unit
 
-one_place : (p : Option ℕ) (f : Forest Unit) → IsDistinct nat_eq (map number (nodes f)) → has_place has_id p f ≡ true → IsOnePlace has_id p f
+one_place : (p : Option ℕ) (f : Forest Unit) → IsDistinct nat_eq (map number (nodes f)) → has_place has_id p f ≡ true
+    → IsOnePlace has_id p f
 one_place None f d h = tt
 one_place (Some v) f d h = (one_unit v f d, h)
 
@@ -155,10 +152,12 @@ pub record CanMove (c : Catalogue) (u : ℕ) (p : Option ℕ) : Type 0 where
   pub apart : is_into_itself u p c.forest ≡ false
   pub deep : depth_after u p c.forest ≤ most_deep
 
-pub move_same : (c : Catalogue) (u : ℕ) (p : Option ℕ) → AreGoodUnits c → CanMove c u p → IsPermutation (nodes c.forest) (nodes (move_last has_id u p c.forest))
+pub move_same : (c : Catalogue) (u : ℕ) (p : Option ℕ) → AreGoodUnits c → CanMove c u p
+    → IsPermutation (nodes c.forest) (nodes (move_last has_id u p c.forest))
 move_same c u p h m = moved_same has_id u p c.forest (one_unit u c.forest h.ids) m.there (one_place p c.forest h.ids m.place) m.apart
 
-pub move_good : (c : Catalogue) (u : ℕ) (p : Option ℕ) → AreGoodUnits c → CanMove c u p → AreGoodUnits (record c { forest = move_last has_id u p c.forest })
+pub move_good : (c : Catalogue) (u : ℕ) (p : Option ℕ) → AreGoodUnits c → CanMove c u p
+    → AreGoodUnits (record c { forest = move_last has_id u p c.forest })
 move_good c u p h m =
     let f = move_last has_id u p c.forest in
     let same = move_same c u p h m in

@@ -1,25 +1,15 @@
 -- What the rows of a file tell is what a unit may have.
 use Rattle.std.proofs.Common.{◌≡◌, ◌≤◌, ℕ, zero, suc, Bool, true, false, not, cond, List, [], ◌∷◌, ◌++◌, length, Option, Some, None, Ok, refl, sym, ap, subst, arith, map}
-use Rattle.std.specs.Prelude.{filter, filter_map, slice_get, nat_lt, IfSome}
-use Rattle.std.specs.List.{list_any, list_all, AllByRecursion, cons_option}
-use Rattle.std.proofs.lemmas.Bool.{and_from, or_parts, ltb-false}
-use Rattle.isad_core.specs.Texts.{Bytes, is_blank_text}
+use Rattle.std.specs.Prelude.{filter}
 use Rattle.isad_core.specs.declared.element.Element.TheVariants as element
 use Rattle.atom_csv.specs.Columns.{columns}
 use Rattle.atom_csv.specs.Entries.{entries, nonblank_entries, joined}
 use Rattle.atom_csv.specs.Fields.{Fields, is_empty, value}
-use Rattle.atom_csv.specs.FileContents.{lines_below, row_number, is_long, row_of, row_told, fault_of, file_of}
-use Rattle.atom_csv.specs.FileProperties.{IsThere, AreValues}
 use Rattle.atom_csv.specs.Values.{nonblank, text_of, text_elements, triples, is_named_box}
-use Rattle.isad_core.specs.Boxes.{distinct}
 use Rattle.atom_csv.specs.declared.column.Column.{Column}
 use Rattle.atom_csv.specs.declared.column.Column.TheVariants as column
-use Rattle.atom_csv.specs.declared.file.File.{File}
-use Rattle.atom_csv.specs.declared.file.Row.{Row}
 use Rattle.atom_csv.proofs.ToldLemmas.{file_sound}
-use Rattle.catalogue_core.specs.GoodCatalogues.{is_good_text}
-use Rattle.catalogue_core.specs.GoodRows.{IsGoodRow}
-use Rattle.isad_core.specs.Limits.{most_bytes}
+use Rattle.catalogue_core.proofs.Common.{AllByRecursion, AreValues, Bytes, File, IfSome, IsGoodRow, IsThere, Row, and_from, cons_option, distinct, fault_of, file_of, filter_map, is_blank_text, is_good_text, is_long, lines_below, list_all, list_any, ltb-false, most_bytes, nat_lt, or_parts, row_number, row_of, row_told, slice_get}
 use Rattle.catalogue_core.proofs.EachOf.{all_and}
 use Rattle.catalogue_core.proofs.FileRows.{read_from, answers, line_at, no_fault_cons}
 use Rattle.catalogue_core.proofs.Imported.{distinct_again}
@@ -32,13 +22,16 @@ pub record IsShortRow (row : Row) : Type 0 where
   pub texts : length row.values.texts ≡ 25
   pub apart : distinct row.values.boxes ≡ row.values.boxes
 
-pub any_at : {X : Type 0} (p : X → Bool) (xs : List X) (i : ℕ) (x : X) → list_any p xs ≡ false → slice_get xs i ≡ Some x → p x ≡ false
+pub any_at : {X : Type 0} (p : X → Bool) (xs : List X) (i : ℕ) (x : X) → list_any p xs ≡ false → slice_get xs i ≡ Some x
+    → p x ≡ false
 any_at p [] i x e h = absurd (cc)
 any_at p (y ∷ ys) zero x e h = subst (λ z. p z ≡ false) (let s : y ≡ x = cc in s) (or_parts (p y) (list_any p ys) e).0
 any_at p (y ∷ ys) (suc i) x e h = any_at p ys i x (or_parts (p y) (list_any p ys) e).1 h
 
-short_column : (header fields : Fields) (i : ℕ) (k : Column) → is_long header fields ≡ false → slice_get columns i ≡ Some k → length (value k header fields) ≤ most_bytes
-short_column header fields i k e h = ltb-false most_bytes (length (value k header fields)) (any_at (λ k. nat_lt most_bytes (length (value k header fields))) columns i k e h)
+short_column : (header fields : Fields) (i : ℕ) (k : Column) → is_long header fields ≡ false
+    → slice_get columns i ≡ Some k → length (value k header fields) ≤ most_bytes
+short_column header fields i k e h =
+    ltb-false most_bytes (length (value k header fields)) (any_at (λ k. nat_lt most_bytes (length (value k header fields))) columns i k e h)
 
 legacy_at : slice_get columns 0 ≡ Some column.LegacyId
 unfolding columns
@@ -56,7 +49,8 @@ one_text text = at (is_empty text)
     at true = omega arith
     at false = omega arith
 
-short_level : (header fields : Fields) → is_long header fields ≡ false → length (text_of header fields element.Level) ≤ most_bytes
+short_level : (header fields : Fields) → is_long header fields ≡ false
+    → length (text_of header fields element.Level) ≤ most_bytes
 short_level header fields e =
     let a = one_text (value column.LevelOfDescription header fields) in
     let b = short_column header fields 11 column.LevelOfDescription e level_at in
@@ -75,13 +69,16 @@ short_row header fields n long =
       apart = distinct_again (filter is_named_box (triples (entries (value column.PhysicalObjectName header fields)) (entries (value column.PhysicalObjectLocation header fields)) (entries (value column.PhysicalObjectType header fields))));
     }
 
-short_below : (header : Fields) (above rest : List Fields) → filter_map (fault_of header) (lines_below above rest) ≡ [] → AllByRecursion IsShortRow (filter_map (row_told header) (lines_below above rest))
+short_below : (header : Fields) (above rest : List Fields) → filter_map (fault_of header) (lines_below above rest) ≡ []
+    → AllByRecursion IsShortRow (filter_map (row_told header) (lines_below above rest))
 short_below header above [] f = tt
 short_below header above (fields ∷ rest) f =
     let x = no_fault_cons header above fields rest f in
     at (row_told header (line_at above fields)) refl x.0 (short_below header (above ++ fields ∷ []) rest x.1)
   where
-    at : (r : Option Row) → row_told header (line_at above fields) ≡ r → fault_of header (line_at above fields) ≡ None → AllByRecursion IsShortRow (filter_map (row_told header) (lines_below (above ++ fields ∷ []) rest)) → AllByRecursion IsShortRow (cons_option r (filter_map (row_told header) (lines_below (above ++ fields ∷ []) rest)))
+    at : (r : Option Row) → row_told header (line_at above fields) ≡ r → fault_of header (line_at above fields) ≡ None
+        → AllByRecursion IsShortRow (filter_map (row_told header) (lines_below (above ++ fields ∷ []) rest))
+        → AllByRecursion IsShortRow (cons_option r (filter_map (row_told header) (lines_below (above ++ fields ∷ []) rest)))
     at None e g k = k
     at (Some row) e g k =
         let t = answers header (line_at above fields) row g e in
@@ -94,10 +91,12 @@ short_rows bytes file e =
 
 -- ---- all of it
 
-good_texts : (texts : List (Option Bytes)) → AllByRecursion (λ text. IfSome text IsThere) texts → list_all is_good_text texts ≡ true
+good_texts : (texts : List (Option Bytes)) → AllByRecursion (λ text. IfSome text IsThere) texts
+    → list_all is_good_text texts ≡ true
 good_texts [] h = refl
 good_texts (None ∷ texts) h = good_texts texts h.1
-good_texts (Some text ∷ texts) h = and_from (not (is_blank_text text)) (list_all is_good_text texts) (ap not h.0) (good_texts texts h.1)
+good_texts (Some text ∷ texts) h =
+    and_from (not (is_blank_text text)) (list_all is_good_text texts) (ap not h.0) (good_texts texts h.1)
 
 -- of each row of a file that is taken
 pub good_rows : (bytes : Bytes) (file : File) → file_of bytes ≡ Ok file → AllByRecursion IsGoodRow file.rows

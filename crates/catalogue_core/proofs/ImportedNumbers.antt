@@ -1,19 +1,9 @@
 -- After an import no two units have one number, and no two are one unit of a source.
 use Rattle.std.proofs.Common.{◌≡◌, ℕ, ◌+◌, ◌<◌, ◌≤◌, Bool, true, false, not, cond, ◌&&◌, List, [], ◌∷◌, ◌++◌, refl, sym, ap, ◌∙◌, subst, inl, inr, arith, map}
-use Rattle.std.specs.Prelude.{nat_eq, filter, find, option_map, unwrap_or}
-use Rattle.std.specs.List.{list_any, AllByRecursion, IsDistinct}
-use Rattle.std.specs.Str.{bytes_eq}
-use Rattle.std.proofs.lemmas.Bool.{ne_eqb, or_parts, and_right, cases_Bool}
-use Rattle.std.proofs.lemmas.List.{map-append}
-use Rattle.std.proofs.lemmas.List.Sorted.{IsPermutation-sym, IsPermutation-map}
+use Rattle.std.specs.Prelude.{nat_eq, filter}
+use Rattle.std.specs.List.{IsDistinct}
 use Rattle.std.proofs.lemmas.Map.Keys.{IsDistinct-IsPermutation}
-use Rattle.isad_core.specs.Texts.{Bytes}
-use Rattle.atom_csv.specs.declared.file.Row.{Row}
-use Rattle.tree_core.specs.Forest.{Forest, nodes}
-use Rattle.tree_core.proofs.Lists.{eqb_comm}
-use Rattle.catalogue_core.specs.Units.{Unit, is_from}
-use Rattle.catalogue_core.specs.CatalogueMerge.{Catalogue, New, numbered_from, new_unit, revised, merged_forest, has_legacy, is_known}
-use Rattle.catalogue_core.specs.GoodCatalogues.{is_same_unit}
+use Rattle.catalogue_core.proofs.Common.{AllByRecursion, Bytes, Catalogue, Forest, IsPermutation-map, IsPermutation-sym, New, Row, Unit, and_right, bytes_eq, cases_Bool, eqb_comm, find, has_legacy, is_from, is_known, is_same_unit, list_any, map-append, merged_forest, ne_eqb, new_unit, nodes, numbered_from, option_map, or_parts, revised, unwrap_or}
 use Rattle.catalogue_core.proofs.DistinctLists.{all_mapped, all_so, distinct_so, distinct_mapped, distinct_beside}
 use Rattle.catalogue_core.proofs.FileRows.{AreApartRows}
 use Rattle.catalogue_core.proofs.EachOf.{all_filtered}
@@ -38,11 +28,15 @@ numbers_differ n (x ∷ rest) a =
     let e = a.0 in
     (all_so (λ y. n + 1 ≤ y.id) (λ y. nat_eq x.id y.id ≡ false) (λ y h. ne_eqb x.id y.id (λ s. omega (arith, e, h, s))) rest (numbers_ascend (n + 1) rest a.1), numbers_differ (n + 1) rest a.1)
 
-revised_numbers : (source : Bytes) (rows : List Row) (us : List Unit) → map number_of (map (revised source rows) us) ≡ map number_of us
+revised_numbers : (source : Bytes) (rows : List Row) (us : List Unit)
+    → map number_of (map (revised source rows) us) ≡ map number_of us
 revised_numbers source rows [] = refl
-revised_numbers source rows (u ∷ us) = ap (λ n. n ∷ map number_of (map (revised source rows) us)) (revised_id source rows u) ∙ ap (λ l. u.id ∷ l) (revised_numbers source rows us)
+revised_numbers source rows (u ∷ us) =
+    ap (λ n. n ∷ map number_of (map (revised source rows) us)) (revised_id source rows u)
+    ∙ ap (λ l. u.id ∷ l) (revised_numbers source rows us)
 
-pub distinct_numbers : (source : Bytes) (rows : List Row) (n : ℕ) (news : List Row) (f : Forest Unit) → IsDistinct nat_eq (map (λ (u : Unit). u.id) (nodes f)) → AllByRecursion (λ (u : Unit). u.id < n) (nodes f)
+pub distinct_numbers : (source : Bytes) (rows : List Row) (n : ℕ) (news : List Row) (f : Forest Unit)
+    → IsDistinct nat_eq (map (λ (u : Unit). u.id) (nodes f)) → AllByRecursion (λ (u : Unit). u.id < n) (nodes f)
     → IsDistinct nat_eq (map (λ (u : Unit). u.id) (nodes (merged_forest source rows (numbered_from f source n [] news) f)))
 distinct_numbers source rows n news f d b =
     IsDistinct-IsPermutation nat_eq eqb_comm (map number_of (old ++ come)) (map number_of (nodes (merged_forest source rows new f)))
@@ -85,9 +79,12 @@ bytes_flip a b =
     ]
 
 pub same_flip : (a b : Unit) → is_same_unit a b ≡ is_same_unit b a
-same_flip a b = ap (λ t. t && bytes_eq b.legacy a.legacy) (bytes_flip b.source a.source) ∙ ap (λ t. bytes_eq a.source b.source && t) (bytes_flip b.legacy a.legacy)
+same_flip a b =
+    ap (λ t. t && bytes_eq b.legacy a.legacy) (bytes_flip b.source a.source)
+    ∙ ap (λ t. bytes_eq a.source b.source && t) (bytes_flip b.legacy a.legacy)
 
-same_revised : (source : Bytes) (rows : List Row) (a b : Unit) → is_same_unit (revised source rows a) (revised source rows b) ≡ is_same_unit a b
+same_revised : (source : Bytes) (rows : List Row) (a b : Unit)
+    → is_same_unit (revised source rows a) (revised source rows b) ≡ is_same_unit a b
 same_revised source rows a b =
     is_from_revised source (revised source rows a).legacy (revised source rows a).source rows b
     ∙ at (bytes_eq a.source source)
@@ -104,7 +101,8 @@ rows_apart p (row ∷ rows) h = at (p row) (rows_apart p rows h.1)
     at true k = (all_filtered (λ later. bytes_eq row.legacy later.legacy ≡ false) p rows h.0, k)
     at false k = k
 
-pairs_differ : (f : Forest Unit) (source : Bytes) (n : ℕ) (above rows : List Row) → AreApartRows rows → IsDistinct (λ x y. is_same_unit (new_unit source x) (new_unit source y)) (numbered_from f source n above rows)
+pairs_differ : (f : Forest Unit) (source : Bytes) (n : ℕ) (above rows : List Row) → AreApartRows rows
+    → IsDistinct (λ x y. is_same_unit (new_unit source x) (new_unit source y)) (numbered_from f source n above rows)
 unfolding IsDistinct
 pairs_differ f source n above [] h = tt
 pairs_differ f source n above (row ∷ rows) h = (
@@ -114,19 +112,25 @@ pairs_differ f source n above (row ∷ rows) h = (
 )
 
 -- the rows that get units are of units that are not catalogued
-unknown_rows : (c : Catalogue) (source : Bytes) (rows : List Row) → AllByRecursion (λ row. is_known c.forest source row ≡ false) (new_rows c source rows)
+unknown_rows : (c : Catalogue) (source : Bytes) (rows : List Row)
+    → AllByRecursion (λ row. is_known c.forest source row ≡ false) (new_rows c source rows)
 unknown_rows c source rows = go rows
   where
-    at : (row : Row) (rest : List Row) (b : Bool) → is_known c.forest source row ≡ b → AllByRecursion (λ row. is_known c.forest source row ≡ false) rest → AllByRecursion (λ row. is_known c.forest source row ≡ false) (cond (not b) (row ∷ rest) rest)
+    at : (row : Row) (rest : List Row) (b : Bool) → is_known c.forest source row ≡ b
+        → AllByRecursion (λ row. is_known c.forest source row ≡ false) rest
+        → AllByRecursion (λ row. is_known c.forest source row ≡ false) (cond (not b) (row ∷ rest) rest)
     at row rest true e k = k
     at row rest false e k = (e, k)
 
-    go : (rs : List Row) → AllByRecursion (λ row. is_known c.forest source row ≡ false) (filter (λ row. not (is_known c.forest source row)) rs)
+    go : (rs : List Row)
+        → AllByRecursion (λ row. is_known c.forest source row ≡ false) (filter (λ row. not (is_known c.forest source row)) rs)
     go [] = tt
     go (row ∷ rs) = at row (filter (λ row. not (is_known c.forest source row)) rs) (is_known c.forest source row) refl (go rs)
 
 -- no unit that was there is one of the new ones
-none_the_same : (source : Bytes) (rows : List Row) (xs : List New) (us : List Unit) → AllByRecursion (λ x. list_any (is_from source x.row.legacy) us ≡ false) xs → AllByRecursion (λ u. AllByRecursion (λ v. is_same_unit u v ≡ false) (map (new_unit source) xs)) (map (revised source rows) us)
+none_the_same : (source : Bytes) (rows : List Row) (xs : List New) (us : List Unit)
+    → AllByRecursion (λ x. list_any (is_from source x.row.legacy) us ≡ false) xs
+    → AllByRecursion (λ u. AllByRecursion (λ v. is_same_unit u v ≡ false) (map (new_unit source) xs)) (map (revised source rows) us)
 none_the_same source rows xs [] h = tt
 none_the_same source rows xs (u ∷ us) h = (
   all_mapped (λ v. is_same_unit (revised source rows u) v ≡ false) (new_unit source) xs
@@ -135,7 +139,9 @@ none_the_same source rows xs (u ∷ us) h = (
   none_the_same source rows xs us (all_so (λ x. list_any (is_from source x.row.legacy) (u ∷ us) ≡ false) (λ x. list_any (is_from source x.row.legacy) us ≡ false) (λ x k. (or_parts (is_from source x.row.legacy u) (list_any (is_from source x.row.legacy) us) k).1) xs h),
 )
 
-pub distinct_pairs : (c : Catalogue) (source : Bytes) (rows : List Row) → AreApartRows rows → IsDistinct nat_eq (map (λ (u : Unit). u.id) (nodes c.forest)) → AllByRecursion (λ (u : Unit). u.id < c.next) (nodes c.forest) → IsDistinct is_same_unit (nodes c.forest)
+pub distinct_pairs : (c : Catalogue) (source : Bytes) (rows : List Row) → AreApartRows rows
+    → IsDistinct nat_eq (map (λ (u : Unit). u.id) (nodes c.forest))
+    → AllByRecursion (λ (u : Unit). u.id < c.next) (nodes c.forest) → IsDistinct is_same_unit (nodes c.forest)
     → IsDistinct is_same_unit (nodes (merged_forest source rows (numbered_from c.forest source c.next [] (new_rows c source rows)) c.forest))
 distinct_pairs c source rows apart d b pairs =
     IsDistinct-IsPermutation is_same_unit same_flip (old ++ come) (nodes (merged_forest source rows new c.forest))

@@ -1,19 +1,11 @@
 -- An import keeps a catalogue's texts UTF-8, and so does every other change of it.
 use Rattle.std.proofs.Common.{◌≡◌, Bool, true, false, cond, List, [], ◌∷◌, ◌++◌, Option, Some, None, Ok, refl, sym, subst}
-use Rattle.std.specs.Prelude.{not, find, option_map, unwrap_or, IsUtf8}
-use Rattle.std.specs.List.{AllByRecursion, flat_map}
-use Rattle.std.specs.Str.{bytes_eq}
-use Rattle.isad_core.specs.Texts.{Bytes}
+use Rattle.std.specs.Prelude.{not}
 use Rattle.isad_core.specs.LegibleValues.{IsLegibleBox, AreLegibleValues}
-use Rattle.isad_core.specs.declared.values.Values.{Values}
-use Rattle.atom_csv.specs.FileProperties.{IsLegibleRow}
-use Rattle.atom_csv.specs.declared.file.Row.{Row}
 use Rattle.atom_csv.proofs.LegibleFiles.{file_legible}
-use Rattle.tree_core.specs.Forest.{nodes, each}
-use Rattle.catalogue_core.specs.Units.{Unit}
-use Rattle.catalogue_core.specs.CatalogueMerge.{Catalogue, New, has_legacy, is_known, merged, new_unit, numbered_from, revised}
-use Rattle.catalogue_core.specs.Intake.{Intake, take}
+use Rattle.catalogue_core.specs.Intake.{take}
 use Rattle.catalogue_core.specs.LegibleCatalogues.{HasLegibleTexts, IsLegibleCatalogue}
+use Rattle.catalogue_core.proofs.Common.{AllByRecursion, Bytes, Catalogue, Intake, IsLegibleRow, IsUtf8, New, Row, Unit, Values, bytes_eq, each, find, flat_map, has_legacy, is_known, merged, new_unit, nodes, numbered_from, option_map, revised, unwrap_or}
 use Rattle.catalogue_core.proofs.DistinctLists.{all_so}
 use Rattle.catalogue_core.proofs.EachOf.{all_append, all_distinct, all_filtered, all_of_found}
 use Rattle.catalogue_core.proofs.GoodChanges.{KeepsUnits}
@@ -29,7 +21,8 @@ keeps_texts g k u h = record {
   values = subst AreLegibleValues (sym (k.values u)) h.values;
 }
 
-pub each_legible : (c : Catalogue) (g : Unit → Unit) → KeepsUnits g → IsLegibleCatalogue c → IsLegibleCatalogue (record c { forest = each g c.forest })
+pub each_legible : (c : Catalogue) (g : Unit → Unit) → KeepsUnits g → IsLegibleCatalogue c
+    → IsLegibleCatalogue (record c { forest = each g c.forest })
 each_legible c g k h = record {
   units = all_each HasLegibleTexts g c.forest (all_so HasLegibleTexts (λ u. HasLegibleTexts (g u)) (keeps_texts g k) (nodes c.forest) h.units);
   containers = h.containers;
@@ -37,25 +30,33 @@ each_legible c g k h = record {
 
 -- ---- rows
 
-row_values : (rows : List Row) (legacy : Bytes) (values : Values) → AllByRecursion IsLegibleRow rows → AreLegibleValues values → AreLegibleValues (unwrap_or (option_map (λ (row : Row). row.values) (find (has_legacy legacy) rows)) values)
+row_values : (rows : List Row) (legacy : Bytes) (values : Values) → AllByRecursion IsLegibleRow rows
+    → AreLegibleValues values
+    → AreLegibleValues (unwrap_or (option_map (λ (row : Row). row.values) (find (has_legacy legacy) rows)) values)
 row_values rows legacy values h v = at (find (has_legacy legacy) rows) refl
   where
-    at : (r : Option Row) → find (has_legacy legacy) rows ≡ r → AreLegibleValues (unwrap_or (option_map (λ (row : Row). row.values) r) values)
+    at : (r : Option Row) → find (has_legacy legacy) rows ≡ r
+        → AreLegibleValues (unwrap_or (option_map (λ (row : Row). row.values) r) values)
     at None e = v
     at (Some row) e = (all_of_found IsLegibleRow (has_legacy legacy) rows row e h).values
 
-revised_texts : (source : Bytes) (rows : List Row) → AllByRecursion IsLegibleRow rows → (u : Unit) → HasLegibleTexts u → HasLegibleTexts (revised source rows u)
+revised_texts : (source : Bytes) (rows : List Row) → AllByRecursion IsLegibleRow rows → (u : Unit) → HasLegibleTexts u
+    → HasLegibleTexts (revised source rows u)
 revised_texts source rows h u t = at (bytes_eq u.source source)
   where
-    at : (b : Bool) → HasLegibleTexts (cond b (record u { values = unwrap_or (option_map (λ (row : Row). row.values) (find (has_legacy u.legacy) rows)) u.values }) u)
+    at : (b : Bool)
+        → HasLegibleTexts (cond b (record u { values = unwrap_or (option_map (λ (row : Row). row.values) (find (has_legacy u.legacy) rows)) u.values }) u)
     at true = record { source = t.source; legacy = t.legacy; values = row_values rows u.legacy u.values h t.values }
     at false = t
 
-boxes_of_rows : (rows : List Row) → AllByRecursion IsLegibleRow rows → AllByRecursion IsLegibleBox (flat_map (λ (row : Row). row.values.boxes) rows)
+boxes_of_rows : (rows : List Row) → AllByRecursion IsLegibleRow rows
+    → AllByRecursion IsLegibleBox (flat_map (λ (row : Row). row.values.boxes) rows)
 boxes_of_rows [] h = tt
-boxes_of_rows (row ∷ rows) h = all_append IsLegibleBox row.values.boxes (flat_map (λ (row : Row). row.values.boxes) rows) h.0.values.boxes (boxes_of_rows rows h.1)
+boxes_of_rows (row ∷ rows) h =
+    all_append IsLegibleBox row.values.boxes (flat_map (λ (row : Row). row.values.boxes) rows) h.0.values.boxes (boxes_of_rows rows h.1)
 
-pub merged_legible : (c : Catalogue) (source : Bytes) (rows : List Row) → IsUtf8 source → AllByRecursion IsLegibleRow rows → IsLegibleCatalogue c
+pub merged_legible : (c : Catalogue) (source : Bytes) (rows : List Row) → IsUtf8 source
+    → AllByRecursion IsLegibleRow rows → IsLegibleCatalogue c
     → IsLegibleCatalogue (merged c source rows (numbered_from c.forest source c.next [] (new_rows c source rows)))
 merged_legible c source rows named told h =
     let news = new_rows c source rows in
@@ -69,7 +70,8 @@ merged_legible c source rows named told h =
     }
 
 -- whatever file it is
-pub taken_legible : (c : Catalogue) (source file : Bytes) (intake : Intake) → take c source file ≡ Ok intake → IsUtf8 source → IsLegibleCatalogue c → IsLegibleCatalogue intake.catalogue
+pub taken_legible : (c : Catalogue) (source file : Bytes) (intake : Intake) → take c source file ≡ Ok intake
+    → IsUtf8 source → IsLegibleCatalogue c → IsLegibleCatalogue intake.catalogue
 taken_legible c source file intake e named h =
     let it = taken_is c source file intake e in
     subst IsLegibleCatalogue (sym it.is) (merged_legible c source intake.file.rows named (file_legible file intake.file it.read) h)

@@ -1,3 +1,4 @@
+pub mod Common
 pub mod LegibleMerges
 pub mod Members
 pub mod NodeLemmas

@@ -1,8 +1,6 @@
 -- What stands in a list.
 use Rattle.std.proofs.Common.{◌≡◌, Bool, true, List, [], ◌∷◌, inl, inr, sym, ap, ◌∙◌}
-use Rattle.std.specs.List.{list_any}
-use Rattle.std.proofs.lemmas.Bool.{or_left, or_right}
-use Rattle.catalogue_core.specs.Members.{StandsIn}
+use Rattle.catalogue_core.proofs.Common.{StandsIn, list_any, or_left, or_right}
 pub use Rattle.tree_core.proofs.Members.{In-filter as has_filtered}
 
 pub some_from : {X : Type 0} (p : X → Bool) (xs : List X) (x : X) → StandsIn x xs → p x ≡ true → list_any p xs ≡ true

@@ -1,20 +1,10 @@
 -- The units of a merged forest, up to order: those that were there, and one for each new row.
 use Rattle.std.proofs.Common.{◌≡◌, ℕ, ◌+◌, ◌-◌, ◌<◌, Bool, true, false, cond, ◌||◌, List, [], ◌∷◌, ◌++◌, Option, Some, None, refl, sym, ap, ◌∙◌, subst, arith, append_assoc, map}
-use Rattle.std.specs.Prelude.{nat_eq, if◌then◌else◌, find, option_map, option_and_then}
-use Rattle.std.specs.List.{list_any, flat_map, AllByRecursion, IsDistinct}
-use Rattle.std.specs.List.Sorted.{IsPermutation}
-use Rattle.std.specs.Option.{option_eq}
-use Rattle.std.proofs.lemmas.Bool.{false≢true, eqb-true, eq-eqb, ne_eqb, or_parts, or_left, or_right}
-use Rattle.std.proofs.lemmas.List.{map-append}
-use Rattle.std.proofs.lemmas.List.Sorted.{IsPermutation-refl, IsPermutation-trans, IsPermutation-cons, IsPermutation-middle, IsPermutation-map, IsPermutation-append, IsPermutation-append_left, IsPermutation-append_right, IsPermutation-append_comm}
-use Rattle.isad_core.specs.Texts.{Bytes}
-use Rattle.atom_csv.specs.declared.file.Row.{Row}
-use Rattle.tree_core.specs.Forest.{Forest, Empty, Node, nodes, has, each, join}
-use Rattle.tree_core.proofs.EachLemmas.{nodes-each}
-use Rattle.catalogue_core.specs.Units.{Unit, has_id, is_from}
-use Rattle.catalogue_core.specs.CatalogueMerge.{New, branches, number_of, numbered_from, has_legacy, new_unit, new_units, revised, grown, merged_forest}
+use Rattle.std.specs.Prelude.{nat_eq}
+use Rattle.std.specs.List.{IsDistinct}
+use Rattle.catalogue_core.specs.CatalogueMerge.{number_of}
+use Rattle.catalogue_core.proofs.Common.{AllByRecursion, Bytes, Empty, Forest, IsPermutation, IsPermutation-append, IsPermutation-append_comm, IsPermutation-append_left, IsPermutation-append_right, IsPermutation-cons, IsPermutation-map, IsPermutation-middle, IsPermutation-refl, IsPermutation-trans, New, Node, Row, Unit, branches, each, eq-eqb, eqb-true, false≢true, find, flat_map, grown, has, has_id, has_legacy, has_unit, if◌then◌else◌, is_from, join, list_any, map-append, merged_forest, ne_eqb, new_unit, new_units, nodes, nodes-each, numbered_from, option_and_then, option_eq, option_map, or_left, or_parts, or_right, revised}
 use Rattle.catalogue_core.proofs.EachOf.{all_and, all_true, all_of_found}
-use Rattle.catalogue_core.specs.UnitLookup.{has_unit}
 use Rattle.catalogue_core.proofs.UnitsAfter.{each_units}
 use Rattle.catalogue_core.proofs.Rooted.{nodes-join, has-join, grown_keeps, revised_id}
 
@@ -50,7 +40,8 @@ other_place : (n : ℕ) (p : Option ℕ) → IsBefore n p → option_eq nat_eq (
 other_place n None h = refl
 other_place n (Some k) h = ne_eqb n k (λ e. omega (arith, e, h))
 
-other_places : (n : ℕ) (ps : List (Option ℕ)) → AllByRecursion (IsBefore n) ps → AllByRecursion (λ p. option_eq nat_eq (Some n) p ≡ false) ps
+other_places : (n : ℕ) (ps : List (Option ℕ)) → AllByRecursion (IsBefore n) ps
+    → AllByRecursion (λ p. option_eq nat_eq (Some n) p ≡ false) ps
 other_places n [] h = tt
 other_places n (p ∷ ps) h = (other_place n p h.0, other_places n ps h.1)
 
@@ -64,7 +55,8 @@ all_before_more n (p ∷ ps) h = (before_more n p h.0, all_before_more n ps h.1)
 
 -- ---- one row more
 
-below_none : (x : New) (rest : List New) (ps : List (Option ℕ)) → list_any (option_eq nat_eq x.parent) ps ≡ false → below_all ps (x ∷ rest) ≡ below_all ps rest
+below_none : (x : New) (rest : List New) (ps : List (Option ℕ)) → list_any (option_eq nat_eq x.parent) ps ≡ false
+    → below_all ps (x ∷ rest) ≡ below_all ps rest
 below_none x rest [] e = refl
 below_none x rest (p ∷ ps) e =
     let r = or_parts (option_eq nat_eq x.parent p) (list_any (option_eq nat_eq x.parent) ps) e in
@@ -72,10 +64,12 @@ below_none x rest (p ∷ ps) e =
     ∙ ap (λ l. nodes (branches p rest) ++ l) (below_none x rest ps r.1)
 
 -- a place that differs from each of these is none of them
-none_of : (p q : Option ℕ) (ps : List (Option ℕ)) → option_eq nat_eq q p ≡ true → AllByRecursion (λ r. option_eq nat_eq p r ≡ false) ps → list_any (option_eq nat_eq q) ps ≡ false
+none_of : (p q : Option ℕ) (ps : List (Option ℕ)) → option_eq nat_eq q p ≡ true
+    → AllByRecursion (λ r. option_eq nat_eq p r ≡ false) ps → list_any (option_eq nat_eq q) ps ≡ false
 none_of p q ps e h = subst (λ r. list_any (option_eq nat_eq r) ps ≡ false) (sym (same_place q p e)) (go ps h)
   where
-    go : (rs : List (Option ℕ)) → AllByRecursion (λ r. option_eq nat_eq p r ≡ false) rs → list_any (option_eq nat_eq p) rs ≡ false
+    go : (rs : List (Option ℕ)) → AllByRecursion (λ r. option_eq nat_eq p r ≡ false) rs
+        → list_any (option_eq nat_eq p) rs ≡ false
     go [] k = refl
     go (r ∷ rs) k = ap (λ b. b || list_any (option_eq nat_eq p) rs) k.0 ∙ go rs k.1
 
@@ -87,7 +81,9 @@ past b x a c =
     (subst (λ l. IsPermutation l (a ++ (b ++ c))) (append_assoc b a c)
     (subst (IsPermutation ((b ++ a) ++ c)) (append_assoc a b c) (IsPermutation-append_left c (b ++ a) (a ++ b) (IsPermutation-append_comm b a)))))
 
-below_one : (x : New) (rest : List New) (ps : List (Option ℕ)) → IsDistinct (option_eq nat_eq) ps → list_any (option_eq nat_eq x.parent) ps ≡ true → IsPermutation (below_all ps (x ∷ rest)) (x ∷ below_all (Some x.id ∷ ps) rest)
+below_one : (x : New) (rest : List New) (ps : List (Option ℕ)) → IsDistinct (option_eq nat_eq) ps
+    → list_any (option_eq nat_eq x.parent) ps ≡ true
+    → IsPermutation (below_all ps (x ∷ rest)) (x ∷ below_all (Some x.id ∷ ps) rest)
 unfolding IsDistinct
 below_one x rest [] d e = absurd (false≢true e)
 below_one x rest (p ∷ ps) d e = at (option_eq nat_eq x.parent p) refl e (below_one x rest ps d.1)
@@ -95,7 +91,8 @@ below_one x rest (p ∷ ps) d e = at (option_eq nat_eq x.parent p) refl e (below
     low : List New
     low = nodes (branches (Some x.id) rest)
 
-    at : (b : Bool) → option_eq nat_eq x.parent p ≡ b → (b || list_any (option_eq nat_eq x.parent) ps) ≡ true → (list_any (option_eq nat_eq x.parent) ps ≡ true → IsPermutation (below_all ps (x ∷ rest)) (x ∷ (nodes (branches (Some x.id) rest) ++ below_all ps rest)))
+    at : (b : Bool) → option_eq nat_eq x.parent p ≡ b → (b || list_any (option_eq nat_eq x.parent) ps) ≡ true
+        → (list_any (option_eq nat_eq x.parent) ps ≡ true → IsPermutation (below_all ps (x ∷ rest)) (x ∷ (nodes (branches (Some x.id) rest) ++ below_all ps rest)))
         → IsPermutation (nodes (cond b (Node x (branches (Some x.id) rest) (branches p rest)) (branches p rest)) ++ below_all ps (x ∷ rest)) (x ∷ (nodes (branches (Some x.id) rest) ++ (nodes (branches p rest) ++ below_all ps rest)))
     at true h k f =
         subst (λ l. IsPermutation ((x ∷ (low ++ nodes (branches p rest))) ++ l) (x ∷ (low ++ (nodes (branches p rest) ++ below_all ps rest)))) (sym (below_none x rest ps (none_of p x.parent ps h d.0)))
@@ -109,7 +106,8 @@ below_one x rest (p ∷ ps) d e = at (option_eq nat_eq x.parent p) refl e (below
 -- ---- all rows
 
 -- below distinct places each row stands once, where its parent is one of them or a row that stands there
-pub below_reached : (n : ℕ) (ps : List (Option ℕ)) (new : List New) → IsDistinct (option_eq nat_eq) ps → AllByRecursion (IsBefore n) ps → AreNumberedFrom n new → IsPermutation (below_all ps new) (reached ps new)
+pub below_reached : (n : ℕ) (ps : List (Option ℕ)) (new : List New) → IsDistinct (option_eq nat_eq) ps
+    → AllByRecursion (IsBefore n) ps → AreNumberedFrom n new → IsPermutation (below_all ps new) (reached ps new)
 unfolding IsDistinct
 below_reached n ps [] d b a = subst (λ l. IsPermutation l []) (sym (nothing ps)) (IsPermutation-refl [])
   where
@@ -124,7 +122,9 @@ below_reached n ps (x ∷ rest) d b a =
     (below_reached (n + 1) (Some x.id ∷ ps) rest (apart, d) (next, all_before_more n ps b) a.1)
     (below_reached (n + 1) ps rest d (all_before_more n ps b) a.1)
   where
-    at : (c : Bool) → list_any (option_eq nat_eq x.parent) ps ≡ c → IsPermutation (below_all (Some x.id ∷ ps) rest) (reached (Some x.id ∷ ps) rest) → IsPermutation (below_all ps rest) (reached ps rest)
+    at : (c : Bool) → list_any (option_eq nat_eq x.parent) ps ≡ c
+        → IsPermutation (below_all (Some x.id ∷ ps) rest) (reached (Some x.id ∷ ps) rest)
+        → IsPermutation (below_all ps rest) (reached ps rest)
         → IsPermutation (below_all ps (x ∷ rest)) (cond c (x ∷ reached (Some x.id ∷ ps) rest) (reached ps rest))
     at true e h k =
         IsPermutation-trans (below_all ps (x ∷ rest)) (x ∷ below_all (Some x.id ∷ ps) rest) (x ∷ reached (Some x.id ∷ ps) rest) (below_one x rest ps d e)
@@ -157,16 +157,21 @@ shuffled c n b o m =
 
 flat-append : {X A : Type 0} (f : X → List A) (xs ys : List X) → flat_map f (xs ++ ys) ≡ flat_map f xs ++ flat_map f ys
 flat-append f [] ys = refl
-flat-append f (x ∷ xs) ys = ap (λ l. f x ++ l) (flat-append f xs ys) ∙ sym (append_assoc (f x) (flat_map f xs) (flat_map f ys))
+flat-append f (x ∷ xs) ys =
+    ap (λ l. f x ++ l) (flat-append f xs ys) ∙ sym (append_assoc (f x) (flat_map f xs) (flat_map f ys))
 
 -- the units for the rows below these places
 abbrev units_below : Bytes → List (Option ℕ) → List New → List Unit
 units_below source ps new = map (new_unit source) (below_all ps new)
 
-units_beside : (source : Bytes) (ps qs : List (Option ℕ)) (new : List New) → units_below source (ps ++ qs) new ≡ units_below source ps new ++ units_below source qs new
-units_beside source ps qs new = ap (map (new_unit source)) (flat-append (λ p. nodes (branches p new)) ps qs) ∙ map-append (new_unit source) (below_all ps new) (below_all qs new)
+units_beside : (source : Bytes) (ps qs : List (Option ℕ)) (new : List New)
+    → units_below source (ps ++ qs) new ≡ units_below source ps new ++ units_below source qs new
+units_beside source ps qs new =
+    ap (map (new_unit source)) (flat-append (λ p. nodes (branches p new)) ps qs)
+    ∙ map-append (new_unit source) (below_all ps new) (below_all qs new)
 
-pub grown_nodes : (source : Bytes) (new : List New) (f : Forest Unit) → IsPermutation (nodes (grown source new f)) (nodes f ++ units_below source (map place_of (nodes f)) new)
+pub grown_nodes : (source : Bytes) (new : List New) (f : Forest Unit)
+    → IsPermutation (nodes (grown source new f)) (nodes f ++ units_below source (map place_of (nodes f)) new)
 grown_nodes source new Empty = IsPermutation-refl []
 grown_nodes source new (Node u c o) =
     let n = units_below source (map place_of (nodes c)) new in
@@ -184,7 +189,9 @@ grown_nodes source new (Node u c o) =
     low = map (new_unit source) (nodes (branches (Some u.id) new))
 
     joined : nodes (join (grown source new c) (new_units source (Some u.id) new)) ≡ nodes (grown source new c) ++ low
-    joined = nodes-join (grown source new c) (new_units source (Some u.id) new) ∙ ap (λ l. nodes (grown source new c) ++ l) (nodes-each (new_unit source) (branches (Some u.id) new))
+    joined =
+        nodes-join (grown source new c) (new_units source (Some u.id) new)
+        ∙ ap (λ l. nodes (grown source new c) ++ l) (nodes-each (new_unit source) (branches (Some u.id) new))
 
     parted : units_below source (Some u.id ∷ map place_of (nodes c ++ nodes o)) new ≡ low ++ (units_below source (map place_of (nodes c)) new ++ units_below source (map place_of (nodes o)) new)
     parted =
@@ -193,21 +200,27 @@ grown_nodes source new (Node u c o) =
 
 -- ---- the merged forest
 
-same_places : (source : Bytes) (rows : List Row) (us : List Unit) → map place_of (map (revised source rows) us) ≡ map place_of us
+same_places : (source : Bytes) (rows : List Row) (us : List Unit)
+    → map place_of (map (revised source rows) us) ≡ map place_of us
 same_places source rows [] = refl
-same_places source rows (u ∷ us) = ap (λ n. Some n ∷ map place_of (map (revised source rows) us)) (revised_id source rows u) ∙ ap (λ l. Some u.id ∷ l) (same_places source rows us)
+same_places source rows (u ∷ us) =
+    ap (λ n. Some n ∷ map place_of (map (revised source rows) us)) (revised_id source rows u)
+    ∙ ap (λ l. Some u.id ∷ l) (same_places source rows us)
 
 -- numbers that differ are places that differ
-number_places : (us : List Unit) → IsDistinct nat_eq (map (λ (u : Unit). u.id) us) → IsDistinct (option_eq nat_eq) (map place_of us)
+number_places : (us : List Unit) → IsDistinct nat_eq (map (λ (u : Unit). u.id) us)
+    → IsDistinct (option_eq nat_eq) (map place_of us)
 unfolding IsDistinct
 number_places [] d = tt
 number_places (u ∷ us) d = (one us d.0, number_places us d.1)
   where
-    one : (vs : List Unit) → AllByRecursion (λ n. nat_eq u.id n ≡ false) (map (λ (v : Unit). v.id) vs) → AllByRecursion (λ p. option_eq nat_eq (Some u.id) p ≡ false) (map place_of vs)
+    one : (vs : List Unit) → AllByRecursion (λ n. nat_eq u.id n ≡ false) (map (λ (v : Unit). v.id) vs)
+        → AllByRecursion (λ p. option_eq nat_eq (Some u.id) p ≡ false) (map place_of vs)
     one [] h = tt
     one (v ∷ vs) h = (h.0, one vs h.1)
 
-all_places : (us : List Unit) → IsDistinct nat_eq (map (λ (u : Unit). u.id) us) → IsDistinct (option_eq nat_eq) (None ∷ map place_of us)
+all_places : (us : List Unit) → IsDistinct nat_eq (map (λ (u : Unit). u.id) us)
+    → IsDistinct (option_eq nat_eq) (None ∷ map place_of us)
 unfolding IsDistinct
 all_places us d = (none us, number_places us d)
   where
@@ -215,7 +228,8 @@ all_places us d = (none us, number_places us d)
     none [] = tt
     none (v ∷ vs) = (refl, none vs)
 
-before_places : (n : ℕ) (us : List Unit) → AllByRecursion (λ (u : Unit). u.id < n) us → AllByRecursion (IsBefore n) (map place_of us)
+before_places : (n : ℕ) (us : List Unit) → AllByRecursion (λ (u : Unit). u.id < n) us
+    → AllByRecursion (IsBefore n) (map place_of us)
 before_places n [] h = tt
 before_places n (u ∷ us) h = (h.0, before_places n us h.1)
 
@@ -223,10 +237,13 @@ before_places n (u ∷ us) h = (h.0, before_places n us h.1)
 
 -- a parent that is found has one of these places
 HasParents : Forest Unit → Bytes → ℕ → List Row → List (Option ℕ) → Type 0
-HasParents f source n above ps = (legacy : Bytes) → list_any (option_eq nat_eq (number_of f source n above legacy)) ps ≡ true
+HasParents f source n above ps =
+    (legacy : Bytes) → list_any (option_eq nat_eq (number_of f source n above legacy)) ps ≡ true
 
 -- so each new row stands below one of them, or below a row further up
-all_reached : (f : Forest Unit) (source : Bytes) (n : ℕ) (above rows : List Row) (ps : List (Option ℕ)) → list_any (option_eq nat_eq None) ps ≡ true → HasParents f source n above ps → reached ps (numbered_from f source n above rows) ≡ numbered_from f source n above rows
+all_reached : (f : Forest Unit) (source : Bytes) (n : ℕ) (above rows : List Row) (ps : List (Option ℕ))
+    → list_any (option_eq nat_eq None) ps ≡ true → HasParents f source n above ps
+    → reached ps (numbered_from f source n above rows) ≡ numbered_from f source n above rows
 unfolding HasParents
 all_reached f source n above [] ps top h = refl
 all_reached f source n above (row ∷ rows) ps top h =
@@ -246,17 +263,21 @@ all_reached f source n above (row ∷ rows) ps top h =
     back : n + 1 - 1 ≡ n
     back = omega arith
 
-    more : (legacy : Bytes) → list_any (option_eq nat_eq (cond (has_legacy legacy row) (Some (n + 1 - 1)) (number_of f source (n + 1 - 1) above legacy))) (Some n ∷ ps) ≡ true
+    more : (legacy : Bytes)
+        → list_any (option_eq nat_eq (cond (has_legacy legacy row) (Some (n + 1 - 1)) (number_of f source (n + 1 - 1) above legacy))) (Some n ∷ ps) ≡ true
     more legacy = subst (λ m. list_any (option_eq nat_eq (cond (has_legacy legacy row) (Some m) (number_of f source m above legacy))) (Some n ∷ ps) ≡ true) (sym back) (at (has_legacy legacy row))
       where
-        at : (b : Bool) → list_any (option_eq nat_eq (cond b (Some n) (number_of f source n above legacy))) (Some n ∷ ps) ≡ true
+        at : (b : Bool)
+            → list_any (option_eq nat_eq (cond b (Some n) (number_of f source n above legacy))) (Some n ∷ ps) ≡ true
         at true = or_left (nat_eq n n) (list_any (option_eq nat_eq (Some n)) ps) (eq-eqb n n refl)
         at false = or_right (option_eq nat_eq (number_of f source n above legacy) (Some n)) (list_any (option_eq nat_eq (number_of f source n above legacy)) ps) (h legacy)
 
-unit_places : (f : Forest Unit) (source legacy : Bytes) → list_any (option_eq nat_eq (option_map (λ (unit : Unit). unit.id) (find (is_from source legacy) (nodes f)))) (None ∷ map place_of (nodes f)) ≡ true
+unit_places : (f : Forest Unit) (source legacy : Bytes)
+    → list_any (option_eq nat_eq (option_map (λ (unit : Unit). unit.id) (find (is_from source legacy) (nodes f)))) (None ∷ map place_of (nodes f)) ≡ true
 unit_places f source legacy = at (find (is_from source legacy) (nodes f)) refl
   where
-    stands : (us : List Unit) → AllByRecursion (λ (u : Unit). list_any (option_eq nat_eq (Some u.id)) (map place_of us) ≡ true) us
+    stands : (us : List Unit)
+        → AllByRecursion (λ (u : Unit). list_any (option_eq nat_eq (Some u.id)) (map place_of us) ≡ true) us
     stands [] = tt
     stands (u ∷ us) = (
       or_left (nat_eq u.id u.id) (list_any (option_eq nat_eq (Some u.id)) (map place_of us)) (eq-eqb u.id u.id refl),
@@ -264,15 +285,18 @@ unit_places f source legacy = at (find (is_from source legacy) (nodes f)) refl
           (λ v h w. or_right (nat_eq v.id u.id) (list_any (option_eq nat_eq (Some v.id)) (map place_of us)) h) us (stands us) (all_true (λ v. Prim.Unit {0}) (λ v. tt) us),
     )
 
-    at : (r : Option Unit) → find (is_from source legacy) (nodes f) ≡ r → list_any (option_eq nat_eq (option_map (λ (unit : Unit). unit.id) r)) (None ∷ map place_of (nodes f)) ≡ true
+    at : (r : Option Unit) → find (is_from source legacy) (nodes f) ≡ r
+        → list_any (option_eq nat_eq (option_map (λ (unit : Unit). unit.id) r)) (None ∷ map place_of (nodes f)) ≡ true
     at None e = refl
     at (Some v) e = all_of_found (λ (u : Unit). list_any (option_eq nat_eq (Some u.id)) (map place_of (nodes f)) ≡ true) (is_from source legacy) (nodes f) v e (stands (nodes f))
 
-every_row : (f : Forest Unit) (source : Bytes) (n : ℕ) (rows : List Row) → reached (None ∷ map place_of (nodes f)) (numbered_from f source n [] rows) ≡ numbered_from f source n [] rows
+every_row : (f : Forest Unit) (source : Bytes) (n : ℕ) (rows : List Row)
+    → reached (None ∷ map place_of (nodes f)) (numbered_from f source n [] rows) ≡ numbered_from f source n [] rows
 unfolding HasParents
 every_row f source n rows = all_reached f source n [] rows (None ∷ map place_of (nodes f)) refl (unit_places f source)
 
-pub numbered_are : (f : Forest Unit) (source : Bytes) (n : ℕ) (above rows : List Row) → AreNumberedFrom n (numbered_from f source n above rows)
+pub numbered_are : (f : Forest Unit) (source : Bytes) (n : ℕ) (above rows : List Row)
+    → AreNumberedFrom n (numbered_from f source n above rows)
 numbered_are f source n above [] = tt
 numbered_are f source n above (row ∷ rows) = (refl, numbered_are f source (n + 1) (row ∷ above) rows)
 
@@ -280,7 +304,8 @@ numbered_are f source n above (row ∷ rows) = (refl, numbered_are f source (n +
 
 -- Where the catalogued units have different numbers, all before n: up to order the units are the catalogued ones, revised,
 -- and one for each new row.
-pub merged_nodes : (source : Bytes) (rows : List Row) (n : ℕ) (news : List Row) (f : Forest Unit) → IsDistinct nat_eq (map (λ (u : Unit). u.id) (nodes f)) → AllByRecursion (λ (u : Unit). u.id < n) (nodes f)
+pub merged_nodes : (source : Bytes) (rows : List Row) (n : ℕ) (news : List Row) (f : Forest Unit)
+    → IsDistinct nat_eq (map (λ (u : Unit). u.id) (nodes f)) → AllByRecursion (λ (u : Unit). u.id < n) (nodes f)
     → IsPermutation (nodes (merged_forest source rows (numbered_from f source n [] news) f)) (map (revised source rows) (nodes f) ++ map (new_unit source) (numbered_from f source n [] news))
 merged_nodes source rows n news f d b =
     subst (λ l. IsPermutation l (old ++ map (new_unit source) new)) (sym parts)
@@ -309,7 +334,9 @@ merged_nodes source rows n news f d b =
     lower = units_below source (map place_of (nodes f)) new
 
     parts : nodes (merged_forest source rows new f) ≡ nodes (grown source new g) ++ tops
-    parts = nodes-join (grown source new g) (new_units source None new) ∙ ap (λ l. nodes (grown source new g) ++ l) (nodes-each (new_unit source) (branches None new))
+    parts =
+        nodes-join (grown source new g) (new_units source None new)
+        ∙ ap (λ l. nodes (grown source new g) ++ l) (nodes-each (new_unit source) (branches None new))
 
     low : units_below source places new ≡ tops ++ lower
     low = map-append (new_unit source) (nodes (branches None new)) (below_all (map place_of (nodes f)) new)
@@ -325,7 +352,8 @@ merged_nodes source rows n news f d b =
         (subst (λ l. IsPermutation l (old ++ (tops ++ lower))) (sym (append_assoc old lower tops)) (IsPermutation-append_right old (lower ++ tops) (tops ++ lower) (IsPermutation-append_comm lower tops)))
 
 -- a unit that was there is there
-pub still_there : (source : Bytes) (rows : List Row) (new : List New) (f : Forest Unit) (u : ℕ) → has_unit f u ≡ true → has_unit (merged_forest source rows new f) u ≡ true
+pub still_there : (source : Bytes) (rows : List Row) (new : List New) (f : Forest Unit) (u : ℕ) → has_unit f u ≡ true
+    → has_unit (merged_forest source rows new f) u ≡ true
 still_there source rows new f u h =
     has-join (has_id u) (grown source new (each (revised source rows) f)) (new_units source None new)
     ∙ or_left (has (has_id u) (grown source new (each (revised source rows) f))) (has (has_id u) (new_units source None new))

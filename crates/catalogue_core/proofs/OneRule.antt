@@ -1,19 +1,9 @@
 -- What the public is shown is what is not withheld from a reader without permits.
 use Rattle.std.proofs.Common.{◌≡◌, ℤ, Bool, true, false, cond, not, ◌&&◌, ◌||◌, List, [], ◌∷◌, ◌++◌, Option, Some, None, refl, sym, ap, ap₂, ◌∙◌, inl, inr}
-use Rattle.std.specs.Prelude.{filter, filter_map}
-use Rattle.std.specs.List.{list_any}
-use Rattle.std.proofs.lemmas.Bool.{cases_Bool, false≢true, or_parts}
-use Rattle.std.proofs.lemmas.List.Elements.{filter-append, filter_map-append}
-use Rattle.std.proofs.lemmas.List.Folds.{list_any-append}
-use Rattle.tree_core.specs.Forest.{Forest, Empty, Node, nodes, each}
-use Rattle.tree_core.specs.Visibility.{public}
-use Rattle.catalogue_core.specs.Units.{Unit, is_closed}
-use Rattle.catalogue_core.specs.ContainerContents.{paths_below}
-use Rattle.catalogue_core.specs.Pages.{before_last}
-use Rattle.catalogue_core.specs.PublicForest.{PublicUnit, public_unit, public_of, stub_of}
-use Rattle.catalogue_core.specs.OneRule.{is_told, told_whole, told_as_stub, is_open_to_public, is_closed_alone, TellsWhatIsOpen, StubsWhatIsClosed}
-use Rattle.catalogue_core.proofs.PublishedUnits.{before_last-push, last_of-push}
+use Rattle.std.specs.Prelude.{filter}
 use Rattle.std.proofs.Math.Bool.{or-false}
+use Rattle.catalogue_core.proofs.Common.{Empty, Forest, Node, PublicUnit, StubsWhatIsClosed, TellsWhatIsOpen, Unit, before_last, cases_Bool, each, false≢true, filter-append, filter_map, filter_map-append, is_closed, is_closed_alone, is_open_to_public, is_told, list_any, list_any-append, nodes, or_parts, paths_below, public, public_of, public_unit, stub_of, told_as_stub, told_whole}
+use Rattle.catalogue_core.proofs.PublishedUnits.{before_last-push, last_of-push}
 
 -- ---- lists and truths
 
@@ -67,7 +57,8 @@ module _ (day : ℤ) where
       yes false true = refl
       yes false false = refl
 
-  still_open : (w : List Unit) (u : Unit) → is_shut w ≡ false → D u ≡ false → C u ≡ false → is_shut (w ++ u ∷ []) ≡ false
+  still_open : (w : List Unit) (u : Unit) → is_shut w ≡ false → D u ≡ false → C u ≡ false
+      → is_shut (w ++ u ∷ []) ≡ false
   still_open w u h n k =
       let above = or_parts (list_any D w) (list_any C w) h in
       ap₂ ◌||◌ (pushed D w u ∙ ap₂ ◌||◌ above.0 n) (pushed C w u ∙ ap₂ ◌||◌ above.1 k)
@@ -86,12 +77,14 @@ module _ (day : ℤ) where
         (filter-append p (paths_below (w ++ u ∷ []) c) (paths_below w o)
         ∙ ap₂ ◌++◌ (nothing_below (w ++ u ∷ []) c (shut_on w u h)) (nothing_below w o h))
 
-    chosen : (w : List Unit) (f : Forest Unit) → is_shut w ≡ false → filter t (nodes (public_of day f)) ≡ filter_map g (filter p (paths_below w f))
+    chosen : (w : List Unit) (f : Forest Unit) → is_shut w ≡ false
+        → filter t (nodes (public_of day f)) ≡ filter_map g (filter p (paths_below w f))
     chosen w Empty h = refl
     chosen w (Node u c o) h = elim (cases_Bool (D u)) [
       | inl d ↦
           let no : p (w ++ u ∷ []) ≡ false = drafted w u d in
-          let below : filter p (paths_below (w ++ u ∷ []) c) ≡ [] = nothing_below (w ++ u ∷ []) c (shut_by_draft w u d) in
+          let below : filter p (paths_below (w ++ u ∷ []) c) ≡ [] =
+          nothing_below (w ++ u ∷ []) c (shut_by_draft w u d) in
           let rest : picked ((w ++ u ∷ []) ∷ (paths_below (w ++ u ∷ []) c ++ paths_below w o)) ≡ picked (paths_below w o) =
           rw no (ap (filter_map g) (filter-append p (paths_below (w ++ u ∷ []) c) (paths_below w o) ∙ ap (λ l. l ++ filter p (paths_below w o)) below)) in
           ap (λ b. filter t (nodes_where b)) d ∙ (chosen w o h ∙ sym rest)
@@ -109,20 +102,25 @@ module _ (day : ℤ) where
         beside = nodes (each public_unit (public D C o))
 
         left : filter t (public_unit (u, C u) ∷ (low (C u) ++ beside)) ≡ filter t (public_unit (u, C u) ∷ []) ++ (filter t (low (C u)) ++ filter t beside)
-        left = filter-append t (public_unit (u, C u) ∷ []) (low (C u) ++ beside) ∙ ap (λ l. filter t (public_unit (u, C u) ∷ []) ++ l) (filter-append t (low (C u)) beside)
+        left =
+            filter-append t (public_unit (u, C u) ∷ []) (low (C u) ++ beside)
+            ∙ ap (λ l. filter t (public_unit (u, C u) ∷ []) ++ l) (filter-append t (low (C u)) beside)
 
         picked : List (List Unit) → List PublicUnit
         picked ways = filter_map g (filter p ways)
 
         picked-append : (ways more : List (List Unit)) → picked (ways ++ more) ≡ picked ways ++ picked more
-        picked-append ways more = ap (filter_map g) (filter-append p ways more) ∙ filter_map-append g (filter p ways) (filter p more)
+        picked-append ways more =
+            ap (filter_map g) (filter-append p ways more) ∙ filter_map-append g (filter p ways) (filter p more)
 
         right : picked ((w ++ u ∷ []) ∷ (paths_below (w ++ u ∷ []) c ++ paths_below w o)) ≡ picked ((w ++ u ∷ []) ∷ []) ++ (picked (paths_below (w ++ u ∷ []) c) ++ picked (paths_below w o))
         right =
             picked-append ((w ++ u ∷ []) ∷ []) (paths_below (w ++ u ∷ []) c ++ paths_below w o)
             ∙ ap (λ l. picked ((w ++ u ∷ []) ∷ []) ++ l) (picked-append (paths_below (w ++ u ∷ []) c) (paths_below w o))
 
-        below : D u ≡ false → (b : Bool) → C u ≡ b → (C u ≡ false → filter t (low false) ≡ picked (paths_below (w ++ u ∷ []) c)) → filter t (low b) ≡ picked (paths_below (w ++ u ∷ []) c)
+        below : D u ≡ false → (b : Bool) → C u ≡ b
+            → (C u ≡ false → filter t (low false) ≡ picked (paths_below (w ++ u ∷ []) c))
+            → filter t (low b) ≡ picked (paths_below (w ++ u ∷ []) c)
         below n true k f = sym (ap (filter_map g) (nothing_below (w ++ u ∷ []) c (shut_by_closure w u k)))
         below n false k f = f k
 
@@ -131,23 +129,28 @@ module _ (day : ℤ) where
   stub_is : (u : Unit) (b : Bool) → C u ≡ true → is_told (stub_of u u.until) ≡ false
   stub_is u b = elim u.until as (λ o. Rattle.catalogue_core.specs.Units.is_later day o ≡ true → is_told (stub_of u o) ≡ false) [ None ↦ λ e. absurd (false≢true e) | Some until ↦ λ e. refl ]
 
-  alone_is : (w : List Unit) (u : Unit) → is_closed_alone day (w ++ u ∷ []) ≡ (not (list_any D w || D u) && (not (list_any C w) && (list_any C w || C u)))
+  alone_is : (w : List Unit) (u : Unit)
+      → is_closed_alone day (w ++ u ∷ []) ≡ (not (list_any D w || D u) && (not (list_any C w) && (list_any C w || C u)))
   alone_is w u =
       ap (λ b. not b && (not (list_any C (before_last (w ++ u ∷ []))) && list_any C (w ++ u ∷ []))) (pushed D w u)
       ∙ (ap (λ l. not (list_any D w || D u) && (not (list_any C l) && list_any C (w ++ u ∷ []))) (before_last-push w u)
       ∙ ap (λ b. not (list_any D w || D u) && (not (list_any C w) && b)) (pushed C w u))
 
-  whole : (w : List Unit) (u : Unit) → is_shut w ≡ false → D u ≡ false → filter is_told (public_unit (u, C u) ∷ []) ≡ filter_map told_whole (filter (is_open_to_public day) ((w ++ u ∷ []) ∷ []))
+  whole : (w : List Unit) (u : Unit) → is_shut w ≡ false → D u ≡ false
+      → filter is_told (public_unit (u, C u) ∷ []) ≡ filter_map told_whole (filter (is_open_to_public day) ((w ++ u ∷ []) ∷ []))
   whole w u h n = elim (cases_Bool (C u)) [
     | inl k ↦
-        let no : is_open_to_public day (w ++ u ∷ []) ≡ false = public_is (w ++ u ∷ []) ∙ ap not (shut_by_closure w u k) in
+        let no : is_open_to_public day (w ++ u ∷ []) ≡ false =
+        public_is (w ++ u ∷ []) ∙ ap not (shut_by_closure w u k) in
         rw (k, no, stub_is u true k) refl
     | inr k ↦
-        let yes : is_open_to_public day (w ++ u ∷ []) ≡ true = public_is (w ++ u ∷ []) ∙ ap not (still_open w u h n k) in
+        let yes : is_open_to_public day (w ++ u ∷ []) ≡ true =
+        public_is (w ++ u ∷ []) ∙ ap not (still_open w u h n k) in
         rw (k, yes, last_of-push w u) refl
   ]
 
-  stubs : (w : List Unit) (u : Unit) → is_shut w ≡ false → D u ≡ false → filter (λ unit. not (is_told unit)) (public_unit (u, C u) ∷ []) ≡ filter_map told_as_stub (filter (is_closed_alone day) ((w ++ u ∷ []) ∷ []))
+  stubs : (w : List Unit) (u : Unit) → is_shut w ≡ false → D u ≡ false
+      → filter (λ unit. not (is_told unit)) (public_unit (u, C u) ∷ []) ≡ filter_map told_as_stub (filter (is_closed_alone day) ((w ++ u ∷ []) ∷ []))
   stubs w u h n =
       let above = or_parts (list_any D w) (list_any C w) h in
       let is : is_closed_alone day (w ++ u ∷ []) ≡ C u = alone_is w u ∙ rw (above.0, above.1, n) refl in

@@ -1,28 +1,17 @@
 -- Marks of what a container is attached to decide whether it is open.
 use Rattle.std.proofs.Common.{◌≡◌, inl, inr, ℕ, ◌+◌, ◌*◌, ℤ, Bool, true, false, cond, not, ◌&&◌, ◌||◌, List, [], ◌∷◌, ◌++◌, map, filter, Some, None, nat_eq, refl, sym, ap, ap₂, subst, ◌∙◌, append_assoc}
-use Rattle.std.specs.List.{list_any, list_all}
-use Rattle.std.proofs.lemmas.Bool.{eq-eqb, cases_Bool, false≢true}
-use Rattle.std.proofs.lemmas.List.{map-append}
-use Rattle.std.proofs.lemmas.List.Elements.{filter-append}
-use Rattle.catalogue_core.proofs.Members.{some_from, has_filtered}
-use Rattle.catalogue_core.specs.Members.{StandsIn}
-use Rattle.isad_core.specs.declared.values.BoxKey.{BoxKey}
 use Rattle.isad_core.specs.Boxes.{is_same as is_same_box}
-use Rattle.tree_core.specs.Forest.{Forest, Empty, Node, nodes, each, size, has, path, tree, HasDistinctIds}
 use Rattle.tree_core.specs.Marks.{is_closed as is_mark_closed, withholds, contents_paths, IsNumbered}
-use Rattle.tree_core.specs.Visibility.{sharing_paths}
 use Rattle.tree_core.specs.declared.marks.Mark.{Mark}
-use Rattle.tree_core.proofs.EachLemmas.{has-each, nodes-each, size-each}
 use Rattle.tree_core.proofs.LinkPaths.{parts, other_id}
-use Rattle.tree_core.proofs.Lists.{list_any-map, any_agree}
 use Rattle.tree_core.proofs.MarkWalks.{list_all-append}
 use Rattle.tree_core.proofs.Sharing.{open_by_paths}
-use Rattle.catalogue_core.specs.ContainerContents.{own_or, housed_below, containers_of, paths_below, is_withheld_from, is_some_there, is_open}
+use Rattle.catalogue_core.specs.ContainerContents.{is_open}
 use Rattle.catalogue_core.specs.UnitMarks.{mark_of, without_number}
-use Rattle.std.proofs.lemmas.List.Folds.{list_any-append}
-use Rattle.catalogue_core.proofs.PublishedUnits.{before_last-push}
 use Rattle.catalogue_core.specs.OpenMarks.{with_permit, mark_for, is_opened_above, is_clean, OpenByMarks, NumbersTellNothing, MarksSayClean}
-use Rattle.catalogue_core.specs.Units.{Unit, has_id, is_closed}
+use Rattle.catalogue_core.proofs.Common.{BoxKey, Empty, Forest, HasDistinctIds, Node, StandsIn, Unit, any_agree, cases_Bool, containers_of, each, eq-eqb, false≢true, filter-append, has, has-each, has_id, housed_below, is_closed, is_some_there, is_withheld_from, list_all, list_any, list_any-append, list_any-map, map-append, nodes, nodes-each, own_or, path, paths_below, sharing_paths, size, size-each, tree}
+use Rattle.catalogue_core.proofs.Members.{some_from, has_filtered}
+use Rattle.catalogue_core.proofs.PublishedUnits.{before_last-push}
 
 -- ---- lists
 
@@ -30,12 +19,14 @@ all_map : {A B : Type 0} (p : B → Bool) (g : A → B) (xs : List A) → list_a
 all_map p g [] = refl
 all_map p g (x ∷ xs) = ap (λ b. p (g x) && b) (all_map p g xs)
 
-all_agree : {A : Type 0} (p q : A → Bool) (xs : List A) → ((x : A) → StandsIn x xs → p x ≡ q x) → list_all p xs ≡ list_all q xs
+all_agree : {A : Type 0} (p q : A → Bool) (xs : List A) → ((x : A) → StandsIn x xs → p x ≡ q x)
+    → list_all p xs ≡ list_all q xs
 all_agree p q [] h = refl
 all_agree p q (x ∷ xs) h = ap₂ ◌&&◌ (h x (inl refl)) (all_agree p q xs (λ y i. h y (inr i)))
 
 -- one element more, where a test lets it pass
-all_kept : {A : Type 0} (p : A → Bool) (b : Bool) (x : A) (xs : List A) → list_all p (cond b (x ∷ xs) xs) ≡ (cond b (p x) true && list_all p xs)
+all_kept : {A : Type 0} (p : A → Bool) (b : Bool) (x : A) (xs : List A)
+    → list_all p (cond b (x ∷ xs) xs) ≡ (cond b (p x) true && list_all p xs)
 all_kept p true x xs = refl
 all_kept p false x xs = refl
 
@@ -49,7 +40,8 @@ some_append (x ∷ xs) ys = refl
 
 -- ---- the containers of the last unit of a path
 
-housed_more : (above : List BoxKey) (A : List Unit) (u : Unit) → housed_below above (A ++ u ∷ []) ≡ own_or u.values.boxes (housed_below above A)
+housed_more : (above : List BoxKey) (A : List Unit) (u : Unit)
+    → housed_below above (A ++ u ∷ []) ≡ own_or u.values.boxes (housed_below above A)
 housed_more above [] u = refl
 housed_more above (x ∷ A) u = housed_more (own_or x.values.boxes above) A u
 
@@ -58,7 +50,8 @@ housed_more above (x ∷ A) u = housed_more (own_or x.values.boxes above) A u
 abbrev boxed : Unit → Bool
 boxed u = is_some_there u.values.boxes
 
-sharing_above : (A B : List Unit) (f : Forest Unit) → sharing_paths boxed (A ++ B) f ≡ map (λ way. A ++ way) (sharing_paths boxed B f)
+sharing_above : (A B : List Unit) (f : Forest Unit)
+    → sharing_paths boxed (A ++ B) f ≡ map (λ way. A ++ way) (sharing_paths boxed B f)
 sharing_above A B Empty = refl
 sharing_above A B (Node u c o) =
     elim (boxed u) as (λ b. cond b (sharing_paths boxed (A ++ B) o) (((A ++ B) ++ u ∷ []) ∷ (sharing_paths boxed ((A ++ B) ++ u ∷ []) c ++ sharing_paths boxed (A ++ B) o))
@@ -73,7 +66,8 @@ sharing_above A B (Node u c o) =
 abbrev boxed_mark : Mark → Bool
 boxed_mark m = m.boxed
 
-sharing_marks : (permitted : ℕ → Bool) (A : List Unit) (f : Forest Unit) → sharing_paths boxed_mark (map (mark_for permitted) A) (each (mark_for permitted) f) ≡ map (map (mark_for permitted)) (sharing_paths boxed A f)
+sharing_marks : (permitted : ℕ → Bool) (A : List Unit) (f : Forest Unit)
+    → sharing_paths boxed_mark (map (mark_for permitted) A) (each (mark_for permitted) f) ≡ map (map (mark_for permitted)) (sharing_paths boxed A f)
 sharing_marks permitted A Empty = refl
 sharing_marks permitted A (Node u c o) =
     elim (boxed u) as (λ b. cond b (sharing_paths boxed_mark (map (mark_for permitted) A) (each (mark_for permitted) o)) ((map (mark_for permitted) A ++ mark_for permitted u ∷ []) ∷ (sharing_paths boxed_mark (map (mark_for permitted) A ++ mark_for permitted u ∷ []) (each (mark_for permitted) c) ++ sharing_paths boxed_mark (map (mark_for permitted) A) (each (mark_for permitted) o)))
@@ -102,7 +96,8 @@ four true true a false true = and_false a
     and_false false = refl
 four true true a true b = refl
 
-own : (b h p s a t o : Bool) → (cond b p true && ((cond b s true && a) && (cond h t true && o))) ≡ (cond h t true && (cond b (p && s) true && (a && o)))
+own : (b h p s a t o : Bool)
+    → (cond b p true && ((cond b s true && a) && (cond h t true && o))) ≡ (cond h t true && (cond b (p && s) true && (a && o)))
 own true h p s a t o = four p s a (cond h t true) o ∙ turn p s (cond h t true) a o
   where
     turn : (p s t a o : Bool) → ((p && (s && t)) && (a && o)) ≡ (t && ((p && s) && (a && o)))
@@ -119,7 +114,8 @@ own false h p s a t o = turn a (cond h t true) o
     turn false true o = refl
     turn false false o = refl
 
-handed : (h p s a t o : Bool) → (cond h p true && ((cond h s true && a) && (cond h t true && o))) ≡ (cond h (p && (s && t)) true && (a && o))
+handed : (h p s a t o : Bool)
+    → (cond h p true && ((cond h s true && a) && (cond h t true && o))) ≡ (cond h (p && (s && t)) true && (a && o))
 handed true p s a t o = four p s a t o
 handed false p s a t o = refl
 
@@ -154,7 +150,8 @@ module _ (box : BoxKey) (permitted : ℕ → Bool) (today : ℤ) where
   abbrev clean_there : List Unit → Unit → Forest Unit → Bool
   clean_there A u c = list_all seen ((A ++ u ∷ []) ∷ sharing_paths boxed (A ++ u ∷ []) c)
 
-  clean_marks : (A : List Unit) (u : Unit) (c : Forest Unit) → is_clean today (map mark (A ++ u ∷ [])) (Node (mark u) (each mark c) Empty) ≡ clean_there A u c
+  clean_marks : (A : List Unit) (u : Unit) (c : Forest Unit)
+      → is_clean today (map mark (A ++ u ∷ [])) (Node (mark u) (each mark c) Empty) ≡ clean_there A u c
   clean_marks A u c =
       let M = map mark A in
       let ways = contents_paths (mark u) (each mark c) in
@@ -198,7 +195,9 @@ module _ (box : BoxKey) (permitted : ℕ → Bool) (today : ℤ) where
       ≡ (cond (lies_there A) (list_all seen (cond some (sharing_paths boxed A o) ((A ++ u ∷ []) ∷ (sharing_paths boxed (A ++ u ∷ []) c ++ sharing_paths boxed A o)))) true
       && (cond names (clean_there A u c) true && (clean_all (A ++ u ∷ []) c && clean_all A o)))
 
-  by_boxes : (A : List Unit) (u : Unit) (c o : Forest Unit) (boxes : List BoxKey) → containers_of (A ++ u ∷ []) ≡ own_or boxes (containers_of A) → Agrees A u c o (lies_there (A ++ u ∷ [])) (in_it boxes) (is_some_there boxes)
+  by_boxes : (A : List Unit) (u : Unit) (c o : Forest Unit) (boxes : List BoxKey)
+      → containers_of (A ++ u ∷ []) ≡ own_or boxes (containers_of A)
+      → Agrees A u c o (lies_there (A ++ u ∷ [])) (in_it boxes) (is_some_there boxes)
   by_boxes A u c o [] e =
       subst (λ b. Agrees A u c o b false false) (sym (ap in_it e))
       (handed (lies_there A) (seen (A ++ u ∷ [])) (shared (A ++ u ∷ []) c) (clean_all (A ++ u ∷ []) c) (shared A o) (clean_all A o)
@@ -211,7 +210,8 @@ module _ (box : BoxKey) (permitted : ℕ → Bool) (today : ℤ) where
   nothing_below true = refl
   nothing_below false = refl
 
-  unit_by_unit : (A : List Unit) (g : Forest Unit) → list_all seen (below_it A g) ≡ (cond (lies_there A) (shared A g) true && clean_all A g)
+  unit_by_unit : (A : List Unit) (g : Forest Unit)
+      → list_all seen (below_it A g) ≡ (cond (lies_there A) (shared A g) true && clean_all A g)
   unfolding below_it
   unit_by_unit A Empty = nothing_below (lies_there A)
   unit_by_unit A (Node u c o) =
@@ -222,7 +222,8 @@ module _ (box : BoxKey) (permitted : ℕ → Bool) (today : ℤ) where
 
   -- ---- and some unit names it where something lies in it
 
-  some_names : (A : List Unit) (g : Forest Unit) → lies_there A ≡ false → is_some_there (below_it A g) ≡ is_some_there (filter names_it (nodes g))
+  some_names : (A : List Unit) (g : Forest Unit) → lies_there A ≡ false
+      → is_some_there (below_it A g) ≡ is_some_there (filter names_it (nodes g))
   unfolding below_it
   some_names A Empty h = refl
   some_names A (Node u c o) h =
@@ -234,12 +235,14 @@ module _ (box : BoxKey) (permitted : ℕ → Bool) (today : ℤ) where
       ∙ sym (some_kept (names_it u) u (filter names_it (nodes c ++ nodes o)) ∙ ap (λ l. names_it u || is_some_there l) (filter-append names_it (nodes c) (nodes o))
       ∙ ap (λ b. names_it u || b) (some_append (filter names_it (nodes c)) (filter names_it (nodes o))))
     where
-      rest : (lies_there (A ++ u ∷ []) ≡ false → is_some_there (below_it (A ++ u ∷ []) c) ≡ is_some_there (filter names_it (nodes c))) → (b : Bool) → lies_there (A ++ u ∷ []) ≡ b
+      rest : (lies_there (A ++ u ∷ []) ≡ false → is_some_there (below_it (A ++ u ∷ []) c) ≡ is_some_there (filter names_it (nodes c)))
+          → (b : Bool) → lies_there (A ++ u ∷ []) ≡ b
           → (lies_there (A ++ u ∷ []) || (is_some_there (below_it (A ++ u ∷ []) c) || is_some_there (filter names_it (nodes o)))) ≡ (b || (is_some_there (filter names_it (nodes c)) || is_some_there (filter names_it (nodes o))))
       rest ih true e = ap (λ l. l || (is_some_there (below_it (A ++ u ∷ []) c) || is_some_there (filter names_it (nodes o)))) e
       rest ih false e = ap₂ (λ l s. l || (s || is_some_there (filter names_it (nodes o)))) e (ih e)
 
-      by_test : (lies_there (A ++ u ∷ []) ≡ false → is_some_there (below_it (A ++ u ∷ []) c) ≡ is_some_there (filter names_it (nodes c))) → (boxes : List BoxKey) → containers_of (A ++ u ∷ []) ≡ own_or boxes (containers_of A)
+      by_test : (lies_there (A ++ u ∷ []) ≡ false → is_some_there (below_it (A ++ u ∷ []) c) ≡ is_some_there (filter names_it (nodes c)))
+          → (boxes : List BoxKey) → containers_of (A ++ u ∷ []) ≡ own_or boxes (containers_of A)
           → (lies_there (A ++ u ∷ []) || (is_some_there (below_it (A ++ u ∷ []) c) || is_some_there (filter names_it (nodes o)))) ≡ (in_it boxes || (is_some_there (filter names_it (nodes c)) || is_some_there (filter names_it (nodes o))))
       by_test ih [] e = rest ih false (ap in_it e ∙ h)
       by_test ih (b ∷ boxes) e = rest ih (in_it (b ∷ boxes)) (ap in_it e)
@@ -249,7 +252,8 @@ module _ (box : BoxKey) (permitted : ℕ → Bool) (today : ℤ) where
   clean_of : List Unit → Forest Unit → Unit → Bool
   clean_of A g u = is_clean today (map mark (A ++ path (has_id u.id) g)) (each mark (tree (has_id u.id) g))
 
-  by_numbers : (A : List Unit) (g : Forest Unit) → HasDistinctIds (each (λ (u : Unit). u.id) g) → clean_all A g ≡ list_all (clean_of A g) (filter names_it (nodes g))
+  by_numbers : (A : List Unit) (g : Forest Unit) → HasDistinctIds (each (λ (u : Unit). u.id) g)
+      → clean_all A g ≡ list_all (clean_of A g) (filter names_it (nodes g))
   unfolding clean_of
   by_numbers A Empty d = refl
   by_numbers A (Node a c o) d =
@@ -267,7 +271,9 @@ module _ (box : BoxKey) (permitted : ℕ → Bool) (today : ℤ) where
       let there = in_part u o (has_filtered names_it (nodes o) u h).0 in
       let there' = has-each (nat_eq u.id) (λ (u : Unit). u.id) o ∙ there in
       let not_a = other_id a.id u.id (each (λ (u : Unit). u.id) o) p.not_beside there' in
-      let not_c : has (has_id u.id) c ≡ false = sym (has-each (nat_eq u.id) (λ (u : Unit). u.id) c) ∙ not_first u.id (each (λ (u : Unit). u.id) c) (each (λ (u : Unit). u.id) o) p.apart there' in
+      let not_c : has (has_id u.id) c ≡ false =
+      sym (has-each (nat_eq u.id) (λ (u : Unit). u.id) c)
+      ∙ not_first u.id (each (λ (u : Unit). u.id) c) (each (λ (u : Unit). u.id) o) p.apart there' in
       sym (rw (not_a, not_c) refl)) in
       ap₂ (λ x y. cond (names_it a) x true && y) here (ap₂ ◌&&◌ below beside)
       ∙ sym (all_kept (clean_of A g) (names_it a) a (filter names_it (nodes c ++ nodes o))
@@ -277,7 +283,8 @@ module _ (box : BoxKey) (permitted : ℕ → Bool) (today : ℤ) where
       in_part : (u : Unit) (g : Forest Unit) → StandsIn u (nodes g) → has (has_id u.id) g ≡ true
       in_part u g h = some_from (has_id u.id) (nodes g) u h (eq-eqb u.id u.id refl)
 
-      not_first : (x : ℕ) (c o : Forest ℕ) → ((y : ℕ) → has (nat_eq y) c ≡ true → has (nat_eq y) o ≡ false) → has (nat_eq x) o ≡ true → has (nat_eq x) c ≡ false
+      not_first : (x : ℕ) (c o : Forest ℕ) → ((y : ℕ) → has (nat_eq y) c ≡ true → has (nat_eq y) o ≡ false)
+          → has (nat_eq x) o ≡ true → has (nat_eq x) c ≡ false
       not_first x c o apart h = elim (cases_Bool (has (nat_eq x) c)) [ inl t ↦ absurd (false≢true (sym (apart x t) ∙ h)) | inr n ↦ n ]
 
 pub open_by_marks : OpenByMarks
@@ -287,13 +294,15 @@ open_by_marks f box permitted today d =
 
 -- ---- numbers
 
-any_bare : (p : Mark → Bool) → ((m : Mark) → p (without_number m) ≡ p m) → (marks : List Mark) → list_any p marks ≡ list_any p (map without_number marks)
+any_bare : (p : Mark → Bool) → ((m : Mark) → p (without_number m) ≡ p m) → (marks : List Mark)
+    → list_any p marks ≡ list_any p (map without_number marks)
 any_bare p same marks = sym (list_any-map p without_number marks ∙ any_agree (λ m. p (without_number m)) p marks same)
 
 bare_closed : (today : ℤ) (m : Mark) → is_mark_closed today (without_number m) ≡ is_mark_closed today m
 bare_closed today m = elim m.until as (λ o. is_mark_closed today (without_number (record m { until = o })) ≡ is_mark_closed today (record m { until = o })) [ None ↦ refl | Some day ↦ refl ]
 
-bare_way : (today : ℤ) (above : Bool) (way : List Mark) → not (withholds today above way) ≡ not (withholds today above (map without_number way))
+bare_way : (today : ℤ) (above : Bool) (way : List Mark)
+    → not (withholds today above way) ≡ not (withholds today above (map without_number way))
 bare_way today above way =
     ap not (ap₂ ◌||◌ (any_bare (λ (m : Mark). m.draft) (λ _. refl) way)
     (ap₂ ◌&&◌ (any_bare (is_mark_closed today) (bare_closed today) way) (ap (λ b. not (above || b)) (any_bare (λ (m : Mark). m.permit) (λ _. refl) way))))
@@ -303,7 +312,8 @@ bare_above [] = refl
 bare_above (m ∷ []) = refl
 bare_above (m ∷ n ∷ path) = ap (λ b. m.permit || b) (bare_above (n ∷ path))
 
-bare_sharing : (A : List Mark) (f : Forest Mark) → sharing_paths boxed_mark (map without_number A) (each without_number f) ≡ map (map without_number) (sharing_paths boxed_mark A f)
+bare_sharing : (A : List Mark) (f : Forest Mark)
+    → sharing_paths boxed_mark (map without_number A) (each without_number f) ≡ map (map without_number) (sharing_paths boxed_mark A f)
 bare_sharing A Empty = refl
 bare_sharing A (Node m c o) =
     elim m.boxed as (λ b. cond b (sharing_paths boxed_mark (map without_number A) (each without_number o)) ((map without_number A ++ without_number m ∷ []) ∷ (sharing_paths boxed_mark (map without_number A ++ without_number m ∷ []) (each without_number c) ++ sharing_paths boxed_mark (map without_number A) (each without_number o)))
@@ -328,7 +338,8 @@ numbers_tell_nothing today path (Node unit below others) =
 
 -- ---- the marks that are read
 
-tree_alone : (is : Unit → Bool) (f : Forest Unit) → has is f ≡ true → (u : Unit) × (c : Forest Unit) × (tree is f ≡ Node u c Empty)
+tree_alone : (is : Unit → Bool) (f : Forest Unit) → has is f ≡ true
+    → (u : Unit) × (c : Forest Unit) × (tree is f ≡ Node u c Empty)
 tree_alone is Empty h = absurd (false≢true h)
 tree_alone is (Node u c o) h = elim (cases_Bool (is u)) [
   | inl t ↦ (u, c, rw t refl)
@@ -338,13 +349,15 @@ tree_alone is (Node u c o) h = elim (cases_Bool (is u)) [
   ]
 ]
 
-alone : (g : Forest Mark) (u : Mark) (c : Forest Mark) → each without_number g ≡ Node u c Empty → (m : Mark) × (b : Forest Mark) × (g ≡ Node m b Empty)
+alone : (g : Forest Mark) (u : Mark) (c : Forest Mark) → each without_number g ≡ Node u c Empty
+    → (m : Mark) × (b : Forest Mark) × (g ≡ Node m b Empty)
 alone Empty u c e = absurd (cc)
 alone (Node m b Empty) u c e = (m, b, refl)
 alone (Node m b (Node x y z)) u c e = absurd (let k : Node (without_number x) (each without_number y) (each without_number z) ≡ Empty = cc in cc)
 
 -- permits change no numbers, and numbers no permits
-numbered_permits : (permitted : ℕ → Bool) (k : ℕ) (f : Forest Mark) → IsNumbered k f → IsNumbered k (each (with_permit permitted) f)
+numbered_permits : (permitted : ℕ → Bool) (k : ℕ) (f : Forest Mark) → IsNumbered k f
+    → IsNumbered k (each (with_permit permitted) f)
 numbered_permits permitted k Empty h = tt
 numbered_permits permitted k (Node m c o) h =
     let n = size-each (with_permit permitted) c in
@@ -352,19 +365,25 @@ numbered_permits permitted k (Node m c o) h =
     let high : m.rgt ≡ k + 2 * size (each (with_permit permitted) c) + 1 = h.1 ∙ ap (λ s. k + 2 * s + 1) (sym n) in
     (low, high, numbered_permits permitted (k + 1) c h.2, subst (λ s. IsNumbered (k + 2 * s + 2) (each (with_permit permitted) o)) (sym n) (numbered_permits permitted (k + 2 * size c + 2) o h.3))
 
-permits_after : (permitted : ℕ → Bool) (marks : List Mark) → map without_number (map (with_permit permitted) marks) ≡ map (with_permit permitted) (map without_number marks)
+permits_after : (permitted : ℕ → Bool) (marks : List Mark)
+    → map without_number (map (with_permit permitted) marks) ≡ map (with_permit permitted) (map without_number marks)
 permits_after permitted [] = refl
-permits_after permitted (m ∷ marks) = ap (λ l. without_number (with_permit permitted m) ∷ l) (permits_after permitted marks)
+permits_after permitted (m ∷ marks) =
+    ap (λ l. without_number (with_permit permitted m) ∷ l) (permits_after permitted marks)
 
-permits_below : (permitted : ℕ → Bool) (f : Forest Mark) → each without_number (each (with_permit permitted) f) ≡ each (with_permit permitted) (each without_number f)
+permits_below : (permitted : ℕ → Bool) (f : Forest Mark)
+    → each without_number (each (with_permit permitted) f) ≡ each (with_permit permitted) (each without_number f)
 permits_below permitted Empty = refl
-permits_below permitted (Node m c o) = ap₂ (Node (without_number (with_permit permitted m))) (permits_below permitted c) (permits_below permitted o)
+permits_below permitted (Node m c o) =
+    ap₂ (Node (without_number (with_permit permitted m))) (permits_below permitted c) (permits_below permitted o)
 
-marks_for : (permitted : ℕ → Bool) (units : List Unit) → map (with_permit permitted) (map mark_of units) ≡ map (mark_for permitted) units
+marks_for : (permitted : ℕ → Bool) (units : List Unit)
+    → map (with_permit permitted) (map mark_of units) ≡ map (mark_for permitted) units
 marks_for permitted [] = refl
 marks_for permitted (u ∷ units) = ap (λ l. mark_for permitted u ∷ l) (marks_for permitted units)
 
-forest_for : (permitted : ℕ → Bool) (f : Forest Unit) → each (with_permit permitted) (each mark_of f) ≡ each (mark_for permitted) f
+forest_for : (permitted : ℕ → Bool) (f : Forest Unit)
+    → each (with_permit permitted) (each mark_of f) ≡ each (mark_for permitted) f
 forest_for permitted Empty = refl
 forest_for permitted (Node u c o) = ap₂ (Node (mark_for permitted u)) (forest_for permitted c) (forest_for permitted o)
 

@@ -1,21 +1,11 @@
 -- Equal forests, and equal numbers of the containers in them, are shown alike.
 use Rattle.std.proofs.Common.{◌≡◌, ℕ, ◌+◌, Bool, true, false, cond, List, [], ◌∷◌, ◌++◌, Option, Some, None, refl, ap, ◌∙◌}
-use Rattle.std.specs.Prelude.{map, filter_map}
-use Rattle.std.specs.List.{flat_map, AllByRecursion}
-use Rattle.isad_core.specs.Texts.{Bytes}
-use Rattle.isad_core.specs.Values.{line_elements, own_lines, title}
-use Rattle.isad_core.specs.Codes.{code_of}
+use Rattle.std.specs.Prelude.{map}
 use Rattle.isad_core.specs.declared.display.Shown.{Shown}
-use Rattle.isad_core.specs.declared.display.Page.{Page}
 use Rattle.isad_core.specs.declared.display.Body.TheVariants.{Full}
-use Rattle.isad_core.specs.declared.values.BoxKey.{BoxKey}
-use Rattle.tree_core.specs.Forest.{Forest, Empty, Node, nodes, has, path, tree}
+use Rattle.catalogue_core.specs.Pages.{number_of}
+use Rattle.catalogue_core.proofs.Common.{AllByRecursion, BoxKey, Bytes, Coded, Empty, Forest, Node, Page, PageBox, Press, PublicUnit, Repository, Stub, Told, box_number, boxes_on_page, boxes_or, boxes_told, code_of, coded_below, filter_map, flat_map, has, identifier_of, line_elements, nearest_boxes, nodes, numbered_boxes, own_lines, page_at, page_boxes, page_line, path, shown_below, shown_unit, side_by_side, title, tree, with_codes}
 use Rattle.catalogue_core.proofs.EachOf.{all_append, all_split}
-use Rattle.catalogue_core.specs.CatalogueMerge.{box_number}
-use Rattle.catalogue_core.specs.PublicForest.{PublicUnit, Told, Stub}
-use Rattle.catalogue_core.specs.Aids.{Repository, identifier_of, numbered_boxes, shown_unit, shown_below}
-use Rattle.catalogue_core.specs.Pages.{Press, Coded, PageBox, number_of, side_by_side, coded_below, with_codes, page_line, page_boxes, boxes_or, nearest_boxes, boxes_on_page, page_at}
-use Rattle.catalogue_core.specs.PublishedUnits.{boxes_told}
 
 -- the containers have the same numbers in both lists
 
@@ -27,48 +17,58 @@ Alike xs ys boxes = AllByRecursion (λ box. box_number xs box ≡ box_number ys 
 abbrev pub AllAlike : List BoxKey → List BoxKey → List PublicUnit → Type 0
 AllAlike xs ys units = AllByRecursion (λ unit. Alike xs ys (boxes_told unit)) units
 
-pub each_alike : (xs ys : List BoxKey) (units : List PublicUnit) → Alike xs ys (flat_map boxes_told units) → AllAlike xs ys units
+pub each_alike : (xs ys : List BoxKey) (units : List PublicUnit) → Alike xs ys (flat_map boxes_told units)
+    → AllAlike xs ys units
 each_alike xs ys [] h = tt
 each_alike xs ys (unit ∷ units) h =
     let r = all_split (λ box. box_number xs box ≡ box_number ys box) (boxes_told unit) (flat_map boxes_told units) h in
     (r.0, each_alike xs ys units r.1)
 
-pub path_alike : (P : PublicUnit → Type 0) (is : PublicUnit → Bool) (f : Forest PublicUnit) → AllByRecursion P (nodes f) → AllByRecursion P (path is f)
+pub path_alike : (P : PublicUnit → Type 0) (is : PublicUnit → Bool) (f : Forest PublicUnit) → AllByRecursion P (nodes f)
+    → AllByRecursion P (path is f)
 path_alike P is Empty h = tt
 path_alike P is (Node a c o) h =
     let r = all_split P (nodes c) (nodes o) h.1 in
     at (is a) (has is c) (path_alike P is c r.0) (path_alike P is o r.1)
   where
-    at : (b d : Bool) → AllByRecursion P (path is c) → AllByRecursion P (path is o) → AllByRecursion P (cond b (a ∷ []) (cond d (a ∷ path is c) (path is o)))
+    at : (b d : Bool) → AllByRecursion P (path is c) → AllByRecursion P (path is o)
+        → AllByRecursion P (cond b (a ∷ []) (cond d (a ∷ path is c) (path is o)))
     at true d p q = (h.0, tt)
     at false true p q = (h.0, p)
     at false false p q = q
 
-pub tree_alike : (P : PublicUnit → Type 0) (is : PublicUnit → Bool) (f : Forest PublicUnit) → AllByRecursion P (nodes f) → AllByRecursion P (nodes (tree is f))
+pub tree_alike : (P : PublicUnit → Type 0) (is : PublicUnit → Bool) (f : Forest PublicUnit) → AllByRecursion P (nodes f)
+    → AllByRecursion P (nodes (tree is f))
 tree_alike P is Empty h = tt
 tree_alike P is (Node a c o) h =
     let r = all_split P (nodes c) (nodes o) h.1 in
     at (is a) (has is c) r.0 (tree_alike P is c r.0) (tree_alike P is o r.1)
   where
-    at : (b d : Bool) → AllByRecursion P (nodes c) → AllByRecursion P (nodes (tree is c)) → AllByRecursion P (nodes (tree is o)) → AllByRecursion P (nodes (cond b (Node a c Empty) (cond d (tree is c) (tree is o))))
+    at : (b d : Bool) → AllByRecursion P (nodes c) → AllByRecursion P (nodes (tree is c))
+        → AllByRecursion P (nodes (tree is o))
+        → AllByRecursion P (nodes (cond b (Node a c Empty) (cond d (tree is c) (tree is o))))
     at true d w p q = (h.0, all_append P (nodes c) [] w tt)
     at false true w p q = p
     at false false w p q = q
 
 -- one unit
 
-numbers_alike : (xs ys boxes : List BoxKey) → Alike xs ys boxes → numbered_boxes (box_number xs) boxes ≡ numbered_boxes (box_number ys) boxes
+numbers_alike : (xs ys boxes : List BoxKey) → Alike xs ys boxes
+    → numbered_boxes (box_number xs) boxes ≡ numbered_boxes (box_number ys) boxes
 numbers_alike xs ys [] h = refl
 numbers_alike xs ys (box ∷ boxes) h =
     ap (λ n. (n, box.name) ∷ numbered_boxes (box_number xs) boxes) h.0 ∙ ap (λ l. (box_number ys box, box.name) ∷ l) (numbers_alike xs ys boxes h.1)
 
-unit_alike : (at : Repository) (xs ys : List BoxKey) (ids : List Bytes) (depth : ℕ) (unit : PublicUnit) → Alike xs ys (boxes_told unit) → shown_unit at xs ids depth unit ≡ shown_unit at ys ids depth unit
+unit_alike : (at : Repository) (xs ys : List BoxKey) (ids : List Bytes) (depth : ℕ) (unit : PublicUnit)
+    → Alike xs ys (boxes_told unit) → shown_unit at xs ids depth unit ≡ shown_unit at ys ids depth unit
 unit_alike at xs ys ids depth (Told id values) h =
-    let shown : List (ℕ × Bytes) → Shown = λ boxes. record { depth = depth; code = code_of at.country at.repo ids; level = values.level; title = title values; body = Full (own_lines values) boxes } in
+    let shown : List (ℕ × Bytes) → Shown =
+    λ boxes. record { depth = depth; code = code_of at.country at.repo ids; level = values.level; title = title values; body = Full (own_lines values) boxes } in
     ap shown (numbers_alike xs ys values.boxes h)
 unit_alike at xs ys ids depth (Stub id identifier level until) h = refl
 
-pub shown_alike : (at : Repository) (xs ys : List BoxKey) (above : List Bytes) (depth : ℕ) (f : Forest PublicUnit) → AllAlike xs ys (nodes f) → shown_below at xs above depth f ≡ shown_below at ys above depth f
+pub shown_alike : (at : Repository) (xs ys : List BoxKey) (above : List Bytes) (depth : ℕ) (f : Forest PublicUnit)
+    → AllAlike xs ys (nodes f) → shown_below at xs above depth f ≡ shown_below at ys above depth f
 shown_alike at xs ys above depth Empty h = refl
 shown_alike at xs ys above depth (Node a c o) h =
     let r = all_split (λ unit. Alike xs ys (boxes_told unit)) (nodes c) (nodes o) h.1 in
@@ -79,7 +79,8 @@ shown_alike at xs ys above depth (Node a c o) h =
 abbrev pub with_boxes : Repository → List BoxKey → Press
 with_boxes at xs = record { at = at; containers = xs }
 
-pub beside_alike : (at : Repository) (xs ys : List BoxKey) (above : List Bytes) (f : Forest PublicUnit) → AllAlike xs ys (nodes f) → side_by_side (with_boxes at xs) above f ≡ side_by_side (with_boxes at ys) above f
+pub beside_alike : (at : Repository) (xs ys : List BoxKey) (above : List Bytes) (f : Forest PublicUnit)
+    → AllAlike xs ys (nodes f) → side_by_side (with_boxes at xs) above f ≡ side_by_side (with_boxes at ys) above f
 beside_alike at xs ys above Empty h = refl
 beside_alike at xs ys above (Node a c o) h =
     let r = all_split (λ unit. Alike xs ys (boxes_told unit)) (nodes c) (nodes o) h.1 in
@@ -91,43 +92,55 @@ beside_alike at xs ys above (Node a c o) h =
 abbrev AllCoded : List BoxKey → List BoxKey → List Coded → Type 0
 AllCoded xs ys units = AllByRecursion (λ unit. Alike xs ys unit.values.boxes) units
 
-coded_same : (at : Repository) (xs ys : List BoxKey) (above : List Bytes) (higher : List Coded) (way : List PublicUnit) → coded_below (with_boxes at xs) above higher way ≡ coded_below (with_boxes at ys) above higher way
+coded_same : (at : Repository) (xs ys : List BoxKey) (above : List Bytes) (higher : List Coded) (way : List PublicUnit)
+    → coded_below (with_boxes at xs) above higher way ≡ coded_below (with_boxes at ys) above higher way
 coded_same at xs ys above higher [] = refl
-coded_same at xs ys above higher (Told id values ∷ way) = coded_same at xs ys (above ++ identifier_of (Told id values) ∷ []) (record { code = code_of at.country at.repo (above ++ identifier_of (Told id values) ∷ []); values = values } ∷ higher) way
+coded_same at xs ys above higher (Told id values ∷ way) =
+    coded_same at xs ys (above ++ identifier_of (Told id values) ∷ []) (record { code = code_of at.country at.repo (above ++ identifier_of (Told id values) ∷ []); values = values } ∷ higher) way
 coded_same at xs ys above higher (Stub id identifier level until ∷ way) = refl
 
-coded_alike : (at : Repository) (xs ys : List BoxKey) (above : List Bytes) (higher : List Coded) (way : List PublicUnit) → AllAlike xs ys way → AllCoded xs ys higher → AllCoded xs ys (coded_below (with_boxes at xs) above higher way)
+coded_alike : (at : Repository) (xs ys : List BoxKey) (above : List Bytes) (higher : List Coded) (way : List PublicUnit)
+    → AllAlike xs ys way → AllCoded xs ys higher → AllCoded xs ys (coded_below (with_boxes at xs) above higher way)
 coded_alike at xs ys above higher [] h k = k
-coded_alike at xs ys above higher (Told id values ∷ way) h k = coded_alike at xs ys (above ++ identifier_of (Told id values) ∷ []) (record { code = code_of at.country at.repo (above ++ identifier_of (Told id values) ∷ []); values = values } ∷ higher) way h.1 (h.0, k)
+coded_alike at xs ys above higher (Told id values ∷ way) h k =
+    coded_alike at xs ys (above ++ identifier_of (Told id values) ∷ []) (record { code = code_of at.country at.repo (above ++ identifier_of (Told id values) ∷ []); values = values } ∷ higher) way h.1 (h.0, k)
 coded_alike at xs ys above higher (Stub id identifier level until ∷ way) h k = k
 
-page_boxes_alike : (at : Repository) (xs ys : List BoxKey) (from : Option Bytes) (boxes : List BoxKey) → Alike xs ys boxes → page_boxes (with_boxes at xs) from boxes ≡ page_boxes (with_boxes at ys) from boxes
+page_boxes_alike : (at : Repository) (xs ys : List BoxKey) (from : Option Bytes) (boxes : List BoxKey)
+    → Alike xs ys boxes → page_boxes (with_boxes at xs) from boxes ≡ page_boxes (with_boxes at ys) from boxes
 page_boxes_alike at xs ys from [] h = refl
 page_boxes_alike at xs ys from (box ∷ boxes) h =
     ap (λ n. (n, box.name, from) ∷ page_boxes (with_boxes at xs) from boxes) h.0
     ∙ ap (λ l. (box_number ys box, box.name, from) ∷ l) (page_boxes_alike at xs ys from boxes h.1)
 
-or_alike : (at : Repository) (xs ys : List BoxKey) (from : Option Bytes) (boxes : List BoxKey) (further other : List PageBox) → Alike xs ys boxes → further ≡ other → boxes_or (with_boxes at xs) from boxes further ≡ boxes_or (with_boxes at ys) from boxes other
+or_alike : (at : Repository) (xs ys : List BoxKey) (from : Option Bytes) (boxes : List BoxKey) (further other : List PageBox)
+    → Alike xs ys boxes → further ≡ other
+    → boxes_or (with_boxes at xs) from boxes further ≡ boxes_or (with_boxes at ys) from boxes other
 or_alike at xs ys from [] further other h e = e
 or_alike at xs ys from (box ∷ boxes) further other h e = page_boxes_alike at xs ys from (box ∷ boxes) h
 
-nearest_alike : (at : Repository) (xs ys : List BoxKey) (units : List Coded) → AllCoded xs ys units → nearest_boxes (with_boxes at xs) units ≡ nearest_boxes (with_boxes at ys) units
+nearest_alike : (at : Repository) (xs ys : List BoxKey) (units : List Coded) → AllCoded xs ys units
+    → nearest_boxes (with_boxes at xs) units ≡ nearest_boxes (with_boxes at ys) units
 nearest_alike at xs ys [] h = refl
 nearest_alike at xs ys (unit ∷ higher) h =
     or_alike at xs ys (Some unit.code) unit.values.boxes (nearest_boxes (with_boxes at xs) higher) (nearest_boxes (with_boxes at ys) higher) h.0 (nearest_alike at xs ys higher h.1)
 
-on_page_alike : (at : Repository) (xs ys : List BoxKey) (units : List Coded) → AllCoded xs ys units → boxes_on_page (with_boxes at xs) units ≡ boxes_on_page (with_boxes at ys) units
+on_page_alike : (at : Repository) (xs ys : List BoxKey) (units : List Coded) → AllCoded xs ys units
+    → boxes_on_page (with_boxes at xs) units ≡ boxes_on_page (with_boxes at ys) units
 on_page_alike at xs ys [] h = refl
 on_page_alike at xs ys (unit ∷ higher) h =
     or_alike at xs ys None unit.values.boxes (nearest_boxes (with_boxes at xs) higher) (nearest_boxes (with_boxes at ys) higher) h.0 (nearest_alike at xs ys higher h.1)
 
-pub page_at_alike : (at : Repository) (xs ys : List BoxKey) (way : List PublicUnit) (f : Forest PublicUnit) → AllAlike xs ys way → AllAlike xs ys (nodes f) → page_at (with_boxes at xs) way f ≡ page_at (with_boxes at ys) way f
+pub page_at_alike : (at : Repository) (xs ys : List BoxKey) (way : List PublicUnit) (f : Forest PublicUnit)
+    → AllAlike xs ys way → AllAlike xs ys (nodes f)
+    → page_at (with_boxes at xs) way f ≡ page_at (with_boxes at ys) way f
 page_at_alike at xs ys way Empty h k = refl
 page_at_alike at xs ys way (Node (Stub id identifier level until) c o) h k = refl
 page_at_alike at xs ys way (Node (Told id values) c o) h k =
     let r = all_split (λ unit. Alike xs ys (boxes_told unit)) (nodes c) (nodes o) k.1 in
     let e = coded_same at xs ys [] [] way in
-    let made : Shown → List Coded → List PageBox → List (ℕ × Shown) → Option Page = λ head units boxes below. Some (record { head = head; lines = filter_map (page_line units) line_elements; boxes = boxes; below = below }) in
+    let made : Shown → List Coded → List PageBox → List (ℕ × Shown) → Option Page =
+    λ head units boxes below. Some (record { head = head; lines = filter_map (page_line units) line_elements; boxes = boxes; below = below }) in
     ap (λ head. made head (with_codes (with_boxes at xs) way) (boxes_on_page (with_boxes at xs) (with_codes (with_boxes at xs) way)) (side_by_side (with_boxes at xs) (map identifier_of way) c)) (unit_alike at xs ys (map identifier_of way) 0 (Told id values) k.0)
     ∙ (ap (λ boxes. made (shown_unit at ys (map identifier_of way) 0 (Told id values)) (with_codes (with_boxes at xs) way) boxes (side_by_side (with_boxes at xs) (map identifier_of way) c)) (on_page_alike at xs ys (with_codes (with_boxes at xs) way) (coded_alike at xs ys [] [] way h tt))
     ∙ (ap (λ units. made (shown_unit at ys (map identifier_of way) 0 (Told id values)) units (boxes_on_page (with_boxes at ys) units) (side_by_side (with_boxes at xs) (map identifier_of way) c)) e

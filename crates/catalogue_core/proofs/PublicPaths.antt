@@ -1,17 +1,9 @@
 -- Paths of units that the public may know.
 use Rattle.std.proofs.Common.{◌≡◌, ℕ, ℤ, Bool, true, false, cond, ◌||◌, List, [], ◌∷◌, ◌++◌, map, Option, Some, None, refl, sym, ap, ap₂, ◌∙◌, subst, inl, inr}
 use Rattle.std.specs.Prelude.{nat_eq}
-use Rattle.std.specs.List.{list_any, AllByRecursion}
-use Rattle.std.proofs.lemmas.Bool.{cases_Bool, false≢true, or_left, or_right}
-use Rattle.std.proofs.lemmas.List.Folds.{list_any-append}
-use Rattle.tree_core.specs.Forest.{Forest, Empty, Node, nodes, each, has, path, tree, HasDistinctIds}
-use Rattle.tree_core.specs.Visibility.{public}
-use Rattle.tree_core.proofs.EachLemmas.{has-each}
 use Rattle.tree_core.proofs.LinkPaths.{parts, other_id}
-use Rattle.catalogue_core.specs.Units.{Unit, has_id, is_closed}
-use Rattle.catalogue_core.specs.Pages.{before_last, number_of, is_numbered}
-use Rattle.catalogue_core.specs.PublicForest.{PublicUnit, public_unit, public_of, stub_of}
-use Rattle.catalogue_core.specs.OneRule.{is_told}
+use Rattle.catalogue_core.specs.Pages.{number_of}
+use Rattle.catalogue_core.proofs.Common.{AllByRecursion, Empty, Forest, HasDistinctIds, Node, PublicUnit, Unit, before_last, cases_Bool, each, false≢true, has, has-each, has_id, is_closed, is_numbered, is_told, list_any, list_any-append, nodes, or_left, or_right, path, public, public_of, public_unit, stub_of, tree}
 use Rattle.catalogue_core.proofs.PublishedUnits.{before_last-push}
 
 -- ---- the node that passes: its path ends with it, and it stands at the head of its tree
@@ -64,15 +56,20 @@ known_where day u c o draft closed =
 told_open : (day : ℤ) (u : Unit) → is_closed day u ≡ false → IsTold (known_of day u)
 told_open day u k = ap (λ b. is_told (public_unit (u, b))) k
 
-pub told_above : (day : ℤ) (is : PublicUnit → Bool) (f : Forest Unit) → AllByRecursion IsTold (before_last (path is (public_of day f)))
+pub told_above : (day : ℤ) (is : PublicUnit → Bool) (f : Forest Unit)
+    → AllByRecursion IsTold (before_last (path is (public_of day f)))
 told_above day is Empty = tt
 told_above day is (Node u c o) = at u.draft (is_closed day u) refl (told_above day is c) (told_above day is o)
   where
-    first : (b : Bool) → is_closed day u ≡ b → has is (each public_unit (cond b Empty (public drafts (is_closed day) c))) ≡ true → AllByRecursion IsTold (before_last (path is (public_of day c))) → AllByRecursion IsTold (before_last (known_of day u ∷ path is (each public_unit (cond b Empty (public drafts (is_closed day) c)))))
+    first : (b : Bool) → is_closed day u ≡ b
+        → has is (each public_unit (cond b Empty (public drafts (is_closed day) c))) ≡ true
+        → AllByRecursion IsTold (before_last (path is (public_of day c)))
+        → AllByRecursion IsTold (before_last (known_of day u ∷ path is (each public_unit (cond b Empty (public drafts (is_closed day) c)))))
     first true k h below = absurd (false≢true h)
     first false k h below =
         let it = stand is (public_of day c) h in
-        let above : AllByRecursion IsTold it.above = subst (AllByRecursion IsTold) (ap before_last it.way ∙ before_last-push it.above it.unit) below in
+        let above : AllByRecursion IsTold it.above =
+        subst (AllByRecursion IsTold) (ap before_last it.way ∙ before_last-push it.above it.unit) below in
         subst (λ l. AllByRecursion IsTold (before_last (known_of day u ∷ l))) (sym it.way)
         (subst (AllByRecursion IsTold) (sym (before_last-push (known_of day u ∷ it.above) it.unit)) (told_open day u k, above))
 
@@ -82,9 +79,13 @@ told_above day is (Node u c o) = at u.draft (is_closed day u) refl (told_above d
     choose false closed k true h below beside = first closed k h below
     choose false closed k false h below beside = beside
 
-    at : (draft closed : Bool) → is_closed day u ≡ closed → AllByRecursion IsTold (before_last (path is (public_of day c))) → AllByRecursion IsTold (before_last (path is (public_of day o))) → AllByRecursion IsTold (before_last (path is (known_where day u c o draft closed)))
+    at : (draft closed : Bool) → is_closed day u ≡ closed
+        → AllByRecursion IsTold (before_last (path is (public_of day c)))
+        → AllByRecursion IsTold (before_last (path is (public_of day o)))
+        → AllByRecursion IsTold (before_last (path is (known_where day u c o draft closed)))
     at true closed k below beside = beside
-    at false closed k below beside = choose (is (known_of day u)) closed k (has is (each public_unit (cond closed Empty (public drafts (is_closed day) c)))) refl below beside
+    at false closed k below beside =
+        choose (is (known_of day u)) closed k (has is (each public_unit (cond closed Empty (public drafts (is_closed day) c)))) refl below beside
 
 -- ---- by numbers
 
@@ -100,20 +101,28 @@ number_known day u = at (is_closed day u)
     at false = refl
 
 -- a unit that the public may know is there
-pub known_there : (day : ℤ) (n : ℕ) (f : Forest Unit) → has (is_numbered n) (public_of day f) ≡ true → has (has_id n) f ≡ true
+pub known_there : (day : ℤ) (n : ℕ) (f : Forest Unit) → has (is_numbered n) (public_of day f) ≡ true
+    → has (has_id n) f ≡ true
 known_there day n Empty h = h
 known_there day n (Node u c o) h = at u.draft (is_closed day u) h (known_there day n c) (known_there day n o)
   where
-    there : (b c' o' : Bool) → (b || (c' || o')) ≡ true → (c' ≡ true → has (has_id n) c ≡ true) → (o' ≡ true → has (has_id n) o ≡ true) → b ≡ nat_eq n u.id → has (has_id n) (Node u c o) ≡ true
+    there : (b c' o' : Bool) → (b || (c' || o')) ≡ true → (c' ≡ true → has (has_id n) c ≡ true)
+        → (o' ≡ true → has (has_id n) o ≡ true) → b ≡ nat_eq n u.id → has (has_id n) (Node u c o) ≡ true
     there true c' o' k f g e = or_left (nat_eq n u.id) (list_any (has_id n) (nodes c ++ nodes o)) (sym e)
-    there false true o' k f g e = or_right (nat_eq n u.id) (list_any (has_id n) (nodes c ++ nodes o)) (list_any-append (has_id n) (nodes c) (nodes o) ∙ or_left (has (has_id n) c) (has (has_id n) o) (f refl))
-    there false false o' k f g e = or_right (nat_eq n u.id) (list_any (has_id n) (nodes c ++ nodes o)) (list_any-append (has_id n) (nodes c) (nodes o) ∙ or_right (has (has_id n) c) (has (has_id n) o) (g k))
+    there false true o' k f g e =
+        or_right (nat_eq n u.id) (list_any (has_id n) (nodes c ++ nodes o)) (list_any-append (has_id n) (nodes c) (nodes o) ∙ or_left (has (has_id n) c) (has (has_id n) o) (f refl))
+    there false false o' k f g e =
+        or_right (nat_eq n u.id) (list_any (has_id n) (nodes c ++ nodes o)) (list_any-append (has_id n) (nodes c) (nodes o) ∙ or_right (has (has_id n) c) (has (has_id n) o) (g k))
 
-    lower : (closed : Bool) → (has (is_numbered n) (public_of day c) ≡ true → has (has_id n) c ≡ true) → has (is_numbered n) (each public_unit (cond closed Empty (public drafts (is_closed day) c))) ≡ true → has (has_id n) c ≡ true
+    lower : (closed : Bool) → (has (is_numbered n) (public_of day c) ≡ true → has (has_id n) c ≡ true)
+        → has (is_numbered n) (each public_unit (cond closed Empty (public drafts (is_closed day) c))) ≡ true
+        → has (has_id n) c ≡ true
     lower true f k = absurd (false≢true k)
     lower false f k = f k
 
-    at : (draft closed : Bool) → has (is_numbered n) (known_where day u c o draft closed) ≡ true → (has (is_numbered n) (public_of day c) ≡ true → has (has_id n) c ≡ true) → (has (is_numbered n) (public_of day o) ≡ true → has (has_id n) o ≡ true) → has (has_id n) (Node u c o) ≡ true
+    at : (draft closed : Bool) → has (is_numbered n) (known_where day u c o draft closed) ≡ true
+        → (has (is_numbered n) (public_of day c) ≡ true → has (has_id n) c ≡ true)
+        → (has (is_numbered n) (public_of day o) ≡ true → has (has_id n) o ≡ true) → has (has_id n) (Node u c o) ≡ true
     at true closed k f g = or_right (nat_eq n u.id) (list_any (has_id n) (nodes c ++ nodes o)) (list_any-append (has_id n) (nodes c) (nodes o) ∙ or_right (has (has_id n) c) (has (has_id n) o) (g k))
     at false closed k f g =
         let low = each public_unit (cond closed Empty (public drafts (is_closed day) c)) in
@@ -140,34 +149,43 @@ has_number : (n : ℕ) (f : Forest Unit) → has (nat_eq n) (ids f) ≡ has (has
 has_number n f = has-each (nat_eq n) (λ (unit : Unit). unit.id) f
 
 -- a number that stands beside a unit is neither its own nor stands below it
-not_here : (n : ℕ) (u : Unit) (c o : Forest Unit) → HasDistinctIds (ids (Node u c o)) → has (has_id n) o ≡ true → (nat_eq n u.id ≡ false) × (has (has_id n) c ≡ false)
+not_here : (n : ℕ) (u : Unit) (c o : Forest Unit) → HasDistinctIds (ids (Node u c o)) → has (has_id n) o ≡ true
+    → (nat_eq n u.id ≡ false) × (has (has_id n) c ≡ false)
 not_here n u c o d h =
     let p = parts u.id (ids c) (ids o) d in
     let there = has_number n o ∙ h in
     (other_id u.id n (ids o) p.not_beside there, sym (has_number n c) ∙ elsewhere (has (nat_eq n) (ids c)) refl (p.apart n) there)
   where
-    elsewhere : (b : Bool) → has (nat_eq n) (ids c) ≡ b → (has (nat_eq n) (ids c) ≡ true → has (nat_eq n) (ids o) ≡ false) → has (nat_eq n) (ids o) ≡ true → has (nat_eq n) (ids c) ≡ false
+    elsewhere : (b : Bool) → has (nat_eq n) (ids c) ≡ b
+        → (has (nat_eq n) (ids c) ≡ true → has (nat_eq n) (ids o) ≡ false) → has (nat_eq n) (ids o) ≡ true
+        → has (nat_eq n) (ids c) ≡ false
     elsewhere true e apart there = absurd (false≢true (sym (apart e) ∙ there))
     elsewhere false e apart there = e
 
 abbrev TellsPath : ℤ → ℕ → Forest PublicUnit → Forest Unit → Type 0
 TellsPath day n g f = has (is_numbered n) g ≡ true → path (is_numbered n) g ≡ map (known_of day) (path (has_id n) f)
 
-pub known_path : (day : ℤ) (n : ℕ) (f : Forest Unit) → HasDistinctIds (ids f) → has (is_numbered n) (public_of day f) ≡ true → path (is_numbered n) (public_of day f) ≡ map (known_of day) (path (has_id n) f)
+pub known_path : (day : ℤ) (n : ℕ) (f : Forest Unit) → HasDistinctIds (ids f)
+    → has (is_numbered n) (public_of day f) ≡ true
+    → path (is_numbered n) (public_of day f) ≡ map (known_of day) (path (has_id n) f)
 known_path day n Empty d h = refl
 known_path day n (Node u c o) d h =
     let p = parts u.id (ids c) (ids o) d in
     at u.draft (is_closed day u) refl h (known_path day n c p.children_distinct) (known_path day n o p.others_distinct)
   where
-    beside : has (is_numbered n) (public_of day o) ≡ true → TellsPath day n (public_of day o) o → path (is_numbered n) (public_of day o) ≡ map (known_of day) (path (has_id n) (Node u c o))
+    beside : has (is_numbered n) (public_of day o) ≡ true → TellsPath day n (public_of day o) o
+        → path (is_numbered n) (public_of day o) ≡ map (known_of day) (path (has_id n) (Node u c o))
     beside k f =
         let not = not_here n u c o d (known_there day n o k) in
         f k ∙ ap (map (known_of day)) (sym (in_others n u c o not.0 not.1))
 
-    lower : (closed : Bool) → TellsPath day n (public_of day c) c → nat_eq n u.id ≡ false → has (is_numbered n) (each public_unit (cond closed Empty (public drafts (is_closed day) c))) ≡ true
+    lower : (closed : Bool) → TellsPath day n (public_of day c) c → nat_eq n u.id ≡ false
+        → has (is_numbered n) (each public_unit (cond closed Empty (public drafts (is_closed day) c))) ≡ true
         → known_of day u ∷ path (is_numbered n) (each public_unit (cond closed Empty (public drafts (is_closed day) c))) ≡ map (known_of day) (path (has_id n) (Node u c o))
     lower true f e k = absurd (false≢true k)
-    lower false f e k = ap (λ l. known_of day u ∷ l) (f k) ∙ ap (map (known_of day)) (sym (in_children n u c o e (known_there day n c k)))
+    lower false f e k =
+        ap (λ l. known_of day u ∷ l) (f k)
+        ∙ ap (map (known_of day)) (sym (in_children n u c o e (known_there day n c k)))
 
     choose : (closed : Bool) → let low = each public_unit (cond closed Empty (public drafts (is_closed day) c)) in (b l : Bool) → nat_eq n u.id ≡ b → has (is_numbered n) low ≡ l → (b || (l || has (is_numbered n) (public_of day o))) ≡ true
         → TellsPath day n (public_of day c) c → TellsPath day n (public_of day o) o
@@ -176,7 +194,10 @@ known_path day n (Node u c o) d h =
     choose closed false true e k h f g = lower closed f e k
     choose closed false false e k h f g = beside h g
 
-    at : (draft closed : Bool) → is_closed day u ≡ closed → has (is_numbered n) (known_where day u c o draft closed) ≡ true → TellsPath day n (public_of day c) c → TellsPath day n (public_of day o) o → path (is_numbered n) (known_where day u c o draft closed) ≡ map (known_of day) (path (has_id n) (Node u c o))
+    at : (draft closed : Bool) → is_closed day u ≡ closed
+        → has (is_numbered n) (known_where day u c o draft closed) ≡ true → TellsPath day n (public_of day c) c
+        → TellsPath day n (public_of day o) o
+        → path (is_numbered n) (known_where day u c o draft closed) ≡ map (known_of day) (path (has_id n) (Node u c o))
     at true closed k h f g = beside h g
     at false closed k h f g =
         let low = each public_unit (cond closed Empty (public drafts (is_closed day) c)) in

@@ -1,20 +1,7 @@
 -- Going row by row gives what merging all rows gives, or the same first fault.
 use Rattle.std.proofs.Common.{◌≡◌, ℕ, suc, ◌+◌, ◌-◌, ◌<◌, ◌≤◌, Bool, true, false, not, cond, ◌&&◌, List, [], ◌∷◌, ◌++◌, length, map, Option, Some, None, Ok, refl, sym, ap, ap₂, subst, ◌∙◌, nat_eq, arith, append_assoc, append-nil, length-append}
-use Rattle.std.specs.Prelude.{find, option_and_then, option_map}
-use Rattle.std.specs.List.{AllByRecursion, list_any}
-use Rattle.std.specs.Str.{bytes_eq}
-use Rattle.std.proofs.lemmas.Bool.{ne_eqb}
-use Rattle.isad_core.specs.Texts.{Bytes}
-use Rattle.atom_csv.specs.FileProperties.{AllDiffer}
-use Rattle.atom_csv.specs.declared.file.Row.{Row}
-use Rattle.tree_core.specs.Forest.{Forest, Empty, Node, add, each, has, has_place, nodes, path}
-use Rattle.tree_core.proofs.EachLemmas.{nodes-each}
-use Rattle.catalogue_core.specs.Units.{Unit, has_id, is_from}
-use Rattle.catalogue_core.specs.GoodCatalogues.{AreGoodUnits}
-use Rattle.catalogue_core.specs.CatalogueMerge.{Catalogue, New, cause_at, depth_under, faults_below, merged, merged_forest, new_unit, number_of, numbered_from, or_first, revised}
-use Rattle.catalogue_core.specs.Descriptions.{with_unit, with_values}
-use Rattle.catalogue_core.specs.Moves.{depth}
-use Rattle.catalogue_core.specs.EntryByRow.{and_then, depth_there, new_at, number_there, unless_cause, with_new, with_row_at, with_rows}
+use Rattle.catalogue_core.specs.CatalogueMerge.{number_of}
+use Rattle.catalogue_core.proofs.Common.{AllByRecursion, AllDiffer, AreGoodUnits, Bytes, Catalogue, Empty, Forest, New, Node, Row, Unit, add, and_then, bytes_eq, cause_at, depth, depth_there, depth_under, each, faults_below, find, has, has_id, has_place, is_from, list_any, merged, merged_forest, ne_eqb, new_at, new_unit, nodes, nodes-each, number_there, numbered_from, option_and_then, option_map, or_first, path, revised, unless_cause, with_new, with_row_at, with_rows, with_unit, with_values}
 use Rattle.catalogue_core.proofs.DistinctLists.{all_so}
 use Rattle.catalogue_core.proofs.EachOf.{all_append, all_of_found, all_split, none_found, some_found}
 use Rattle.catalogue_core.proofs.EnteredUnits.{Alike, Placed, Same, alike_each, placed_added, same_added}
@@ -56,8 +43,10 @@ module _ (c : Catalogue) (source : Bytes) (good : AreGoodUnits c) where
   -- what is found in the forest so far is what is found in the first one and among the new rows above
   pub record StandsSo (before nb : List Row) : Type 0 where
     pub part : (row : Row) → IsApart row before → IsApart row nb
-    pub depths : (legacy : Bytes) → depth_under (grown_to before nb) source (Some legacy) [] ≡ depth_under c.forest source (Some legacy) (onto [] nb)
-    pub numbers : (legacy : Bytes) → option_map (λ (u : Unit). u.id) (find (is_from source legacy) (nodes (grown_to before nb))) ≡ number_of c.forest source (c.next + length nb) (onto [] nb) legacy
+    pub depths : (legacy : Bytes)
+        → depth_under (grown_to before nb) source (Some legacy) [] ≡ depth_under c.forest source (Some legacy) (onto [] nb)
+    pub numbers : (legacy : Bytes)
+        → option_map (λ (u : Unit). u.id) (find (is_from source legacy) (nodes (grown_to before nb))) ≡ number_of c.forest source (c.next + length nb) (onto [] nb) legacy
 
   -- ---- a row of a unit that was there
 
@@ -74,12 +63,14 @@ module _ (c : Catalogue) (source : Bytes) (good : AreGoodUnits c) where
     others : AllByRecursion (λ (x : New). nat_eq v.id x.id ≡ false) (numbered nb)
     others = all_so (λ (x : New). c.next ≤ x.id) (λ (x : New). nat_eq v.id x.id ≡ false) (λ x h. ne_eqb v.id x.id (λ i. let same = i in let l = low in absurd (omega (arith, h, l, same)))) (numbered nb) (numbers_high c.forest source c.next c.next [] nb (omega arith))
 
-    revises_one : (u : Unit) → has_id v.id u ≡ is_from source row.legacy u → valued source row v.id (revised source before u) ≡ revised source (before ++ row ∷ []) u
+    revises_one : (u : Unit) → has_id v.id u ≡ is_from source row.legacy u
+        → valued source row v.id (revised source before u) ≡ revised source (before ++ row ∷ []) u
     revises_one u h =
         ap (λ (b : Bool). cond b (record (revised source before u) { values = row.values }) (revised source before u)) (ap (nat_eq v.id) (revised_id source before u) ∙ h)
         ∙ at (is_from source row.legacy u) refl
       where
-        at : (b : Bool) → is_from source row.legacy u ≡ b → cond b (record (revised source before u) { values = row.values }) (revised source before u) ≡ revised source (before ++ row ∷ []) u
+        at : (b : Bool) → is_from source row.legacy u ≡ b
+            → cond b (record (revised source before u) { values = row.values }) (revised source before u) ≡ revised source (before ++ row ∷ []) u
         at true it = sym (revised_by source before row u it apart)
         at false it = sym (revised_past source before row u it)
 
@@ -89,12 +80,14 @@ module _ (c : Catalogue) (source : Bytes) (good : AreGoodUnits c) where
     pub known_more : with_values v.id row.values (so_far before nb) ≡ so_far (before ++ row ∷ []) nb
     known_more = sym (merged_known c source before row v.id (numbered nb) others revises)
 
-    known_alike : (legacy : Bytes) → Alike (is_from source legacy) (grown_to before nb) (grown_to (before ++ row ∷ []) nb)
+    known_alike : (legacy : Bytes)
+        → Alike (is_from source legacy) (grown_to before nb) (grown_to (before ++ row ∷ []) nb)
     known_alike legacy =
         subst (Alike (is_from source legacy) (grown_to before nb)) (ap (λ (d : Catalogue). d.forest) known_more)
         (alike_each (is_from source legacy) (λ (u : Unit). cond (has_id v.id u) (record u { values = row.values }) u) (λ u. same (has_id v.id u) u) (λ u. number (has_id v.id u) u) (grown_to before nb))
       where
-        same : (b : Bool) (u : Unit) → is_from source legacy (cond b (record u { values = row.values }) u) ≡ is_from source legacy u
+        same : (b : Bool) (u : Unit)
+            → is_from source legacy (cond b (record u { values = row.values }) u) ≡ is_from source legacy u
         same true u = refl
         same false u = refl
 
@@ -123,22 +116,28 @@ module _ (c : Catalogue) (source : Bytes) (good : AreGoodUnits c) where
   each_alone rows (Node u d o) h =
       (subst (AllByRecursion (λ (v : Unit). nat_eq (revised source rows u).id v.id ≡ false)) (sym (nodes-each (revised source rows) d)) (below (nodes d) h.0), each_alone rows d h.1, each_alone rows o h.2)
     where
-      below : (vs : List Unit) → AllByRecursion (λ (v : Unit). nat_eq u.id v.id ≡ false) vs → AllByRecursion (λ (v : Unit). nat_eq (revised source rows u).id v.id ≡ false) (map (revised source rows) vs)
+      below : (vs : List Unit) → AllByRecursion (λ (v : Unit). nat_eq u.id v.id ≡ false) vs
+          → AllByRecursion (λ (v : Unit). nat_eq (revised source rows u).id v.id ≡ false) (map (revised source rows) vs)
       below [] k = tt
       below (v ∷ vs) k = (ap₂ nat_eq (revised_id source rows u) (revised_id source rows v) ∙ k.0, below vs k.1)
 
-  each_past : (rows : List Row) (row : Row) (f : Forest Unit) → AllByRecursion (λ (u : Unit). is_from source row.legacy u ≡ false) (nodes f) → each (revised source (rows ++ row ∷ [])) f ≡ each (revised source rows) f
+  each_past : (rows : List Row) (row : Row) (f : Forest Unit)
+      → AllByRecursion (λ (u : Unit). is_from source row.legacy u ≡ false) (nodes f)
+      → each (revised source (rows ++ row ∷ [])) f ≡ each (revised source rows) f
   each_past rows row Empty h = refl
   each_past rows row (Node u d o) h =
       let parts = all_split (λ (u : Unit). is_from source row.legacy u ≡ false) (nodes d) (nodes o) h.1 in
       ap (λ w. Node w (each (revised source (rows ++ row ∷ [])) d) (each (revised source (rows ++ row ∷ [])) o)) (revised_past source rows row u h.0)
       ∙ ap₂ (λ a b. Node (revised source rows u) a b) (each_past rows row d parts.0) (each_past rows row o parts.1)
 
-  none_is : (is : Unit → Bool) (us : List Unit) → list_any is us ≡ false → AllByRecursion (λ (u : Unit). is u ≡ false) us
+  none_is : (is : Unit → Bool) (us : List Unit) → list_any is us ≡ false
+      → AllByRecursion (λ (u : Unit). is u ≡ false) us
   none_is is [] h = tt
   none_is is (u ∷ us) h = let r = Rattle.std.proofs.lemmas.Bool.or_parts (is u) (list_any is us) h in (r.0, none_is is us r.1)
 
-  others_new : (us : List Unit) (ns : List New) → AllByRecursion (λ (u : Unit). u.id < c.next) us → AllByRecursion (λ (x : New). c.next ≤ x.id) ns → AllByRecursion (λ (u : Unit). AllByRecursion (λ (x : New). nat_eq u.id x.id ≡ false) ns) us
+  others_new : (us : List Unit) (ns : List New) → AllByRecursion (λ (u : Unit). u.id < c.next) us
+      → AllByRecursion (λ (x : New). c.next ≤ x.id) ns
+      → AllByRecursion (λ (u : Unit). AllByRecursion (λ (x : New). nat_eq u.id x.id ≡ false) ns) us
   others_new [] ns h k = tt
   others_new (u ∷ us) ns h k =
       (all_so (λ (x : New). c.next ≤ x.id) (λ (x : New). nat_eq u.id x.id ≡ false) (λ x l. ne_eqb u.id x.id (λ i. let same = i in let low = h.0 in absurd (omega (arith, l, low, same)))) ns k, others_new us ns h.1 k)
@@ -159,7 +158,8 @@ module _ (c : Catalogue) (source : Bytes) (good : AreGoodUnits c) where
     not_there : has (is_from source row.legacy) (grown_to before nb) ≡ false
     not_there = none_found (is_from source row.legacy) (nodes (grown_to before nb)) (no_number (find (is_from source row.legacy) (nodes (grown_to before nb))) no_such_number)
 
-    its_parent : (p : Option Bytes) → option_and_then (number_there (so_far before nb) source) p ≡ option_and_then (number_of c.forest source (c.next + length nb) (onto [] nb)) p
+    its_parent : (p : Option Bytes)
+        → option_and_then (number_there (so_far before nb) source) p ≡ option_and_then (number_of c.forest source (c.next + length nb) (onto [] nb)) p
     its_parent None = refl
     its_parent (Some legacy) = s.numbers legacy
 
@@ -178,7 +178,8 @@ module _ (c : Catalogue) (source : Bytes) (good : AreGoodUnits c) where
       other = each_past before row c.forest (none_is (is_from source row.legacy) (nodes c.forest) (none_found (is_from source row.legacy) (nodes c.forest) e));
     }
       where
-        low : (us : List Unit) → AllByRecursion (λ (u : Unit). u.id < c.next) us → AllByRecursion (λ (u : Unit). u.id < c.next) (map (revised source before) us)
+        low : (us : List Unit) → AllByRecursion (λ (u : Unit). u.id < c.next) us
+            → AllByRecursion (λ (u : Unit). u.id < c.next) (map (revised source before) us)
         low [] h = tt
         low (u ∷ us) h = (let l = h.0 in let i = revised_id source before u in omega (arith, l, i), low us h.1)
 
@@ -199,17 +200,23 @@ module _ (c : Catalogue) (source : Bytes) (good : AreGoodUnits c) where
     own_numbers : Rattle.catalogue_core.proofs.UnitPlaces.HaveOwnNumbers (nodes (grown_to before nb))
     own_numbers = distinct_numbers source before c.next nb c.forest good.ids below_next
 
-    parent_at : (legacy : Bytes) (k : ℕ) (r : Option Unit) → find (is_from source legacy) (nodes (grown_to before nb)) ≡ r → depth_under (grown_to before nb) source (Some legacy) [] ≡ Some k → ParentStands (option_map (λ (u : Unit). u.id) r) k
+    parent_at : (legacy : Bytes) (k : ℕ) (r : Option Unit)
+        → find (is_from source legacy) (nodes (grown_to before nb)) ≡ r
+        → depth_under (grown_to before nb) source (Some legacy) [] ≡ Some k
+        → ParentStands (option_map (λ (u : Unit). u.id) r) k
     parent_at legacy k None f d = absurd (let no : None ≡ Some k = sym (ap (λ (b : Bool). cond b (Some (length (path (is_from source legacy) (grown_to before nb)) + 1)) None) (none_found (is_from source legacy) (nodes (grown_to before nb)) f)) ∙ d in cc)
     parent_at legacy k (Some w) f d =
-        let it : Some (length (path (is_from source legacy) (grown_to before nb)) + 1) ≡ Some k = sym (ap (λ (b : Bool). cond b (Some (length (path (is_from source legacy) (grown_to before nb)) + 1)) None) (some_found (is_from source legacy) (nodes (grown_to before nb)) w f)) ∙ d in
+        let it : Some (length (path (is_from source legacy) (grown_to before nb)) + 1) ≡ Some k =
+        sym (ap (λ (b : Bool). cond b (Some (length (path (is_from source legacy) (grown_to before nb)) + 1)) None) (some_found (is_from source legacy) (nodes (grown_to before nb)) w f))
+        ∙ d in
         let same : length (path (is_from source legacy) (grown_to before nb)) + 1 ≡ k = cc in
         record {
           place = all_of_found (λ (u : Unit). list_any (has_id u.id) (nodes (grown_to before nb)) ≡ true) (is_from source legacy) (nodes (grown_to before nb)) w f (each_there (nodes (grown_to before nb)) (nodes (grown_to before nb)) (λ n h. h));
           deep = sym same ∙ ap (λ n. n + 1) (sym (same_depth (is_from source legacy) (grown_to before nb) w own_numbers f));
         }
 
-    parent_stands : (p : Option Bytes) (k : ℕ) → depth_under c.forest source p (onto [] nb) ≡ Some k → ParentStands (option_and_then (number_of c.forest source (c.next + length nb) (onto [] nb)) p) k
+    parent_stands : (p : Option Bytes) (k : ℕ) → depth_under c.forest source p (onto [] nb) ≡ Some k
+        → ParentStands (option_and_then (number_of c.forest source (c.next + length nb) (onto [] nb)) p) k
     parent_stands None k d = record { place = refl; deep = (let one : 1 ≡ k = cc in sym one) }
     parent_stands (Some legacy) k d =
         subst (λ p. ParentStands p k) (s.numbers legacy)
@@ -226,7 +233,8 @@ module _ (c : Catalogue) (source : Bytes) (good : AreGoodUnits c) where
       placed =
           placed_added (is_from source row.legacy) (new_unit source come) (Rattle.std.proofs.lemmas.Bool.and_from (bytes_eq source source) (bytes_eq row.legacy row.legacy) (same_text source) (same_text row.legacy)) _ (grown_to before nb) not_there stands_parent.place
 
-      stayed : (legacy : Bytes) → bytes_eq legacy row.legacy ≡ false → Same (is_from source legacy) (grown_to before nb) after_it
+      stayed : (legacy : Bytes) → bytes_eq legacy row.legacy ≡ false
+          → Same (is_from source legacy) (grown_to before nb) after_it
       stayed legacy h =
           same_added (is_from source legacy) (new_unit source come) (and_no (bytes_eq source source) (bytes_eq row.legacy legacy) (other_way legacy row.legacy h)) _ (grown_to before nb)
         where
@@ -234,7 +242,8 @@ module _ (c : Catalogue) (source : Bytes) (good : AreGoodUnits c) where
           and_no true b h = h
           and_no false b h = refl
 
-      depth_now : (legacy : Bytes) (b : Bool) → bytes_eq legacy row.legacy ≡ b → depth_under after_it source (Some legacy) [] ≡ cond b (option_map suc (depth_under c.forest source row.parent (onto [] nb))) (depth_under c.forest source (Some legacy) (onto [] nb))
+      depth_now : (legacy : Bytes) (b : Bool) → bytes_eq legacy row.legacy ≡ b
+          → depth_under after_it source (Some legacy) [] ≡ cond b (option_map suc (depth_under c.forest source row.parent (onto [] nb))) (depth_under c.forest source (Some legacy) (onto [] nb))
       depth_now legacy true h =
           let same = one_text legacy row.legacy h in
           let deep = stands_parent.deep in
@@ -242,12 +251,15 @@ module _ (c : Catalogue) (source : Bytes) (good : AreGoodUnits c) where
           ap (λ l. depth_under after_it source (Some l) []) same
           ∙ (ap (λ (b : Bool). cond b (Some (length (path (is_from source row.legacy) after_it) + 1)) None) placed.there
           ∙ (ap Some (omega (arith, deep, long)) ∙ sym (ap (option_map suc) d)))
-      depth_now legacy false h = ap₂ (λ (b : Bool) (way : List Unit). cond b (Some (length way + 1)) None) (stayed legacy h).there (stayed legacy h).way ∙ s.depths legacy
+      depth_now legacy false h =
+          ap₂ (λ (b : Bool) (way : List Unit). cond b (Some (length way + 1)) None) (stayed legacy h).there (stayed legacy h).way
+          ∙ s.depths legacy
 
       one_less : c.next + length (nb ++ row ∷ []) - 1 ≡ c.next + length nb
       one_less = let n = length-append nb (row ∷ []) in omega (arith, n)
 
-      number_now : (legacy : Bytes) (b : Bool) → bytes_eq legacy row.legacy ≡ b → option_map (λ (u : Unit). u.id) (find (is_from source legacy) (nodes after_it)) ≡ cond b (Some (c.next + length nb)) (number_of c.forest source (c.next + length nb) (onto [] nb) legacy)
+      number_now : (legacy : Bytes) (b : Bool) → bytes_eq legacy row.legacy ≡ b
+          → option_map (λ (u : Unit). u.id) (find (is_from source legacy) (nodes after_it)) ≡ cond b (Some (c.next + length nb)) (number_of c.forest source (c.next + length nb) (onto [] nb) legacy)
       number_now legacy true h =
           ap (λ l. option_map (λ (u : Unit). u.id) (find (is_from source l) (nodes after_it))) (one_text legacy row.legacy h) ∙ ap (option_map (λ (u : Unit). u.id)) placed.found
       number_now legacy false h = ap (option_map (λ (u : Unit). u.id)) (stayed legacy h).found ∙ s.numbers legacy
@@ -266,7 +278,8 @@ module _ (c : Catalogue) (source : Bytes) (good : AreGoodUnits c) where
             ∙ ap (λ above. number_of c.forest source (c.next + length (nb ++ row ∷ [])) above legacy) (sym (onto-more [] nb row))));
       }
 
-    pub depth_same : (p : Option Bytes) → depth_there (so_far before nb) source p ≡ depth_under c.forest source p (onto [] nb)
+    pub depth_same : (p : Option Bytes)
+        → depth_there (so_far before nb) source p ≡ depth_under c.forest source p (onto [] nb)
     depth_same None = refl
     depth_same (Some legacy) = s.depths legacy
 
@@ -276,17 +289,20 @@ module _ (c : Catalogue) (source : Bytes) (good : AreGoodUnits c) where
   abbrev AreFurther : List Row → List Row → Type 0
   AreFurther before = AllByRecursion (λ (r : Row). IsApart r before)
 
-  pub further : (before rest : List Row) (row : Row) → AreFurther before rest → AllByRecursion (λ (r : Row). bytes_eq row.legacy r.legacy ≡ false) rest → AreFurther (before ++ row ∷ []) rest
+  pub further : (before rest : List Row) (row : Row) → AreFurther before rest
+      → AllByRecursion (λ (r : Row). bytes_eq row.legacy r.legacy ≡ false) rest → AreFurther (before ++ row ∷ []) rest
   further before [] row h k = tt
   further before (r ∷ rest) row h k =
       (all_append (λ (b : Row). bytes_eq r.legacy b.legacy ≡ false) before (row ∷ []) h.0 (other_way row.legacy r.legacy k.0, tt), further before rest row h.1 k.1)
 
-  pub goes : (rest before nb : List Row) → StandsSo before nb → AreFurther before rest → AllDiffer (λ (a b : Row). bytes_eq a.legacy b.legacy) rest
+  pub goes : (rest before nb : List Row) → StandsSo before nb → AreFurther before rest
+      → AllDiffer (λ (a b : Row). bytes_eq a.legacy b.legacy) rest
       → with_rows source rest (so_far before nb) ≡ or_first (faults_below c.forest source (onto [] nb) (new_rows c source rest)) (so_far (before ++ rest) (nb ++ new_rows c source rest))
   goes [] before nb s far once = ap₂ (λ b n. Ok (so_far b n)) (sym (append-nil before)) (sym (append-nil nb))
   goes (row ∷ rest) before nb s far once = at (find (is_from source row.legacy) (nodes c.forest)) refl (goes rest)
     where
-      later : (b : Bool) → has (is_from source row.legacy) c.forest ≡ b → new_rows c source (row ∷ rest) ≡ cond (not b) (row ∷ new_rows c source rest) (new_rows c source rest)
+      later : (b : Bool) → has (is_from source row.legacy) c.forest ≡ b
+          → new_rows c source (row ∷ rest) ≡ cond (not b) (row ∷ new_rows c source rest) (new_rows c source rest)
       later b e = ap (λ (k : Bool). cond (not k) (row ∷ new_rows c source rest) (new_rows c source rest)) e
 
       at : (r : Option Unit) → find (is_from source row.legacy) (nodes c.forest) ≡ r

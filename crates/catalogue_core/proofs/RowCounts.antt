@@ -1,22 +1,9 @@
 -- Rows that are judged as they are entered are counted as they would be on the forest before.
 use Rattle.std.proofs.Common.{◌≡◌, ℕ, ◌+◌, Bool, true, false, not, cond, ◌&&◌, ◌||◌, List, [], ◌∷◌, ◌++◌, length, map, Option, Some, None, refl, sym, ap, ap₂, subst, ◌∙◌, arith}
-use Rattle.std.specs.Prelude.{count_by, filter, find, is_some, option_map, unwrap_or}
-use Rattle.std.specs.List.{AllByRecursion, list_any}
-use Rattle.std.specs.Option.{option_map_or, option_to_list}
-use Rattle.std.specs.Str.{bytes_eq}
-use Rattle.std.proofs.lemmas.Bool.{and_parts}
+use Rattle.std.specs.Prelude.{filter}
 use Rattle.std.proofs.lemmas.List.Sums.{length-filter}
-use Rattle.isad_core.specs.Texts.{Bytes}
-use Rattle.isad_core.specs.Boxes.{distinct}
-use Rattle.atom_csv.specs.FileProperties.{AllDiffer}
-use Rattle.atom_csv.specs.declared.file.Row.{Row}
-use Rattle.tree_core.specs.Forest.{Forest, Empty, Node, each, has, join, nodes}
-use Rattle.tree_core.proofs.EachLemmas.{nodes-each}
-use Rattle.catalogue_core.specs.Units.{Unit, is_from}
-use Rattle.catalogue_core.specs.GoodCatalogues.{AreGoodUnits}
-use Rattle.catalogue_core.specs.Intake.{is_changed, is_new, is_same, same_values, unit_of}
-use Rattle.catalogue_core.specs.CatalogueMerge.{Catalogue, New, branches, cause_at, depth_under, faults_below, grown, merged_forest, new_unit, new_units, numbered_from, revised}
-use Rattle.catalogue_core.specs.EntryByRow.{CountsAlike, count_rows, if_ok, unless_cause, with_new, with_row, with_row_at}
+use Rattle.catalogue_core.specs.Intake.{is_same}
+use Rattle.catalogue_core.proofs.Common.{AllByRecursion, AllDiffer, AreGoodUnits, Bytes, Catalogue, CountsAlike, Empty, Forest, New, Node, Row, Unit, and_parts, branches, bytes_eq, cause_at, count_by, count_rows, depth_under, distinct, each, faults_below, find, grown, has, if_ok, is_changed, is_from, is_new, is_some, join, list_any, merged_forest, new_unit, new_units, nodes, nodes-each, numbered_from, option_map, option_map_or, option_to_list, revised, same_values, unit_of, unless_cause, unwrap_or, with_new, with_row, with_row_at}
 use Rattle.catalogue_core.proofs.DistinctLists.{all_so}
 use Rattle.catalogue_core.proofs.EachOf.{all_true, none_found, some_found}
 use Rattle.catalogue_core.proofs.EachRow.{none_with, onto, onto-more}
@@ -45,11 +32,15 @@ no_more : {X : Type 0} (r : Option X) → or_else r None ≡ r
 no_more None = refl
 no_more (Some x) = refl
 
-find_mapped : (is : Unit → Bool) (g : Unit → Unit) (us : List Unit) → ((u : Unit) → is (g u) ≡ is u) → ((u : Unit) → is u ≡ true → g u ≡ u) → find is (map g us) ≡ find is us
+find_mapped : (is : Unit → Bool) (g : Unit → Unit) (us : List Unit) → ((u : Unit) → is (g u) ≡ is u)
+    → ((u : Unit) → is u ≡ true → g u ≡ u) → find is (map g us) ≡ find is us
 find_mapped is g [] same stays = refl
-find_mapped is g (u ∷ us) same stays = ap (λ (b : Bool). cond b (Some (g u)) (find is (map g us))) (same u) ∙ at (is u) refl (find_mapped is g us same stays)
+find_mapped is g (u ∷ us) same stays =
+    ap (λ (b : Bool). cond b (Some (g u)) (find is (map g us))) (same u)
+    ∙ at (is u) refl (find_mapped is g us same stays)
   where
-    at : (b : Bool) → is u ≡ b → find is (map g us) ≡ find is us → cond b (Some (g u)) (find is (map g us)) ≡ cond b (Some u) (find is us)
+    at : (b : Bool) → is u ≡ b → find is (map g us) ≡ find is us
+        → cond b (Some (g u)) (find is (map g us)) ≡ cond b (Some u) (find is us)
     at true it e = ap Some (stays u it)
     at false it e = e
 
@@ -58,7 +49,9 @@ module _ (is : Unit → Bool) (source : Bytes) (new : List New) (others : AllByR
   find_new p = nothing is (nodes (new_units source p new)) (all_each (λ (u : Unit). is u ≡ false) (new_unit source) (branches p new) (all_branched (λ (x : New). is (new_unit source x) ≡ false) p new others))
 
   find_beside : (f : Forest Unit) (p : Option ℕ) → find is (nodes (join f (new_units source p new))) ≡ find is (nodes f)
-  find_beside f p = ap (find is) (nodes-join f (new_units source p new)) ∙ (find-append is (nodes f) (nodes (new_units source p new)) ∙ (ap (or_else (find is (nodes f))) (find_new p) ∙ no_more (find is (nodes f))))
+  find_beside f p =
+      ap (find is) (nodes-join f (new_units source p new))
+      ∙ (find-append is (nodes f) (nodes (new_units source p new)) ∙ (ap (or_else (find is (nodes f))) (find_new p) ∙ no_more (find is (nodes f))))
 
   find_grown : (f : Forest Unit) → find is (nodes (grown source new f)) ≡ find is (nodes f)
   find_grown Empty = refl
@@ -71,7 +64,8 @@ found_some : (is : Unit → Bool) (us : List Unit) → list_any is us ≡ is_som
 found_some is [] = refl
 found_some is (u ∷ us) = at (is u) (found_some is us)
   where
-    at : (b : Bool) → list_any is us ≡ is_some (find is us) → (b || list_any is us) ≡ is_some (cond b (Some u) (find is us))
+    at : (b : Bool) → list_any is us ≡ is_some (find is us)
+        → (b || list_any is us) ≡ is_some (cond b (Some u) (find is us))
     at true e = refl
     at false e = e
 
@@ -83,7 +77,8 @@ same_looks : LooksAtUnit is_same
 same_looks f g source row e = ap (λ r. option_map_or (λ (unit : Unit). same_values unit.values row.values) r false) e
 
 new_looks : LooksAtUnit is_new
-new_looks f g source row e = ap not (found_some (is_from source row.legacy) (nodes f) ∙ (ap is_some e ∙ sym (found_some (is_from source row.legacy) (nodes g))))
+new_looks f g source row e =
+    ap not (found_some (is_from source row.legacy) (nodes f) ∙ (ap is_some e ∙ sym (found_some (is_from source row.legacy) (nodes g))))
 
 changed_looks : LooksAtUnit is_changed
 changed_looks f g source row e =
@@ -99,7 +94,8 @@ module _ (c : Catalogue) (source : Bytes) (good : AreGoodUnits c) (test : Forest
   abbrev so_far : List Row → List Row → Catalogue
   so_far before nb = Rattle.catalogue_core.specs.CatalogueMerge.merged c source before (numbered_from c.forest source c.next [] nb)
 
-  unit_stays : (before nb : List Row) (row : Row) → StandsSo c source good before nb → IsApart row before → unit_of (forest before nb) source row ≡ unit_of c.forest source row
+  unit_stays : (before nb : List Row) (row : Row) → StandsSo c source good before nb → IsApart row before
+      → unit_of (forest before nb) source row ≡ unit_of c.forest source row
   unit_stays before nb row s apart =
       find_beside is source (numbered nb) come (grown source (numbered nb) (each (revised source before) c.forest)) None
       ∙ (find_grown is source (numbered nb) come (each (revised source before) c.forest)
@@ -125,22 +121,27 @@ module _ (c : Catalogue) (source : Bytes) (good : AreGoodUnits c) (test : Forest
           ap₂ (λ (b : Bool) r. cond b (record u { values = unwrap_or (option_map (λ (r : Row). r.values) r) u.values }) u) parts.0
           (none_with u.legacy before (subst (λ l. AllByRecursion (λ (r : Row). bytes_eq l r.legacy ≡ false) before) (sym same) apart))
 
-  counted : (before nb : List Row) (row : Row) → StandsSo c source good before nb → IsApart row before → test (forest before nb) source row ≡ test c.forest source row
+  counted : (before nb : List Row) (row : Row) → StandsSo c source good before nb → IsApart row before
+      → test (forest before nb) source row ≡ test c.forest source row
   counted before nb row s apart = looks (forest before nb) c.forest source row (unit_stays before nb row s apart)
 
-  counts : (rest before nb : List Row) → StandsSo c source good before nb → AllByRecursion (λ (r : Row). IsApart r before) rest → AllDiffer (λ (a b : Row). bytes_eq a.legacy b.legacy) rest
-      → faults_below c.forest source (onto [] nb) (new_rows c source rest) ≡ [] → count_rows test source rest (so_far before nb) ≡ count_by (test c.forest source) rest
+  counts : (rest before nb : List Row) → StandsSo c source good before nb
+      → AllByRecursion (λ (r : Row). IsApart r before) rest → AllDiffer (λ (a b : Row). bytes_eq a.legacy b.legacy) rest
+      → faults_below c.forest source (onto [] nb) (new_rows c source rest) ≡ []
+      → count_rows test source rest (so_far before nb) ≡ count_by (test c.forest source) rest
   counts [] before nb s far once none = refl
   counts (row ∷ rest) before nb s far once none =
       ap (λ (b : Bool). cond b 1 0 + if_ok (count_rows test source rest) (with_row source row (so_far before nb))) (counted before nb row s far.0)
       ∙ (ap (λ n. cond (test c.forest source row) 1 0 + n) (at (find (is_from source row.legacy) (nodes c.forest)) refl (counts rest)) ∙ count_one (test c.forest source) row rest)
     where
-      later : (b : Bool) → has (is_from source row.legacy) c.forest ≡ b → new_rows c source (row ∷ rest) ≡ cond (not b) (row ∷ new_rows c source rest) (new_rows c source rest)
+      later : (b : Bool) → has (is_from source row.legacy) c.forest ≡ b
+          → new_rows c source (row ∷ rest) ≡ cond (not b) (row ∷ new_rows c source rest) (new_rows c source rest)
       later b e = ap (λ (k : Bool). cond (not k) (row ∷ new_rows c source rest) (new_rows c source rest)) e
 
       at : (r : Option Unit) → find (is_from source row.legacy) (nodes c.forest) ≡ r
           → ((b n : List Row) → StandsSo c source good b n → AllByRecursion (λ (r : Row). IsApart r b) rest → AllDiffer (λ (a b : Row). bytes_eq a.legacy b.legacy) rest
-          → faults_below c.forest source (onto [] n) (new_rows c source rest) ≡ [] → count_rows test source rest (so_far b n) ≡ count_by (test c.forest source) rest)
+          → faults_below c.forest source (onto [] n) (new_rows c source rest) ≡ []
+          → count_rows test source rest (so_far b n) ≡ count_by (test c.forest source) rest)
           → if_ok (count_rows test source rest) (with_row source row (so_far before nb)) ≡ count_by (test c.forest source) rest
       at (Some v) e more =
           ap (λ n. if_ok (count_rows test source rest) (with_row_at n source row (so_far before nb))) (known_number c source good before nb row v s far.0 e)
@@ -166,18 +167,25 @@ module _ (c : Catalogue) (source : Bytes) (good : AreGoodUnits c) (test : Forest
               (ap (λ above. faults_below c.forest source above (new_rows c source rest)) (onto-more [] nb row)
               ∙ (sym (ap (λ r. option_to_list (option_map (λ cause. (row.row, cause)) r) ++ faults_below c.forest source (row ∷ onto [] nb) (new_rows c source rest)) f) ∙ h)))
 
-  all_counts : (rows : List Row) → distinct c.containers ≡ c.containers → AllDiffer (λ (a b : Row). bytes_eq a.legacy b.legacy) rows → CountsAlike c source rows test
+  all_counts : (rows : List Row) → distinct c.containers ≡ c.containers
+      → AllDiffer (λ (a b : Row). bytes_eq a.legacy b.legacy) rows → CountsAlike c source rows test
   all_counts rows apart once after e =
       let made = sym (row_by_row c source rows good apart once) ∙ e in
       let no_fault = (first_ok (faults_below c.forest source [] (new_rows c source rows)) _ after made).0 in
       ap (count_rows test source rows) (sym (none_merged c source apart))
       ∙ counts rows [] [] (begins c source good apart) (all_true (λ (r : Row). IsApart r []) (λ r. tt) rows) once no_fault
 
-pub changed_counts : (c : Catalogue) (source : Bytes) (rows : List Row) → AreGoodUnits c → distinct c.containers ≡ c.containers → AllDiffer (λ (a b : Row). bytes_eq a.legacy b.legacy) rows → CountsAlike c source rows is_changed
+pub changed_counts : (c : Catalogue) (source : Bytes) (rows : List Row) → AreGoodUnits c
+    → distinct c.containers ≡ c.containers → AllDiffer (λ (a b : Row). bytes_eq a.legacy b.legacy) rows
+    → CountsAlike c source rows is_changed
 changed_counts c source rows good = all_counts c source good is_changed changed_looks rows
 
-pub new_counts : (c : Catalogue) (source : Bytes) (rows : List Row) → AreGoodUnits c → distinct c.containers ≡ c.containers → AllDiffer (λ (a b : Row). bytes_eq a.legacy b.legacy) rows → CountsAlike c source rows is_new
+pub new_counts : (c : Catalogue) (source : Bytes) (rows : List Row) → AreGoodUnits c
+    → distinct c.containers ≡ c.containers → AllDiffer (λ (a b : Row). bytes_eq a.legacy b.legacy) rows
+    → CountsAlike c source rows is_new
 new_counts c source rows good = all_counts c source good is_new new_looks rows
 
-pub same_counts : (c : Catalogue) (source : Bytes) (rows : List Row) → AreGoodUnits c → distinct c.containers ≡ c.containers → AllDiffer (λ (a b : Row). bytes_eq a.legacy b.legacy) rows → CountsAlike c source rows is_same
+pub same_counts : (c : Catalogue) (source : Bytes) (rows : List Row) → AreGoodUnits c
+    → distinct c.containers ≡ c.containers → AllDiffer (λ (a b : Row). bytes_eq a.legacy b.legacy) rows
+    → CountsAlike c source rows is_same
 same_counts c source rows good = all_counts c source good is_same same_looks rows

@@ -1,20 +1,8 @@
 -- A file's rows, entered one by one, are merged.
 use Rattle.std.proofs.Common.{◌≡◌, ℕ, ◌+◌, Bool, true, false, cond, List, [], ◌++◌, Some, Ok, refl, sym, ap, ◌∙◌, arith, append-nil}
-use Rattle.std.specs.Str.{bytes_eq}
-use Rattle.isad_core.specs.Texts.{Bytes}
-use Rattle.isad_core.specs.Boxes.{distinct}
-use Rattle.isad_core.specs.declared.values.BoxKey.{BoxKey}
-use Rattle.atom_csv.specs.FileContents.{file_of}
-use Rattle.atom_csv.specs.FileProperties.{AllDiffer}
-use Rattle.atom_csv.specs.declared.file.File.{File}
-use Rattle.atom_csv.specs.declared.file.Row.{Row}
 use Rattle.atom_csv.proofs.ToldLemmas.{file_sound}
-use Rattle.tree_core.specs.Forest.{Forest, nodes}
-use Rattle.catalogue_core.specs.Units.{Unit}
-use Rattle.catalogue_core.specs.GoodCatalogues.{AreGoodUnits}
-use Rattle.catalogue_core.specs.Intake.{take, take_rows, with_file}
-use Rattle.catalogue_core.specs.CatalogueMerge.{Catalogue, merge, merged, revised}
-use Rattle.catalogue_core.specs.EntryByRow.{with_rows}
+use Rattle.catalogue_core.specs.Intake.{take}
+use Rattle.catalogue_core.proofs.Common.{AllDiffer, AreGoodUnits, BoxKey, Bytes, Catalogue, File, Forest, Row, Unit, bytes_eq, distinct, file_of, merge, merged, nodes, revised, take_rows, with_file, with_rows}
 use Rattle.catalogue_core.proofs.EachOf.{all_true}
 use Rattle.catalogue_core.proofs.ImportedAgain.{merged_none}
 use Rattle.catalogue_core.proofs.RowByRow.{IsApart, StandsSo, goes}
@@ -33,7 +21,8 @@ none_merged c source apart =
     at true u = refl
     at false u = refl
 
-pub begins : (c : Catalogue) (source : Bytes) (good : AreGoodUnits c) → distinct c.containers ≡ c.containers → StandsSo c source good [] []
+pub begins : (c : Catalogue) (source : Bytes) (good : AreGoodUnits c) → distinct c.containers ≡ c.containers
+    → StandsSo c source good [] []
 begins c source good apart =
     let same = ap (λ (d : Catalogue). d.forest) (none_merged c source apart) in
     let next : c.next + 0 ≡ c.next = omega arith in
@@ -43,12 +32,15 @@ begins c source good apart =
       numbers = λ legacy. ap (λ f. Rattle.catalogue_core.specs.CatalogueMerge.number_of f source (c.next + 0) [] legacy) same;
     }
 
-pub row_by_row : (c : Catalogue) (source : Bytes) (rows : List Row) → AreGoodUnits c → distinct c.containers ≡ c.containers → AllDiffer (λ (a b : Row). bytes_eq a.legacy b.legacy) rows → with_rows source rows c ≡ merge c source rows
+pub row_by_row : (c : Catalogue) (source : Bytes) (rows : List Row) → AreGoodUnits c
+    → distinct c.containers ≡ c.containers → AllDiffer (λ (a b : Row). bytes_eq a.legacy b.legacy) rows
+    → with_rows source rows c ≡ merge c source rows
 row_by_row c source rows good apart once =
     ap (with_rows source rows) (sym (none_merged c source apart))
     ∙ goes c source good rows [] [] (begins c source good apart) (all_true (λ (r : Row). IsApart r []) (λ r. tt) rows) once
 
-pub taken_row_by_row : (c : Catalogue) (source file : Bytes) (read : File) → file_of file ≡ Ok read → AreGoodUnits c → distinct c.containers ≡ c.containers → take c source file ≡ with_file read (with_rows source read.rows c)
+pub taken_row_by_row : (c : Catalogue) (source file : Bytes) (read : File) → file_of file ≡ Ok read → AreGoodUnits c
+    → distinct c.containers ≡ c.containers → take c source file ≡ with_file read (with_rows source read.rows c)
 unfolding take
 taken_row_by_row c source file read e good apart =
     ap (take_rows c source) e ∙ ap (with_file read) (sym (row_by_row c source read.rows good apart (file_sound file read e).once))

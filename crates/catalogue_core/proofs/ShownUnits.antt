@@ -1,21 +1,8 @@
 -- Every unit that is shown of what the public may know is published, and has its own reference code.
 use Rattle.std.proofs.Common.{◌≡◌, ℕ, ℤ, ◌+◌, Bool, true, false, cond, ◌||◌, List, [], ◌∷◌, ◌++◌, map, Option, Some, None, refl, sym, ap, ◌∙◌, subst, inl, inr, append_assoc}
-use Rattle.std.specs.List.{list_any, AllByRecursion}
-use Rattle.std.proofs.lemmas.Bool.{cases_Bool, false≢true}
-use Rattle.std.proofs.lemmas.List.Folds.{list_any-append}
-use Rattle.std.proofs.lemmas.List.{map-append}
-use Rattle.isad_core.specs.Values.{identifier}
 use Rattle.isad_core.specs.declared.display.Shown.{Shown}
-use Rattle.isad_core.specs.declared.values.BoxKey.{BoxKey}
-use Rattle.tree_core.specs.Forest.{Forest, Empty, Node, nodes, each, has, path, tree}
-use Rattle.tree_core.specs.Visibility.{public}
-use Rattle.catalogue_core.specs.Units.{Unit, is_closed}
-use Rattle.catalogue_core.specs.Members.{StandsIn}
-use Rattle.catalogue_core.specs.ContainerContents.{paths_below}
-use Rattle.catalogue_core.specs.Aids.{Repository, identifier_of, shown_unit, shown_below}
-use Rattle.catalogue_core.specs.Pages.{Press, number_of, side_by_side}
-use Rattle.catalogue_core.specs.PublicForest.{PublicUnit, public_unit, public_of, stub_of}
-use Rattle.catalogue_core.specs.PublishedUnits.{identifiers, IsPublished}
+use Rattle.catalogue_core.specs.Pages.{number_of}
+use Rattle.catalogue_core.proofs.Common.{AllByRecursion, BoxKey, Empty, Forest, IsPublished, Node, Press, PublicUnit, Repository, StandsIn, Unit, cases_Bool, each, false≢true, has, identifier, identifier_of, identifiers, is_closed, list_any, list_any-append, map-append, nodes, path, paths_below, public, public_of, public_unit, shown_below, shown_unit, side_by_side, stub_of, tree}
 use Rattle.catalogue_core.proofs.DistinctLists.{all_so}
 use Rattle.catalogue_core.proofs.EachOf.{all_append}
 use Rattle.catalogue_core.proofs.PublicPaths.{drafts, known_of, known_where}
@@ -35,7 +22,8 @@ identifier_known day u = at (is_closed day u)
     at true = stub u.until
     at false = refl
 
-pub identifiers_on : (day : ℤ) (w : List Unit) (u : Unit) → identifiers w ++ identifier_of (known_of day u) ∷ [] ≡ identifiers (w ++ u ∷ [])
+pub identifiers_on : (day : ℤ) (w : List Unit) (u : Unit)
+    → identifiers w ++ identifier_of (known_of day u) ∷ [] ≡ identifiers (w ++ u ∷ [])
 identifiers_on day w u =
     ap (λ t. identifiers w ++ t ∷ []) (identifier_known day u) ∙ sym (map-append (λ (unit : Unit). identifier unit.values) w (u ∷ []))
 
@@ -52,29 +40,38 @@ module _ (at : Repository) (boxes : List BoxKey) (day : ℤ) where
   abbrev pub ShowsOne : List (List Unit) → ℕ × Shown → Type 0
   ShowsOne ways top = (it : ShowsIn ways top.1) × (top.0 ≡ number_of it.told)
 
-  more_ways : (ways more : List (List Unit)) → ((way : List Unit) → StandsIn way ways → StandsIn way more) → (shown : Shown) → ShowsIn ways shown → ShowsIn more shown
-  more_ways ways more f shown it = record { told = it.told; published = wider day ways more f it.told it.published; depth = it.depth; is = it.is }
+  more_ways : (ways more : List (List Unit)) → ((way : List Unit) → StandsIn way ways → StandsIn way more)
+      → (shown : Shown) → ShowsIn ways shown → ShowsIn more shown
+  more_ways ways more f shown it =
+      record { told = it.told; published = wider day ways more f it.told it.published; depth = it.depth; is = it.is }
 
-  abbrev one_more_ways : (ways more : List (List Unit)) → ((way : List Unit) → StandsIn way ways → StandsIn way more) → (top : ℕ × Shown) → ShowsOne ways top → ShowsOne more top
-  one_more_ways ways more f top (it, n) = (record { told = it.told; published = wider day ways more f it.told it.published; depth = it.depth; is = it.is }, n)
+  abbrev one_more_ways : (ways more : List (List Unit)) → ((way : List Unit) → StandsIn way ways → StandsIn way more)
+      → (top : ℕ × Shown) → ShowsOne ways top → ShowsOne more top
+  one_more_ways ways more f top (it, n) =
+      (record { told = it.told; published = wider day ways more f it.told it.published; depth = it.depth; is = it.is }, n)
 
-  abbrev pub shows_here : (w : List Unit) (u : Unit) (ways : List (List Unit)) (depth : ℕ) → u.draft ≡ false → list_any (λ (x : Unit). x.draft) w ≡ false → list_any (is_closed day) w ≡ false
+  abbrev pub shows_here : (w : List Unit) (u : Unit) (ways : List (List Unit)) (depth : ℕ) → u.draft ≡ false
+      → list_any (λ (x : Unit). x.draft) w ≡ false → list_any (is_closed day) w ≡ false
       → ShowsOne ((w ++ u ∷ []) ∷ ways) (number_of (known_of day u), shown_unit at boxes (identifiers w ++ identifier_of (known_of day u) ∷ []) depth (known_of day u))
   shows_here w u ways depth d h k = (
     record { told = known_of day u; published = here day w u ways d h k; depth = depth; is = ap (λ ids. shown_unit at boxes ids depth (known_of day u)) (identifiers_on day w u) },
     refl,
   )
 
-  pub all_shown : (w : List Unit) (f : Forest Unit) (depth : ℕ) → list_any (λ (x : Unit). x.draft) w ≡ false → list_any (is_closed day) w ≡ false → AllByRecursion (ShowsIn (paths_below w f)) (shown_below at boxes (identifiers w) depth (public_of day f))
+  pub all_shown : (w : List Unit) (f : Forest Unit) (depth : ℕ) → list_any (λ (x : Unit). x.draft) w ≡ false
+      → list_any (is_closed day) w ≡ false
+      → AllByRecursion (ShowsIn (paths_below w f)) (shown_below at boxes (identifiers w) depth (public_of day f))
   all_shown w Empty depth h k = tt
   all_shown w (Node u c o) depth h k =
       go u.draft refl (is_closed day u) refl (all_shown w o depth h k)
       (λ d e. all_shown (w ++ u ∷ []) c (depth + 1) (none_pushed (λ (x : Unit). x.draft) w u h d) (none_pushed (is_closed day) w u k e))
     where
-      beside : AllByRecursion (ShowsIn (paths_below w o)) (shown_below at boxes (identifiers w) depth (public_of day o)) → AllByRecursion (ShowsIn (paths_below w (Node u c o))) (shown_below at boxes (identifiers w) depth (public_of day o))
+      beside : AllByRecursion (ShowsIn (paths_below w o)) (shown_below at boxes (identifiers w) depth (public_of day o))
+          → AllByRecursion (ShowsIn (paths_below w (Node u c o))) (shown_below at boxes (identifiers w) depth (public_of day o))
       beside = all_so (ShowsIn (paths_below w o)) (ShowsIn (paths_below w (Node u c o))) (more_ways (paths_below w o) (paths_below w (Node u c o)) (λ way s. inr (stands_right way (paths_below (w ++ u ∷ []) c) (paths_below w o) s))) (shown_below at boxes (identifiers w) depth (public_of day o))
 
-      below : (closed : Bool) → is_closed day u ≡ closed → (is_closed day u ≡ false → AllByRecursion (ShowsIn (paths_below (w ++ u ∷ []) c)) (shown_below at boxes (identifiers (w ++ u ∷ [])) (depth + 1) (public_of day c)))
+      below : (closed : Bool) → is_closed day u ≡ closed
+          → (is_closed day u ≡ false → AllByRecursion (ShowsIn (paths_below (w ++ u ∷ []) c)) (shown_below at boxes (identifiers (w ++ u ∷ [])) (depth + 1) (public_of day c)))
           → AllByRecursion (ShowsIn (paths_below w (Node u c o))) (shown_below at boxes (identifiers w ++ identifier_of (known_of day u) ∷ []) (depth + 1) (low_of day c closed))
       below true e f = tt
       below false e f =
@@ -82,7 +79,8 @@ module _ (at : Repository) (boxes : List BoxKey) (day : ℤ) where
           (shown_below at boxes (identifiers w ++ identifier_of (known_of day u) ∷ []) (depth + 1) (public_of day c))
           (subst (λ ids. AllByRecursion (ShowsIn (paths_below (w ++ u ∷ []) c)) (shown_below at boxes ids (depth + 1) (public_of day c))) (sym (identifiers_on day w u)) (f e))
 
-      go : (draft : Bool) → u.draft ≡ draft → (closed : Bool) → is_closed day u ≡ closed → AllByRecursion (ShowsIn (paths_below w o)) (shown_below at boxes (identifiers w) depth (public_of day o))
+      go : (draft : Bool) → u.draft ≡ draft → (closed : Bool) → is_closed day u ≡ closed
+          → AllByRecursion (ShowsIn (paths_below w o)) (shown_below at boxes (identifiers w) depth (public_of day o))
           → (u.draft ≡ false → is_closed day u ≡ false → AllByRecursion (ShowsIn (paths_below (w ++ u ∷ []) c)) (shown_below at boxes (identifiers (w ++ u ∷ [])) (depth + 1) (public_of day c)))
           → AllByRecursion (ShowsIn (paths_below w (Node u c o))) (shown_below at boxes (identifiers w) depth (known_where day u c o draft closed))
       go true d closed e p q = beside p
@@ -92,14 +90,18 @@ module _ (at : Repository) (boxes : List BoxKey) (day : ℤ) where
       )
 
 module _ (press : Press) (day : ℤ) where
-  pub all_beside : (w : List Unit) (f : Forest Unit) → list_any (λ (x : Unit). x.draft) w ≡ false → list_any (is_closed day) w ≡ false → AllByRecursion (ShowsOne press.at press.containers day (paths_below w f)) (side_by_side press (identifiers w) (public_of day f))
+  pub all_beside : (w : List Unit) (f : Forest Unit) → list_any (λ (x : Unit). x.draft) w ≡ false
+      → list_any (is_closed day) w ≡ false
+      → AllByRecursion (ShowsOne press.at press.containers day (paths_below w f)) (side_by_side press (identifiers w) (public_of day f))
   all_beside w Empty h k = tt
   all_beside w (Node u c o) h k = go u.draft refl (is_closed day u) (all_beside w o h k)
     where
-      beside : AllByRecursion (ShowsOne press.at press.containers day (paths_below w o)) (side_by_side press (identifiers w) (public_of day o)) → AllByRecursion (ShowsOne press.at press.containers day (paths_below w (Node u c o))) (side_by_side press (identifiers w) (public_of day o))
+      beside : AllByRecursion (ShowsOne press.at press.containers day (paths_below w o)) (side_by_side press (identifiers w) (public_of day o))
+          → AllByRecursion (ShowsOne press.at press.containers day (paths_below w (Node u c o))) (side_by_side press (identifiers w) (public_of day o))
       beside = all_so (ShowsOne press.at press.containers day (paths_below w o)) (ShowsOne press.at press.containers day (paths_below w (Node u c o))) (one_more_ways press.at press.containers day (paths_below w o) (paths_below w (Node u c o)) (λ way s. inr (stands_right way (paths_below (w ++ u ∷ []) c) (paths_below w o) s))) (side_by_side press (identifiers w) (public_of day o))
 
-      go : (draft : Bool) → u.draft ≡ draft → (closed : Bool) → AllByRecursion (ShowsOne press.at press.containers day (paths_below w o)) (side_by_side press (identifiers w) (public_of day o))
+      go : (draft : Bool) → u.draft ≡ draft → (closed : Bool)
+          → AllByRecursion (ShowsOne press.at press.containers day (paths_below w o)) (side_by_side press (identifiers w) (public_of day o))
           → AllByRecursion (ShowsOne press.at press.containers day (paths_below w (Node u c o))) (side_by_side press (identifiers w) (known_where day u c o draft closed))
       go true d closed p = beside p
       go false d closed p = (shows_here press.at press.containers day w u (paths_below (w ++ u ∷ []) c ++ paths_below w o) 0 d h k, beside p)
@@ -119,15 +121,19 @@ pub record Place (day : ℤ) (is : PublicUnit → Bool) (w : List Unit) (f : For
   pub draft : unit.draft ≡ false
   pub no_draft : list_any (λ (x : Unit). x.draft) above ≡ false
   pub open_above : list_any (is_closed day) above ≡ false
-  pub within : (x : List Unit) → StandsIn x ((above ++ unit ∷ []) ∷ paths_below (above ++ unit ∷ []) children) → StandsIn x (paths_below w f)
+  pub within : (x : List Unit) → StandsIn x ((above ++ unit ∷ []) ∷ paths_below (above ++ unit ∷ []) children)
+      → StandsIn x (paths_below w f)
 
-pub place : (day : ℤ) (is : PublicUnit → Bool) (w : List Unit) (f : Forest Unit) → list_any (λ (x : Unit). x.draft) w ≡ false → list_any (is_closed day) w ≡ false → has is (public_of day f) ≡ true → Place day is w f (public_of day f)
+pub place : (day : ℤ) (is : PublicUnit → Bool) (w : List Unit) (f : Forest Unit)
+    → list_any (λ (x : Unit). x.draft) w ≡ false → list_any (is_closed day) w ≡ false → has is (public_of day f) ≡ true
+    → Place day is w f (public_of day f)
 place day is w Empty h k t = absurd (false≢true t)
 place day is w (Node u c o) h k t =
     go u.draft refl (is_closed day u) refl t (place day is w o h k)
     (λ d e. place day is (w ++ u ∷ []) c (none_pushed (λ (x : Unit). x.draft) w u h d) (none_pushed (is_closed day) w u k e))
   where
-    beside : (g : Forest PublicUnit) → path is g ≡ path is (public_of day o) → tree is g ≡ tree is (public_of day o) → Place day is w o (public_of day o) → Place day is w (Node u c o) g
+    beside : (g : Forest PublicUnit) → path is g ≡ path is (public_of day o) → tree is g ≡ tree is (public_of day o)
+        → Place day is w o (public_of day o) → Place day is w (Node u c o) g
     beside g e f p =
         record {
           above = p.above;
@@ -144,7 +150,9 @@ place day is w (Node u c o) h k t =
           within = λ x s. inr (stands_right x (paths_below (w ++ u ∷ []) c) (paths_below w o) (p.within x s));
         }
 
-    below : (g : Forest PublicUnit) → path is g ≡ known_of day u ∷ path is (public_of day c) → tree is g ≡ tree is (public_of day c) → Place day is (w ++ u ∷ []) c (public_of day c) → Place day is w (Node u c o) g
+    below : (g : Forest PublicUnit) → path is g ≡ known_of day u ∷ path is (public_of day c)
+        → tree is g ≡ tree is (public_of day c) → Place day is (w ++ u ∷ []) c (public_of day c)
+        → Place day is w (Node u c o) g
     below g e f p =
         record {
           above = p.above;
@@ -161,7 +169,8 @@ place day is w (Node u c o) h k t =
           within = λ x s. inr (stands_left x (paths_below (w ++ u ∷ []) c) (paths_below w o) (p.within x s));
         }
 
-    first_or_below : (x : List Unit) → StandsIn x ((w ++ u ∷ []) ∷ paths_below (w ++ u ∷ []) c) → StandsIn x (paths_below w (Node u c o))
+    first_or_below : (x : List Unit) → StandsIn x ((w ++ u ∷ []) ∷ paths_below (w ++ u ∷ []) c)
+        → StandsIn x (paths_below w (Node u c o))
     first_or_below x (inl e) = inl e
     first_or_below x (inr s) = inr (stands_left x (paths_below (w ++ u ∷ []) c) (paths_below w o) s)
 
@@ -169,7 +178,8 @@ place day is w (Node u c o) h k t =
     nil-right [] = refl
     nil-right (x ∷ xs) = ap (λ l. x ∷ l) (nil-right xs)
 
-    head : (closed : Bool) → is_closed day u ≡ closed → u.draft ≡ false → is (known_of day u) ≡ true → Place day is w (Node u c o) (known_where day u c o false closed)
+    head : (closed : Bool) → is_closed day u ≡ closed → u.draft ≡ false → is (known_of day u) ≡ true
+        → Place day is w (Node u c o) (known_where day u c o false closed)
     head closed e d y =
         record {
           above = w;
@@ -186,7 +196,10 @@ place day is w (Node u c o) h k t =
           within = first_or_below;
         }
 
-    lower : (closed : Bool) → is_closed day u ≡ closed → is (known_of day u) ≡ false → has is (low_of day c closed) ≡ true → (is_closed day u ≡ false → has is (public_of day c) ≡ true → Place day is (w ++ u ∷ []) c (public_of day c)) → Place day is w (Node u c o) (known_where day u c o false closed)
+    lower : (closed : Bool) → is_closed day u ≡ closed → is (known_of day u) ≡ false
+        → has is (low_of day c closed) ≡ true
+        → (is_closed day u ≡ false → has is (public_of day c) ≡ true → Place day is (w ++ u ∷ []) c (public_of day c))
+        → Place day is w (Node u c o) (known_where day u c o false closed)
     lower true e n y q = absurd (false≢true y)
     lower false e n y q = below (known_where day u c o false false) (rw (n, y) refl) (rw (n, y) refl) (q e y)
 
@@ -195,7 +208,9 @@ place day is w (Node u c o) h k t =
     some_beside false true x s e f = absurd (false≢true (sym f))
     some_beside false false x s e f = s
 
-    go : (draft : Bool) → u.draft ≡ draft → (closed : Bool) → is_closed day u ≡ closed → has is (known_where day u c o draft closed) ≡ true → (has is (public_of day o) ≡ true → Place day is w o (public_of day o))
+    go : (draft : Bool) → u.draft ≡ draft → (closed : Bool) → is_closed day u ≡ closed
+        → has is (known_where day u c o draft closed) ≡ true
+        → (has is (public_of day o) ≡ true → Place day is w o (public_of day o))
         → (u.draft ≡ false → is_closed day u ≡ false → has is (public_of day c) ≡ true → Place day is (w ++ u ∷ []) c (public_of day c))
         → Place day is w (Node u c o) (known_where day u c o draft closed)
     go true d closed e s p q = beside (public_of day o) refl refl (p s)
@@ -213,7 +228,8 @@ place day is w (Node u c o) h k t =
 -- ---- what is shown of that unit, and of those below it
 
 module _ (at : Repository) (boxes : List BoxKey) (day : ℤ) (is : PublicUnit → Bool) (f : Forest Unit) (p : Place day is [] f (public_of day f)) where
-  pub shown_first : (depth : ℕ) → ShowsOne at boxes day (paths_below [] f) (number_of (known_of day p.unit), shown_unit at boxes (identifiers p.above ++ identifier_of (known_of day p.unit) ∷ []) depth (known_of day p.unit))
+  pub shown_first : (depth : ℕ)
+      → ShowsOne at boxes day (paths_below [] f) (number_of (known_of day p.unit), shown_unit at boxes (identifiers p.above ++ identifier_of (known_of day p.unit) ∷ []) depth (known_of day p.unit))
   shown_first depth =
       one_more_ways at boxes day ((p.above ++ p.unit ∷ []) ∷ paths_below (p.above ++ p.unit ∷ []) p.children) (paths_below [] f) p.within
       (number_of (known_of day p.unit), shown_unit at boxes (identifiers p.above ++ identifier_of (known_of day p.unit) ∷ []) depth (known_of day p.unit))
@@ -222,10 +238,12 @@ module _ (at : Repository) (boxes : List BoxKey) (day : ℤ) (is : PublicUnit �
   none_draft : list_any (λ (x : Unit). x.draft) (p.above ++ p.unit ∷ []) ≡ false
   none_draft = none_pushed (λ (x : Unit). x.draft) p.above p.unit p.no_draft p.draft
 
-  pub shown_lower : (depth : ℕ) → AllByRecursion (ShowsIn at boxes day (paths_below [] f)) (shown_below at boxes (identifiers p.above ++ identifier_of (known_of day p.unit) ∷ []) depth (low_of day p.children (is_closed day p.unit)))
+  pub shown_lower : (depth : ℕ)
+      → AllByRecursion (ShowsIn at boxes day (paths_below [] f)) (shown_below at boxes (identifiers p.above ++ identifier_of (known_of day p.unit) ∷ []) depth (low_of day p.children (is_closed day p.unit)))
   shown_lower depth = go (is_closed day p.unit) refl
     where
-      go : (closed : Bool) → is_closed day p.unit ≡ closed → AllByRecursion (ShowsIn at boxes day (paths_below [] f)) (shown_below at boxes (identifiers p.above ++ identifier_of (known_of day p.unit) ∷ []) depth (low_of day p.children closed))
+      go : (closed : Bool) → is_closed day p.unit ≡ closed
+          → AllByRecursion (ShowsIn at boxes day (paths_below [] f)) (shown_below at boxes (identifiers p.above ++ identifier_of (known_of day p.unit) ∷ []) depth (low_of day p.children closed))
       go true e = tt
       go false e =
           all_so (ShowsIn at boxes day (paths_below (p.above ++ p.unit ∷ []) p.children)) (ShowsIn at boxes day (paths_below [] f)) (more_ways at boxes day (paths_below (p.above ++ p.unit ∷ []) p.children) (paths_below [] f) (λ x s. p.within x (inr s)))
@@ -236,7 +254,8 @@ module _ (at : Repository) (boxes : List BoxKey) (day : ℤ) (is : PublicUnit �
   pub shown_beside : AllByRecursion (ShowsOne at boxes day (paths_below [] f)) (side_by_side (record { at = at; containers = boxes }) (identifiers p.above ++ identifier_of (known_of day p.unit) ∷ []) (low_of day p.children (is_closed day p.unit)))
   shown_beside = go (is_closed day p.unit) refl
     where
-      go : (closed : Bool) → is_closed day p.unit ≡ closed → AllByRecursion (ShowsOne at boxes day (paths_below [] f)) (side_by_side (record { at = at; containers = boxes }) (identifiers p.above ++ identifier_of (known_of day p.unit) ∷ []) (low_of day p.children closed))
+      go : (closed : Bool) → is_closed day p.unit ≡ closed
+          → AllByRecursion (ShowsOne at boxes day (paths_below [] f)) (side_by_side (record { at = at; containers = boxes }) (identifiers p.above ++ identifier_of (known_of day p.unit) ∷ []) (low_of day p.children closed))
       go true e = tt
       go false e =
           all_so (ShowsOne at boxes day (paths_below (p.above ++ p.unit ∷ []) p.children)) (ShowsOne at boxes day (paths_below [] f)) (one_more_ways at boxes day (paths_below (p.above ++ p.unit ∷ []) p.children) (paths_below [] f) (λ x s. p.within x (inr s)))

@@ -1,12 +1,8 @@
 -- Where the units of a forest with different numbers stand, and how deep.
 use Rattle.std.proofs.Common.{◌≡◌, ℕ, suc, ◌+◌, Bool, true, false, cond, ◌||◌, List, [], ◌∷◌, ◌++◌, length, Option, Some, None, refl, sym, ap, ◌∙◌, subst, inl, inr, arith, map}
-use Rattle.std.specs.Prelude.{nat_eq, find}
-use Rattle.std.specs.List.{list_any, AllByRecursion, IsDistinct}
-use Rattle.std.proofs.lemmas.Bool.{false≢true, eq-eqb, cases_Bool, or_parts}
-use Rattle.std.proofs.lemmas.List.{map-append}
-use Rattle.tree_core.specs.Forest.{Forest, Empty, Node, nodes, has, path}
-use Rattle.tree_core.proofs.Lists.{apart_append, eqb_comm}
-use Rattle.catalogue_core.specs.Units.{Unit, has_id}
+use Rattle.std.specs.Prelude.{nat_eq}
+use Rattle.std.specs.List.{IsDistinct}
+use Rattle.catalogue_core.proofs.Common.{AllByRecursion, Empty, Forest, Node, Unit, apart_append, cases_Bool, eq-eqb, eqb_comm, false≢true, find, has, has_id, list_any, map-append, nodes, or_parts, path}
 use Rattle.catalogue_core.proofs.EachOf.{all_and, all_split, all_of_found, none_found, some_found}
 use Rattle.catalogue_core.proofs.UnitsAfter.{each_there}
 
@@ -30,11 +26,13 @@ record Stands (u : Unit) (c o : Forest Unit) : Type 0 where
   below : AllByRecursion (λ v. has (has_id v.id) c ≡ true) (nodes c)
   not_below : AllByRecursion (λ v. has (has_id v.id) c ≡ false) (nodes o)
 
-not_the_top : (u : Unit) (us : List Unit) → AllByRecursion (λ n. nat_eq u.id n ≡ false) (map number_of us) → AllByRecursion (λ v. has_id v.id u ≡ false) us
+not_the_top : (u : Unit) (us : List Unit) → AllByRecursion (λ n. nat_eq u.id n ≡ false) (map number_of us)
+    → AllByRecursion (λ v. has_id v.id u ≡ false) us
 not_the_top u [] h = tt
 not_the_top u (v ∷ us) h = (eqb_comm v.id u.id ∙ h.0, not_the_top u us h.1)
 
-all_parts : (u : Unit) (xs ys : List Unit) → AllByRecursion (λ v. has_id v.id u ≡ false) (xs ++ ys) → AllByRecursion (λ v. has_id v.id u ≡ false) xs × AllByRecursion (λ v. has_id v.id u ≡ false) ys
+all_parts : (u : Unit) (xs ys : List Unit) → AllByRecursion (λ v. has_id v.id u ≡ false) (xs ++ ys)
+    → AllByRecursion (λ v. has_id v.id u ≡ false) xs × AllByRecursion (λ v. has_id v.id u ≡ false) ys
 all_parts u xs ys h = all_split (λ v. has_id v.id u ≡ false) xs ys h
 
 stands : (u : Unit) (c o : Forest Unit) → HaveOwnNumbers (nodes (Node u c o)) → Stands u c o
@@ -54,7 +52,8 @@ stands u c o d =
     here : (y : Unit) (ys : List Unit) → list_any (has_id y.id) (y ∷ ys) ≡ true
     here y ys = ap (λ b. b || list_any (has_id y.id) ys) (eq-eqb y.id y.id refl)
 
-    none : (ys xs : List Unit) → ((n : ℕ) → list_any (has_id n) xs ≡ true → list_any (has_id n) ys ≡ false) → AllByRecursion (λ v. list_any (has_id v.id) xs ≡ false) ys
+    none : (ys xs : List Unit) → ((n : ℕ) → list_any (has_id n) xs ≡ true → list_any (has_id n) ys ≡ false)
+        → AllByRecursion (λ v. list_any (has_id v.id) xs ≡ false) ys
     none [] xs f = tt
     none (y ∷ ys) xs f = (
       elim (cases_Bool (list_any (has_id y.id) xs)) [ inl t ↦ absurd (false≢true (sym (f y.id t) ∙ here y ys)) | inr n ↦ n ],
@@ -66,28 +65,43 @@ stands u c o d =
 path_top : (is : Unit → Bool) (u : Unit) (c o : Forest Unit) → is u ≡ true → path is (Node u c o) ≡ u ∷ []
 path_top is u c o e = ap (λ (b : Bool). cond b (u ∷ []) (cond (has is c) (u ∷ path is c) (path is o))) e
 
-path_below : (is : Unit → Bool) (u : Unit) (c o : Forest Unit) → is u ≡ false → has is c ≡ true → path is (Node u c o) ≡ u ∷ path is c
-path_below is u c o e h = ap (λ (b : Bool). cond b (u ∷ []) (cond (has is c) (u ∷ path is c) (path is o))) e ∙ ap (λ (b : Bool). cond b (u ∷ path is c) (path is o)) h
+path_below : (is : Unit → Bool) (u : Unit) (c o : Forest Unit) → is u ≡ false → has is c ≡ true
+    → path is (Node u c o) ≡ u ∷ path is c
+path_below is u c o e h =
+    ap (λ (b : Bool). cond b (u ∷ []) (cond (has is c) (u ∷ path is c) (path is o))) e
+    ∙ ap (λ (b : Bool). cond b (u ∷ path is c) (path is o)) h
 
-path_beside : (is : Unit → Bool) (u : Unit) (c o : Forest Unit) → is u ≡ false → has is c ≡ false → path is (Node u c o) ≡ path is o
-path_beside is u c o e h = ap (λ (b : Bool). cond b (u ∷ []) (cond (has is c) (u ∷ path is c) (path is o))) e ∙ ap (λ (b : Bool). cond b (u ∷ path is c) (path is o)) h
+path_beside : (is : Unit → Bool) (u : Unit) (c o : Forest Unit) → is u ≡ false → has is c ≡ false
+    → path is (Node u c o) ≡ path is o
+path_beside is u c o e h =
+    ap (λ (b : Bool). cond b (u ∷ []) (cond (has is c) (u ∷ path is c) (path is o))) e
+    ∙ ap (λ (b : Bool). cond b (u ∷ path is c) (path is o)) h
 
-found_in_both : (p : Unit → Bool) (xs ys : List Unit) (v : Unit) (r : Option Unit) → find p xs ≡ r → find p (xs ++ ys) ≡ Some v → (P : Type 0) → (find p xs ≡ Some v → P) → (find p xs ≡ None → find p ys ≡ Some v → P) → P
+found_in_both : (p : Unit → Bool) (xs ys : List Unit) (v : Unit) (r : Option Unit) → find p xs ≡ r
+    → find p (xs ++ ys) ≡ Some v → (P : Type 0) → (find p xs ≡ Some v → P) → (find p xs ≡ None → find p ys ≡ Some v → P)
+    → P
 found_in_both p [] ys v r e h P f g = g refl h
 found_in_both p (x ∷ xs) ys v r e h P f g = at (p x) h f g (found_in_both p xs ys v (find p xs) refl)
   where
-    at : (b : Bool) → cond b (Some x) (find p (xs ++ ys)) ≡ Some v → (cond b (Some x) (find p xs) ≡ Some v → P) → (cond b (Some x) (find p xs) ≡ None → find p ys ≡ Some v → P) → (find p (xs ++ ys) ≡ Some v → (Q : Type 0) → (find p xs ≡ Some v → Q) → (find p xs ≡ None → find p ys ≡ Some v → Q) → Q) → P
+    at : (b : Bool) → cond b (Some x) (find p (xs ++ ys)) ≡ Some v → (cond b (Some x) (find p xs) ≡ Some v → P)
+        → (cond b (Some x) (find p xs) ≡ None → find p ys ≡ Some v → P)
+        → (find p (xs ++ ys) ≡ Some v → (Q : Type 0) → (find p xs ≡ Some v → Q) → (find p xs ≡ None → find p ys ≡ Some v → Q) → Q)
+        → P
     at true k f g i = f k
     at false k f g i = i k P f g
 
 -- the first unit that passes lies where the unit with its number lies
-pub same_depth : (is : Unit → Bool) (f : Forest Unit) (v : Unit) → HaveOwnNumbers (nodes f) → find is (nodes f) ≡ Some v → length (path (has_id v.id) f) ≡ length (path is f)
+pub same_depth : (is : Unit → Bool) (f : Forest Unit) (v : Unit) → HaveOwnNumbers (nodes f) → find is (nodes f) ≡ Some v
+    → length (path (has_id v.id) f) ≡ length (path is f)
 same_depth is Empty v d e = absurd (cc)
 same_depth is (Node u c o) v d e =
     let s = stands u c o d in
     at s (is u) refl e (same_depth is c v s.left) (same_depth is o v s.right)
   where
-    at : Stands u c o → (b : Bool) → is u ≡ b → cond b (Some u) (find is (nodes c ++ nodes o)) ≡ Some v → (find is (nodes c) ≡ Some v → length (path (has_id v.id) c) ≡ length (path is c)) → (find is (nodes o) ≡ Some v → length (path (has_id v.id) o) ≡ length (path is o)) → length (path (has_id v.id) (Node u c o)) ≡ length (path is (Node u c o))
+    at : Stands u c o → (b : Bool) → is u ≡ b → cond b (Some u) (find is (nodes c ++ nodes o)) ≡ Some v
+        → (find is (nodes c) ≡ Some v → length (path (has_id v.id) c) ≡ length (path is c))
+        → (find is (nodes o) ≡ Some v → length (path (has_id v.id) o) ≡ length (path is o))
+        → length (path (has_id v.id) (Node u c o)) ≡ length (path is (Node u c o))
     at s true h k f g =
         let same : u ≡ v = cc in
         ap length (path_top (has_id v.id) u c o (eq-eqb v.id u.id (ap number_of (sym same))) ∙ sym (path_top is u c o h))
@@ -106,7 +120,8 @@ LieDeep told d Empty = Prim.Unit {0}
 LieDeep told d (Node u c o) = (told u.id ≡ d + 1) × LieDeep told (d + 1) c × LieDeep told d o
 
 -- as its path is long
-pub lie_deep : (told : ℕ → ℕ) (d : ℕ) (f : Forest Unit) → HaveOwnNumbers (nodes f) → AllByRecursion (λ v. told v.id ≡ d + length (path (has_id v.id) f)) (nodes f) → LieDeep told d f
+pub lie_deep : (told : ℕ → ℕ) (d : ℕ) (f : Forest Unit) → HaveOwnNumbers (nodes f)
+    → AllByRecursion (λ v. told v.id ≡ d + length (path (has_id v.id) f)) (nodes f) → LieDeep told d f
 lie_deep told d Empty own h = tt
 lie_deep told d (Node u c o) own h =
     let s = stands u c o own in

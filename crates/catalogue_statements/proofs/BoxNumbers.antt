@@ -1,24 +1,20 @@
 -- Containers and their numbers, as more become known.
 use Rattle.std.proofs.Common.{◌≡◌, ℕ, suc, ◌+◌, true, false, not, List, [], ◌∷◌, ◌++◌, length, filter, None, Some, refl, sym, ap, ◌∙◌, arith, inl, inr, append-nil}
-use Rattle.std.specs.Prelude.{option_map, unwrap_or, if◌then◌else◌, is_some}
-use Rattle.std.specs.List.{list_any, list_all}
-use Rattle.std.proofs.lemmas.Bool.{cases_Bool}
-use Rattle.sqlite_rules.proofs.ListLemmas.{some_from, test_from, has_right}
-use Rattle.isad_core.specs.declared.values.BoxKey.{BoxKey}
-use Rattle.isad_core.specs.Boxes.{distinct, is_same}
+use Rattle.std.specs.Prelude.{option_map, unwrap_or, if◌then◌else◌}
 use Rattle.isad_core.proofs.BoxLemmas.{distinct_more, same_sym}
-use Rattle.catalogue_core.specs.CatalogueMerge.{number_in, box_number}
 use Rattle.catalogue_core.proofs.DistinctFront.{found_any, known_distinct}
-use Rattle.catalogue_core.proofs.Imported.{distinct_append}
 use Rattle.catalogue_core.proofs.ImportedAgain.{box_itself}
+use Rattle.catalogue_statements.proofs.Common.{BoxKey, box_number, cases_Bool, distinct, distinct_append, has_right, is_same, is_some, list_all, list_any, number_in, some_from, test_from}
 
 -- ---- each container once
 
 -- a container that is known, and one that is not
-pub with_known : (cs : List BoxKey) (b : BoxKey) → distinct cs ≡ cs → list_any (is_same b) cs ≡ true → distinct (cs ++ b ∷ []) ≡ cs
+pub with_known : (cs : List BoxKey) (b : BoxKey) → distinct cs ≡ cs → list_any (is_same b) cs ≡ true
+    → distinct (cs ++ b ∷ []) ≡ cs
 with_known cs b apart there = distinct_more cs b ∙ ap (λ any. distinct cs ++ (if any then [] else b ∷ [])) there ∙ append-nil (distinct cs) ∙ apart
 
-pub with_new : (cs : List BoxKey) (b : BoxKey) → distinct cs ≡ cs → list_any (is_same b) cs ≡ false → distinct (cs ++ b ∷ []) ≡ cs ++ b ∷ []
+pub with_new : (cs : List BoxKey) (b : BoxKey) → distinct cs ≡ cs → list_any (is_same b) cs ≡ false
+    → distinct (cs ++ b ∷ []) ≡ cs ++ b ∷ []
 with_new cs b apart missing = distinct_more cs b ∙ ap (λ any. distinct cs ++ (if any then [] else b ∷ [])) missing ∙ ap (λ l. l ++ b ∷ []) apart
 
 -- ---- numbers
@@ -30,7 +26,8 @@ pub unknown_unnumbered : (cs : List BoxKey) (b : BoxKey) → number_in cs b ≡ 
 unknown_unnumbered cs b h = sym (found_any cs b) ∙ ap is_some h
 
 -- a container that is known keeps its number when more follow
-kept_in : (cs more : List BoxKey) (b : BoxKey) → list_any (is_same b) cs ≡ true → number_in (cs ++ more) b ≡ number_in cs b
+kept_in : (cs more : List BoxKey) (b : BoxKey) → list_any (is_same b) cs ≡ true
+    → number_in (cs ++ more) b ≡ number_in cs b
 kept_in [] more b h = absurd (let e : false ≡ true = h in cc)
 kept_in (c ∷ cs) more b h =
     elim (cases_Bool (is_same c b)) [
@@ -41,17 +38,21 @@ kept_in (c ∷ cs) more b h =
           rw differs (ap (option_map suc) (kept_in cs more b rest))
     ]
 
-pub keeps_number : (cs bs : List BoxKey) (b : BoxKey) → distinct cs ≡ cs → list_any (is_same b) cs ≡ true → number_in (distinct (cs ++ bs)) b ≡ number_in cs b
+pub keeps_number : (cs bs : List BoxKey) (b : BoxKey) → distinct cs ≡ cs → list_any (is_same b) cs ≡ true
+    → number_in (distinct (cs ++ bs)) b ≡ number_in cs b
 keeps_number cs bs b apart there =
     let more = filter (λ b. not (list_any (λ c. is_same c b) cs)) (distinct bs) in
     ap (λ l. number_in l b) (distinct_append cs bs ∙ ap (λ l. l ++ more) apart) ∙ kept_in cs more b there
 
 -- and stays known
-pub still_known : (cs bs : List BoxKey) (b : BoxKey) → distinct cs ≡ cs → list_any (is_same b) cs ≡ true → list_any (is_same b) (distinct (cs ++ bs)) ≡ true
-still_known cs bs b apart there = sym (found_any (distinct (cs ++ bs)) b) ∙ ap is_some (keeps_number cs bs b apart there) ∙ found_any cs b ∙ there
+pub still_known : (cs bs : List BoxKey) (b : BoxKey) → distinct cs ≡ cs → list_any (is_same b) cs ≡ true
+    → list_any (is_same b) (distinct (cs ++ bs)) ≡ true
+still_known cs bs b apart there =
+    sym (found_any (distinct (cs ++ bs)) b) ∙ ap is_some (keeps_number cs bs b apart there) ∙ found_any cs b ∙ there
 
 -- a new container gets the next number
-number_of_new : (cs : List BoxKey) (b : BoxKey) → list_any (is_same b) cs ≡ false → number_in (cs ++ b ∷ []) b ≡ Some (length cs + 1)
+number_of_new : (cs : List BoxKey) (b : BoxKey) → list_any (is_same b) cs ≡ false
+    → number_in (cs ++ b ∷ []) b ≡ Some (length cs + 1)
 number_of_new [] b h = rw (box_itself b) refl
 number_of_new (c ∷ cs) b h =
     elim (cases_Bool (is_same c b)) [
@@ -62,11 +63,13 @@ number_of_new (c ∷ cs) b h =
           rw differs (ap (option_map suc) (number_of_new cs b rest) ∙ ap Some (omega arith))
     ]
 
-pub box_number_known : (cs : List BoxKey) (b : BoxKey) (n : ℕ) → distinct cs ≡ cs → number_in cs b ≡ Some n → n ≡ box_number (distinct (cs ++ b ∷ [])) b
+pub box_number_known : (cs : List BoxKey) (b : BoxKey) (n : ℕ) → distinct cs ≡ cs → number_in cs b ≡ Some n
+    → n ≡ box_number (distinct (cs ++ b ∷ [])) b
 box_number_known cs b n apart h =
     sym (ap (λ l. box_number l b) (with_known cs b apart (known_numbered cs b n h)) ∙ ap (λ o. unwrap_or o 0) h)
 
-pub box_number_new : (cs : List BoxKey) (b : BoxKey) → distinct cs ≡ cs → number_in cs b ≡ None → length cs + 1 ≡ box_number (distinct (cs ++ b ∷ [])) b
+pub box_number_new : (cs : List BoxKey) (b : BoxKey) → distinct cs ≡ cs → number_in cs b ≡ None
+    → length cs + 1 ≡ box_number (distinct (cs ++ b ∷ [])) b
 box_number_new cs b apart h =
     let missing = unknown_unnumbered cs b h in
     sym (ap (λ l. box_number l b) (with_new cs b apart missing) ∙ ap (λ o. unwrap_or o 0) (number_of_new cs b missing))

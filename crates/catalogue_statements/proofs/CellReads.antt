@@ -1,25 +1,8 @@
 -- What is read of a unit's rows: its cells in their order.
 use Rattle.std.proofs.Common.{◌≡◌, ℕ, zero, suc, ◌+◌, ◌≤◌, ◌<◌, pos, List, [], ◌∷◌, length, map, filter, get_or, Option, Some, None, Ordering, Less, nat_eq, refl, sym, ap, ap₂, ◌∙◌, arith, inl, inr}
-use Rattle.std.specs.List.{AllByRecursion}
-use Rattle.std.specs.List.Sorted.{IsPermutation, IsSorted}
-use Rattle.std.specs.Ordering.{int_cmp, is_lt, ordering_then}
-use Rattle.std.specs.Cmp.{IsTotalOrder, on_total, int_cmp_total, tied_itself}
-use Rattle.std.proofs.lemmas.Bool.{cases_lt, eqb-true}
-use Rattle.std.proofs.lemmas.List.{get_or-map, length-map}
-use Rattle.std.proofs.lemmas.List.Sorted.{IsPermutation-map, IsPermutation-trans}
-use Rattle.sqlite_rules.proofs.ListLemmas.{all_from, has_filtered}
-use Rattle.sqlite_trees.proofs.ListLemmas.{all_weaker, all-get_or, ascending-map}
-use Rattle.isad_core.specs.Texts.{Bytes}
-use Rattle.isad_core.specs.declared.values.BoxKey.{BoxKey}
 use Rattle.isad_core.specs.declared.values.Values.{Values}
-use Rattle.catalogue_core.specs.CatalogueMerge.{box_number}
-use Rattle.office_tables.specs.Order.{Rises}
-use Rattle.catalogue_statements.specs.Rows.{counted_from}
-use Rattle.catalogue_statements.specs.Representation.{texts_from, element_number, element_cells, housing_cells}
+use Rattle.catalogue_statements.proofs.Common.{AllByRecursion, BoxKey, Bytes, IsPermutation, IsPermutation-map, IsPermutation-trans, IsSorted, IsTotalOrder, Rises, all-get_or, all_from, all_weaker, ascending-map, below_less, box_number, cases_lt, counted_from, element_cells, element_number, eqb-true, get_or-map, had, has_filtered, housing_cells, int_cmp, int_cmp_total, is_lt, length-map, on_total, only_order, ordering_then, texts_from, tied_itself}
 use Rattle.catalogue_statements.proofs.Numbered.{counted_rises}
-use Rattle.office_tables.proofs.Rows.{had}
-use Rattle.office_tables.proofs.Sorted.{only_order}
-use Rattle.office_tables.proofs.numbered.Counted.{below_less}
 
 module _ {B : Type 0} where
   -- by the number of the cell
@@ -37,7 +20,8 @@ module _ {B : Type 0} where
     by_unit_same n a b is_a is_b =
         ap (λ o. ordering_then o (int_cmp (pos (cell_of a).0) (pos (cell_of b).0))) (ap₂ (λ x y. int_cmp (pos x) (pos y)) is_a is_b ∙ tied_itself int_cmp_total (pos n))
 
-    in_order : (n : ℕ) (ys : List A) → AllByRecursion (λ a. unit_of a ≡ n) ys → IsSorted by_unit ys → IsSorted by_first (map cell_of ys)
+    in_order : (n : ℕ) (ys : List A) → AllByRecursion (λ a. unit_of a ≡ n) ys → IsSorted by_unit ys
+        → IsSorted by_first (map cell_of ys)
     in_order n [] theirs sorted = λ k d low high. absurd (omega (arith, high))
     in_order n (y ∷ ys) theirs sorted = λ k d low high.
         let within : k + 1 < length (y ∷ ys) = rw (length-map (y ∷ ys) cell_of) at high in
@@ -49,11 +33,13 @@ module _ {B : Type 0} where
         rw (get_or-map cell_of (y ∷ ys) (k + 1) y d within, get_or-map cell_of (y ∷ ys) k y d before) (ap is_lt (sym (by_unit_same n next this is_next is_this)) ∙ sorted k y low within)
 
     -- the rows of a unit in the order of their numbers tell its cells
-    pub cells_read : (n : ℕ) (cells : List (ℕ × B)) (xs ys : List A) → Rises by_first cells → IsPermutation cells (map cell_of (filter (λ a. nat_eq n (unit_of a)) xs))
+    pub cells_read : (n : ℕ) (cells : List (ℕ × B)) (xs ys : List A) → Rises by_first cells
+        → IsPermutation cells (map cell_of (filter (λ a. nat_eq n (unit_of a)) xs))
         → IsPermutation (filter (λ a. nat_eq n (unit_of a)) xs) ys → IsSorted by_unit ys → map cell_of ys ≡ cells
     cells_read n cells xs ys up tell same sorted =
         let mine = λ (a : A). nat_eq n (unit_of a) in
-        let theirs : AllByRecursion (λ a. unit_of a ≡ n) ys = all_from (λ a. unit_of a ≡ n) ys (λ a h. sym (eqb-true n (unit_of a) (has_filtered mine xs a (had (filter mine xs) ys same a h)).1)) in
+        let theirs : AllByRecursion (λ a. unit_of a ≡ n) ys =
+        all_from (λ a. unit_of a ≡ n) ys (λ a h. sym (eqb-true n (unit_of a) (has_filtered mine xs a (had (filter mine xs) ys same a h)).1)) in
         only_order by_first by_first_total cells (map cell_of ys) up (in_order n ys theirs sorted) (IsPermutation-trans cells (map cell_of (filter mine xs)) (map cell_of ys) tell (IsPermutation-map cell_of (filter mine xs) ys same))
 
 -- ---- texts
@@ -79,12 +65,14 @@ number_rises i j h = elim (cases_lt i 3) [
   | inr high ↦ let other : 3 ≤ j = omega (arith, high, h) in omega (arith, number_high i high, number_high j other, h)
 ]
 
-texts_above : (k n : ℕ) (texts : List (Option Bytes)) → k < n → AllByRecursion (λ (t : ℕ × Bytes). k < t.0) (texts_from n texts)
+texts_above : (k n : ℕ) (texts : List (Option Bytes)) → k < n
+    → AllByRecursion (λ (t : ℕ × Bytes). k < t.0) (texts_from n texts)
 texts_above k n [] h = tt
 texts_above k n (None ∷ texts) h = texts_above k (n + 1) texts (omega (arith, h))
 texts_above k n (Some t ∷ texts) h = (h, texts_above k (n + 1) texts (omega (arith, h)))
 
-texts_rise : (n : ℕ) (texts : List (Option Bytes)) → Rises (λ (a b : ℕ × Bytes). int_cmp (pos (element_number a.0)) (pos (element_number b.0))) (texts_from n texts)
+texts_rise : (n : ℕ) (texts : List (Option Bytes))
+    → Rises (λ (a b : ℕ × Bytes). int_cmp (pos (element_number a.0)) (pos (element_number b.0))) (texts_from n texts)
 texts_rise n [] = tt
 texts_rise n (None ∷ texts) = texts_rise (n + 1) texts
 texts_rise n (Some t ∷ texts) =
@@ -98,9 +86,11 @@ elements_in_order values = ascending-map (λ a b. by_first a b ≡ Less) (λ (t 
 pub housings_in_order : (boxes : List BoxKey) (values : Values) → Rises by_first (housing_cells boxes values)
 housings_in_order boxes values = ascending-map (λ a b. by_first a b ≡ Less) (λ (box : ℕ × BoxKey). (let c : ℕ × ℕ = (box.0, box_number boxes box.1) in c)) (counted_from 1 values.boxes) (counted_rises 1 values.boxes)
 
-second_of : (boxes bs : List BoxKey) (n : ℕ) → map (λ (c : ℕ × ℕ). c.1) (map (λ (box : ℕ × BoxKey). (let c : ℕ × ℕ = (box.0, box_number boxes box.1) in c)) (counted_from n bs)) ≡ map (box_number boxes) bs
+second_of : (boxes bs : List BoxKey) (n : ℕ)
+    → map (λ (c : ℕ × ℕ). c.1) (map (λ (box : ℕ × BoxKey). (let c : ℕ × ℕ = (box.0, box_number boxes box.1) in c)) (counted_from n bs)) ≡ map (box_number boxes) bs
 second_of boxes [] n = refl
 second_of boxes (b ∷ bs) n = ap (λ l. box_number boxes b ∷ l) (second_of boxes bs (n + 1))
 
-pub numbers_told : (boxes : List BoxKey) (values : Values) → map (λ (c : ℕ × ℕ). c.1) (housing_cells boxes values) ≡ map (box_number boxes) values.boxes
+pub numbers_told : (boxes : List BoxKey) (values : Values)
+    → map (λ (c : ℕ × ℕ). c.1) (housing_cells boxes values) ≡ map (box_number boxes) values.boxes
 numbers_told boxes values = second_of boxes values.boxes 1

@@ -1,59 +1,13 @@
 -- The statements on the containers: what their texts mean, what they leave or tell, and why they fail.
 use Rattle.std.proofs.Common.{◌≡◌, ℕ, pos, List, [], ◌∷◌, map, filter, take, codes, true, false, ◌&&◌, Result, OnOk, IfOk, IfErr, Ordering, nat_eq, refl, sym, ap, ap₂, subst, ◌∙◌}
-use Rattle.std.proofs.Math.Nat.{le_refl}
-use Rattle.std.proofs.lemmas.List.{take-map}
-use Rattle.std.proofs.lemmas.Result.{IfOk-weaker}
 use Rattle.std.specs.Bool.{⊤}
-use Rattle.std.specs.List.{AllByRecursion, list_any}
-use Rattle.std.specs.Ordering.{int_cmp}
 use Rattle.isad_core.specs.LegibleValues.{IsLegibleBox}
-use Rattle.isad_core.specs.declared.values.BoxKey.{BoxKey}
-use Rattle.isad_core.specs.Boxes.{is_same}
-use Rattle.sqlite.specs.declared.types.Value.TheVariants.{Null, Int, Text}
-use Rattle.sqlite.specs.Order.{Row}
-use Rattle.sqlite.specs.Edit.{edit_of}
-use Rattle.sqlite.specs.Effect.{value_rows}
-use Rattle.sqlite.specs.Rowids.TheVariants.{Chosen}
-use Rattle.sqlite.specs.Term.{Term, lit, col, op2}
-use Rattle.sqlite.specs.Query.{inner, end, key_cmp}
-use Rattle.sqlite.specs.Collation.TheVariants.{Binary}
-use Rattle.sqlite.specs.Command.{Command}
-use Rattle.sqlite.specs.Command.TheVariants.{Insert, Select}
 use Rattle.sqlite.specs.Source.TheVariants.{Values}
 use Rattle.sqlite.specs.Listing.{understood}
-use Rattle.sqlite.specs.State.{State, Shown, IsLive}
-use Rattle.sqlite.proofs.Callers.{reads_as}
-use Rattle.sqlite_schema.specs.Rules.{agree}
-use Rattle.sqlite_schema.specs.declared.program.Program.{Program}
-use Rattle.sqlite_sql.specs.declared.ops.BinaryOp.TheVariants.{Compare}
-use Rattle.sqlite_sql.specs.declared.ops.CompareOp.TheVariants.{Eq}
 use Rattle.sqlite_tied.specs.Compute.{everything}
-use Rattle.sqlite_trees.proofs.ListLemmas.{map-map, all_of}
-use Rattle.sqlite_value.specs.declared.keys.Key.{Key}
-use Rattle.sqlite_value.specs.Keys.{ascending, first_key, plain}
-use Rattle.sqlite_value.proofs.OrderLemmas.{then-Equal, value_cmp-Int}
-use Rattle.office_tables.specs.Versions.{Version}
-use Rattle.office_tables.specs.Query.{Finds, Misses}
-use Rattle.office_tables.specs.ChangeStatement.{Ran}
-use Rattle.office_tables.specs.Faults.{IsUnlimited, HasCause}
-use Rattle.office_tables.specs.StatementMeaning.{Means}
-use Rattle.office_tables.specs.Order.{IsOrdered}
-use Rattle.office_tables.specs.Schema.{schema, container}
-use Rattle.office_tables.specs.Step.{Holds, PutsRow}
-use Rattle.office_tables.specs.declared.fault.StoreFault.{StoreFault}
-use Rattle.catalogue_statements.specs.Rows.{container_row, by_container}
-use Rattle.office_tables.proofs.Casts.{cast_int, cast_null}
-use Rattle.office_tables.proofs.Causes.{read_cause, none_refuse, sums_nothing}
-use Rattle.office_tables.proofs.Fresh.{any_mapped}
-use Rattle.office_tables.proofs.InsertCauses.{IsWelcome}
-use Rattle.office_tables.proofs.Queries.{asking}
-use Rattle.office_tables.proofs.statements.InsertOf.{insert_puts, insert_faults}
+use Rattle.sqlite_value.specs.Keys.{first_key}
 use Rattle.office_tables.proofs.Limits.{limited_query, first_answers}
-use Rattle.office_tables.proofs.RowReads.{all_caused}
-use Rattle.office_tables.proofs.Rows.{kept_all}
-use Rattle.office_tables.proofs.statements.SelectOf.{select_finds, select_faults}
-use Rattle.office_tables.proofs.Tests.{only, both, same_number, same_bytes, by_one_int}
-use Rattle.office_tables.proofs.statements.WelcomeOf.{number_welcome}
+use Rattle.catalogue_statements.proofs.Common.{AllByRecursion, Binary, BoxKey, Chosen, Command, Compare, Eq, Finds, HasCause, Holds, IfOk-weaker, Insert, Int, IsLive, IsOrdered, IsUnlimited, IsWelcome, Key, Means, Misses, Null, Program, PutsRow, Ran, Row, Select, Shown, State, StoreFault, Term, Text, Version, agree, all_caused, all_of, any_mapped, ascending, asking, both, by_container, by_one_int, cast_int, cast_null, col, container, container_row, edit_of, end, inner, insert_faults, insert_puts, int_cmp, is_same, kept_all, key_cmp, le_refl, list_any, lit, map-map, none_refuse, number_welcome, only, op2, plain, read_cause, reads_as, same_bytes, same_number, schema, select_faults, select_finds, sums_nothing, take-map, then-Equal, value_cmp-Int, value_rows}
 
 -- a container under its number
 abbrev Numbered : Type 0
@@ -80,9 +34,11 @@ pub insert_container_means : (v : Version) → Means v insert_container_text 4 i
 unfolding understood everything
 insert_container_means v = record { is = refl; plain = (refl, refl); whole = (le_refl _, refl, refl); unlisted = refl }
 
-same_container : (m n : ℕ) (a b : BoxKey) → agree plain (2 ∷ 3 ∷ 4 ∷ []) (container_row (m, a)) (2 ∷ 3 ∷ 4 ∷ []) (container_row (n, b)) ≡ is_same a b
+same_container : (m n : ℕ) (a b : BoxKey)
+    → agree plain (2 ∷ 3 ∷ 4 ∷ []) (container_row (m, a)) (2 ∷ 3 ∷ 4 ∷ []) (container_row (n, b)) ≡ is_same a b
 unfolding first_key
-same_container m n a b = ap₂ ◌&&◌ (same_bytes a.name b.name) (both (same_bytes a.location b.location) (same_bytes a.kind b.kind))
+same_container m n a b =
+    ap₂ ◌&&◌ (same_bytes a.name b.name) (both (same_bytes a.location b.location) (same_bytes a.kind b.kind))
 
 module _ (old new : State) (n : ℕ) (b : BoxKey) (v : Version) (has : old.now.schema ≡ schema v) where
   abbrev params : Row
@@ -91,7 +47,8 @@ module _ (old new : State) (n : ℕ) (b : BoxKey) (v : Version) (has : old.now.s
   news : (edit_of old.now.trees container [] Chosen 0 (value_rows params 5 1 insert_container_terms)).news ≡ container_row (n, b) ∷ []
   news = rw (cast_int (pos n), cast_null) refl
 
-  pub insert_container_puts : (r : Result Unit StoreFault) → Ran insert_container_text params old new r → OnOk r (PutsRow container.tree (container_row (n, b)) old.now new.now)
+  pub insert_container_puts : (r : Result Unit StoreFault) → Ran insert_container_text params old new r
+      → OnOk r (PutsRow container.tree (container_row (n, b)) old.now new.now)
   insert_container_puts = insert_puts v 10 container refl insert_container_text insert_container_terms 5 params (insert_container_means v) old new has (container_row (n, b)) news
 
   module _ (xs : List Numbered) (stored : Holds container container_row old xs) (none : list_any (λ (c : Numbered). nat_eq n c.0) xs ≡ false) (other : list_any (λ (c : Numbered). is_same c.1 b) xs ≡ false) where
@@ -101,8 +58,10 @@ module _ (old new : State) (n : ℕ) (b : BoxKey) (v : Version) (has : old.now.s
         ap (list_any (λ r. agree plain (2 ∷ 3 ∷ 4 ∷ []) r (2 ∷ 3 ∷ 4 ∷ []) (container_row (n, b)))) stored ∙ any_mapped container_row _ (λ (c : Numbered). is_same c.1 b) (λ c. same_container c.0 n c.1 b) xs ∙ other in
         number_welcome v container container_row (λ c. c.0) (λ _. refl) (n, b) xs old.now.trees stored none (rw apart refl) (record { typed = refl; present = refl; checked = refl; referred = refl; parents = refl })
 
-    pub insert_container_faults : IsUnlimited old → IsLive old → (r : Result Unit StoreFault) → Ran insert_container_text params old new r → IfErr r (HasCause old new)
-    insert_container_faults = insert_faults v 10 container refl insert_container_text insert_container_terms 5 params (insert_container_means v) old new has (container_row (n, b)) news refl welcome
+    pub insert_container_faults : IsUnlimited old → IsLive old → (r : Result Unit StoreFault)
+        → Ran insert_container_text params old new r → IfErr r (HasCause old new)
+    insert_container_faults =
+        insert_faults v 10 container refl insert_container_text insert_container_terms 5 params (insert_container_means v) old new has (container_row (n, b)) news refl welcome
 
 -- ---- the containers of a number, and the numbers of a container
 
@@ -150,7 +109,9 @@ module _ (old new : State) (v : Version) (has : old.now.schema ≡ schema v) (xs
         (λ (c : Numbered). nat_eq n c.0) (λ c. only (same_number c.0 n)) (λ c. box_cells c.1) (λ (c : Numbered). Int (pos c.0) ∷ []) (λ _. refl)
         by_container (λ _. refl) (λ a b. by_one_int (pos a.0) (pos b.0)) box_cells items (λ (c : Numbered). c.1) (λ _. refl) r
 
-    pub find_container_faults : AllByRecursion (λ (c : Numbered). IsLegibleBox c.1) xs → IsUnlimited old → IfErr r (Misses box_cells IsLegibleBox find_container_text (Int (pos n) ∷ []) old new) → IfErr r (HasCause old new)
+    pub find_container_faults : AllByRecursion (λ (c : Numbered). IsLegibleBox c.1) xs → IsUnlimited old
+        → IfErr r (Misses box_cells IsLegibleBox find_container_text (Int (pos n) ∷ []) old new)
+        → IfErr r (HasCause old new)
     find_container_faults legible free =
         select_faults v container find_container_text of_number find_container_columns by_id find_container_names (Int (pos n) ∷ []) (find_container_means v) old new has container_row xs stored
         (λ (c : Numbered). nat_eq n c.0) (λ c. only (same_number c.0 n)) (λ c. box_cells c.1) (λ (c : Numbered). Int (pos c.0) ∷ []) (λ _. refl)
@@ -164,7 +125,9 @@ module _ (old new : State) (v : Version) (has : old.now.schema ≡ schema v) (xs
         (λ (c : Numbered). is_same c.1 b) (λ c. ap₂ ◌&&◌ (same_bytes c.1.name b.name) (both (same_bytes c.1.location b.location) (same_bytes c.1.kind b.kind))) (λ c. number_cells c.0) (λ (c : Numbered). Int (pos c.0) ∷ []) (λ _. refl)
         by_container (λ _. refl) (λ a b. by_one_int (pos a.0) (pos b.0)) number_cells items (λ (c : Numbered). c.0) (λ _. refl) r
 
-    pub container_number_faults : IsUnlimited old → IfErr r (Misses number_cells (λ _. ⊤) container_number_text (box_cells b) old new) → IfErr r (HasCause old new)
+    pub container_number_faults : IsUnlimited old
+        → IfErr r (Misses number_cells (λ _. ⊤) container_number_text (box_cells b) old new)
+        → IfErr r (HasCause old new)
     container_number_faults free =
         select_faults v container container_number_text of_box (col 1 0 ∷ []) by_id (codes "id" ∷ []) (box_cells b) (container_number_means v) old new has container_row xs stored
         (λ (c : Numbered). is_same c.1 b) (λ c. ap₂ ◌&&◌ (same_bytes c.1.name b.name) (both (same_bytes c.1.location b.location) (same_bytes c.1.kind b.kind))) (λ c. number_cells c.0) (λ (c : Numbered). Int (pos c.0) ∷ []) (λ _. refl)
@@ -179,7 +142,8 @@ abbrev pub last_container_text : List ℕ
 last_container_text = codes "SELECT id FROM container ORDER BY id DESC LIMIT 1"
 
 abbrev last_container_program : Program
-last_container_program = record { lets = []; body = limited_query (inner container.tree end) [] (col 1 0 ∷ []) ((col 1 0, descending) ∷ []) 1 }
+last_container_program =
+    record { lets = []; body = limited_query (inner container.tree end) [] (col 1 0 ∷ []) ((col 1 0, descending) ∷ []) 1 }
 
 abbrev pub last_container_command : Command
 last_container_command = Select last_container_program (codes "id" ∷ [])
@@ -192,11 +156,13 @@ last_container_means v = record { is = refl; plain = (refl, refl); whole = (le_r
 abbrev pub from_the_last : Numbered → Numbered → Ordering
 from_the_last a b = int_cmp (pos b.0) (pos a.0)
 
-by_one_back : (a b : Numbered) → key_cmp 0 (descending ∷ []) (Int (pos a.0) ∷ []) (Int (pos b.0) ∷ []) ≡ from_the_last a b
+by_one_back : (a b : Numbered)
+    → key_cmp 0 (descending ∷ []) (Int (pos a.0) ∷ []) (Int (pos b.0) ∷ []) ≡ from_the_last a b
 by_one_back a b = then-Equal _ ∙ value_cmp-Int (pos b.0) (pos a.0)
 
 module _ (old new : State) (v : Version) (has : old.now.schema ≡ schema v) (xs : List Numbered) (stored : Holds container container_row old xs) {X : Type 0} (items : X → List ℕ) (r : Result X StoreFault) where
-  last_rows : (rows : List Row) → Shown last_container_text [] old new rows → (ys : List Numbered) × IsOrdered from_the_last xs ys × (rows ≡ map number_cells (take 1 (map (λ (c : Numbered). c.0) ys)))
+  last_rows : (rows : List Row) → Shown last_container_text [] old new rows
+      → (ys : List Numbered) × IsOrdered from_the_last xs ys × (rows ≡ map number_cells (take 1 (map (λ (c : Numbered). c.0) ys)))
   last_rows rows shown =
       let means = last_container_means v in
       let read = reads_as last_container_text [] old new (schema v) has last_container_command means.is means.plain means.unlisted rows shown in
@@ -213,7 +179,8 @@ module _ (old new : State) (v : Version) (has : old.now.schema ≡ schema v) (xs
       → IfOk r (λ found. (ys : List Numbered) × IsOrdered from_the_last xs ys × (items found ≡ take 1 (map (λ (c : Numbered). c.0) ys)))
   last_container_finds found = IfOk-weaker r _ _ (λ all it. let got = last_rows it.rows it.shown in (got.0, got.1, it.are (take 1 (map (λ (c : Numbered). c.0) got.0)) got.2)) found
 
-  pub last_container_faults : IsUnlimited old → IfErr r (Misses number_cells (λ _. ⊤) last_container_text [] old new) → IfErr r (HasCause old new)
+  pub last_container_faults : IsUnlimited old → IfErr r (Misses number_cells (λ _. ⊤) last_container_text [] old new)
+      → IfErr r (HasCause old new)
   last_container_faults free missed =
       let means = last_container_means v in
       all_caused number_cells (λ _. ⊤) last_container_text [] old new r missed

@@ -1,59 +1,13 @@
 -- The statements on the texts of the units: what their texts mean, what they leave or tell, and why they fail.
 use Rattle.std.proofs.Common.{◌≡◌, ℕ, ℤ, pos, List, [], ◌∷◌, map, filter, codes, true, false, not, ◌&&◌, Result, OnOk, IfOk, IfErr, nat_eq, nat_le, refl, sym, ap, ◌∙◌}
-use Rattle.std.proofs.Math.Nat.{le_refl}
-use Rattle.std.proofs.lemmas.Bool.{or_right}
-use Rattle.std.specs.List.{AllByRecursion, list_any, list_all}
-use Rattle.std.proofs.lemmas.Result.{IfOk-weaker}
-use Rattle.std.specs.Prelude.{IsUtf8}
-use Rattle.isad_core.specs.Texts.{Bytes}
-use Rattle.sqlite.specs.declared.types.Value.TheVariants.{Null, Int, Text}
-use Rattle.sqlite.specs.Order.{Row, column}
-use Rattle.sqlite.specs.Edit.{edit_of, next_rowid}
-use Rattle.sqlite.specs.Effect.{value_rows}
-use Rattle.sqlite.specs.Rowids.TheVariants.{Chosen}
-use Rattle.sqlite.specs.Term.{Term, lit, col, op2}
-use Rattle.sqlite.specs.Collation.TheVariants.{Binary}
-use Rattle.sqlite.specs.Command.{Command}
-use Rattle.sqlite.specs.Command.TheVariants.{Insert, Delete, Select}
+use Rattle.sqlite.specs.Command.TheVariants.{Delete}
 use Rattle.sqlite.specs.Source.TheVariants.{Values}
 use Rattle.sqlite.specs.Listing.{understood}
-use Rattle.sqlite.specs.State.{State, IsLive}
-use Rattle.sqlite.specs.Tree.{Trees}
 use Rattle.sqlite_schema.specs.Names.{same_name}
-use Rattle.sqlite_schema.specs.Rules.{agree, has_null, has_parent, is_key_of, references_fit}
-use Rattle.sqlite_sql.specs.declared.ops.BinaryOp.TheVariants.{Compare}
-use Rattle.sqlite_sql.specs.declared.ops.CompareOp.TheVariants.{Eq, Le}
 use Rattle.sqlite_tied.specs.Compute.{everything}
-use Rattle.sqlite_value.specs.declared.keys.Key.{Key}
-use Rattle.sqlite_value.specs.Keys.{ascending, joined, first_key, plain}
-use Rattle.office_tables.specs.Versions.{Version}
-use Rattle.catalogue_core.specs.Units.{Unit as Described, has_id}
-use Rattle.office_tables.specs.Query.{Finds, Misses}
-use Rattle.office_tables.specs.ChangeStatement.{Ran}
-use Rattle.office_tables.specs.Faults.{IsUnlimited, HasCause}
-use Rattle.office_tables.specs.StatementMeaning.{Means}
-use Rattle.office_tables.specs.RowNumbers.{HoldsNumbered}
-use Rattle.office_tables.specs.Order.{IsOrdered}
-use Rattle.office_tables.specs.Schema.{schema, to_unit, unit, element}
-use Rattle.office_tables.specs.Step.{PutsRow, OnlyTouches}
-use Rattle.office_tables.specs.declared.fault.StoreFault.{StoreFault}
-use Rattle.catalogue_statements.specs.DescriptionRows.{AreElements, HasUnit}
-use Rattle.catalogue_statements.specs.Rows.{unit_row, ElementRow, element_row, by_element}
-use Rattle.catalogue_statements.specs.declared.row_types.Element.{Element}
-use Rattle.sqlite_trees.proofs.ListLemmas.{map-map}
-use Rattle.office_tables.proofs.Calls.{on_ok_then}
-use Rattle.office_tables.proofs.numbered.OwnNumbers.{all_numbered, kept_ordered, those_left}
-use Rattle.office_tables.proofs.Casts.{cast_int, cast_null}
-use Rattle.office_tables.proofs.Queries.{asking, choosing}
-use Rattle.office_tables.proofs.statements.DeleteOf.{delete_leaves, delete_faults}
-use Rattle.office_tables.proofs.Fresh.{any_mapped}
-use Rattle.office_tables.proofs.InsertCauses.{IsWelcome}
-use Rattle.office_tables.proofs.statements.InsertOf.{insert_puts, insert_faults}
-use Rattle.office_tables.proofs.statements.OnlyOf.{delete_only}
-use Rattle.office_tables.proofs.statements.SelectOf.{select_finds, select_faults}
-use Rattle.office_tables.proofs.Steps.{is_referred_to}
-use Rattle.office_tables.proofs.Tests.{only, both, same_number, by_two_ints}
-use Rattle.office_tables.proofs.statements.WelcomeOf.{next_welcome, none_agrees}
+use Rattle.sqlite_value.specs.Keys.{joined, first_key}
+use Rattle.catalogue_core.specs.Units.{Unit as Described}
+use Rattle.catalogue_statements.proofs.Common.{AllByRecursion, AreElements, Binary, Bytes, Chosen, Command, Compare, Element, ElementRow, Eq, Finds, HasCause, HasUnit, HoldsNumbered, IfOk-weaker, Insert, Int, IsLive, IsOrdered, IsUnlimited, IsUtf8, IsWelcome, Key, Le, Means, Misses, Null, OnlyTouches, PutsRow, Ran, Row, Select, State, StoreFault, Term, Text, Trees, Version, agree, all_numbered, any_mapped, ascending, asking, both, by_element, by_two_ints, cast_int, cast_null, choosing, col, column, delete_faults, delete_leaves, delete_only, edit_of, element, element_row, has_id, has_null, has_parent, insert_faults, insert_puts, is_key_of, is_referred_to, kept_ordered, le_refl, list_all, list_any, lit, map-map, next_rowid, next_welcome, none_agrees, on_ok_then, only, op2, or_right, plain, references_fit, same_number, schema, select_faults, select_finds, those_left, to_unit, unit, unit_row, value_rows}
 use Rattle.catalogue_statements.proofs.NumberTests.{at_most}
 
 -- ---- rows that go with a unit
@@ -62,16 +16,20 @@ pub to_unit_fits : (v : Version) → list_all (is_key_of (schema v)) (to_unit 1 
 unfolding joined same_name
 to_unit_fits v = refl
 
-held_by_unit : (v : Version) (db : Trees) (row : Row) → list_any (λ parent. agree plain (0 ∷ []) parent (1 ∷ []) row) (db unit.tree) ≡ true → list_all (has_parent (schema v).tables db row) (to_unit 1 ∷ []) ≡ true
+held_by_unit : (v : Version) (db : Trees) (row : Row)
+    → list_any (λ parent. agree plain (0 ∷ []) parent (1 ∷ []) row) (db unit.tree) ≡ true
+    → list_all (has_parent (schema v).tables db row) (to_unit 1 ∷ []) ≡ true
 unfolding joined same_name
 held_by_unit v db row h = rw (h, or_right (has_null (1 ∷ []) row) true refl) refl
 
-unit_agrees : (n : ℕ) (row : Row) → column row 1 ≡ Int (pos n) → (u : Described) → agree plain (0 ∷ []) (unit_row u) (1 ∷ []) row ≡ has_id n u
+unit_agrees : (n : ℕ) (row : Row) → column row 1 ≡ Int (pos n) → (u : Described)
+    → agree plain (0 ∷ []) (unit_row u) (1 ∷ []) row ≡ has_id n u
 unfolding first_key
 unit_agrees n row is u = rw is (only (same_number u.id n))
 
 -- the unit is there
-pub has_its_unit : (v : Version) (db : Trees) (row : Row) (n : ℕ) → column row 1 ≡ Int (pos n) → HasUnit db n → list_all (has_parent (schema v).tables db row) (to_unit 1 ∷ []) ≡ true
+pub has_its_unit : (v : Version) (db : Trees) (row : Row) (n : ℕ) → column row 1 ≡ Int (pos n) → HasUnit db n
+    → list_all (has_parent (schema v).tables db row) (to_unit 1 ∷ []) ≡ true
 has_its_unit v db row n is known =
     held_by_unit v db row (ap (list_any (λ parent. agree plain (0 ∷ []) parent (1 ∷ []) row)) known.rows ∙ any_mapped unit_row _ (has_id n) (unit_agrees n row is) known.units ∙ known.there)
 
@@ -98,7 +56,8 @@ pub insert_element_means : (v : Version) → Means v insert_element_text 3 inser
 unfolding understood everything
 insert_element_means v = record { is = refl; plain = (refl, refl); whole = (le_refl _, refl, refl); unlisted = refl }
 
-same_element : (a b : ℤ × ElementRow) → agree plain (1 ∷ 2 ∷ []) (element_row a) (1 ∷ 2 ∷ []) (element_row b) ≡ (nat_eq b.1.unit a.1.unit && nat_eq b.1.k a.1.k)
+same_element : (a b : ℤ × ElementRow)
+    → agree plain (1 ∷ 2 ∷ []) (element_row a) (1 ∷ 2 ∷ []) (element_row b) ≡ (nat_eq b.1.unit a.1.unit && nat_eq b.1.k a.1.k)
 unfolding first_key
 same_element a b = both (same_number a.1.unit b.1.unit) (same_number a.1.k b.1.k)
 
@@ -112,7 +71,8 @@ module _ (old new : State) (unit_id k : ℕ) (value : Bytes) (v : Version) (has 
   news : (edit_of old.now.trees element [] Chosen 0 (value_rows params 4 1 insert_element_terms)).news ≡ element_row added ∷ []
   news = rw (cast_null, cast_int (pos unit_id), cast_int (pos k)) refl
 
-  pub insert_element_puts : (r : Result Unit StoreFault) → Ran insert_element_text params old new r → OnOk r (PutsRow element.tree (element_row added) old.now new.now)
+  pub insert_element_puts : (r : Result Unit StoreFault) → Ran insert_element_text params old new r
+      → OnOk r (PutsRow element.tree (element_row added) old.now new.now)
   insert_element_puts = insert_puts v 9 element refl insert_element_text insert_element_terms 4 params (insert_element_means v) old new has (element_row added) news
 
   module _ (known : HasUnit old.now.trees unit_id) (xs : List ElementRow) (at : AreElements old.now.trees xs) (none : list_any (λ (e : ElementRow). nat_eq unit_id e.unit && nat_eq k e.k) xs ≡ false) where
@@ -123,7 +83,8 @@ module _ (old new : State) (unit_id k : ℕ) (value : Bytes) (v : Version) (has 
         next_welcome v element element_row (λ (e : ElementRow). Int (pos e.unit) ∷ Int (pos e.k) ∷ Text e.value ∷ []) (λ _. refl) (record { unit = unit_id; k = k; value = value }) xs old.now.trees at.rows (rw apart refl)
         (record { typed = refl; present = refl; checked = refl; referred = to_unit_fits v; parents = has_its_unit v old.now.trees (element_row added) unit_id refl known })
 
-    pub insert_element_faults : IsUnlimited old → IsLive old → (r : Result Unit StoreFault) → Ran insert_element_text params old new r → IfErr r (HasCause old new)
+    pub insert_element_faults : IsUnlimited old → IsLive old → (r : Result Unit StoreFault)
+        → Ran insert_element_text params old new r → IfErr r (HasCause old new)
     insert_element_faults = insert_faults v 9 element refl insert_element_text insert_element_terms 4 params (insert_element_means v) old new has (element_row added) news refl welcome
 
 -- ---- no text more
@@ -148,16 +109,19 @@ clear_elements_means v = record { is = refl; plain = (refl, refl); whole = (le_r
 
 module _ (old new : State) (unit_id : ℕ) (v : Version) (has : old.now.schema ≡ schema v) where
   pub clear_elements_leaves : (xs : List ElementRow) → HoldsNumbered element element_row old xs
-      → (r : Result Unit StoreFault) → Ran clear_elements_text (Int (pos unit_id) ∷ []) old new r → OnOk r (HoldsNumbered element element_row new (filter (λ (x : ElementRow). not (nat_eq unit_id x.unit)) xs))
+      → (r : Result Unit StoreFault) → Ran clear_elements_text (Int (pos unit_id) ∷ []) old new r
+      → OnOk r (HoldsNumbered element element_row new (filter (λ (x : ElementRow). not (nat_eq unit_id x.unit)) xs))
   clear_elements_leaves xs at r ran =
       on_ok_then r _ _ (λ has. those_left element_row (old.now.trees element.tree) (new.now.trees element.tree) xs at (λ (e : ElementRow). nat_eq unit_id e.unit) has.are)
       (delete_leaves v 9 element refl (element_alone v) clear_elements_text of_unit (col 1 0 ∷ []) (Int (pos unit_id) ∷ []) (clear_elements_means v) old new has
       element_row (λ x. x.0) (λ _. refl) at.numbered at.are at.rise (λ (x : ℤ × ElementRow). nat_eq unit_id x.1.unit) (λ x. only (same_number x.1.unit unit_id)) (λ (x : ℤ × ElementRow). Int x.0 ∷ []) (λ _. refl) (λ _. refl) r ran)
 
-  pub clear_elements_only : (r : Result Unit StoreFault) → Ran clear_elements_text (Int (pos unit_id) ∷ []) old new r → OnOk r (OnlyTouches (element.tree ∷ []) old.now new.now)
+  pub clear_elements_only : (r : Result Unit StoreFault) → Ran clear_elements_text (Int (pos unit_id) ∷ []) old new r
+      → OnOk r (OnlyTouches (element.tree ∷ []) old.now new.now)
   clear_elements_only = delete_only v 9 element refl clear_elements_text _ (Int (pos unit_id) ∷ []) old new has (element_alone v) (clear_elements_means v)
 
-  pub clear_elements_faults : IsUnlimited old → IsLive old → (r : Result Unit StoreFault) → Ran clear_elements_text (Int (pos unit_id) ∷ []) old new r → IfErr r (HasCause old new)
+  pub clear_elements_faults : IsUnlimited old → IsLive old → (r : Result Unit StoreFault)
+      → Ran clear_elements_text (Int (pos unit_id) ∷ []) old new r → IfErr r (HasCause old new)
   clear_elements_faults = delete_faults v 9 element refl (element_alone v) clear_elements_text of_unit (col 1 0 ∷ []) (Int (pos unit_id) ∷ []) (clear_elements_means v) old new has (element_fits v) refl
 
 -- ---- the texts of a unit
@@ -200,7 +164,9 @@ module _ (old new : State) (unit_id : ℕ) (v : Version) (has : old.now.schema �
       (λ (x : ℤ × ElementRow). nat_eq unit_id x.1.unit) (λ x. only (same_number x.1.unit unit_id)) (λ x. cells (told_of x)) (λ (x : ℤ × ElementRow). Int (pos x.1.unit) ∷ Int (pos x.1.k) ∷ []) (λ _. refl)
       (λ x y. by_element x.1 y.1) (λ _. refl) (λ x y. by_two_ints (pos x.1.unit) (pos y.1.unit) (pos x.1.k) (pos y.1.k)) cells items told_of (λ _. refl) r finds)
 
-  pub elements_faults : AllByRecursion (λ (e : ElementRow). IsUtf8 e.value) xs → IsUnlimited old → IfErr r (Misses cells (λ (e : Element). IsUtf8 e.value) elements_text (Int (pos unit_id) ∷ []) old new) → IfErr r (HasCause old new)
+  pub elements_faults : AllByRecursion (λ (e : ElementRow). IsUtf8 e.value) xs → IsUnlimited old
+      → IfErr r (Misses cells (λ (e : Element). IsUtf8 e.value) elements_text (Int (pos unit_id) ∷ []) old new)
+      → IfErr r (HasCause old new)
   elements_faults legible free =
       select_faults v element elements_text of_unit elements_columns by_unit elements_names (Int (pos unit_id) ∷ []) (elements_means v) old new has element_row at.numbered at.are
       (λ (x : ℤ × ElementRow). nat_eq unit_id x.1.unit) (λ x. only (same_number x.1.unit unit_id)) (λ x. cells (told_of x)) (λ (x : ℤ × ElementRow). Int (pos x.1.unit) ∷ Int (pos x.1.k) ∷ []) (λ _. refl)
@@ -235,7 +201,9 @@ module _ (old new : State) (unit_id most : ℕ) (v : Version) (has : old.now.sch
       (λ (x : ℤ × ElementRow). nat_eq unit_id x.1.unit && nat_le x.1.k most) (λ x. both (same_number x.1.unit unit_id) (at_most x.1.k most)) (λ x. cells (told_of x)) (λ (x : ℤ × ElementRow). Int (pos x.1.unit) ∷ Int (pos x.1.k) ∷ []) (λ _. refl)
       (λ x y. by_element x.1 y.1) (λ _. refl) (λ x y. by_two_ints (pos x.1.unit) (pos y.1.unit) (pos x.1.k) (pos y.1.k)) cells items told_of (λ _. refl) r finds)
 
-  pub first_faults : AllByRecursion (λ (e : ElementRow). IsUtf8 e.value) xs → IsUnlimited old → IfErr r (Misses cells (λ (e : Element). IsUtf8 e.value) first_text (Int (pos unit_id) ∷ Int (pos most) ∷ []) old new) → IfErr r (HasCause old new)
+  pub first_faults : AllByRecursion (λ (e : ElementRow). IsUtf8 e.value) xs → IsUnlimited old
+      → IfErr r (Misses cells (λ (e : Element). IsUtf8 e.value) first_text (Int (pos unit_id) ∷ Int (pos most) ∷ []) old new)
+      → IfErr r (HasCause old new)
   first_faults legible free =
       select_faults v element first_text first_of_unit elements_columns by_unit elements_names (Int (pos unit_id) ∷ Int (pos most) ∷ []) (first_means v) old new has element_row at.numbered at.are
       (λ (x : ℤ × ElementRow). nat_eq unit_id x.1.unit && nat_le x.1.k most) (λ x. both (same_number x.1.unit unit_id) (at_most x.1.k most)) (λ x. cells (told_of x)) (λ (x : ℤ × ElementRow). Int (pos x.1.unit) ∷ Int (pos x.1.k) ∷ []) (λ _. refl)

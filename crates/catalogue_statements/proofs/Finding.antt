@@ -1,21 +1,13 @@
 -- Units that are looked for.
 use Rattle.std.proofs.Common.{◌≡◌, inl, inr, ℕ, List, [], ◌∷◌, map, filter, Bool, true, ◌&&◌, slice_get, refl, nat_eq, arith}
-use Rattle.std.specs.List.{list_any}
-use Rattle.std.specs.List.Sorted.{IsPermutation}
-use Rattle.std.proofs.lemmas.Bool.{cases_Bool}
-use Rattle.std.proofs.lemmas.Bool.Decides.{nat_tests}
-use Rattle.std.proofs.lemmas.List.Sorted.{IsPermutation-sym}
-use Rattle.sqlite_rules.specs.Lists.{Has}
-use Rattle.sqlite_rules.proofs.ListLemmas.{some_has, some_from, has_filtered, has_kept}
-use Rattle.tree_core.specs.Forest.{Forest, nodes}
-use Rattle.catalogue_core.specs.Units.{Unit, has_id}
 use Rattle.catalogue_core.specs.UnitLookup.{FindsUnit}
-use Rattle.office_tables.proofs.Rows.{had}
+use Rattle.catalogue_statements.proofs.Common.{Forest, Has, IsPermutation, IsPermutation-sym, Unit, cases_Bool, had, has_filtered, has_id, has_kept, list_any, nat_tests, nodes, some_from, some_has}
 
 pub itself : (n : ℕ) → nat_eq n n ≡ true
 itself n = grind (arith, nat_tests)
 
-pub finds_first : (is : Unit → Bool) (f : Forest Unit) (units ys : List Unit) → IsPermutation (nodes f) units → IsPermutation (filter is units) ys → FindsUnit is f (slice_get (map (λ (u : Unit). u.id) ys) 0)
+pub finds_first : (is : Unit → Bool) (f : Forest Unit) (units ys : List Unit) → IsPermutation (nodes f) units
+    → IsPermutation (filter is units) ys → FindsUnit is f (slice_get (map (λ (u : Unit). u.id) ys) 0)
 finds_first is f units [] all some = elim (cases_Bool (list_any is (nodes f))) [
   | inr none ↦ none
   | inl there ↦ absurd (

@@ -2,20 +2,9 @@
 use Rattle.std.proofs.Common.{◌≡◌, ℕ, zero, suc, ◌+◌, ◌≤◌, ◌<◌, List, [], ◌∷◌, map, filter, get_or, slice_get, Bool, true, false, cond, Option, Some, None, option_map, ◌&&◌, nat_eq, nat_le, refl, ap, subst, ◌∙◌, arith, inl, inr}
 use Rattle.std.specs.Prelude.{unwrap_or}
 use Rattle.std.specs.List.{find}
-use Rattle.std.specs.List.Sorted.{IsPermutation}
-use Rattle.std.proofs.lemmas.Bool.{eq-eqb}
-use Rattle.std.proofs.lemmas.Bool.Decides.{nat_tests}
-use Rattle.std.proofs.lemmas.List.Sorted.{IsPermutation-map, IsPermutation-trans, length_permutation}
-use Rattle.sqlite_trees.proofs.ListLemmas.{filter-map, map-map, IsPermutation-filter}
-use Rattle.tree_core.proofs.Lists.{eqb_comm}
-use Rattle.isad_core.specs.Texts.{Bytes}
 use Rattle.isad_core.specs.Values.{text_at}
 use Rattle.isad_core.specs.declared.values.Values.{Values}
-use Rattle.office_tables.proofs.Rows.{filters, had, same_test}
-use Rattle.catalogue_statements.specs.DescriptionRows.{cell_of}
-use Rattle.catalogue_statements.specs.Rows.{ElementRow}
-use Rattle.catalogue_statements.specs.Representation.{texts_from, element_number, element_cells, elements_of}
-use Rattle.catalogue_statements.specs.declared.row_types.Element.{Element}
+use Rattle.catalogue_statements.proofs.Common.{Bytes, Element, ElementRow, IsPermutation, IsPermutation-filter, IsPermutation-map, IsPermutation-trans, cell_of, element_cells, element_number, elements_of, eq-eqb, eqb_comm, filter-map, filters, had, length_permutation, map-map, nat_tests, same_test, texts_from}
 use Rattle.catalogue_statements.proofs.TextReads.{other_number}
 
 abbrev numbered : ℕ × Bytes → ℕ × Bytes
@@ -23,7 +12,8 @@ numbered t = (element_number t.0, t.1)
 
 -- the texts among those of a unit that have this place
 abbrev texts_for : ℕ → ℕ → List (Option Bytes) → List Bytes
-texts_for place k texts = map (λ (c : ℕ × Bytes). c.1) (filter (λ (c : ℕ × Bytes). nat_eq (element_number place) c.0) (map numbered (texts_from k texts)))
+texts_for place k texts =
+    map (λ (c : ℕ × Bytes). c.1) (filter (λ (c : ℕ × Bytes). nat_eq (element_number place) c.0) (map numbered (texts_from k texts)))
 
 abbrev told : ElementRow → Element
 told e = record { k = e.k; value = e.value }
@@ -35,14 +25,16 @@ as_list (Some text) = text ∷ []
 none_after : (k place : ℕ) (texts : List (Option Bytes)) → place < k → texts_for place k texts ≡ []
 none_after k place [] h = refl
 none_after k place (None ∷ texts) h = none_after (k + 1) place texts (omega (arith, h))
-none_after k place (Some t ∷ texts) h = rw (other_number place k (λ e. omega (arith, e, h))) (none_after (k + 1) place texts (omega (arith, h)))
+none_after k place (Some t ∷ texts) h =
+    rw (other_number place k (λ e. omega (arith, e, h))) (none_after (k + 1) place texts (omega (arith, h)))
 
 one_among : (k i : ℕ) (texts : List (Option Bytes)) → texts_for (k + i) k texts ≡ as_list (get_or texts i None)
 one_among k i [] = refl
 one_among k zero (None ∷ texts) = none_after (k + 1) (k + 0) texts (omega arith)
 one_among k zero (Some t ∷ texts) =
     rw (eq-eqb (element_number (k + 0)) (element_number k) (ap element_number (omega arith))) (ap (λ l. t ∷ l) (none_after (k + 1) (k + 0) texts (omega arith)))
-one_among k (suc i) (None ∷ texts) = ap (λ p. texts_for p (k + 1) texts) {x = k + suc i} {y = k + 1 + i} (omega arith) ∙ one_among (k + 1) i texts
+one_among k (suc i) (None ∷ texts) =
+    ap (λ p. texts_for p (k + 1) texts) {x = k + suc i} {y = k + 1 + i} (omega arith) ∙ one_among (k + 1) i texts
 one_among k (suc i) (Some t ∷ texts) =
     rw (other_number (k + suc i) k (λ e. omega (arith, e))) (ap (λ p. texts_for p (k + 1) texts) {x = k + suc i} {y = k + 1 + i} (omega arith) ∙ one_among (k + 1) i texts)
 
@@ -59,8 +51,10 @@ few_same (Some t) (y ∷ []) h = elim (had (t ∷ []) (y ∷ []) h y (inl refl))
 few_same (Some t) (y ∷ z ∷ ys) h = absurd (omega (arith, length_permutation (t ∷ []) (y ∷ z ∷ ys) h))
 
 -- the rows of a unit with the number of an element tell its text, where it has one
-one_text : (n place : ℕ) (values : Values) (xs ys : List ElementRow) → IsPermutation (element_cells values) (elements_of n xs)
-    → IsPermutation (filter (λ (e : ElementRow). nat_eq n e.unit && nat_eq (element_number place) e.k) xs) ys → map (λ (e : ElementRow). e.value) ys ≡ as_list (text_at (Some place) values)
+one_text : (n place : ℕ) (values : Values) (xs ys : List ElementRow)
+    → IsPermutation (element_cells values) (elements_of n xs)
+    → IsPermutation (filter (λ (e : ElementRow). nat_eq n e.unit && nat_eq (element_number place) e.k) xs) ys
+    → map (λ (e : ElementRow). e.value) ys ≡ as_list (text_at (Some place) values)
 one_text n place values xs ys told same =
     let mine = λ (e : ElementRow). nat_eq n e.unit in
     let that = λ (c : ℕ × Bytes). nat_eq (element_number place) c.0 in
@@ -72,14 +66,17 @@ one_text n place values xs ys told same =
     (subst (IsPermutation (filter that (element_cells values))) among (IsPermutation-filter that (element_cells values) (elements_of n xs) told))
     (IsPermutation-map cell_of (filter (λ (e : ElementRow). mine e && nat_eq (element_number place) e.k) xs) ys same) in
     let texts = IsPermutation-map text (filter that (element_cells values)) (map cell_of ys) cells in
-    let is : map text (filter that (element_cells values)) ≡ as_list (text_at (Some place) values) = ap (λ p. texts_for p 0 values.texts) {x = place} {y = 0 + place} (omega arith) ∙ one_among 0 place values.texts ∙ ap as_list (same_get values.texts place) in
+    let is : map text (filter that (element_cells values)) ≡ as_list (text_at (Some place) values) =
+    ap (λ p. texts_for p 0 values.texts) {x = place} {y = 0 + place} (omega arith) ∙ one_among 0 place values.texts
+    ∙ ap as_list (same_get values.texts place) in
     few_same (text_at (Some place) values) (map (λ (e : ElementRow). e.value) ys)
     (subst (λ l. IsPermutation l (map (λ (e : ElementRow). e.value) ys)) is (subst (IsPermutation (map text (filter that (element_cells values)))) (map-map text cell_of ys) texts))
 
 -- ---- the first element with a number, among those that are read
 
 -- the first of at most one
-first_is : (k : ℕ) (text : Option Bytes) (ys : List ElementRow) → map (λ (e : ElementRow). e.value) (filter (λ (e : ElementRow). nat_eq k e.k) ys) ≡ as_list text
+first_is : (k : ℕ) (text : Option Bytes) (ys : List ElementRow)
+    → map (λ (e : ElementRow). e.value) (filter (λ (e : ElementRow). nat_eq k e.k) ys) ≡ as_list text
     → option_map (λ (e : Element). e.value) (find (λ (e : Element). nat_eq e.k k) (map told ys)) ≡ text
 first_is k None [] h = refl
 first_is k (Some t) [] h = absurd (let e : [] ≡ t ∷ [] = h in cc)
@@ -101,7 +98,8 @@ still_that true n k most h = grind (arith, nat_tests, h)
 still_that false n k most h = refl
 
 -- the elements up to a number tell the text of each element up to it
-pub text_among_first : (n place most : ℕ) (values : Values) (xs ys : List ElementRow) → element_number place ≤ most → IsPermutation (element_cells values) (elements_of n xs)
+pub text_among_first : (n place most : ℕ) (values : Values) (xs ys : List ElementRow) → element_number place ≤ most
+    → IsPermutation (element_cells values) (elements_of n xs)
     → IsPermutation (filter (λ (e : ElementRow). nat_eq n e.unit && nat_le e.k most) xs) ys
     → option_map (λ (e : Element). e.value) (find (λ (e : Element). nat_eq e.k (element_number place)) (map told ys)) ≡ text_at (Some place) values
 text_among_first n place most values xs ys low told same =

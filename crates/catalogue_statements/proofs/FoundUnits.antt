@@ -1,19 +1,7 @@
 -- A unit that is found by its number.
 use Rattle.std.proofs.Common.{◌≡◌, ℕ, ◌≤◌, List, [], ◌∷◌, length, map, filter, find, slice_get, Some, None, Bool, false, nat_eq, refl, sym, ap, ◌∙◌, arith, inl, inr}
-use Rattle.std.specs.List.{list_any}
-use Rattle.std.specs.List.Sorted.{IsPermutation}
-use Rattle.std.proofs.lemmas.Bool.{cases_Bool, eq-eqb, eqb-true}
-use Rattle.std.proofs.lemmas.List.Sorted.{IsPermutation-trans, length_permutation}
-use Rattle.sqlite.specs.Tree.{Trees}
-use Rattle.sqlite_rules.specs.Lists.{Has}
-use Rattle.sqlite_rules.proofs.ListLemmas.{has_filtered, has_kept}
-use Rattle.sqlite_trees.proofs.ListLemmas.{IsPermutation-filter}
-use Rattle.tree_core.specs.Forest.{Forest, nodes, has}
-use Rattle.catalogue_statements.specs.Representation.{RepresentsUnits}
-use Rattle.catalogue_core.specs.Units.{Unit, has_id}
+use Rattle.catalogue_statements.proofs.Common.{Forest, Has, IsPermutation, IsPermutation-filter, IsPermutation-trans, RepresentsUnits, Trees, Unit, cases_Bool, eq-eqb, eqb-true, first_kept, had, has, has_filtered, has_id, has_kept, length_permutation, list_any, nodes}
 use Rattle.catalogue_statements.proofs.NewUnits.{numbered_once}
-use Rattle.office_tables.proofs.Reading.{first_kept}
-use Rattle.office_tables.proofs.Rows.{had}
 
 pub none_left : {A : Type 0} (p : A → Bool) (xs : List A) → list_any p xs ≡ false → filter p xs ≡ []
 none_left p [] h = refl
@@ -37,7 +25,8 @@ none_first tell [] e = refl
 none_first tell (y ∷ ys) e = absurd (let clash : Some (tell y) ≡ None = e in cc)
 
 -- what the first tells is told by one of them
-pub told_first : {A B : Type 0} (tell : A → B) (ys : List A) (told : B) → slice_get (map tell ys) 0 ≡ Some told → (y : A) × Has ys y × (told ≡ tell y)
+pub told_first : {A B : Type 0} (tell : A → B) (ys : List A) (told : B) → slice_get (map tell ys) 0 ≡ Some told
+    → (y : A) × Has ys y × (told ≡ tell y)
 told_first tell [] told e = absurd (let clash : None ≡ Some told = e in cc)
 told_first tell (y ∷ ys) told e = (y, inl refl, let same : Some (tell y) ≡ Some told = e in cc)
 
@@ -53,20 +42,24 @@ module _ (db : Trees) (f : Forest Unit) (at : RepresentsUnits db f) (n : ℕ) wh
 
   -- a unit that is there is found by its number
   pub found_one : (u : Unit) → Has (nodes f) u → n ≡ u.id → find (has_id n) (nodes f) ≡ Some u
-  found_one u there is = sym (first_kept (has_id n) (nodes f)) ∙ alone kept u once (has_kept (has_id n) (nodes f) u there (eq-eqb n u.id is))
+  found_one u there is =
+      sym (first_kept (has_id n) (nodes f))
+      ∙ alone kept u once (has_kept (has_id n) (nodes f) u there (eq-eqb n u.id is))
 
   module _ (ys : List Unit) (same : IsPermutation (filter (λ (u : Unit). nat_eq n u.id) at.units) ys) where
     all : IsPermutation kept ys
     all = IsPermutation-trans kept (filter (has_id n) at.units) ys (IsPermutation-filter (has_id n) (nodes f) at.units at.are) same
 
     -- where a row tells nothing, there is no unit
-    pub none_found : {B : Type 0} (tell : Unit → B) → slice_get (map tell ys) 0 ≡ None → find (has_id n) (nodes f) ≡ None
+    pub none_found : {B : Type 0} (tell : Unit → B) → slice_get (map tell ys) 0 ≡ None
+        → find (has_id n) (nodes f) ≡ None
     none_found tell e =
         let none : length ys ≡ 0 = omega (arith, ap length (none_first tell ys e)) in
         sym (first_kept (has_id n) (nodes f)) ∙ ap (λ (l : List Unit). slice_get l 0) (empty kept (omega (arith, none, length_permutation kept ys all)))
 
     -- what a row tells is of the unit
-    pub one_told : {B : Type 0} (tell : Unit → B) (told : B) → slice_get (map tell ys) 0 ≡ Some told → (u : Unit) × Has (nodes f) u × (n ≡ u.id) × (find (has_id n) (nodes f) ≡ Some u) × (told ≡ tell u)
+    pub one_told : {B : Type 0} (tell : Unit → B) (told : B) → slice_get (map tell ys) 0 ≡ Some told
+        → (u : Unit) × Has (nodes f) u × (n ≡ u.id) × (find (has_id n) (nodes f) ≡ Some u) × (told ≡ tell u)
     one_told tell told e =
         let first = told_first tell ys told e in
         let u = first.0 in

@@ -2,31 +2,18 @@
 use Rattle.office_tables.specs.Schema as tables
 use Rattle.std.proofs.Common.{◌≡◌, ℕ, ℤ, ◌+◌, List, [], ◌∷◌, ◌++◌, length, map, true, refl, sym, ap, ap₂, subst, ◌∙◌, arith}
 use Rattle.std.specs.Prelude.{unwrap_or}
-use Rattle.std.specs.List.{list_any, list_all}
-use Rattle.std.proofs.lemmas.Bool.{and_parts}
-use Rattle.std.proofs.lemmas.List.{map-append, append_assoc}
-use Rattle.std.proofs.lemmas.List.Sorted.{IsPermutation-refl}
-use Rattle.sqlite.specs.Edit.{next_rowid}
-use Rattle.sqlite.specs.Effect.{Database}
-use Rattle.sqlite.specs.Tree.{Trees}
-use Rattle.isad_core.specs.declared.values.BoxKey.{BoxKey}
-use Rattle.isad_core.specs.Boxes.{distinct, is_same}
-use Rattle.catalogue_statements.specs.DescriptionRows.{AreHoused, WithHousings}
-use Rattle.catalogue_core.specs.Descriptions.{with_boxes}
-use Rattle.catalogue_core.specs.CatalogueMerge.{box_number}
-use Rattle.catalogue_statements.specs.Rows.{HousingRow, housing_row, counted_from}
-use Rattle.catalogue_statements.specs.Representation.{RepresentsContainers}
-use Rattle.office_tables.specs.Step.{OnlyTouches, PutsRow}
-use Rattle.office_tables.proofs.numbered.OwnNumbers.{one_more, still_numbered}
 use Rattle.catalogue_core.proofs.DistinctFront.{distinct_front}
-use Rattle.catalogue_core.proofs.Imported.{distinct_again}
+use Rattle.catalogue_statements.proofs.Common.{AreHoused, BoxKey, Database, HousingRow, IsPermutation-refl, OnlyTouches, PutsRow, RepresentsContainers, Trees, WithHousings, and_parts, append_assoc, box_number, counted_from, distinct, distinct_again, housing_row, is_same, list_all, list_any, map-append, next_rowid, one_more, still_numbered, with_boxes}
 use Rattle.catalogue_statements.proofs.BoxNumbers.{all_known, keeps_number}
 
 abbrev new_row : Trees → ℕ → ℕ → ℕ → ℤ × HousingRow
-new_row db unit ord container = (next_rowid (db tables.housing.tree), record { unit = unit; ord = ord; container = container })
+new_row db unit ord container =
+    (next_rowid (db tables.housing.tree), record { unit = unit; ord = ord; container = container })
 
 -- one row is put
-one_housing : (old new : Database) (unit ord container : ℕ) (boxes : List BoxKey) (xs : List HousingRow) → AreHoused old.trees boxes xs → PutsRow tables.housing.tree (housing_row (new_row old.trees unit ord container)) old new
+one_housing : (old new : Database) (unit ord container : ℕ) (boxes : List BoxKey) (xs : List HousingRow)
+    → AreHoused old.trees boxes xs
+    → PutsRow tables.housing.tree (housing_row (new_row old.trees unit ord container)) old new
     → (ys : List HousingRow) × AreHoused new.trees boxes ys × WithHousings unit ((ord, container) ∷ []) xs ys
 one_housing old new unit ord container boxes xs at puts =
     let row : HousingRow = record { unit = unit; ord = ord; container = container } in
@@ -38,8 +25,11 @@ one_housing old new unit ord container boxes xs at puts =
     (row ∷ xs, there, record { more = row ∷ []; are = IsPermutation-refl (row ∷ xs); tell = IsPermutation-refl ((ord, container) ∷ []); theirs = (refl, tt) })
 
 -- a container is numbered, and then the unit lies in it
-pub housed : (old mid new : Database) (unit ord n : ℕ) (key : BoxKey) (boxes : List BoxKey) (xs : List HousingRow) → AreHoused old.trees boxes xs
-    → (n ≡ box_number (with_boxes boxes (key ∷ [])) key) × RepresentsContainers mid.trees (with_boxes boxes (key ∷ [])) → OnlyTouches (tables.container.tree ∷ []) old mid → PutsRow tables.housing.tree (housing_row (new_row mid.trees unit ord n)) mid new
+pub housed : (old mid new : Database) (unit ord n : ℕ) (key : BoxKey) (boxes : List BoxKey) (xs : List HousingRow)
+    → AreHoused old.trees boxes xs
+    → (n ≡ box_number (with_boxes boxes (key ∷ [])) key) × RepresentsContainers mid.trees (with_boxes boxes (key ∷ []))
+    → OnlyTouches (tables.container.tree ∷ []) old mid
+    → PutsRow tables.housing.tree (housing_row (new_row mid.trees unit ord n)) mid new
     → (ys : List HousingRow) × AreHoused new.trees (with_boxes boxes (key ∷ [])) ys × WithHousings unit ((ord, box_number (with_boxes boxes (key ∷ [])) key) ∷ []) xs ys
 housed old mid new unit ord n key boxes xs at numbered kept puts =
     let all = with_boxes boxes (key ∷ []) in
@@ -57,13 +47,15 @@ housed old mid new unit ord n key boxes xs at numbered kept puts =
 abbrev pub cells_in : List BoxKey → List BoxKey → List (ℕ × ℕ)
 cells_in containers boxes = map (λ box. (box.0, box_number containers box.1)) (counted_from 1 boxes)
 
-counted_more : (n : ℕ) (bs : List BoxKey) (b : BoxKey) → counted_from n (bs ++ b ∷ []) ≡ counted_from n bs ++ (n + length bs, b) ∷ []
+counted_more : (n : ℕ) (bs : List BoxKey) (b : BoxKey)
+    → counted_from n (bs ++ b ∷ []) ≡ counted_from n bs ++ (n + length bs, b) ∷ []
 counted_more n [] b = ap (λ m. (let x : ℕ × BoxKey = (m, b) in x) ∷ []) (omega arith)
 counted_more n (c ∷ bs) b =
     ap (λ l. (let x : ℕ × BoxKey = (n, c) in x) ∷ l) (counted_more (n + 1) bs b ∙ ap (λ m. counted_from (n + 1) bs ++ (let x : ℕ × BoxKey = (m, b) in x) ∷ []) (omega arith))
 
 -- containers that are known keep their numbers when more become known
-pub same_cells : (cs bs known : List BoxKey) (n : ℕ) → distinct cs ≡ cs → list_all (λ b. list_any (is_same b) cs) known ≡ true
+pub same_cells : (cs bs known : List BoxKey) (n : ℕ) → distinct cs ≡ cs
+    → list_all (λ b. list_any (is_same b) cs) known ≡ true
     → map (λ (box : ℕ × BoxKey). (let c : ℕ × ℕ = (box.0, box_number (with_boxes cs bs) box.1) in c)) (counted_from n known) ≡ map (λ (box : ℕ × BoxKey). (let c : ℕ × ℕ = (box.0, box_number cs box.1) in c)) (counted_from n known)
 same_cells cs bs [] n apart all = refl
 same_cells cs bs (b ∷ known) n apart all =
@@ -71,7 +63,8 @@ same_cells cs bs (b ∷ known) n apart all =
     ap₂ (λ m l. (let c : ℕ × ℕ = (n, unwrap_or m 0) in c) ∷ l) (keeps_number cs bs b apart parts.0) (same_cells cs bs known (n + 1) apart parts.1)
 
 -- one container more
-pub boxes_more : (boxes seen : List BoxKey) (b : BoxKey) → distinct boxes ≡ boxes → with_boxes (with_boxes boxes seen) (b ∷ []) ≡ with_boxes boxes (seen ++ b ∷ [])
+pub boxes_more : (boxes seen : List BoxKey) (b : BoxKey) → distinct boxes ≡ boxes
+    → with_boxes (with_boxes boxes seen) (b ∷ []) ≡ with_boxes boxes (seen ++ b ∷ [])
 boxes_more boxes seen b apart = distinct_front (boxes ++ seen) (b ∷ []) ∙ ap distinct (append_assoc boxes seen (b ∷ []))
 
 pub housing_more : (boxes seen : List BoxKey) (b : BoxKey) (place : ℕ) → distinct boxes ≡ boxes → place ≡ length seen
@@ -80,7 +73,10 @@ housing_more boxes seen b place apart is =
     let now = with_boxes boxes seen in
     let next = with_boxes now (b ∷ []) in
     let told = λ (cs : List BoxKey) (box : ℕ × BoxKey). (let c : ℕ × ℕ = (box.0, box_number cs box.1) in c) in
-    let same : cells_in next seen ≡ cells_in now seen = same_cells now (b ∷ []) seen 1 (distinct_again (boxes ++ seen)) (all_known boxes seen) in
-    let more : cells_in next (seen ++ b ∷ []) ≡ cells_in next seen ++ (1 + length seen, box_number next b) ∷ [] = ap (map (told next)) (counted_more 1 seen b) ∙ map-append (told next) (counted_from 1 seen) ((1 + length seen, b) ∷ []) in
+    let same : cells_in next seen ≡ cells_in now seen =
+    same_cells now (b ∷ []) seen 1 (distinct_again (boxes ++ seen)) (all_known boxes seen) in
+    let more : cells_in next (seen ++ b ∷ []) ≡ cells_in next seen ++ (1 + length seen, box_number next b) ∷ [] =
+    ap (map (told next)) (counted_more 1 seen b)
+    ∙ map-append (told next) (counted_from 1 seen) ((1 + length seen, b) ∷ []) in
     let at : place + 1 ≡ 1 + length seen = omega (arith, is) in
     ap₂ (λ l n. l ++ (let c : ℕ × ℕ = (n, box_number next b) in c) ∷ []) (sym same) at ∙ sym more ∙ ap (λ cs. cells_in cs (seen ++ b ∷ [])) (boxes_more boxes seen b apart)

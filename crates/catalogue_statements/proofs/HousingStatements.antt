@@ -1,55 +1,14 @@
 -- The statements on which units lie in which containers: what their texts mean, what they leave or tell, and why they fail.
 use Rattle.std.proofs.Common.{◌≡◌, ℕ, ℤ, pos, List, [], ◌∷◌, map, filter, length, codes, Bool, true, false, not, ◌&&◌, Result, OnOk, IfOk, IfErr, nat_eq, refl, sym, ◌∙◌}
-use Rattle.std.proofs.Math.Nat.{le_refl}
 use Rattle.std.specs.Bool.{⊤}
-use Rattle.std.specs.List.{list_any, list_all}
-use Rattle.std.proofs.lemmas.Result.{IfOk-weaker}
-use Rattle.sqlite.specs.declared.types.Value.TheVariants.{Null, Int}
-use Rattle.sqlite.specs.Order.{Row}
-use Rattle.sqlite.specs.Edit.{edit_of, next_rowid}
-use Rattle.sqlite.specs.Effect.{value_rows}
-use Rattle.sqlite.specs.Rowids.TheVariants.{Chosen}
-use Rattle.sqlite.specs.Term.{Term, lit, col, op2, eval_all, holds}
-use Rattle.sqlite.specs.Query.{inner, end}
-use Rattle.sqlite.specs.Collation.TheVariants.{Binary}
-use Rattle.sqlite.specs.Command.{Command}
-use Rattle.sqlite.specs.Command.TheVariants.{Insert, Delete, Select}
+use Rattle.sqlite.specs.Command.TheVariants.{Delete}
 use Rattle.sqlite.specs.Source.TheVariants.{Values}
 use Rattle.sqlite.specs.Listing.{understood}
-use Rattle.sqlite.specs.State.{State, IsLive}
 use Rattle.sqlite_schema.specs.Names.{same_name}
-use Rattle.sqlite_schema.specs.Rules.{agree, references_fit}
-use Rattle.sqlite_sql.specs.declared.ops.BinaryOp.TheVariants.{Compare}
-use Rattle.sqlite_sql.specs.declared.ops.CompareOp.TheVariants.{Eq}
 use Rattle.sqlite_tied.specs.Compute.{everything}
-use Rattle.sqlite_trees.proofs.ListLemmas.{all_of, map-map}
-use Rattle.sqlite_typing.specs.Types.{accepts_program}
-use Rattle.sqlite_value.specs.Keys.{joined, first_key, plain}
-use Rattle.office_tables.specs.Versions.{Version}
-use Rattle.office_tables.specs.Query.{Finds, Misses}
-use Rattle.office_tables.specs.ChangeStatement.{Ran}
-use Rattle.office_tables.specs.Faults.{IsUnlimited, HasCause}
-use Rattle.office_tables.specs.StatementMeaning.{Means}
-use Rattle.office_tables.specs.RowNumbers.{HoldsNumbered}
-use Rattle.office_tables.specs.Order.{IsOrdered}
-use Rattle.office_tables.specs.Schema.{schema, housing}
-use Rattle.office_tables.specs.Step.{PutsRow, OnlyTouches}
-use Rattle.office_tables.specs.declared.fault.StoreFault.{StoreFault}
-use Rattle.catalogue_statements.specs.DescriptionRows.{HasUnit}
-use Rattle.catalogue_statements.specs.Rows.{HousingRow, housing_row, by_housing}
+use Rattle.sqlite_value.specs.Keys.{joined, first_key}
 use Rattle.catalogue_statements.specs.declared.row_types.Housing.{Housing}
-use Rattle.office_tables.proofs.Calls.{on_ok_then}
-use Rattle.office_tables.proofs.numbered.OwnNumbers.{kept_ordered, those_left}
-use Rattle.office_tables.proofs.Casts.{cast_int, cast_null}
-use Rattle.office_tables.proofs.statements.DeleteOf.{delete_leaves, delete_faults}
-use Rattle.office_tables.proofs.InsertCauses.{IsWelcome}
-use Rattle.office_tables.proofs.statements.InsertOf.{insert_puts, insert_faults}
-use Rattle.office_tables.proofs.statements.OnlyOf.{delete_only}
-use Rattle.office_tables.proofs.Queries.{plain_query, asking, choosing}
-use Rattle.office_tables.proofs.statements.SelectOf.{select_finds, select_faults}
-use Rattle.office_tables.proofs.Steps.{is_referred_to}
-use Rattle.office_tables.proofs.Tests.{only, both, either_first, same_number, by_two_ints}
-use Rattle.office_tables.proofs.statements.WelcomeOf.{next_welcome, none_agrees}
+use Rattle.catalogue_statements.proofs.Common.{Binary, Chosen, Command, Compare, Eq, Finds, HasCause, HasUnit, HoldsNumbered, HousingRow, IfOk-weaker, Insert, Int, IsLive, IsOrdered, IsUnlimited, IsWelcome, Means, Misses, Null, OnlyTouches, PutsRow, Ran, Row, Select, State, StoreFault, Term, Version, accepts_program, agree, all_of, asking, both, by_housing, by_two_ints, cast_int, cast_null, choosing, col, delete_faults, delete_leaves, delete_only, edit_of, either_first, end, eval_all, holds, housing, housing_row, inner, insert_faults, insert_puts, is_referred_to, kept_ordered, le_refl, list_all, list_any, lit, map-map, next_rowid, next_welcome, none_agrees, on_ok_then, only, op2, plain, plain_query, references_fit, same_number, schema, select_faults, select_finds, those_left, value_rows}
 use Rattle.catalogue_statements.proofs.ElementStatements.{of_unit, by_unit, to_unit_fits, has_its_unit}
 
 -- ---- a unit that is put into a container
@@ -67,13 +26,17 @@ pub insert_housing_means : (v : Version) → Means v insert_housing_text 3 inser
 unfolding understood everything
 insert_housing_means v = record { is = refl; plain = (refl, refl); whole = (le_refl _, refl, refl); unlisted = refl }
 
-same_place : (a b : ℤ × HousingRow) → agree plain (1 ∷ 2 ∷ []) (housing_row a) (1 ∷ 2 ∷ []) (housing_row b) ≡ (nat_eq b.1.unit a.1.unit && nat_eq b.1.ord a.1.ord)
+same_place : (a b : ℤ × HousingRow)
+    → agree plain (1 ∷ 2 ∷ []) (housing_row a) (1 ∷ 2 ∷ []) (housing_row b) ≡ (nat_eq b.1.unit a.1.unit && nat_eq b.1.ord a.1.ord)
 unfolding first_key
 same_place a b = both (same_number a.1.unit b.1.unit) (same_number a.1.ord b.1.ord)
 
-same_house : (a b : ℤ × HousingRow) → agree plain (3 ∷ 1 ∷ []) (housing_row a) (3 ∷ 1 ∷ []) (housing_row b) ≡ (nat_eq b.1.unit a.1.unit && nat_eq b.1.container a.1.container)
+same_house : (a b : ℤ × HousingRow)
+    → agree plain (3 ∷ 1 ∷ []) (housing_row a) (3 ∷ 1 ∷ []) (housing_row b) ≡ (nat_eq b.1.unit a.1.unit && nat_eq b.1.container a.1.container)
 unfolding first_key
-same_house a b = both (same_number a.1.container b.1.container) (same_number a.1.unit b.1.unit) ∙ either_first (nat_eq b.1.container a.1.container) (nat_eq b.1.unit a.1.unit)
+same_house a b =
+    both (same_number a.1.container b.1.container) (same_number a.1.unit b.1.unit)
+    ∙ either_first (nat_eq b.1.container a.1.container) (nat_eq b.1.unit a.1.unit)
 
 module _ (old new : State) (unit_id ord n : ℕ) (v : Version) (has : old.now.schema ≡ schema v) where
   abbrev params : Row
@@ -85,7 +48,8 @@ module _ (old new : State) (unit_id ord n : ℕ) (v : Version) (has : old.now.sc
   news : (edit_of old.now.trees housing [] Chosen 0 (value_rows params 4 1 insert_housing_terms)).news ≡ housing_row added ∷ []
   news = rw (cast_null, cast_int (pos unit_id), cast_int (pos ord), cast_int (pos n)) refl
 
-  pub insert_housing_puts : (r : Result Unit StoreFault) → Ran insert_housing_text params old new r → OnOk r (PutsRow housing.tree (housing_row added) old.now new.now)
+  pub insert_housing_puts : (r : Result Unit StoreFault) → Ran insert_housing_text params old new r
+      → OnOk r (PutsRow housing.tree (housing_row added) old.now new.now)
   insert_housing_puts = insert_puts v 11 housing refl insert_housing_text insert_housing_terms 4 params (insert_housing_means v) old new has (housing_row added) news
 
   module _ (known : HasUnit old.now.trees unit_id) (xs : List HousingRow) (at : HoldsNumbered housing housing_row old xs)
@@ -99,7 +63,8 @@ module _ (old new : State) (unit_id ord n : ℕ) (v : Version) (has : old.now.sc
         next_welcome v housing housing_row (λ (h : HousingRow). Int (pos h.unit) ∷ Int (pos h.ord) ∷ Int (pos h.container) ∷ []) (λ _. refl) (record { unit = unit_id; ord = ord; container = n }) xs old.now.trees at (rw (apart, other_too) refl)
         (record { typed = refl; present = refl; checked = refl; referred = to_unit_fits v; parents = has_its_unit v old.now.trees (housing_row added) unit_id refl known })
 
-    pub insert_housing_faults : IsUnlimited old → IsLive old → (r : Result Unit StoreFault) → Ran insert_housing_text params old new r → IfErr r (HasCause old new)
+    pub insert_housing_faults : IsUnlimited old → IsLive old → (r : Result Unit StoreFault)
+        → Ran insert_housing_text params old new r → IfErr r (HasCause old new)
     insert_housing_faults = insert_faults v 11 housing refl insert_housing_text insert_housing_terms 4 params (insert_housing_means v) old new has (housing_row added) news refl welcome
 
 -- ---- a unit that is taken out of its containers
@@ -124,16 +89,19 @@ clear_housings_means v = record { is = refl; plain = (refl, refl); whole = (le_r
 
 module _ (old new : State) (unit_id : ℕ) (v : Version) (has : old.now.schema ≡ schema v) where
   pub clear_housings_leaves : (xs : List HousingRow) → HoldsNumbered housing housing_row old xs
-      → (r : Result Unit StoreFault) → Ran clear_housings_text (Int (pos unit_id) ∷ []) old new r → OnOk r (HoldsNumbered housing housing_row new (filter (λ (x : HousingRow). not (nat_eq unit_id x.unit)) xs))
+      → (r : Result Unit StoreFault) → Ran clear_housings_text (Int (pos unit_id) ∷ []) old new r
+      → OnOk r (HoldsNumbered housing housing_row new (filter (λ (x : HousingRow). not (nat_eq unit_id x.unit)) xs))
   clear_housings_leaves xs at r ran =
       on_ok_then r _ _ (λ has. those_left housing_row (old.now.trees housing.tree) (new.now.trees housing.tree) xs at (λ (h : HousingRow). nat_eq unit_id h.unit) has.are)
       (delete_leaves v 11 housing refl (housing_alone v) clear_housings_text of_unit (col 1 0 ∷ []) (Int (pos unit_id) ∷ []) (clear_housings_means v) old new has
       housing_row (λ x. x.0) (λ _. refl) at.numbered at.are at.rise (λ (x : ℤ × HousingRow). nat_eq unit_id x.1.unit) (λ x. only (same_number x.1.unit unit_id)) (λ (x : ℤ × HousingRow). Int x.0 ∷ []) (λ _. refl) (λ _. refl) r ran)
 
-  pub clear_housings_only : (r : Result Unit StoreFault) → Ran clear_housings_text (Int (pos unit_id) ∷ []) old new r → OnOk r (OnlyTouches (housing.tree ∷ []) old.now new.now)
+  pub clear_housings_only : (r : Result Unit StoreFault) → Ran clear_housings_text (Int (pos unit_id) ∷ []) old new r
+      → OnOk r (OnlyTouches (housing.tree ∷ []) old.now new.now)
   clear_housings_only = delete_only v 11 housing refl clear_housings_text _ (Int (pos unit_id) ∷ []) old new has (housing_alone v) (clear_housings_means v)
 
-  pub clear_housings_faults : IsUnlimited old → IsLive old → (r : Result Unit StoreFault) → Ran clear_housings_text (Int (pos unit_id) ∷ []) old new r → IfErr r (HasCause old new)
+  pub clear_housings_faults : IsUnlimited old → IsLive old → (r : Result Unit StoreFault)
+      → Ran clear_housings_text (Int (pos unit_id) ∷ []) old new r → IfErr r (HasCause old new)
   clear_housings_faults = delete_faults v 11 housing refl (housing_alone v) clear_housings_text of_unit (col 1 0 ∷ []) (Int (pos unit_id) ∷ []) (clear_housings_means v) old new has (housing_fits v) refl
 
 -- ---- the containers of a unit, and the units in a container
@@ -143,7 +111,8 @@ module _ (old new : State) (sql : List ℕ) (where_terms project : List Term) (n
     (means : Means v sql (length params) (Select (asking housing where_terms project by_unit) names)) (has : old.now.schema ≡ schema v) (xs : List HousingRow) (at : HoldsNumbered housing housing_row old xs)
     (keep : HousingRow → Bool) (keeps : (x : ℤ × HousingRow) → list_all (holds (params ∷ housing_row x ∷ [])) where_terms ≡ keep x.1)
     {T X : Type 0} (cells : T → Row) (items : X → List T) (tell : HousingRow → T) (answers : (x : ℤ × HousingRow) → eval_all project (params ∷ housing_row x ∷ []) ≡ cells (tell x.1)) (r : Result X StoreFault) where
-  pub housings_finds : IfOk r (λ found. Finds cells sql params old new (items found)) → IfOk r (λ found. (ys : List HousingRow) × IsOrdered by_housing (filter keep xs) ys × (items found ≡ map tell ys))
+  pub housings_finds : IfOk r (λ found. Finds cells sql params old new (items found))
+      → IfOk r (λ found. (ys : List HousingRow) × IsOrdered by_housing (filter keep xs) ys × (items found ≡ map tell ys))
   housings_finds finds =
       IfOk-weaker r _ _ (λ found it. (
         map (λ x. x.1) it.0,
@@ -154,7 +123,8 @@ module _ (old new : State) (sql : List ℕ) (where_terms project : List Term) (n
       (λ x. cells (tell x.1)) (λ (x : ℤ × HousingRow). Int (pos x.1.unit) ∷ Int (pos x.1.ord) ∷ []) answers (λ x y. by_housing x.1 y.1) (λ _. refl) (λ x y. by_two_ints (pos x.1.unit) (pos y.1.unit) (pos x.1.ord) (pos y.1.ord))
       cells items (λ x. tell x.1) (λ _. refl) r finds)
 
-  pub housings_faults : accepts_program (schema v) [] (plain_query (inner housing.tree end) where_terms project by_unit) params ≡ true → IsUnlimited old → IfErr r (Misses cells (λ _. ⊤) sql params old new) → IfErr r (HasCause old new)
+  pub housings_faults : accepts_program (schema v) [] (plain_query (inner housing.tree end) where_terms project by_unit) params ≡ true
+      → IsUnlimited old → IfErr r (Misses cells (λ _. ⊤) sql params old new) → IfErr r (HasCause old new)
   housings_faults accepted free =
       select_faults v housing sql where_terms project by_unit names params means old new has housing_row at.numbered at.are (λ x. keep x.1) keeps
       (λ x. cells (tell x.1)) (λ (x : ℤ × HousingRow). Int (pos x.1.unit) ∷ Int (pos x.1.ord) ∷ []) answers (λ x y. by_housing x.1 y.1) (λ _. refl) (λ x y. by_two_ints (pos x.1.unit) (pos y.1.unit) (pos x.1.ord) (pos y.1.ord))
@@ -206,7 +176,9 @@ module _ (old new : State) (v : Version) (has : old.now.schema ≡ schema v) (xs
         housings_finds old new housings_text of_unit housings_columns housings_names (Int (pos unit_id) ∷ []) v (housings_means v) has xs at
         (λ (h : HousingRow). nat_eq unit_id h.unit) (λ x. only (same_number x.1.unit unit_id)) housing_cells items told (λ _. refl) r
 
-    pub of_unit_faults : IsUnlimited old → IfErr r (Misses housing_cells (λ _. ⊤) housings_text (Int (pos unit_id) ∷ []) old new) → IfErr r (HasCause old new)
+    pub of_unit_faults : IsUnlimited old
+        → IfErr r (Misses housing_cells (λ _. ⊤) housings_text (Int (pos unit_id) ∷ []) old new)
+        → IfErr r (HasCause old new)
     of_unit_faults =
         housings_faults old new housings_text of_unit housings_columns housings_names (Int (pos unit_id) ∷ []) v (housings_means v) has xs at
         (λ (h : HousingRow). nat_eq unit_id h.unit) (λ x. only (same_number x.1.unit unit_id)) housing_cells items told (λ _. refl) r refl
@@ -218,7 +190,9 @@ module _ (old new : State) (v : Version) (has : old.now.schema ≡ schema v) (xs
         housings_finds old new housed_text in_container (col 1 1 ∷ []) housed_names (Int (pos n) ∷ []) v (housed_means v) has xs at
         (λ (h : HousingRow). nat_eq n h.container) (λ x. only (same_number x.1.container n)) (λ u. Int (pos u) ∷ []) items (λ (h : HousingRow). h.unit) (λ _. refl) r
 
-    pub housed_faults : IsUnlimited old → IfErr r (Misses (λ u. Int (pos u) ∷ []) (λ _. ⊤) housed_text (Int (pos n) ∷ []) old new) → IfErr r (HasCause old new)
+    pub housed_faults : IsUnlimited old
+        → IfErr r (Misses (λ u. Int (pos u) ∷ []) (λ _. ⊤) housed_text (Int (pos n) ∷ []) old new)
+        → IfErr r (HasCause old new)
     housed_faults =
         housings_faults old new housed_text in_container (col 1 1 ∷ []) housed_names (Int (pos n) ∷ []) v (housed_means v) has xs at
         (λ (h : HousingRow). nat_eq n h.container) (λ x. only (same_number x.1.container n)) (λ u. Int (pos u) ∷ []) items (λ (h : HousingRow). h.unit) (λ _. refl) r refl

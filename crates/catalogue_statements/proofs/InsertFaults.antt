@@ -1,24 +1,11 @@
 -- Why the INSERTs of the catalogue's rows fail.
 use Rattle.std.proofs.Common.{◌≡◌, pos, [], ◌∷◌, length, true, false, Err, refl, ap}
-use Rattle.std.proofs.Math.Nat.{le_refl}
 use Rattle.sqlite.specs.declared.error.Error.{Error}
-use Rattle.sqlite.specs.Edit.{edit_of, is_taken}
-use Rattle.sqlite.specs.Rowids.TheVariants.{Chosen}
-use Rattle.sqlite.specs.Effect.{value_rows}
 use Rattle.sqlite.specs.Listing.{understood}
-use Rattle.sqlite.specs.State.{State, IsLive, Executes}
-use Rattle.sqlite.specs.Tree.{Trees}
 use Rattle.sqlite_tied.specs.Compute.{everything}
-use Rattle.office_tables.specs.Faults.{fault_of, IsUnlimited, HasCause}
-use Rattle.office_tables.specs.Versions.{Version, version_number}
-use Rattle.catalogue_statements.specs.Rows.{office_row}
-use Rattle.office_tables.specs.Schema.{schema, office}
 use Rattle.office_tables.specs.Schema as tables
-use Rattle.catalogue_statements.specs.declared.office.OfficeRow.{OfficeRow}
-use Rattle.office_tables.proofs.Casts.{cast_int, cast_null}
 use Rattle.office_tables.proofs.Failures.{IsWhole}
-use Rattle.office_tables.proofs.InsertCauses.{IsWelcome, values_typed, insert_cause}
-use Rattle.office_tables.proofs.statements.WelcomeOf.{in_either}
+use Rattle.catalogue_statements.proofs.Common.{Chosen, Executes, HasCause, IsLive, IsUnlimited, IsWelcome, OfficeRow, State, Trees, Version, cast_int, cast_null, edit_of, fault_of, in_either, insert_cause, is_taken, le_refl, office, office_row, schema, value_rows, values_typed, version_number}
 use Rattle.catalogue_statements.proofs.Inserts.{insert_office_text, insert_office_terms, insert_office_params, insert_office_is, insert_office_plain}
 
 -- ---- the office
@@ -27,7 +14,8 @@ insert_office_whole : (v : Version) → IsWhole (length insert_office_text) 9 (u
 unfolding understood everything
 insert_office_whole v = (le_refl _, refl, refl)
 
-office_welcome : (version : Version) (o : OfficeRow) (v : Version) (db : Trees) → db tables.office.tree ≡ [] → IsWelcome (schema v) db office (office_row version o)
+office_welcome : (version : Version) (o : OfficeRow) (v : Version) (db : Trees) → db tables.office.tree ≡ []
+    → IsWelcome (schema v) db office (office_row version o)
 office_welcome version o v db none = record {
   keyed = refl;
   free = ap (λ rows. is_taken rows (office_row version o)) none;
@@ -39,8 +27,10 @@ office_welcome version o v db none = record {
   parents = refl;
 }
 
-pub insert_office_cause : (old new : State) (version : Version) (o : OfficeRow) (v : Version) → old.now.schema ≡ schema v → IsLive old → IsUnlimited old → old.now.trees tables.office.tree ≡ []
-    → (e : Error) → Executes insert_office_text (insert_office_params version o) old new (Err e) → HasCause old new (fault_of e)
+pub insert_office_cause : (old new : State) (version : Version) (o : OfficeRow) (v : Version)
+    → old.now.schema ≡ schema v → IsLive old → IsUnlimited old → old.now.trees tables.office.tree ≡ []
+    → (e : Error) → Executes insert_office_text (insert_office_params version o) old new (Err e)
+    → HasCause old new (fault_of e)
 insert_office_cause old new version o v has live free none =
     let news : (edit_of old.now.trees office [] Chosen 0 (value_rows (insert_office_params version o) 11 1 insert_office_terms)).news ≡ office_row version o ∷ [] =
     rw (cast_int (pos 1), cast_null, cast_int (pos (version_number version)), cast_int (pos o.seats), cast_int (pos o.daily), cast_int (pos o.hands), cast_int (pos o.run_size), cast_int o.day, cast_int (pos o.next_unit)) refl in

@@ -1,28 +1,11 @@
 -- What the INSERTs do.
 use Rattle.std.proofs.Common.{◌≡◌, ℕ, pos, List, [], ◌∷◌, codes, true, false, not, ◌&&◌, if◌then◌else◌, None, Ok, refl, sym, ap, subst, ◌∙◌}
-use Rattle.sqlite.specs.declared.types.Value.TheVariants.{Null, Int}
-use Rattle.sqlite.specs.Order.{Row}
-use Rattle.sqlite.specs.Edit.{edit_of, edited, are_fresh, is_taken, left_by}
-use Rattle.sqlite.specs.Rowids.TheVariants.{Chosen}
-use Rattle.sqlite.specs.Tree.{Trees, put_row}
-use Rattle.sqlite.specs.Term.{Term, lit, col}
 use Rattle.sqlite.specs.Source.TheVariants.{Values}
-use Rattle.sqlite.specs.Command.{Command}
-use Rattle.sqlite.specs.Command.TheVariants.{Insert}
 use Rattle.sqlite.specs.Listing.{understood}
-use Rattle.sqlite.specs.State.{State, Shows, Writes, Executes, mode_of}
-use Rattle.sqlite.proofs.Callers.{IsPlain, command_of, statement_of, runs_as}
+use Rattle.sqlite.specs.State.{Writes}
 use Rattle.sqlite_tied.specs.Compute.{everything}
-use Rattle.office_tables.specs.Versions.{Version, version_number}
-use Rattle.office_tables.specs.Schema.{schema, office}
 use Rattle.office_tables.specs.Schema as tables
-use Rattle.catalogue_statements.specs.Rows.{office_row, told_cells}
-use Rattle.office_tables.specs.Step.{OnlyTouches}
-use Rattle.catalogue_statements.specs.declared.office.OfficeRow.{OfficeRow}
-use Rattle.office_tables.proofs.Casts.{cast_int, cast_null}
-use Rattle.office_tables.proofs.Steps.{inserted, Inserted}
-use Rattle.office_tables.proofs.Touching.{touched}
-use Rattle.office_tables.proofs.Puts.{not_taken}
+use Rattle.catalogue_statements.proofs.Common.{Chosen, Command, Executes, Insert, Inserted, Int, IsPlain, Null, OfficeRow, OnlyTouches, Row, Shows, State, Term, Trees, Version, are_fresh, cast_int, cast_null, col, command_of, edit_of, edited, inserted, is_taken, left_by, lit, mode_of, not_taken, office, office_row, put_row, runs_as, schema, statement_of, told_cells, touched, version_number}
 
 abbrev pub insert_office_text : List ℕ
 insert_office_text = codes "INSERT INTO office (one, version, country, repo, seats, daily, hands, run_size, day, next_unit) VALUES (1, ?1, ?2, ?3, ?4, ?5, ?6, ?7, ?8, ?9)"
@@ -44,10 +27,13 @@ pub insert_office_plain : (v : Version) → IsPlain (understood (schema v) inser
 unfolding understood everything
 insert_office_plain v = (refl, refl)
 
-put_insert_office : (version : Version) (o : OfficeRow) (db : Trees) → edited db (edit_of db office [] Chosen 0 (office_row version o ∷ [])) ≡ put_row (office_row version o) (db tables.office.tree)
-put_insert_office version o db = rw (cast_int (pos 1), cast_null, cast_int (pos (version_number version)), cast_int (pos o.seats), cast_int (pos o.daily), cast_int (pos o.hands), cast_int (pos o.run_size), cast_int o.day, cast_int (pos o.next_unit)) refl
+put_insert_office : (version : Version) (o : OfficeRow) (db : Trees)
+    → edited db (edit_of db office [] Chosen 0 (office_row version o ∷ [])) ≡ put_row (office_row version o) (db tables.office.tree)
+put_insert_office version o db =
+    rw (cast_int (pos 1), cast_null, cast_int (pos (version_number version)), cast_int (pos o.seats), cast_int (pos o.daily), cast_int (pos o.hands), cast_int (pos o.run_size), cast_int o.day, cast_int (pos o.next_unit)) refl
 
-new_insert_office : (version : Version) (o : OfficeRow) (db : Trees) → are_fresh (left_by db (edit_of db office [] Chosen 0 (office_row version o ∷ []))) (edit_of db office [] Chosen 0 (office_row version o ∷ [])).news ≡ (not (is_taken (db tables.office.tree) (office_row version o)) && true)
+new_insert_office : (version : Version) (o : OfficeRow) (db : Trees)
+    → are_fresh (left_by db (edit_of db office [] Chosen 0 (office_row version o ∷ []))) (edit_of db office [] Chosen 0 (office_row version o ∷ [])).news ≡ (not (is_taken (db tables.office.tree) (office_row version o)) && true)
 new_insert_office version o db = rw (cast_int (pos 1)) refl
 
 module _ (old new : State) (version : Version) (o : OfficeRow) (count : ℕ) (v : Version) (has : old.now.schema ≡ schema v) (h : Executes insert_office_text (insert_office_params version o) old new (Ok count)) where
@@ -64,7 +50,10 @@ module _ (old new : State) (version : Version) (o : OfficeRow) (count : ℕ) (v 
   insert_office_touches = touched v old.now new.now tables.office.tree insert_office_it.applies.tables
 
   pub insert_office_rows : new.now.trees tables.office.tree ≡ put_row (office_row version o) (old.now.trees tables.office.tree)
-  insert_office_rows = insert_office_it.applies.rows ∙ ap (λ rows. edited old.now.trees (edit_of old.now.trees office [] Chosen 0 rows)) insert_office_it.source.1 ∙ put_insert_office version o old.now.trees
+  insert_office_rows =
+      insert_office_it.applies.rows
+      ∙ ap (λ rows. edited old.now.trees (edit_of old.now.trees office [] Chosen 0 rows)) insert_office_it.source.1
+      ∙ put_insert_office version o old.now.trees
 
   pub insert_office_fresh : is_taken (old.now.trees tables.office.tree) (office_row version o) ≡ false
   insert_office_fresh =

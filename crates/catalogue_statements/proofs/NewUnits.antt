@@ -1,47 +1,21 @@
 -- What the tables show after a unit is added.
 use Rattle.std.proofs.Common.{◌≡◌, ◌≢◌, ℕ, ◌+◌, ◌≤◌, pos, List, [], ◌∷◌, length, filter, Bool, true, false, not, Option, nat_eq, Equal, refl, sym, ap, subst, ◌∙◌, inl, inr}
-use Rattle.std.specs.List.{AllByRecursion, list_any, list_all}
-use Rattle.std.specs.List.Sorted.{IsPermutation}
-use Rattle.std.specs.Ordering.{int_cmp, is_eq}
-use Rattle.std.specs.Cmp.{int_cmp_total, tied_itself}
-use Rattle.std.proofs.lemmas.Bool.{cases_Bool, eqb-true, false≢true, or_left, or_right}
-use Rattle.std.proofs.lemmas.List.Sorted.{IsPermutation-trans, IsPermutation-sym, IsPermutation-cons, length_permutation}
-use Rattle.sqlite.specs.Edit.{is_taken}
-use Rattle.sqlite.specs.Effect.{Database}
-use Rattle.sqlite.specs.Tree.{Trees, put_row}
-use Rattle.sqlite_rules.proofs.ListLemmas.{all_has, all_from, some_has, some_from}
-use Rattle.sqlite_trees.proofs.ListLemmas.{all_both, all_weaker, all-permutation, IsPermutation-filter}
-use Rattle.isad_core.specs.declared.values.BoxKey.{BoxKey}
-use Rattle.isad_core.specs.Boxes.{is_same}
-use Rattle.tree_core.specs.Forest.{Forest, nodes, each, has, has_place, add}
-use Rattle.tree_core.proofs.EachLemmas.{add-each}
-use Rattle.tree_core.proofs.Lists.{eqb_comm}
-use Rattle.catalogue_statements.specs.DescriptionRows.{WithTexts, cell_of, WithHousings, housing_cell, IsDescribed}
-use Rattle.catalogue_core.specs.Descriptions.{with_boxes, with_numbered, KnowsItsContainers}
-use Rattle.catalogue_core.specs.CatalogueMerge.{Catalogue}
-use Rattle.office_tables.specs.OrderedInsertion.{put_by}
-use Rattle.catalogue_statements.specs.Rows.{office_row, unit_row, by_number, ElementRow, HousingRow}
-use Rattle.office_tables.specs.Versions.{Version}
-use Rattle.catalogue_statements.specs.Representation.{Represents, RepresentsNumbered, RepresentsUnits, element_cells, elements_of, housing_cells, housings_of}
-use Rattle.catalogue_core.specs.Units.{Unit, has_id}
-use Rattle.catalogue_statements.specs.declared.office.OfficeRow.{OfficeRow}
-use Rattle.catalogue_statements.proofs.Finding.{itself}
-use Rattle.catalogue_statements.proofs.HousingLemmas.{same_cells}
 use Rattle.catalogue_core.proofs.NodeLemmas.{nodes_add}
 use Rattle.office_tables.specs.Schema as tables
+use Rattle.catalogue_statements.proofs.Common.{AllByRecursion, BoxKey, Catalogue, Database, ElementRow, Forest, HousingRow, IsDescribed, IsPermutation, IsPermutation-cons, IsPermutation-filter, IsPermutation-sym, IsPermutation-trans, KnowsItsContainers, OfficeRow, Represents, RepresentsNumbered, RepresentsUnits, Trees, Unit, Version, WithHousings, WithTexts, add, add-each, all-permutation, all_both, all_from, all_has, all_weaker, by_number, cases_Bool, cell_of, each, element_cells, elements_of, eqb-true, eqb_comm, false≢true, fresh_key, had, has, has_id, has_place, housing_cell, housing_cells, housings_of, int_cmp, int_cmp_total, is_eq, is_same, is_taken, length_permutation, list_all, list_any, nodes, office_row, once, or_left, or_right, put_by, put_more, put_rises, put_row, put_rows, same_nat, same_test, some_from, some_has, tied_itself, unit_row, with_boxes, with_numbered}
+use Rattle.catalogue_statements.proofs.Finding.{itself}
+use Rattle.catalogue_statements.proofs.HousingLemmas.{same_cells}
 use Rattle.catalogue_statements.proofs.Parts.{own_cells, others_cells, all_theirs, without_none}
 use Rattle.catalogue_statements.proofs.UnitQueries.{by_number_total}
-use Rattle.office_tables.proofs.Puts.{put_rows, put_rises, put_more, fresh_key}
-use Rattle.office_tables.proofs.Rows.{had, same_test}
-use Rattle.office_tables.proofs.Sorted.{once}
-use Rattle.office_tables.proofs.Tests.{same_nat}
 
 -- what stands in one order stands in the other
-pub any_in : {X : Type 0} (p : X → Bool) (xs ys : List X) → IsPermutation xs ys → list_any p ys ≡ true → list_any p xs ≡ true
+pub any_in : {X : Type 0} (p : X → Bool) (xs ys : List X) → IsPermutation xs ys → list_any p ys ≡ true
+    → list_any p xs ≡ true
 any_in p xs ys same h = let x = some_has p ys h in some_from p xs x.0 (had xs ys same x.0 x.1) x.2
 
 -- no two units have one number
-pub numbered_once : (db : Trees) (f : Forest Unit) → RepresentsUnits db f → (n : ℕ) → has (has_id n) f ≡ true → length (filter (has_id n) (nodes f)) ≤ 1
+pub numbered_once : (db : Trees) (f : Forest Unit) → RepresentsUnits db f → (n : ℕ) → has (has_id n) f ≡ true
+    → length (filter (has_id n) (nodes f)) ≤ 1
 numbered_once db f at n there =
     let v = some_has (has_id n) (nodes f) there in
     let same : filter (has_id n) at.units ≡ filter (λ z. is_eq (by_number v.0 z)) at.units =
@@ -50,7 +24,8 @@ numbered_once db f at n there =
     (once by_number by_number_total v.0 at.units at.rise)
 
 -- a number that was free for a row is no unit's
-pub no_unit : (db : Trees) (f : Forest Unit) → (at : RepresentsUnits db f) → (u : Unit) → is_taken (db tables.unit.tree) (unit_row u) ≡ false → has (has_id u.id) f ≡ false
+pub no_unit : (db : Trees) (f : Forest Unit) → (at : RepresentsUnits db f) → (u : Unit)
+    → is_taken (db tables.unit.tree) (unit_row u) ≡ false → has (has_id u.id) f ≡ false
 no_unit db f at u free = elim (cases_Bool (has (has_id u.id) f)) [
   | inr none ↦ none
   | inl there ↦ absurd (
@@ -97,20 +72,24 @@ module _ (u : Unit) (parent : Option ℕ) (f : Forest Unit) (many : IsPermutatio
   own_here : here u.id
   own_here = any_in (has_id u.id) (nodes grown) (u ∷ nodes f) many (or_left (has_id u.id u) (has (has_id u.id) f) (itself u.id))
 
-  texts_grown : (xs ys : List ElementRow) → AllByRecursion (λ x. has (has_id x.unit) f ≡ true) xs → WithTexts u.id (element_cells u.values) xs ys
+  texts_grown : (xs ys : List ElementRow) → AllByRecursion (λ x. has (has_id x.unit) f ≡ true) xs
+      → WithTexts u.id (element_cells u.values) xs ys
       → WithTexts u.id (element_cells u.values) (filter (λ x. not (nat_eq u.id x.unit)) xs) ys
   texts_grown xs ys there told =
       subst (λ l. WithTexts u.id (element_cells u.values) l ys)
       (sym (without_none (λ (e : ElementRow). e.unit) cell_of u.id xs (all_weaker (λ (x : ElementRow). has (has_id x.unit) f ≡ true) (λ (x : ElementRow). nat_eq u.id x.unit ≡ false) (λ x h. apart x.unit h) xs there))) told
 
-  housings_grown : (cells : List (ℕ × ℕ)) (xs ys : List HousingRow) → AllByRecursion (λ x. has (has_id x.unit) f ≡ true) xs → WithHousings u.id cells xs ys
+  housings_grown : (cells : List (ℕ × ℕ)) (xs ys : List HousingRow)
+      → AllByRecursion (λ x. has (has_id x.unit) f ≡ true) xs → WithHousings u.id cells xs ys
       → WithHousings u.id cells (filter (λ x. not (nat_eq u.id x.unit)) xs) ys
   housings_grown cells xs ys there told =
       subst (λ l. WithHousings u.id cells l ys)
       (sym (without_none (λ (h : HousingRow). h.unit) housing_cell u.id xs (all_weaker (λ (x : HousingRow). has (has_id x.unit) f ≡ true) (λ (x : HousingRow). nat_eq u.id x.unit ≡ false) (λ x h. apart x.unit h) xs there))) told
 
-  elements_still : (xs ys : List ElementRow) → WithTexts u.id (element_cells u.values) (filter (λ x. not (nat_eq u.id x.unit)) xs) ys
-      → AllByRecursion (λ x. IsPermutation (element_cells x.values) (elements_of x.id xs)) (nodes f) → AllByRecursion (λ x. IsPermutation (element_cells x.values) (elements_of x.id ys)) (nodes grown)
+  elements_still : (xs ys : List ElementRow)
+      → WithTexts u.id (element_cells u.values) (filter (λ x. not (nat_eq u.id x.unit)) xs) ys
+      → AllByRecursion (λ x. IsPermutation (element_cells x.values) (elements_of x.id xs)) (nodes f)
+      → AllByRecursion (λ x. IsPermutation (element_cells x.values) (elements_of x.id ys)) (nodes grown)
   elements_still xs ys told all =
       let P = λ (x : Unit). IsPermutation (element_cells x.values) (elements_of x.id ys) in
       of_all P (own_cells (λ (e : ElementRow). e.unit) cell_of u.id (element_cells u.values) xs ys told)
@@ -121,9 +100,12 @@ module _ (u : Unit) (parent : Option ℕ) (f : Forest Unit) (many : IsPermutatio
   abbrev IsKnown : List BoxKey → Unit → Type 0
   IsKnown boxes x = list_all (λ box. list_any (is_same box) boxes) x.values.boxes ≡ true
 
-  housings_still : (boxes more : List BoxKey) (xs ys : List HousingRow) → ((x : Unit) → IsKnown boxes x → housing_cells more x.values ≡ housing_cells boxes x.values)
-      → WithHousings u.id (housing_cells more u.values) (filter (λ x. not (nat_eq u.id x.unit)) xs) ys → AllByRecursion (IsKnown boxes) (nodes f)
-      → AllByRecursion (λ x. IsPermutation (housing_cells boxes x.values) (housings_of x.id xs)) (nodes f) → AllByRecursion (λ x. IsPermutation (housing_cells more x.values) (housings_of x.id ys)) (nodes grown)
+  housings_still : (boxes more : List BoxKey) (xs ys : List HousingRow)
+      → ((x : Unit) → IsKnown boxes x → housing_cells more x.values ≡ housing_cells boxes x.values)
+      → WithHousings u.id (housing_cells more u.values) (filter (λ x. not (nat_eq u.id x.unit)) xs) ys
+      → AllByRecursion (IsKnown boxes) (nodes f)
+      → AllByRecursion (λ x. IsPermutation (housing_cells boxes x.values) (housings_of x.id xs)) (nodes f)
+      → AllByRecursion (λ x. IsPermutation (housing_cells more x.values) (housings_of x.id ys)) (nodes grown)
   housings_still boxes more xs ys same told known all =
       let P = λ (x : Unit). IsPermutation (housing_cells more x.values) (housings_of x.id ys) in
       let Q = λ (x : Unit). IsPermutation (housing_cells more x.values) (housings_of x.id xs) in
@@ -134,7 +116,8 @@ module _ (u : Unit) (parent : Option ℕ) (f : Forest Unit) (many : IsPermutatio
       (nodes f) others_apart still)
 
 pub shows_added : (v : Version) (represents : Trees → Forest ℕ → Type 0) (old new : Database) (o : OfficeRow) (c : Catalogue) (parent : Option ℕ) (u : Unit) (it : Represents represents v old o c)
-    → has_place has_id parent c.forest ≡ true → KnowsItsContainers c → HasAdded represents v old new o c parent u it.catalogue.elements.elements it.catalogue.housings.housings
+    → has_place has_id parent c.forest ≡ true → KnowsItsContainers c
+    → HasAdded represents v old new o c parent u it.catalogue.elements.elements it.catalogue.housings.housings
     → RepresentsNumbered represents v new o (with_numbered parent u c)
 shows_added v represents old new o c parent u it there knows wrote =
     let at = it.catalogue in

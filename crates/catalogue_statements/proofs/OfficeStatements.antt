@@ -1,52 +1,12 @@
 -- The statements on the office's row, and the counts: what their texts mean, what they leave or tell, and why they fail.
 use Rattle.std.proofs.Common.{◌≡◌, ℕ, pos, List, [], ◌∷◌, length, map, drop, codes, slice_get, true, false, Equal, Option, Some, Result, Ok, OnOk, IfOk, IfErr, refl, ap, ◌∙◌}
-use Rattle.std.proofs.Math.Nat.{le_refl}
 use Rattle.std.proofs.lemmas.Bool.{both_ways}
-use Rattle.std.proofs.lemmas.Result.{IfOk-weaker}
 use Rattle.std.specs.Bool.{⊤}
-use Rattle.sqlite.specs.declared.types.Value.TheVariants.{Null, Int}
-use Rattle.sqlite.specs.Order.{Row}
-use Rattle.sqlite.specs.Cast.{cast_row}
-use Rattle.sqlite.specs.Table.{Table}
-use Rattle.sqlite.specs.Term.{Term, lit, col, op2}
-use Rattle.sqlite.specs.Query.{inner, end}
-use Rattle.sqlite.specs.Collation.TheVariants.{Binary}
-use Rattle.sqlite.specs.Command.{Command}
-use Rattle.sqlite.specs.Command.TheVariants.{Update, Select}
 use Rattle.sqlite.specs.Listing.{understood}
-use Rattle.sqlite.specs.State.{State, Shown, IsLive}
-use Rattle.sqlite.proofs.Callers.{reads_as, one_permutation}
-use Rattle.sqlite_schema.specs.declared.program.Program.{Program}
-use Rattle.sqlite_sql.specs.declared.ops.BinaryOp.TheVariants.{Compare}
-use Rattle.sqlite_sql.specs.declared.ops.CompareOp.TheVariants.{Eq}
 use Rattle.sqlite_tied.specs.Compute.{everything}
-use Rattle.sqlite_typing.specs.Types.{accepts_program}
-use Rattle.sqlite_value.specs.declared.keys.Key.{Key}
-use Rattle.sqlite_value.specs.Keys.{ascending}
-use Rattle.office_tables.specs.Versions.{Version, version_number}
-use Rattle.office_tables.specs.Query.{Finds, FoundInside, Misses}
-use Rattle.office_tables.specs.ChangeStatement.{Ran}
-use Rattle.office_tables.specs.RowCounts.{cap}
-use Rattle.office_tables.specs.Faults.{IsUnlimited, HasCause}
-use Rattle.office_tables.specs.StatementMeaning.{Means}
-use Rattle.office_tables.specs.Schema.{schema, office, unit, container}
-use Rattle.office_tables.specs.Step.{HasRows, OnlyTouches}
-use Rattle.office_tables.specs.declared.fault.StoreFault.{StoreFault}
-use Rattle.catalogue_statements.specs.Rows.{office_row, told_cells}
 use Rattle.catalogue_statements.specs.Settings.{AreLegibleSettings}
-use Rattle.catalogue_statements.specs.declared.office.OfficeRow.{OfficeRow}
-use Rattle.office_tables.proofs.Casts.{cast_int, cast_null}
-use Rattle.office_tables.proofs.Causes.{read_cause, none_refuse, counts_always}
 use Rattle.office_tables.proofs.Counts.{summary_query, count_rows, counts}
-use Rattle.office_tables.proofs.Queries.{asking, choosing}
-use Rattle.office_tables.proofs.statements.OnlyOf.{update_only}
-use Rattle.office_tables.proofs.RowReads.{all_caused}
-use Rattle.office_tables.proofs.Rows.{kept_all}
-use Rattle.office_tables.proofs.StatementEnds.{caused, found_in}
-use Rattle.office_tables.proofs.statements.SelectOf.{select_finds, select_faults}
-use Rattle.office_tables.proofs.Tests.{only, same_number, by_one_int}
-use Rattle.office_tables.proofs.statements.UpdateOf.{update_leaves, update_faults}
-use Rattle.office_tables.proofs.statements.LeafOf.{office_kept}
+use Rattle.catalogue_statements.proofs.Common.{Binary, Command, Compare, Eq, Finds, FoundInside, HasCause, HasRows, IfOk-weaker, Int, IsLive, IsUnlimited, Key, Means, Misses, Null, OfficeRow, OnlyTouches, Program, Ran, Row, Select, Shown, State, StoreFault, Table, Term, Update, Version, accepts_program, all_caused, ascending, asking, by_one_int, cap, cast_int, cast_null, cast_row, caused, choosing, col, container, counts_always, end, found_in, inner, kept_all, le_refl, lit, none_refuse, office, office_kept, office_row, one_permutation, only, op2, read_cause, reads_as, same_number, schema, select_faults, select_finds, told_cells, unit, update_faults, update_leaves, update_only, version_number}
 
 -- what a row of the table tells: the version, and the rest
 abbrev Telling : Type 0
@@ -100,8 +60,11 @@ module _ (old new : State) (next : ℕ) (v : Version) (has : old.now.schema ≡ 
       (λ _. false) (office_kept v) (λ x p h. absurd (let k : false ≡ true = h in cc)) (λ _. refl) (λ _. refl) (λ _. refl) refl free live r ran
 
 -- whatever the row is, no other table is touched
-pub set_next_only : (old new : State) (next : ℕ) (v : Version) → old.now.schema ≡ schema v → (r : Result Unit StoreFault) → Ran set_next_text (Int (pos next) ∷ []) old new r → OnOk r (OnlyTouches (office.tree ∷ []) old.now new.now)
-set_next_only old new next v has = update_only v 7 office refl set_next_text _ (Int (pos next) ∷ []) old new has (set_next_means v)
+pub set_next_only : (old new : State) (next : ℕ) (v : Version) → old.now.schema ≡ schema v
+    → (r : Result Unit StoreFault) → Ran set_next_text (Int (pos next) ∷ []) old new r
+    → OnOk r (OnlyTouches (office.tree ∷ []) old.now new.now)
+set_next_only old new next v has =
+    update_only v 7 office refl set_next_text _ (Int (pos next) ∷ []) old new has (set_next_means v)
 
 -- ---- the office's row
 
@@ -128,13 +91,15 @@ module _ (old new : State) (v : Version) (has : old.now.schema ≡ schema v) (ve
   abbrev the_row : Telling
   the_row = (version, o)
 
-  pub office_is_finds : IfOk r (λ found. Finds told_cells office_is_text [] old new (items found)) → IfOk r (λ found. items found ≡ o ∷ [])
+  pub office_is_finds : IfOk r (λ found. Finds told_cells office_is_text [] old new (items found))
+      → IfOk r (λ found. items found ≡ o ∷ [])
   office_is_finds found =
       IfOk-weaker r _ _ (λ all it. it.2 ∙ ap (map (λ (x : Telling). x.1)) (one_permutation the_row it.0 it.1.0))
       (select_finds v office office_is_text [] office_is_columns by_one office_is_names [] (office_is_means v) old new has telling_row (the_row ∷ []) stored
       (λ _. true) (λ _. refl) (λ x. told_cells x.1) (λ _. Int (pos 1) ∷ []) (λ _. refl) (λ _ _. Equal) (λ _. refl) (λ a b. by_one_int (pos 1) (pos 1)) told_cells items (λ x. x.1) (λ _. refl) r found)
 
-  pub office_is_faults : AreLegibleSettings o → IsUnlimited old → IfErr r (Misses told_cells AreLegibleSettings office_is_text [] old new) → IfErr r (HasCause old new)
+  pub office_is_faults : AreLegibleSettings o → IsUnlimited old
+      → IfErr r (Misses told_cells AreLegibleSettings office_is_text [] old new) → IfErr r (HasCause old new)
   office_is_faults legible free =
       select_faults v office office_is_text [] office_is_columns by_one office_is_names [] (office_is_means v) old new has telling_row (the_row ∷ []) stored
       (λ _. true) (λ _. refl) (λ x. told_cells x.1) (λ _. Int (pos 1) ∷ []) (λ _. refl) (λ _ _. Equal) (λ _. refl) (λ a b. by_one_int (pos 1) (pos 1)) told_cells items (λ x. x.1) (λ _. refl)
@@ -157,7 +122,8 @@ module _ (old new : State) (v : Version) {A : Type 0} (table : Table) (row : A �
   abbrev Missed : StoreFault → Type 0
   Missed = Misses number_cells (λ _. ⊤) sql [] old new
 
-  counted : old.now.schema ≡ schema v → (rows : List Row) → Shown sql [] old new rows → rows ≡ map number_cells (cap (length xs) ∷ [])
+  counted : old.now.schema ≡ schema v → (rows : List Row) → Shown sql [] old new rows
+      → rows ≡ map number_cells (cap (length xs) ∷ [])
   counted has rows shown =
       let read = reads_as sql [] old new (schema v) has (Select (counting table) (codes "count(*)" ∷ [])) means.is means.plain means.unlisted rows shown in
       counts table.tree [] old.now.trees [] row xs (λ _. true) stored (λ _. refl) rows (read.answer Null) ∙ ap (λ l. (Int (pos (cap (length l))) ∷ []) ∷ []) (kept_all xs)
@@ -169,7 +135,9 @@ module _ (old new : State) (v : Version) {A : Type 0} (table : Table) (row : A �
       let found = it.1.1 in
       it.1.2 ∙ ap (λ (l : List ℕ). slice_get l 0) (found.are (cap (length xs) ∷ []) (counted it.0 found.rows found.shown))
 
-  pub count_caused : (r : Result (Option ℕ) StoreFault) → FoundInside v old Found Missed r → accepts_program (schema v) [] (summary_query (inner table.tree end) [] count_rows) [] ≡ true → IsUnlimited old → IfErr r (HasCause old new)
+  pub count_caused : (r : Result (Option ℕ) StoreFault) → FoundInside v old Found Missed r
+      → accepts_program (schema v) [] (summary_query (inner table.tree end) [] count_rows) [] ≡ true → IsUnlimited old
+      → IfErr r (HasCause old new)
   count_caused r ran accepted free = caused old new r ran (λ it.
       all_caused number_cells (λ _. ⊤) sql [] old new r it.2
       (read_cause sql [] old new (schema v) it.0 (counting table) (codes "count(*)" ∷ []) means.is means.plain means.whole means.unlisted (λ db e refused. none_refuse refused (λ t. both_ways _ t accepted) (counts_always _ _)) free)

@@ -1,54 +1,42 @@
 -- What the tables show after units are changed in their places.
 use Rattle.office_tables.specs.Schema as tables
-use Rattle.std.proofs.Common.{◌≡◌, ℕ, ◌<◌, ◌^◌, pos, List, [], ◌∷◌, ◌++◌, map, Bool, true, false, if◌then◌else◌, cond, ◌||◌, nat_eq, refl, sym, ap, ap₂, subst, ◌∙◌}
-use Rattle.std.specs.Ordering.{int_cmp}
+use Rattle.std.proofs.Common.{◌≡◌, ℕ, pos, List, [], ◌∷◌, ◌++◌, map, Bool, true, false, if◌then◌else◌, cond, ◌||◌, nat_eq, refl, sym, ap, ap₂, subst, ◌∙◌}
 use Rattle.std.specs.declared.cmp.Ordering.TheVariants.{Less}
-use Rattle.std.specs.List.{AllByRecursion, list_any}
-use Rattle.std.specs.List.Sorted.{IsPermutation}
-use Rattle.std.proofs.lemmas.List.Sorted.{IsPermutation-map}
-use Rattle.std.proofs.Math.Bool.{or-false, or_assoc}
-use Rattle.sqlite.specs.Effect.{Database}
-use Rattle.sqlite.specs.Tree.{Trees}
-use Rattle.office_tables.proofs.numbered.OwnNumbers.{still_numbered}
-use Rattle.sqlite_trees.proofs.ListLemmas.{all-append, ascending-map, ascending_weaker, all_weaker}
-use Rattle.tree_core.specs.Forest.{Forest, Empty, Node, nodes, each, has, tree, branch}
-use Rattle.catalogue_core.specs.Bounds.{IsBounded}
-use Rattle.office_tables.specs.Versions.{Version}
-use Rattle.tree_core.proofs.EachLemmas.{nodes-each}
-use Rattle.catalogue_core.specs.Units.{Unit, has_id}
-use Rattle.catalogue_core.specs.CatalogueMerge.{Catalogue}
-use Rattle.office_tables.specs.Order.{Rises}
-use Rattle.catalogue_core.specs.Statuses.{with_status, is_chosen, chosen_units}
-use Rattle.catalogue_core.proofs.EachOf.{all_split}
-use Rattle.catalogue_statements.specs.Rows.{unit_row, by_number, ElementRow, HousingRow, element_row, housing_row}
-use Rattle.catalogue_statements.specs.Representation.{Represents, element_cells, elements_of, housing_cells, housings_of}
-use Rattle.office_tables.specs.Step.{HasRows}
-use Rattle.catalogue_statements.specs.declared.office.OfficeRow.{OfficeRow}
+use Rattle.catalogue_core.specs.Statuses.{with_status, is_chosen}
+use Rattle.catalogue_statements.proofs.Common.{AllByRecursion, Catalogue, Database, ElementRow, Empty, Forest, HasRows, HousingRow, IsPermutation, IsPermutation-map, Node, OfficeRow, Represents, Rises, Trees, Unit, Version, all_weaker, ascending-map, ascending_weaker, by_number, each, element_cells, element_row, elements_of, has, has_id, housing_cells, housing_row, housings_of, int_cmp, list_any, nodes, nodes-each, or-false, or_assoc, still_numbered, tree, unit_row}
 
-pub each_each : {A B C : Type 0} (g : A → B) (h : B → C) (k : A → C) → ((x : A) → h (g x) ≡ k x) → (f : Forest A) → each h (each g f) ≡ each k f
+pub each_each : {A B C : Type 0} (g : A → B) (h : B → C) (k : A → C) → ((x : A) → h (g x) ≡ k x) → (f : Forest A)
+    → each h (each g f) ≡ each k f
 each_each g h k same Empty = refl
-each_each g h k same (Node a children others) = rw (same a, each_each g h k same children, each_each g h k same others) refl
+each_each g h k same (Node a children others) =
+    rw (same a, each_each g h k same children, each_each g h k same others) refl
 
-any_map : {A B : Type 0} (g : A → B) (p : B → Bool) (q : A → Bool) → ((x : A) → p (g x) ≡ q x) → (xs : List A) → list_any p (map g xs) ≡ list_any q xs
+any_map : {A B : Type 0} (g : A → B) (p : B → Bool) (q : A → Bool) → ((x : A) → p (g x) ≡ q x) → (xs : List A)
+    → list_any p (map g xs) ≡ list_any q xs
 any_map g p q same [] = refl
 any_map g p q same (x ∷ xs) = ap₂ ◌||◌ (same x) (any_map g p q same xs)
 
-pub all_map : {A B : Type 0} (g : A → B) (P : B → Type 0) (Q : A → Type 0) → ((x : A) → Q x → P (g x)) → (xs : List A) → AllByRecursion Q xs → AllByRecursion P (map g xs)
+pub all_map : {A B : Type 0} (g : A → B) (P : B → Type 0) (Q : A → Type 0) → ((x : A) → Q x → P (g x)) → (xs : List A)
+    → AllByRecursion Q xs → AllByRecursion P (map g xs)
 all_map g P Q f [] h = tt
 all_map g P Q f (x ∷ xs) h = (f x h.0, all_map g P Q f xs h.1)
 
 -- units that keep their numbers, and units that keep their values too
 module _ (g : Unit → Unit) (same_id : (u : Unit) → (g u).id ≡ u.id) where
   pub still_there : (f : Forest Unit) (id : ℕ) → has (has_id id) (each g f) ≡ has (has_id id) f
-  still_there f id = ap (list_any (has_id id)) (nodes-each g f) ∙ any_map g (has_id id) (has_id id) (λ u. ap (nat_eq id) (same_id u)) (nodes f)
+  still_there f id =
+      ap (list_any (has_id id)) (nodes-each g f)
+      ∙ any_map g (has_id id) (has_id id) (λ u. ap (nat_eq id) (same_id u)) (nodes f)
 
   pub rising : (units : List Unit) → Rises by_number units → Rises by_number (map g units)
   rising units up = ascending-map (λ a b. by_number a b ≡ Less) g units
       (ascending_weaker (λ a b. by_number a b ≡ Less) (λ a b. by_number (g a) (g b) ≡ Less) (λ a b h. ap₂ (λ m n. int_cmp (pos m) (pos n)) (same_id a) (same_id b) ∙ h) units up)
 
   module _ (same_values : (u : Unit) → (g u).values ≡ u.values) where
-    pub shows_changed : (v : Version) (represents : Trees → Forest ℕ → Type 0) → ((old new : Trees) (f : Forest ℕ) → new tables.link.tree ≡ old tables.link.tree → represents old f → represents new f)
-        → (old new : Database) (o : OfficeRow) (c : Catalogue) (it : Represents represents v old o c) → new.schema ≡ old.schema → HasRows tables.unit.tree (map unit_row (map g it.catalogue.units.units)) old new
+    pub shows_changed : (v : Version) (represents : Trees → Forest ℕ → Type 0)
+        → ((old new : Trees) (f : Forest ℕ) → new tables.link.tree ≡ old tables.link.tree → represents old f → represents new f)
+        → (old new : Database) (o : OfficeRow) (c : Catalogue) (it : Represents represents v old o c)
+        → new.schema ≡ old.schema → HasRows tables.unit.tree (map unit_row (map g it.catalogue.units.units)) old new
         → Represents represents v new o (record c { forest = each g c.forest })
     shows_changed v represents same old new o c it schema_is wrote =
         let at = it.catalogue in
@@ -110,7 +98,8 @@ one_drafted draft id u = kept_by (λ (u : Unit). u.id) (has_id id u) (record u {
 -- one unit after others
 pub drafts_more : (draft : Bool) (ids : List ℕ) (id : ℕ) (c : Catalogue)
     → each (λ (u : Unit). drafted draft (has_id id u) u) (with_status ids draft c).forest ≡ (with_status (ids ++ id ∷ []) draft c).forest
-drafts_more draft ids id c = each_each (λ (u : Unit). drafted draft (is_chosen ids u) u) (λ (u : Unit). drafted draft (has_id id u) u) (λ (u : Unit). drafted draft (is_chosen (ids ++ id ∷ []) u) u)
+drafts_more draft ids id c =
+    each_each (λ (u : Unit). drafted draft (is_chosen ids u) u) (λ (u : Unit). drafted draft (has_id id u) u) (λ (u : Unit). drafted draft (is_chosen (ids ++ id ∷ []) u) u)
     (λ u.
     ap (λ b. drafted draft b (drafted draft (is_chosen ids u) u)) (ap (nat_eq id) (kept_by (λ (u : Unit). u.id) (is_chosen ids u) (record u { draft = draft }) u refl))
     ∙ twice draft (is_chosen ids u) (has_id id u) u
@@ -124,24 +113,12 @@ status_of_none draft c = ap (λ f. record c { forest = f }) (each_none c.forest)
     each_none Empty = refl
     each_none (Node u children others) = rw (each_none children, each_none others) refl
 
-pub draft_step : (v : Version) (represents : Trees → Forest ℕ → Type 0) → ((old new : Trees) (f : Forest ℕ) → new tables.link.tree ≡ old tables.link.tree → represents old f → represents new f)
-    → (old new : Database) (o : OfficeRow) (c : Catalogue) (draft : Bool) (ids : List ℕ) (id : ℕ) (it : Represents represents v old o (with_status ids draft c)) → new.schema ≡ old.schema
-    → HasRows tables.unit.tree (map unit_row (map (λ (u : Unit). drafted draft (has_id id u) u) it.catalogue.units.units)) old new → Represents represents v new o (with_status (ids ++ id ∷ []) draft c)
+pub draft_step : (v : Version) (represents : Trees → Forest ℕ → Type 0)
+    → ((old new : Trees) (f : Forest ℕ) → new tables.link.tree ≡ old tables.link.tree → represents old f → represents new f)
+    → (old new : Database) (o : OfficeRow) (c : Catalogue) (draft : Bool) (ids : List ℕ) (id : ℕ) (it : Represents represents v old o (with_status ids draft c))
+    → new.schema ≡ old.schema
+    → HasRows tables.unit.tree (map unit_row (map (λ (u : Unit). drafted draft (has_id id u) u) it.catalogue.units.units)) old new
+    → Represents represents v new o (with_status (ids ++ id ∷ []) draft c)
 draft_step v represents same old new o c draft ids id it schema_is wrote =
     subst (λ f. Represents represents v new o (record c { forest = f })) (drafts_more draft ids id c)
     (shows_changed (λ u. drafted draft (has_id id u) u) (one_drafted draft id) (λ u. kept_by (λ (u : Unit). u.values) (has_id id u) (record u { draft = draft }) u refl) v represents same old new o (with_status ids draft c) it schema_is wrote)
-
--- what holds of each node holds of those of a branch
-pub all_branch : {A : Type 0} (P : A → Type 0) (is : A → Bool) (f : Forest A) → AllByRecursion P (nodes f) → AllByRecursion P (branch is f)
-all_branch P is Empty h = tt
-all_branch P is (Node a children others) h =
-    let parts = all_split P (nodes children) (nodes others) h.1 in
-    elim (is a) as (λ b. AllByRecursion P (nodes (if b then Node a children Empty else if has is children then tree is children else tree is others))) [
-      | true ↦ (h.0, all-append P (nodes children) [] parts.0 tt)
-      | false ↦ elim (has is children) as (λ b. AllByRecursion P (nodes (if b then tree is children else tree is others))) [ true ↦ all_branch P is children parts.0 | false ↦ all_branch P is others parts.1 ]
-    ]
-
--- the units that are chosen have numbers that SQL has
-pub low_chosen : (whole : Bool) (unit : ℕ) (f : Forest ℕ) → unit < 2 ^ 63 → IsBounded f → AllByRecursion (λ id. id < 2 ^ 63) (chosen_units whole unit f)
-low_chosen true unit f low bounded = all_branch (λ id. id < 2 ^ 63) (nat_eq unit) f bounded.low
-low_chosen false unit f low bounded = (low, tt)

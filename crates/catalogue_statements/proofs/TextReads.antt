@@ -1,13 +1,8 @@
 -- Texts that are put at the places of their elements.
 use Rattle.std.proofs.Common.{◌≡◌, ◌≢◌, ℕ, zero, suc, ◌+◌, ◌<◌, List, [], ◌∷◌, ◌++◌, length, map, get_or, set, Option, Some, None, Bool, false, if◌then◌else◌, nat_eq, refl, sym, ap, subst, ◌∙◌, arith, inl, inr}
-use Rattle.std.specs.List.{fold}
-use Rattle.std.proofs.lemmas.Bool.{cases_lt, eq-eqb, ne_eqb}
-use Rattle.std.proofs.lemmas.List.{ext_get_or, get_or-set_other, get_or-set_same, length-set, map-append}
 use Rattle.std.proofs.lemmas.List.Sums.{fold_push}
-use Rattle.isad_core.specs.Texts.{Bytes}
 use Rattle.isad_core.specs.declared.values.Values.{Values}
-use Rattle.catalogue_statements.specs.Representation.{texts_from, element_number, element_cells}
-use Rattle.catalogue_statements.specs.declared.row_types.Element.{Element}
+use Rattle.catalogue_statements.proofs.Common.{Bytes, Element, cases_lt, element_cells, element_number, eq-eqb, ext_get_or, fold, get_or-set_other, get_or-set_same, length-set, map-append, ne_eqb, texts_from}
 use Rattle.catalogue_statements.proofs.CellReads.{number_rises}
 
 -- the text at a place, where more cells tell of it
@@ -34,7 +29,8 @@ none_later k place text (None ∷ texts) h = none_later (k + 1) place text texts
 none_later k place text (Some t ∷ texts) h =
     ap (λ (b : Bool). fold (told_at place) (if b then Some t else text) (map (λ (t : ℕ × Bytes). (let c : ℕ × Bytes = (element_number t.0, t.1) in c)) (texts_from (k + 1) texts))) (other_number place k (λ e. omega (arith, e, h))) ∙ none_later (k + 1) place text texts (omega (arith, h))
 
-each_told : (k i : ℕ) (texts : List (Option Bytes)) → fold (told_at (k + i)) None (map (λ (t : ℕ × Bytes). (let c : ℕ × Bytes = (element_number t.0, t.1) in c)) (texts_from k texts)) ≡ get_or texts i None
+each_told : (k i : ℕ) (texts : List (Option Bytes))
+    → fold (told_at (k + i)) None (map (λ (t : ℕ × Bytes). (let c : ℕ × Bytes = (element_number t.0, t.1) in c)) (texts_from k texts)) ≡ get_or texts i None
 each_told k i [] = refl
 each_told k zero (None ∷ texts) = none_later (k + 1) (k + 0) None texts (omega arith)
 each_told k zero (Some t ∷ texts) =
@@ -59,10 +55,15 @@ pub record AreTold (texts : List (Option Bytes)) (elements : List Element) : Typ
   pub long : length texts ≡ 25
   pub each : (place : ℕ) → place < 25 → get_or texts place None ≡ text_told place (map cell_of elements)
 
-told_more : (place : ℕ) (elements : List Element) (e : Element) → text_told place (map cell_of (elements ++ e ∷ [])) ≡ told_at place (text_told place (map cell_of elements)) (cell_of e)
-told_more place elements e = ap (text_told place) (map-append cell_of elements (e ∷ [])) ∙ fold_push (told_at place) None (map cell_of elements) (cell_of e)
+told_more : (place : ℕ) (elements : List Element) (e : Element)
+    → text_told place (map cell_of (elements ++ e ∷ [])) ≡ told_at place (text_told place (map cell_of elements)) (cell_of e)
+told_more place elements e =
+    ap (text_told place) (map-append cell_of elements (e ∷ []))
+    ∙ fold_push (told_at place) None (map cell_of elements) (cell_of e)
 
-pub one_told : (texts : List (Option Bytes)) (elements : List Element) (e : Element) (place : ℕ) → place < 25 → e.k ≡ element_number place → AreTold texts elements → AreTold (set texts place (Some e.value)) (elements ++ e ∷ [])
+pub one_told : (texts : List (Option Bytes)) (elements : List Element) (e : Element) (place : ℕ) → place < 25
+    → e.k ≡ element_number place → AreTold texts elements
+    → AreTold (set texts place (Some e.value)) (elements ++ e ∷ [])
 one_told texts elements e place low is at = record {
   long = length-set texts place (Some e.value) ∙ at.long;
   each = λ i within. elim (cases_lt i place) [
@@ -78,12 +79,14 @@ one_told texts elements e place low is at = record {
   ];
 }
   where
-    other : (i : ℕ) → i < 25 → i ≢ place → get_or (set texts place (Some e.value)) i None ≡ text_told i (map cell_of (elements ++ e ∷ []))
+    other : (i : ℕ) → i < 25 → i ≢ place
+        → get_or (set texts place (Some e.value)) i None ≡ text_told i (map cell_of (elements ++ e ∷ []))
     other i within differs =
         get_or-set_other texts place i (Some e.value) None differs ∙ at.each i within
         ∙ sym (told_more i elements e ∙ ap (λ b. if b then Some e.value else text_told i (map cell_of elements)) (ap (nat_eq (element_number i)) is ∙ other_number i place differs))
 
-pub all_told : (texts : List (Option Bytes)) (elements : List Element) (values : Values) → length values.texts ≡ 25 → map cell_of elements ≡ element_cells values → AreTold texts elements → texts ≡ values.texts
+pub all_told : (texts : List (Option Bytes)) (elements : List Element) (values : Values) → length values.texts ≡ 25
+    → map cell_of elements ≡ element_cells values → AreTold texts elements → texts ≡ values.texts
 all_told texts elements values long are at =
     ext_get_or None texts values.texts (at.long ∙ sym long)
     (λ i within. at.each i (subst (λ n. i < n) at.long within) ∙ ap (text_told i) are ∙ texts_told values i)

@@ -1,59 +1,27 @@
 -- DELETE of a unit, with its elements, its housings and the permits for it.
 use Rattle.office_tables.specs.Schema as tables
 use Rattle.std.proofs.Common.{◌≡◌, inl, inr, ℕ, zero, suc, arith, length, length-append, ℤ, pos, List, [], ◌∷◌, map, filter, find, codes, Bool, true, false, ◌&&◌, ◌||◌, not, cond, Some, None, unwrap_or, Ok, nat_eq, refl, sym, ap, ap₂, subst, ◌∙◌}
-use Rattle.std.proofs.lemmas.Bool.{eq-eqb, eqb-true, cases_Bool}
-use Rattle.std.specs.List.{AllByRecursion, list_any}
-use Rattle.std.specs.List.Sorted.{IsPermutation}
 use Rattle.std.specs.declared.cmp.Ordering.TheVariants.{Less}
-use Rattle.sqlite.specs.declared.types.Value.TheVariants.{Null, Int}
-use Rattle.sqlite.specs.Order.{Row, column}
-use Rattle.sqlite.specs.Table.{Table}
-use Rattle.sqlite.specs.Tree.{Trees, has_rowid}
-use Rattle.sqlite.specs.Edit.{edit_of, taken_by, row_at}
-use Rattle.sqlite.specs.Rowids.TheVariants.{Given}
-use Rattle.sqlite.specs.Ops.{binary, is_true}
-use Rattle.sqlite.specs.Term.{col, op2}
-use Rattle.sqlite.specs.Collation.TheVariants.{Binary}
-use Rattle.sqlite.specs.Command.{Command}
+use Rattle.sqlite.specs.Ops.{binary}
 use Rattle.sqlite.specs.Command.TheVariants as command
-use Rattle.sqlite.specs.Effect.{Database, Answers}
 use Rattle.sqlite.specs.Listing.{understood}
 use Rattle.sqlite.specs.declared.run.Mode.{Mode}
-use Rattle.sqlite.specs.State.{State, Writes, Executes, mode_of}
-use Rattle.sqlite.proofs.Callers.{IsPlain, command_of, statement_of, runs_as, one_permutation}
+use Rattle.sqlite.specs.State.{Writes}
 use Rattle.sqlite_rules.specs.Action.{works, Work, pairs, loses, Settles, is_child_of}
 use Rattle.sqlite_rules.specs.Calls.{ids_of}
 use Rattle.sqlite_rules.specs.declared.action.Deed.TheVariants.{Delete}
 use Rattle.sqlite_schema.specs.Names.{same_name}
-use Rattle.sqlite_schema.specs.declared.program.Program.{Program}
 use Rattle.sqlite_schema.specs.declared.schema.Keys.TheVariants.{Enforced}
-use Rattle.sqlite_sql.specs.declared.ops.BinaryOp.TheVariants.{Compare}
-use Rattle.sqlite_sql.specs.declared.ops.CompareOp.TheVariants.{Eq}
 use Rattle.sqlite_tied.specs.Compute.{everything}
-use Rattle.sqlite_value.specs.Keys.{joined, first_key, plain}
-use Rattle.desk_core.specs.DeskRows.{PermitRow}
-use Rattle.office_tables.specs.RowNumbers.{HasNumbered}
-use Rattle.office_tables.specs.Order.{Rises}
-use Rattle.office_tables.specs.Permits.{permit_cells}
-use Rattle.catalogue_statements.specs.Removals.{without, AreRemoved, unit_tables}
-use Rattle.catalogue_statements.specs.Rows.{unit_row, by_number, ElementRow, element_row, HousingRow, housing_row}
-use Rattle.office_tables.specs.Versions.{Version}
-use Rattle.office_tables.specs.Schema.{schema, unit, element, housing, permit, to_unit}
-use Rattle.office_tables.specs.Step.{OnlyTouches}
-use Rattle.catalogue_core.specs.Units.{Unit}
-use Rattle.office_tables.proofs.numbered.OwnNumbers.{those_left}
+use Rattle.sqlite_value.specs.Keys.{joined, first_key}
 use Rattle.office_tables.proofs.Cascades.{IsCascade, three_works, cascade_rows, cascade_apart}
+use Rattle.office_tables.proofs.Rows.{tests as tests_of}
+use Rattle.office_tables.proofs.Updates.{deletes_rows}
+use Rattle.catalogue_statements.proofs.Common.{AllByRecursion, Answers, AreRemoved, Binary, Command, Compare, Database, DeletedWith, ElementRow, Eq, Executes, Given, HasNumbered, HousingRow, Int, IsPermutation, IsPlain, Null, OnlyTouches, PermitRow, Program, Rises, Row, State, Table, Trees, Unit, Version, by_number, cases_Bool, choosing, chosen, col, column, command_of, deleted_with, edit_of, element, element_row, eq-eqb, eqb-true, has_rowid, housing, housing_row, is_true, list_any, mode_of, one_permutation, only, op2, permit, permit_alone, permit_cells, plain, row_at, runs_as, same_nat, same_number, schema, statement_of, taken_by, those_left, to_unit, touched, touched_then, touched_wider, unit, unit_row, unit_tables, without}
 use Rattle.catalogue_statements.proofs.ElementStatements.{element_alone}
 use Rattle.catalogue_statements.proofs.HousingStatements.{housing_alone}
 use Rattle.catalogue_statements.proofs.Moves.{other_number}
-use Rattle.office_tables.proofs.Queries.{choosing, chosen}
-use Rattle.office_tables.proofs.Rows.{tests as tests_of}
-use Rattle.office_tables.proofs.Steps.{DeletedWith, deleted_with}
-use Rattle.office_tables.proofs.Tests.{only, same_number, same_nat}
-use Rattle.office_tables.proofs.Updates.{deletes_rows}
 use Rattle.catalogue_statements.proofs.Without.{without_one}
-use Rattle.office_tables.proofs.Touching.{touched, touched_then, touched_wider}
-use Rattle.office_tables.proofs.statements.LeafOf.{permit_alone}
 
 abbrev pub remove_unit_text : List ℕ
 remove_unit_text = codes "DELETE FROM unit WHERE id = ?1"
@@ -85,25 +53,29 @@ lost : (u : Unit) → loses plain (0 ∷ []) (unit_row u, []) ≡ true
 unfolding first_key
 lost u = ap₂ (λ a b. (a && true) && not (b && true)) (same_number u.id u.id ∙ eq-eqb u.id u.id refl) (no_null (pos u.id))
 
-works_are : (v : Version) (u : Unit) → works (schema v) Enforced 0 tables.unit.tree (unit_row u ∷ []) [] ≡ work_on permit 2 u ∷ work_on element 1 u ∷ work_on housing 1 u ∷ []
+works_are : (v : Version) (u : Unit)
+    → works (schema v) Enforced 0 tables.unit.tree (unit_row u ∷ []) [] ≡ work_on permit 2 u ∷ work_on element 1 u ∷ work_on housing 1 u ∷ []
 unfolding joined same_name
 works_are v u = rw (lost u) refl
 
 -- the same where any rows are gone
 
 abbrev work_with : Table → ℕ → List (Row × Row) → Work
-work_with child place moves = record { depth = 0; child = child; ref = to_unit place; places = 0 ∷ []; order = plain; deed = Delete; moves = moves }
+work_with child place moves =
+    record { depth = 0; child = child; ref = to_unit place; places = 0 ∷ []; order = plain; deed = Delete; moves = moves }
 
 works_any : (v : Version) (olds : List Row) → list_any (loses plain (0 ∷ [])) (pairs olds []) ≡ true
     → works (schema v) Enforced 0 tables.unit.tree olds [] ≡ work_with permit 2 (pairs olds []) ∷ work_with element 1 (pairs olds []) ∷ work_with housing 1 (pairs olds []) ∷ []
 unfolding joined same_name
 works_any v olds some = rw some refl
 
-works_none : (v : Version) (olds : List Row) → list_any (loses plain (0 ∷ [])) (pairs olds []) ≡ false → works (schema v) Enforced 0 tables.unit.tree olds [] ≡ []
+works_none : (v : Version) (olds : List Row) → list_any (loses plain (0 ∷ [])) (pairs olds []) ≡ false
+    → works (schema v) Enforced 0 tables.unit.tree olds [] ≡ []
 unfolding joined same_name
 works_none v olds none = rw none refl
 
-child_is : (child : Table) (place : ℕ) (u : Unit) (n : ℕ) (r : Row) → column r place ≡ Int (pos n) → list_any (is_child_of (work_on child place u) r) (work_on child place u).moves ≡ nat_eq u.id n
+child_is : (child : Table) (place : ℕ) (u : Unit) (n : ℕ) (r : Row) → column r place ≡ Int (pos n)
+    → list_any (is_child_of (work_on child place u) r) (work_on child place u).moves ≡ nat_eq u.id n
 unfolding first_key
 child_is child place u n r is =
     ap₂ (λ a b. (a && (b && true)) || false) (lost u) (ap (λ v. is_true (binary (Compare Eq Binary) v (Int (pos u.id)))) is ∙ same_number n u.id)
@@ -113,7 +85,8 @@ child_is child place u n r is =
     tidy true = refl
     tidy false = refl
 
-found_one : {A B : Type 0} (f : A → B) (p : B → Bool) (q : A → Bool) → ((x : A) → p (f x) ≡ q x) → (xs : List A) (x : A) → filter q xs ≡ x ∷ [] → find p (map f xs) ≡ Some (f x)
+found_one : {A B : Type 0} (f : A → B) (p : B → Bool) (q : A → Bool) → ((x : A) → p (f x) ≡ q x) → (xs : List A) (x : A)
+    → filter q xs ≡ x ∷ [] → find p (map f xs) ≡ Some (f x)
 found_one f p q same [] x h = absurd (let e = h in cc)
 found_one f p q same (y ∷ ys) x h = elim (q y) as (λ b. p (f y) ≡ b → cond b (y ∷ filter q ys) (filter q ys) ≡ x ∷ [] → cond (p (f y)) (Some (f y)) (find p (map f ys)) ≡ Some (f x)) [
   | true ↦ λ passes e. let is : y ≡ x = cc in rw (passes, is) refl
@@ -135,7 +108,8 @@ abbrev pub strict : Mode
 strict = record { keys = Enforced; in_doubt = false; may_wait = false }
 
 -- the statement shows the numbers of the units that have this one
-pub shown_units : (old : Database) (id : ℕ) (rows : List Row) → Answers old remove_unit_program (Int (pos id) ∷ []) rows → (xs : List Unit) → old.trees tables.unit.tree ≡ map unit_row xs
+pub shown_units : (old : Database) (id : ℕ) (rows : List Row) → Answers old remove_unit_program (Int (pos id) ∷ []) rows
+    → (xs : List Unit) → old.trees tables.unit.tree ≡ map unit_row xs
     → (ys : List Unit) × IsPermutation (filter (keep id) xs) ys × (rows ≡ map (λ (x : Unit). Int (pos x.id) ∷ []) ys)
 shown_units old id rows answer xs from =
     chosen tables.unit.tree (op2 (Compare Eq Binary) (col 1 0) (col 0 0) ∷ []) (col 1 0 ∷ []) old.trees (Int (pos id) ∷ []) unit_row (λ (x : Unit). Int (pos x.id) ∷ []) xs (keep id) from
@@ -143,10 +117,12 @@ shown_units old id rows answer xs from =
 
 module _ (old new : Database) (id : ℕ) (units : List Unit) (u : Unit) (v : Version) (stored : old.trees tables.unit.tree ≡ map unit_row units) (up : Rises by_number units)
     (id_is : u.id ≡ id) (there : filter (keep id) units ≡ u ∷ []) (it : DeletedWith (schema v) 8 unit refl strict (Int (pos id) ∷ []) remove_unit_program old new) where
-  got : (xs : List Unit) → old.trees tables.unit.tree ≡ map unit_row xs → (ys : List Unit) × IsPermutation (filter (keep id) xs) ys × (it.rows ≡ map (λ (x : Unit). Int (pos x.id) ∷ []) ys)
+  got : (xs : List Unit) → old.trees tables.unit.tree ≡ map unit_row xs
+      → (ys : List Unit) × IsPermutation (filter (keep id) xs) ys × (it.rows ≡ map (λ (x : Unit). Int (pos x.id) ∷ []) ys)
   got = shown_units old id it.rows it.answer
 
-  units_left : (xs : List Unit) → old.trees tables.unit.tree ≡ map unit_row xs → Rises by_number xs → it.next tables.unit.tree ≡ map unit_row (without (λ (x : Unit). x.id) (id ∷ []) xs)
+  units_left : (xs : List Unit) → old.trees tables.unit.tree ≡ map unit_row xs → Rises by_number xs
+      → it.next tables.unit.tree ≡ map unit_row (without (λ (x : Unit). x.id) (id ∷ []) xs)
   units_left xs from rise =
       let found = got xs from in
       it.applies.rows ∙ deletes_rows unit unit_row (λ x. pos x.id) (λ _. refl) old.trees xs from rise (keep id) found.0 found.1 (λ (x : Unit). Int (pos x.id) ∷ []) (λ _. refl) it.rows found.2
@@ -186,7 +162,8 @@ module _ (old new : Database) (id : ℕ) (units : List Unit) (u : Unit) (v : Ver
   to_new : OnlyTouches (tables.permit.tree ∷ []) (record old { trees = second }) new
   to_new = touched v (record old { trees = second }) new tables.permit.tree (cascade_apart (schema v) Enforced (work_on permit 2 u) second new.trees cascade.4)
 
-  same_test_as : {A : Type 0} (number : A → ℕ) (xs : List A) → filter (λ x. not (nat_eq u.id (number x))) xs ≡ without number (id ∷ []) xs
+  same_test_as : {A : Type 0} (number : A → ℕ) (xs : List A)
+      → filter (λ x. not (nat_eq u.id (number x))) xs ≡ without number (id ∷ []) xs
   same_test_as number xs = ap (λ n. filter (λ x. not (nat_eq n (number x))) xs) id_is ∙ without_one number id xs
 
   -- the unit is gone, with all that tells of it
@@ -206,7 +183,9 @@ module _ (old new : Database) (id : ℕ) (units : List Unit) (u : Unit) (v : Ver
         (to_new tables.housing.tree refl refl ∙ to_second tables.housing.tree refl refl
         ∙ cascade_rows (schema v) Enforced (work_on housing 1 u) housing_row (λ h. h.0) (λ _. refl) it.next first has.numbered at has.rise (λ h. nat_eq u.id h.1.unit) (λ h. child_is housing 1 u h.1.unit (housing_row h) refl) cascade.2));
     permits = λ xs has.
-        let at = to_second tables.permit.tree refl refl ∙ to_first tables.permit.tree refl refl ∙ to_next tables.permit.tree refl refl ∙ has.are in
+        let at =
+        to_second tables.permit.tree refl refl ∙ to_first tables.permit.tree refl refl
+        ∙ to_next tables.permit.tree refl refl ∙ has.are in
         subst (HasNumbered permit_cells (new.trees tables.permit.tree)) (same_test_as (λ (p : PermitRow). p.unit) xs)
         (those_left permit_cells (old.trees tables.permit.tree) (new.trees tables.permit.tree) xs has (λ (p : PermitRow). nat_eq u.id p.unit)
         (cascade_rows (schema v) Enforced (work_on permit 2 u) permit_cells (λ p. p.0) (λ _. refl) second new.trees has.numbered at has.rise (λ p. nat_eq u.id p.1.unit) (λ p. child_is permit 2 u p.1.unit (permit_cells p) refl) cascade.4));
@@ -232,7 +211,8 @@ module _ (old new : Database) (id : ℕ) (v : Version) (it : DeletedWith (schema
   next_only : OnlyTouches (tables.unit.tree ∷ []) old (record old { trees = it.next })
   next_only = touched v old (record old { trees = it.next }) tables.unit.tree it.applies.tables
 
-  all_only : (first second : Trees) → IsCascade (schema v) Enforced (work_with housing 1 moves) it.next first → IsCascade (schema v) Enforced (work_with element 1 moves) first second
+  all_only : (first second : Trees) → IsCascade (schema v) Enforced (work_with housing 1 moves) it.next first
+      → IsCascade (schema v) Enforced (work_with element 1 moves) first second
       → IsCascade (schema v) Enforced (work_with permit 2 moves) second new.trees → OnlyTouches unit_tables old new
   all_only first second p q r =
       let next = record old { trees = it.next } in
@@ -254,7 +234,8 @@ module _ (old new : Database) (id : ℕ) (v : Version) (it : DeletedWith (schema
         (subst (λ ws. Settles (schema v) Enforced it.next ws (Ok new.trees)) (works_any v gone some) it.settles) in
         all_only all.0 all.1 all.2 all.3 all.4
     | inr none ↦
-        let same : new.trees ≡ it.next = nothing_left v it.next new.trees (subst (λ ws. Settles (schema v) Enforced it.next ws (Ok new.trees)) (works_none v gone none) it.settles) in
+        let same : new.trees ≡ it.next =
+        nothing_left v it.next new.trees (subst (λ ws. Settles (schema v) Enforced it.next ws (Ok new.trees)) (works_none v gone none) it.settles) in
         touched_wider (tables.unit.tree ∷ []) unit_tables old new refl
         (λ tree there other. ap (λ (d : Trees). d tree) same ∙ next_only tree there other)
   ]
@@ -265,7 +246,8 @@ none_after : (x : Unit) (xs : List Unit) → AllByRecursion (λ y. by_number x y
 none_after x [] up = refl
 none_after x (y ∷ ys) up = rw (other_number x.id y.id up.0) (none_after x ys up.1)
 
-pub the_one : (id : ℕ) (xs : List Unit) → Rises by_number xs → list_any (λ (u : Unit). nat_eq id u.id) xs ≡ true → (u : Unit) × (u.id ≡ id) × (filter (keep id) xs ≡ u ∷ [])
+pub the_one : (id : ℕ) (xs : List Unit) → Rises by_number xs → list_any (λ (u : Unit). nat_eq id u.id) xs ≡ true
+    → (u : Unit) × (u.id ≡ id) × (filter (keep id) xs ≡ u ∷ [])
 the_one id [] up h = absurd (cc)
 the_one id (x ∷ xs) up h = elim (cases_Bool (nat_eq id x.id)) [
   | inl e ↦

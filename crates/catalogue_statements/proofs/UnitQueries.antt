@@ -1,45 +1,14 @@
 -- The queries of the units' rows: what their texts mean, what they tell, and why they fail.
 use Rattle.std.proofs.Common.{◌≡◌, ℕ, ℤ, pos, List, [], ◌∷◌, map, filter, codes, true, Result, IfOk, IfErr, nat_eq, refl, arith, SFits}
-use Rattle.std.proofs.Math.Nat.{le_refl}
 use Rattle.std.proofs.lemmas.Int.{ints}
 use Rattle.std.proofs.lemmas.Option.{IfSome_then}
-use Rattle.std.specs.Prelude.{IfSome}
 use Rattle.std.specs.Int.{w32}
-use Rattle.std.specs.List.{AllByRecursion}
-use Rattle.std.specs.Cmp.{IsTotalOrder, on_total, int_cmp_total}
 use Rattle.isad_core.specs.Days.{is_day_number}
-use Rattle.isad_core.specs.Texts.{Bytes}
-use Rattle.sqlite.specs.declared.types.Value.TheVariants.{Int, Text}
-use Rattle.sqlite.specs.Order.{Row}
-use Rattle.sqlite.specs.Term.{Term, col, op2, eval_all}
-use Rattle.sqlite.specs.Query.{inner, end}
-use Rattle.sqlite.specs.Command.{Command}
-use Rattle.sqlite.specs.Command.TheVariants.{Select}
-use Rattle.sqlite.specs.Collation.TheVariants.{Binary}
 use Rattle.sqlite.specs.Listing.{understood}
-use Rattle.sqlite.specs.State.{State}
-use Rattle.sqlite_sql.specs.declared.ops.BinaryOp.TheVariants.{Compare}
-use Rattle.sqlite_sql.specs.declared.ops.CompareOp.TheVariants.{Eq}
 use Rattle.sqlite_tied.specs.Compute.{everything}
-use Rattle.sqlite_typing.specs.Types.{accepts_program}
-use Rattle.sqlite_value.specs.declared.keys.Key.{Key}
-use Rattle.sqlite_value.specs.Keys.{ascending}
-use Rattle.office_tables.specs.Versions.{Version}
-use Rattle.catalogue_core.specs.Bounds.{IsLegibleUnit}
-use Rattle.catalogue_core.specs.Units.{Unit, is_from}
-use Rattle.office_tables.specs.Query.{Finds, Misses}
-use Rattle.office_tables.specs.Faults.{IsUnlimited, HasCause}
-use Rattle.office_tables.specs.StatementMeaning.{Means}
-use Rattle.office_tables.specs.Order.{IsOrdered}
-use Rattle.office_tables.specs.Schema.{schema, unit}
 use Rattle.office_tables.specs.Schema as tables
-use Rattle.office_tables.specs.Step.{Holds}
-use Rattle.office_tables.specs.declared.fault.StoreFault.{StoreFault}
-use Rattle.catalogue_statements.specs.Rows.{unit_row, by_number}
-use Rattle.office_tables.proofs.Queries.{plain_query, asking}
-use Rattle.office_tables.proofs.statements.SelectOf.{select_finds, select_faults}
+use Rattle.catalogue_statements.proofs.Common.{AllByRecursion, Binary, Bytes, Command, Compare, Eq, Finds, HasCause, Holds, IfSome, Int, IsLegibleUnit, IsOrdered, IsTotalOrder, IsUnlimited, Key, Means, Misses, Row, Select, State, StoreFault, Term, Text, Unit, Version, accepts_program, ascending, asking, both, by_number, by_one_int, col, end, eval_all, inner, int_cmp_total, is_from, le_refl, on_total, only, op2, plain_query, same_bytes, same_number, schema, select_faults, select_finds, unit, unit_row}
 use Rattle.catalogue_statements.proofs.UnitWrites.{with_its_number}
-use Rattle.office_tables.proofs.Tests.{only, both, same_number, same_bytes, by_one_int}
 
 pub by_number_total : IsTotalOrder by_number
 by_number_total = on_total (λ (u : Unit). pos u.id) int_cmp_total
@@ -70,7 +39,9 @@ module _ (old new : State) (source legacy : Bytes) (v : Version) (has : old.now.
       (is_from source legacy) (λ u. both (same_bytes u.source source) (same_bytes u.legacy legacy)) (λ u. Int (pos u.id) ∷ []) (λ (u : Unit). Int (pos u.id) ∷ []) (λ _. refl) by_number (λ _. refl) (λ a b. by_one_int (pos a.id) (pos b.id))
       (λ n. Int (pos n) ∷ []) items (λ (u : Unit). u.id) (λ _. refl) r
 
-  pub from_faults : (IsLegible : ℕ → Type 0) → AllByRecursion (λ (u : Unit). IsLegible u.id) xs → IsUnlimited old → IfErr r (Misses (λ n. Int (pos n) ∷ []) IsLegible from_text (Text source ∷ Text legacy ∷ []) old new) → IfErr r (HasCause old new)
+  pub from_faults : (IsLegible : ℕ → Type 0) → AllByRecursion (λ (u : Unit). IsLegible u.id) xs → IsUnlimited old
+      → IfErr r (Misses (λ n. Int (pos n) ∷ []) IsLegible from_text (Text source ∷ Text legacy ∷ []) old new)
+      → IfErr r (HasCause old new)
   from_faults IsLegible legible free =
       select_faults v unit from_text from_there (col 1 0 ∷ []) in_order (codes "id" ∷ []) (Text source ∷ Text legacy ∷ []) (from_means v) old new has unit_row xs stored
       (is_from source legacy) (λ u. both (same_bytes u.source source) (same_bytes u.legacy legacy)) (λ u. Int (pos u.id) ∷ []) (λ (u : Unit). Int (pos u.id) ∷ []) (λ _. refl) by_number (λ _. refl) (λ a b. by_one_int (pos a.id) (pos b.id))
@@ -81,13 +52,16 @@ module _ (old new : State) (source legacy : Bytes) (v : Version) (has : old.now.
 -- a SELECT of some columns of the unit with this number
 module _ (old new : State) (id : ℕ) (v : Version) (has : old.now.schema ≡ schema v) (sql : List ℕ) (project : List Term) (names : List (List ℕ)) (means : Means v sql 1 (Select (asking unit with_its_number project in_order) names))
     (xs : List Unit) (stored : Holds unit unit_row old xs) {T X : Type 0} (cells : T → Row) (items : X → List T) (tell : Unit → T) (answers : (u : Unit) → eval_all project ((Int (pos id) ∷ []) ∷ unit_row u ∷ []) ≡ cells (tell u)) (r : Result X StoreFault) where
-  pub numbered_finds : IfOk r (λ found. Finds cells sql (Int (pos id) ∷ []) old new (items found)) → IfOk r (λ found. (ys : List Unit) × IsOrdered by_number (filter (λ (u : Unit). nat_eq id u.id) xs) ys × (items found ≡ map tell ys))
+  pub numbered_finds : IfOk r (λ found. Finds cells sql (Int (pos id) ∷ []) old new (items found))
+      → IfOk r (λ found. (ys : List Unit) × IsOrdered by_number (filter (λ (u : Unit). nat_eq id u.id) xs) ys × (items found ≡ map tell ys))
   numbered_finds =
       select_finds v unit sql with_its_number project in_order names (Int (pos id) ∷ []) means old new has unit_row xs stored
       (λ (u : Unit). nat_eq id u.id) (λ u. only (same_number u.id id)) (λ u. cells (tell u)) (λ (u : Unit). Int (pos u.id) ∷ []) answers by_number (λ _. refl) (λ a b. by_one_int (pos a.id) (pos b.id))
       cells items tell (λ _. refl) r
 
-  pub numbered_faults : (IsLegible : T → Type 0) → accepts_program (schema v) [] (plain_query (inner tables.unit.tree end) with_its_number project in_order) (Int (pos id) ∷ []) ≡ true → AllByRecursion (λ u. IsLegible (tell u)) xs → IsUnlimited old
+  pub numbered_faults : (IsLegible : T → Type 0)
+      → accepts_program (schema v) [] (plain_query (inner tables.unit.tree end) with_its_number project in_order) (Int (pos id) ∷ []) ≡ true
+      → AllByRecursion (λ u. IsLegible (tell u)) xs → IsUnlimited old
       → IfErr r (Misses cells IsLegible sql (Int (pos id) ∷ []) old new) → IfErr r (HasCause old new)
   numbered_faults IsLegible accepted legible free =
       select_faults v unit sql with_its_number project in_order names (Int (pos id) ∷ []) means old new has unit_row xs stored

@@ -1,56 +1,18 @@
 -- The statements that write the row of a unit: what their texts mean, what they leave, and why they fail.
 use Rattle.std.proofs.Common.{◌≡◌, ℕ, zero, suc, ℤ, pos, List, [], ◌∷◌, map, drop, codes, Bool, true, false, if◌then◌else◌, ltb, Option, Some, None, Result, OnOk, IfErr, nat_eq, refl, sym, ap, ◌∙◌, arith}
-use Rattle.std.proofs.Math.Nat.{le_refl}
-use Rattle.std.proofs.lemmas.Bool.{ltb-true}
-use Rattle.std.specs.List.{list_any}
 use Rattle.isad_core.specs.declared.values.Values.{«Values» as Description}
 use Rattle.sqlite.specs.declared.types.Value.{Value}
-use Rattle.sqlite.specs.declared.types.Value.TheVariants.{Null, Int, Text}
-use Rattle.sqlite.specs.Order.{Row, column}
-use Rattle.sqlite.specs.Values.{or_null}
-use Rattle.sqlite.specs.Cast.{cast_row}
-use Rattle.sqlite.specs.Edit.{edit_of, id_in}
-use Rattle.sqlite.specs.Effect.{value_rows}
-use Rattle.sqlite.specs.Rowids.TheVariants.{Chosen}
-use Rattle.sqlite.specs.Term.{Term, lit, col, op2, eval_all}
-use Rattle.sqlite.specs.Query.{inner, end}
-use Rattle.sqlite.specs.Collation.TheVariants.{Binary}
-use Rattle.sqlite.specs.Command.{Command}
-use Rattle.sqlite.specs.Command.TheVariants.{Insert, Update}
 use Rattle.sqlite.specs.Source.TheVariants.{Values}
 use Rattle.sqlite.specs.Listing.{understood}
-use Rattle.sqlite.specs.State.{State, IsLive}
-use Rattle.sqlite.specs.Tree.{Trees}
 use Rattle.sqlite_rules.specs.Steps.{is_typed}
 use Rattle.sqlite_schema.specs.Names.{same_name}
-use Rattle.sqlite_schema.specs.Rules.{agree}
-use Rattle.sqlite_sql.specs.declared.ops.BinaryOp.TheVariants.{Compare}
-use Rattle.sqlite_sql.specs.declared.ops.CompareOp.TheVariants.{Eq}
 use Rattle.sqlite_tied.specs.Compute.{everything}
-use Rattle.sqlite_typing.specs.Types.{accepts_program}
-use Rattle.sqlite_value.specs.Keys.{joined, first_key, plain}
-use Rattle.office_tables.specs.Versions.{Version, First, Second}
-use Rattle.catalogue_core.specs.Units.{Unit as Described, has_id, is_from}
-use Rattle.office_tables.specs.ChangeStatement.{Ran}
-use Rattle.office_tables.specs.Faults.{IsUnlimited, HasCause}
+use Rattle.sqlite_value.specs.Keys.{joined, first_key}
+use Rattle.catalogue_core.specs.Units.{Unit as Described}
 use Rattle.office_tables.specs.Flags.{flag}
-use Rattle.office_tables.specs.StatementMeaning.{Means}
-use Rattle.office_tables.specs.Order.{Rises}
-use Rattle.office_tables.specs.Schema.{schema, unit}
 use Rattle.office_tables.specs.Schema as tables
-use Rattle.office_tables.specs.Step.{Holds, HasRows, PutsRow, OnlyTouches}
-use Rattle.office_tables.specs.declared.fault.StoreFault.{StoreFault}
-use Rattle.catalogue_statements.specs.Rows.{unit_row, by_number}
-use Rattle.office_tables.proofs.Casts.{cast_int, cast_null, cast_maybe}
-use Rattle.office_tables.proofs.Fresh.{any_mapped}
-use Rattle.office_tables.proofs.InsertCauses.{IsWelcome}
-use Rattle.office_tables.proofs.statements.InsertOf.{insert_puts, insert_faults}
-use Rattle.office_tables.proofs.statements.OnlyOf.{update_only}
-use Rattle.office_tables.proofs.Queries.{plain_query, choosing}
-use Rattle.office_tables.proofs.Tests.{only, both, same_number, same_bytes}
 use Rattle.office_tables.proofs.UpdateCauses.{KeepsTable}
-use Rattle.office_tables.proofs.statements.UpdateOf.{update_leaves, update_faults}
-use Rattle.office_tables.proofs.statements.WelcomeOf.{number_welcome}
+use Rattle.catalogue_statements.proofs.Common.{Binary, Chosen, Command, Compare, Eq, First, HasCause, HasRows, Holds, Insert, Int, IsLive, IsUnlimited, IsWelcome, Means, Null, OnlyTouches, PutsRow, Ran, Rises, Row, Second, State, StoreFault, Term, Text, Trees, Update, Version, accepts_program, agree, any_mapped, both, by_number, cast_int, cast_maybe, cast_null, cast_row, choosing, col, column, edit_of, end, eval_all, has_id, id_in, inner, insert_faults, insert_puts, is_from, le_refl, list_any, lit, ltb-true, number_welcome, only, op2, or_null, plain, plain_query, same_bytes, same_number, schema, unit, unit_row, update_faults, update_leaves, update_only, value_rows}
 
 -- ---- a new unit
 
@@ -67,11 +29,14 @@ pub insert_unit_means : (v : Version) → Means v insert_unit_text 5 insert_unit
 unfolding understood everything
 insert_unit_means v = record { is = refl; plain = (refl, refl); whole = (le_refl _, refl, refl); unlisted = refl }
 
-same_origin : (a b : Described) → agree plain (2 ∷ 3 ∷ []) (unit_row a) (2 ∷ 3 ∷ []) (unit_row b) ≡ is_from b.source b.legacy a
+same_origin : (a b : Described)
+    → agree plain (2 ∷ 3 ∷ []) (unit_row a) (2 ∷ 3 ∷ []) (unit_row b) ≡ is_from b.source b.legacy a
 unfolding first_key
 same_origin a b = both (same_bytes a.source b.source) (same_bytes a.legacy b.legacy)
 
-unit_welcome : (u : Described) (xs : List Described) (v : Version) (db : Trees) → u.until ≡ None → db tables.unit.tree ≡ map unit_row xs → list_any (has_id u.id) xs ≡ false → list_any (is_from u.source u.legacy) xs ≡ false
+unit_welcome : (u : Described) (xs : List Described) (v : Version) (db : Trees) → u.until ≡ None
+    → db tables.unit.tree ≡ map unit_row xs → list_any (has_id u.id) xs ≡ false
+    → list_any (is_from u.source u.legacy) xs ≡ false
     → IsWelcome (schema v) db unit (unit_row u)
 unit_welcome u xs v db none_until stored none other =
     let apart : list_any (λ r. agree plain (2 ∷ 3 ∷ []) r (2 ∷ 3 ∷ []) (unit_row u)) (db tables.unit.tree) ≡ false =
@@ -85,10 +50,12 @@ module _ (old new : State) (u : Described) (none_until : u.until ≡ None) (v : 
   news : (edit_of old.now.trees unit [] Chosen 0 (value_rows params 7 1 insert_unit_terms)).news ≡ unit_row u ∷ []
   news = rw (none_until, cast_int (pos u.id), cast_null, cast_int (flag u.draft)) refl
 
-  pub insert_unit_puts : (r : Result Unit StoreFault) → Ran insert_unit_text params old new r → OnOk r (PutsRow tables.unit.tree (unit_row u) old.now new.now)
+  pub insert_unit_puts : (r : Result Unit StoreFault) → Ran insert_unit_text params old new r
+      → OnOk r (PutsRow tables.unit.tree (unit_row u) old.now new.now)
   insert_unit_puts = insert_puts v 8 unit refl insert_unit_text insert_unit_terms 7 params (insert_unit_means v) old new has (unit_row u) news
 
-  pub insert_unit_faults : (xs : List Described) → Holds unit unit_row old xs → list_any (has_id u.id) xs ≡ false → list_any (is_from u.source u.legacy) xs ≡ false → IsUnlimited old → IsLive old
+  pub insert_unit_faults : (xs : List Described) → Holds unit unit_row old xs → list_any (has_id u.id) xs ≡ false
+      → list_any (is_from u.source u.legacy) xs ≡ false → IsUnlimited old → IsLive old
       → (r : Result Unit StoreFault) → Ran insert_unit_text params old new r → IfErr r (HasCause old new)
   insert_unit_faults xs stored none other =
       insert_faults v 8 unit refl insert_unit_text insert_unit_terms 7 params (insert_unit_means v) old new has (unit_row u) news refl (unit_welcome u xs v old.now.trees none_until stored none other)
@@ -104,7 +71,8 @@ unfolding joined same_name
 unit_kept First = record { listed = refl; apart = refl; spared = refl; fits = refl }
 unit_kept Second = record { listed = refl; apart = refl; spared = refl; fits = refl }
 
-unit_alike : (a b : Described) → a.id ≡ b.id → a.source ≡ b.source → a.legacy ≡ b.legacy → (p : ℕ) → ltb p 4 ≡ true → column (unit_row a) p ≡ column (unit_row b) p
+unit_alike : (a b : Described) → a.id ≡ b.id → a.source ≡ b.source → a.legacy ≡ b.legacy → (p : ℕ) → ltb p 4 ≡ true
+    → column (unit_row a) p ≡ column (unit_row b) p
 unit_alike a b id source legacy zero h = ap (λ n. Int (pos n)) id
 unit_alike a b id source legacy (suc zero) h = refl
 unit_alike a b id source legacy (suc (suc zero)) h = ap Text source
@@ -114,7 +82,8 @@ unit_alike a b id source legacy (suc (suc (suc (suc p)))) h = absurd (omega (ari
 unit_typed : (u : Described) → is_typed unit (unit_row u) ≡ true
 unit_typed u = by_closure u.until
   where
-    by_closure : (until : Option ℤ) → is_typed unit (Int (pos u.id) ∷ Null ∷ Text u.source ∷ Text u.legacy ∷ Text u.values.level ∷ or_null Int until ∷ Int (flag u.draft) ∷ []) ≡ true
+    by_closure : (until : Option ℤ)
+        → is_typed unit (Int (pos u.id) ∷ Null ∷ Text u.source ∷ Text u.legacy ∷ Text u.values.level ∷ or_null Int until ∷ Int (flag u.draft) ∷ []) ≡ true
     by_closure None = refl
     by_closure (Some n) = refl
 
@@ -132,7 +101,8 @@ module _ (old new : State) (id : ℕ) (v : Version) (has : old.now.schema ≡ sc
       update_leaves v 8 unit refl sql with_its_number project (Int (pos id) ∷ value ∷ []) means old new has unit_row (λ x. pos x.id) (λ _. refl) xs stored up
       (λ x. nat_eq id x.id) (λ u. only (same_number u.id id)) source represents (λ x. ap id_in (numbered x)) changed (λ x. ap pos (same_id x)) (λ x _ _. casts x) r ran
 
-  set_faults : accepts_program (schema v) [] (plain_query (inner tables.unit.tree end) with_its_number project []) (Int (pos id) ∷ value ∷ []) ≡ true → IsUnlimited old → IsLive old → IfErr r (HasCause old new)
+  set_faults : accepts_program (schema v) [] (plain_query (inner tables.unit.tree end) with_its_number project []) (Int (pos id) ∷ value ∷ []) ≡ true
+      → IsUnlimited old → IsLive old → IfErr r (HasCause old new)
   set_faults accepted free live =
       update_faults v 8 unit refl sql with_its_number project (Int (pos id) ∷ value ∷ []) means old new has unit_row (λ x. pos x.id) (λ _. refl) xs stored up
       (λ x. nat_eq id x.id) (λ u. only (same_number u.id id)) source represents (λ x. ap id_in (numbered x)) changed (λ x. ap pos (same_id x)) (λ x _ _. casts x)
@@ -214,7 +184,8 @@ pub set_until_means : (v : Version) → Means v set_until_text 2 set_until_comma
 unfolding understood everything
 set_until_means v = record { is = refl; plain = (refl, refl); whole = (le_refl _, refl, refl); unlisted = refl }
 
-until_accepted : (v : Version) (id : ℕ) (until : Option ℤ) → accepts_program (schema v) [] (plain_query (inner tables.unit.tree end) with_its_number set_until_columns []) (Int (pos id) ∷ or_null Int until ∷ []) ≡ true
+until_accepted : (v : Version) (id : ℕ) (until : Option ℤ)
+    → accepts_program (schema v) [] (plain_query (inner tables.unit.tree end) with_its_number set_until_columns []) (Int (pos id) ∷ or_null Int until ∷ []) ≡ true
 until_accepted First id None = refl
 until_accepted First id (Some n) = refl
 until_accepted Second id None = refl
@@ -238,11 +209,17 @@ module _ (old new : State) (id : ℕ) (until : Option ℤ) (v : Version) (has : 
 -- ---- no other table is touched, whatever units there are
 
 module _ (old new : State) (id : ℕ) (v : Version) (has : old.now.schema ≡ schema v) (r : Result Unit StoreFault) where
-  pub set_level_only : (values : Description) → Ran set_level_text (Int (pos id) ∷ Text values.level ∷ []) old new r → OnOk r (OnlyTouches (unit.tree ∷ []) old.now new.now)
-  set_level_only values ran = update_only v 8 unit refl set_level_text _ (Int (pos id) ∷ Text values.level ∷ []) old new has (set_level_means v) r ran
+  pub set_level_only : (values : Description) → Ran set_level_text (Int (pos id) ∷ Text values.level ∷ []) old new r
+      → OnOk r (OnlyTouches (unit.tree ∷ []) old.now new.now)
+  set_level_only values ran =
+      update_only v 8 unit refl set_level_text _ (Int (pos id) ∷ Text values.level ∷ []) old new has (set_level_means v) r ran
 
-  pub set_draft_only : (draft : Bool) → Ran set_draft_text (Int (pos id) ∷ Int (flag draft) ∷ []) old new r → OnOk r (OnlyTouches (unit.tree ∷ []) old.now new.now)
-  set_draft_only draft ran = update_only v 8 unit refl set_draft_text _ (Int (pos id) ∷ Int (flag draft) ∷ []) old new has (set_draft_means v) r ran
+  pub set_draft_only : (draft : Bool) → Ran set_draft_text (Int (pos id) ∷ Int (flag draft) ∷ []) old new r
+      → OnOk r (OnlyTouches (unit.tree ∷ []) old.now new.now)
+  set_draft_only draft ran =
+      update_only v 8 unit refl set_draft_text _ (Int (pos id) ∷ Int (flag draft) ∷ []) old new has (set_draft_means v) r ran
 
-  pub set_until_only : (until : Option ℤ) → Ran set_until_text (Int (pos id) ∷ or_null Int until ∷ []) old new r → OnOk r (OnlyTouches (unit.tree ∷ []) old.now new.now)
-  set_until_only until ran = update_only v 8 unit refl set_until_text _ (Int (pos id) ∷ or_null Int until ∷ []) old new has (set_until_means v) r ran
+  pub set_until_only : (until : Option ℤ) → Ran set_until_text (Int (pos id) ∷ or_null Int until ∷ []) old new r
+      → OnOk r (OnlyTouches (unit.tree ∷ []) old.now new.now)
+  set_until_only until ran =
+      update_only v 8 unit refl set_until_text _ (Int (pos id) ∷ or_null Int until ∷ []) old new has (set_until_means v) r ran

@@ -1,67 +1,72 @@
 -- How a call ends that changes what the tables represent, by how its steps ended.
 use Rattle.std.proofs.Common.{inl, ℕ, List, Ok, Err, Result, OnOk, OnErr, IfErr, refl}
 use Rattle.sqlite_trees.specs.declared.store.Store as store
-use Rattle.sqlite.specs.Effect.{Database}
-use Rattle.sqlite.specs.Held.{Held, state}
-use Rattle.sqlite.specs.State.{State, HasCleanDisk}
 use Rattle.office_tables.specs.Calls.{StoreUpdates}
-use Rattle.office_tables.specs.ChangeStatement.{LeavesOr}
-use Rattle.office_tables.specs.Faults.{FaultsHaveCause, HasCause, IsUnlimited}
-use Rattle.office_tables.specs.Step.{Goes, IsAborted, LeavesUnchanged, OnlyTouches, Spares}
 use Rattle.office_tables.specs.TableStatements.{LooksUp}
-use Rattle.office_tables.specs.declared.fault.StoreFault.{StoreFault}
 use Rattle.office_tables.specs.declared.fault.StoreFault.TheVariants as fault
-use Rattle.office_tables.proofs.CallEnds.{excused_then, leaves_last, same_fault}
-use Rattle.office_tables.proofs.Calls.{cut_after, early, on_ok_both}
-use Rattle.office_tables.proofs.LookUps.{Hands}
 use Rattle.office_tables.proofs.Outcomes.{on_ok_by}
-use Rattle.office_tables.proofs.Sparing.{same_untouched, untouched}
 use Rattle.office_tables.proofs.StoreCalls.{makes_cut, makes_part}
-use Rattle.office_tables.proofs.Touching.{touched_again}
+use Rattle.catalogue_statements.proofs.Common.{Database, FaultsHaveCause, Goes, Hands, HasCause, HasCleanDisk, Held, IsAborted, IsUnlimited, LeavesOr, LeavesUnchanged, OnlyTouches, Spares, State, StoreFault, cut_after, early, excused_then, leaves_last, on_ok_both, same_fault, same_untouched, state, touched_again, untouched}
 
 -- tables that were only looked at
-pub looked_only : (touched : List ℕ) (a b : State) → LeavesUnchanged a b → HasCleanDisk b → OnlyTouches touched a.now b.now
+pub looked_only : (touched : List ℕ) (a b : State) → LeavesUnchanged a b → HasCleanDisk b
+    → OnlyTouches touched a.now b.now
 looked_only touched a b looked clean = same_untouched touched a.now b.now (looked.same clean)
 
 -- how a step leaves the transaction that touches such tables only, also if it fails
-pub leaves_so : {X : Type 0} (touched : List ℕ) (a b : State) (r : Result X StoreFault) → OnOk r (Goes a b) → OnErr r (IsAborted a b) → (HasCleanDisk b → IfErr r (Spares (OnlyTouches touched) a b)) → LeavesOr (OnlyTouches touched) a b r
+pub leaves_so : {X : Type 0} (touched : List ℕ) (a b : State) (r : Result X StoreFault) → OnOk r (Goes a b)
+    → OnErr r (IsAborted a b) → (HasCleanDisk b → IfErr r (Spares (OnlyTouches touched) a b))
+    → LeavesOr (OnlyTouches touched) a b r
 leaves_so touched a b (Ok x) went cut spares = record { crash = went.on.crash; goes = went; aborts = tt; spares = λ clean. tt }
 leaves_so touched a b (Err e) went cut spares = record { crash = cut.crash; goes = tt; aborts = cut; spares = spares }
 
 module _ {S X Stays Model : Type 0} {g : store.Ghosts S} {represents : Database → Stays → Model → Type 0} {kept may : Model → Type 0} {before after : Held S} {made : Model → Model} {touched : List ℕ} where
   -- all its steps went well
-  pub makes_well : {x : X} → Goes (state g before) (state g after) → (HasCleanDisk (state g after) → OnlyTouches touched (state g before).now (state g after).now)
-      → (HasCleanDisk (state g after) → (s : Stays) (m : Model) → represents (state g before).now s m → may m → represents (state g after).now s (made m)) → StoreUpdates g represents kept before after (Ok x) may made touched
+  pub makes_well : {x : X} → Goes (state g before) (state g after)
+      → (HasCleanDisk (state g after) → OnlyTouches touched (state g before).now (state g after).now)
+      → (HasCleanDisk (state g after) → (s : Stays) (m : Model) → represents (state g before).now s m → may m → represents (state g after).now s (made m))
+      → StoreUpdates g represents kept before after (Ok x) may made touched
   makes_well went only done = record { represents_updated = done; only = only; goes = went; aborts = tt; spares = λ clean. tt; faults = λ s m shown allowed within clean free. tt }
 
   -- its first step fails
-  pub makes_first : {r : Result X StoreFault} {e : StoreFault} → Hands r e → IsAborted (state g before) (state g after) → (HasCleanDisk (state g after) → Spares (OnlyTouches touched) (state g before) (state g after) e)
+  pub makes_first : {r : Result X StoreFault} {e : StoreFault} → Hands r e → IsAborted (state g before) (state g after)
+      → (HasCleanDisk (state g after) → Spares (OnlyTouches touched) (state g before) (state g after) e)
       → ((s : Stays) (m : Model) → represents (state g before).now s m → may m → kept m → HasCleanDisk (state g after) → IsUnlimited (state g before) → HasCause (state g before) (state g after) e)
       → StoreUpdates g represents kept before after r may made touched
-  makes_first {r} {e} handed cut spares why = makes_part g represents kept may before after r made touched e (same_fault r e handed.0 handed.1) cut spares why
+  makes_first {r} {e} handed cut spares why =
+      makes_part g represents kept may before after r made touched e (same_fault r e handed.0 handed.1) cut spares why
 
   -- its first step fails, a look-up
-  pub makes_passed : {Y N : Type 0} {r : Result X StoreFault} {e : StoreFault} {holds : State → N → Type 0} {sorted low : N → Type 0} {found : N → Y → Type 0} → Hands r e → LooksUp g holds before after (Err e) sorted low found
+  pub makes_passed : {Y N : Type 0} {r : Result X StoreFault} {e : StoreFault} {holds : State → N → Type 0} {sorted low : N → Type 0} {found : N → Y → Type 0}
+      → Hands r e → LooksUp g holds before after (Err e) sorted low found
       → ((s : Stays) (m : Model) → represents (state g before).now s m → may m → kept m → HasCleanDisk (state g after) → IsUnlimited (state g before) → HasCause (state g before) (state g after) e)
       → StoreUpdates g represents kept before after r may made touched
   makes_passed {e = e} handed failed why = makes_first handed failed.reads.aborts (λ clean. untouched touched (state g before) (state g after) e (failed.reads.spares clean)) why
 
   -- a later step fails, after others that touched such tables only
-  pub makes_later : {r : Result X StoreFault} {e : StoreFault} (mid : Held S) → Hands r e → Goes (state g before) (state g mid) → (HasCleanDisk (state g mid) → OnlyTouches touched (state g before).now (state g mid).now) → IsAborted (state g mid) (state g after)
+  pub makes_later : {r : Result X StoreFault} {e : StoreFault} (mid : Held S) → Hands r e
+      → Goes (state g before) (state g mid)
+      → (HasCleanDisk (state g mid) → OnlyTouches touched (state g before).now (state g mid).now)
+      → IsAborted (state g mid) (state g after)
       → (HasCleanDisk (state g after) → Spares (OnlyTouches touched) (state g mid) (state g after) e)
       → ((s : Stays) (m : Model) → represents (state g before).now s m → may m → kept m → HasCleanDisk (state g mid) → HasCleanDisk (state g after) → IsUnlimited (state g mid) → HasCause (state g mid) (state g after) e)
       → StoreUpdates g represents kept before after r may made touched
-  makes_later {r} {e} mid handed went only cut spares why = makes_cut g represents kept may before mid after r made touched e (same_fault r e handed.0 handed.1) went.on only cut spares why
+  makes_later {r} {e} mid handed went only cut spares why =
+      makes_cut g represents kept may before mid after r made touched e (same_fault r e handed.0 handed.1) went.on only cut spares why
 
   -- it finds that the tables are not ours, and says so; which cannot be if they represent what is kept
-  pub makes_ill : Goes (state g before) (state g after) → (HasCleanDisk (state g after) → OnlyTouches touched (state g before).now (state g after).now)
-      → (HasCleanDisk (state g after) → (s : Stays) (m : Model) → represents (state g before).now s m → may m → kept m → ⊥) → StoreUpdates {X = X} g represents kept before after (Err fault.Schema) may made touched
+  pub makes_ill : Goes (state g before) (state g after)
+      → (HasCleanDisk (state g after) → OnlyTouches touched (state g before).now (state g after).now)
+      → (HasCleanDisk (state g after) → (s : Stays) (m : Model) → represents (state g before).now s m → may m → kept m → ⊥)
+      → StoreUpdates {X = X} g represents kept before after (Err fault.Schema) may made touched
   makes_ill went only never =
       makes_part g represents kept may before after (Err fault.Schema) made touched fault.Schema refl (cut_after (state g before) (state g after) went.on) (λ clean. record { disk = tt; rows = inl (only clean) })
       (λ s m shown allowed within clean free. absurd (never clean s m shown allowed within))
 
   -- the result of its last step is its own
-  pub makes_last : {r : Result X StoreFault} {b : State} → Goes (state g before) b → (HasCleanDisk b → OnlyTouches touched (state g before).now b.now) → LeavesOr (OnlyTouches touched) b (state g after) r
+  pub makes_last : {r : Result X StoreFault} {b : State} → Goes (state g before) b
+      → (HasCleanDisk b → OnlyTouches touched (state g before).now b.now)
+      → LeavesOr (OnlyTouches touched) b (state g after) r
       → (HasCleanDisk (state g after) → OnOk r (OnlyTouches touched b.now (state g after).now))
       → (HasCleanDisk b → HasCleanDisk (state g after) → (s : Stays) (m : Model) → represents (state g before).now s m → may m → OnOk r (represents (state g after).now s (made m)))
       → (HasCleanDisk b → (s : Stays) (m : Model) → represents (state g before).now s m → may m → kept m → FaultsHaveCause b (state g after) r)

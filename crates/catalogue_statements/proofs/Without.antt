@@ -1,18 +1,15 @@
 -- Records that are taken out one after another, by a number that each of them tells.
 use Rattle.std.proofs.Common.{◌≡◌, ℕ, List, [], ◌∷◌, ◌++◌, filter, Bool, true, false, not, ◌&&◌, ◌||◌, nat_eq, refl, sym, ap, ◌∙◌}
-use Rattle.std.specs.List.{list_any}
 use Rattle.std.proofs.lemmas.List.Folds.{list_any-append}
-use Rattle.tree_core.proofs.Lists.{eqb_comm}
-use Rattle.catalogue_statements.specs.Removals.{without}
-use Rattle.office_tables.proofs.Rows.{same_test, filters, kept_all}
-use Rattle.catalogue_core.proofs.Imported.{or_not}
+use Rattle.catalogue_statements.proofs.Common.{eqb_comm, filters, kept_all, list_any, or_not, same_test, without}
 use Rattle.catalogue_statements.proofs.Statuses.{any_more}
 
 module _ {A : Type 0} (key : A → ℕ) where
   pub without_none : (xs : List A) → without key [] xs ≡ xs
   without_none xs = kept_all xs
 
-  pub without_more : (ids : List ℕ) (id : ℕ) (xs : List A) → filter (λ x. not (nat_eq id (key x))) (without key ids xs) ≡ without key (ids ++ id ∷ []) xs
+  pub without_more : (ids : List ℕ) (id : ℕ) (xs : List A)
+      → filter (λ x. not (nat_eq id (key x))) (without key ids xs) ≡ without key (ids ++ id ∷ []) xs
   without_more ids id xs =
       filters (λ x. not (list_any (nat_eq (key x)) ids)) (λ x. not (nat_eq id (key x))) xs
       ∙ same_test (λ x. not (list_any (nat_eq (key x)) ids) && not (nat_eq id (key x))) (λ x. not (list_any (nat_eq (key x)) (ids ++ id ∷ []))) (λ x.
@@ -20,7 +17,8 @@ module _ {A : Type 0} (key : A → ℕ) where
       ∙ or_not (list_any (nat_eq (key x)) ids) (nat_eq (key x) id)
       ∙ ap not (sym (any_more (nat_eq (key x)) ids id))) xs
 
-  any_both : (p : ℕ → Bool) (xs ys : List ℕ) → (not (list_any p xs) && not (list_any p ys)) ≡ not (list_any p (xs ++ ys))
+  any_both : (p : ℕ → Bool) (xs ys : List ℕ)
+      → (not (list_any p xs) && not (list_any p ys)) ≡ not (list_any p (xs ++ ys))
   any_both p xs ys = or_not (list_any p xs) (list_any p ys) ∙ ap not (sym (list_any-append p xs ys))
 
   -- some, and then others

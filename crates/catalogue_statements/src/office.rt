@@ -4,7 +4,6 @@ ghost use Rattle.std.specs.Prelude.{◌≡◌, [], ◌∷◌, length, Some, OnOk
 ghost use Rattle.sqlite.specs.Held.{state};
 ghost use Rattle.sqlite.specs.State.{HasCleanDisk};
 ghost use Rattle.office_tables.specs.Versions.{Version};
-ghost use Rattle.isad_core.specs.Limits.{IsNumber};
 ghost use Rattle.office_tables.specs.ChangeStatement.{Leaves};
 ghost use Rattle.office_tables.specs.RowCounts.{cap};
 ghost use Rattle.office_tables.specs.Schema as schema;
@@ -17,8 +16,7 @@ ghost use Rattle.catalogue_statements.specs.Representation.{RepresentsOffice};
 ghost use Rattle.catalogue_statements.specs.declared.office.OfficeRow.{OfficeRow};
 
 use isad_core::{Day, Text};
-use office_tables::value::number;
-use office_tables::{StoreFault, Tables, Versioned, change, find_one};
+use office_tables::{Number, StoreFault, Tables, Versioned, change, find_one};
 use sqlite::Alter;
 use std::alloc::Global;
 
@@ -40,15 +38,14 @@ pub struct OfficeRow {
     /// The day on which the desk is open.
     pub day: Day,
     /// The number of the next new unit.
-    pub next_unit: u64,
+    pub next_unit: Number,
 }
 
 /// Writes the number of the next new unit.
 pub fn set_next_unit<P: Versioned, S: Alter>(
     tables: &mut Tables<P, S>,
-    next: u64,
+    next: Number,
 ) -> Result<(), StoreFault>
-    requires small { IsNumber next }
     ensures leaves { Leaves (state S.Store tables.old) (state S.Store tables.new) result }
     ensures rows { HasCleanDisk (state S.Store tables.new)
         → (version : Version) (o : OfficeRow) → RepresentsOffice version (state S.Store tables.old).now.trees o
@@ -62,7 +59,7 @@ pub fn set_next_unit<P: Versioned, S: Alter>(
     change(
         tables,
         "UPDATE office SET next_unit = ?1 WHERE one = 1",
-        &[number(next)],
+        &[next.cell()],
     )
 }
 

@@ -6,9 +6,10 @@ ghost use Rattle.sqlite.specs.declared.types.Value.TheVariants.{Int};
 
 use crate::office::OfficeRow;
 use isad_core::{Day, Text};
-use office_tables::StoreFault;
 use office_tables::from_row::FromRow;
+use office_tables::{Number, StoreFault};
 use sqlite::Row;
+use std::marker::Model;
 
 /// Whether a unit is a draft, and the day on which its closure ends.
 #[derive(Clone, Copy)]
@@ -106,8 +107,8 @@ impl FromRow for Element {
 /// A container of a unit: its number, and its place in the unit's order, from 1.
 #[derive(Clone, Copy)]
 pub struct Housing {
-    pub ord: u64,
-    pub container: u64,
+    pub ord: Number,
+    pub container: Number,
 }
 
 impl FromRow for Housing {
@@ -122,6 +123,42 @@ impl FromRow for Housing {
         Ok(Housing {
             ord: row.get(0)?,
             container: row.get(1)?,
+        })
+    }
+}
+
+/// The row of a unit in the table `link`: a link, whose numbers a table can keep.
+#[derive(Clone, Copy)]
+pub struct LinkRow {
+    pub id: Number,
+    pub parent: Option<Number>,
+    pub ord: u32,
+}
+
+impl Model for LinkRow {
+    ghost use Rattle.tree_core.specs.declared.rows.Link.{Link};
+
+    ghost Value = { Link };
+
+    ghost view = { λ row. record { id = row.id; parent = row.parent; ord = row.ord } };
+
+    ghost inverse = { λ link. record { id = link.id; parent = link.parent; ord = link.ord } };
+}
+
+impl FromRow for LinkRow {
+    ghost use Rattle.std.specs.Prelude.{pos, [], ◌∷◌, option_map, ◌<◌, ◌^◌};
+    ghost use Rattle.sqlite.specs.Values.{or_null};
+    ghost use Rattle.sqlite.specs.declared.types.Value.TheVariants.{Int};
+
+    ghost cells = { λ l. Int (pos l.id) ∷ or_null Int (option_map pos l.parent) ∷ Int (pos l.ord) ∷ [] };
+
+    ghost is_legible = { λ l. l.ord < 2 ^ 32 };
+
+    fn read(row: &Row) -> Result<LinkRow, StoreFault> {
+        Ok(LinkRow {
+            id: row.get(0)?,
+            parent: row.get(1)?,
+            ord: row.get(2)?,
         })
     }
 }

@@ -1,27 +1,13 @@
 -- A call that reads or writes once it has read that it may.
 use Rattle.std.proofs.Common.{◌≡◌, ◌&&◌, ◌∙◌, inl, refl, ℕ, Bool, true, false, List, Ok, Err, Result, sym, subst, IfOk}
-use Rattle.std.proofs.lemmas.Bool.{false≢true}
-use Rattle.std.specs.Prelude.{⊤}
 use Rattle.sqlite_trees.specs.declared.store.Store as store
-use Rattle.sqlite.specs.Effect.{Database}
-use Rattle.sqlite.specs.Held.{Held, state}
-use Rattle.sqlite.specs.State.{State, HasCleanDisk}
-use Rattle.office_tables.specs.Calls.{StoreUpdates, StoreAnswers}
-use Rattle.office_tables.specs.Step.{LeavesUnchanged, OnlyTouches}
-use Rattle.office_tables.specs.declared.fault.StoreFault.{StoreFault}
 use Rattle.office_tables.specs.declared.fault.StoreFault.TheVariants as fault
-use Rattle.office_tables.proofs.Calls.{early, cut_after, cut_then, goes_then, looks_then}
-use Rattle.office_tables.proofs.Causes.{still_unlimited}
 use Rattle.office_tables.proofs.LaterCauses.{next_cause}
-use Rattle.office_tables.proofs.Sparing.{looked_spares, same_untouched}
+use Rattle.catalogue_store.proofs.Common.{Database, HasCleanDisk, Held, LeavesUnchanged, OnlyTouches, State, StoreAnswers, StoreFault, StoreUpdates, cut_after, cut_then, early, false≢true, goes_then, looked_spares, looks_then, same_untouched, state, still_unlimited, ⊤}
 
 pub if_ok_as : {X E : Type 0} (r : Result X E) (P Q : X → Type 0) → ((x : X) → P x → Q x) → IfOk r P → IfOk r Q
 if_ok_as (Ok x) P Q f p = f x p
 if_ok_as (Err e) P Q f p = tt
-
-pub if_ok_always : {X E : Type 0} (r : Result X E) (Q : X → Type 0) → ((x : X) → Q x) → IfOk r Q
-if_ok_always (Ok x) Q f = f x
-if_ok_always (Err e) Q f = tt
 
 pub both_true : (x y : Bool) → (x && y) ≡ true → (x ≡ true) × (y ≡ true)
 both_true true y h = (refl, h)
@@ -34,7 +20,8 @@ not_both x y none first then = (let all : (x && y) ≡ true = rw (first, then) r
 module _ {S Stays Model : Type 0} (g : store.Ghosts S) (represents : Database → Stays → Model → Type 0) (kept : Model → Type 0) (before mid : Held S) (looked : LeavesUnchanged (state g before) (state g mid)) where
   pub tells_after : {X : Type 0} (after : Held S) (r : Result X StoreFault) (told answer : Stays → Model → X → Type 0)
       → (HasCleanDisk (state g mid) → (s : Stays) (m : Model) → represents (state g before).now s m → (x : X) → told s m x → answer s m x)
-      → StoreAnswers g represents kept mid after r (λ _. ⊤) told → StoreAnswers g represents kept before after r (λ _. ⊤) answer
+      → StoreAnswers g represents kept mid after r (λ _. ⊤) told
+      → StoreAnswers g represents kept before after r (λ _. ⊤) answer
   tells_after after (Ok x) told answer turn it =
       let a = state g before in
       let b = state g mid in
@@ -72,7 +59,9 @@ module _ {S Stays Model : Type 0} (g : store.Ghosts S) (represents : Database �
   still_shown clean s m shown = subst (λ (db : Database). represents db s m) (sym (looked.same clean)) shown
 
   -- it may
-  pub makes_after : {X : Type 0} (after : Held S) (r : Result X StoreFault) → StoreUpdates g represents kept mid after r may made touched → StoreUpdates g represents kept before after r may made touched
+  pub makes_after : {X : Type 0} (after : Held S) (r : Result X StoreFault)
+      → StoreUpdates g represents kept mid after r may made touched
+      → StoreUpdates g represents kept before after r may made touched
   makes_after after (Ok x) it =
       let c = state g after in
       let back = early b c _ it.goes.on.crash in
@@ -98,7 +87,8 @@ module _ {S Stays Model : Type 0} (g : store.Ghosts S) (represents : Database �
       }
 
   -- it may not, and blames the schema
-  pub makes_refused : {X : Type 0} → (HasCleanDisk b → (s : Stays) (m : Model) → represents a.now s m → may m → ⊥) → StoreUpdates {X = X} g represents kept before mid (Err fault.Schema) may made touched
+  pub makes_refused : {X : Type 0} → (HasCleanDisk b → (s : Stays) (m : Model) → represents a.now s m → may m → ⊥)
+      → StoreUpdates {X = X} g represents kept before mid (Err fault.Schema) may made touched
   makes_refused never = record {
     represents_updated = λ clean s m shown allowed. tt;
     only = λ clean. tt;

@@ -1,32 +1,16 @@
 -- What the rows of containers say of the units that name them.
 use Rattle.std.proofs.Common.{◌≡◌, inl, inr, ℕ, suc, pos, ◌+◌, ◌<◌, true, false, List, [], ◌∷◌, map, filter, length, get_or, nat_eq, Ordering, Less, Equal, Greater, refl, sym, ap, subst, ◌∙◌, arith}
-use Rattle.std.specs.List.{AllByRecursion, AllPairs, dedup}
-use Rattle.std.specs.List.Sorted.{IsPermutation, IsSorted}
 use Rattle.std.specs.Ordering.{int_cmp, nat_cmp, ordering_then, is_lt}
 use Rattle.std.specs.Cmp.{IsTotalOrder, on_total, int_cmp_total}
-use Rattle.std.proofs.lemmas.Bool.{eq-eqb, eqb-true}
 use Rattle.std.proofs.lemmas.Int.{ints}
-use Rattle.std.proofs.lemmas.List.{get_or-map, length-map}
 use Rattle.std.proofs.lemmas.List.Kept.{Contains-dedup_nat, Contains-from_dedup, AllPairs-from_increasing}
-use Rattle.std.proofs.lemmas.List.Sorted.{IsPermutation-sym}
 use Rattle.std.proofs.lemmas.Map.Keys.{IsStrictlyIncreasing-dedup}
 use Rattle.std.proofs.Math.Dec.{eqb}
-use Rattle.sqlite.specs.Tree.{Trees}
-use Rattle.sqlite_rules.specs.Lists.{Has}
-use Rattle.sqlite_rules.proofs.ListLemmas.{all_has, some_has, some_from, has_filtered, has_kept}
-use Rattle.sqlite_trees.proofs.ListLemmas.{IsPermutation-filter, ascending-filter, ascending-map}
-use Rattle.isad_core.specs.declared.values.BoxKey.{BoxKey}
-use Rattle.tree_core.specs.Forest.{nodes, has}
 use Rattle.tree_core.proofs.Lists.{In, In-from_Contains, Contains-from_In}
 use Rattle.catalogue_core.specs.UnitMarks.{names}
-use Rattle.tree_places.specs.Attachments.{AreAttached}
-use Rattle.catalogue_core.specs.CatalogueMerge.{Catalogue, box_number}
 use Rattle.office_tables.specs.Order.{Rises}
-use Rattle.catalogue_statements.specs.Rows.{HousingRow, by_housing, by_number, counted_from}
-use Rattle.catalogue_statements.specs.Representation.{RepresentsUnits, RepresentsHousings, housing_cells, housings_of}
-use Rattle.catalogue_core.specs.Units.{Unit, has_id}
-use Rattle.office_tables.proofs.Rows.{had, has_map, map_has}
 use Rattle.office_tables.proofs.Sorted.{same_rising}
+use Rattle.catalogue_store.proofs.Common.{AllByRecursion, AllPairs, AreAttached, BoxKey, Catalogue, Has, HousingRow, IsPermutation, IsPermutation-filter, IsPermutation-sym, IsSorted, RepresentsHousings, RepresentsUnits, Trees, Unit, all_has, ascending-filter, ascending-map, box_number, by_housing, by_number, counted_from, dedup, eq-eqb, eqb-true, get_or-map, had, has, has_filtered, has_id, has_kept, has_map, housing_cells, housings_of, length-map, map_has, nodes, some_from, some_has}
 
 -- ---- numbers in order, each once
 
@@ -72,7 +56,8 @@ units_sorted ys up = λ k d low high.
     let there : is_lt (by_housing a b) ≡ false = up k e low high' in
     ap (λ n. is_lt (nat_cmp n (get_or (map unit ys) k d))) (get_or-map unit ys (k + 1) e d high')
     ∙ ap (λ n. is_lt (nat_cmp a.unit n)) (get_or-map unit ys k e d low')
-    ∙ sym (same_order a.unit b.unit) ∙ first_of_then (int_cmp (pos a.unit) (pos b.unit)) (int_cmp (pos a.ord) (pos b.ord)) there
+    ∙ sym (same_order a.unit b.unit)
+    ∙ first_of_then (int_cmp (pos a.unit) (pos b.unit)) (int_cmp (pos a.ord) (pos b.ord)) there
 
 has_from_in : (xs : List ℕ) (x : ℕ) → In x xs → Has xs x
 has_from_in [] x h = absurd h
@@ -106,7 +91,8 @@ module _ (db : Trees) (c : Catalogue) (units : RepresentsUnits db c.forest) (at 
   theirs : List Unit
   theirs = filter (names c.containers container) units.units
 
-  cells : (u : Unit) → Has (nodes c.forest) u → IsPermutation (housing_cells c.containers u.values) (housings_of u.id at.housings)
+  cells : (u : Unit) → Has (nodes c.forest) u
+      → IsPermutation (housing_cells c.containers u.values) (housings_of u.id at.housings)
   cells u h = all_has (λ u. IsPermutation (housing_cells c.containers u.values) (housings_of u.id at.housings)) (nodes c.forest) u at.are h
 
   -- a row of the container is of a unit that names it
@@ -117,10 +103,12 @@ module _ (db : Trees) (c : Catalogue) (units : RepresentsUnits db c.forest) (at 
       let of = some_has (has_id h.unit) (nodes c.forest) (all_has (λ (h : HousingRow). has (has_id h.unit) c.forest ≡ true) at.housings h at.others row.0) in
       let u = of.0 in
       let same : h.unit ≡ u.id = eqb-true h.unit u.id of.2 in
-      let mine : Has (filter (λ (h : HousingRow). nat_eq u.id h.unit) at.housings) h = has_kept (λ (h : HousingRow). nat_eq u.id h.unit) at.housings h row.0 (eq-eqb u.id h.unit (sym same)) in
+      let mine : Has (filter (λ (h : HousingRow). nat_eq u.id h.unit) at.housings) h =
+      has_kept (λ (h : HousingRow). nat_eq u.id h.unit) at.housings h row.0 (eq-eqb u.id h.unit (sym same)) in
       let cell = had (housing_cells c.containers u.values) (housings_of u.id at.housings) (cells u of.1) (cell_of h) (has_map cell_of (filter (λ (h : HousingRow). nat_eq u.id h.unit) at.housings) h mine) in
       let box = map_has (λ (box : ℕ × BoxKey). (let y : ℕ × ℕ = (box.0, box_number c.containers box.1) in y)) (counted_from 1 u.values.boxes) (cell_of h) cell in
-      let number : container ≡ box_number c.containers box.0.1 = eqb-true container h.container row.1 ∙ ap (λ (y : ℕ × ℕ). y.1) box.2 in
+      let number : container ≡ box_number c.containers box.0.1 =
+      eqb-true container h.container row.1 ∙ ap (λ (y : ℕ × ℕ). y.1) box.2 in
       let passes = some_from (λ b. nat_eq container (box_number c.containers b)) u.values.boxes box.0.1 (counted 1 u.values.boxes box.0 box.1) (eq-eqb container (box_number c.containers box.0.1) number) in
       (u, has_kept (names c.containers container) units.units u (had units.units (nodes c.forest) (IsPermutation-sym (nodes c.forest) units.units units.are) u of.1) passes, same)
 
@@ -137,19 +125,24 @@ module _ (db : Trees) (c : Catalogue) (units : RepresentsUnits db c.forest) (at 
       let kept = had (housings_of u.id at.housings) (housing_cells c.containers u.values) (IsPermutation-sym (housing_cells c.containers u.values) (housings_of u.id at.housings) (cells u node)) cell told in
       let row = map_has cell_of (filter (λ (h : HousingRow). nat_eq u.id h.unit) at.housings) cell kept in
       let own = has_filtered (λ (h : HousingRow). nat_eq u.id h.unit) at.housings row.0 row.1 in
-      let number : container ≡ row.0.container = eqb-true container (box_number c.containers box.0) box.2 ∙ ap (λ (y : ℕ × ℕ). y.1) row.2 in
+      let number : container ≡ row.0.container =
+      eqb-true container (box_number c.containers box.0) box.2 ∙ ap (λ (y : ℕ × ℕ). y.1) row.2 in
       (row.0, has_kept (λ (h : HousingRow). nat_eq container h.container) at.housings row.0 own.0 (eq-eqb container row.0.container number), sym (eqb-true u.id row.0.unit own.1))
 
   -- the units of the rows in their order, each once, are those that name the container
-  pub attached : (ys : List HousingRow) (ids once : List ℕ) → IsPermutation (filter (λ (h : HousingRow). nat_eq container h.container) at.housings) ys → IsSorted by_housing ys → ids ≡ map (λ (h : HousingRow). h.unit) ys → once ≡ dedup eqb ids
+  pub attached : (ys : List HousingRow) (ids once : List ℕ)
+      → IsPermutation (filter (λ (h : HousingRow). nat_eq container h.container) at.housings) ys
+      → IsSorted by_housing ys → ids ≡ map (λ (h : HousingRow). h.unit) ys → once ≡ dedup eqb ids
       → (us : List Unit) × AreAttached c container us × (once ≡ map (λ (u : Unit). u.id) us)
   unfolding rows theirs by_size
   attached ys ids once perm sorted is squeezed =
       let unit = λ (h : HousingRow). h.unit in
       let id = λ (u : Unit). u.id in
       let list = map unit ys in
-      let up : Rises by_size (dedup eqb list) = rise_by_pairs (dedup eqb list) (AllPairs-from_increasing (dedup eqb list) (IsStrictlyIncreasing-dedup list (units_sorted ys sorted))) in
-      let risen : Rises by_number theirs = ascending-filter (λ a b. by_number a b ≡ Less) (names c.containers container) units.units units.rise in
+      let up : Rises by_size (dedup eqb list) =
+      rise_by_pairs (dedup eqb list) (AllPairs-from_increasing (dedup eqb list) (IsStrictlyIncreasing-dedup list (units_sorted ys sorted))) in
+      let risen : Rises by_number theirs =
+      ascending-filter (λ a b. by_number a b ≡ Less) (names c.containers container) units.units units.rise in
       let up' : Rises by_size (map id theirs) = ascending-map (λ a b. by_size a b ≡ Less) id theirs risen in
       let there : (n : ℕ) → Has (dedup eqb list) n → Has (map id theirs) n = λ n h.
       let h' = has_from_in list n (In-from_Contains list n (Contains-from_dedup eqb list n (Contains-from_In (dedup eqb list) n (in_from_has (dedup eqb list) n h)))) in

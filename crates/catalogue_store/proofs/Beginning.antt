@@ -1,22 +1,15 @@
 -- What a new office shows.
 use Rattle.office_tables.specs.Schema as tables
 use Rattle.std.proofs.Common.{◌≡◌, ℕ, [], refl, ap, ◌∙◌}
-use Rattle.std.proofs.lemmas.List.Sorted.{IsPermutation-refl}
-use Rattle.sqlite.specs.Effect.{Database}
 use Rattle.sqlite.specs.Change.{KeepsRows}
-use Rattle.sqlite.specs.Tree.{Trees, put_row}
-use Rattle.tree_core.specs.Forest.{Forest, Empty}
 use Rattle.office_tables.specs.Creation.{HasMade}
-use Rattle.office_tables.specs.Versions.{Version}
 use Rattle.office_tables.specs.Schema.{schema, desk_tables}
-use Rattle.catalogue_statements.specs.Rows.{office_row, element_row, housing_row}
-use Rattle.catalogue_statements.specs.Representation.{Represents}
-use Rattle.office_tables.specs.Step.{PutsRow}
-use Rattle.office_tables.proofs.numbered.OwnNumbers.{none_there}
-use Rattle.catalogue_statements.specs.declared.office.OfficeRow.{OfficeRow}
+use Rattle.catalogue_store.proofs.Common.{Database, Empty, Forest, IsPermutation-refl, OfficeRow, PutsRow, Represents, Trees, Version, element_row, housing_row, none_there, office_row, put_row}
 
-pub shows_beginning : (v : Version) (represents : Trees → Forest ℕ → Type 0) → ((old new : Trees) (f : Forest ℕ) → new tables.link.tree ≡ old tables.link.tree → represents old f → represents new f)
-    → (start mid new : Database) (o : OfficeRow) → HasMade desk_tables (schema v) start mid → new.schema ≡ mid.schema → PutsRow tables.office.tree (office_row v o) mid new → represents mid.trees Empty
+pub shows_beginning : (v : Version) (represents : Trees → Forest ℕ → Type 0)
+    → ((old new : Trees) (f : Forest ℕ) → new tables.link.tree ≡ old tables.link.tree → represents old f → represents new f)
+    → (start mid new : Database) (o : OfficeRow) → HasMade desk_tables (schema v) start mid → new.schema ≡ mid.schema
+    → PutsRow tables.office.tree (office_row v o) mid new → represents mid.trees Empty
     → Represents represents v new o (record { forest = Empty; containers = []; next = o.next_unit })
 shows_beginning v represents same start mid new o made schema_is puts placed =
     let none = made.empty in
@@ -34,7 +27,8 @@ shows_beginning v represents same start mid new o made schema_is puts placed =
       shown = same mid.trees new.trees Empty (kept tables.link.tree refl refl) placed;
     }
 
-pub desk_kept : (v : Version) (start mid new : Database) (o : OfficeRow) → HasMade desk_tables (schema v) start mid → PutsRow tables.office.tree (office_row v o) mid new → KeepsRows desk_tables start.trees new.trees
+pub desk_kept : (v : Version) (start mid new : Database) (o : OfficeRow) → HasMade desk_tables (schema v) start mid
+    → PutsRow tables.office.tree (office_row v o) mid new → KeepsRows desk_tables start.trees new.trees
 desk_kept v start mid new o made puts =
     let kept = made.kept in
     let only = puts.only in

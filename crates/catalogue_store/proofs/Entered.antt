@@ -1,28 +1,11 @@
 -- What the tables show after a unit is entered beside its place, and what they show with the places.
 use Rattle.office_tables.specs.Schema as tables
 use Rattle.std.proofs.Common.{◌≡◌, ℕ, ◌+◌, true, false, cond, List, [], ◌∷◌, Option, Result, nat_eq, refl, sym, subst, ◌∙◌}
-use Rattle.std.specs.Prelude.{⊤}
-use Rattle.std.specs.List.{list_any}
 use Rattle.sqlite.specs.Edit.{is_taken}
-use Rattle.sqlite.specs.Effect.{Database}
-use Rattle.sqlite.specs.Held.{Held, state}
-use Rattle.sqlite.specs.Tree.{Trees, put_row}
 use Rattle.sqlite_trees.specs.declared.store.Store as store
-use Rattle.tree_core.specs.Forest.{Forest, each, has_place}
-use Rattle.office_tables.specs.Versions.{Version}
-use Rattle.catalogue_core.specs.Descriptions.{KnowsItsContainers}
-use Rattle.catalogue_core.specs.CatalogueMerge.{Catalogue}
-use Rattle.catalogue_core.specs.Units.{Unit, has_id}
-use Rattle.office_tables.specs.Calls.{StoreUpdates}
-use Rattle.office_tables.specs.Step.{OnlyTouches}
-use Rattle.office_tables.specs.declared.fault.StoreFault.{StoreFault}
-use Rattle.office_tables.proofs.Calls.{on_ok_both}
-use Rattle.catalogue_statements.specs.DescriptionRows.{IsDescribed}
-use Rattle.catalogue_statements.specs.Rows.{ElementRow, HousingRow, office_row, unit_row}
-use Rattle.catalogue_statements.specs.Representation.{Represents, RepresentsCatalogue}
-use Rattle.catalogue_statements.specs.declared.office.OfficeRow.{OfficeRow}
 use Rattle.catalogue_statements.proofs.NewUnits.{shows_added}
 use Rattle.catalogue_store.specs.ImportEntries.{with_entered}
+use Rattle.catalogue_store.proofs.Common.{Catalogue, Database, ElementRow, Forest, Held, HousingRow, IsDescribed, KnowsItsContainers, OfficeRow, OnlyTouches, Represents, RepresentsCatalogue, StoreFault, StoreUpdates, Trees, Unit, Version, each, has_id, has_place, list_any, office_row, on_ok_both, put_row, state, unit_row, ⊤}
 use Rattle.catalogue_store.proofs.Telling.{same_described}
 
 -- the tables tell of one unit more; the office's row is as it was
@@ -35,10 +18,13 @@ pub record HasEntered (old new : Database) (c : Catalogue) (u : Unit) (elements 
 
 -- Units, texts and containers are told whatever the office's row is: so they are told as they are beside a row that
 -- counts the unit.
-pub shows_entered : (v : Version) (old new : Database) (o : OfficeRow) (c : Catalogue) (parent : Option ℕ) (u : Unit) → (it : RepresentsCatalogue v old o c) → has_place has_id parent c.forest ≡ true → KnowsItsContainers c
-    → HasEntered old new c u it.elements.elements it.housings.housings → RepresentsCatalogue v new o (with_entered parent u c)
+pub shows_entered : (v : Version) (old new : Database) (o : OfficeRow) (c : Catalogue) (parent : Option ℕ) (u : Unit)
+    → (it : RepresentsCatalogue v old o c) → has_place has_id parent c.forest ≡ true → KnowsItsContainers c
+    → HasEntered old new c u it.elements.elements it.housings.housings
+    → RepresentsCatalogue v new o (with_entered parent u c)
 shows_entered v old new o c parent u it there knows wrote =
-    let counted : Trees = λ tree. cond (nat_eq tree tables.office.tree) (office_row v (record o { next_unit = u.id + 1 }) ∷ []) (new.trees tree) in
+    let counted : Trees =
+    λ tree. cond (nat_eq tree tables.office.tree) (office_row v (record o { next_unit = u.id + 1 }) ∷ []) (new.trees tree) in
     let beside : Database = record new { trees = counted } in
     let told = (shows_added v (λ _ _. ⊤) old beside o c parent u (record { catalogue = it; shown = tt }) there knows (record {
       schema = wrote.schema;
@@ -59,10 +45,13 @@ shows_entered v old new o c parent u it there knows wrote =
     }
 
 -- a call that leaves the places, on tables that show them too
-pub makes_placed : {S X : Type 0} (g : store.Ghosts S) (places : Trees → Forest ℕ → Type 0) → ((old new : Trees) (f : Forest ℕ) → new tables.link.tree ≡ old tables.link.tree → places old f → places new f)
-    → (version : Version) (kept may : Catalogue → Type 0) (made : Catalogue → Catalogue) (touched : List ℕ) (before after : Held S) (r : Result X StoreFault) → list_any (nat_eq tables.link.tree) touched ≡ false
+pub makes_placed : {S X : Type 0} (g : store.Ghosts S) (places : Trees → Forest ℕ → Type 0)
+    → ((old new : Trees) (f : Forest ℕ) → new tables.link.tree ≡ old tables.link.tree → places old f → places new f)
+    → (version : Version) (kept may : Catalogue → Type 0) (made : Catalogue → Catalogue) (touched : List ℕ) (before after : Held S) (r : Result X StoreFault)
+    → list_any (nat_eq tables.link.tree) touched ≡ false
     → ((c : Catalogue) → each (λ (u : Unit). u.id) (made c).forest ≡ each (λ (u : Unit). u.id) c.forest)
-    → StoreUpdates g (RepresentsCatalogue version) kept before after r may made touched → StoreUpdates g (Represents places version) kept before after r may made touched
+    → StoreUpdates g (RepresentsCatalogue version) kept before after r may made touched
+    → StoreUpdates g (Represents places version) kept before after r may made touched
 makes_placed g places same version kept may made touched before after r apart stays it =
     let old = state g before in
     let new = state g after in

@@ -1,27 +1,15 @@
 -- The heads of some units of a forest.
 use Rattle.std.proofs.Common.{◌≡◌, inl, inr, ℕ, List, [], ◌∷◌, ◌++◌, map, Option, Some, None, option_map, true, nat_eq, refl, sym, ap, ◌∙◌}
-use Rattle.std.specs.List.{AllByRecursion, list_any, find}
-use Rattle.std.proofs.lemmas.Bool.{cases_Bool, eq-eqb, false≢true}
+use Rattle.std.specs.List.{find}
 use Rattle.std.proofs.Math.Bool.{or-true}
-use Rattle.sqlite.specs.Tree.{Trees}
-use Rattle.sqlite_rules.specs.Lists.{Has}
-use Rattle.sqlite_rules.proofs.ListLemmas.{all_has}
-use Rattle.sqlite_trees.proofs.ListLemmas.{all_weaker}
-use Rattle.isad_core.specs.Texts.{Bytes}
 use Rattle.isad_core.specs.Values.{identifier, title}
-use Rattle.tree_core.specs.Forest.{Forest, Empty, Node, nodes, each, tree}
 use Rattle.tree_core.specs.Tops.{tops, below_first, part_below}
 use Rattle.tree_core.proofs.TopsLemmas.{tops-each, part_below-each}
 use Rattle.catalogue_core.proofs.EachOf.{all_split}
-use Rattle.catalogue_core.specs.UnitLookup.{has_unit}
-use Rattle.catalogue_core.specs.Units.{Unit, has_id}
-use Rattle.catalogue_statements.specs.Representation.{RepresentsUnits}
 use Rattle.catalogue_statements.specs.Standings.{standing_of}
 use Rattle.catalogue_statements.specs.declared.row_types.Standing.{Standing}
-use Rattle.catalogue_statements.proofs.FoundUnits.{found_one}
-use Rattle.catalogue_store.specs.Heads.{head_at, head_of}
 use Rattle.catalogue_store.specs.declared.heads.Head.{Head}
-use Rattle.tree_places.proofs.MarkForests.{all_here, has_right, tree_in}
+use Rattle.catalogue_store.proofs.Common.{AllByRecursion, Bytes, Empty, Forest, Has, Node, RepresentsUnits, Trees, Unit, all_has, all_here, all_weaker, cases_Bool, each, eq-eqb, false≢true, found_one, has_id, has_right, has_unit, head_at, head_of, list_any, nodes, tree, tree_in}
 
 abbrev id_of : Unit → ℕ
 id_of u = u.id
@@ -32,7 +20,8 @@ tops_in : {A : Type 0} (f : Forest A) → AllByRecursion (Has (nodes f)) (tops f
 tops_in Empty = tt
 tops_in (Node a c o) = (inl refl, all_weaker (Has (nodes o)) (Has (a ∷ (nodes c ++ nodes o))) (λ x h. inr (has_right (nodes c) (nodes o) x h)) (tops o) (tops_in o))
 
-first_below : {A : Type 0} (P : A → Type 0) (f : Forest A) → AllByRecursion P (nodes f) → AllByRecursion P (nodes (below_first f))
+first_below : {A : Type 0} (P : A → Type 0) (f : Forest A) → AllByRecursion P (nodes f)
+    → AllByRecursion P (nodes (below_first f))
 first_below P Empty h = tt
 first_below P (Node a c o) h = (all_split P (nodes c) (nodes o) h.1).0
 
@@ -45,7 +34,8 @@ below_in unit f =
     let part = part_below has_id unit f in
     all_weaker (Has (nodes part)) (Has (nodes f)) (λ x h. all_has (Has (nodes f)) (nodes part) x (part_in unit f) h) (tops part) (tops_in part)
 
-pub below_ids : (unit : Option ℕ) (f : Forest Unit) → tops (part_below nat_eq unit (each (λ (u : Unit). u.id) f)) ≡ map (λ (u : Unit). u.id) (tops (part_below has_id unit f))
+pub below_ids : (unit : Option ℕ) (f : Forest Unit)
+    → tops (part_below nat_eq unit (each (λ (u : Unit). u.id) f)) ≡ map (λ (u : Unit). u.id) (tops (part_below has_id unit f))
 below_ids unit f = ap tops (part_below-each nat_eq id_of unit f) ∙ tops-each id_of (part_below has_id unit f)
 
 -- ---- heads one by one
@@ -56,12 +46,14 @@ has_some f u (v ∷ units) (inr h) = rw (has_some f u units h) (or-true (nat_eq 
 has_some f u [] h = absurd h
 
 -- each of them is there
-pub all_there : (f : Forest Unit) (units : List Unit) → AllByRecursion (Has (nodes f)) units → AllByRecursion (λ id. has_unit f id ≡ true) (map (λ (u : Unit). u.id) units)
+pub all_there : (f : Forest Unit) (units : List Unit) → AllByRecursion (Has (nodes f)) units
+    → AllByRecursion (λ id. has_unit f id ≡ true) (map (λ (u : Unit). u.id) units)
 all_there f [] h = tt
 all_there f (u ∷ units) h = (has_some f u (nodes f) h.0, all_there f units h.1)
 
 -- and its head is found
-pub heads_are : (db : Trees) (f : Forest Unit) (at : RepresentsUnits db f) (units : List Unit) (heads : List Head) → AllByRecursion (Has (nodes f)) units
+pub heads_are : (db : Trees) (f : Forest Unit) (at : RepresentsUnits db f) (units : List Unit) (heads : List Head)
+    → AllByRecursion (Has (nodes f)) units
     → map Some heads ≡ map (head_at f) (map (λ (u : Unit). u.id) units) → heads ≡ map head_of units
 heads_are db f at [] [] all e = refl
 heads_are db f at [] (h ∷ heads) all e = absurd (let k : Some h ∷ map Some heads ≡ [] = e in cc)
@@ -78,7 +70,8 @@ heads_are db f at (u ∷ units) (h ∷ heads) all e =
 pub some_head : (f : Forest Unit) (id : ℕ) → has_unit f id ≡ true → None ≡ head_at f id → ⊥
 some_head f id there none = from (nodes f) there none
   where
-    from : (units : List Unit) → list_any (has_id id) units ≡ true → None ≡ option_map head_of (find (has_id id) units) → ⊥
+    from : (units : List Unit) → list_any (has_id id) units ≡ true → None ≡ option_map head_of (find (has_id id) units)
+        → ⊥
     from [] there none = absurd (false≢true there)
     from (u ∷ units) there none = elim (cases_Bool (has_id id u)) [
       | inl t ↦ (let k : None ≡ Some (head_of u) = (rw t at none) in cc)
@@ -87,11 +80,14 @@ some_head f id there none = from (nodes f) there none
 
 -- ---- one head
 
-same_head : (n : ℕ) (u : Unit) (s : Standing) (code name : Bytes) → n ≡ u.id → s ≡ standing_of u → code ≡ identifier u.values → name ≡ title u.values
+same_head : (n : ℕ) (u : Unit) (s : Standing) (code name : Bytes) → n ≡ u.id → s ≡ standing_of u
+    → code ≡ identifier u.values → name ≡ title u.values
     → (let h : Head = record { id = n; level = s.level; identifier = code; title = name; draft = s.draft; until = s.until } in h) ≡ head_of u
 same_head n u s code name id is a b = rw (id, is, a, b) refl
 
 -- what is read of a unit is its head
-pub head_told : (f : Forest Unit) (n : ℕ) (u : Unit) (s : Standing) (code name : Bytes) → n ≡ u.id → find (has_id n) (nodes f) ≡ Some u → s ≡ standing_of u → code ≡ identifier u.values → name ≡ title u.values
+pub head_told : (f : Forest Unit) (n : ℕ) (u : Unit) (s : Standing) (code name : Bytes) → n ≡ u.id
+    → find (has_id n) (nodes f) ≡ Some u → s ≡ standing_of u → code ≡ identifier u.values → name ≡ title u.values
     → Some (let h : Head = record { id = n; level = s.level; identifier = code; title = name; draft = s.draft; until = s.until } in h) ≡ option_map head_of (find (has_id n) (nodes f))
-head_told f n u s code name id found is a b = ap Some (same_head n u s code name id is a b) ∙ sym (ap (option_map head_of) found)
+head_told f n u s code name id found is a b =
+    ap Some (same_head n u s code name id is a b) ∙ sym (ap (option_map head_of) found)

@@ -1,17 +1,7 @@
 -- A call that reads, and whose last step is another call that reads.
 use Rattle.std.proofs.Common.{Result}
-use Rattle.std.proofs.lemmas.Result.{IfOk-weaker}
 use Rattle.sqlite_trees.specs.declared.store.Store as store
-use Rattle.sqlite.specs.Effect.{Database}
-use Rattle.sqlite.specs.Held.{Held, state}
-use Rattle.sqlite.specs.State.{State, HasCleanDisk}
-use Rattle.office_tables.specs.Calls.{StoreAnswers}
-use Rattle.office_tables.specs.Step.{IsAborted, LeavesUnchanged}
-use Rattle.office_tables.specs.declared.fault.StoreFault.{StoreFault}
-use Rattle.office_tables.proofs.CallEnds.{excused_then}
-use Rattle.office_tables.proofs.Calls.{early, cut_then, looks_then, on_err_then, on_ok_then}
-use Rattle.office_tables.proofs.Outcomes.{if_ok_by}
-use Rattle.office_tables.proofs.Sparing.{last_spares}
+use Rattle.catalogue_store.proofs.Common.{Database, HasCleanDisk, Held, IfOk-weaker, IsAborted, LeavesUnchanged, State, StoreAnswers, StoreFault, cut_then, early, excused_then, if_ok_by, last_spares, looks_then, on_err_then, on_ok_then, state}
 
 module _ {S X Stays Part Model Share : Type 0} (g : store.Ghosts S) (represents : Database → Stays → Model → Type 0) (kept may : Model → Type 0) (represents_part : Database → Part → Share → Type 0) (kept_part may_part : Share → Type 0)
     (before mid after : Held S) (r : Result X StoreFault) (answer : Stays → Model → X → Type 0) (answer_part : Part → Share → X → Type 0) where
@@ -32,7 +22,9 @@ module _ {S X Stays Part Model Share : Type 0} (g : store.Ghosts S) (represents 
     pub turn : (x : X) → answer_part part share x → answer s m x
     pub allowed : may m → kept m → may_part share × kept_part share
 
-  pub answers_later : LeavesUnchanged a b → ((s : Stays) (m : Model) → represents a.now s m → HasCleanDisk b → Shares s m) → StoreAnswers g represents_part kept_part mid after r may_part answer_part
+  pub answers_later : LeavesUnchanged a b
+      → ((s : Stays) (m : Model) → represents a.now s m → HasCleanDisk b → Shares s m)
+      → StoreAnswers g represents_part kept_part mid after r may_part answer_part
       → StoreAnswers g represents kept before after r may answer
   answers_later looked shares told = record {
     answers = λ clean s m it.

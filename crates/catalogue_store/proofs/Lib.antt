@@ -1,3 +1,4 @@
+pub mod Common
 pub mod Beginning
 pub mod Telling
 pub mod Valued

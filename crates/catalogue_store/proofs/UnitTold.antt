@@ -1,18 +1,6 @@
 -- What the tables tell of a unit of the catalogue: its texts, and its containers.
 use Rattle.std.proofs.Common.{◌≡◌, ℕ, length, true, sym, subst}
-use Rattle.std.specs.List.{list_any, list_all}
-use Rattle.std.specs.List.Sorted.{IsPermutation}
-use Rattle.sqlite.specs.Effect.{Database}
-use Rattle.sqlite_rules.specs.Lists.{Has}
-use Rattle.sqlite_rules.proofs.ListLemmas.{all_has}
-use Rattle.isad_core.specs.Boxes.{is_same}
-use Rattle.tree_core.specs.Forest.{nodes}
-use Rattle.catalogue_core.specs.Descriptions.{KnowsItsContainers}
-use Rattle.catalogue_core.specs.CatalogueMerge.{Catalogue}
-use Rattle.catalogue_core.specs.Units.{Unit}
-use Rattle.catalogue_statements.specs.Representation.{element_cells, elements_of, housing_cells, housings_of}
-use Rattle.catalogue_statements.specs.Values.{RepresentsValues, TellsTexts}
-use Rattle.catalogue_statements.specs.declared.office.OfficeRow.{OfficeRow}
+use Rattle.catalogue_store.proofs.Common.{Catalogue, Database, Has, IsPermutation, KnowsItsContainers, OfficeRow, RepresentsValues, TellsTexts, Unit, all_has, element_cells, elements_of, housing_cells, housings_of, is_same, list_all, list_any, nodes}
 
 module _ (db : Database) (o : OfficeRow) (c : Catalogue) (it : RepresentsValues db o c) (n : ℕ) (u : Unit) (there : Has (nodes c.forest) u) (is : n ≡ u.id) where
   pub texts_told : TellsTexts n db u.values it.catalogue.elements.elements

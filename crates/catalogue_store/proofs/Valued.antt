@@ -1,29 +1,10 @@
 -- What the tables show after a unit takes other values.
 use Rattle.office_tables.specs.Schema as tables
 use Rattle.std.proofs.Common.{◌≡◌, ℕ, List, map, filter, true, false, not, inl, inr, if◌then◌else◌, nat_eq, refl, sym, subst, ◌∙◌}
-use Rattle.std.specs.List.{AllByRecursion, list_any, list_all}
-use Rattle.std.specs.List.Sorted.{IsPermutation}
-use Rattle.std.proofs.lemmas.Bool.{cases_Bool, eqb-true}
-use Rattle.std.proofs.lemmas.List.Sorted.{IsPermutation-map, IsPermutation-trans}
-use Rattle.sqlite.specs.Effect.{Database}
-use Rattle.sqlite.specs.Tree.{Trees}
-use Rattle.sqlite_trees.proofs.ListLemmas.{all_both, all_weaker}
-use Rattle.isad_core.specs.declared.values.BoxKey.{BoxKey}
-use Rattle.isad_core.specs.declared.values.Values.{Values}
-use Rattle.isad_core.specs.Boxes.{is_same}
-use Rattle.tree_core.specs.Forest.{Forest, nodes, each, has}
-use Rattle.catalogue_statements.specs.DescriptionRows.{WithTexts, cell_of, WithHousings, housing_cell, IsDescribed}
-use Rattle.catalogue_core.specs.Descriptions.{with_boxes, with_values, KnowsItsContainers}
-use Rattle.catalogue_core.specs.CatalogueMerge.{Catalogue}
-use Rattle.catalogue_statements.specs.Rows.{unit_row, ElementRow, HousingRow}
-use Rattle.office_tables.specs.Versions.{Version}
-use Rattle.tree_core.proofs.EachLemmas.{nodes-each}
-use Rattle.catalogue_statements.specs.Representation.{Represents, element_cells, elements_of, housing_cells, housings_of}
-use Rattle.catalogue_core.specs.Units.{Unit, has_id}
-use Rattle.catalogue_statements.specs.declared.office.OfficeRow.{OfficeRow}
+use Rattle.catalogue_statements.specs.DescriptionRows.{cell_of}
 use Rattle.catalogue_statements.proofs.HousingLemmas.{same_cells}
 use Rattle.catalogue_statements.proofs.Parts.{own_cells, others_cells, all_theirs}
-use Rattle.catalogue_statements.proofs.Statuses.{each_each, all_map, kept_by, rising, still_there}
+use Rattle.catalogue_store.proofs.Common.{AllByRecursion, BoxKey, Catalogue, Database, ElementRow, Forest, HousingRow, IsDescribed, IsPermutation, IsPermutation-map, IsPermutation-trans, KnowsItsContainers, OfficeRow, Represents, Trees, Unit, Values, Version, WithHousings, WithTexts, all_both, all_map, all_weaker, cases_Bool, each, each_each, element_cells, elements_of, eqb-true, has, has_id, housing_cell, housing_cells, housings_of, is_same, kept_by, list_all, list_any, nodes, nodes-each, rising, still_there, unit_row, with_boxes, with_values}
 
 -- what tells the unit's values in the tables is what tells these, and all else is as it was
 pub record HasValued (old new : Database) (unit : ℕ) (values : Values) (units : List Unit) (elements : List ElementRow) (housings : List HousingRow) (boxes : List BoxKey) : Type 0 where
@@ -41,14 +22,17 @@ module _ (unit : ℕ) (values : Values) where
   same_id u = kept_by (λ (u : Unit). u.id) (has_id unit u) (record u { values = values }) u refl
 
   -- what is true of a unit by its number and its values
-  by_values : (P : ℕ → Values → Type 0) (u : Unit) → P unit values → (has_id unit u ≡ false → P u.id u.values) → P (valued u).id (valued u).values
+  by_values : (P : ℕ → Values → Type 0) (u : Unit) → P unit values → (has_id unit u ≡ false → P u.id u.values)
+      → P (valued u).id (valued u).values
   by_values P u own other = elim (cases_Bool (has_id unit u)) [
     | inl is ↦ rw is (subst (λ n. P n values) (eqb-true unit u.id is) own)
     | inr not ↦ rw not (other not)
   ]
 
-  elements_still : (f : Forest Unit) (xs ys : List ElementRow) → WithTexts unit (element_cells values) (filter (λ x. not (nat_eq unit x.unit)) xs) ys
-      → AllByRecursion (λ u. IsPermutation (element_cells u.values) (elements_of u.id xs)) (nodes f) → AllByRecursion (λ u. IsPermutation (element_cells u.values) (elements_of u.id ys)) (nodes (each valued f))
+  elements_still : (f : Forest Unit) (xs ys : List ElementRow)
+      → WithTexts unit (element_cells values) (filter (λ x. not (nat_eq unit x.unit)) xs) ys
+      → AllByRecursion (λ u. IsPermutation (element_cells u.values) (elements_of u.id xs)) (nodes f)
+      → AllByRecursion (λ u. IsPermutation (element_cells u.values) (elements_of u.id ys)) (nodes (each valued f))
   elements_still f xs ys told all =
       let P = λ (n : ℕ) (v : Values). IsPermutation (element_cells v) (elements_of n ys) in
       subst (AllByRecursion (λ (u : Unit). P u.id u.values)) (sym (nodes-each valued f))
@@ -60,9 +44,12 @@ module _ (unit : ℕ) (values : Values) where
   abbrev IsKnown : List BoxKey → Unit → Type 0
   IsKnown boxes u = list_all (λ box. list_any (is_same box) boxes) u.values.boxes ≡ true
 
-  housings_still : (f : Forest Unit) (boxes more : List BoxKey) (xs ys : List HousingRow) → ((u : Unit) → IsKnown boxes u → housing_cells more u.values ≡ housing_cells boxes u.values)
-      → WithHousings unit (housing_cells more values) (filter (λ x. not (nat_eq unit x.unit)) xs) ys → AllByRecursion (IsKnown boxes) (nodes f)
-      → AllByRecursion (λ u. IsPermutation (housing_cells boxes u.values) (housings_of u.id xs)) (nodes f) → AllByRecursion (λ u. IsPermutation (housing_cells more u.values) (housings_of u.id ys)) (nodes (each valued f))
+  housings_still : (f : Forest Unit) (boxes more : List BoxKey) (xs ys : List HousingRow)
+      → ((u : Unit) → IsKnown boxes u → housing_cells more u.values ≡ housing_cells boxes u.values)
+      → WithHousings unit (housing_cells more values) (filter (λ x. not (nat_eq unit x.unit)) xs) ys
+      → AllByRecursion (IsKnown boxes) (nodes f)
+      → AllByRecursion (λ u. IsPermutation (housing_cells boxes u.values) (housings_of u.id xs)) (nodes f)
+      → AllByRecursion (λ u. IsPermutation (housing_cells more u.values) (housings_of u.id ys)) (nodes (each valued f))
   housings_still f boxes more xs ys same told known all =
       let P = λ (n : ℕ) (v : Values). IsPermutation (housing_cells more v) (housings_of n ys) in
       let Q = λ (u : Unit). IsPermutation (housing_cells more u.values) (housings_of u.id xs) in
@@ -73,9 +60,12 @@ module _ (unit : ℕ) (values : Values) where
       (λ apart. IsPermutation-trans (housing_cells more u.values) (housings_of u.id xs) (housings_of u.id ys) h (others_cells (λ (h : HousingRow). h.unit) housing_cell unit u.id (housing_cells more values) xs ys apart told)))
       (nodes f) still)
 
-  pub shows_valued : (v : Version) (represents : Trees → Forest ℕ → Type 0) → ((old new : Trees) (f : Forest ℕ) → new tables.link.tree ≡ old tables.link.tree → represents old f → represents new f)
-      → (old new : Database) (o : OfficeRow) (c : Catalogue) (it : Represents represents v old o c) → KnowsItsContainers c → has (has_id unit) c.forest ≡ true
-      → HasValued old new unit values it.catalogue.units.units it.catalogue.elements.elements it.catalogue.housings.housings c.containers → Represents represents v new o (with_values unit values c)
+  pub shows_valued : (v : Version) (represents : Trees → Forest ℕ → Type 0)
+      → ((old new : Trees) (f : Forest ℕ) → new tables.link.tree ≡ old tables.link.tree → represents old f → represents new f)
+      → (old new : Database) (o : OfficeRow) (c : Catalogue) (it : Represents represents v old o c)
+      → KnowsItsContainers c → has (has_id unit) c.forest ≡ true
+      → HasValued old new unit values it.catalogue.units.units it.catalogue.elements.elements it.catalogue.housings.housings c.containers
+      → Represents represents v new o (with_values unit values c)
   shows_valued v represents same old new o c it knows there wrote =
       let at = it.catalogue in
       let f = c.forest in

@@ -1,21 +1,14 @@
 -- The worked catalogue is within the limits, and its tables show it.
 use Rattle.std.proofs.Common.{◌≡◌, map, ℕ, zero, suc, [], ◌∷◌, true, Option, None, replicate, codes, lit≤, IfSome, IsUtf8, refl, arith}
-use Rattle.std.specs.List.{AllByRecursion, IsDistinct}
+use Rattle.std.specs.List.{IsDistinct}
 use Rattle.std.specs.Str.{is_utf8, chars}
 use lib.Utf8.{encode}
-use Rattle.std.proofs.lemmas.List.Sorted.{IsPermutation-refl}
 use Rattle.std.proofs.lemmas.Str.{IsUtf8-from_is_utf8}
-use Rattle.isad_core.specs.Texts.{Bytes}
-use Rattle.tree_core.specs.Forest.{each}
 use Rattle.tree_core.specs.declared.rows.Link.{Link}
 use Rattle.tree_core.proofs.LinkPaths.{length-path}
-use Rattle.catalogue_core.specs.Bounds.{IsKept, IsLegibleUnit}
-use Rattle.catalogue_core.specs.Descriptions.{KnowsItsContainers, HasAllPlaces}
-use Rattle.office_tables.specs.Versions.{First}
-use Rattle.catalogue_statements.specs.Representation.{Represents, RepresentsLinkRows}
-use Rattle.catalogue_core.specs.Units.{Unit}
 use Rattle.catalogue_store.specs.WorkedExamples.{box, fonds, series, example_catalogue, settings, element_rows, housing_rows, link_rows, tables}
 use Rattle.office_tables.proofs.Puts.{not_falling}
+use Rattle.catalogue_store.proofs.Common.{AllByRecursion, Bytes, First, HasAllPlaces, IsKept, IsLegibleUnit, IsPermutation-refl, KnowsItsContainers, Represents, RepresentsLinkRows, Unit, each}
 
 -- texts that are not there
 no_texts : (n : ℕ) → AllByRecursion (λ (text : Option Bytes). IfSome text IsUtf8) (replicate n None)

@@ -5,7 +5,6 @@ ghost use Rattle.sqlite.specs.Held.{state};
 ghost use Rattle.sqlite.specs.State.{HasCleanDisk};
 ghost use Rattle.sqlite.specs.Effect.{Database};
 ghost use Rattle.sqlite.specs.Change.{KeepsRows};
-ghost use Rattle.isad_core.specs.Limits.{IsNumber};
 ghost use Rattle.tree_core.specs.Forest.{Empty};
 ghost use Rattle.office_tables.specs.Calls.{RepresentsAlone, StoreAnswers};
 ghost use Rattle.office_tables.specs.Creation.{IsMaking, LeavesMaking};
@@ -19,7 +18,7 @@ use catalogue_statements::OfficeRow;
 use catalogue_statements::units::unit_number;
 use isad_core::Text;
 use office_tables::table_creation::{create_containers, create_units};
-use office_tables::{StoreFault, Tables, Versioned};
+use office_tables::{Number, StoreFault, Tables, Versioned};
 use sqlite::{Alter, Connection};
 use std::alloc::Global;
 use tree_places::Places;
@@ -29,7 +28,6 @@ pub fn create<P: Places, S: Alter>(
     conn: &mut Connection<S>,
     row: &OfficeRow,
 ) -> Result<(), StoreFault>
-    requires { IsNumber row.now.next_unit }
     ensures represents { (start : Database) → IsMaking desk_tables desk_schema start (state S.Store conn.old)
         → HasCleanDisk (state S.Store conn.new)
         → OnOk result (Represents P.represents P.version (state S.Store conn.new).now row.now
@@ -52,7 +50,7 @@ pub fn known<P: Versioned, S: Alter>(
     tables: &mut Tables<P, S>,
     source: &Text,
     legacy: &Text,
-) -> Result<Option<u64>, StoreFault>
+) -> Result<Option<Number>, StoreFault>
     ensures answers { StoreAnswers S.Store (RepresentsAlone RepresentsUnits) (λ _. ⊤) tables.old tables.new result
         (λ _. ⊤)
         (λ _ f. FindsUnit (is_from source.now legacy.now) f) }

@@ -1,8 +1,7 @@
 //! What a unit's own line shows of it.
 
-ghost use Rattle.std.specs.Prelude.{◌≡◌, ⊤, [], Some, find, map, nat_eq, option_map, true, unwrap_or, IfOk, IfSome};
+ghost use Rattle.std.specs.Prelude.{◌≡◌, ⊤, [], Some, find, map, nat_eq, option_map, true, unwrap_or, IfOk};
 ghost use Rattle.std.specs.List.{AllByRecursion};
-ghost use Rattle.isad_core.specs.Limits.{IsNumber};
 ghost use Rattle.tree_core.specs.Forest.{nodes, path};
 ghost use Rattle.tree_core.specs.Tops.{part_below, tops};
 ghost use Rattle.catalogue_core.specs.Bounds.{IsKept};
@@ -17,8 +16,7 @@ use catalogue_statements::elements::first_elements;
 use catalogue_statements::row_types::Element;
 use catalogue_statements::units::find_standing;
 use isad_core::{Day, Text};
-use office_tables::value::NO_NUMBER;
-use office_tables::{StoreFault, Tables};
+use office_tables::{Number, StoreFault, Tables};
 use sqlite::Alter;
 use std::alloc::{AllocError, Global};
 use tree_places::Places;
@@ -26,7 +24,7 @@ use tree_places::Places;
 /// A unit as its head line shows it. A text that the unit lacks is empty.
 #[derive(Debug, PartialEq, Drop)]
 pub struct Head {
-    pub id: u64,
+    pub id: Number,
     pub level: Text,
     pub identifier: Text,
     pub title: Text,
@@ -36,17 +34,17 @@ pub struct Head {
 }
 
 /// The number of the element that contains a unit's reference code.
-const REFERENCE_CODE: u64 = 1;
+const REFERENCE_CODE: u32 = 1;
 
 /// The number of the element that contains a unit's title.
-const TITLE: u64 = 2;
+const TITLE: u32 = 2;
 
 /// The text of the element with this number among these, or an empty text.
-fn text_among(alloc: Global, elements: &[Element], element: u64) -> Result<Text, AllocError>
+fn text_among(alloc: Global, elements: &[Element], element: u32) -> Result<Text, AllocError>
     ensures { IfOk result (λ text. text ≡ unwrap_or (option_map (λ (e : Element). e.value)
         (find (λ (e : Element). nat_eq e.k element) elements.now)) []) }
 {
-    match elements.iter().find(|found| found.k == element) {
+    match elements.iter().find(|found| found.k == u64::from(element)) {
         Some(found) => Ok(found.value.clone()?),
         None => Ok(Text(String::new(alloc))),
     }
@@ -56,9 +54,8 @@ fn text_among(alloc: Global, elements: &[Element], element: u64) -> Result<Text,
 pub fn find_head<P: Places, S: Alter>(
     alloc: Global,
     tables: &mut Tables<P, S>,
-    unit: u64,
+    unit: Number,
 ) -> Result<Option<Head>, StoreFault>
-    requires small { IsNumber unit }
     ensures answers { StoreAnswers S.Store (Represents P.represents P.version) IsKept tables.old tables.new result
         (λ _. ⊤)
         (λ _ c head. head ≡ option_map head_of (find (has_id unit) (nodes c.forest))) }
@@ -66,7 +63,7 @@ pub fn find_head<P: Places, S: Alter>(
     let Some(standing) = find_standing(alloc, tables, unit)? else {
         return Ok(None);
     };
-    let elements = first_elements(alloc, tables, unit, TITLE)?;
+    let elements = first_elements(alloc, tables, unit, Number::from(TITLE))?;
     let identifier = text_among(alloc, &elements, REFERENCE_CODE)?;
     let title = text_among(alloc, &elements, TITLE)?;
     Ok(Some(Head {
@@ -83,7 +80,7 @@ pub fn find_head<P: Places, S: Alter>(
 fn heads_of<P: Places, S: Alter>(
     alloc: Global,
     tables: &mut Tables<P, S>,
-    units: &[u64],
+    units: &[Number],
 ) -> Result<Vec<Head>, StoreFault>
     ensures answers { StoreAnswers S.Store (Represents P.represents P.version) IsKept tables.old tables.new result
         (λ c. AllByRecursion (λ unit. has_unit c.forest unit ≡ true) units.now)
@@ -91,11 +88,7 @@ fn heads_of<P: Places, S: Alter>(
 {
     let mut heads = Vec::new(alloc);
     for unit in units {
-        let unit = *unit;
-        if unit >= NO_NUMBER {
-            return Err(StoreFault::Schema);
-        }
-        let found = find_head(alloc, tables, unit)?;
+        let found = find_head(alloc, tables, *unit)?;
         let Some(head) = found else {
             return Err(StoreFault::Schema);
         };
@@ -108,9 +101,8 @@ fn heads_of<P: Places, S: Alter>(
 pub fn path_heads<P: Places, S: Alter>(
     alloc: Global,
     tables: &mut Tables<P, S>,
-    unit: u64,
+    unit: Number,
 ) -> Result<Vec<Head>, StoreFault>
-    requires small { IsNumber unit }
     ensures answers { StoreAnswers S.Store (Represents P.represents P.version) IsKept tables.old tables.new result
         (λ _. ⊤)
         (λ _ c heads. heads.items ≡ map head_of (path (has_id unit) c.forest)) }
@@ -123,9 +115,8 @@ pub fn path_heads<P: Places, S: Alter>(
 pub fn heads_below<P: Places, S: Alter>(
     alloc: Global,
     tables: &mut Tables<P, S>,
-    unit: Option<u64>,
+    unit: Option<Number>,
 ) -> Result<Vec<Head>, StoreFault>
-    requires small { IfSome unit IsNumber }
     ensures answers { StoreAnswers S.Store (Represents P.represents P.version) IsKept tables.old tables.new result
         (λ _. ⊤)
         (λ _ c heads. heads.items ≡ map head_of (tops (part_below has_id unit c.forest))) }

@@ -2,7 +2,6 @@
 //! added at once.
 
 ghost use Rattle.std.specs.Prelude.{ℕ, Option};
-ghost use Rattle.isad_core.specs.Limits.{IsNumber};
 ghost use Rattle.office_tables.specs.Versions.{Version};
 ghost use Rattle.catalogue_core.specs.Bounds.{IsKept};
 ghost use Rattle.catalogue_core.specs.Descriptions.{AreWhole, HasPlaceFor, IsNew, MayDescribe, with_values};
@@ -15,7 +14,7 @@ use crate::descriptions::{clear, describe};
 use catalogue_statements::NewUnit;
 use catalogue_statements::units::{insert_unit, set_level};
 use isad_core::Values;
-use office_tables::{StoreFault, Tables, Versioned};
+use office_tables::{Number, StoreFault, Tables, Versioned};
 use sqlite::Alter;
 use std::alloc::Global;
 
@@ -26,7 +25,6 @@ pub fn enter_unit<P: Versioned, S: Alter>(
     tables: &mut Tables<P, S>,
     unit: &NewUnit<'_>,
 ) -> Result<(), StoreFault>
-    requires small { IsNumber unit.now.id }
     ensures updates { (version : Version) (parent : Option ℕ)
         → StoreUpdates S.Store (RepresentsCatalogue version) (λ c. IsKept c × IsNew (unit_of unit.now) c)
         tables.old tables.new result (HasPlaceFor parent) (with_entered parent (unit_of unit.now)) described_trees }
@@ -39,10 +37,9 @@ pub fn enter_unit<P: Versioned, S: Alter>(
 pub fn enter_values<P: Versioned, S: Alter>(
     alloc: Global,
     tables: &mut Tables<P, S>,
-    unit: u64,
+    unit: Number,
     values: &Values,
 ) -> Result<(), StoreFault>
-    requires small { IsNumber unit }
     ensures updates { (version : Version)
         → StoreUpdates S.Store (RepresentsCatalogue version) (λ c. IsKept c × AreWhole values.now)
         tables.old tables.new result (MayDescribe unit) (with_values unit values.now) described_trees }

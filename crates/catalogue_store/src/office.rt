@@ -3,7 +3,6 @@
 ghost use Rattle.std.specs.Prelude.{◌≡◌, [], OnOk, ⊤};
 ghost use Rattle.sqlite.specs.Held.{state};
 ghost use Rattle.sqlite.specs.State.{HasCleanDisk};
-ghost use Rattle.isad_core.specs.Limits.{IsNumber};
 ghost use Rattle.office_tables.specs.Calls.{StoreAnswers};
 ghost use Rattle.office_tables.specs.ChangeStatement.{Leaves};
 ghost use Rattle.office_tables.specs.Schema as schema;
@@ -27,7 +26,6 @@ pub fn insert_office<P: Places, S: Alter>(
     conn: &mut Connection<S>,
     row: &OfficeRow,
 ) -> Result<(), StoreFault>
-    requires { IsNumber row.now.next_unit }
     ensures leaves { InTransaction P.version (state S.Store conn.old)
         → Leaves (state S.Store conn.old) (state S.Store conn.new) result }
     ensures puts { InTransaction P.version (state S.Store conn.old) → HasCleanDisk (state S.Store conn.new)
@@ -51,7 +49,7 @@ pub fn insert_office<P: Places, S: Alter>(
             number(u64::from(row.hands)),
             number(u64::from(row.run_size)),
             day(row.day),
-            number(row.next_unit),
+            row.next_unit.cell(),
         ],
     )?;
     Ok(())

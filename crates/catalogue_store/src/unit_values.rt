@@ -1,13 +1,12 @@
 //! The values of a unit, read from its rows.
 
-ghost use Rattle.std.specs.Prelude.{◌≡◌, ◌≢◌, ◌<◌, ◌^◌, ℕ, List, length, map, true, IsPermutation, IsOk, IfOk};
+ghost use Rattle.std.specs.Prelude.{◌≡◌, ◌≢◌, ◌<◌, ℕ, List, length, map, true, IsPermutation, IsOk, IfOk};
 ghost use Rattle.std.specs.Prelude.{IfSome, IfNone, IfErr, IsUtf8, ⊤};
 ghost use Rattle.std.specs.List.{AllByRecursion, list_any, list_all};
 ghost use Rattle.sqlite.specs.Held.{state};
 ghost use Rattle.sqlite.specs.State.{HasCleanDisk};
 ghost use Rattle.isad_core.specs.Boxes.{is_same as is_same_box};
 ghost use Rattle.isad_core.specs.LegibleValues.{IsLegibleBox};
-ghost use Rattle.isad_core.specs.Limits.{IsNumber};
 ghost use Rattle.isad_core.specs.declared.values.BoxKey.{BoxKey};
 ghost use Rattle.isad_core.specs.declared.values.Values.{«Values» as Description};
 ghost use Rattle.catalogue_core.specs.Bounds.{IsKept};
@@ -31,8 +30,7 @@ use catalogue_statements::elements::elements_of;
 use catalogue_statements::row_types::{Element, Housing};
 use catalogue_statements::units::find_level;
 use isad_core::{BoxKey, List, Text, Values};
-use office_tables::value::NO_NUMBER;
-use office_tables::{StoreFault, Tables, Versioned};
+use office_tables::{Number, StoreFault, Tables, Versioned};
 use sqlite::Alter;
 use std::alloc::{AllocError, Global};
 use std::array;
@@ -41,7 +39,7 @@ use std::array;
 #[derive(Debug, PartialEq, Drop)]
 pub struct UnitValues {
     pub values: Values,
-    pub containers: List<u64>,
+    pub containers: List<Number>,
 }
 
 /// The place among the texts of the element with this number. The numbers are 1 to 26 without 4,
@@ -81,9 +79,8 @@ fn texts_by_element(elements: Vec<Element>) -> Result<[Option<Text>; 25], StoreF
 fn texts_of<P: Versioned, S: Alter>(
     alloc: Global,
     tables: &mut Tables<P, S>,
-    unit: u64,
+    unit: Number,
 ) -> Result<[Option<Text>; 25], StoreFault>
-    requires small { IsNumber unit }
     ensures answers { StoreAnswers S.Store (TellsTexts unit) (AllByRecursion (λ e. IsUtf8 e.value)) tables.old
         tables.new result (λ _. ⊤) (λ values _ texts. texts ≡ values.texts) }
 {
@@ -92,7 +89,7 @@ fn texts_of<P: Versioned, S: Alter>(
 }
 
 /// The numbers of the containers in these rows.
-fn numbers_in(alloc: Global, housings: &[Housing]) -> Result<List<u64>, AllocError>
+fn numbers_in(alloc: Global, housings: &[Housing]) -> Result<List<Number>, AllocError>
     ensures { IfOk result (λ numbers. numbers ≡ map (λ (h : Housing). h.container) housings.now) }
 {
     let numbers = housings
@@ -106,9 +103,8 @@ fn numbers_in(alloc: Global, housings: &[Housing]) -> Result<List<u64>, AllocErr
 fn containers_of<P: Versioned, S: Alter>(
     alloc: Global,
     tables: &mut Tables<P, S>,
-    unit: u64,
-) -> Result<List<u64>, StoreFault>
-    requires small { IsNumber unit }
+    unit: Number,
+) -> Result<List<Number>, StoreFault>
     ensures reads { OnlyReads S.Store tables.old tables.new result }
     ensures numbers { HasCleanDisk (state S.Store tables.new) → (xs : List HousingRow)
         → HoldsNumbered schema.housing housing_row (state S.Store tables.old) xs
@@ -126,20 +122,17 @@ fn containers_of<P: Versioned, S: Alter>(
 fn container_of<P: Versioned, S: Alter>(
     alloc: Global,
     tables: &mut Tables<P, S>,
-    number: u64,
+    number: Number,
 ) -> Result<BoxKey, StoreFault>
     ensures reads { OnlyReads S.Store tables.old tables.new result }
     ensures key { HasCleanDisk (state S.Store tables.new) → (boxes : List BoxKey)
         → RepresentsContainers (state S.Store tables.old).now.trees boxes → (b : BoxKey) → number ≡ box_number boxes b
         → IfOk result (λ key. key ≡ b) }
     ensures faults { (boxes : List BoxKey) → RepresentsContainers (state S.Store tables.old).now.trees boxes
-        → AllByRecursion IsLegibleBox boxes → length boxes < 2 ^ 62 → (b : BoxKey)
+        → AllByRecursion IsLegibleBox boxes → (b : BoxKey)
         → list_any (is_same_box b) boxes ≡ true → number ≡ box_number boxes b
         → FailsWithCause S.Store tables.old tables.new result }
 {
-    if number >= NO_NUMBER {
-        return Err(StoreFault::Schema);
-    }
     let Some(key) = find_container(alloc, tables, number)? else {
         return Err(StoreFault::Schema);
     };
@@ -150,14 +143,14 @@ fn container_of<P: Versioned, S: Alter>(
 fn boxes_of<P: Versioned, S: Alter>(
     alloc: Global,
     tables: &mut Tables<P, S>,
-    numbers: &[u64],
+    numbers: &[Number],
 ) -> Result<List<BoxKey>, StoreFault>
     ensures reads { OnlyReads S.Store tables.old tables.new result }
     ensures boxes { HasCleanDisk (state S.Store tables.new) → (boxes : List BoxKey)
         → RepresentsContainers (state S.Store tables.old).now.trees boxes → (bs : List BoxKey)
         → numbers.now ≡ map (box_number boxes) bs → IfOk result (λ keys. keys ≡ bs) }
     ensures faults { (boxes : List BoxKey) → RepresentsContainers (state S.Store tables.old).now.trees boxes
-        → AllByRecursion IsLegibleBox boxes → length boxes < 2 ^ 62 → (bs : List BoxKey)
+        → AllByRecursion IsLegibleBox boxes → (bs : List BoxKey)
         → list_all (λ b. list_any (is_same_box b) boxes) bs ≡ true → numbers.now ≡ map (box_number boxes) bs
         → FailsWithCause S.Store tables.old tables.new result }
 {
@@ -172,9 +165,8 @@ fn boxes_of<P: Versioned, S: Alter>(
 pub fn values<P: Versioned, S: Alter>(
     alloc: Global,
     tables: &mut Tables<P, S>,
-    unit: u64,
+    unit: Number,
 ) -> Result<Option<UnitValues>, StoreFault>
-    requires small { IsNumber unit }
     ensures answers { StoreAnswers S.Store RepresentsValues IsKept tables.old tables.new result KnowsItsContainers
         (λ _ c found. found ≡ values_of unit c) }
 {

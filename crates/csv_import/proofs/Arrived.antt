@@ -1,20 +1,6 @@
 -- The units that rows bring, told one after another before any is entered.
 use Rattle.std.proofs.Common.{◌≡◌, ℕ, ◌+◌, ◌-◌, Bool, true, false, not, cond, List, [], ◌∷◌, ◌++◌, length, length-append, append_assoc, append-nil, Option, Some, None, refl, sym, ap, ◌∙◌, subst, arith}
-use Rattle.std.specs.Prelude.{IfSome, option_and_then}
-use Rattle.std.specs.Str.{bytes_eq}
-use Rattle.isad_core.specs.Limits.{IsNumber}
-use Rattle.isad_core.specs.Texts.{Bytes}
-use Rattle.atom_csv.specs.declared.file.Row.{Row}
-use Rattle.tree_core.specs.Forest.{Forest}
-use Rattle.tree_core.specs.declared.arrivals.Arrival.{Arrival}
-use Rattle.catalogue_core.specs.CatalogueMerge.{is_known, number_of}
-use Rattle.catalogue_core.specs.Units.{Unit}
-use Rattle.csv_import.specs.Arrivals.{KnowsNumbers, arrival_at, arrivals_from, arrivals_of}
-use Rattle.csv_import.specs.RowPlan.{new_of, or_there}
-
-pub low_more : (b : Bool) (n : ℕ) (there : Option ℕ) → IsNumber n → IfSome there IsNumber → IfSome (cond b (Some n) there) IsNumber
-low_more true n there h k = h
-low_more false n there h k = k
+use Rattle.csv_import.proofs.Common.{Arrival, Bytes, Forest, KnowsNumbers, Row, Unit, arrival_at, arrivals_from, arrivals_of, bytes_eq, is_known, new_of, number_of, option_and_then, or_there}
 
 module _ (f : Forest Unit) (source : Bytes) (next : ℕ) where
   -- the rest of the rows is to be looked at; of the others it is told what they bring
@@ -28,15 +14,21 @@ module _ (f : Forest Unit) (source : Bytes) (next : ℕ) where
 
   -- the unit that a row brings
   abbrev brought_by : List Arrival → List Row → Row → Arrival
-  brought_by told above row = record { unit = next + length told; parent = option_and_then (number_of f source (next + length told) above) row.parent }
+  brought_by told above row =
+      record { unit = next + length told; parent = option_and_then (number_of f source (next + length told) above) row.parent }
 
   -- what is told of a row by the number that comes next
-  pub at_number : (n : ℕ) (numbers : Bytes → Option ℕ) (told : List Arrival) (all rest : List Row) (row : Row) (found : Option Arrival) → n ≡ next + length told → (it : AreTold numbers told all (row ∷ rest))
-      → ((above : List Row) → KnowsNumbers f source n above numbers → found ≡ arrival_at f source n above row) → found ≡ arrival_at f source (next + length told) it.above row
-  at_number n numbers told all rest row found e it h = subst (λ m. KnowsNumbers f source m it.above numbers → found ≡ arrival_at f source m it.above row) e (h it.above) it.knows
+  pub at_number : (n : ℕ) (numbers : Bytes → Option ℕ) (told : List Arrival) (all rest : List Row) (row : Row) (found : Option Arrival)
+      → n ≡ next + length told → (it : AreTold numbers told all (row ∷ rest))
+      → ((above : List Row) → KnowsNumbers f source n above numbers → found ≡ arrival_at f source n above row)
+      → found ≡ arrival_at f source (next + length told) it.above row
+  at_number n numbers told all rest row found e it h =
+      subst (λ m. KnowsNumbers f source m it.above numbers → found ≡ arrival_at f source m it.above row) e (h it.above) it.knows
 
   -- the row's unit is catalogued
-  pub brings_none : (numbers : Bytes → Option ℕ) (told : List Arrival) (all rest : List Row) (row : Row) → (it : AreTold numbers told all (row ∷ rest)) → None ≡ arrival_at f source (next + length told) it.above row → AreTold numbers told all rest
+  pub brings_none : (numbers : Bytes → Option ℕ) (told : List Arrival) (all rest : List Row) (row : Row)
+      → (it : AreTold numbers told all (row ∷ rest)) → None ≡ arrival_at f source (next + length told) it.above row
+      → AreTold numbers told all rest
   brings_none numbers told all rest row it e = record {
     above = it.above;
     knows = it.knows;
@@ -48,8 +40,10 @@ module _ (f : Forest Unit) (source : Bytes) (next : ℕ) where
       known false h = absurd (cc)
 
   -- it is new
-  pub brings_one : (numbers after : Bytes → Option ℕ) (told : List Arrival) (all rest : List Row) (row : Row) (one : Arrival) → (it : AreTold numbers told all (row ∷ rest)) → Some one ≡ arrival_at f source (next + length told) it.above row
-      → ((q : Bytes) → after q ≡ cond (bytes_eq q row.legacy) (Some (next + length told)) (numbers q)) → AreTold after (told ++ one ∷ []) all rest
+  pub brings_one : (numbers after : Bytes → Option ℕ) (told : List Arrival) (all rest : List Row) (row : Row) (one : Arrival)
+      → (it : AreTold numbers told all (row ∷ rest)) → Some one ≡ arrival_at f source (next + length told) it.above row
+      → ((q : Bytes) → after q ≡ cond (bytes_eq q row.legacy) (Some (next + length told)) (numbers q))
+      → AreTold after (told ++ one ∷ []) all rest
   brings_one numbers after told all rest row one it e more =
       let so = brought (is_known f source row) e in
       let n = next + length told in
@@ -69,13 +63,16 @@ module _ (f : Forest Unit) (source : Bytes) (next : ℕ) where
             ∙ ap (λ m. (told ++ one ∷ []) ++ arrivals_from f source m (row ∷ it.above) (new_of f source rest)) up)));
       }
     where
-      brought : (b : Bool) → Some one ≡ cond b None (Some (brought_by told it.above row)) → (b ≡ false) × (one ≡ brought_by told it.above row)
+      brought : (b : Bool) → Some one ≡ cond b None (Some (brought_by told it.above row))
+          → (b ≡ false) × (one ≡ brought_by told it.above row)
       brought true h = absurd (cc)
       brought false h = (refl, cc)
 
-      numbered : (legacy : Bytes) (b : Bool) → cond b (Some (next + length told)) (number_of f source (next + length told) it.above legacy) ≡ or_there (cond b (Some (next + length told)) (numbers legacy)) (number_of f source (next + length told) [] legacy)
+      numbered : (legacy : Bytes) (b : Bool)
+          → cond b (Some (next + length told)) (number_of f source (next + length told) it.above legacy) ≡ or_there (cond b (Some (next + length told)) (numbers legacy)) (number_of f source (next + length told) [] legacy)
       numbered legacy true = refl
       numbered legacy false = it.knows legacy
 
-  pub all_told : (numbers : Bytes → Option ℕ) (told : List Arrival) (all : List Row) → AreTold numbers told all [] → told ≡ arrivals_of f source next all
+  pub all_told : (numbers : Bytes → Option ℕ) (told : List Arrival) (all : List Row) → AreTold numbers told all []
+      → told ≡ arrivals_of f source next all
   all_told numbers told all it = sym (it.are ∙ append-nil told)

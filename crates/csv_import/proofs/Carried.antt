@@ -1,92 +1,63 @@
 -- Carrying out an import: the rows are entered, and then the outcome is judged.
 use Rattle.std.proofs.Common.{◌≡◌, ℕ, ℤ, Bool, true, false, cond, ◌≤◌, List, [], ◌∷◌, length, map, Option, Some, None, Result, Ok, Err, refl, sym, ap, subst, ◌∙◌}
-use Rattle.std.specs.Prelude.{⊤, IsOk, nat_lt}
-use Rattle.std.proofs.lemmas.Bool.{le-ltb, ltb-false}
-use Rattle.sqlite.specs.Effect.{Database}
-use Rattle.sqlite.specs.Held.{Held, state}
 use Rattle.sqlite.specs.State as store
-use Rattle.sqlite.specs.State.{HasCleanDisk}
-use Rattle.sqlite.specs.Tree.{Trees}
 use Rattle.sqlite_trees.specs.declared.store.Store as kept_in
-use Rattle.isad_core.specs.Limits.{most_containers}
-use Rattle.isad_core.specs.Texts.{Bytes}
-use Rattle.atom_csv.specs.FileContents.{file_of}
-use Rattle.atom_csv.specs.declared.file.File.{File}
-use Rattle.atom_csv.specs.declared.file.Row.{Row}
-use Rattle.tree_core.specs.Forest.{Forest}
-use Rattle.office_tables.specs.Versions.{Version}
-use Rattle.desk_core.specs.Refusals.{first_that_holds, when}
 use Rattle.desk_core.specs.declared.refusal.Refusal.{Refusal}
-use Rattle.desk_core.specs.declared.refusal.Refusal.TheVariants.{BadFile, Full}
 use Rattle.desk_store.specs.Representation.{RepresentsDesk}
-use Rattle.catalogue_core.specs.CatalogueMerge.{Catalogue}
-use Rattle.catalogue_core.specs.EntryByRow.{number_there}
-use Rattle.catalogue_core.specs.GoodCatalogues.{AreGoodUnits}
-use Rattle.catalogue_core.specs.Sources.{is_source}
 use Rattle.catalogue_statements.specs.Settings.{AreLegibleSettings}
-use Rattle.catalogue_statements.specs.Representation.{Represents, RepresentsNumbered, RepresentsSettings, catalogue_trees}
-use Rattle.catalogue_statements.specs.declared.office.OfficeRow.{OfficeRow}
-use Rattle.office_core.specs.Rules.{Reply, after, gate, refusal, result_of}
-use Rattle.office_core.specs.SoundOffice.{HasLegibleSettings, IsSoundOffice}
 use Rattle.office_core.specs.State.{State}
 use Rattle.office_core.specs.declared.command.Command.{Command}
 use Rattle.office_core.specs.declared.done.Done.{Done}
 use Rattle.office_core.specs.declared.command.Command.TheVariants as command
-use Rattle.office_core.proofs.KeptOffices.{office_settings}
 use Rattle.state_encoding.specs.OfficeRows.{tables}
-use Rattle.office_tables.specs.Calls.{Answers, Updates}
-use Rattle.office_tables.specs.Step.{Goes, IsAborted, LeavesUnchanged}
-use Rattle.office_tables.specs.declared.fault.StoreFault.{StoreFault}
-use Rattle.office_tables.proofs.CallEnds.{excused_then}
-use Rattle.office_tables.proofs.Calls.{cut_then, early, goes_then, on_err_then, on_ok_then}
 use Rattle.refinement.specs.CommandSteps.{CarriesOut, CarriesOutStep}
 use Rattle.refinement.specs.Gate.{gate_reply, unless_refused}
 use Rattle.refinement.specs.AccessConditions.{RepresentsWhole}
-use Rattle.refinement.specs.Representation.{RepresentsState, office_of}
-use Rattle.refinement.proofs.Doings.{accepted, does_then, is_refused, refused}
 use Rattle.refinement.proofs.Frames.{desk_kept}
 use Rattle.refinement.proofs.Tellings.{looked_crash}
-use Rattle.csv_import.specs.Arrivals.{IsReady}
 use Rattle.csv_import.specs.PendingImport.{ReadsCatalogue}
-use Rattle.csv_import.specs.RowEntry.{RepresentsEntering, RepresentsLegible, counts_of, catalogue_after}
-use Rattle.csv_import.specs.RowPlan.{plan_of}
-use Rattle.csv_import.specs.CatalogueImport.{CanBePlaced, FitsIn, HasNumbered, has_room, reply_after, next_with_room, told_of}
-use Rattle.csv_import.specs.KnownUnits.{KnowsUnits}
-use Rattle.csv_import.specs.Remarks.{HaveUnits}
-use Rattle.csv_import.specs.declared.row_entry.Counts.{Counts}
 use Rattle.csv_import.specs.declared.row_entry.Outcome.{Outcome}
 use Rattle.csv_import.specs.declared.row_plan.Planned.{Planned}
 use Rattle.csv_import.specs.declared.row_plan.Planned.TheVariants as plans
+use Rattle.csv_import.proofs.Common.{Answers, AreGoodUnits, BadFile, Bytes, CanBePlaced, Catalogue, Counts, Database, File, FitsIn, Forest, Full, Goes, HasCleanDisk, HasLegibleSettings, HasNumbered, HaveUnits, Held, IsAborted, IsOk, IsReady, IsSoundOffice, KnowsUnits, LeavesUnchanged, OfficeRow, Reply, Represents, RepresentsEntering, RepresentsLegible, RepresentsNumbered, RepresentsSettings, RepresentsState, Row, StoreFault, Trees, Updates, Version, accepted, after, catalogue_after, catalogue_trees, counts_of, cut_then, does_then, early, excused_then, file_of, first_that_holds, gate, goes_then, has_room, if_ok_with, is_refused, is_source, le-ltb, ltb-false, most_containers, nat_lt, next_with_room, number_there, office_of, office_settings, on_err_then, on_ok_then, plan_of, refusal, refused, reply_after, result_of, state, told_of, when, ⊤}
 use Rattle.csv_import.proofs.Counting.{no_room_there, room_there}
 use Rattle.csv_import.proofs.Frames.{entering_of}
 use Rattle.csv_import.proofs.Refused.{faulty, fits_planned, full}
 use Rattle.csv_import.proofs.Imports.{after_is, can_enter, entered_is, has_imported, now, refusal_is, same_desk, texts_stay, told_is}
-use Rattle.refinement.proofs.Passing.{if_ok_with}
 
 pub settings_shown : (s : State) → HasLegibleSettings s → AreLegibleSettings (office_of s)
 settings_shown s it = record { country = it.country; repo = it.repo; seats = it.seats; daily = it.daily; hands = it.hands; run_size = it.run_size; day = it.day }
 
 -- the containers were counted, and there are no more than an office may have
-pub few_containers : (s : State) {many : Bool} → many ≡ nat_lt most_containers (length s.catalogue.containers) → many ≡ false → length s.catalogue.containers ≤ most_containers
+pub few_containers : (s : State) {many : Bool} → many ≡ nat_lt most_containers (length s.catalogue.containers)
+    → many ≡ false → length s.catalogue.containers ≤ most_containers
 few_containers s counted few = ltb-false most_containers (length s.catalogue.containers) (sym counted ∙ few)
 
 -- then the gate has the last word
-pub judged_few : (s : State) (made : Done) → length s.catalogue.containers ≤ most_containers → reply_after s made ≡ gate_reply s made
+pub judged_few : (s : State) (made : Done) → length s.catalogue.containers ≤ most_containers
+    → reply_after s made ≡ gate_reply s made
 judged_few s made few = ap (λ (b : Bool). cond b (Err Full) (gate_reply s made)) (le-ltb most_containers (length s.catalogue.containers) few)
 
 -- the rows' units are there, once they are entered; the same rows and units may be told otherwise
-pub have_units : (source : Bytes) (file : File) (units : List ℕ) (s : State) → length s.catalogue.containers ≤ most_containers → HasNumbered source file units s
-    → (rows : List Row) → rows ≡ file.rows → (result_of : List ℕ) → result_of ≡ units → HaveUnits source rows result_of s.catalogue
+pub have_units : (source : Bytes) (file : File) (units : List ℕ) (s : State)
+    → length s.catalogue.containers ≤ most_containers → HasNumbered source file units s
+    → (rows : List Row) → rows ≡ file.rows → (result_of : List ℕ) → result_of ≡ units
+    → HaveUnits source rows result_of s.catalogue
 have_units source file units s within has rows same result_of alike =
     subst (λ us. HaveUnits source rows us s.catalogue) (sym alike)
     (subst (λ rs. HaveUnits source rs units s.catalogue) (sym same) (record { entered = has.imported.entered within; numbered = has.numbered }))
 
 -- the tables can be read as those of a catalogue that takes rows
-pub shown_legible : (places : Trees → Forest ℕ → Type 0) (version : Version) (db : Database) (s : State) → IsSoundOffice s → RepresentsState places version db s → RepresentsLegible places version db (office_of s) s.catalogue
-shown_legible places version db s g it = record { tables = it.catalogue; settings = settings_shown s (office_settings s g) }
+pub shown_legible : (places : Trees → Forest ℕ → Type 0) (version : Version) (db : Database) (s : State)
+    → IsSoundOffice s → RepresentsState places version db s
+    → RepresentsLegible places version db (office_of s) s.catalogue
+shown_legible places version db s g it =
+    record { tables = it.catalogue; settings = settings_shown s (office_settings s g) }
 
 -- rows that can be placed and for which there is room, by the next number
-pub fits_now : (source : Bytes) (file : File) (today : ℤ) (numbers : Bytes → Option ℕ) (new next : ℕ) (s : State) → (today ≡ s.day) × (is_source source ≡ true) × CanBePlaced source file new s × KnowsUnits s.catalogue source file.rows numbers → Some next ≡ next_with_room new s.catalogue
+pub fits_now : (source : Bytes) (file : File) (today : ℤ) (numbers : Bytes → Option ℕ) (new next : ℕ) (s : State)
+    → (today ≡ s.day) × (is_source source ≡ true) × CanBePlaced source file new s × KnowsUnits s.catalogue source file.rows numbers
+    → Some next ≡ next_with_room new s.catalogue
     → (today ≡ s.day) × (is_source source ≡ true) × FitsIn source file s × KnowsUnits s.catalogue source file.rows numbers × (next ≡ s.catalogue.next)
 fits_now source file today numbers new next s so is =
     let placed = so.2 in
@@ -94,9 +65,13 @@ fits_now source file today numbers new next s so is =
     (so.0, so.1, record { faults = placed.faults; room = ap (λ n. has_room n s.catalogue) (sym placed.new_is) ∙ room.0 }, so.3, room.1)
 
 -- a step that is refused for too many containers, or on which the gate has the last word
-judged_step : (places : Trees → Forest ℕ → Type 0) (version : Version) (s t : State) (asked : Command) (db : Database) → after s asked ≡ t
-    → refusal s asked ≡ first_that_holds (when (nat_lt most_containers (length t.catalogue.containers)) Full ∷ gate t ∷ []) → (r : Reply) → r ≡ reply_after t (result_of s asked) → RepresentsState places version db t → CarriesOutStep places version s asked r db
-judged_step places version s t asked db becomes last r is shown = at (nat_lt most_containers (length t.catalogue.containers)) (gate t) refl refl
+judged_step : (places : Trees → Forest ℕ → Type 0) (version : Version) (s t : State) (asked : Command) (db : Database)
+    → after s asked ≡ t
+    → refusal s asked ≡ first_that_holds (when (nat_lt most_containers (length t.catalogue.containers)) Full ∷ gate t ∷ [])
+    → (r : Reply) → r ≡ reply_after t (result_of s asked) → RepresentsState places version db t
+    → CarriesOutStep places version s asked r db
+judged_step places version s t asked db becomes last r is shown =
+    at (nat_lt most_containers (length t.catalogue.containers)) (gate t) refl refl
   where
     refuse : (why : Refusal) → refusal s asked ≡ Some why → r ≡ Err why → CarriesOutStep places version s asked r db
     refuse why some so =
@@ -108,7 +83,8 @@ judged_step places version s t asked db becomes last r is shown = at (nat_lt mos
         let one = accepted s asked none in
         record { told = so ∙ sym (ap (λ (p : State × Reply). p.1) one); represents = λ ok. subst (RepresentsState places version db) (sym (ap (λ (p : State × Reply). p.0) one ∙ becomes)) shown }
 
-    at : (many : Bool) (why : Option Refusal) → nat_lt most_containers (length t.catalogue.containers) ≡ many → gate t ≡ why → CarriesOutStep places version s asked r db
+    at : (many : Bool) (why : Option Refusal) → nat_lt most_containers (length t.catalogue.containers) ≡ many
+        → gate t ≡ why → CarriesOutStep places version s asked r db
     at true why e f =
         refuse Full (last ∙ ap (λ (b : Bool). first_that_holds (when b Full ∷ gate t ∷ [])) e) (is ∙ ap (λ (b : Bool). cond b (Err Full) (gate_reply t (result_of s asked))) e)
     at false (Some why) e f =
@@ -120,10 +96,12 @@ judged_step places version s t asked db becomes last r is shown = at (nat_lt mos
 
 -- the day, the source, the units of the rows, and the next number, where there is room
 abbrev IsFitting : ℤ → Bytes → File → (Bytes → Option ℕ) → ℕ → State → Type 0
-IsFitting today source file numbers next s = (today ≡ s.day) × (is_source source ≡ true) × FitsIn source file s × KnowsUnits s.catalogue source file.rows numbers × (next ≡ s.catalogue.next)
+IsFitting today source file numbers next s =
+    (today ≡ s.day) × (is_source source ≡ true) × FitsIn source file s × KnowsUnits s.catalogue source file.rows numbers × (next ≡ s.catalogue.next)
 
 -- what a call that entered the rows did, and how it counted them
-abbrev Entered : {S : Type 0} → kept_in.Ghosts S → (Trees → Forest ℕ → Type 0) → Version → Bytes → (Bytes → Option ℕ) → ℕ → Held S → Held S → Outcome → List Row → Type 0
+abbrev Entered : {S : Type 0} → kept_in.Ghosts S → (Trees → Forest ℕ → Type 0) → Version → Bytes → (Bytes → Option ℕ)
+    → ℕ → Held S → Held S → Outcome → List Row → Type 0
 Entered g places version source numbers next before after outcome rows =
     Updates g (RepresentsLegible places version) (λ _. ⊤) before after (let r : Result Outcome StoreFault = Ok outcome in r) (IsReady source rows numbers next) (catalogue_after source rows) catalogue_trees
     × ReadsCatalogue g (RepresentsLegible places version) (IsReady source rows numbers next) before after (let r : Result Outcome StoreFault = Ok outcome in r)
@@ -152,7 +130,9 @@ module _ {S : Type 0} (g : kept_in.Ghosts S) (places : Trees → Forest ℕ → 
   ready s sound so = record { can = can_enter s source bytes file read sound so.1 so.2; known = so.3; number = so.4 }
 
   module _ (come : Entered g places version source numbers next held mid outcome file.rows) where
-    shown_now : HasCleanDisk b → (s : State) → (sound : IsSoundOffice s) → (so : Known s) → RepresentsState places version before.now s → RepresentsState places version b.now (now s source bytes file read sound so.1 so.2)
+    shown_now : HasCleanDisk b → (s : State) → (sound : IsSoundOffice s) → (so : Known s)
+        → RepresentsState places version before.now s
+        → RepresentsState places version b.now (now s source bytes file read sound so.1 so.2)
     shown_now clean s sound so it =
         let named = so.1 in
         let fits = so.2 in
@@ -164,7 +144,9 @@ module _ {S : Type 0} (g : kept_in.Ghosts S) (places : Trees → Forest ℕ → 
         }
 
     -- the outcome, and the units of the rows
-    has_numbered : HasCleanDisk b → (s : State) → (sound : IsSoundOffice s) → (so : Known s) → RepresentsState places version before.now s → HasNumbered source file units (now s source bytes file read sound so.1 so.2)
+    has_numbered : HasCleanDisk b → (s : State) → (sound : IsSoundOffice s) → (so : Known s)
+        → RepresentsState places version before.now s
+        → HasNumbered source file units (now s source bytes file read sound so.1 so.2)
     has_numbered clean s sound so it = record {
       imported = has_imported s source bytes file read sound so.1 so.2;
       numbered =
@@ -200,7 +182,8 @@ module _ {S : Type 0} (g : kept_in.Ghosts S) (places : Trees → Forest ℕ → 
         }
 
 -- the same, where the rows are told otherwise
-pub imports : {S : Type 0} {g : kept_in.Ghosts S} {places : Trees → Forest ℕ → Type 0} {version : Version} {today : ℤ} {source bytes : Bytes} {file : File} (read : file_of bytes ≡ Ok file) {numbers : Bytes → Option ℕ} {next : ℕ} {held mid after_it : Held S} {r : Result Reply StoreFault} {outcome : Outcome} {rows : List Row} → rows ≡ file.rows
+pub imports : {S : Type 0} {g : kept_in.Ghosts S} {places : Trees → Forest ℕ → Type 0} {version : Version} {today : ℤ} {source bytes : Bytes} {file : File} (read : file_of bytes ≡ Ok file) {numbers : Bytes → Option ℕ} {next : ℕ} {held mid after_it : Held S} {r : Result Reply StoreFault} {outcome : Outcome} {rows : List Row}
+    → rows ≡ file.rows
     → Updates g (RepresentsLegible places version) (λ _. ⊤) held mid (let r : Result Outcome StoreFault = Ok outcome in r) (IsReady source rows numbers next) (catalogue_after source rows) catalogue_trees
     → ReadsCatalogue g (RepresentsLegible places version) (IsReady source rows numbers next) held mid (let r : Result Outcome StoreFault = Ok outcome in r)
     (λ c made. (made.counts ≡ counts_of c.forest source rows) × (map Some made.units.items ≡ map (λ row. number_there (catalogue_after source rows c) source row.legacy) rows))
@@ -210,8 +193,10 @@ imports {g = g} {places = places} {version = version} {today = today} {source = 
     imports_so g places version today source bytes file read numbers next held mid after_it r outcome (subst (Entered g places version source numbers next held mid outcome) same (made, finds)) answers
 
 -- the rows are ready to be entered
-pub ready_for : {today : ℤ} {source : Bytes} (bytes : Bytes) {file : File} (read : file_of bytes ≡ Ok file) {numbers : Bytes → Option ℕ} {next : ℕ} {rows : List Row} → rows ≡ file.rows → (s : State) → IsSoundOffice s
-    → (today ≡ s.day) × (is_source source ≡ true) × FitsIn source file s × KnowsUnits s.catalogue source file.rows numbers × (next ≡ s.catalogue.next) → IsReady source rows numbers next s.catalogue
+pub ready_for : {today : ℤ} {source : Bytes} (bytes : Bytes) {file : File} (read : file_of bytes ≡ Ok file) {numbers : Bytes → Option ℕ} {next : ℕ} {rows : List Row}
+    → rows ≡ file.rows → (s : State) → IsSoundOffice s
+    → (today ≡ s.day) × (is_source source ≡ true) × FitsIn source file s × KnowsUnits s.catalogue source file.rows numbers × (next ≡ s.catalogue.next)
+    → IsReady source rows numbers next s.catalogue
 ready_for {source = source} bytes {file = file} read {numbers = numbers} {next = next} same s sound so =
     subst (λ (rs : List Row). IsReady source rs numbers next s.catalogue) (sym same) (record { can = can_enter s source bytes file read sound so.1 so.2; known = so.3; number = so.4 })
 
@@ -223,38 +208,48 @@ HasBegun today source s = (today ≡ s.day) × (is_source source ≡ true)
 
 -- and the units of the rows
 abbrev IsLookedUp : ℤ → Bytes → File → (Bytes → Option ℕ) → State → Type 0
-IsLookedUp today source file numbers s = (today ≡ s.day) × (is_source source ≡ true) × KnowsUnits s.catalogue source file.rows numbers
+IsLookedUp today source file numbers s =
+    (today ≡ s.day) × (is_source source ≡ true) × KnowsUnits s.catalogue source file.rows numbers
 
 -- and how many are new, where all can be placed
 abbrev IsPlaced : ℤ → Bytes → File → (Bytes → Option ℕ) → ℕ → State → Type 0
-IsPlaced today source file numbers new s = (today ≡ s.day) × (is_source source ≡ true) × CanBePlaced source file new s × KnowsUnits s.catalogue source file.rows numbers
+IsPlaced today source file numbers new s =
+    (today ≡ s.day) × (is_source source ≡ true) × CanBePlaced source file new s × KnowsUnits s.catalogue source file.rows numbers
 
 -- the plan was made of the rows as they are told
-planned_so : {places : Trees → Forest ℕ → Type 0} {version : Version} {today : ℤ} {source : Bytes} (file : File) {numbers : Bytes → Option ℕ} {rows : List Row} {plan : Planned} (a b : store.State) → rows ≡ file.rows
+planned_so : {places : Trees → Forest ℕ → Type 0} {version : Version} {today : ℤ} {source : Bytes} (file : File) {numbers : Bytes → Option ℕ} {rows : List Row} {plan : Planned} (a b : store.State)
+    → rows ≡ file.rows
     → (HasCleanDisk b → (o : OfficeRow) (k : Catalogue) → Represents places version a.now o k → AreGoodUnits k → (q : Bytes) → KnowsUnits k q rows numbers → plan ≡ plan_of k.forest q rows)
-    → HasCleanDisk b → (s : State) → IsSoundOffice s → IsLookedUp today source file numbers s → RepresentsState places version a.now s → plan ≡ plan_of s.catalogue.forest source file.rows
+    → HasCleanDisk b → (s : State) → IsSoundOffice s → IsLookedUp today source file numbers s
+    → RepresentsState places version a.now s → plan ≡ plan_of s.catalogue.forest source file.rows
 planned_so {source = source} file {numbers = numbers} a b same planned clean s sound so it =
     planned clean (office_of s) s.catalogue it.catalogue sound.sound.units source (subst (λ (rs : List Row). KnowsUnits s.catalogue source rs numbers) (sym same) so.2) ∙ ap (plan_of s.catalogue.forest source) same
 
 module _ {places : Trees → Forest ℕ → Type 0} {version : Version} {today : ℤ} {source bytes : Bytes} {file : File} (read : file_of bytes ≡ Ok file) {numbers : Bytes → Option ℕ} {rows : List Row} (same : rows ≡ file.rows) {a b : store.State} (looked : LeavesUnchanged a b) where
   pub when_known : {c : store.State} {r : Result Reply StoreFault}
       → (HasCleanDisk b → (o : OfficeRow) (k : Catalogue) → RepresentsEntering version a.now o k → AreGoodUnits k → KnowsUnits k source rows numbers)
-      → CarriesOut places version (IsLookedUp today source file numbers) (command.Import source bytes) b c r → CarriesOut places version (HasBegun today source) (command.Import source bytes) a c r
+      → CarriesOut places version (IsLookedUp today source file numbers) (command.Import source bytes) b c r
+      → CarriesOut places version (HasBegun today source) (command.Import source bytes) a c r
   when_known result_of last = does_then looked last (λ clean s sound so it.
       (so.0, so.1, subst (λ (rs : List Row). KnowsUnits s.catalogue source rs numbers) same (result_of clean (office_of s) s.catalogue (entering_of version a.now (office_of s) s.catalogue it.catalogue.catalogue) sound.sound.units)))
 
   module _ {plan : Planned} (planned : HasCleanDisk b → (o : OfficeRow) (k : Catalogue) → Represents places version a.now o k → AreGoodUnits k → (q : Bytes) → KnowsUnits k q rows numbers → plan ≡ plan_of k.forest q rows) where
     pub when_placed : {new : ℕ} {c : store.State} {r : Result Reply StoreFault} → plan ≡ plans.Fits new
-        → CarriesOut places version (IsPlaced today source file numbers new) (command.Import source bytes) b c r → CarriesOut places version (IsLookedUp today source file numbers) (command.Import source bytes) a c r
+        → CarriesOut places version (IsPlaced today source file numbers new) (command.Import source bytes) b c r
+        → CarriesOut places version (IsLookedUp today source file numbers) (command.Import source bytes) a c r
     when_placed {new = new} is last = does_then looked last (λ clean s sound so it. (so.0, so.1, fits_planned s source file new (sym is ∙ planned_so file a b same planned clean s sound so it), so.2))
 
-    pub refused_row : {row cause : ℕ} → plan ≡ plans.Faulty row cause → CarriesOut places version (IsLookedUp today source file numbers) (command.Import source bytes) a b (Ok (Err (BadFile row cause)))
-    refused_row {row} {cause} is = is_refused looked (λ clean s sound so it. faulty s source bytes file read sound so.1 row cause (sym is ∙ planned_so file a b same planned clean s sound so it))
+    pub refused_row : {row cause : ℕ} → plan ≡ plans.Faulty row cause
+        → CarriesOut places version (IsLookedUp today source file numbers) (command.Import source bytes) a b (Ok (Err (BadFile row cause)))
+    refused_row {row} {cause} is =
+        is_refused looked (λ clean s sound so it. faulty s source bytes file read sound so.1 row cause (sym is ∙ planned_so file a b same planned clean s sound so it))
 
   module _ {new : ℕ} {found : Option ℕ} (result_of : HasCleanDisk b → (k : Catalogue) (o : OfficeRow) → RepresentsSettings places version a.now k o → found ≡ next_with_room new k) where
     pub when_roomy : {next : ℕ} {c : store.State} {r : Result Reply StoreFault} → found ≡ Some next
-        → CarriesOut places version (IsFitting today source file numbers next) (command.Import source bytes) b c r → CarriesOut places version (IsPlaced today source file numbers new) (command.Import source bytes) a c r
+        → CarriesOut places version (IsFitting today source file numbers next) (command.Import source bytes) b c r
+        → CarriesOut places version (IsPlaced today source file numbers new) (command.Import source bytes) a c r
     when_roomy {next = next} is last = does_then looked last (λ clean s sound so it. fits_now source file today numbers new next s so (sym is ∙ result_of clean s.catalogue (office_of s) it.catalogue))
 
-    pub refused_full : found ≡ None → CarriesOut places version (IsPlaced today source file numbers new) (command.Import source bytes) a b (Ok (Err Full))
+    pub refused_full : found ≡ None
+        → CarriesOut places version (IsPlaced today source file numbers new) (command.Import source bytes) a b (Ok (Err Full))
     refused_full is = is_refused looked (λ clean s sound so it. full s source bytes file read sound so.1 new so.2 (no_room_there new s.catalogue (sym is ∙ result_of clean s.catalogue (office_of s) it.catalogue)))

@@ -1,29 +1,15 @@
 -- The units that rows bring come to stand all at once where they come to stand row by row.
 use Rattle.std.proofs.Common.{◌≡◌, ℕ, ◌+◌, Bool, true, false, not, cond, List, [], ◌∷◌, ◌++◌, length, length-append, Option, Some, None, Result, Ok, refl, sym, ap, ap₂, subst, ◌∙◌, nat_eq, arith}
-use Rattle.std.specs.Prelude.{find, option_and_then}
-use Rattle.std.specs.List.{AllByRecursion, IsDistinct}
-use Rattle.isad_core.specs.Texts.{Bytes}
-use Rattle.atom_csv.specs.declared.file.Row.{Row}
-use Rattle.tree_core.specs.Forest.{Forest, HasDistinctIds, add, each, has, has_place, nodes, size}
-use Rattle.tree_core.proofs.EachLemmas.{add-each, has-each, has_place-each, nodes-each, size-each}
+use Rattle.std.specs.List.{IsDistinct}
 use Rattle.tree_core.specs.Arrivals.{CanJoin, added}
-use Rattle.tree_core.specs.declared.arrivals.Arrival.{Arrival}
-use Rattle.catalogue_core.specs.Descriptions.{with_values}
-use Rattle.catalogue_core.specs.GoodCatalogues.{AreGoodUnits}
-use Rattle.catalogue_core.specs.CatalogueMerge.{Catalogue, cause_at, depth_under, merged, new_unit, number_of, numbered_from}
-use Rattle.catalogue_core.specs.EntryByRow.{and_then, new_at, number_there, with_new, with_row_at, with_rows}
-use Rattle.catalogue_core.specs.Units.{Unit, has_id, is_from}
-use Rattle.catalogue_core.proofs.EachOf.{all_true, none_found, some_found}
-use Rattle.catalogue_core.proofs.EachRow.{length-numbered, onto, onto-more}
+use Rattle.catalogue_core.proofs.EachOf.{none_found}
+use Rattle.catalogue_core.proofs.EachRow.{length-numbered}
 use Rattle.catalogue_core.proofs.RowByRow.{IsApart, StandsSo, depth_same, further, known_more, known_number, known_stands, new_more, new_stands, no_such_number, some_depth}
-use Rattle.catalogue_core.proofs.RowsMerged.{begins, none_merged}
+use Rattle.catalogue_core.proofs.RowsMerged.{begins}
 use Rattle.catalogue_statements.proofs.Statuses.{each_each}
 use Rattle.tree_places.specs.Arrivals.{MayJoin}
 use Rattle.tree_places.proofs.Joiners.{size_added}
-use Rattle.csv_import.specs.Arrivals.{arrival_of, arrivals_from, arrivals_of}
-use Rattle.csv_import.specs.RowEntry.{catalogue_after, or_as_before}
-use Rattle.csv_import.specs.RowPlan.{new_of}
-use Rattle.csv_import.specs.Turns.{AreToCome}
+use Rattle.csv_import.proofs.Common.{AllByRecursion, AreGoodUnits, AreToCome, Arrival, Bytes, Catalogue, Forest, HasDistinctIds, Row, Unit, add, add-each, all_true, and_then, arrival_of, arrivals_from, arrivals_of, catalogue_after, cause_at, depth_under, each, find, has, has-each, has_id, has_place, has_place-each, is_from, merged, new_at, new_of, new_unit, nodes, nodes-each, none_merged, number_of, number_there, numbered_from, onto, onto-more, option_and_then, or_as_before, size, size-each, some_found, with_new, with_row_at, with_rows, with_values}
 use Rattle.csv_import.proofs.OneRow.{entered_new, may_come, none_against}
 use Rattle.csv_import.proofs.RowsToCome.{OneEntered, one_entered}
 
@@ -37,7 +23,9 @@ pub record Joins (new : List Arrival) (f g : Forest ℕ) : Type 0 where
   pub ends : added new f ≡ g
   pub many : size f + length new ≡ size g
 
-joins_first : (one : Arrival) (more : List Arrival) (f h g : Forest ℕ) → HasDistinctIds f → has_place nat_eq one.parent f ≡ true → has (nat_eq one.unit) f ≡ false → h ≡ add nat_eq one.parent one.unit f → Joins more h g → Joins (one ∷ more) f g
+joins_first : (one : Arrival) (more : List Arrival) (f h g : Forest ℕ) → HasDistinctIds f
+    → has_place nat_eq one.parent f ≡ true → has (nat_eq one.unit) f ≡ false → h ≡ add nat_eq one.parent one.unit f
+    → Joins more h g → Joins (one ∷ more) f g
 joins_first one more f h g distinct place new is it =
     let now = subst (λ k. Joins more k g) is it in
     let longer = size_added one.parent one.unit f distinct place in
@@ -49,7 +37,8 @@ own_ids c good = subst (IsDistinct nat_eq) (sym (nodes-each (λ (u : Unit). u.id
 
 -- other values leave all units in their places
 same_places : (id : ℕ) (values : _) (c : Catalogue) → ids (with_values id values c).forest ≡ ids c.forest
-same_places id values c = each_each (λ (u : Unit). cond (has_id id u) (record u { values = values }) u) (λ (u : Unit). u.id) (λ (u : Unit). u.id) (λ u. same (has_id id u) u) c.forest
+same_places id values c =
+    each_each (λ (u : Unit). cond (has_id id u) (record u { values = values }) u) (λ (u : Unit). u.id) (λ (u : Unit). u.id) (λ u. same (has_id id u) u) c.forest
   where
     same : (b : Bool) (u : Unit) → (cond b (record u { values = values }) u).id ≡ u.id
     same true u = refl
@@ -65,22 +54,27 @@ module _ (c : Catalogue) (source : Bytes) (good : AreGoodUnits c) where
   coming nb rest = arrivals_from c.forest source (c.next + length nb) (onto [] nb) (new_of c.forest source rest)
 
   abbrev sorted : Bool → List Row → Row → List Row → List Arrival
-  sorted known nb row rest = arrivals_from c.forest source (c.next + length nb) (onto [] nb) (cond (not known) (row ∷ new_of c.forest source rest) (new_of c.forest source rest))
+  sorted known nb row rest =
+      arrivals_from c.forest source (c.next + length nb) (onto [] nb) (cond (not known) (row ∷ new_of c.forest source rest) (new_of c.forest source rest))
 
   -- what holds of fewer rows
   abbrev Later : List Row → Type 0
   Later rest = (before nb : List Row) (n : ℕ) (t : Catalogue) → StandsSo c source good before nb → AllByRecursion (λ (r : Row). IsApart r before) rest → AreToCome source rest n (so_far before nb)
-      → with_rows source rest (so_far before nb) ≡ Ok t → Joins (coming nb rest) (ids (so_far before nb).forest) (ids t.forest)
+      → with_rows source rest (so_far before nb) ≡ Ok t
+      → Joins (coming nb rest) (ids (so_far before nb).forest) (ids t.forest)
 
   ok_is : (x y : Catalogue) → ◌≡◌ {A = Result Catalogue (ℕ × ℕ)} (Ok x) (Ok y) → x ≡ y
   ok_is x y e = cc
 
-  pub joins : (rest before nb : List Row) (n : ℕ) (t : Catalogue) → StandsSo c source good before nb → AllByRecursion (λ (r : Row). IsApart r before) rest → AreToCome source rest n (so_far before nb)
-      → with_rows source rest (so_far before nb) ≡ Ok t → Joins (coming nb rest) (ids (so_far before nb).forest) (ids t.forest)
+  pub joins : (rest before nb : List Row) (n : ℕ) (t : Catalogue) → StandsSo c source good before nb
+      → AllByRecursion (λ (r : Row). IsApart r before) rest → AreToCome source rest n (so_far before nb)
+      → with_rows source rest (so_far before nb) ≡ Ok t
+      → Joins (coming nb rest) (ids (so_far before nb).forest) (ids t.forest)
   joins [] before nb n t s far come e =
       let same = ok_is (so_far before nb) t e in
       record { can = tt; ends = ap (λ (d : Catalogue). ids d.forest) same; many = (let many = ap (λ (d : Catalogue). size (ids d.forest)) same in omega (arith, many)) }
-  joins (row ∷ rest) before nb n t s far come e = at (find (is_from source row.legacy) (nodes c.forest)) refl (joins rest)
+  joins (row ∷ rest) before nb n t s far come e =
+      at (find (is_from source row.legacy) (nodes c.forest)) refl (joins rest)
     where
       it : OneEntered source row rest n (so_far before nb)
       it = one_entered source row rest n (so_far before nb) come
@@ -91,21 +85,30 @@ module _ (c : Catalogue) (source : Bytes) (good : AreGoodUnits c) where
       others : AllByRecursion (λ (r : Row). IsApart r (before ++ row ∷ [])) rest
       others = further c source good before rest row far.1 come.told.once.0
 
-      at : (r : Option Unit) → find (is_from source row.legacy) (nodes c.forest) ≡ r → Later rest → Joins (coming nb (row ∷ rest)) (ids (so_far before nb).forest) (ids t.forest)
+      at : (r : Option Unit) → find (is_from source row.legacy) (nodes c.forest) ≡ r → Later rest
+          → Joins (coming nb (row ∷ rest)) (ids (so_far before nb).forest) (ids t.forest)
       at (Some v) found later =
           let number = known_number c source good before nb row v s far.0 found in
-          let is : it.after ≡ so_far (before ++ row ∷ []) nb = ok_is it.after _ (sym it.placed ∙ ap (λ o. with_row_at o source row (so_far before nb)) number) ∙ known_more c source good before nb row v s far.0 found in
+          let is : it.after ≡ so_far (before ++ row ∷ []) nb =
+          ok_is it.after _ (sym it.placed ∙ ap (λ o. with_row_at o source row (so_far before nb)) number)
+          ∙ known_more c source good before nb row v s far.0 found in
           let more = later (before ++ row ∷ []) nb (n + cond (Rattle.catalogue_core.specs.Intake.is_new (so_far before nb).forest source row) 1 0) t (known_stands c source good before nb row v s far.0 found) others
           (subst (AreToCome source rest (n + cond (Rattle.catalogue_core.specs.Intake.is_new (so_far before nb).forest source row) 1 0)) is it.rest) (ap (with_rows source rest) (sym is) ∙ left) in
-          let stay : ids (so_far (before ++ row ∷ []) nb).forest ≡ ids (so_far before nb).forest = ap (λ (k : Catalogue). ids k.forest) (sym (known_more c source good before nb row v s far.0 found)) ∙ same_places v.id row.values (so_far before nb) in
-          let none_new : coming nb (row ∷ rest) ≡ coming nb rest = ap (λ b. sorted b nb row rest) (some_found (is_from source row.legacy) (nodes c.forest) v found) in
+          let stay : ids (so_far (before ++ row ∷ []) nb).forest ≡ ids (so_far before nb).forest =
+          ap (λ (k : Catalogue). ids k.forest) (sym (known_more c source good before nb row v s far.0 found))
+          ∙ same_places v.id row.values (so_far before nb) in
+          let none_new : coming nb (row ∷ rest) ≡ coming nb rest =
+          ap (λ b. sorted b nb row rest) (some_found (is_from source row.legacy) (nodes c.forest) v found) in
           subst (λ f. Joins (coming nb (row ∷ rest)) f (ids t.forest)) stay (subst (λ l. Joins l (ids (so_far (before ++ row ∷ []) nb).forest) (ids t.forest)) (sym none_new) more)
       at None found later =
           let none = no_such_number c source good before nb row s far.0 found in
           let comes = may_come source row n (so_far before nb) it.turn none in
           let new = new_at (so_far before nb) source row in
-          let made : it.after ≡ with_new source row (so_far before nb) = sym (ap (λ r. or_as_before (so_far before nb) (and_then (with_rows source []) r)) it.placed) ∙ entered_new source row n (so_far before nb) it.turn none in
-          let is : it.after ≡ so_far (before ++ row ∷ []) (nb ++ row ∷ []) = made ∙ new_more c source good before nb row s far.0 found in
+          let made : it.after ≡ with_new source row (so_far before nb) =
+          sym (ap (λ r. or_as_before (so_far before nb) (and_then (with_rows source []) r)) it.placed)
+          ∙ entered_new source row n (so_far before nb) it.turn none in
+          let is : it.after ≡ so_far (before ++ row ∷ []) (nb ++ row ∷ []) =
+          made ∙ new_more c source good before nb row s far.0 found in
           let deep = some_depth (depth_under c.forest source row.parent (onto [] nb)) (sym (ap cause_at (depth_same c source good before nb row s far.0 found row.parent)) ∙ none_against source row n (so_far before nb) it.turn none) in
           let more = later (before ++ row ∷ []) (nb ++ row ∷ []) (n + cond (Rattle.catalogue_core.specs.Intake.is_new (so_far before nb).forest source row) 1 0) t (new_stands c source good before nb row s far.0 found deep.0 deep.1) others
           (subst (AreToCome source rest (n + cond (Rattle.catalogue_core.specs.Intake.is_new (so_far before nb).forest source row) 1 0)) is it.rest) (ap (with_rows source rest) (sym is) ∙ left) in
@@ -121,7 +124,8 @@ module _ (c : Catalogue) (source : Bytes) (good : AreGoodUnits c) where
           (has-each (nat_eq new.id) (λ (u : Unit). u.id) (so_far before nb).forest ∙ comes.new.number)
           grown more)
         where
-          its_parent : (p : Option Bytes) → option_and_then (number_there (so_far before nb) source) p ≡ option_and_then (number_of c.forest source (c.next + length nb) (onto [] nb)) p
+          its_parent : (p : Option Bytes)
+              → option_and_then (number_there (so_far before nb) source) p ≡ option_and_then (number_of c.forest source (c.next + length nb) (onto [] nb)) p
           its_parent None = refl
           its_parent (Some legacy) = s.numbers legacy
 
@@ -135,7 +139,8 @@ module _ (c : Catalogue) (source : Bytes) (good : AreGoodUnits c) where
               ap₂ (λ m above. arrivals_from c.forest source m above (new_of c.forest source rest)) up (sym (onto-more [] nb row))
 
 -- all rows
-pub come_to_stand : (source : Bytes) (rows : List Row) (next : ℕ) (c : Catalogue) → AreToCome source rows next c → Joins (arrivals_of c.forest source next rows) (ids c.forest) (ids (catalogue_after source rows c).forest)
+pub come_to_stand : (source : Bytes) (rows : List Row) (next : ℕ) (c : Catalogue) → AreToCome source rows next c
+    → Joins (arrivals_of c.forest source next rows) (ids c.forest) (ids (catalogue_after source rows c).forest)
 come_to_stand source rows next c it =
     let none = none_merged c source it.apart in
     let all = joins c source it.units rows [] [] next it.room.after (begins c source it.units it.apart) (all_true (λ (r : Row). IsApart r []) (λ r. tt) rows)
@@ -147,7 +152,8 @@ come_to_stand source rows next c it =
     (subst (λ n. Joins (arrivals_from c.forest source n [] (new_of c.forest source rows)) (ids (merged c source [] []).forest) (ids it.room.after.forest)) from all))
 
 -- an office keeps so many
-pub may_join : (source : Bytes) (rows : List Row) (next : ℕ) (c : Catalogue) → AreToCome source rows next c → MayJoin (arrivals_of c.forest source next rows) (ids c.forest)
+pub may_join : (source : Bytes) (rows : List Row) (next : ℕ) (c : Catalogue) → AreToCome source rows next c
+    → MayJoin (arrivals_of c.forest source next rows) (ids c.forest)
 may_join source rows next c it =
     let all = come_to_stand source rows next c it in
     let many = all.many in

@@ -1,17 +1,8 @@
 -- How many units and containers there are, as SQL counts them.
 use Rattle.std.proofs.Common.{◌≡◌, ℕ, ◌+◌, ◌<◌, ◌≤◌, Bool, true, false, cond, ◌&&◌, length, Some, None, refl, sym, ap, ap₂, ◌∙◌, inl, inr, arith}
-use Rattle.std.specs.Prelude.{nat_le, nat_lt}
-use Rattle.std.proofs.lemmas.Bool.{and_parts, cases_Bool, le-leb, le-ltb, leb-false, leb-true, lt-leb, lt-ltb, ltb-false, ltb-true}
-use Rattle.std.proofs.lemmas.List.Sorted.{length_permutation}
-use Rattle.sqlite.specs.Tree.{Trees}
-use Rattle.isad_core.specs.Limits.{most_containers, most_unit_numbers, most_units}
-use Rattle.tree_core.specs.Forest.{Forest, nodes, size}
-use Rattle.catalogue_core.specs.CatalogueMerge.{Catalogue}
-use Rattle.catalogue_core.specs.Units.{Unit}
 use Rattle.catalogue_core.proofs.NodeLemmas.{length-nodes}
-use Rattle.catalogue_statements.specs.Representation.{RepresentsUnits}
 use Rattle.office_tables.specs.RowCounts.{cap}
-use Rattle.csv_import.specs.CatalogueImport.{has_room, next_with_room}
+use Rattle.csv_import.proofs.Common.{Catalogue, Forest, RepresentsUnits, Trees, Unit, and_parts, cases_Bool, has_room, le-leb, le-ltb, leb-false, leb-true, length_permutation, lt-leb, lt-ltb, ltb-false, ltb-true, most_containers, most_unit_numbers, most_units, nat_le, nat_lt, next_with_room, nodes, size}
 
 -- the count has an end, but far above what an office may have
 pub many_counted : (n : ℕ) → nat_lt most_containers (cap n) ≡ nat_lt most_containers n
@@ -27,7 +18,8 @@ room_counted n new = elim (cases_Bool (nat_le (n + new) most_units)) [
 ]
 
 -- the next number where there is room, or none, by the numbers as they are told
-pub next_if : (new : ℕ) (c : Catalogue) (units next : ℕ) → units ≡ cap (size c.forest) → next ≡ c.next → (room : Bool) → (nat_le (units + new) most_units && nat_le (next + new) (most_unit_numbers + 1)) ≡ room
+pub next_if : (new : ℕ) (c : Catalogue) (units next : ℕ) → units ≡ cap (size c.forest) → next ≡ c.next → (room : Bool)
+    → (nat_le (units + new) most_units && nat_le (next + new) (most_unit_numbers + 1)) ≡ room
     → cond room (Some next) None ≡ next_with_room new c
 next_if new c units next many is room e =
     let here : has_room new c ≡ room =
@@ -36,7 +28,8 @@ next_if new c units next many is room e =
     ap (λ n. cond room (Some n) None) is ∙ sym (ap (λ (b : Bool). cond b (Some c.next) None) here)
 
 -- there is a next number
-pub room_there : (new : ℕ) (c : Catalogue) (next : ℕ) → Some next ≡ next_with_room new c → (has_room new c ≡ true) × (next ≡ c.next)
+pub room_there : (new : ℕ) (c : Catalogue) (next : ℕ) → Some next ≡ next_with_room new c
+    → (has_room new c ≡ true) × (next ≡ c.next)
 room_there new c next e = at (has_room new c) e
   where
     at : (b : Bool) → Some next ≡ cond b (Some c.next) None → (b ≡ true) × (next ≡ c.next)
@@ -52,11 +45,14 @@ no_room_there new c e = at (has_room new c) e
     at false h = refl
 
 -- how many units there are, by the rows that are counted
-pub units_counted : {db : Trees} {f : Forest Unit} {units : ℕ} (at : RepresentsUnits db f) → units ≡ cap (length at.units) → units ≡ cap (size f)
+pub units_counted : {db : Trees} {f : Forest Unit} {units : ℕ} (at : RepresentsUnits db f)
+    → units ≡ cap (length at.units) → units ≡ cap (size f)
 units_counted {f = f} at is = is ∙ ap cap (length_permutation (nodes f) at.units at.are ∙ length-nodes f)
 
 -- the next number is within the limit, where there is room
-pub number_within : (units next new : ℕ) → (nat_le (units + new) most_units && nat_le (next + new) (most_unit_numbers + 1)) ≡ true → next ≤ most_unit_numbers + 1
+pub number_within : (units next new : ℕ)
+    → (nat_le (units + new) most_units && nat_le (next + new) (most_unit_numbers + 1)) ≡ true
+    → next ≤ most_unit_numbers + 1
 number_within units next new room =
     let after = leb-true (next + new) (most_unit_numbers + 1) (and_parts (nat_le (units + new) most_units) (nat_le (next + new) (most_unit_numbers + 1)) room).1 in
     omega (arith, after)

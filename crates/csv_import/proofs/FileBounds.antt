@@ -1,27 +1,16 @@
 -- How many rows a file that was read has, and how many containers these name.
 use Rattle.std.proofs.Common.{◌≡◌, ◌≤◌, ◌<◌, ◌+◌, ◌*◌, ◌^◌, ◌⊎◌, inl, inr, ℕ, suc, Bool, true, false, not, cond, List, [], ◌∷◌, ◌++◌, length, length-append, Option, Some, None, Ok, refl, sym, subst, arith}
-use Rattle.std.specs.Prelude.{◌==◌, count_by, filter, filter_map, nat_lt, slice_get}
-use Rattle.std.specs.List.{AllByRecursion, cons_option, enumerate_from, flat_map}
-use Rattle.std.proofs.lemmas.Bool.{ltb-false}
-use Rattle.std.proofs.lemmas.List.{length-map}
 use Rattle.std.proofs.lemmas.List.FromFn.{length-enumerate_from}
 use Rattle.std.proofs.lemmas.List.Sums.{length-filter}
 use Rattle.std.proofs.lemmas.List.Splits.{length-slice_split}
-use Rattle.isad_core.specs.Boxes.{distinct, is_same}
-use Rattle.isad_core.specs.Limits.{most_bytes, most_rows}
-use Rattle.isad_core.specs.Texts.{Bytes}
-use Rattle.isad_core.specs.declared.values.BoxKey.{BoxKey}
+use Rattle.isad_core.specs.Boxes.{is_same}
 use Rattle.atom_csv.specs.Columns.{columns}
 use Rattle.atom_csv.specs.Entries.{entries, entry_of, parts_of}
 use Rattle.atom_csv.specs.Fields.{Fields, value}
-use Rattle.atom_csv.specs.FileContents.{fault_of, file_of, is_long, lines_below, row_number, row_of, row_told}
 use Rattle.atom_csv.specs.Values.{boxes_of, is_named_box, triple, triples}
 use Rattle.atom_csv.specs.declared.column.Column.TheVariants as column
-use Rattle.atom_csv.specs.declared.file.File.{File}
-use Rattle.atom_csv.specs.declared.file.Row.{Row}
-use Rattle.catalogue_core.proofs.FileRows.{line_at, no_fault_cons, read_from, answers}
 use Rattle.catalogue_core.proofs.GoodRows.{any_at}
-use Rattle.csv_import.specs.RowEntry.{boxes_named}
+use Rattle.csv_import.proofs.Common.{AllByRecursion, BoxKey, Bytes, File, Row, answers, boxes_named, cons_option, count_by, distinct, enumerate_from, fault_of, file_of, filter, filter_map, flat_map, is_long, length-map, line_at, lines_below, ltb-false, most_bytes, most_rows, nat_lt, no_fault_cons, read_from, row_number, row_of, row_told, slice_get, ◌==◌}
 
 -- ---- one row
 
@@ -29,7 +18,8 @@ length_kept : {X : Type 0} (p : X → Bool) (xs : List X) → length (filter p x
 length_kept p [] = omega arith
 length_kept p (x ∷ xs) = at (p x) (length_kept p xs)
   where
-    at : (b : Bool) → length (filter p xs) ≤ length xs → length (cond b (x ∷ filter p xs) (filter p xs)) ≤ suc (length xs)
+    at : (b : Bool) → length (filter p xs) ≤ length xs
+        → length (cond b (x ∷ filter p xs) (filter p xs)) ≤ suc (length xs)
     at true h = omega (arith, h)
     at false h = omega (arith, h)
 
@@ -80,7 +70,9 @@ record AreBoundedBelow (above : List Fields) (rows : List Row) : Type 0 where
   few : AreFewBelow above rows
   boxes : AllByRecursion HasFewBoxes rows
 
-bounded_below : (header : Fields) (above rest : List Fields) → filter_map (fault_of header) (lines_below above rest) ≡ [] → AreBoundedBelow above (filter_map (row_told header) (lines_below above rest))
+bounded_below : (header : Fields) (above rest : List Fields)
+    → filter_map (fault_of header) (lines_below above rest) ≡ []
+    → AreBoundedBelow above (filter_map (row_told header) (lines_below above rest))
 bounded_below header above [] none = record { few = inl refl; boxes = tt }
 bounded_below header above (fields ∷ rest) none =
     let x = no_fault_cons header above fields rest none in
@@ -97,11 +89,13 @@ bounded_below header above (fields ∷ rest) none =
     fewer (inl none_there) = inl none_there
     fewer (inr few) = inr (omega (arith, few, longer))
 
-    one_more : (row : Row) → length above + 2 ≤ most_rows + 1 → AreFewBelow (above ++ fields ∷ []) later → AreFewBelow above (row ∷ later)
+    one_more : (row : Row) → length above + 2 ≤ most_rows + 1 → AreFewBelow (above ++ fields ∷ []) later
+        → AreFewBelow above (row ∷ later)
     one_more row early (inl none_there) = inr (omega (arith, early, none_there))
     one_more row early (inr few) = inr (omega (arith, few, longer))
 
-    at : (told : Option Row) → row_told header (line_at above fields) ≡ told → AreBoundedBelow (above ++ fields ∷ []) later → AreBoundedBelow above (cons_option told later)
+    at : (told : Option Row) → row_told header (line_at above fields) ≡ told
+        → AreBoundedBelow (above ++ fields ∷ []) later → AreBoundedBelow above (cons_option told later)
     at None e below = record { few = fewer below.few; boxes = below.boxes }
     at (Some row) e below =
         let it = answers header (line_at above fields) row (no_fault_cons header above fields rest none).0 e in

@@ -1,26 +1,18 @@
 -- The path of the unit that a source has under a number.
 use Rattle.std.proofs.Common.{◌≡◌, ℕ, suc, ◌+◌, Bool, true, false, not, cond, ◌||◌, List, [], ◌∷◌, length, map, Some, None, refl, sym, ap, ap₂, ◌∙◌, nat_eq, arith}
-use Rattle.std.specs.Prelude.{find}
-use Rattle.std.specs.List.{AllByRecursion, list_any}
-use Rattle.std.proofs.lemmas.Bool.{eqb-true}
-use Rattle.isad_core.specs.Texts.{Bytes}
-use Rattle.tree_core.specs.Forest.{Forest, Empty, Node, each, has, nodes, path}
-use Rattle.tree_core.proofs.EachLemmas.{path-each}
-use Rattle.catalogue_core.specs.GoodCatalogues.{AreGoodUnits}
-use Rattle.catalogue_core.specs.CatalogueMerge.{Catalogue, depth_under}
-use Rattle.catalogue_core.specs.Units.{Unit, has_id, is_from}
-use Rattle.catalogue_core.proofs.EachOf.{all_split}
-use Rattle.catalogue_core.proofs.EachRow.{found_numbers}
 use Rattle.refinement.proofs.Paths.{path_there}
+use Rattle.csv_import.proofs.Common.{AllByRecursion, AreGoodUnits, Bytes, Catalogue, Empty, Forest, Node, Unit, all_split, depth_under, each, eqb-true, find, found_numbers, has, has_id, is_from, list_any, nodes, path, path-each}
 
 -- ---- paths
 
 -- two tests that agree on each unit find one path
-same_any : (p q : Unit → Bool) (us : List Unit) → AllByRecursion (λ (u : Unit). p u ≡ q u) us → list_any p us ≡ list_any q us
+same_any : (p q : Unit → Bool) (us : List Unit) → AllByRecursion (λ (u : Unit). p u ≡ q u) us
+    → list_any p us ≡ list_any q us
 same_any p q [] h = refl
 same_any p q (u ∷ us) h = ap₂ (λ (a b : Bool). a || b) h.0 (same_any p q us h.1)
 
-pub same_path : (p q : Unit → Bool) (f : Forest Unit) → AllByRecursion (λ (u : Unit). p u ≡ q u) (nodes f) → path p f ≡ path q f
+pub same_path : (p q : Unit → Bool) (f : Forest Unit) → AllByRecursion (λ (u : Unit). p u ≡ q u) (nodes f)
+    → path p f ≡ path q f
 same_path p q Empty h = refl
 same_path p q (Node u c o) h =
     let parts = all_split (λ (u : Unit). p u ≡ q u) (nodes c) (nodes o) h.1 in
@@ -36,7 +28,9 @@ pub none_path : (is : Unit → Bool) (f : Forest Unit) → has is f ≡ false �
 none_path is f h = no_length (path is f) (path_there is f ∙ ap not h)
 
 -- the path of a unit that is found, by its number
-pub path_by_number : (c : Catalogue) (source legacy : Bytes) (v : Unit) → AreGoodUnits c → find (is_from source legacy) (nodes c.forest) ≡ Some v → path (nat_eq v.id) (each (λ (u : Unit). u.id) c.forest) ≡ map (λ (u : Unit). u.id) (path (is_from source legacy) c.forest)
+pub path_by_number : (c : Catalogue) (source legacy : Bytes) (v : Unit) → AreGoodUnits c
+    → find (is_from source legacy) (nodes c.forest) ≡ Some v
+    → path (nat_eq v.id) (each (λ (u : Unit). u.id) c.forest) ≡ map (λ (u : Unit). u.id) (path (is_from source legacy) c.forest)
 path_by_number c source legacy v good found =
     path-each (nat_eq v.id) (λ (u : Unit). u.id) c.forest
     ∙ ap (map (λ (u : Unit). u.id)) (same_path (has_id v.id) (is_from source legacy) c.forest (found_numbers source legacy (nodes c.forest) v good.ids good.pairs found))
@@ -44,7 +38,9 @@ path_by_number c source legacy v good found =
 -- ---- depths
 
 -- how deep a row lies that names a catalogued unit, by the length of the unit's path
-pub depth_found : (f : Forest Unit) (source legacy : Bytes) (n : ℕ) (b : Bool) → length (path (is_from source legacy) f) ≡ n → nat_eq n 0 ≡ b → depth_under f source (Some legacy) [] ≡ cond b None (Some (n + 1))
+pub depth_found : (f : Forest Unit) (source legacy : Bytes) (n : ℕ) (b : Bool)
+    → length (path (is_from source legacy) f) ≡ n → nat_eq n 0 ≡ b
+    → depth_under f source (Some legacy) [] ≡ cond b None (Some (n + 1))
 depth_found f source legacy n b long zero =
     let there = turned (has (is_from source legacy) f) b (sym (path_there (is_from source legacy) f) ∙ (ap (λ k. nat_eq k 0) long ∙ zero)) in
     ap₂ (λ (h : Bool) k. cond h (Some (k + 1)) None) there long ∙ swapped b

@@ -1,27 +1,10 @@
 -- The catalogue's tables beside the places: what they show as the office's row and the next number change by themselves.
 use Rattle.std.proofs.Common.{◌≡◌, ℕ, true, not, List, Option, None, Result, OnOk, refl, sym, subst, ◌∙◌}
-use Rattle.std.specs.Prelude.{⊤}
-use Rattle.sqlite.specs.Effect.{Database}
-use Rattle.sqlite.specs.Held.{Held, state}
 use Rattle.sqlite_trees.specs.declared.store.Store as store
-use Rattle.isad_core.specs.Texts.{Bytes}
-use Rattle.isad_core.specs.declared.values.Values.{Values}
-use Rattle.atom_csv.specs.declared.file.Row.{Row}
-use Rattle.office_tables.specs.Versions.{Version}
 use Rattle.catalogue_core.specs.Bounds.{IsKept}
-use Rattle.catalogue_core.specs.Descriptions.{AreWhole, HasPlaceFor, IsNew, KnowsItsContainers, MayDescribe, with_unit, with_values}
-use Rattle.catalogue_core.specs.EntryByRow.{new_at, with_new}
-use Rattle.catalogue_core.specs.CatalogueMerge.{Catalogue}
-use Rattle.catalogue_core.specs.Units.{Unit}
-use Rattle.office_tables.specs.Calls.{Updates}
-use Rattle.office_tables.specs.Step.{OnlyTouches}
-use Rattle.office_tables.specs.declared.fault.StoreFault.{StoreFault}
-use Rattle.catalogue_statements.specs.Representation.{RepresentsCatalogue, RepresentsOffice, described_trees}
-use Rattle.catalogue_statements.specs.declared.office.OfficeRow.{OfficeRow}
 use Rattle.refinement.proofs.Frames.{are_apart, untouched}
 use Rattle.catalogue_store.specs.ImportEntries.{with_entered}
-use Rattle.csv_import.specs.RowEntry.{RepresentsEntering}
-use Rattle.csv_import.specs.Turns.{MayChange, MayCome}
+use Rattle.csv_import.proofs.Common.{AreWhole, Bytes, Catalogue, Database, HasPlaceFor, Held, IsNew, KnowsItsContainers, MayChange, MayCome, MayDescribe, OfficeRow, OnlyTouches, RepresentsCatalogue, RepresentsEntering, RepresentsOffice, Row, StoreFault, Unit, Updates, Values, Version, described_trees, new_at, state, with_new, with_unit, with_values, ⊤}
 use Rattle.csv_import.proofs.OneRow.{unit_comes}
 
 -- the catalogue with another number as the next
@@ -29,7 +12,8 @@ abbrev pub at_next : ℕ → Catalogue → Catalogue
 at_next n c = record c { next = n }
 
 -- before a row is entered
-pub entering_of : (version : Version) (db : Database) (o : OfficeRow) (c : Catalogue) → RepresentsCatalogue version db o c → RepresentsEntering version db o c
+pub entering_of : (version : Version) (db : Database) (o : OfficeRow) (c : Catalogue)
+    → RepresentsCatalogue version db o c → RepresentsEntering version db o c
 entering_of version db o c it = subst (λ n. RepresentsCatalogue version db o (record c { next = n })) (sym it.next) it
 
 pub kept_at : (n : ℕ) (c : Catalogue) → IsKept c → IsKept (at_next n c)
@@ -46,7 +30,9 @@ new_at_next n u c it = record { number = it.number; origin = it.origin; whole = 
 
 -- other tables are written
 module _ (old new : Database) (touched : List ℕ) (only : OnlyTouches touched old new) where
-  pub described_kept : are_apart touched described_trees ≡ true → new.schema ≡ old.schema → (version : Version) (o p : OfficeRow) (c : Catalogue) (n : ℕ) → RepresentsOffice version new.trees p → p.next_unit ≡ n
+  pub described_kept : are_apart touched described_trees ≡ true → new.schema ≡ old.schema
+      → (version : Version) (o p : OfficeRow) (c : Catalogue) (n : ℕ) → RepresentsOffice version new.trees p
+      → p.next_unit ≡ n
       → RepresentsCatalogue version old o c → RepresentsCatalogue version new p (record c { next = n })
   described_kept apart schema version o p c n office next it =
       let kept = untouched touched old new only described_trees apart in
@@ -72,8 +58,10 @@ module _ (old new : Database) (touched : List ℕ) (only : OnlyTouches touched o
 
 -- a call on the catalogue's tables while rows are entered
 pub makes_entering : {S X : Type 0} (g : store.Ghosts S) (version : Version) (kept may kept_then may_then : Catalogue → Type 0) (made made_then : Catalogue → Catalogue) (touched : List ℕ) (before after : Held S) (r : Result X StoreFault)
-    → ((n : ℕ) (c : Catalogue) → may c → kept_then (at_next n c) × may_then (at_next n c)) → ((n : ℕ) (c : Catalogue) → may c → made_then (at_next n c) ≡ at_next n (made c))
-    → Updates g (RepresentsCatalogue version) kept_then before after r may_then made_then touched → Updates g (RepresentsEntering version) kept before after r may made touched
+    → ((n : ℕ) (c : Catalogue) → may c → kept_then (at_next n c) × may_then (at_next n c))
+    → ((n : ℕ) (c : Catalogue) → may c → made_then (at_next n c) ≡ at_next n (made c))
+    → Updates g (RepresentsCatalogue version) kept_then before after r may_then made_then touched
+    → Updates g (RepresentsEntering version) kept before after r may made touched
 makes_entering g version kept may kept_then may_then made made_then touched before after r serves same it =
     let new = state g after in
     record {
@@ -95,7 +83,8 @@ makes_valued {g = g} {version = version} {before = before} {after = after} {r = 
 
 -- the unit of a row, by the number that it gets
 abbrev pub unit_at : Bytes → Row → ℕ → Unit
-unit_at source row next = record { id = next; source = source; legacy = row.legacy; values = row.values; draft = not row.published; until = None }
+unit_at source row next =
+    record { id = next; source = source; legacy = row.legacy; values = row.values; draft = not row.published; until = None }
 
 -- it is entered, wherever it stands
 pub makes_new : {S X : Type 0} (g : store.Ghosts S) (version : Version) (source : Bytes) (row : Row) (next : ℕ) (before after : Held S) (r : Result X StoreFault)

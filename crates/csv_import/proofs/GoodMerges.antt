@@ -1,33 +1,14 @@
 -- A catalogue stays good where good rows are merged into it.
 use Rattle.std.proofs.Common.{◌≡◌, ◌+◌, ◌<◌, ◌≤◌, Bool, true, false, cond, not, List, [], ◌++◌, length, Ok, refl, sym, ap, subst, arith}
-use Rattle.std.specs.List.{flat_map, AllByRecursion}
-use Rattle.std.specs.Str.{bytes_eq}
-use Rattle.isad_core.specs.Boxes.{distinct}
-use Rattle.isad_core.specs.Limits.{most_units, most_unit_numbers}
-use Rattle.isad_core.specs.Texts.{Bytes}
-use Rattle.isad_core.specs.declared.values.BoxKey.{BoxKey}
-use Rattle.isad_core.specs.declared.values.Values.{Values}
 use Rattle.atom_csv.specs.FileProperties.{IsLegibleRow}
-use Rattle.atom_csv.specs.declared.file.Row.{Row}
-use Rattle.tree_core.specs.Forest.{Forest, nodes, size}
-use Rattle.catalogue_core.specs.GoodCatalogues.{AreGoodUnits, IsGoodUnit, IsSomeDay}
-use Rattle.catalogue_core.specs.GoodRows.{IsGoodRow}
 use Rattle.catalogue_core.specs.LegibleCatalogues.{IsLegibleCatalogue}
-use Rattle.catalogue_core.specs.CatalogueMerge.{Catalogue, New, faults_below, is_known, merge, merged, merged_boxes, merged_forest, new_unit, numbered_from, revised}
-use Rattle.catalogue_core.specs.Sources.{is_source}
-use Rattle.catalogue_core.specs.Units.{Unit}
 use Rattle.catalogue_core.proofs.AsciiTexts.{source_legible}
-use Rattle.catalogue_core.proofs.DistinctLists.{all_so}
-use Rattle.catalogue_core.proofs.EachOf.{all_and, all_filtered, all_true}
-use Rattle.catalogue_core.proofs.FileRows.{AreApartRows}
-use Rattle.catalogue_core.proofs.Imported.{first_ok, new_rows}
-use Rattle.catalogue_core.proofs.ImportedAgain.{all_merged, numbered_rows}
 use Rattle.catalogue_core.proofs.ImportedDepth.{merged_depth}
 use Rattle.catalogue_core.proofs.ImportedNumbers.{distinct_numbers, distinct_pairs}
 use Rattle.catalogue_core.proofs.ImportedValues.{AreGoodValues, all_told, good_new, good_revised}
 use Rattle.catalogue_core.proofs.LegibleMerges.{merged_legible}
 use Rattle.catalogue_core.proofs.Rooted.{revised_id}
-use Rattle.catalogue_core.proofs.UnitsAfter.{ids_between}
+use Rattle.csv_import.proofs.Common.{AllByRecursion, AreApartRows, AreGoodUnits, BoxKey, Bytes, Catalogue, Forest, IsGoodRow, IsGoodUnit, IsSomeDay, New, Row, Unit, Values, all_and, all_filtered, all_merged, all_so, all_true, bytes_eq, distinct, faults_below, first_ok, flat_map, ids_between, is_known, is_source, merge, merged, merged_boxes, merged_forest, most_unit_numbers, most_units, new_rows, new_unit, nodes, numbered_from, numbered_rows, revised, size}
 
 module _ (c : Catalogue) (source : Bytes) (rows : List Row) (good : AllByRecursion IsGoodRow rows) (once : AreApartRows rows) (g : AreGoodUnits c) (named : is_source source ≡ true) where
   abbrev news : List Row
@@ -69,7 +50,8 @@ module _ (c : Catalogue) (source : Bytes) (rows : List Row) (good : AllByRecursi
   abbrev made : Catalogue
   made = merged c source rows (numbered_from c.forest source c.next [] (new_rows c source rows))
 
-  good_units : faults_below c.forest source [] news ≡ [] → size forest ≤ most_units → c.next + length new ≤ most_unit_numbers + 1 → AreGoodUnits made
+  good_units : faults_below c.forest source [] news ≡ [] → size forest ≤ most_units
+      → c.next + length new ≤ most_unit_numbers + 1 → AreGoodUnits made
   good_units placed few numbers =
       record {
         each = all_good;
@@ -91,7 +73,8 @@ module _ (c : Catalogue) (source : Bytes) (rows : List Row) (good : AllByRecursi
         subst AreGoodUnits (sym it.1) (good_units it.0 room.0 room.1)
 
     -- closures stay, and new units have none
-    pub merged_days : AllByRecursion (λ (u : Unit). IsSomeDay u.until) (nodes c.forest) → AllByRecursion (λ (u : Unit). IsSomeDay u.until) (nodes after.forest)
+    pub merged_days : AllByRecursion (λ (u : Unit). IsSomeDay u.until) (nodes c.forest)
+        → AllByRecursion (λ (u : Unit). IsSomeDay u.until) (nodes after.forest)
     merged_days days =
         subst (λ (d : Catalogue). AllByRecursion (λ (u : Unit). IsSomeDay u.until) (nodes d.forest)) (sym it.1)
         (all_merged (λ (u : Unit). IsSomeDay u.until) source rows new c.forest (all_true (λ x. IsSomeDay (new_unit source x).until) (λ x. tt) new)
@@ -108,4 +91,5 @@ module _ (c : Catalogue) (source : Bytes) (rows : List Row) (good : AllByRecursi
     merged_boxes_are = ap (λ (d : Catalogue). d.containers) it.1
 
     pub legible_with : AllByRecursion IsLegibleRow rows → IsLegibleCatalogue c → IsLegibleCatalogue after
-    legible_with legible h = subst IsLegibleCatalogue (sym it.1) (merged_legible c source rows (source_legible source named) legible h)
+    legible_with legible h =
+        subst IsLegibleCatalogue (sym it.1) (merged_legible c source rows (source_legible source named) legible h)

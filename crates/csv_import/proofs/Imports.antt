@@ -1,72 +1,37 @@
 -- An office after the rows of a file were entered.
 use Rattle.std.proofs.Common.{◌≡◌, ℕ, zero, suc, ◌+◌, ◌<◌, ◌≤◌, Bool, true, false, ◌||◌, List, [], ◌∷◌, ◌++◌, length, map, Option, Some, None, Ok, sym, ap, subst, ◌∙◌, arith, append-nil, length-append, inl, inr}
-use Rattle.std.specs.Prelude.{filter_map, nat_le, nat_lt, option_map}
-use Rattle.std.specs.List.{AllByRecursion, cons_option, flat_map}
-use Rattle.std.specs.Option.{option_map_or}
-use Rattle.std.proofs.lemmas.Bool.{and_parts, cases_Bool, false≢true, le-ltb, leb-true}
-use Rattle.std.proofs.lemmas.List.{length-map}
 use Rattle.std.proofs.lemmas.List.Elements.{filter_map-append}
-use Rattle.std.proofs.lemmas.List.Sorted.{length_permutation}
-use Rattle.isad_core.specs.Boxes.{distinct}
-use Rattle.isad_core.specs.Limits.{most_containers, most_unit_numbers, most_units}
-use Rattle.isad_core.specs.Texts.{Bytes, is_blank_text}
-use Rattle.isad_core.specs.declared.values.BoxKey.{BoxKey}
-use Rattle.atom_csv.specs.FileContents.{file_of}
-use Rattle.atom_csv.specs.declared.file.File.{File}
-use Rattle.atom_csv.specs.declared.file.Row.{Row}
 use Rattle.atom_csv.proofs.LegibleFiles.{file_legible}
 use Rattle.atom_csv.proofs.ToldLemmas.{file_sound}
-use Rattle.tree_core.specs.Forest.{nodes, size}
-use Rattle.office_tables.specs.Versions.{Version}
 use Rattle.desk_core.specs.DeskRows.{HoldingRow}
 use Rattle.desk_core.specs.LegibleDesks.{IsLegible}
-use Rattle.desk_core.specs.Refusals.{first_that_holds, unless, when}
 use Rattle.desk_core.specs.declared.reader.Place.TheVariants.{Shelf}
-use Rattle.desk_core.specs.declared.refusal.Refusal.TheVariants.{BadName, Full}
-use Rattle.catalogue_core.specs.GoodCatalogues.{AreGoodContainers, AreGoodUnits, IsSomeDay}
-use Rattle.catalogue_core.specs.Intake.{Taken, is_full, is_same, same_values, unit_of, with_file}
+use Rattle.catalogue_core.specs.Intake.{is_same}
 use Rattle.catalogue_core.specs.LegibleCatalogues.{IsLegibleCatalogue}
-use Rattle.catalogue_core.specs.CatalogueMerge.{Catalogue, New, merge, merged, new_unit, numbered_from, or_first, revised}
-use Rattle.catalogue_core.specs.EntryByRow.{with_rows}
-use Rattle.catalogue_core.specs.Sources.{is_source}
-use Rattle.catalogue_core.specs.Units.{Unit}
-use Rattle.catalogue_core.proofs.DistinctLists.{all_so}
-use Rattle.catalogue_core.proofs.EachOf.{all_append, all_distinct}
-use Rattle.catalogue_core.proofs.FileRows.{apart_rows}
 use Rattle.catalogue_core.proofs.GoodRows.{good_rows}
-use Rattle.catalogue_core.proofs.Imported.{boxes_grow, distinct_again, new_boxes}
-use Rattle.catalogue_core.proofs.ImportedAgain.{has_taken, rows_same}
-use Rattle.catalogue_core.proofs.KeptCatalogues.{kept, knows}
 use Rattle.catalogue_core.proofs.MergedNodes.{merged_nodes}
 use Rattle.catalogue_core.proofs.NamedBoxes.{named_all, named_from, named_told}
 use Rattle.catalogue_core.proofs.NodeLemmas.{length-nodes}
-use Rattle.catalogue_core.proofs.RowsMerged.{row_by_row, taken_row_by_row}
 use Rattle.catalogue_core.proofs.UnitsAfter.{length-numbered}
-use Rattle.office_core.specs.ImportReply.{bad_file, too_much}
 use Rattle.office_core.specs.ImportReply as reply
-use Rattle.office_core.specs.Rules.{after, gate, imported, refusal, intake_of, result_of}
-use Rattle.office_core.specs.SoundOffice.{AreTexts, IsSoundOffice}
-use Rattle.office_core.specs.State.{State, is_container}
+use Rattle.office_core.specs.State.{State}
 use Rattle.office_core.specs.Words.{numbers_to}
 use Rattle.office_core.specs.declared.command.Command.TheVariants as command
-use Rattle.office_core.proofs.KeptOffices.{office_settings}
 use Rattle.office_core.proofs.Words.{numbered_within}
 use Rattle.state_encoding.specs.DeskEncoding.{holding_row, holding_rows}
 use Rattle.state_encoding.specs.OfficeRows.{tables}
 use Rattle.state_encoding.proofs.LegibleRows.{desk_legible}
 use Rattle.refinement.specs.AccessConditions.{CanBeJudged}
 use Rattle.refinement.proofs.Judged.{distinct_ids, orders_there}
-use Rattle.csv_import.specs.RowEntry.{CanEnter, counts_of, catalogue_after, or_as_before}
-use Rattle.csv_import.specs.CatalogueImport.{FitsIn, HasImported, told_of}
-use Rattle.csv_import.specs.RowPlan.{new_of}
-use Rattle.csv_import.specs.Remarks.{HasEntered, HasItsUnit}
+use Rattle.csv_import.proofs.Common.{AllByRecursion, AreGoodContainers, AreGoodUnits, AreTexts, BadName, BoxKey, Bytes, CanEnter, Catalogue, File, FitsIn, Full, HasEntered, HasImported, HasItsUnit, IsSomeDay, IsSoundOffice, New, Row, Taken, Unit, Version, after, all_append, all_distinct, all_so, and_parts, apart_rows, bad_file, boxes_grow, cases_Bool, catalogue_after, cons_option, counts_of, distinct, distinct_again, false≢true, file_of, filter_map, first_that_holds, flat_map, gate, has_taken, imported, intake_of, is_blank_text, is_container, is_full, is_source, kept, knows, le-ltb, leb-true, length-map, length_permutation, merge, merged, most_containers, most_unit_numbers, most_units, nat_le, nat_lt, new_boxes, new_of, new_unit, nodes, numbered_from, office_settings, option_map, option_map_or, or_as_before, or_first, refusal, result_of, revised, row_by_row, rows_same, same_values, size, taken_row_by_row, told_of, too_much, unit_of, unless, when, with_file, with_rows}
 use Rattle.csv_import.proofs.FileBounds.{file_bounded}
 use Rattle.csv_import.proofs.GoodMerges.{legible_with, merged_days, merged_good}
 use Rattle.csv_import.proofs.SameValues.{one_description}
 
 -- ---- containers that come are on the shelf
 
-none_more : {Y : Type 0} (f : ℕ → Option Y) (n m : ℕ) → ((k : ℕ) → n < k → f k ≡ None) → filter_map f (numbers_to (n + m)) ≡ filter_map f (numbers_to n)
+none_more : {Y : Type 0} (f : ℕ → Option Y) (n m : ℕ) → ((k : ℕ) → n < k → f k ≡ None)
+    → filter_map f (numbers_to (n + m)) ≡ filter_map f (numbers_to n)
 none_more f n zero h = ap (λ k. filter_map f (numbers_to k)) (let e : n + 0 ≡ n = omega arith in e)
 none_more f n (suc m) h =
     ap (λ k. filter_map f (numbers_to k)) (let e : n + suc m ≡ suc (n + m) = omega arith in e)
@@ -91,7 +56,8 @@ module _ (s : State) (made : Catalogue) (more : List BoxKey) (grown : made.conta
 
 -- ---- units that come
 
-pub merged_size : (c : Catalogue) (source : Bytes) (rows news : List Row) → AreGoodUnits c → size (merged c source rows (numbered_from c.forest source c.next [] news)).forest ≡ size c.forest + length news
+pub merged_size : (c : Catalogue) (source : Bytes) (rows news : List Row) → AreGoodUnits c
+    → size (merged c source rows (numbered_from c.forest source c.next [] news)).forest ≡ size c.forest + length news
 merged_size c source rows news g =
     let new : List New = numbered_from c.forest source c.next [] news in
     let old : List Unit = map (revised source rows) (nodes c.forest) in
@@ -107,7 +73,9 @@ merged_size c source rows news g =
     let i = length-nodes c.forest in
     omega (arith, a, b, d, e, f, h, i)
 
-its_unit : (source : Bytes) (r : Option Unit) (row : Row) → option_map_or (λ (unit : Unit). same_values unit.values row.values) r false ≡ true → option_map (λ (unit : Unit). unit.values) r ≡ Some row.values
+its_unit : (source : Bytes) (r : Option Unit) (row : Row)
+    → option_map_or (λ (unit : Unit). same_values unit.values row.values) r false ≡ true
+    → option_map (λ (unit : Unit). unit.values) r ≡ Some row.values
 its_unit source None row e = absurd (false≢true e)
 its_unit source (Some unit) row e = ap Some (one_description unit.values row.values e)
 

@@ -1,61 +1,56 @@
 -- The units of a file's rows and their parents, known by their numbers in the source, and known still as rows are entered.
 use Rattle.std.proofs.Common.{◌≡◌, ℕ, Bool, true, false, cond, ◌&&◌, ◌||◌, ◌<◌, ◌+◌, length, get_or, List, [], ◌∷◌, Option, Some, None, refl, sym, ap, ◌∙◌, subst}
-use Rattle.std.specs.Prelude.{IfSome, find, drop, is_some, option_map}
-use Rattle.std.specs.List.{AllByRecursion}
-use Rattle.std.specs.Str.{bytes_eq}
-use Rattle.std.proofs.lemmas.Bool.{false≢true}
-use Rattle.std.proofs.lemmas.List.{drop_more}
-use Rattle.sqlite_trees.proofs.ListLemmas.{all-get_or}
-use Rattle.isad_core.specs.Texts.{Bytes}
-use Rattle.isad_core.specs.declared.values.Values.{Values}
-use Rattle.atom_csv.specs.declared.file.Row.{Row}
-use Rattle.tree_core.specs.Forest.{nodes}
-use Rattle.catalogue_core.specs.Descriptions.{with_values}
-use Rattle.catalogue_core.specs.CatalogueMerge.{Catalogue, is_known, new_unit}
-use Rattle.catalogue_core.specs.EntryByRow.{new_at, number_there, with_new}
-use Rattle.catalogue_core.specs.Units.{Unit, has_id, is_from}
-use Rattle.catalogue_core.proofs.DistinctLists.{all_so}
-use Rattle.catalogue_core.proofs.EachOf.{none_found, some_found}
-use Rattle.catalogue_core.proofs.EnteredUnits.{alike_each, same_added}
-use Rattle.catalogue_core.proofs.ImportedAgain.{one_text}
-use Rattle.csv_import.specs.RowEntry.{catalogue_after}
-use Rattle.csv_import.specs.KnownUnits.{IsAsked, KnowsAsked, KnowsUnits, TellsParentOfNew, TellsUnits}
-use Rattle.csv_import.specs.Turns.{AreToCome, IsTurn}
+use Rattle.std.specs.Prelude.{IfSome, drop}
+use Rattle.catalogue_core.proofs.EachOf.{none_found}
+use Rattle.csv_import.proofs.Common.{AllByRecursion, AreToCome, Bytes, Catalogue, IsAsked, IsTurn, KnowsAsked, KnowsUnits, Row, TellsParentOfNew, TellsUnits, Unit, Values, alike_each, all-get_or, all_so, bytes_eq, catalogue_after, drop_more, false≢true, find, has_id, is_from, is_known, is_some, new_at, new_unit, nodes, number_there, one_text, option_map, same_added, some_found, with_new, with_values}
 use Rattle.csv_import.proofs.OneRow.{entered_known, entered_new}
 use Rattle.csv_import.proofs.RowsToCome.{one_entered}
 
 -- a unit is catalogued where it has a number
-pub is_known_by : (c : Catalogue) (source : Bytes) (row : Row) → is_some (number_there c source row.legacy) ≡ is_known c.forest source row
+pub is_known_by : (c : Catalogue) (source : Bytes) (row : Row)
+    → is_some (number_there c source row.legacy) ≡ is_known c.forest source row
 is_known_by c source row = at (find (is_from source row.legacy) (nodes c.forest)) refl
   where
-    at : (r : Option Unit) → find (is_from source row.legacy) (nodes c.forest) ≡ r → is_some (number_there c source row.legacy) ≡ is_known c.forest source row
-    at None e = ap (λ (u : Option Unit). is_some (option_map (λ (v : Unit). v.id) u)) e ∙ sym (none_found (is_from source row.legacy) (nodes c.forest) e)
-    at (Some v) e = ap (λ (u : Option Unit). is_some (option_map (λ (v : Unit). v.id) u)) e ∙ sym (some_found (is_from source row.legacy) (nodes c.forest) v e)
+    at : (r : Option Unit) → find (is_from source row.legacy) (nodes c.forest) ≡ r
+        → is_some (number_there c source row.legacy) ≡ is_known c.forest source row
+    at None e =
+        ap (λ (u : Option Unit). is_some (option_map (λ (v : Unit). v.id) u)) e
+        ∙ sym (none_found (is_from source row.legacy) (nodes c.forest) e)
+    at (Some v) e =
+        ap (λ (u : Option Unit). is_some (option_map (λ (v : Unit). v.id) u)) e
+        ∙ sym (some_found (is_from source row.legacy) (nodes c.forest) v e)
 
 pub none_known : (o : Option ℕ) → is_some o ≡ false → o ≡ None
 none_known None e = refl
 none_known (Some id) e = absurd (false≢true (sym e))
 
 -- what is told of the row at this index
-pub told_at : (c : Catalogue) (source : Bytes) (rows : List Row) (numbers : Bytes → Option ℕ) (i : ℕ) (row : Row) → i < length rows → get_or rows i row ≡ row → TellsUnits c source rows numbers → numbers row.legacy ≡ number_there c source row.legacy
+pub told_at : (c : Catalogue) (source : Bytes) (rows : List Row) (numbers : Bytes → Option ℕ) (i : ℕ) (row : Row)
+    → i < length rows → get_or rows i row ≡ row → TellsUnits c source rows numbers
+    → numbers row.legacy ≡ number_there c source row.legacy
 told_at c source rows numbers i row low is told =
     subst (λ (r : Row). numbers r.legacy ≡ number_there c source r.legacy) is (all-get_or (λ (r : Row). numbers r.legacy ≡ number_there c source r.legacy) rows i row told low)
 
 -- and of those after it
-pub told_here : (c : Catalogue) (source : Bytes) (rows : List Row) (numbers : Bytes → Option ℕ) (i : ℕ) (row : Row) → i < length rows → get_or rows i row ≡ row → TellsUnits c source (drop i rows) numbers
+pub told_here : (c : Catalogue) (source : Bytes) (rows : List Row) (numbers : Bytes → Option ℕ) (i : ℕ) (row : Row)
+    → i < length rows → get_or rows i row ≡ row → TellsUnits c source (drop i rows) numbers
     → (numbers row.legacy ≡ number_there c source row.legacy) × TellsUnits c source (drop (i + 1) rows) numbers
 told_here c source rows numbers i row low is told =
     subst (λ rest. TellsUnits c source rest numbers) (drop_more rows i row low ∙ ap (λ (r : Row). r ∷ drop (i + 1) rows) is) told
 
 -- the parent of the row at this index
-pub parent_at : (c : Catalogue) (source : Bytes) (rows : List Row) (numbers : Bytes → Option ℕ) (i : ℕ) (row : Row) → i < length rows → get_or rows i row ≡ row → AllByRecursion (TellsParentOfNew c source numbers) rows → TellsParentOfNew c source numbers row
-parent_at c source rows numbers i row low is told = subst (TellsParentOfNew c source numbers) is (all-get_or (TellsParentOfNew c source numbers) rows i row told low)
+pub parent_at : (c : Catalogue) (source : Bytes) (rows : List Row) (numbers : Bytes → Option ℕ) (i : ℕ) (row : Row)
+    → i < length rows → get_or rows i row ≡ row → AllByRecursion (TellsParentOfNew c source numbers) rows
+    → TellsParentOfNew c source numbers row
+parent_at c source rows numbers i row low is told =
+    subst (TellsParentOfNew c source numbers) is (all-get_or (TellsParentOfNew c source numbers) rows i row told low)
 
 -- ---- they become known one after another
 
 module _ (c : Catalogue) (source : Bytes) where
   -- nothing was asked for yet
-  pub asked_nothing : (asked : Bytes → Bool) (numbers : Bytes → Option ℕ) → ((q : Bytes) → asked q ≡ false) → ((q : Bytes) → numbers q ≡ None) → KnowsAsked c source asked numbers
+  pub asked_nothing : (asked : Bytes → Bool) (numbers : Bytes → Option ℕ) → ((q : Bytes) → asked q ≡ false)
+      → ((q : Bytes) → numbers q ≡ None) → KnowsAsked c source asked numbers
   asked_nothing asked numbers unasked none = record {
     right = λ q. subst (λ o. IfSome o (λ n. number_there c source q ≡ Some n)) (sym (none q)) tt;
     told = λ q yes. absurd (false≢true (sym (unasked q) ∙ yes));
@@ -70,7 +65,8 @@ module _ (c : Catalogue) (source : Bytes) where
       told = λ q yes. at q (bytes_eq q legacy) refl (sym (more q) ∙ yes);
     }
       where
-        at : (q : Bytes) (b : Bool) → bytes_eq q legacy ≡ b → (b || asked q) ≡ true → numbers q ≡ number_there c source q
+        at : (q : Bytes) (b : Bool) → bytes_eq q legacy ≡ b → (b || asked q) ≡ true
+            → numbers q ≡ number_there c source q
         at q true e h = before.told q (ap asked (one_text q legacy e) ∙ was)
         at q false e h = before.told q h
 
@@ -81,16 +77,19 @@ module _ (c : Catalogue) (source : Bytes) where
       told = λ q yes. at q (bytes_eq q legacy) refl (sym (more q) ∙ yes);
     }
       where
-        none : (q : Bytes) (o : Option ℕ) → IfSome o (λ n. number_there c source q ≡ Some n) → None ≡ number_there c source q → o ≡ number_there c source q
+        none : (q : Bytes) (o : Option ℕ) → IfSome o (λ n. number_there c source q ≡ Some n)
+            → None ≡ number_there c source q → o ≡ number_there c source q
         none q None h e = e
         none q (Some n) h e = absurd (let clash : None ≡ Some n = e ∙ h in cc)
 
-        at : (q : Bytes) (b : Bool) → bytes_eq q legacy ≡ b → (b || asked q) ≡ true → numbers q ≡ number_there c source q
+        at : (q : Bytes) (b : Bool) → bytes_eq q legacy ≡ b → (b || asked q) ≡ true
+            → numbers q ≡ number_there c source q
         at q true e h = none q (numbers q) (before.right q) (is ∙ ap (number_there c source) (sym (one_text q legacy e)))
         at q false e h = before.told q h
 
     -- it is catalogued
-    pub asked_and_found : (after : Bytes → Option ℕ) (unit : ℕ) → Some unit ≡ number_there c source legacy → ((q : Bytes) → after q ≡ cond (bytes_eq q legacy) (Some unit) (numbers q)) → KnowsAsked c source later after
+    pub asked_and_found : (after : Bytes → Option ℕ) (unit : ℕ) → Some unit ≡ number_there c source legacy
+        → ((q : Bytes) → after q ≡ cond (bytes_eq q legacy) (Some unit) (numbers q)) → KnowsAsked c source later after
     asked_and_found after unit is kept = record {
       right = λ q. subst (λ o. IfSome o (λ n. number_there c source q ≡ Some n)) (sym (kept q)) (right_at q (bytes_eq q legacy) refl);
       told = λ q yes. kept q ∙ at q (bytes_eq q legacy) refl (sym (more q) ∙ yes);
@@ -99,22 +98,26 @@ module _ (c : Catalogue) (source : Bytes) where
         there : (q : Bytes) → bytes_eq q legacy ≡ true → Some unit ≡ number_there c source q
         there q e = is ∙ ap (number_there c source) (sym (one_text q legacy e))
 
-        right_at : (q : Bytes) (b : Bool) → bytes_eq q legacy ≡ b → IfSome (cond b (Some unit) (numbers q)) (λ n. number_there c source q ≡ Some n)
+        right_at : (q : Bytes) (b : Bool) → bytes_eq q legacy ≡ b
+            → IfSome (cond b (Some unit) (numbers q)) (λ n. number_there c source q ≡ Some n)
         right_at q true e = sym (there q e)
         right_at q false e = before.right q
 
-        at : (q : Bytes) (b : Bool) → bytes_eq q legacy ≡ b → (b || asked q) ≡ true → cond b (Some unit) (numbers q) ≡ number_there c source q
+        at : (q : Bytes) (b : Bool) → bytes_eq q legacy ≡ b → (b || asked q) ≡ true
+            → cond b (Some unit) (numbers q) ≡ number_there c source q
         at q true e h = there q e
         at q false e h = before.told q h
 
   -- ---- a row and its parent
 
-  if_asked : (asked later : Bytes → Bool) → ((q : Bytes) → asked q ≡ true → later q ≡ true) → (p : Option Bytes) → IfSome p (λ parent. asked parent ≡ true) → IfSome p (λ parent. later parent ≡ true)
+  if_asked : (asked later : Bytes → Bool) → ((q : Bytes) → asked q ≡ true → later q ≡ true) → (p : Option Bytes)
+      → IfSome p (λ parent. asked parent ≡ true) → IfSome p (λ parent. later parent ≡ true)
   if_asked asked later more None h = tt
   if_asked asked later more (Some parent) h = more parent h
 
   -- what was asked for stays asked for
-  pub still_asked : (asked later : Bytes → Bool) → ((q : Bytes) → asked q ≡ true → later q ≡ true) → (rows : List Row) → AllByRecursion (IsAsked c source asked) rows → AllByRecursion (IsAsked c source later) rows
+  pub still_asked : (asked later : Bytes → Bool) → ((q : Bytes) → asked q ≡ true → later q ≡ true) → (rows : List Row)
+      → AllByRecursion (IsAsked c source asked) rows → AllByRecursion (IsAsked c source later) rows
   still_asked asked later more rows all =
       all_so (IsAsked c source asked) (IsAsked c source later) (λ row it. record { unit = more row.legacy it.unit; parent = λ new. if_asked asked later more row.parent (it.parent new) }) rows all
 
@@ -122,25 +125,30 @@ module _ (c : Catalogue) (source : Bytes) where
   IsTold numbers row = numbers row.legacy ≡ number_there c source row.legacy
 
   -- all rows were asked for
-  pub all_known : (asked : Bytes → Bool) (numbers : Bytes → Option ℕ) (rows : List Row) → KnowsAsked c source asked numbers → AllByRecursion (IsAsked c source asked) rows → KnowsUnits c source rows numbers
+  pub all_known : (asked : Bytes → Bool) (numbers : Bytes → Option ℕ) (rows : List Row)
+      → KnowsAsked c source asked numbers → AllByRecursion (IsAsked c source asked) rows
+      → KnowsUnits c source rows numbers
   all_known asked numbers rows it all = record {
     sound = it.right;
     each = all_so (IsAsked c source asked) (IsTold numbers) (λ row h. it.told row.legacy h.unit) rows all;
     parents = all_so (IsAsked c source asked) (TellsParentOfNew c source numbers) (λ row h new. parent_told row.parent (h.parent new)) rows all;
   }
     where
-      parent_told : (p : Option Bytes) → IfSome p (λ parent. asked parent ≡ true) → IfSome p (λ parent. numbers parent ≡ number_there c source parent)
+      parent_told : (p : Option Bytes) → IfSome p (λ parent. asked parent ≡ true)
+          → IfSome p (λ parent. numbers parent ≡ number_there c source parent)
       parent_told None h = tt
       parent_told (Some parent) h = it.told parent h
 
 -- ---- they stay known
 
 -- a unit that takes other values keeps its number, and so do all others
-pub valued_still : (id : ℕ) (values : Values) (c : Catalogue) (source legacy : Bytes) → number_there (with_values id values c) source legacy ≡ number_there c source legacy
+pub valued_still : (id : ℕ) (values : Values) (c : Catalogue) (source legacy : Bytes)
+    → number_there (with_values id values c) source legacy ≡ number_there c source legacy
 valued_still id values c source legacy =
     (alike_each (is_from source legacy) (λ u. cond (has_id id u) (record u { values = values }) u) (λ u. same (has_id id u) u) (λ u. number (has_id id u) u) c.forest).number
   where
-    same : (b : Bool) (u : Unit) → is_from source legacy (cond b (record u { values = values }) u) ≡ is_from source legacy u
+    same : (b : Bool) (u : Unit)
+        → is_from source legacy (cond b (record u { values = values }) u) ≡ is_from source legacy u
     same true u = refl
     same false u = refl
 
@@ -153,24 +161,33 @@ and_no true b h = h
 and_no false b h = refl
 
 -- of another number, a new unit says nothing
-others_still : (source : Bytes) (row : Row) (c : Catalogue) (legacy : Bytes) → bytes_eq row.legacy legacy ≡ false → number_there (with_new source row c) source legacy ≡ number_there c source legacy
+others_still : (source : Bytes) (row : Row) (c : Catalogue) (legacy : Bytes) → bytes_eq row.legacy legacy ≡ false
+    → number_there (with_new source row c) source legacy ≡ number_there c source legacy
 others_still source row c legacy other =
     ap (option_map (λ (u : Unit). u.id))
     (same_added (is_from source legacy) (new_unit source (new_at c source row)) (and_no (bytes_eq source source) (bytes_eq row.legacy legacy) other) (new_at c source row).parent c.forest).found
 
-pub number_still : (source : Bytes) (row : Row) (next : ℕ) (c : Catalogue) → IsTurn source row next c → (legacy : Bytes) → bytes_eq row.legacy legacy ≡ false
+pub number_still : (source : Bytes) (row : Row) (next : ℕ) (c : Catalogue) → IsTurn source row next c → (legacy : Bytes)
+    → bytes_eq row.legacy legacy ≡ false
     → number_there (catalogue_after source (row ∷ []) c) source legacy ≡ number_there c source legacy
 number_still source row next c turn legacy other = at (number_there c source row.legacy) refl
   where
-    at : (r : Option ℕ) → number_there c source row.legacy ≡ r → number_there (catalogue_after source (row ∷ []) c) source legacy ≡ number_there c source legacy
-    at (Some id) e = ap (λ d. number_there d source legacy) (entered_known source row next c turn id e) ∙ valued_still id row.values c source legacy
-    at None e = ap (λ d. number_there d source legacy) (entered_new source row next c turn e) ∙ others_still source row c legacy other
+    at : (r : Option ℕ) → number_there c source row.legacy ≡ r
+        → number_there (catalogue_after source (row ∷ []) c) source legacy ≡ number_there c source legacy
+    at (Some id) e =
+        ap (λ d. number_there d source legacy) (entered_known source row next c turn id e)
+        ∙ valued_still id row.values c source legacy
+    at None e =
+        ap (λ d. number_there d source legacy) (entered_new source row next c turn e)
+        ∙ others_still source row c legacy other
 
 -- the units of the rows that are still to come
-pub known_still : (source : Bytes) (row : Row) (rows : List Row) (next : ℕ) (c : Catalogue) (numbers : Bytes → Option ℕ) → AreToCome source (row ∷ rows) next c
+pub known_still : (source : Bytes) (row : Row) (rows : List Row) (next : ℕ) (c : Catalogue) (numbers : Bytes → Option ℕ)
+    → AreToCome source (row ∷ rows) next c
     → TellsUnits c source rows numbers → TellsUnits (catalogue_after source (row ∷ []) c) source rows numbers
 known_still source row rows next c numbers come it = each rows come.told.once.0 it
   where
-    each : (rest : List Row) → AllByRecursion (λ (r : Row). bytes_eq row.legacy r.legacy ≡ false) rest → TellsUnits c source rest numbers → TellsUnits (catalogue_after source (row ∷ []) c) source rest numbers
+    each : (rest : List Row) → AllByRecursion (λ (r : Row). bytes_eq row.legacy r.legacy ≡ false) rest
+        → TellsUnits c source rest numbers → TellsUnits (catalogue_after source (row ∷ []) c) source rest numbers
     each [] h k = tt
     each (r ∷ rest) h k = (k.0 ∙ sym (number_still source row next c (one_entered source row rows next c come).turn r.legacy h.0), each rest h.1 k.1)

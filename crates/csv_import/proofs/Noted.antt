@@ -1,8 +1,6 @@
 -- Numbers in a source that are noted.
 use Rattle.std.proofs.Common.{◌≡◌, Bool, true, false, cond, ◌||◌, refl, sym, ap, ◌∙◌}
-use Rattle.std.specs.Str.{bytes_eq}
-use Rattle.isad_core.specs.Texts.{Bytes}
-use Rattle.catalogue_core.proofs.ImportedAgain.{one_text, other_way, same_text}
+use Rattle.csv_import.proofs.Common.{Bytes, bytes_eq, one_text, other_way, same_text}
 
 -- one that is added, or was there
 pub added_or_there : (added q : Bytes) (there : Bool) → cond (bytes_eq added q) true there ≡ (bytes_eq q added || there)

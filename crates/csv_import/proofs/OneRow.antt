@@ -1,26 +1,11 @@
 -- A row that is placed: its unit is there, or comes below a parent that is.
-use Rattle.std.proofs.Common.{◌≡◌, ◌<◌, ◌≤◌, ℕ, Bool, true, false, cond, ◌&&◌, ◌||◌, ◌+◌, ◌^◌, length, inl, inr, List, [], ◌∷◌, Option, Some, None, Ok, refl, sym, ap, ap₂, ◌∙◌, subst, arith}
-use Rattle.std.specs.Prelude.{find, map, option_and_then, option_map}
-use Rattle.std.specs.List.{AllByRecursion, list_any}
-use Rattle.std.proofs.lemmas.Bool.{and_parts, eqb-true, false≢true, ne_eqb, or_cases, or_parts}
-use Rattle.isad_core.specs.Texts.{Bytes}
-use Rattle.atom_csv.specs.declared.file.Row.{Row}
-use Rattle.tree_core.specs.Forest.{has, has_place, nodes, path}
-use Rattle.catalogue_core.specs.Descriptions.{AreWhole, with_values}
+use Rattle.std.proofs.Common.{◌≡◌, ◌<◌, ◌≤◌, ℕ, Bool, true, false, cond, ◌&&◌, ◌||◌, ◌+◌, length, inl, inr, List, [], ◌∷◌, Option, Some, None, Ok, refl, sym, ap, ap₂, ◌∙◌, subst, arith}
+use Rattle.std.specs.Prelude.{map}
 use Rattle.catalogue_core.specs.UnitLookup.{FindsUnit}
-use Rattle.catalogue_core.specs.GoodCatalogues.{AreGoodUnits}
-use Rattle.catalogue_core.specs.GoodRows.{IsGoodRow}
-use Rattle.catalogue_core.specs.CatalogueMerge.{Catalogue, box_number, cause_at, new_unit}
-use Rattle.catalogue_core.specs.EntryByRow.{and_then, depth_there, new_at, number_there, unless_cause, with_new, with_row_at, with_rows}
-use Rattle.catalogue_core.specs.Units.{Unit, has_id, is_from}
-use Rattle.catalogue_core.proofs.EachOf.{all_of_found, none_found, some_found}
-use Rattle.catalogue_core.proofs.EachRow.{found_numbers}
-use Rattle.catalogue_core.proofs.EnteredUnits.{find_none}
-use Rattle.catalogue_core.proofs.UnitsAfter.{each_there}
+use Rattle.catalogue_core.proofs.EachOf.{none_found}
 use Rattle.catalogue_store.specs.UnitValues.{values_of}
 use Rattle.catalogue_store.specs.declared.unit_values.UnitValues.{UnitValues}
-use Rattle.csv_import.specs.RowEntry.{catalogue_after, or_as_before}
-use Rattle.csv_import.specs.Turns.{IsTurn, MayChange, MayCome}
+use Rattle.csv_import.proofs.Common.{AllByRecursion, AreGoodUnits, AreWhole, Bytes, Catalogue, IsGoodRow, IsTurn, MayChange, MayCome, Row, Unit, all_of_found, and_parts, and_then, box_number, catalogue_after, cause_at, depth_there, each_there, eqb-true, false≢true, find, find_none, found_numbers, has, has_id, has_place, is_from, list_any, ne_eqb, new_at, new_unit, nodes, number_there, option_and_then, option_map, or_as_before, or_cases, or_parts, path, some_found, unless_cause, with_new, with_row_at, with_rows, with_values}
 
 -- ---- the unit with a number in a source
 
@@ -39,10 +24,12 @@ none_is : (is : Unit → Bool) (us : List Unit) → list_any is us ≡ false →
 none_is is [] h = tt
 none_is is (u ∷ us) h = let r = or_parts (is u) (list_any is us) h in (r.0, none_is is us r.1)
 
-pub is_found : (c : Catalogue) (source legacy : Bytes) (id : ℕ) → AreGoodUnits c → number_there c source legacy ≡ Some id → IsFound c source legacy id
+pub is_found : (c : Catalogue) (source legacy : Bytes) (id : ℕ) → AreGoodUnits c
+    → number_there c source legacy ≡ Some id → IsFound c source legacy id
 is_found c source legacy id good e = at (find (is_from source legacy) (nodes c.forest)) refl e
   where
-    at : (r : Option Unit) → find (is_from source legacy) (nodes c.forest) ≡ r → option_map (λ (u : Unit). u.id) r ≡ Some id → IsFound c source legacy id
+    at : (r : Option Unit) → find (is_from source legacy) (nodes c.forest) ≡ r
+        → option_map (λ (u : Unit). u.id) r ≡ Some id → IsFound c source legacy id
     at None f k = absurd (cc)
     at (Some v) f k =
         let number : v.id ≡ id = cc in
@@ -54,15 +41,18 @@ is_found c source legacy id good e = at (find (is_from source legacy) (nodes c.f
           by_number = same_find (has_id id) (is_from source legacy) (nodes c.forest) alike ∙ f;
         }
 
-pub none_there : (c : Catalogue) (source legacy : Bytes) → number_there c source legacy ≡ None → find (is_from source legacy) (nodes c.forest) ≡ None
+pub none_there : (c : Catalogue) (source legacy : Bytes) → number_there c source legacy ≡ None
+    → find (is_from source legacy) (nodes c.forest) ≡ None
 none_there c source legacy e = at (find (is_from source legacy) (nodes c.forest)) refl e
   where
-    at : (r : Option Unit) → find (is_from source legacy) (nodes c.forest) ≡ r → option_map (λ (u : Unit). u.id) r ≡ None → find (is_from source legacy) (nodes c.forest) ≡ None
+    at : (r : Option Unit) → find (is_from source legacy) (nodes c.forest) ≡ r
+        → option_map (λ (u : Unit). u.id) r ≡ None → find (is_from source legacy) (nodes c.forest) ≡ None
     at None f k = f
     at (Some v) f k = absurd (cc)
 
 -- a unit that is found by its number in the source has this number
-finds_it : (is : Unit → Bool) (us : List Unit) (v : Unit) (id : ℕ) → AllByRecursion (λ (u : Unit). has_id v.id u ≡ is u) us → list_any (λ u. is u && has_id id u) us ≡ true → id ≡ v.id
+finds_it : (is : Unit → Bool) (us : List Unit) (v : Unit) (id : ℕ)
+    → AllByRecursion (λ (u : Unit). has_id v.id u ≡ is u) us → list_any (λ u. is u && has_id id u) us ≡ true → id ≡ v.id
 finds_it is [] v id h e = absurd (false≢true e)
 finds_it is (u ∷ us) v id h e =
     elim (or_cases (is u && has_id id u) (list_any (λ u. is u && has_id id u) us) e) [
@@ -72,27 +62,21 @@ finds_it is (u ∷ us) v id h e =
       | inr later ↦ finds_it is us v id h.1 later
     ]
 
-none_passes : (p q : Unit → Bool) (us : List Unit) → AllByRecursion (λ u. p u ≡ false) us → list_any (λ u. p u && q u) us ≡ true → false ≡ true
+none_passes : (p q : Unit → Bool) (us : List Unit) → AllByRecursion (λ u. p u ≡ false) us
+    → list_any (λ u. p u && q u) us ≡ true → false ≡ true
 none_passes p q [] h e = e
 none_passes p q (u ∷ us) h e = none_passes p q us h.1 (sym (ap (λ (b : Bool). (b && q u) || list_any (λ u. p u && q u) us) h.0) ∙ e)
 
-pub finds_number : (c : Catalogue) (source legacy : Bytes) (found : Option ℕ) → AreGoodUnits c → FindsUnit (is_from source legacy) c.forest found → found ≡ number_there c source legacy
-finds_number c source legacy None good h = sym (ap (option_map (λ (u : Unit). u.id)) (find_none (is_from source legacy) (nodes c.forest) h))
+pub finds_number : (c : Catalogue) (source legacy : Bytes) (found : Option ℕ) → AreGoodUnits c
+    → FindsUnit (is_from source legacy) c.forest found → found ≡ number_there c source legacy
+finds_number c source legacy None good h =
+    sym (ap (option_map (λ (u : Unit). u.id)) (find_none (is_from source legacy) (nodes c.forest) h))
 finds_number c source legacy (Some id) good h = at (find (is_from source legacy) (nodes c.forest)) refl
   where
-    at : (r : Option Unit) → find (is_from source legacy) (nodes c.forest) ≡ r → Some id ≡ option_map (λ (u : Unit). u.id) r
+    at : (r : Option Unit) → find (is_from source legacy) (nodes c.forest) ≡ r
+        → Some id ≡ option_map (λ (u : Unit). u.id) r
     at None f = absurd (false≢true (none_passes (is_from source legacy) (has_id id) (nodes c.forest) (none_is (is_from source legacy) (nodes c.forest) (none_found (is_from source legacy) (nodes c.forest) f)) h))
     at (Some v) f = ap Some (finds_it (is_from source legacy) (nodes c.forest) v id (found_numbers source legacy (nodes c.forest) v good.ids good.pairs f) h)
-
--- its number was given, so that it is low
-pub low_number : (c : Catalogue) (source legacy : Bytes) (id : ℕ) → AreGoodUnits c → Some id ≡ number_there c source legacy → id < 2 ^ 62
-low_number c source legacy id good e =
-    let it = is_found c source legacy id good (sym e) in
-    let given = all_of_found (λ (u : Unit). (1 ≤ u.id) × (u.id < c.next)) (is_from source legacy) (nodes c.forest) it.unit it.by_source good.given in
-    let number = it.number in
-    let low = given.1 in
-    let top = good.next.1 in
-    omega (arith, number, low, top)
 
 -- ---- a row of a unit that is there
 
@@ -100,7 +84,8 @@ whole_row : (row : Row) → IsGoodRow row → AreWhole row.values
 whole_row row good = record { places = good.texts_count; once = good.apart }
 
 module _ (source : Bytes) (row : Row) (next : ℕ) (c : Catalogue) (turn : IsTurn source row next c) where
-  pub entered_known : (id : ℕ) → number_there c source row.legacy ≡ Some id → catalogue_after source (row ∷ []) c ≡ with_values id row.values c
+  pub entered_known : (id : ℕ) → number_there c source row.legacy ≡ Some id
+      → catalogue_after source (row ∷ []) c ≡ with_values id row.values c
   entered_known id e = ap (λ n. or_as_before c (and_then (with_rows source []) (with_row_at n source row c))) e
 
   pub may_change : (id : ℕ) → number_there c source row.legacy ≡ Some id → MayChange id row.values c
@@ -131,15 +116,18 @@ module _ (source : Bytes) (row : Row) (next : ℕ) (c : Catalogue) (turn : IsTur
         ap (λ n. or_as_before c (and_then (with_rows source []) (with_row_at n source row c))) e
         ∙ ap (λ r. or_as_before c (and_then (with_rows source []) (unless_cause row r (with_new source row c)))) none_against
 
-    parent_there : (p : Option Bytes) → cause_at (depth_there c source p) ≡ None → has_place has_id (option_and_then (number_there c source) p) c.forest ≡ true
+    parent_there : (p : Option Bytes) → cause_at (depth_there c source p) ≡ None
+        → has_place has_id (option_and_then (number_there c source) p) c.forest ≡ true
     parent_there None k = refl
     parent_there (Some legacy) k = at (find (is_from source legacy) (nodes c.forest)) refl
       where
-        at : (r : Option Unit) → find (is_from source legacy) (nodes c.forest) ≡ r → has_place has_id (option_map (λ (u : Unit). u.id) r) c.forest ≡ true
+        at : (r : Option Unit) → find (is_from source legacy) (nodes c.forest) ≡ r
+            → has_place has_id (option_map (λ (u : Unit). u.id) r) c.forest ≡ true
         at None f = absurd (let no : Some 11 ≡ None = sym (ap (λ (b : Bool). cause_at (cond b (Some (length (path (is_from source legacy) c.forest) + 1)) None)) (none_found (is_from source legacy) (nodes c.forest) f)) ∙ k in cc)
         at (Some w) f = all_of_found (λ (u : Unit). list_any (has_id u.id) (nodes c.forest) ≡ true) (is_from source legacy) (nodes c.forest) w f (each_there (nodes c.forest) (nodes c.forest) (λ n h. h))
 
-    no_such : (n : ℕ) (us : List Unit) → AllByRecursion (λ (u : Unit). (1 ≤ u.id) × (u.id < n)) us → list_any (has_id n) us ≡ false
+    no_such : (n : ℕ) (us : List Unit) → AllByRecursion (λ (u : Unit). (1 ≤ u.id) × (u.id < n)) us
+        → list_any (has_id n) us ≡ false
     no_such n [] h = refl
     no_such n (u ∷ us) h =
         ap₂ (λ (a b : Bool). a || b) (ne_eqb n u.id (λ i. let same = i in let low = h.0.1 in absurd (omega (arith, low, same)))) (no_such n us h.1)
@@ -172,15 +160,21 @@ is_valued c id h = at (find (has_id id) (nodes c.forest)) refl
 pub not_untold : (c : Catalogue) (id : ℕ) → has (has_id id) c.forest ≡ true → None ≡ values_of id c → ⊥
 not_untold c id h e =
     let it = is_valued c id h in
-    let told : None ≡ Some _ = e ∙ ap (option_map (λ (u : Unit). (let x : UnitValues = record { values = u.values; containers = map (box_number c.containers) u.values.boxes } in x))) it.by_number in
+    let told : None ≡ Some _ =
+    e
+    ∙ ap (option_map (λ (u : Unit). (let x : UnitValues = record { values = u.values; containers = map (box_number c.containers) u.values.boxes } in x))) it.by_number in
     cc
 
-pub told_of_it : (c : Catalogue) (id : ℕ) (u : Unit) (told : UnitValues) → find (has_id id) (nodes c.forest) ≡ Some u → Some told ≡ values_of id c → told.values ≡ u.values
+pub told_of_it : (c : Catalogue) (id : ℕ) (u : Unit) (told : UnitValues) → find (has_id id) (nodes c.forest) ≡ Some u
+    → Some told ≡ values_of id c → told.values ≡ u.values
 told_of_it c id u told found e =
-    let same : Some told ≡ Some (record { values = u.values; containers = map (box_number c.containers) u.values.boxes }) = e ∙ ap (option_map (λ (u : Unit). (let x : UnitValues = record { values = u.values; containers = map (box_number c.containers) u.values.boxes } in x))) found in
+    let same : Some told ≡ Some (record { values = u.values; containers = map (box_number c.containers) u.values.boxes }) =
+    e
+    ∙ ap (option_map (λ (u : Unit). (let x : UnitValues = record { values = u.values; containers = map (box_number c.containers) u.values.boxes } in x))) found in
     let is : told ≡ record { values = u.values; containers = map (box_number c.containers) u.values.boxes } = cc in
     ap (λ (x : UnitValues). x.values) is
 
 -- the unit of a row, by the number that comes next
-pub unit_comes : (source : Bytes) (row : Row) (next : ℕ) (c : Catalogue) → next ≡ c.next → record (new_unit source (new_at c source row)) { id = next } ≡ new_unit source (new_at c source row)
+pub unit_comes : (source : Bytes) (row : Row) (next : ℕ) (c : Catalogue) → next ≡ c.next
+    → record (new_unit source (new_at c source row)) { id = next } ≡ new_unit source (new_at c source row)
 unit_comes source row next c e = ap (λ n. record (new_unit source (new_at c source row)) { id = n }) e

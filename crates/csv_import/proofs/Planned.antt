@@ -1,18 +1,9 @@
 -- Rows that are looked at one after another, before any is entered.
 use Rattle.std.proofs.Common.{◌≡◌, ℕ, suc, ◌+◌, Bool, true, false, not, cond, List, [], ◌∷◌, ◌++◌, length, Option, Some, None, refl, sym, ap, ap₂, ◌∙◌, arith}
-use Rattle.std.specs.Prelude.{nat_lt, option_map}
-use Rattle.std.specs.Option.{option_to_list}
-use Rattle.std.specs.Str.{bytes_eq}
 use Rattle.std.proofs.lemmas.Slice.Eq.{bytes_eq-Decides}
-use Rattle.isad_core.specs.Limits.{most_deep}
-use Rattle.isad_core.specs.Texts.{Bytes}
-use Rattle.atom_csv.specs.declared.file.Row.{Row}
-use Rattle.tree_core.specs.Forest.{Forest}
-use Rattle.catalogue_core.specs.CatalogueMerge.{cause_at, depth_under, faults_below, is_known, or_first}
-use Rattle.catalogue_core.specs.Units.{Unit}
-use Rattle.csv_import.specs.RowPlan.{KnowsDepths, as_plan, at_depth, new_of, or_there, placing_of, plan_of}
 use Rattle.csv_import.specs.declared.row_plan.Placing.TheVariants as placing
 use Rattle.csv_import.specs.declared.row_plan.Planned.TheVariants as planned
+use Rattle.csv_import.proofs.Common.{Bytes, Forest, KnowsDepths, Row, Unit, as_plan, at_depth, bytes_eq, cause_at, depth_under, faults_below, is_known, most_deep, nat_lt, new_of, option_map, option_to_list, or_first, or_there, placing_of, plan_of}
 
 module _ (f : Forest Unit) (source : Bytes) where
   -- the rest of the rows is to be looked at, and so many of the others are new
@@ -31,13 +22,16 @@ module _ (f : Forest Unit) (source : Bytes) where
   }
 
   -- how deep a row below a catalogued unit lies was asked for, and is known from then on
-  pub knows_parent : (above : List Row) (below after : Bytes → Option ℕ) (p : Bytes) (d : ℕ) → KnowsDepths f source above below
-      → below p ≡ None → depth_under f source (Some p) [] ≡ Some d → ((q : Bytes) → after q ≡ cond (bytes_eq q p) (Some d) (below q))
+  pub knows_parent : (above : List Row) (below after : Bytes → Option ℕ) (p : Bytes) (d : ℕ)
+      → KnowsDepths f source above below
+      → below p ≡ None → depth_under f source (Some p) [] ≡ Some d
+      → ((q : Bytes) → after q ≡ cond (bytes_eq q p) (Some d) (below q))
       → KnowsDepths f source above after
   knows_parent above below after p d knows none depth more parent =
       at (bytes_eq parent p) refl ∙ sym (ap (λ o. or_there o (depth_under f source (Some parent) [])) (more parent))
     where
-      at : (b : Bool) → bytes_eq parent p ≡ b → depth_under f source (Some parent) above ≡ or_there (cond b (Some d) (below parent)) (depth_under f source (Some parent) [])
+      at : (b : Bool) → bytes_eq parent p ≡ b
+          → depth_under f source (Some parent) above ≡ or_there (cond b (Some d) (below parent)) (depth_under f source (Some parent) [])
       at true e =
           let same : parent ≡ p = (bytes_eq-Decides parent p).0 e in
           ap (λ q. depth_under f source (Some q) above) same ∙ (knows p ∙ (ap (λ o. or_there o (depth_under f source (Some p) [])) none ∙ depth))
@@ -47,7 +41,8 @@ module _ (f : Forest Unit) (source : Bytes) where
   sorted known row rest = cond (not known) (row ∷ new_of f source rest) (new_of f source rest)
 
   -- the row's unit is catalogued
-  known_so : (above : List Row) (row : Row) → placing.Known ≡ placing_of f source above row → is_known f source row ≡ true
+  known_so : (above : List Row) (row : Row) → placing.Known ≡ placing_of f source above row
+      → is_known f source row ≡ true
   known_so above row e = at (is_known f source row) (depth_under f source row.parent above) e
     where
       at : (b : Bool) (d : Option ℕ) → placing.Known ≡ cond b placing.Known (at_depth d) → b ≡ true
@@ -59,10 +54,12 @@ module _ (f : Forest Unit) (source : Bytes) where
           deep true h = absurd (cc)
           deep false h = absurd (cc)
 
-  pub goes_known : (below known : Bytes → Option ℕ) (new : ℕ) (all rest : List Row) (row : Row) → (it : IsPlanned below new all (row ∷ rest)) → KnowsDepths f source it.above known
+  pub goes_known : (below known : Bytes → Option ℕ) (new : ℕ) (all rest : List Row) (row : Row)
+      → (it : IsPlanned below new all (row ∷ rest)) → KnowsDepths f source it.above known
       → placing.Known ≡ placing_of f source it.above row → IsPlanned known new all rest
   goes_known below known new all rest row it knows e =
-      let same : new_of f source (row ∷ rest) ≡ new_of f source rest = ap (λ (b : Bool). sorted b row rest) (known_so it.above row e) in
+      let same : new_of f source (row ∷ rest) ≡ new_of f source rest =
+      ap (λ (b : Bool). sorted b row rest) (known_so it.above row e) in
       record {
         above = it.above;
         knows = knows;
@@ -76,32 +73,42 @@ module _ (f : Forest Unit) (source : Bytes) where
     depth : depth_under f source row.parent above ≡ Some d
     fits : nat_lt most_deep d ≡ false
 
-  comes_at : (above : List Row) (row : Row) (k : ℕ) → placing.Fits k ≡ placing_of f source above row → (d : ℕ) × ComesAt above row d × (k ≡ suc d)
+  comes_at : (above : List Row) (row : Row) (k : ℕ) → placing.Fits k ≡ placing_of f source above row
+      → (d : ℕ) × ComesAt above row d × (k ≡ suc d)
   comes_at above row k e = at (is_known f source row) (depth_under f source row.parent above) refl refl e
     where
-      at : (b : Bool) (o : Option ℕ) → is_known f source row ≡ b → depth_under f source row.parent above ≡ o → placing.Fits k ≡ cond b placing.Known (at_depth o) → (d : ℕ) × ComesAt above row d × (k ≡ suc d)
+      at : (b : Bool) (o : Option ℕ) → is_known f source row ≡ b → depth_under f source row.parent above ≡ o
+          → placing.Fits k ≡ cond b placing.Known (at_depth o) → (d : ℕ) × ComesAt above row d × (k ≡ suc d)
       at true o i j h = absurd (cc)
       at false None i j h = absurd (cc)
       at false (Some d) i j h = deep (nat_lt most_deep d) refl h
         where
-          deep : (b : Bool) → nat_lt most_deep d ≡ b → placing.Fits k ≡ cond b (placing.Faulty 12) (placing.Fits (suc d)) → (d : ℕ) × ComesAt above row d × (k ≡ suc d)
+          deep : (b : Bool) → nat_lt most_deep d ≡ b
+              → placing.Fits k ≡ cond b (placing.Faulty 12) (placing.Fits (suc d))
+              → (d : ℕ) × ComesAt above row d × (k ≡ suc d)
           deep true t h = absurd (cc)
           deep false t h = (d, record { come = i; depth = j; fits = t }, cc)
 
-  new_first : (row : Row) (rest : List Row) → is_known f source row ≡ false → new_of f source (row ∷ rest) ≡ row ∷ new_of f source rest
+  new_first : (row : Row) (rest : List Row) → is_known f source row ≡ false
+      → new_of f source (row ∷ rest) ≡ row ∷ new_of f source rest
   new_first row rest e = ap (λ (b : Bool). sorted b row rest) e
 
-  told_cause : (row : Row) (above rest : List Row) (cause : Option ℕ) → cause_at (depth_under f source row.parent above) ≡ cause
+  told_cause : (row : Row) (above rest : List Row) (cause : Option ℕ)
+      → cause_at (depth_under f source row.parent above) ≡ cause
       → faults_below f source above (row ∷ rest) ≡ option_to_list (option_map (λ cause. (row.row, cause)) cause) ++ faults_below f source (row ∷ above) rest
-  told_cause row above rest cause e = ap (λ (o : Option ℕ). option_to_list (option_map (λ cause. (row.row, cause)) o) ++ faults_below f source (row ∷ above) rest) e
+  told_cause row above rest cause e =
+      ap (λ (o : Option ℕ). option_to_list (option_map (λ cause. (row.row, cause)) o) ++ faults_below f source (row ∷ above) rest) e
 
-  pub goes_new : (below known after : Bytes → Option ℕ) (new : ℕ) (all rest : List Row) (row : Row) (k : ℕ) → (it : IsPlanned below new all (row ∷ rest)) → KnowsDepths f source it.above known
-      → placing.Fits k ≡ placing_of f source it.above row → ((q : Bytes) → after q ≡ cond (bytes_eq q row.legacy) (Some k) (known q)) → IsPlanned after (new + 1) all rest
+  pub goes_new : (below known after : Bytes → Option ℕ) (new : ℕ) (all rest : List Row) (row : Row) (k : ℕ)
+      → (it : IsPlanned below new all (row ∷ rest)) → KnowsDepths f source it.above known
+      → placing.Fits k ≡ placing_of f source it.above row
+      → ((q : Bytes) → after q ≡ cond (bytes_eq q row.legacy) (Some k) (known q)) → IsPlanned after (new + 1) all rest
   goes_new below known after new all rest row k it knows e more =
       let at = comes_at it.above row k e in
       let d = at.0 in
       let come = at.1 in
-      let none : cause_at (depth_under f source row.parent it.above) ≡ None = ap cause_at come.depth ∙ ap (λ (b : Bool). cond b (Some 12) None) come.fits in
+      let none : cause_at (depth_under f source row.parent it.above) ≡ None =
+      ap cause_at come.depth ∙ ap (λ (b : Bool). cond b (Some 12) None) come.fits in
       record {
         above = row ∷ it.above;
         knows = λ parent. deeper d come.depth at.2 parent (bytes_eq parent row.legacy) ∙ sym (ap (λ o. or_there o (depth_under f source (Some parent) [])) (more parent));
@@ -116,26 +123,32 @@ module _ (f : Forest Unit) (source : Bytes) where
 
   -- ---- the end
 
-  cause_so : (above : List Row) (row : Row) (cause : ℕ) → placing.Faulty cause ≡ placing_of f source above row → (is_known f source row ≡ false) × (cause_at (depth_under f source row.parent above) ≡ Some cause)
+  cause_so : (above : List Row) (row : Row) (cause : ℕ) → placing.Faulty cause ≡ placing_of f source above row
+      → (is_known f source row ≡ false) × (cause_at (depth_under f source row.parent above) ≡ Some cause)
   cause_so above row cause e = at (is_known f source row) (depth_under f source row.parent above) e
     where
-      at : (b : Bool) (o : Option ℕ) → placing.Faulty cause ≡ cond b placing.Known (at_depth o) → (b ≡ false) × (cause_at o ≡ Some cause)
+      at : (b : Bool) (o : Option ℕ) → placing.Faulty cause ≡ cond b placing.Known (at_depth o)
+          → (b ≡ false) × (cause_at o ≡ Some cause)
       at true o h = absurd (cc)
       at false None h = (refl, (let same : cause ≡ 11 = cc in ap Some (sym same)))
       at false (Some d) h = deep (nat_lt most_deep d) h
         where
-          deep : (k : Bool) → placing.Faulty cause ≡ cond k (placing.Faulty 12) (placing.Fits (suc d)) → (false ≡ false) × (cond k (Some 12) None ≡ Some cause)
+          deep : (k : Bool) → placing.Faulty cause ≡ cond k (placing.Faulty 12) (placing.Fits (suc d))
+              → (false ≡ false) × (cond k (Some 12) None ≡ Some cause)
           deep true h = (refl, (let same : cause ≡ 12 = cc in ap Some (sym same)))
           deep false h = absurd (cc)
 
-  pub ends_faulty : (below : Bytes → Option ℕ) (new : ℕ) (all rest : List Row) (row : Row) (cause : ℕ) → (it : IsPlanned below new all (row ∷ rest)) → placing.Faulty cause ≡ placing_of f source it.above row → planned.Faulty row.row cause ≡ plan_of f source all
+  pub ends_faulty : (below : Bytes → Option ℕ) (new : ℕ) (all rest : List Row) (row : Row) (cause : ℕ)
+      → (it : IsPlanned below new all (row ∷ rest)) → placing.Faulty cause ≡ placing_of f source it.above row
+      → planned.Faulty row.row cause ≡ plan_of f source all
   ends_faulty below new all rest row cause it e =
       let so = cause_so it.above row cause e in
       let first : faults_below f source [] (new_of f source all) ≡ (row.row, cause) ∷ faults_below f source (row ∷ it.above) (new_of f source rest) =
       it.faults ∙ (ap (faults_below f source it.above) (new_first row rest so.0) ∙ told_cause row it.above (new_of f source rest) (Some cause) so.1) in
       sym (ap (λ (faults : List (ℕ × ℕ)). as_plan (or_first faults (length (new_of f source all)))) first)
 
-  pub ends_well : (below : Bytes → Option ℕ) (new : ℕ) (all : List Row) → IsPlanned below new all [] → planned.Fits new ≡ plan_of f source all
+  pub ends_well : (below : Bytes → Option ℕ) (new : ℕ) (all : List Row) → IsPlanned below new all []
+      → planned.Fits new ≡ plan_of f source all
   ends_well below new all it =
       let many : length (new_of f source all) ≡ new = (let n = it.count in omega (arith, n)) in
       sym (ap₂ (λ (faults : List (ℕ × ℕ)) n. as_plan (or_first faults n)) it.faults many)

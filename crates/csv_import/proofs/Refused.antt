@@ -1,39 +1,27 @@
 -- Files that are refused before a row of them is entered.
 use Rattle.std.proofs.Common.{◌≡◌, ℕ, ◌+◌, Bool, true, false, ◌||◌, List, [], ◌∷◌, length, Some, Ok, Err, refl, sym, ap, ap₂, ◌∙◌, arith}
-use Rattle.std.specs.Prelude.{nat_le, nat_lt, None}
-use Rattle.std.proofs.lemmas.Bool.{and_from, false≢true, le-leb, ltb-false}
-use Rattle.isad_core.specs.Limits.{most_containers, most_unit_numbers, most_units}
-use Rattle.isad_core.specs.Texts.{Bytes}
-use Rattle.atom_csv.specs.FileContents.{file_of}
-use Rattle.atom_csv.specs.declared.file.File.{File}
-use Rattle.tree_core.specs.Forest.{size}
-use Rattle.desk_core.specs.Refusals.{first_that_holds, unless, when}
-use Rattle.desk_core.specs.declared.refusal.Refusal.TheVariants.{BadFile, BadName, Full}
-use Rattle.catalogue_core.specs.Intake.{Taken, is_full, take_rows, with_file}
-use Rattle.catalogue_core.specs.CatalogueMerge.{Catalogue, faults_below, merged, numbered_from, or_first}
-use Rattle.catalogue_core.specs.Sources.{is_source}
+use Rattle.std.specs.Prelude.{None}
 use Rattle.catalogue_core.proofs.UnitsAfter.{length-numbered}
-use Rattle.office_core.specs.ImportReply.{bad_file, too_much}
-use Rattle.office_core.specs.Rules.{gate, imported, refusal, intake_of}
-use Rattle.office_core.specs.SoundOffice.{IsSoundOffice}
 use Rattle.office_core.specs.State.{State}
 use Rattle.office_core.specs.declared.command.Command.TheVariants as command
-use Rattle.csv_import.specs.CatalogueImport.{CanBePlaced, has_room}
-use Rattle.csv_import.specs.RowPlan.{as_plan, new_of, plan_of}
 use Rattle.csv_import.specs.declared.row_plan.Planned.TheVariants as planned
+use Rattle.csv_import.proofs.Common.{BadFile, BadName, Bytes, CanBePlaced, Catalogue, File, Full, IsSoundOffice, Taken, and_from, as_plan, bad_file, false≢true, faults_below, file_of, first_that_holds, gate, has_room, imported, intake_of, is_full, is_source, le-leb, ltb-false, merged, most_containers, most_unit_numbers, most_units, nat_le, nat_lt, new_of, numbered_from, or_first, plan_of, refusal, size, take_rows, too_much, unless, when, with_file}
 use Rattle.csv_import.proofs.Imports.{merged_size}
 
 -- the file itself is at fault
-taken_bad : (s : State) (source bytes : Bytes) (row cause : ℕ) → file_of bytes ≡ Err (row, cause) → intake_of s source bytes ≡ Err (row, cause)
+taken_bad : (s : State) (source bytes : Bytes) (row cause : ℕ) → file_of bytes ≡ Err (row, cause)
+    → intake_of s source bytes ≡ Err (row, cause)
 unfolding Rattle.catalogue_core.specs.Intake.take
 taken_bad s source bytes row cause e = ap (take_rows s.catalogue source) e
 
-refused_bad : (s : State) (source bytes : Bytes) (row cause : ℕ) → is_source source ≡ true → intake_of s source bytes ≡ Err (row, cause) → refusal s (command.Import source bytes) ≡ Some (BadFile row cause)
+refused_bad : (s : State) (source bytes : Bytes) (row cause : ℕ) → is_source source ≡ true
+    → intake_of s source bytes ≡ Err (row, cause) → refusal s (command.Import source bytes) ≡ Some (BadFile row cause)
 refused_bad s source bytes row cause named e =
     ap (λ (t : Taken). first_that_holds (unless (is_source source) BadName ∷ bad_file t ∷ too_much t ∷ gate (imported s t) ∷ [])) e
     ∙ ap (λ (b : Bool). first_that_holds (unless b BadName ∷ Some (BadFile row cause) ∷ None ∷ gate s ∷ [])) named
 
-pub bad : (s : State) (source bytes : Bytes) (row cause : ℕ) → is_source source ≡ true → file_of bytes ≡ Err (row, cause) → refusal s (command.Import source bytes) ≡ Some (BadFile row cause)
+pub bad : (s : State) (source bytes : Bytes) (row cause : ℕ) → is_source source ≡ true
+    → file_of bytes ≡ Err (row, cause) → refusal s (command.Import source bytes) ≡ Some (BadFile row cause)
 bad s source bytes row cause named e = refused_bad s source bytes row cause named (taken_bad s source bytes row cause e)
 
 module _ (s : State) (source bytes : Bytes) (file : File) (read : file_of bytes ≡ Ok file) where
@@ -48,10 +36,14 @@ module _ (s : State) (source bytes : Bytes) (file : File) (read : file_of bytes 
   taken_as = ap (take_rows s.catalogue source) read
 
   -- a row cannot be placed
-  pub faulty : IsSoundOffice s → is_source source ≡ true → (row cause : ℕ) → planned.Faulty row cause ≡ plan_of s.catalogue.forest source file.rows → refusal s (command.Import source bytes) ≡ Some (BadFile row cause)
+  pub faulty : IsSoundOffice s → is_source source ≡ true → (row cause : ℕ)
+      → planned.Faulty row cause ≡ plan_of s.catalogue.forest source file.rows
+      → refusal s (command.Import source bytes) ≡ Some (BadFile row cause)
   faulty sound named row cause e = refused_bad s source bytes row cause named (taken_as ∙ at faults e)
     where
-      at : (found : List (ℕ × ℕ)) → planned.Faulty row cause ≡ as_plan (or_first found (length (new_of s.catalogue.forest source file.rows))) → with_file file (or_first found made) ≡ Err (row, cause)
+      at : (found : List (ℕ × ℕ))
+          → planned.Faulty row cause ≡ as_plan (or_first found (length (new_of s.catalogue.forest source file.rows)))
+          → with_file file (or_first found made) ≡ Err (row, cause)
       at [] h = absurd (cc)
       at ((r, k) ∷ later) h =
           let same_row : row ≡ r = cc in
@@ -59,7 +51,8 @@ module _ (s : State) (source bytes : Bytes) (file : File) (read : file_of bytes 
           ap₂ (λ a b. (let t : Taken = Err (a, b) in t)) (sym same_row) (sym same_cause)
 
   -- there is no room for the new units
-  pub full : IsSoundOffice s → is_source source ≡ true → (new : ℕ) → CanBePlaced source file new s → has_room new s.catalogue ≡ false → refusal s (command.Import source bytes) ≡ Some Full
+  pub full : IsSoundOffice s → is_source source ≡ true → (new : ℕ) → CanBePlaced source file new s
+      → has_room new s.catalogue ≡ false → refusal s (command.Import source bytes) ≡ Some Full
   full sound named new fits none =
       ap (λ (t : Taken). first_that_holds (unless (is_source source) BadName ∷ bad_file t ∷ too_much t ∷ gate (imported s t) ∷ [])) (taken_as ∙ ap (λ found. with_file file (or_first found made)) fits.faults)
       ∙ (ap (λ (b : Bool). first_that_holds (unless b BadName ∷ None ∷ when (is_full made) Full ∷ gate (record s { catalogue = made }) ∷ [])) named
@@ -68,7 +61,8 @@ module _ (s : State) (source bytes : Bytes) (file : File) (read : file_of bytes 
       too_many : is_full made ≡ true
       too_many = at (nat_lt most_units (size made.forest)) (nat_lt (most_unit_numbers + 1) made.next) refl refl
         where
-          at : (a b : Bool) → nat_lt most_units (size made.forest) ≡ a → nat_lt (most_unit_numbers + 1) made.next ≡ b → (nat_lt most_units (size made.forest) || (nat_lt (most_unit_numbers + 1) made.next || nat_lt most_containers (length made.containers))) ≡ true
+          at : (a b : Bool) → nat_lt most_units (size made.forest) ≡ a → nat_lt (most_unit_numbers + 1) made.next ≡ b
+              → (nat_lt most_units (size made.forest) || (nat_lt (most_unit_numbers + 1) made.next || nat_lt most_containers (length made.containers))) ≡ true
           at true b e f = ap (λ (x : Bool). x || (nat_lt (most_unit_numbers + 1) made.next || nat_lt most_containers (length made.containers))) e
           at false true e f =
               ap (λ (x : Bool). x || (nat_lt (most_unit_numbers + 1) made.next || nat_lt most_containers (length made.containers))) e
@@ -84,9 +78,14 @@ module _ (s : State) (source bytes : Bytes) (file : File) (read : file_of bytes 
               absurd (false≢true (sym none ∙ there))
 
 -- all of its rows can be placed
-pub fits_planned : (s : State) (source : Bytes) (file : File) (new : ℕ) → planned.Fits new ≡ plan_of s.catalogue.forest source file.rows → CanBePlaced source file new s
-fits_planned s source file new e = at (faults_below s.catalogue.forest source [] (new_of s.catalogue.forest source file.rows)) refl e
+pub fits_planned : (s : State) (source : Bytes) (file : File) (new : ℕ)
+    → planned.Fits new ≡ plan_of s.catalogue.forest source file.rows → CanBePlaced source file new s
+fits_planned s source file new e =
+    at (faults_below s.catalogue.forest source [] (new_of s.catalogue.forest source file.rows)) refl e
   where
-    at : (found : List (ℕ × ℕ)) → faults_below s.catalogue.forest source [] (new_of s.catalogue.forest source file.rows) ≡ found → planned.Fits new ≡ as_plan (or_first found (length (new_of s.catalogue.forest source file.rows))) → CanBePlaced source file new s
+    at : (found : List (ℕ × ℕ))
+        → faults_below s.catalogue.forest source [] (new_of s.catalogue.forest source file.rows) ≡ found
+        → planned.Fits new ≡ as_plan (or_first found (length (new_of s.catalogue.forest source file.rows)))
+        → CanBePlaced source file new s
     at [] f h = record { faults = f; new_is = cc }
     at ((r, k) ∷ later) f h = absurd (cc)

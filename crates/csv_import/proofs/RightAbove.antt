@@ -1,34 +1,22 @@
 -- What stands right above the units of rows.
 use Rattle.std.proofs.Common.{◌≡◌, ℕ, ◌+◌, ◌<◌, ◌≤◌, min, List, [], ◌∷◌, ◌++◌, append-nil, drop, get_or, length, map, Option, Some, None, refl, sym, ap, ap₂, subst, ◌∙◌, nat_eq, arith}
-use Rattle.std.specs.Prelude.{find, option_map}
-use Rattle.std.specs.Option.{option_to_list}
-use Rattle.std.proofs.lemmas.List.{drop_all, drop_more, length-map, get_or-map}
-use Rattle.sqlite_trees.proofs.ListLemmas.{all-get_or}
-use Rattle.isad_core.specs.Texts.{Bytes}
-use Rattle.atom_csv.specs.declared.file.Row.{Row}
-use Rattle.tree_core.specs.Forest.{Forest, each, nodes, path}
-use Rattle.tree_core.specs.Tops.{last_but_one, right_above}
-use Rattle.catalogue_core.specs.GoodCatalogues.{AreGoodUnits}
-use Rattle.catalogue_core.specs.CatalogueMerge.{Catalogue}
-use Rattle.catalogue_core.specs.EntryByRow.{number_there}
-use Rattle.catalogue_core.specs.Units.{Unit, is_from}
-use Rattle.office_core.specs.ImportReply.{remark_on, remarks}
-use Rattle.office_core.specs.declared.done.Remark.{Remark}
-use Rattle.csv_import.specs.Remarks.{HasItsUnit, HasParent, HaveParents, number_above}
+use Rattle.csv_import.proofs.Common.{AreGoodUnits, Bytes, Catalogue, Forest, HasItsUnit, HasParent, HaveParents, Remark, Row, Unit, all-get_or, drop_all, drop_more, each, find, get_or-map, is_from, last_but_one, length-map, nodes, number_above, number_there, option_map, option_to_list, path, remark_on, remarks, right_above}
 use Rattle.csv_import.proofs.FoundPaths.{path_by_number}
 use Rattle.csv_import.proofs.OneRow.{is_found}
 use Rattle.csv_import.proofs.Remarked.{told_more}
 
 -- ---- one row's
 
-pub last_number : (us : List Unit) → last_but_one (map (λ (u : Unit). u.id) us) ≡ option_map (λ (u : Unit). u.id) (last_but_one us)
+pub last_number : (us : List Unit)
+    → last_but_one (map (λ (u : Unit). u.id) us) ≡ option_map (λ (u : Unit). u.id) (last_but_one us)
 last_number [] = refl
 last_number (u ∷ []) = refl
 last_number (u ∷ v ∷ []) = refl
 last_number (u ∷ v ∷ w ∷ us) = last_number (v ∷ w ∷ us)
 
 -- its unit is there
-pub there : (f : Forest Unit) (source : Bytes) (row : Row) → HasItsUnit f source row → (v : Unit) × (find (is_from source row.legacy) (nodes f) ≡ Some v)
+pub there : (f : Forest Unit) (source : Bytes) (row : Row) → HasItsUnit f source row
+    → (v : Unit) × (find (is_from source row.legacy) (nodes f) ≡ Some v)
 there f source row h = at (find (is_from source row.legacy) (nodes f)) h
   where
     at : (r : Option Unit) → option_map (λ (u : Unit). u.values) r ≡ Some row.values → (v : Unit) × (r ≡ Some v)
@@ -38,13 +26,15 @@ there f source row h = at (find (is_from source row.legacy) (nodes f)) h
 -- ---- the same by the unit's number
 
 module _ (c : Catalogue) (source : Bytes) (good : AreGoodUnits c) where
-  above_number : (row : Row) (id : ℕ) → Some id ≡ number_there c source row.legacy → right_above (nat_eq id) (each (λ (u : Unit). u.id) c.forest) ≡ number_above c.forest source row
+  above_number : (row : Row) (id : ℕ) → Some id ≡ number_there c source row.legacy
+      → right_above (nat_eq id) (each (λ (u : Unit). u.id) c.forest) ≡ number_above c.forest source row
   above_number row id e =
       let is = is_found c source row.legacy id good (sym e) in
       ap (λ n. right_above (nat_eq n) (each (λ (u : Unit). u.id) c.forest)) (sym is.number)
       ∙ (ap last_but_one (path_by_number c source row.legacy is.unit good is.by_source) ∙ last_number (path (is_from source row.legacy) c.forest))
 
-  pub above_numbers : (units : List ℕ) (rows : List Row) → map Some units ≡ map (λ (row : Row). number_there c source row.legacy) rows
+  pub above_numbers : (units : List ℕ) (rows : List Row)
+      → map Some units ≡ map (λ (row : Row). number_there c source row.legacy) rows
       → map (λ unit. right_above (nat_eq unit) (each (λ (u : Unit). u.id) c.forest)) units ≡ map (number_above c.forest source) rows
   above_numbers [] [] e = refl
   above_numbers [] (row ∷ rows) e = absurd (cc)
@@ -58,7 +48,8 @@ module _ (c : Catalogue) (source : Bytes) (good : AreGoodUnits c) where
 
 module _ (c : Catalogue) (source : Bytes) (rows : List Row) (parents : List (Option ℕ)) where
   -- the row at this index stands below the parent there
-  pub parent_at : (i : ℕ) (row : Row) (parent : Option ℕ) → HaveParents source rows parents c → i < length rows → row ≡ get_or rows i row → parent ≡ get_or parents i parent → HasParent source row parent c
+  pub parent_at : (i : ℕ) (row : Row) (parent : Option ℕ) → HaveParents source rows parents c → i < length rows
+      → row ≡ get_or rows i row → parent ≡ get_or parents i parent → HasParent source row parent c
   parent_at i row parent have low at_row at_parent = record {
     units = have.entered.units;
     its = subst (HasItsUnit c.forest source) (sym at_row) (all-get_or (HasItsUnit c.forest source) rows i row have.entered.each low);
@@ -66,17 +57,23 @@ module _ (c : Catalogue) (source : Bytes) (rows : List Row) (parents : List (Opt
   }
 
   -- what is remarked so far, with the remark on the row at this index
-  pub told_at : (i next : ℕ) (row : Row) (parent : Option ℕ) (told more : List Remark) (r : Option Remark) → HaveParents source rows parents c → i < length rows → row ≡ get_or rows i row → parent ≡ get_or parents i parent → next ≡ i + 1
+  pub told_at : (i next : ℕ) (row : Row) (parent : Option ℕ) (told more : List Remark) (r : Option Remark)
+      → HaveParents source rows parents c → i < length rows → row ≡ get_or rows i row → parent ≡ get_or parents i parent
+      → next ≡ i + 1
       → more ≡ told ++ option_to_list r → remarks c.forest source rows ≡ told ++ remarks c.forest source (drop i rows)
       → (HasParent source row parent c → option_to_list r ≡ remark_on row.row (path (is_from source row.legacy) c.forest))
       → remarks c.forest source rows ≡ more ++ remarks c.forest source (drop next rows)
   told_at i next row parent told more r have low at_row at_parent after grown so is =
-      let rest : drop i rows ≡ row ∷ drop (i + 1) rows = drop_more rows i row low ∙ ap (λ (x : Row). x ∷ drop (i + 1) rows) (sym at_row) in
+      let rest : drop i rows ≡ row ∷ drop (i + 1) rows =
+      drop_more rows i row low ∙ ap (λ (x : Row). x ∷ drop (i + 1) rows) (sym at_row) in
       told_more c.forest source row (drop (i + 1) rows) told (remarks c.forest source rows) r (so ∙ ap (λ (l : List Row). told ++ remarks c.forest source l) rest) (is (parent_at i row parent have low at_row at_parent))
       ∙ (ap (λ l. l ++ remarks c.forest source (drop (i + 1) rows)) (sym grown) ∙ ap (λ n. more ++ remarks c.forest source (drop n rows)) (sym after))
 
   -- all rows are behind
-  pub told_all : (i : ℕ) (told : List Remark) → HaveParents source rows parents c → i ≡ min (length rows) (length parents) → remarks c.forest source rows ≡ told ++ remarks c.forest source (drop i rows) → told ≡ remarks c.forest source rows
+  pub told_all : (i : ℕ) (told : List Remark) → HaveParents source rows parents c
+      → i ≡ min (length rows) (length parents)
+      → remarks c.forest source rows ≡ told ++ remarks c.forest source (drop i rows)
+      → told ≡ remarks c.forest source rows
   told_all i told have last so =
       let long : length parents ≡ length rows = ap length have.above ∙ length-map rows (number_above c.forest source) in
       let behind : length rows ≤ i = omega (arith, last, long) in

@@ -1,33 +1,14 @@
 -- Rows that are entered one after another: what holds of those that are still to come.
 use Rattle.std.proofs.Common.{◌≡◌, ◌+◌, ◌<◌, ◌≤◌, ◌&&◌, ◌++◌, ℕ, Bool, true, false, not, cond, List, [], ◌∷◌, length, length-append, Option, Some, None, Result, Ok, Err, refl, sym, ap, ap₂, ◌∙◌, subst, arith}
-use Rattle.std.specs.Prelude.{count_by, drop, find, get_or, option_map}
-use Rattle.std.proofs.lemmas.List.{at_drop_all, drop_more}
-use Rattle.std.specs.List.{AllByRecursion, flat_map}
-use Rattle.std.specs.Option.{option_map_or}
-use Rattle.isad_core.specs.Boxes.{distinct}
-use Rattle.isad_core.specs.Texts.{Bytes}
-use Rattle.atom_csv.specs.declared.file.Row.{Row}
-use Rattle.tree_core.specs.Forest.{Forest, Empty, Node, add, has, join, nodes, put_below, size}
-use Rattle.tree_core.proofs.EachLemmas.{size-each}
-use Rattle.catalogue_core.specs.Descriptions.{with_values}
-use Rattle.catalogue_core.specs.GoodRows.{IsGoodRow}
-use Rattle.catalogue_core.specs.Intake.{is_changed, is_new, is_same, same_values, unit_of}
-use Rattle.catalogue_core.specs.CatalogueMerge.{Catalogue, cause_at, merge, new_unit}
-use Rattle.catalogue_core.specs.EntryByRow.{and_then, count_rows, depth_there, if_ok, new_at, unless_cause, with_new, with_row, with_row_at, with_rows}
-use Rattle.catalogue_core.specs.Units.{Unit, has_id, is_from}
-use Rattle.catalogue_core.proofs.EachOf.{none_found, some_found}
-use Rattle.catalogue_core.proofs.Imported.{distinct_again}
-use Rattle.catalogue_core.proofs.KeptCatalogues.{kept_within, knows}
+use Rattle.std.specs.Prelude.{drop, get_or}
+use Rattle.catalogue_core.specs.Intake.{is_same}
+use Rattle.catalogue_core.proofs.EachOf.{none_found}
 use Rattle.catalogue_core.proofs.RowCounts.{changed_counts, new_counts, same_counts}
-use Rattle.catalogue_core.proofs.RowsMerged.{row_by_row}
 use Rattle.catalogue_statements.proofs.Untold.{boxes_within}
-use Rattle.tree_core.specs.declared.arrivals.Arrival.{Arrival}
-use Rattle.csv_import.specs.Arrivals.{BringUnits, IsReady, arrivals_of}
-use Rattle.csv_import.specs.RowEntry.{CanEnter, counts_of, catalogue_after, or_as_before}
-use Rattle.csv_import.specs.Turns.{AreToCome, IsTurn, count_entry, entry_of}
-use Rattle.csv_import.specs.declared.row_entry.Counts.{Counts}
+use Rattle.csv_import.specs.Turns.{entry_of}
 use Rattle.csv_import.specs.declared.row_entry.Entry.{Entry}
 use Rattle.csv_import.specs.declared.row_entry.Entry.TheVariants as entry
+use Rattle.csv_import.proofs.Common.{AllByRecursion, AreToCome, Arrival, BringUnits, Bytes, CanEnter, Catalogue, Counts, Empty, Forest, IsGoodRow, IsReady, IsTurn, Node, Row, Unit, add, and_then, arrivals_of, at_drop_all, catalogue_after, cause_at, count_by, count_entry, count_rows, counts_of, depth_there, distinct, distinct_again, drop_more, find, flat_map, has, has_id, if_ok, is_changed, is_from, is_new, join, kept_within, knows, merge, new_at, new_unit, nodes, option_map, option_map_or, or_as_before, put_below, row_by_row, same_values, size, size-each, some_found, unit_of, unless_cause, with_new, with_row, with_row_at, with_rows, with_values}
 use Rattle.csv_import.proofs.GoodMerges.{legible_with, merged_boxes_are, merged_days, merged_good}
 
 -- ---- a row counts once
@@ -53,18 +34,22 @@ pub record CountsAs (f : Forest Unit) (source : Bytes) (row : Row) (became : Ent
   pub new : is_new f source row ≡ new_by became
   pub same : is_same f source row ≡ same_by became
 
-pub counts_as : (f : Forest Unit) (source : Bytes) (row : Row) → CountsAs f source row (entry_of (unit_of f source row) row.values)
+pub counts_as : (f : Forest Unit) (source : Bytes) (row : Row)
+    → CountsAs f source row (entry_of (unit_of f source row) row.values)
 counts_as f source row = at (find (is_from source row.legacy) (nodes f)) refl
   where
-    there : (v : Unit) (same : Bool) → ((true && not same) ≡ changed_by (cond same entry.Same entry.Changed)) × (not true ≡ new_by (cond same entry.Same entry.Changed)) × (same ≡ same_by (cond same entry.Same entry.Changed))
+    there : (v : Unit) (same : Bool)
+        → ((true && not same) ≡ changed_by (cond same entry.Same entry.Changed)) × (not true ≡ new_by (cond same entry.Same entry.Changed)) × (same ≡ same_by (cond same entry.Same entry.Changed))
     there v true = (refl, refl, refl)
     there v false = (refl, refl, refl)
 
-    at : (r : Option Unit) → find (is_from source row.legacy) (nodes f) ≡ r → CountsAs f source row (entry_of (unit_of f source row) row.values)
+    at : (r : Option Unit) → find (is_from source row.legacy) (nodes f) ≡ r
+        → CountsAs f source row (entry_of (unit_of f source row) row.values)
     at None e =
         let none : has (is_from source row.legacy) f ≡ false = none_found (is_from source row.legacy) (nodes f) e in
         let became : entry_of (unit_of f source row) row.values ≡ entry.New = ap (λ u. entry_of u row.values) e in
-        let same : is_same f source row ≡ false = ap (λ u. option_map_or (λ (unit : Unit). same_values unit.values row.values) u false) e in
+        let same : is_same f source row ≡ false =
+        ap (λ u. option_map_or (λ (unit : Unit). same_values unit.values row.values) u false) e in
         record {
           changed = ap (λ b. b && not (is_same f source row)) none ∙ sym (ap changed_by became);
           new = ap not none ∙ sym (ap new_by became);
@@ -72,8 +57,10 @@ counts_as f source row = at (find (is_from source row.legacy) (nodes f)) refl
         }
     at (Some v) e =
         let some : has (is_from source row.legacy) f ≡ true = some_found (is_from source row.legacy) (nodes f) v e in
-        let became : entry_of (unit_of f source row) row.values ≡ entry_of (Some v) row.values = ap (λ u. entry_of u row.values) e in
-        let same : is_same f source row ≡ same_values v.values row.values = ap (λ u. option_map_or (λ (unit : Unit). same_values unit.values row.values) u false) e in
+        let became : entry_of (unit_of f source row) row.values ≡ entry_of (Some v) row.values =
+        ap (λ u. entry_of u row.values) e in
+        let same : is_same f source row ≡ same_values v.values row.values =
+        ap (λ u. option_map_or (λ (unit : Unit). same_values unit.values row.values) u false) e in
         let it = there v (same_values v.values row.values) in
         record {
           changed = ap₂ (λ a b. a && not b) some same ∙ (it.0 ∙ sym (ap changed_by became));
@@ -91,7 +78,8 @@ size_put : {A : Type 0} (is : A → Bool) (g f : Forest A) → size f ≤ size (
 size_put is g Empty = omega arith
 size_put is g (Node a c o) = at (is a) (size_joined c g) (size_put is g c) (size_put is g o)
   where
-    at : (b : Bool) → size c ≤ size (join c g) → size c ≤ size (put_below is g c) → size o ≤ size (put_below is g o) → 1 + (size c + size o) ≤ 1 + (size (cond b (join c g) (put_below is g c)) + size (put_below is g o))
+    at : (b : Bool) → size c ≤ size (join c g) → size c ≤ size (put_below is g c) → size o ≤ size (put_below is g o)
+        → 1 + (size c + size o) ≤ 1 + (size (cond b (join c g) (put_below is g c)) + size (put_below is g o))
     at true x y z = omega (arith, x, z)
     at false x y z = omega (arith, y, z)
 
@@ -114,15 +102,18 @@ grows source row c d e = at (find (is_from source row.legacy) (nodes c.forest)) 
     at : (r : Option Unit) → find (is_from source row.legacy) (nodes c.forest) ≡ r → Grows source row c d
     at None f =
         let is = placed (cause_at (depth_there c source row.parent)) (sym (ap (λ (u : Option Unit). with_row_at (option_map (λ (v : Unit). v.id) u) source row c) f) ∙ e) in
-        let new : is_new c.forest source row ≡ true = ap not (none_found (is_from source row.legacy) (nodes c.forest) f) in
+        let new : is_new c.forest source row ≡ true =
+        ap not (none_found (is_from source row.legacy) (nodes c.forest) f) in
         subst (Grows source row c) is
         (record {
           size = size_added (new_at c source row).parent (new_unit source (new_at c source row)) c.forest;
           next = ap (λ b. c.next + cond b 1 0) (sym new);
         })
     at (Some v) f =
-        let is : ◌≡◌ {A = Result Catalogue (ℕ × ℕ)} (Ok (with_values v.id row.values c)) (Ok d) = sym (ap (λ (u : Option Unit). with_row_at (option_map (λ (v : Unit). v.id) u) source row c) f) ∙ e in
-        let known : is_new c.forest source row ≡ false = ap not (some_found (is_from source row.legacy) (nodes c.forest) v f) in
+        let is : ◌≡◌ {A = Result Catalogue (ℕ × ℕ)} (Ok (with_values v.id row.values c)) (Ok d) =
+        sym (ap (λ (u : Option Unit). with_row_at (option_map (λ (v : Unit). v.id) u) source row c) f) ∙ e in
+        let known : is_new c.forest source row ≡ false =
+        ap not (some_found (is_from source row.legacy) (nodes c.forest) v f) in
         let same_size = size-each (λ (u : Unit). cond (has_id v.id u) (record u { values = row.values }) u) c.forest in
         let same_next : c.next ≡ c.next + 0 = omega arith in
         subst (Grows source row c) (ok_is (with_values v.id row.values c) is)
@@ -135,13 +126,16 @@ grows source row c d e = at (find (is_from source row.legacy) (nodes c.forest)) 
         ok_is x k = cc
 
 -- so do several
-all_grow : (source : Bytes) (rows : List Row) (c d : Catalogue) → with_rows source rows c ≡ Ok d → (size c.forest ≤ size d.forest) × (c.next ≤ d.next)
+all_grow : (source : Bytes) (rows : List Row) (c d : Catalogue) → with_rows source rows c ≡ Ok d
+    → (size c.forest ≤ size d.forest) × (c.next ≤ d.next)
 all_grow source [] c d e =
     let same : c ≡ d = cc in
     subst (λ (x : Catalogue). (size c.forest ≤ size x.forest) × (c.next ≤ x.next)) same (omega arith, omega arith)
 all_grow source (row ∷ rows) c d e = at (with_row source row c) refl (λ x. all_grow source rows x d)
   where
-    at : (r : Result Catalogue (ℕ × ℕ)) → with_row source row c ≡ r → ((x : Catalogue) → with_rows source rows x ≡ Ok d → (size x.forest ≤ size d.forest) × (x.next ≤ d.next)) → (size c.forest ≤ size d.forest) × (c.next ≤ d.next)
+    at : (r : Result Catalogue (ℕ × ℕ)) → with_row source row c ≡ r
+        → ((x : Catalogue) → with_rows source rows x ≡ Ok d → (size x.forest ≤ size d.forest) × (x.next ≤ d.next))
+        → (size c.forest ≤ size d.forest) × (c.next ≤ d.next)
     at (Ok x) f later =
         let one = grows source row c x f in
         let more = later x (sym (ap (and_then (with_rows source rows)) f) ∙ e) in
@@ -160,21 +154,24 @@ pub record OneEntered (source : Bytes) (row : Row) (rows : List Row) (next : ℕ
   pub turn : IsTurn source row next c
   pub rest : AreToCome source rows (next + cond (is_new c.forest source row) 1 0) after
 
-pub one_entered : (source : Bytes) (row : Row) (rows : List Row) (next : ℕ) (c : Catalogue) → AreToCome source (row ∷ rows) next c → OneEntered source row rows next c
+pub one_entered : (source : Bytes) (row : Row) (rows : List Row) (next : ℕ) (c : Catalogue)
+    → AreToCome source (row ∷ rows) next c → OneEntered source row rows next c
 one_entered source row rows next c it = at (with_row source row c) refl
   where
     at : (r : Result Catalogue (ℕ × ℕ)) → with_row source row c ≡ r → OneEntered source row rows next c
     at (Err fault) f = absurd (let no : Err fault ≡ Ok it.room.after = sym (ap (and_then (with_rows source rows)) f) ∙ it.room.placed in cc)
     at (Ok d) f =
         let one = grows source row c d f in
-        let placed : with_rows source rows d ≡ Ok it.room.after = sym (ap (and_then (with_rows source rows)) f) ∙ it.room.placed in
+        let placed : with_rows source rows d ≡ Ok it.room.after =
+        sym (ap (and_then (with_rows source rows)) f) ∙ it.room.placed in
         let later = all_grow source rows d it.room.after placed in
         let units = it.room.few in
         let numbers = it.room.numbers in
         let more = later.0 in
         let higher = later.1 in
         let alone : AllByRecursion IsGoodRow (row ∷ []) = (it.told.good.0, tt) in
-        let merged : merge c source (row ∷ []) ≡ Ok d = sym (row_by_row c source (row ∷ []) it.units it.apart (tt, tt)) ∙ ap (and_then (with_rows source [])) f in
+        let merged : merge c source (row ∷ []) ≡ Ok d =
+        sym (row_by_row c source (row ∷ []) it.units it.apart (tt, tt)) ∙ ap (and_then (with_rows source [])) f in
         let boxes = merged_boxes_are c source (row ∷ []) alone (tt, tt) it.units it.named d merged in
         let few = it.few_boxes in
         let step = one.next in
@@ -217,7 +214,8 @@ pub record HaveCome (source : Bytes) (rows rest : List Row) (next : ℕ) (counts
   pub new : counts.new + count_rows is_new source rest d ≡ count_rows is_new source rows c
   pub same : counts.same + count_rows is_same source rest d ≡ count_rows is_same source rows c
 
-pub none_come : (source : Bytes) (rows : List Row) (next : ℕ) (c : Catalogue) → AreToCome source rows next c → HaveCome source rows rows next (record { changed = 0; new = 0; same = 0 }) c c
+pub none_come : (source : Bytes) (rows : List Row) (next : ℕ) (c : Catalogue) → AreToCome source rows next c
+    → HaveCome source rows rows next (record { changed = 0; new = 0; same = 0 }) c c
 none_come source rows next c it = record {
   come = (let same : next ≡ next + 0 = omega arith in subst (λ n. AreToCome source rows n c) same it);
   ends = refl;
@@ -236,16 +234,21 @@ counts_one entry.Changed counts = record { changed = refl; new = omega arith; sa
 counts_one entry.New counts = record { changed = omega arith; new = refl; same = omega arith }
 counts_one entry.Same counts = record { changed = omega arith; new = omega arith; same = refl }
 
-pub next_comes : (source : Bytes) (rows : List Row) (row : Row) (rest : List Row) (next : ℕ) (counts : Counts) (c d : Catalogue) (became : Entry) → (h : HaveCome source rows (row ∷ rest) next counts c d)
-    → became ≡ entry_of (unit_of d.forest source row) row.values → HaveCome source rows rest next (count_entry became counts) c (catalogue_after source (row ∷ []) d)
+pub next_comes : (source : Bytes) (rows : List Row) (row : Row) (rest : List Row) (next : ℕ) (counts : Counts) (c d : Catalogue) (became : Entry)
+    → (h : HaveCome source rows (row ∷ rest) next counts c d)
+    → became ≡ entry_of (unit_of d.forest source row) row.values
+    → HaveCome source rows rest next (count_entry became counts) c (catalogue_after source (row ∷ []) d)
 next_comes source rows row rest next counts c d became h is =
     let it = one_entered source row rest (next + counts.new) d h.come in
-    let made : catalogue_after source (row ∷ []) d ≡ it.after = ap (λ r. or_as_before d (and_then (with_rows source []) r)) it.placed in
-    let counts_so : CountsAs d.forest source row became = subst (CountsAs d.forest source row) (sym is) (counts_as d.forest source row) in
+    let made : catalogue_after source (row ∷ []) d ≡ it.after =
+    ap (λ r. or_as_before d (and_then (with_rows source []) r)) it.placed in
+    let counts_so : CountsAs d.forest source row became =
+    subst (CountsAs d.forest source row) (sym is) (counts_as d.forest source row) in
     let number = ap {B = ℕ} (λ (b : Bool). cond b 1 0) counts_so.new in
     let by = counts_one became counts in
     let by_new = by.new in
-    let sums : next + counts.new + cond (is_new d.forest source row) 1 0 ≡ next + (count_entry became counts).new = omega (arith, number, by_new) in
+    let sums : next + counts.new + cond (is_new d.forest source row) 1 0 ≡ next + (count_entry became counts).new =
+    omega (arith, number, by_new) in
     subst (HaveCome source rows rest next (count_entry became counts) c) (sym made)
     (record {
       come = subst (λ n. AreToCome source rest n it.after) sums it.rest;
@@ -255,7 +258,9 @@ next_comes source rows row rest next counts c d became h is =
       same = one is_same counts.same (count_entry became counts).same (same_by became) it.after by.same it.placed counts_so.same h.same;
     })
   where
-    one : (test : Forest Unit → Bytes → Row → Bool) (n m : ℕ) (by : Bool) (x : Catalogue) → m ≡ n + cond by 1 0 → with_row source row d ≡ Ok x → test d.forest source row ≡ by → n + count_rows test source (row ∷ rest) d ≡ count_rows test source rows c
+    one : (test : Forest Unit → Bytes → Row → Bool) (n m : ℕ) (by : Bool) (x : Catalogue) → m ≡ n + cond by 1 0
+        → with_row source row d ≡ Ok x → test d.forest source row ≡ by
+        → n + count_rows test source (row ∷ rest) d ≡ count_rows test source rows c
         → m + count_rows test source rest x ≡ count_rows test source rows c
     one test n m by x i e f k =
         let a = ap {B = ℕ} (λ (b : Bool). cond b 1 0) f in
@@ -268,7 +273,8 @@ pub record AllCome (source : Bytes) (rows : List Row) (next : ℕ) (counts : Cou
   pub counts_are : counts ≡ counts_of c.forest source rows
   pub number : next + counts.new ≡ (catalogue_after source rows c).next
 
-pub all_come : (source : Bytes) (rows : List Row) (next : ℕ) (counts : Counts) (c d : Catalogue) → AreToCome source rows next c → HaveCome source rows [] next counts c d → AllCome source rows next counts c d
+pub all_come : (source : Bytes) (rows : List Row) (next : ℕ) (counts : Counts) (c d : Catalogue)
+    → AreToCome source rows next c → HaveCome source rows [] next counts c d → AllCome source rows next counts c d
 all_come source rows next counts c d it h =
     let done : with_rows source rows c ≡ Ok d = sym h.ends in
     let x = h.changed in
@@ -283,7 +289,9 @@ all_come source rows next counts c d it h =
       counts_are = made (omega (arith, x, changed)) (omega (arith, y, new)) (omega (arith, z, same));
     }
   where
-    made : counts.changed ≡ count_by (is_changed c.forest source) rows → counts.new ≡ count_by (is_new c.forest source) rows → counts.same ≡ count_by (is_same c.forest source) rows → counts ≡ counts_of c.forest source rows
+    made : counts.changed ≡ count_by (is_changed c.forest source) rows
+        → counts.new ≡ count_by (is_new c.forest source) rows → counts.same ≡ count_by (is_same c.forest source) rows
+        → counts ≡ counts_of c.forest source rows
     made a b e =
         ap (λ n. record { changed = n; new = counts.new; same = counts.same }) a
         ∙ (ap (λ n. record { changed = count_by (is_changed c.forest source) rows; new = n; same = counts.same }) b
@@ -291,7 +299,8 @@ all_come source rows next counts c d it h =
 
 -- ---- the rows of a file
 
-pub all_to_come : (source : Bytes) (rows : List Row) (c : Catalogue) → CanEnter source rows c → AreToCome source rows c.next c
+pub all_to_come : (source : Bytes) (rows : List Row) (c : Catalogue) → CanEnter source rows c
+    → AreToCome source rows c.next c
 all_to_come source rows c it = record {
   named = it.named;
   told = it.told;
@@ -305,24 +314,33 @@ all_to_come source rows c it = record {
 }
 
 -- where they are ready, by the next number
-pub to_come : {source : Bytes} {rows : List Row} {numbers : Bytes → Option ℕ} {next : ℕ} {c : Catalogue} → IsReady source rows numbers next c → AreToCome source rows next c
-to_come {source} {rows} {numbers} {next} {c} it = subst (λ n. AreToCome source rows n c) (sym it.number) (all_to_come source rows c it.can)
+pub to_come : {source : Bytes} {rows : List Row} {numbers : Bytes → Option ℕ} {next : ℕ} {c : Catalogue}
+    → IsReady source rows numbers next c → AreToCome source rows next c
+to_come {source} {rows} {numbers} {next} {c} it =
+    subst (λ n. AreToCome source rows n c) (sym it.number) (all_to_come source rows c it.can)
 
-pub are_brought : {source : Bytes} {rows : List Row} {numbers : Bytes → Option ℕ} {next : ℕ} {arrivals : List Arrival} {c : Catalogue} → IsReady source rows numbers next c → arrivals ≡ arrivals_of c.forest source next rows → BringUnits source rows numbers next arrivals c
+pub are_brought : {source : Bytes} {rows : List Row} {numbers : Bytes → Option ℕ} {next : ℕ} {arrivals : List Arrival} {c : Catalogue}
+    → IsReady source rows numbers next c → arrivals ≡ arrivals_of c.forest source next rows
+    → BringUnits source rows numbers next arrivals c
 are_brought it are = record { come = to_come it; known = it.known.each; units = are }
 
 -- ---- going through a list
 
-pub counted_few : (became : Entry) (counts : Counts) (n : ℕ) → counts.changed + counts.new + counts.same ≤ n → (count_entry became counts).changed + (count_entry became counts).new + (count_entry became counts).same ≤ n + 1
+pub counted_few : (became : Entry) (counts : Counts) (n : ℕ) → counts.changed + counts.new + counts.same ≤ n
+    → (count_entry became counts).changed + (count_entry became counts).new + (count_entry became counts).same ≤ n + 1
 counted_few entry.Changed counts n few = omega (arith, few)
 counted_few entry.New counts n few = omega (arith, few)
 counted_few entry.Same counts n few = omega (arith, few)
 
 -- the rows from the i-th on, when its turn comes
-pub from_here : (source : Bytes) (rows : List Row) (next : ℕ) (counts : Counts) (c d : Catalogue) (i : ℕ) (row : Row) → i < length rows → get_or rows i row ≡ row
-    → HaveCome source rows (drop i rows) next counts c d → HaveCome source rows (row ∷ drop (i + 1) rows) next counts c d
+pub from_here : (source : Bytes) (rows : List Row) (next : ℕ) (counts : Counts) (c d : Catalogue) (i : ℕ) (row : Row)
+    → i < length rows → get_or rows i row ≡ row
+    → HaveCome source rows (drop i rows) next counts c d
+    → HaveCome source rows (row ∷ drop (i + 1) rows) next counts c d
 from_here source rows next counts c d i row low is h =
     subst (λ rest. HaveCome source rows rest next counts c d) (drop_more rows i row low ∙ ap (λ r. r ∷ drop (i + 1) rows) is) h
 
-pub at_end : (source : Bytes) (rows : List Row) (next : ℕ) (counts : Counts) (c d : Catalogue) (i : ℕ) → length rows ≤ i → HaveCome source rows (drop i rows) next counts c d → HaveCome source rows [] next counts c d
-at_end source rows next counts c d i high h = subst (λ rest. HaveCome source rows rest next counts c d) (at_drop_all (λ rest. rest) rows i high) h
+pub at_end : (source : Bytes) (rows : List Row) (next : ℕ) (counts : Counts) (c d : Catalogue) (i : ℕ) → length rows ≤ i
+    → HaveCome source rows (drop i rows) next counts c d → HaveCome source rows [] next counts c d
+at_end source rows next counts c d i high h =
+    subst (λ rest. HaveCome source rows rest next counts c d) (at_drop_all (λ rest. rest) rows i high) h

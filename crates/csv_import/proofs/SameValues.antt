@@ -1,30 +1,16 @@
 -- Values that are the same change nothing.
 use Rattle.std.proofs.Common.{◌≡◌, ℕ, Bool, true, false, not, cond, ◌&&◌, List, [], ◌∷◌, ◌++◌, Option, Some, None, refl, sym, ap, ap₂, ◌∙◌, subst, nat_eq, append-nil}
-use Rattle.std.specs.Prelude.{filter, find, map, ◌||◌}
+use Rattle.std.specs.Prelude.{map, ◌||◌}
 use Rattle.std.specs.Cmp.Lexicographic.{pointwise}
-use Rattle.std.specs.List.{AllByRecursion, IsDistinct, list_all, list_any}
-use Rattle.std.specs.Option.{option_eq}
-use Rattle.std.specs.Str.{bytes_eq}
-use Rattle.std.proofs.lemmas.Bool.{and_parts, eqb-true, false≢true, or_right}
-use Rattle.isad_core.specs.Boxes.{distinct, is_same}
-use Rattle.isad_core.specs.Texts.{Bytes}
-use Rattle.isad_core.specs.declared.values.BoxKey.{BoxKey}
-use Rattle.isad_core.specs.declared.values.Values.{Values}
-use Rattle.tree_core.specs.Forest.{Forest, Empty, Node, each, nodes}
-use Rattle.catalogue_core.specs.Descriptions.{KnowsItsContainers, with_boxes, with_values}
-use Rattle.catalogue_core.specs.GoodCatalogues.{AreGoodUnits}
-use Rattle.catalogue_core.specs.Intake.{same_values}
-use Rattle.catalogue_core.specs.CatalogueMerge.{Catalogue}
-use Rattle.catalogue_core.specs.Units.{Unit, has_id}
-use Rattle.catalogue_core.proofs.DistinctLists.{all_so}
-use Rattle.catalogue_core.proofs.EachOf.{all_distinct, all_of_found, all_split}
-use Rattle.catalogue_core.proofs.Imported.{distinct_append, same_box}
-use Rattle.catalogue_core.proofs.ImportedAgain.{box_itself, one_text}
+use Rattle.std.specs.List.{IsDistinct}
+use Rattle.isad_core.specs.Boxes.{is_same}
 use Rattle.catalogue_core.proofs.UnitPlaces.{HaveOwnNumbers}
+use Rattle.csv_import.proofs.Common.{AllByRecursion, AreGoodUnits, BoxKey, Bytes, Catalogue, Empty, Forest, KnowsItsContainers, Node, Unit, Values, all_distinct, all_of_found, all_so, all_split, and_parts, box_itself, bytes_eq, distinct, distinct_append, each, eqb-true, false≢true, filter, find, has_id, list_all, list_any, nodes, one_text, option_eq, or_right, same_box, same_values, with_boxes, with_values}
 
 -- ---- the same values are one
 
-all_equal : {X : Type 0} (same : X → X → Bool) → ((x y : X) → same x y ≡ true → x ≡ y) → (xs ys : List X) → pointwise same xs ys ≡ true → xs ≡ ys
+all_equal : {X : Type 0} (same : X → X → Bool) → ((x y : X) → same x y ≡ true → x ≡ y) → (xs ys : List X)
+    → pointwise same xs ys ≡ true → xs ≡ ys
 all_equal same h [] [] e = refl
 all_equal same h [] (y ∷ ys) e = absurd (false≢true e)
 all_equal same h (x ∷ xs) [] e = absurd (false≢true e)
@@ -49,16 +35,20 @@ one_description a b e =
 -- ---- the units stay
 
 -- where it is found, no other unit has its number
-others_apart : (n : ℕ) (us : List Unit) (values : Values) → AllByRecursion (λ m. nat_eq n m ≡ false) (map (λ (u : Unit). u.id) us) → AllByRecursion (λ u. has_id n u ≡ true → u.values ≡ values) us
+others_apart : (n : ℕ) (us : List Unit) (values : Values)
+    → AllByRecursion (λ m. nat_eq n m ≡ false) (map (λ (u : Unit). u.id) us)
+    → AllByRecursion (λ u. has_id n u ≡ true → u.values ≡ values) us
 others_apart n [] values h = tt
 others_apart n (u ∷ us) values h = (λ e. absurd (false≢true (sym h.0 ∙ e)), others_apart n us values h.1)
 
-its_values : (n : ℕ) (us : List Unit) (v : Unit) → HaveOwnNumbers us → find (has_id n) us ≡ Some v → AllByRecursion (λ u. has_id n u ≡ true → u.values ≡ v.values) us
+its_values : (n : ℕ) (us : List Unit) (v : Unit) → HaveOwnNumbers us → find (has_id n) us ≡ Some v
+    → AllByRecursion (λ u. has_id n u ≡ true → u.values ≡ v.values) us
 unfolding IsDistinct
 its_values n [] v d e = tt
 its_values n (u ∷ us) v d e = at (has_id n u) refl e (its_values n us v d.1)
   where
-    at : (b : Bool) → has_id n u ≡ b → cond b (Some u) (find (has_id n) us) ≡ Some v → (find (has_id n) us ≡ Some v → AllByRecursion (λ w. has_id n w ≡ true → w.values ≡ v.values) us)
+    at : (b : Bool) → has_id n u ≡ b → cond b (Some u) (find (has_id n) us) ≡ Some v
+        → (find (has_id n) us ≡ Some v → AllByRecursion (λ w. has_id n w ≡ true → w.values ≡ v.values) us)
         → (has_id n u ≡ true → u.values ≡ v.values) × AllByRecursion (λ w. has_id n w ≡ true → w.values ≡ v.values) us
     at true it k later =
         let same : u ≡ v = cc in
@@ -74,23 +64,31 @@ each_stays g (Node u c o) h =
 
 -- ---- the containers stay
 
-none_left : (boxes bs : List BoxKey) → AllByRecursion (λ b. list_any (λ x. is_same x b) boxes ≡ true) bs → filter (λ b. not (list_any (λ x. is_same x b) boxes)) bs ≡ []
+none_left : (boxes bs : List BoxKey) → AllByRecursion (λ b. list_any (λ x. is_same x b) boxes ≡ true) bs
+    → filter (λ b. not (list_any (λ x. is_same x b) boxes)) bs ≡ []
 none_left boxes [] h = refl
-none_left boxes (b ∷ bs) h = ap (λ k. cond (not k) (b ∷ filter (λ b. not (list_any (λ x. is_same x b) boxes)) bs) (filter (λ b. not (list_any (λ x. is_same x b) boxes)) bs)) h.0 ∙ none_left boxes bs h.1
+none_left boxes (b ∷ bs) h =
+    ap (λ k. cond (not k) (b ∷ filter (λ b. not (list_any (λ x. is_same x b) boxes)) bs) (filter (λ b. not (list_any (λ x. is_same x b) boxes)) bs)) h.0
+    ∙ none_left boxes bs h.1
 
-turned : (b : BoxKey) (boxes : List BoxKey) → list_any (is_same b) boxes ≡ true → list_any (λ x. is_same x b) boxes ≡ true
+turned : (b : BoxKey) (boxes : List BoxKey) → list_any (is_same b) boxes ≡ true
+    → list_any (λ x. is_same x b) boxes ≡ true
 turned b [] h = h
 turned b (x ∷ xs) h = at (is_same b x) refl h (turned b xs)
   where
-    at : (k : Bool) → is_same b x ≡ k → (k || list_any (is_same b) xs) ≡ true → (list_any (is_same b) xs ≡ true → list_any (λ y. is_same y b) xs ≡ true) → list_any (λ y. is_same y b) (x ∷ xs) ≡ true
+    at : (k : Bool) → is_same b x ≡ k → (k || list_any (is_same b) xs) ≡ true
+        → (list_any (is_same b) xs ≡ true → list_any (λ y. is_same y b) xs ≡ true)
+        → list_any (λ y. is_same y b) (x ∷ xs) ≡ true
     at true e k more = ap (λ t. t || list_any (λ y. is_same y b) xs) (subst (λ (y : BoxKey). is_same y b ≡ true) (same_box b x e) (box_itself b))
     at false e k more = or_right (is_same x b) (list_any (λ y. is_same y b) xs) (more k)
 
-all_turned : (boxes bs : List BoxKey) → list_all (λ b. list_any (is_same b) boxes) bs ≡ true → AllByRecursion (λ b. list_any (λ x. is_same x b) boxes ≡ true) bs
+all_turned : (boxes bs : List BoxKey) → list_all (λ b. list_any (is_same b) boxes) bs ≡ true
+    → AllByRecursion (λ b. list_any (λ x. is_same x b) boxes ≡ true) bs
 all_turned boxes [] h = tt
 all_turned boxes (b ∷ bs) h = let parts = and_parts (list_any (is_same b) boxes) (list_all (λ b. list_any (is_same b) boxes) bs) h in (turned b boxes parts.0, all_turned boxes bs parts.1)
 
-boxes_stay : (boxes bs : List BoxKey) → distinct boxes ≡ boxes → list_all (λ b. list_any (is_same b) boxes) bs ≡ true → with_boxes boxes bs ≡ boxes
+boxes_stay : (boxes bs : List BoxKey) → distinct boxes ≡ boxes → list_all (λ b. list_any (is_same b) boxes) bs ≡ true
+    → with_boxes boxes bs ≡ boxes
 boxes_stay boxes bs apart known =
     distinct_append boxes bs
     ∙ (ap₂ (λ xs ys. xs ++ ys) apart (none_left boxes (distinct bs) (all_distinct (λ b. list_any (λ x. is_same x b) boxes ≡ true) bs (all_turned boxes bs known)))
@@ -99,7 +97,8 @@ boxes_stay boxes bs apart known =
 -- ---- all of it
 
 -- a unit takes the values that it has
-pub nothing_changes : (c : Catalogue) (id : ℕ) (v : Unit) (values : Values) → AreGoodUnits c → KnowsItsContainers c → find (has_id id) (nodes c.forest) ≡ Some v → same_values v.values values ≡ true → with_values id values c ≡ c
+pub nothing_changes : (c : Catalogue) (id : ℕ) (v : Unit) (values : Values) → AreGoodUnits c → KnowsItsContainers c
+    → find (has_id id) (nodes c.forest) ≡ Some v → same_values v.values values ≡ true → with_values id values c ≡ c
 nothing_changes c id v values good knows found same =
     let is : v.values ≡ values = one_description v.values values same in
     let known = subst (λ (w : Values). list_all (λ b. list_any (is_same b) c.containers) w.boxes ≡ true) is (all_of_found (λ (u : Unit). list_all (λ b. list_any (is_same b) c.containers) u.values.boxes ≡ true) (has_id id) (nodes c.forest) v found knows.known) in
@@ -111,6 +110,7 @@ nothing_changes c id v values good knows found same =
     made : Forest Unit → List BoxKey → Catalogue
     made f bs = record { forest = f; containers = bs; next = c.next }
 
-    at : (u : Unit) (b : Bool) → has_id id u ≡ b → (has_id id u ≡ true → u.values ≡ values) → cond b (record u { values = values }) u ≡ u
+    at : (u : Unit) (b : Bool) → has_id id u ≡ b → (has_id id u ≡ true → u.values ≡ values)
+        → cond b (record u { values = values }) u ≡ u
     at u true e h = ap (λ (w : Values). record u { values = w }) (sym (h e))
     at u false e h = refl

@@ -1,43 +1,43 @@
 -- A call that reads, and hands on what a later call tells of what the same tables show.
 use Rattle.std.proofs.Common.{◌≡◌, Result, Ok, Err, OnOk, OnErr}
-use Rattle.std.specs.Prelude.{IsErr, IsErrAnd}
-use Rattle.sqlite.specs.Effect.{Database}
-use Rattle.sqlite.specs.Held.{Held, state}
-use Rattle.sqlite.specs.State.{HasCleanDisk, State, Survives}
+use Rattle.sqlite.specs.State.{State}
 use Rattle.sqlite_trees.specs.declared.store.Store as store
-use Rattle.office_tables.specs.Calls.{Answers}
 use Rattle.office_tables.specs.Faults.{HasCause, IsUnlimited}
-use Rattle.office_tables.specs.Step.{IsAborted, LeavesUnchanged}
-use Rattle.office_tables.specs.declared.fault.StoreFault.{StoreFault}
-use Rattle.office_tables.proofs.CallEnds.{excused_then, same_fault, tells_cut}
-use Rattle.office_tables.proofs.Calls.{cut_then, early, looks_then, on_err_then, on_ok_then}
-use Rattle.refinement.proofs.Passing.{if_ok_then}
+use Rattle.csv_import.proofs.Common.{Answers, Database, HasCleanDisk, Held, IsAborted, IsErr, IsErrAnd, LeavesUnchanged, StoreFault, Survives, cut_then, early, excused_then, if_ok_then, looks_then, on_err_then, on_ok_then, same_fault, state, tells_cut}
 
 -- it tells what was read
 pub tells_so : {S X A B : Type 0} {g : store.Ghosts S} {represents : Database → A → B → Type 0} {kept may : B → Type 0} {before after : Held S} {x : X} {answer : A → B → X → Type 0}
-    → LeavesUnchanged (state g before) (state g after) → (HasCleanDisk (state g after) → (s : A) (m : B) → represents (state g before).now s m → answer s m x) → Answers g represents kept before after (Ok x) may answer
+    → LeavesUnchanged (state g before) (state g after)
+    → (HasCleanDisk (state g after) → (s : A) (m : B) → represents (state g before).now s m → answer s m x)
+    → Answers g represents kept before after (Ok x) may answer
 tells_so looked told = record { answers = told; looks = looked; aborts = tt; faults = λ s m shown allowed within clean free. tt }
 
 -- it looked first, and passes the fault of a later step on
-pub tells_cut_later : {S X A B : Type 0} {g : store.Ghosts S} {represents : Database → A → B → Type 0} {kept may : B → Type 0} {before : Held S} (mid : Held S) {after : Held S} (e : StoreFault) {r : Result X StoreFault} {answer : A → B → X → Type 0} → IsErr r × IsErrAnd r (λ f. f ≡ e)
+pub tells_cut_later : {S X A B : Type 0} {g : store.Ghosts S} {represents : Database → A → B → Type 0} {kept may : B → Type 0} {before : Held S} (mid : Held S) {after : Held S} (e : StoreFault) {r : Result X StoreFault} {answer : A → B → X → Type 0}
+    → IsErr r × IsErrAnd r (λ f. f ≡ e)
     → LeavesUnchanged (state g before) (state g mid) → IsAborted (state g mid) (state g after)
-    → ((s : A) (m : B) → represents (state g before).now s m → may m → kept m → HasCleanDisk (state g mid) → HasCleanDisk (state g after) → IsUnlimited (state g mid) → HasCause (state g mid) (state g after) e) → Answers g represents kept before after r may answer
+    → ((s : A) (m : B) → represents (state g before).now s m → may m → kept m → HasCleanDisk (state g mid) → HasCleanDisk (state g after) → IsUnlimited (state g mid) → HasCause (state g mid) (state g after) e)
+    → Answers g represents kept before after r may answer
 tells_cut_later {g = g} {represents = represents} {kept = kept} {may = may} {before = before} mid {after = after} e {r = r} {answer = answer} handed looked cut why =
     tells_cut g represents kept may before mid after r answer e (same_fault r e handed.0 handed.1) looked cut why
 
-looked_crash : {X E : Type 0} (r : Result X E) (a b : State) → OnOk r (LeavesUnchanged a b) → OnErr r (IsAborted a b) → Survives a b (λ _. ⊥)
+looked_crash : {X E : Type 0} (r : Result X E) (a b : State) → OnOk r (LeavesUnchanged a b) → OnErr r (IsAborted a b)
+    → Survives a b (λ _. ⊥)
 looked_crash (Ok x) a b looks cut = looks.goes.on.crash
 looked_crash (Err e) a b looks cut = cut.crash
 
 -- what the later call is told of is shown too, and is as it needs it
 pub record IsAlso {A B C D : Type 0} (represents : Database → A → B → Type 0) (may kept : B → Type 0) (others : Database → C → D → Type 0) (other_may other_kept : D → Type 0) (beside : A → B → C) (model : A → B → D) (a b : State) : Type 0 where
   pub shown : HasCleanDisk b → (s : A) (m : B) → represents a.now s m → others b.now (beside s m) (model s m)
-  pub allowed : HasCleanDisk b → (s : A) (m : B) → represents a.now s m → may m → kept m → other_may (model s m) × other_kept (model s m)
+  pub allowed : HasCleanDisk b → (s : A) (m : B) → represents a.now s m → may m → kept m
+      → other_may (model s m) × other_kept (model s m)
 
 module _ {S Y A B C D : Type 0} {g : store.Ghosts S} {represents : Database → A → B → Type 0} {kept : B → Type 0} {others : Database → C → D → Type 0} {other_kept other_may : D → Type 0} {before mid after : Held S} {r : Result Y StoreFault} where
-  pub told_last : (beside : A → B → C) (model : A → B → D) {may : B → Type 0} {told : C → D → Y → Type 0} {answer : A → B → Y → Type 0} → Answers g others other_kept mid after r other_may told → LeavesUnchanged (state g before) (state g mid)
+  pub told_last : (beside : A → B → C) (model : A → B → D) {may : B → Type 0} {told : C → D → Y → Type 0} {answer : A → B → Y → Type 0}
+      → Answers g others other_kept mid after r other_may told → LeavesUnchanged (state g before) (state g mid)
       → IsAlso represents may kept others other_may other_kept beside model (state g before) (state g mid)
-      → (HasCleanDisk (state g mid) → (s : A) (m : B) → represents (state g before).now s m → (y : Y) → told (beside s m) (model s m) y → answer s m y) → Answers g represents kept before after r may answer
+      → (HasCleanDisk (state g mid) → (s : A) (m : B) → represents (state g before).now s m → (y : Y) → told (beside s m) (model s m) y → answer s m y)
+      → Answers g represents kept before after r may answer
   told_last beside model {told = told} {answer = answer} last looked also means =
       let a = state g before in
       let b = state g mid in

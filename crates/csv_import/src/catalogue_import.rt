@@ -1,8 +1,7 @@
 //! The import of a file into the catalogue.
 
 ghost use Rattle.std.specs.Prelude.{◌≡◌, ◌+◌, ◌≤◌, ◌&&◌, true, length, nat_le, nat_lt, Ok, IfOk, IfSome, ⊤};
-ghost use Rattle.std.specs.List.{AllByRecursion};
-ghost use Rattle.isad_core.specs.Limits.{IsNumber, most_containers, most_rows, most_unit_numbers, most_units};
+ghost use Rattle.isad_core.specs.Limits.{most_containers, most_rows, most_unit_numbers, most_units};
 ghost use Rattle.isad_core.specs.Texts.{Bytes};
 ghost use Rattle.atom_csv.specs.FileContents.{file_of};
 ghost use Rattle.catalogue_core.specs.Sources.{is_source};
@@ -52,8 +51,9 @@ fn next_with_room<P: Places, S: Alter>(
 {
     let office = settings(alloc, tables)?;
     let units = count_units(alloc, tables)?;
-    if has_space(units, office.next_unit, new) {
-        return Ok(Some(office.next_unit));
+    let next = office.next_unit.get();
+    if has_space(units, next, new) {
+        return Ok(Some(next));
     }
     Ok(None)
 }
@@ -79,7 +79,6 @@ fn judge<P: Places, S: Alter>(
     file: &File,
     outcome: &Outcome,
 ) -> Result<Result<Done, Refusal>, StoreFault>
-    requires small { AllByRecursion IsNumber outcome.now.units.items }
     ensures answers { (source : Bytes) → Answers S.Store (RepresentsWhole P.represents P.version)
         (HasNumbered source file.now outcome.now.units.items) tables.old tables.new result (λ _. ⊤)
         (λ _ s reply. HasNumbered source file.now outcome.now.units.items s → today ≡ s.day

@@ -7,35 +7,39 @@ ghost use Rattle.std.specs.Str.{bytes_eq};
 ghost use Rattle.isad_core.specs.Texts.{Bytes};
 
 use isad_core::Text;
+use office_tables::Number;
 use std::alloc::{AllocError, Global};
 use std::collections::{BTreeMap, BTreeSet};
 
-/// A number for each of some units or rows, by its number in its source.
-pub(crate) type ByLegacy = BTreeMap<String, u64>;
+/// The number of each of some units, by its number in its source.
+pub(crate) type UnitNumbers = BTreeMap<String, Number>;
+
+/// How deep rows right below each of some units or rows lie, by its number in its source.
+pub(crate) type DepthsBelow = BTreeMap<String, u64>;
 
 /// Some numbers in a source.
 pub(crate) type Legacies = BTreeSet<String>;
 
-/// The number that is kept for a unit or row, if one is.
-pub(crate) fn kept_number(kept: &ByLegacy, legacy: &Text) -> Option<u64>
+/// The number that is kept for a unit, if one is.
+pub(crate) fn kept_number(kept: &UnitNumbers, legacy: &Text) -> Option<Number>
     ensures { result ≡ get_by_text kept.now legacy.now }
 {
     kept.get(legacy.as_str()).copied()
 }
 
-/// Keeps a number for a unit or row.
+/// Keeps a number or a depth for a unit or row.
 #[tactic(auto, using(std::proofs::lemmas::Map::Text::text_keys))]
-pub(crate) fn remember(
-    kept: &mut ByLegacy,
+pub(crate) fn remember<V: Drop>(
+    kept: &mut BTreeMap<String, V>,
     alloc: Global,
     legacy: &Text,
-    number: u64,
+    value: V,
 ) -> Result<(), AllocError>
     ensures { OnOk result ((q : Bytes) → get_by_text kept.new q
-        ≡ (if bytes_eq q legacy.now then Some number else get_by_text kept.old q)) }
+        ≡ (if bytes_eq q legacy.now then Some value else get_by_text kept.old q)) }
 {
     let key = String::from_str(alloc, legacy.as_str())?;
-    kept.insert(key, number)?;
+    kept.insert(key, value)?;
     Ok(())
 }
 

@@ -1,10 +1,9 @@
 //! The numbers of units by their numbers in their source.
 
-ghost use Rattle.std.specs.Prelude.{◌≡◌, ◌||◌, true, IfOk, IfSome, OnOk, ⊤};
+ghost use Rattle.std.specs.Prelude.{◌≡◌, ◌||◌, true, OnOk, ⊤};
 ghost use Rattle.std.specs.BTreeMap.{get_by_text};
 ghost use Rattle.std.specs.BTreeSet.{contains_text};
 ghost use Rattle.std.specs.Str.{bytes_eq};
-ghost use Rattle.isad_core.specs.Limits.{IsNumber};
 ghost use Rattle.isad_core.specs.Texts.{Bytes};
 ghost use Rattle.catalogue_core.specs.GoodCatalogues.{AreGoodUnits};
 ghost use Rattle.catalogue_core.specs.EntryByRow.{number_there};
@@ -12,12 +11,11 @@ ghost use Rattle.office_tables.specs.Calls.{Answers};
 ghost use Rattle.csv_import.specs.RowEntry.{RepresentsEntering};
 ghost use Rattle.csv_import.specs.KnownUnits.{IsAsked, KnowsAsked, KnowsUnits};
 
-use crate::legacy::{ByLegacy, Legacies, kept_number, note, remember};
+use crate::legacy::{Legacies, UnitNumbers, kept_number, note, remember};
 use atom_csv::Row;
 use catalogue_store::{Places, known};
 use isad_core::Text;
-use office_tables::value::NO_NUMBER;
-use office_tables::{StoreFault, Tables};
+use office_tables::{Number, StoreFault, Tables};
 use sqlite::Alter;
 use std::alloc::Global;
 
@@ -27,18 +25,11 @@ fn number_of<P: Places, S: Alter>(
     tables: &mut Tables<P, S>,
     source: &Text,
     legacy: &Text,
-) -> Result<Option<u64>, StoreFault>
+) -> Result<Option<Number>, StoreFault>
     ensures answers { Answers S.Store (RepresentsEntering P.version) (λ _. ⊤) tables.old tables.new result AreGoodUnits
         (λ _ c found. AreGoodUnits c → found ≡ number_there c source.now legacy.now) }
-    ensures small { IfOk result (λ found. IfSome found IsNumber) }
 {
-    let Some(unit) = known(alloc, tables, source, legacy)? else {
-        return Ok(None);
-    };
-    if unit >= NO_NUMBER {
-        return Err(StoreFault::Schema);
-    }
-    Ok(Some(unit))
+    known(alloc, tables, source, legacy)
 }
 
 /// Looks up the unit that has this number in the source, unless it was asked for before. If it is catalogued, its
@@ -48,16 +39,14 @@ fn look_up<P: Places, S: Alter>(
     tables: &mut Tables<P, S>,
     source: &Text,
     asked: &mut Legacies,
-    numbers: &mut ByLegacy,
+    numbers: &mut UnitNumbers,
     legacy: &Text,
 ) -> Result<(), StoreFault>
-    requires low { (q : Bytes) → IfSome (get_by_text numbers.old q) IsNumber }
     ensures answers { Answers S.Store (RepresentsEntering P.version) (λ _. ⊤) tables.old tables.new result AreGoodUnits
         (λ _ c _. AreGoodUnits c → KnowsAsked c source.now (contains_text asked.old) (get_by_text numbers.old)
         → KnowsAsked c source.now (contains_text asked.new) (get_by_text numbers.new)) }
     ensures asked { OnOk result ((q : Bytes) → contains_text asked.new q
         ≡ (bytes_eq q legacy.now || contains_text asked.old q)) }
-    ensures small { OnOk result ((q : Bytes) → IfSome (get_by_text numbers.new q) IsNumber) }
 {
     if !note(asked, alloc, legacy)? {
         return Ok(());
@@ -76,16 +65,14 @@ fn look_up_row<P: Places, S: Alter>(
     tables: &mut Tables<P, S>,
     source: &Text,
     asked: &mut Legacies,
-    numbers: &mut ByLegacy,
+    numbers: &mut UnitNumbers,
     row: &Row,
 ) -> Result<(), StoreFault>
-    requires low { (q : Bytes) → IfSome (get_by_text numbers.old q) IsNumber }
     ensures answers { Answers S.Store (RepresentsEntering P.version) (λ _. ⊤) tables.old tables.new result AreGoodUnits
         (λ _ c _. AreGoodUnits c → KnowsAsked c source.now (contains_text asked.old) (get_by_text numbers.old)
         → KnowsAsked c source.now (contains_text asked.new) (get_by_text numbers.new)
         × IsAsked c source.now (contains_text asked.new) row.now) }
     ensures more { OnOk result ((q : Bytes) → contains_text asked.old q ≡ true → contains_text asked.new q ≡ true) }
-    ensures small { OnOk result ((q : Bytes) → IfSome (get_by_text numbers.new q) IsNumber) }
 {
     look_up(alloc, tables, source, asked, numbers, &row.legacy)?;
     if kept_number(numbers, &row.legacy).is_some() {
@@ -105,13 +92,12 @@ pub(crate) fn known_units<P: Places, S: Alter>(
     tables: &mut Tables<P, S>,
     source: &Text,
     rows: &[Row],
-) -> Result<ByLegacy, StoreFault>
+) -> Result<UnitNumbers, StoreFault>
     ensures answers { Answers S.Store (RepresentsEntering P.version) (λ _. ⊤) tables.old tables.new result AreGoodUnits
         (λ _ c numbers. AreGoodUnits c → KnowsUnits c source.now rows.now (get_by_text numbers)) }
-    ensures small { IfOk result (λ numbers. (legacy : Bytes) → IfSome (get_by_text numbers legacy) IsNumber) }
 {
     let mut asked = Legacies::new(alloc);
-    let mut numbers = ByLegacy::new(alloc);
+    let mut numbers = UnitNumbers::new(alloc);
     for row in rows {
         look_up_row(alloc, tables, source, &mut asked, &mut numbers, row)?;
     }

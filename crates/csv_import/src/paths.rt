@@ -1,7 +1,6 @@
 //! The paths of the units that a file's rows name.
 
-ghost use Rattle.std.specs.Prelude.{◌≡◌, map, IfSome, ⊤};
-ghost use Rattle.isad_core.specs.Limits.{IsNumber};
+ghost use Rattle.std.specs.Prelude.{◌≡◌, map, ⊤};
 ghost use Rattle.isad_core.specs.Texts.{Bytes};
 ghost use Rattle.tree_core.specs.Forest.{path};
 ghost use Rattle.catalogue_core.specs.Bounds.{IsKept};
@@ -12,7 +11,7 @@ ghost use Rattle.office_tables.specs.Calls.{Answers};
 ghost use Rattle.catalogue_statements.specs.Representation.{Represents};
 
 use catalogue_store::Places;
-use office_tables::{StoreFault, Tables};
+use office_tables::{Number, StoreFault, Tables};
 use sqlite::Alter;
 use std::alloc::Global;
 
@@ -20,9 +19,8 @@ use std::alloc::Global;
 pub(crate) fn path_of<P: Places, S: Alter>(
     alloc: Global,
     tables: &mut Tables<P, S>,
-    unit: Option<u64>,
-) -> Result<Vec<u64>, StoreFault>
-    requires small { IfSome unit IsNumber }
+    unit: Option<Number>,
+) -> Result<Vec<Number>, StoreFault>
     ensures answers { Answers S.Store (Represents P.represents P.version) IsKept tables.old tables.new result (λ _. ⊤)
         (λ _ c ids. AreGoodUnits c → (source legacy : Bytes) → unit ≡ number_there c source legacy
         → ids.items ≡ map (λ unit. unit.id) (path (is_from source legacy) c.forest)) }

@@ -1,10 +1,8 @@
 //! What is known of an import before its rows are entered.
 
-ghost use Rattle.std.specs.Prelude.{◌≡◌, ◌+◌, ◌<◌, ◌^◌, ℕ, Some, length};
-ghost use Rattle.std.specs.BTreeMap.{get_by_text};
-ghost use Rattle.isad_core.specs.Texts.{Bytes};
+ghost use Rattle.std.specs.Prelude.{◌+◌, ◌<◌, ◌^◌, length};
 
-use crate::legacy::ByLegacy;
+use crate::legacy::UnitNumbers;
 use atom_csv::Row;
 use isad_core::Text;
 
@@ -14,9 +12,8 @@ pub(crate) struct Import<'a> {
     pub(crate) source: &'a Text,
     pub(crate) rows: &'a [Row],
     /// The numbers of the catalogued units among those of the rows and their parents.
-    pub(crate) catalogued: &'a ByLegacy,
+    pub(crate) catalogued: &'a UnitNumbers,
     /// The number of the first unit that is added.
     pub(crate) next: u64,
     ghost few: { next + length rows.now < 2 ^ 63 },
-    ghost small: { (legacy : Bytes) (unit : ℕ) → get_by_text catalogued.now legacy ≡ Some unit → unit < 2 ^ 63 },
 }

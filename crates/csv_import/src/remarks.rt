@@ -1,10 +1,9 @@
 //! The remarks on the rows of a file, after these were entered.
 
 ghost use Rattle.std.specs.Prelude.{◌≡◌, Some, find, is_some, IfSome, ⊤};
-ghost use Rattle.std.specs.List.{AllByRecursion, list_all};
+ghost use Rattle.std.specs.List.{list_all};
 ghost use Rattle.std.specs.Option.{option_to_list};
 ghost use Rattle.isad_core.specs.Levels.{rank_of};
-ghost use Rattle.isad_core.specs.Limits.{IsNumber};
 ghost use Rattle.isad_core.specs.Texts.{Bytes};
 ghost use Rattle.isad_core.specs.Values.{text_of};
 ghost use Rattle.tree_core.specs.Forest.{nodes, path};
@@ -23,8 +22,7 @@ use catalogue_statements::units::find_level;
 use catalogue_store::Places;
 use isad_core::{Element, List, Values, is_blank, rank};
 use office_core::Remark;
-use office_tables::value::NO_NUMBER;
-use office_tables::{StoreFault, Tables};
+use office_tables::{Number, StoreFault, Tables};
 use sqlite::Alter;
 use std::alloc::Global;
 
@@ -67,16 +65,16 @@ fn is_above(rank: Option<u8>, other: Option<u8>) -> bool
 /// mostly stand together.
 #[derive(Clone, Copy)]
 struct Ranked {
-    unit: u64,
+    unit: Number,
     rank: Option<u8>,
 }
 
 /// What is kept, if it is for the unit with this number.
-fn kept_of(last: Option<Ranked>, unit: u64) -> Option<Ranked>
-    ensures { IfSome result (λ ranked. (last ≡ Some ranked) × (ranked.unit ≡ unit)) }
+fn kept_of(last: &Option<Ranked>, unit: Number) -> Option<Ranked>
+    ensures { IfSome result (λ ranked. (last.now ≡ Some ranked) × (ranked.unit ≡ unit)) }
 {
     match last {
-        Some(ranked) if ranked.unit == unit => Some(ranked),
+        Some(ranked) if ranked.unit == unit => Some(*ranked),
         _ => None,
     }
 }
@@ -85,9 +83,8 @@ fn kept_of(last: Option<Ranked>, unit: u64) -> Option<Ranked>
 fn rank_there<P: Places, S: Alter>(
     alloc: Global,
     tables: &mut Tables<P, S>,
-    unit: u64,
+    unit: Number,
 ) -> Result<Option<u8>, StoreFault>
-    requires small { IsNumber unit }
     ensures answers { Answers S.Store (Represents P.represents P.version) IsKept tables.old tables.new result (λ _. ⊤)
         (λ _ c rank. IsRankOf c unit rank) }
 {
@@ -102,13 +99,12 @@ fn kept_rank<P: Places, S: Alter>(
     alloc: Global,
     tables: &mut Tables<P, S>,
     last: &mut Option<Ranked>,
-    unit: u64,
+    unit: Number,
 ) -> Result<Option<u8>, StoreFault>
-    requires small { IsNumber unit }
     ensures answers { Answers S.Store (Represents P.represents P.version) IsKept tables.old tables.new result (λ _. ⊤)
         (λ _ c rank. IsRanked c last.old → IsRankOf c unit rank × IsRanked c last.new) }
 {
-    if let Some(ranked) = kept_of(*last, unit) {
+    if let Some(ranked) = kept_of(last, unit) {
         return Ok(ranked.rank);
     }
     let rank = rank_there(alloc, tables, unit)?;
@@ -121,7 +117,7 @@ fn remark_below<P: Places, S: Alter>(
     alloc: Global,
     tables: &mut Tables<P, S>,
     last: &mut Option<Ranked>,
-    parent: u64,
+    parent: Number,
     row: &Row,
 ) -> Result<Option<Remark>, StoreFault>
     ensures answers { Answers S.Store (Represents P.represents P.version) IsKept tables.old tables.new result
@@ -131,9 +127,6 @@ fn remark_below<P: Places, S: Alter>(
         → option_to_list told ≡ remark_if (is_level_above (rank_of row.now.values.level) (rank_of unit.values.level))
         (LevelTooHigh row.now.row))) }
 {
-    if parent >= NO_NUMBER {
-        return Err(StoreFault::Schema);
-    }
     let above = kept_rank(alloc, tables, last, parent)?;
     if is_above(rank(row.values.level.as_str()), above) {
         return Ok(Some(Remark::LevelTooHigh { row: row.row }));
@@ -156,16 +149,16 @@ fn remark_on<P: Places, S: Alter>(
     alloc: Global,
     tables: &mut Tables<P, S>,
     last: &mut Option<Ranked>,
-    parent: Option<u64>,
+    parent: &Option<Number>,
     row: &Row,
 ) -> Result<Option<Remark>, StoreFault>
     ensures answers { (source : Bytes) → Answers S.Store (Represents P.represents P.version) IsKept tables.old
-        tables.new result (HasParent source row.now parent) (λ _ c told. IsRanked c last.old
-        → HasParent source row.now parent c → IsRanked c last.new
+        tables.new result (HasParent source row.now parent.now) (λ _ c told. IsRanked c last.old
+        → HasParent source row.now parent.now c → IsRanked c last.new
         × (option_to_list told ≡ reply.remark_on row.now.row (path (is_from source row.now.legacy) c.forest))) }
 {
     match parent {
-        Some(parent) => remark_below(alloc, tables, last, parent, row),
+        Some(parent) => remark_below(alloc, tables, last, *parent, row),
         None => Ok(remark_on_top(row)),
     }
 }
@@ -174,7 +167,7 @@ fn remark_on<P: Places, S: Alter>(
 fn remarks_below<P: Places, S: Alter>(
     alloc: Global,
     tables: &mut Tables<P, S>,
-    parents: &[Option<u64>],
+    parents: &[Option<Number>],
     rows: &[Row],
 ) -> Result<List<Remark>, StoreFault>
     ensures answers { (source : Bytes) → Answers S.Store (Represents P.represents P.version) IsKept tables.old
@@ -184,7 +177,7 @@ fn remarks_below<P: Places, S: Alter>(
     let mut told = List::new(alloc);
     let mut last = None;
     for (row, parent) in rows.iter().zip(parents) {
-        if let Some(remark) = remark_on(alloc, tables, &mut last, *parent, row)? {
+        if let Some(remark) = remark_on(alloc, tables, &mut last, parent, row)? {
             told.push(remark)?;
         }
     }
@@ -196,10 +189,9 @@ fn remarks_below<P: Places, S: Alter>(
 pub(crate) fn remarks<P: Places, S: Alter>(
     alloc: Global,
     tables: &mut Tables<P, S>,
-    units: &[u64],
+    units: &[Number],
     rows: &[Row],
 ) -> Result<List<Remark>, StoreFault>
-    requires small { AllByRecursion IsNumber units.now }
     ensures answers { (source : Bytes) → Answers S.Store (Represents P.represents P.version) IsKept tables.old
         tables.new result (HaveUnits source rows.now units.now)
         (λ _ c told. HaveUnits source rows.now units.now c → told ≡ reply.remarks c.forest source rows.now) }

@@ -1,12 +1,10 @@
 //! The rows of a file, entered into the tables of a catalogue.
 
-ghost use Rattle.std.specs.Prelude.{◌≡◌, ◌+◌, ◌<◌, ◌≤◌, ◌^◌, [], ◌∷◌, cond, find, is_some, length};
-ghost use Rattle.std.specs.Prelude.{map, None, Some, IfOk, IfSome, ⊤};
+ghost use Rattle.std.specs.Prelude.{◌≡◌, ◌+◌, ◌<◌, ◌≤◌, ◌^◌, [], ◌∷◌, find, length, map, None, Some};
+ghost use Rattle.std.specs.Prelude.{IfOk, IfErr, ⊤};
 ghost use Rattle.std.specs.BTreeMap.{get_by_text};
-ghost use Rattle.std.specs.List.{AllByRecursion};
 ghost use Rattle.sqlite.specs.Held.{state};
 ghost use Rattle.sqlite.specs.State.{HasCleanDisk};
-ghost use Rattle.isad_core.specs.Limits.{IsNumber};
 ghost use Rattle.tree_core.specs.Forest.{nodes};
 ghost use Rattle.catalogue_core.specs.Descriptions.{with_values};
 ghost use Rattle.catalogue_core.specs.Intake.{same_values, unit_of};
@@ -15,7 +13,6 @@ ghost use Rattle.catalogue_core.specs.EntryByRow.{number_there, with_new};
 ghost use Rattle.catalogue_core.specs.Units.{«Unit» as Described, has_id};
 ghost use Rattle.catalogue_statements.specs.Representation.{RepresentsNumbered, catalogue_trees, described_trees};
 ghost use Rattle.catalogue_statements.specs.declared.office.OfficeRow.{OfficeRow};
-ghost use Rattle.tree_places.specs.Arrivals.{IsNumbered};
 ghost use Rattle.office_tables.specs.Calls.{Updates};
 ghost use Rattle.csv_import.specs.PendingImport.{AreNext, Brings, ReadsCatalogue, IsPending, counted_in, imported};
 ghost use Rattle.csv_import.specs.RowEntry.{RepresentsEntering, RepresentsLegible, catalogue_after};
@@ -29,10 +26,10 @@ use atom_csv::Row;
 use catalogue_statements::office::set_next_unit;
 use catalogue_store::{NewUnit, Places, enter_unit, enter_values, values as values_of};
 use isad_core::{Text, Values};
-use office_tables::{StoreFault, Tables};
+use office_tables::{Number, StoreFault, Tables, known_number};
 use sqlite::Alter;
-use std::alloc::{AllocError, Global};
-use tree_core::Arrival;
+use std::alloc::Global;
+use tree_places::NumberedArrival;
 
 /// How many rows of a file changed a unit, added one, or left one as it was.
 #[derive(Clone, Copy, Debug, PartialEq, Eq)]
@@ -46,7 +43,7 @@ pub struct Counts {
 #[derive(Drop)]
 pub(crate) struct Outcome {
     pub(crate) counts: Counts,
-    pub(crate) units: Vec<u64>,
+    pub(crate) units: Vec<Number>,
 }
 
 /// The effect of a row.
@@ -71,10 +68,9 @@ fn are_same(some: &Values, others: &Values) -> bool
 fn enter_known<P: Places, S: Alter>(
     alloc: Global,
     tables: &mut Tables<P, S>,
-    unit: u64,
+    unit: Number,
     values: &Values,
 ) -> Result<Entry, StoreFault>
-    requires small { IsNumber unit }
     ensures updates { Updates S.Store (RepresentsEntering P.version) (λ _. ⊤) tables.old tables.new result
         (MayChange unit values.now) (with_values unit values.now) described_trees }
     ensures told { HasCleanDisk (state S.Store tables.new) → (o : OfficeRow) (c : Catalogue)
@@ -97,10 +93,9 @@ fn enter_new<P: Places, S: Alter>(
     alloc: Global,
     tables: &mut Tables<P, S>,
     source: &Text,
-    next: u64,
+    next: Number,
     row: &Row,
 ) -> Result<Entry, StoreFault>
-    requires small { IsNumber next }
     ensures updates { Updates S.Store (RepresentsEntering P.version) (λ _. ⊤) tables.old tables.new result
         (MayCome source.now row.now next) (with_new source.now row.now) described_trees }
     ensures told { IfOk result (λ entry. entry ≡ entry_of None row.now.values) }
@@ -122,12 +117,10 @@ fn enter_row<P: Places, S: Alter>(
     alloc: Global,
     tables: &mut Tables<P, S>,
     source: &Text,
-    number: Option<u64>,
-    next: u64,
+    number: Option<Number>,
+    next: Number,
     row: &Row,
 ) -> Result<Entry, StoreFault>
-    requires low { IfSome number IsNumber }
-    requires small { IsNumber next }
     ensures updates { Updates S.Store (RepresentsEntering P.version) (λ _. ⊤) tables.old tables.new result
         (IsTurnOf source.now row.now number next) (catalogue_after source.now (row.now ∷ [])) described_trees }
     ensures told { ReadsCatalogue S.Store (RepresentsEntering P.version) (IsTurnOf source.now row.now number next)
@@ -182,37 +175,30 @@ fn enter_each<P: Places, S: Alter>(
     };
     for row in import.rows {
         let number = kept_number(import.catalogued, &row.legacy);
-        let next = import.next + counts.new;
+        let next = known_number(import.next + counts.new)?;
         let became = enter_row(alloc, tables, import.source, number, next, row)?;
         counts = count(counts, became);
     }
     Ok(counts)
 }
 
-/// The next new number after a row. The row's unit has a number already, or takes this one.
-fn number_after(number: u64, known: Option<u64>) -> u64
-    requires { number + 1 < 2 ^ 64 }
-    ensures value { result ≡ number + cond (is_some known) 0 1 }
-    ensures few { result ≤ number + 1 }
-{
-    match known {
-        Some(_) => number,
-        None => number + 1,
-    }
-}
-
 /// The units of the rows in their order: those that are catalogued, and new ones.
-fn units_of(alloc: Global, import: &Import<'_>) -> Result<Vec<u64>, AllocError>
+fn units_of(alloc: Global, import: &Import<'_>) -> Result<Vec<Number>, StoreFault>
     ensures units { IfOk result (λ units. units.items
         ≡ units_from (get_by_text import.now.catalogued.now) import.now.next import.now.rows.now) }
-    ensures small { IfOk result (λ units. AllByRecursion IsNumber units.items) }
+    ensures faults { IfErr result (λ e. e ≡ StoreFault.Memory) }
 {
     let mut units = Vec::new(alloc);
     let mut number = import.next;
     for row in import.rows {
-        let known = kept_number(import.catalogued, &row.legacy);
-        units.push(known.unwrap_or(number))?;
-        number = number_after(number, known);
+        match kept_number(import.catalogued, &row.legacy) {
+            Some(unit) => units.push(unit)?,
+            None => {
+                let unit = known_number(number)?;
+                units.push(unit)?;
+                number += 1;
+            }
+        }
     }
     Ok(units)
 }
@@ -222,9 +208,8 @@ fn enter_with_places<P: Places, S: Alter>(
     alloc: Global,
     tables: &mut Tables<P, S>,
     import: &Import<'_>,
-    arrivals: &[Arrival],
+    arrivals: &[NumberedArrival],
 ) -> Result<Counts, StoreFault>
-    requires numbered { AllByRecursion IsNumbered arrivals.now }
     ensures updates { Updates S.Store (RepresentsNumbered P.represents P.version) (λ _. ⊤) tables.old tables.new result
         (Brings import.now arrivals.now) (imported import.now) catalogue_trees }
     ensures counts { ReadsCatalogue S.Store (RepresentsNumbered P.represents P.version) (Brings import.now arrivals.now)
@@ -232,7 +217,8 @@ fn enter_with_places<P: Places, S: Alter>(
 {
     P::add_all(alloc, tables, arrivals)?;
     let counts = enter_each(alloc, tables, import)?;
-    set_next_unit(tables, import.next + counts.new)?;
+    let next = known_number(import.next + counts.new)?;
+    set_next_unit(tables, next)?;
     Ok(counts)
 }
 
@@ -248,7 +234,6 @@ pub(crate) fn enter_rows<P: Places, S: Alter>(
         tables.old tables.new
         result (λ c made. (made.counts ≡ counted_in c import.now) × (map Some made.units.items
         ≡ map (λ row. number_there (imported import.now c) import.now.source.now row.legacy) import.now.rows.now)) }
-    ensures small { IfOk result (λ made. AllByRecursion IsNumber made.units.items) }
 {
     let arrivals = arrivals(alloc, import)?;
     let units = units_of(alloc, import)?;

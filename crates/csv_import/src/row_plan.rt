@@ -1,8 +1,7 @@
 //! What is known about a file's rows before any is entered.
 
-ghost use Rattle.std.specs.Prelude.{◌≡◌, List, IfSome, ⊤};
+ghost use Rattle.std.specs.Prelude.{◌≡◌, List, ⊤};
 ghost use Rattle.std.specs.BTreeMap.{get_by_text};
-ghost use Rattle.isad_core.specs.Limits.{IsNumber};
 ghost use Rattle.isad_core.specs.Texts.{Bytes};
 ghost use Rattle.atom_csv.specs.declared.file.Row.{«Row» as RowTold};
 ghost use Rattle.catalogue_core.specs.Bounds.{IsKept};
@@ -15,7 +14,7 @@ ghost use Rattle.csv_import.specs.KnownUnits.{KnowsUnits, TellsParent, TellsPare
 ghost use Rattle.csv_import.specs.RowPlan.{KnowsDepths, at_depth, placing_of, plan_of};
 
 use crate::ancestor_depths::depths_below_many;
-use crate::legacy::{ByLegacy, kept_number, remember};
+use crate::legacy::{DepthsBelow, UnitNumbers, kept_number, remember};
 use crate::paths::path_of;
 use atom_csv::Row;
 use catalogue_store::Places;
@@ -56,11 +55,10 @@ enum Placing {
 fn depth_of<P: Places, S: Alter>(
     alloc: Global,
     tables: &mut Tables<P, S>,
-    catalogued: &ByLegacy,
-    depths: &mut ByLegacy,
+    catalogued: &UnitNumbers,
+    depths: &mut DepthsBelow,
     row: &Row,
 ) -> Result<Option<u64>, StoreFault>
-    requires low { (legacy : Bytes) → IfSome (get_by_text catalogued.now legacy) IsNumber }
     ensures answers { Answers S.Store (Represents P.represents P.version) IsKept tables.old tables.new result (λ _. ⊤)
         (λ _ c depth. AreGoodUnits c → (source : Bytes) → TellsParent c source (get_by_text catalogued.now) row.now
         → (above : List RowTold) → KnowsDepths c.forest source above (get_by_text depths.old)
@@ -98,11 +96,10 @@ fn placing_at(depth: Option<u64>) -> Placing
 fn place<P: Places, S: Alter>(
     alloc: Global,
     tables: &mut Tables<P, S>,
-    catalogued: &ByLegacy,
-    depths: &mut ByLegacy,
+    catalogued: &UnitNumbers,
+    depths: &mut DepthsBelow,
     row: &Row,
 ) -> Result<Placing, StoreFault>
-    requires low { (legacy : Bytes) → IfSome (get_by_text catalogued.now legacy) IsNumber }
     ensures answers { Answers S.Store (Represents P.represents P.version) IsKept tables.old tables.new result (λ _. ⊤)
         (λ _ c placing. AreGoodUnits c → (source : Bytes)
         → get_by_text catalogued.now row.now.legacy ≡ number_there c source row.now.legacy
@@ -123,10 +120,9 @@ fn place<P: Places, S: Alter>(
 pub(crate) fn plan<P: Places, S: Alter>(
     alloc: Global,
     tables: &mut Tables<P, S>,
-    catalogued: &ByLegacy,
+    catalogued: &UnitNumbers,
     rows: &[Row],
 ) -> Result<Planned, StoreFault>
-    requires low { (legacy : Bytes) → IfSome (get_by_text catalogued.now legacy) IsNumber }
     ensures answers { Answers S.Store (Represents P.represents P.version) IsKept tables.old tables.new result (λ _. ⊤)
         (λ _ c told. AreGoodUnits c → (source : Bytes) → KnowsUnits c source rows.now (get_by_text catalogued.now)
         → told ≡ plan_of c.forest source rows.now) }

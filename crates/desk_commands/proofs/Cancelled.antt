@@ -1,66 +1,49 @@
 -- An order that is cancelled, in the rows of the desk.
 use Rattle.std.proofs.Common.{◌≡◌, ℕ, true, false, nat_eq, List, [], ◌∷◌, Option, Some, None, Ok, Err, refl, sym, ap, ◌∙◌}
-use Rattle.std.specs.Prelude.{is_some}
-use Rattle.std.proofs.lemmas.Bool.{false≢true}
-use Rattle.sqlite.specs.Effect.{Database}
-use Rattle.sqlite.specs.Tree.{Trees}
-use Rattle.tree_core.specs.Forest.{Forest}
-use Rattle.office_tables.specs.Versions.{Version}
-use Rattle.desk_core.specs.DeskRows.{OrderRow, with_state}
-use Rattle.desk_core.specs.declared.refusal.Refusal.TheVariants.{OrderNotWaiting, UnknownOrder}
-use Rattle.desk_store.specs.Orders.{with_order_state}
 use Rattle.desk_store.specs.Orders as store
-use Rattle.desk_store.specs.Representation.{RepresentsDesk}
 use Rattle.desk_store.specs.declared.orders.OrderState.{OrderState}
 use Rattle.desk_store.specs.declared.orders.OrderState.TheVariants as states
-use Rattle.office_core.specs.Laws.{Standing, standing}
-use Rattle.office_core.specs.Rules.{cancelled, refusal}
-use Rattle.office_core.specs.SoundDesk.{is_out_for}
-use Rattle.office_core.specs.SoundOffice.{IsSoundOffice}
-use Rattle.office_core.specs.State.{Cancelled, State, container_of, waits}
-use Rattle.office_core.specs.Words.{some_and, stands}
-use Rattle.office_core.specs.declared.command.Command.{Command}
 use Rattle.office_core.specs.declared.command.Command.TheVariants as command
 use Rattle.office_core.specs.declared.done.Done.TheVariants as done
-use Rattle.office_core.proofs.Filed.{is_cancelled, only_cancels}
-use Rattle.office_core.proofs.OrderLaws.{stands_past}
-use Rattle.state_encoding.specs.DeskEncoding.{order_rows, state_number}
-use Rattle.state_encoding.specs.OfficeRows.{tables}
-use Rattle.state_encoding.proofs.TableLaws.{rows_moved}
+use Rattle.state_encoding.specs.DeskEncoding.{state_number}
 use Rattle.office_tables.specs.Schema as schema
-use Rattle.office_tables.specs.Step.{OnlyTouches}
-use Rattle.refinement.specs.CommandSteps.{CarriesOutStep}
-use Rattle.refinement.specs.Representation.{RepresentsState}
-use Rattle.refinement.proofs.CommandSteps.{accepts, refuses}
-use Rattle.refinement.proofs.OrderRows.{waits_by_row}
+use Rattle.desk_commands.proofs.Common.{Cancelled, CarriesOutStep, Command, Database, Forest, IsSoundOffice, OnlyTouches, OrderNotWaiting, OrderRow, RepresentsDesk, RepresentsState, Standing, State, Trees, UnknownOrder, Version, accepts, cancelled, container_of, false≢true, is_cancelled, is_out_for, is_some, only_cancels, order_rows, refusal, refuses, rows_moved, some_and, standing, stands, stands_past, tables, waits, waits_by_row, with_order_state, with_state}
 
 module _ (places : Trees → Forest ℕ → Type 0) (version : Version) (s : State) (o : ℕ) where
   abbrev asked : Command
   asked = command.Cancel o
 
-  pub unknown_order : (db : Database) → is_some (container_of s o) ≡ false → CarriesOutStep places version s asked (Err UnknownOrder) db
+  pub unknown_order : (db : Database) → is_some (container_of s o) ≡ false
+      → CarriesOutStep places version s asked (Err UnknownOrder) db
   unknown_order db unknown = let why : refusal s asked ≡ Some UnknownOrder = rw unknown refl in refuses places version s asked db UnknownOrder why
 
-  pub not_waiting : (db : Database) → is_some (container_of s o) ≡ true → waits s o ≡ false → CarriesOutStep places version s asked (Err OrderNotWaiting) db
+  pub not_waiting : (db : Database) → is_some (container_of s o) ≡ true → waits s o ≡ false
+      → CarriesOutStep places version s asked (Err OrderNotWaiting) db
   not_waiting db known not_so = let why : refusal s asked ≡ Some OrderNotWaiting = rw (known, not_so) refl in refuses places version s asked db OrderNotWaiting why
 
   -- the state of the row tells whether the order waits
-  pub waits_or_not : (state : OrderState) → store.state_number state ≡ state_number (standing s o) → waits s o ≡ nat_eq (store.state_number state) 1
+  pub waits_or_not : (state : OrderState) → store.state_number state ≡ state_number (standing s o)
+      → waits s o ≡ nat_eq (store.state_number state) 1
   waits_or_not state is = sym (waits_by_row s o) ∙ ap (λ n. nat_eq n 1) (sym is)
 
-  rows_after : IsSoundOffice s → (c : ℕ) → container_of s o ≡ Some c → stands o (s.queue c) ≡ true → order_rows (cancelled s o (Some c)) ≡ with_state o 4 (order_rows s)
+  rows_after : IsSoundOffice s → (c : ℕ) → container_of s o ≡ Some c → stands o (s.queue c) ≡ true
+      → order_rows (cancelled s o (Some c)) ≡ with_state o 4 (order_rows s)
   rows_after sound c is waiting =
       let t = cancelled s o (Some c) in
       rows_moved s t o (only_cancels s o c) refl
       ∙ ap (λ (x : Option Standing). with_state o (state_number x) (order_rows s))
       (stands_past (container_of t o) (λ k. stands o (t.queue k)) (λ k. is_out_for o (t.place k)) (t.past o) c Cancelled (is_cancelled s o c sound.sound.desk.filed is waiting))
 
-  pub cancels : IsSoundOffice s → ((old new : Trees) (f : Forest ℕ) → new schema.link.tree ≡ old schema.link.tree → places old f → places new f)
-      → (before now : Database) → waits s o ≡ true → RepresentsState places version before s → now.schema ≡ before.schema → OnlyTouches (schema.orders.tree ∷ []) before now
-      → RepresentsDesk now.trees (with_order_state o states.Cancelled (tables version s).desk) → CarriesOutStep places version s asked (Ok (done.Cancel o)) now
+  pub cancels : IsSoundOffice s
+      → ((old new : Trees) (f : Forest ℕ) → new schema.link.tree ≡ old schema.link.tree → places old f → places new f)
+      → (before now : Database) → waits s o ≡ true → RepresentsState places version before s
+      → now.schema ≡ before.schema → OnlyTouches (schema.orders.tree ∷ []) before now
+      → RepresentsDesk now.trees (with_order_state o states.Cancelled (tables version s).desk)
+      → CarriesOutStep places version s asked (Ok (done.Cancel o)) now
   cancels sound same before now waiting it schema_is only shown = at (container_of s o) refl waiting
     where
-      at : (container : Option ℕ) → container_of s o ≡ container → some_and (λ c. stands o (s.queue c)) container ≡ true → CarriesOutStep places version s asked (Ok (done.Cancel o)) now
+      at : (container : Option ℕ) → container_of s o ≡ container → some_and (λ c. stands o (s.queue c)) container ≡ true
+          → CarriesOutStep places version s asked (Ok (done.Cancel o)) now
       at None is w = absurd (false≢true w)
       at (Some c) is w =
           let known : is_some (container_of s o) ≡ true = ap is_some is in

@@ -1,31 +1,14 @@
 -- A day that begins, in the tables.
 use Rattle.std.proofs.Common.{◌≡◌, ℕ, true, false, List, [], ◌∷◌, Some, None, Ok, Err, refl, sym, ap, subst}
-use Rattle.std.specs.Prelude.{ℤ, int_lt}
-use Rattle.std.specs.List.{list_any}
-use Rattle.sqlite.specs.Effect.{Database}
-use Rattle.sqlite.specs.Tree.{Trees}
-use Rattle.tree_core.specs.Forest.{Forest}
-use Rattle.office_tables.specs.Versions.{Version, version_number}
-use Rattle.desk_core.specs.DeskRows.{SeatRow}
-use Rattle.desk_core.specs.declared.refusal.Refusal.TheVariants.{StillIssued}
+use Rattle.std.specs.Prelude.{ℤ}
 use Rattle.desk_store.specs.OfficeDay.{House, RepresentsBoth, opened}
 use Rattle.desk_store.specs.Seats.{all_free}
-use Rattle.desk_store.specs.Representation.{RepresentsDesk}
-use Rattle.office_core.specs.Rules.{Reply, after, refusal}
-use Rattle.office_core.specs.SoundOffice.{AreTexts}
-use Rattle.office_core.specs.State.{State, containers, is_out}
-use Rattle.office_core.specs.declared.command.Command.{Command}
 use Rattle.office_core.specs.declared.command.Command.TheVariants as command
 use Rattle.office_core.specs.declared.done.Done.TheVariants as done
-use Rattle.office_core.proofs.Texts.{always_texts}
-use Rattle.state_encoding.specs.OfficeRows.{tables}
 use Rattle.office_tables.specs.Schema as schema
-use Rattle.office_tables.specs.Step.{OnlyTouches}
-use Rattle.refinement.specs.CommandSteps.{CarriesOutStep}
-use Rattle.refinement.specs.Representation.{RepresentsState, office_of}
-use Rattle.refinement.proofs.Doings.{accepted, refused}
 use Rattle.refinement.proofs.Frames.{catalogue_with_office}
 use Rattle.refinement.proofs.EmptySeats.{none_seated}
+use Rattle.desk_commands.proofs.Common.{AreTexts, CarriesOutStep, Command, Database, Forest, OnlyTouches, Reply, RepresentsDesk, RepresentsState, SeatRow, State, StillIssued, Trees, Version, accepted, after, always_texts, containers, int_lt, is_out, list_any, office_of, refusal, refused, tables, version_number}
 
 -- the desk of a state, and what the office's own row tells
 abbrev pub house_of : Version → State → House
@@ -44,7 +27,8 @@ house_of version s = record {
   desk = (tables version s).desk;
 }
 
-pub shows_house : (places : Trees → Forest ℕ → Type 0) (version : Version) (db : Database) (s : State) → RepresentsState places version db s → RepresentsBoth db tt (house_of version s)
+pub shows_house : (places : Trees → Forest ℕ → Type 0) (version : Version) (db : Database) (s : State)
+    → RepresentsState places version db s → RepresentsBoth db tt (house_of version s)
 shows_house places version db s it = record { office = it.catalogue.catalogue.office; desk = it.desk }
 
 module _ (version : Version) (s : State) (day : ℤ) (later : int_lt s.day day ≡ true) where
@@ -63,15 +47,20 @@ module _ (version : Version) (s : State) (day : ℤ) (later : int_lt s.day day �
   is_refused : list_any (is_out s) (containers s) ≡ true → refusal s asked ≡ Some StillIssued
   is_refused some = rw (later, some) refl
 
-  pub refuses_day : (places : Trees → Forest ℕ → Type 0) (db : Database) → list_any (is_out s) (containers s) ≡ true → CarriesOutStep places version s asked (Err StillIssued) db
+  pub refuses_day : (places : Trees → Forest ℕ → Type 0) (db : Database) → list_any (is_out s) (containers s) ≡ true
+      → CarriesOutStep places version s asked (Err StillIssued) db
   refuses_day places db some = record {
     told = sym (ap (λ (p : State × Reply). p.1) (refused s asked StillIssued (is_refused some)));
     represents = λ ok. absurd (cc);
   }
 
-  pub opens_day : (places : Trees → Forest ℕ → Type 0) → ((old new : Trees) (f : Forest ℕ) → new schema.link.tree ≡ old schema.link.tree → places old f → places new f)
-      → (before now : Database) → list_any (is_out s) (containers s) ≡ false → RepresentsState places version before s → now.schema ≡ before.schema
-      → OnlyTouches (schema.seat.tree ∷ schema.office.tree ∷ []) before now → RepresentsBoth now tt (opened day (house_of version s)) → CarriesOutStep places version s asked (Ok (done.OpenDay day)) now
+  pub opens_day : (places : Trees → Forest ℕ → Type 0)
+      → ((old new : Trees) (f : Forest ℕ) → new schema.link.tree ≡ old schema.link.tree → places old f → places new f)
+      → (before now : Database) → list_any (is_out s) (containers s) ≡ false → RepresentsState places version before s
+      → now.schema ≡ before.schema
+      → OnlyTouches (schema.seat.tree ∷ schema.office.tree ∷ []) before now
+      → RepresentsBoth now tt (opened day (house_of version s))
+      → CarriesOutStep places version s asked (Ok (done.OpenDay day)) now
   opens_day places same before now none it schema_is only house =
       let one = accepted s asked (not_refused none) in
       let texts = always_texts s (asked ∷ []) (tt, tt) it.texts in

@@ -1,36 +1,13 @@
 -- What a run takes, by the rows of the desk and in the state: its lines, its containers and its number.
 use Rattle.std.proofs.Common.{◌≡◌, ℕ, zero, suc, ◌+◌, ◌<◌, ◌≤◌, Bool, true, false, cond, ◌&&◌, ◌||◌, nat_eq, List, [], ◌∷◌, ◌++◌, length, map, filter, take, Option, Some, None, inl, inr, refl, sym, ap, subst, ◌∙◌, arith}
-use Rattle.std.specs.Prelude.{filter_map, nat_le, nat_lt, option_map}
-use Rattle.std.specs.List.{AllByRecursion, IsDistinct, cons_option, list_any}
-use Rattle.std.specs.List.Sorted.{IsPermutation}
-use Rattle.std.proofs.lemmas.Bool.{and_parts, cases_Bool, eqb-true, false≢true}
-use Rattle.std.proofs.lemmas.Bool.Decides.{nat_tests}
-use Rattle.std.proofs.lemmas.List.{append-nil, append_assoc, length-append, length-map, take-map}
-use Rattle.std.proofs.lemmas.List.Sorted.{IsPermutation-append_right, IsPermutation-map}
-use Rattle.catalogue_core.specs.Members.{StandsIn}
-use Rattle.isad_core.specs.Limits.{most_runs}
-use Rattle.desk_core.specs.DeskRows.{OrderRow, RunLineRow}
+use Rattle.std.specs.List.{IsDistinct}
 use Rattle.desk_core.specs.Orders.{in_order}
 use Rattle.desk_core.proofs.OrderLemmas.{in_order-permutation}
-use Rattle.desk_store.specs.Holdings.{candidates_of, is_first, is_on_shelf}
-use Rattle.desk_store.specs.Runs.{TakesEachOnce, line_of, next_run}
-use Rattle.desk_store.specs.declared.container_orders.ContainerOrder.{ContainerOrder}
-use Rattle.office_core.specs.SoundDesk.{IsAscending}
-use Rattle.office_core.specs.SoundOffice.{IsSoundOffice}
-use Rattle.office_core.specs.State.{Line, Order, Run, State, brings, is_due, is_line_before, is_shelf, line_for, opens, orders_of_run}
+use Rattle.desk_store.specs.Runs.{next_run}
 use Rattle.office_core.specs.State as state
-use Rattle.office_core.specs.Words.{first, is_empty, nth, numbers_to, some_and, stands}
 use Rattle.office_core.proofs.Counts.{numbered_from_one}
-use Rattle.office_core.proofs.Filed.{picked_due}
 use Rattle.office_core.proofs.LineOrder.{any-in_order}
-use Rattle.office_core.proofs.Words.{numbered_within}
-use Rattle.state_encoding.specs.DeskEncoding.{lines_from, order_row, order_rows, run_line_row, run_line_rows, run_row}
-use Rattle.state_encoding.specs.OfficeRows.{tables}
-use Rattle.state_encoding.proofs.DeskLookups.{flipped}
-use Rattle.state_encoding.proofs.Members.{all_of_in, in_filter, in_map}
-use Rattle.state_encoding.proofs.NumberedRows.{in_rows, length-rows}
-use Rattle.office_tables.specs.Versions.{Version}
-use Rattle.desk_commands.specs.RunCreation.{taken_by}
+use Rattle.desk_commands.proofs.Common.{AllByRecursion, ContainerOrder, IsAscending, IsPermutation, IsPermutation-append_right, IsPermutation-map, IsSoundOffice, Line, Order, OrderRow, Run, RunLineRow, StandsIn, State, TakesEachOnce, Version, all_of_in, and_parts, append-nil, append_assoc, brings, candidates_of, cases_Bool, cons_option, eqb-true, false≢true, filter_map, first, flipped, in_filter, in_map, in_rows, is_due, is_empty, is_first, is_line_before, is_on_shelf, is_shelf, length-append, length-map, length-rows, line_for, line_of, lines_from, list_any, most_runs, nat_le, nat_lt, nat_tests, nth, numbered_within, numbers_to, opens, option_map, order_row, order_rows, orders_of_run, picked_due, run_line_row, run_line_rows, run_row, some_and, stands, tables, take-map, taken_by}
 use Rattle.desk_commands.proofs.MovedAll.{AreWithin, all_taken}
 use Rattle.desk_commands.proofs.Picked.{due_shown, is_open_for}
 use Rattle.desk_commands.proofs.Reshelved.{all_left, rising_left, rising_to}
@@ -38,7 +15,8 @@ use Rattle.desk_commands.proofs.Reshelved.{all_left, rising_left, rising_to}
 -- ---- the first of a list that pass
 
 -- of those that pass, the first that pass are the first
-pub enough : {X : Type 0} (test : X → Bool) (i : ℕ) (xs : List X) → take (length (filter test (take i xs))) (filter test xs) ≡ filter test (take i xs)
+pub enough : {X : Type 0} (test : X → Bool) (i : ℕ) (xs : List X)
+    → take (length (filter test (take i xs))) (filter test xs) ≡ filter test (take i xs)
 enough test zero xs = refl
 enough test (suc i) [] = refl
 enough test (suc i) (x ∷ xs) = at (test x) (enough test i xs)
@@ -48,7 +26,8 @@ enough test (suc i) (x ∷ xs) = at (test x) (enough test i xs)
     at true rest = ap (λ l. x ∷ l) rest
     at false rest = rest
 
-pub one_more_fits : {X : Type 0} (xs ys : List X) (x : X) (most : ℕ) → ys ≡ xs ++ x ∷ [] → length xs < most → length ys ≤ most
+pub one_more_fits : {X : Type 0} (xs ys : List X) (x : X) (most : ℕ) → ys ≡ xs ++ x ∷ [] → length xs < most
+    → length ys ≤ most
 one_more_fits xs ys x most is room = let e = ap length is ∙ length-append xs (x ∷ []) in omega (arith, e, room)
 
 rising_taken : (k : ℕ) (ns : List ℕ) → IsAscending ns → IsAscending (take k ns)
@@ -66,21 +45,24 @@ none_mapped f (x ∷ xs) = refl
 abbrev pub as_line : ContainerOrder → Line
 as_line o = record { container = o.container; order = o.order; ticket = o.ticket }
 
-lines_more : (n : ℕ) (runs : List Run) (run : Run) → lines_from n (runs ++ run ∷ []) ≡ lines_from n runs ++ map (run_line_row (n + length runs)) run.lines
+lines_more : (n : ℕ) (runs : List Run) (run : Run)
+    → lines_from n (runs ++ run ∷ []) ≡ lines_from n runs ++ map (run_line_row (n + length runs)) run.lines
 lines_more n [] run = append-nil (map (run_line_row n) run.lines) ∙ ap (λ k. map (run_line_row k) run.lines) (let e : n ≡ n + 0 = omega arith in e)
 lines_more n (r ∷ runs) run =
     ap (λ l. map (run_line_row n) r.lines ++ l) (lines_more (suc n) runs run ∙ ap (λ k. lines_from (suc n) runs ++ map (run_line_row k) run.lines) (let e : suc n + length runs ≡ n + suc (length runs) = omega arith in e))
     ∙ sym (append_assoc (map (run_line_row n) r.lines) (lines_from (suc n) runs) (map (run_line_row (n + suc (length runs))) run.lines))
 
 -- the lines of the last run come last
-lines_end : (runs : List Run) (run : Run) → lines_from 1 (runs ++ run ∷ []) ≡ lines_from 1 runs ++ map (run_line_row (suc (length runs))) run.lines
+lines_end : (runs : List Run) (run : Run)
+    → lines_from 1 (runs ++ run ∷ []) ≡ lines_from 1 runs ++ map (run_line_row (suc (length runs))) run.lines
 lines_end runs run = lines_more 1 runs run ∙ ap (λ k. lines_from 1 runs ++ map (run_line_row k) run.lines) (let e : 1 + length runs ≡ suc (length runs) = omega arith in e)
 
 line_rows : (n : ℕ) (os : List ContainerOrder) → map (run_line_row n) (map as_line os) ≡ map (line_of n) os
 line_rows n [] = refl
 line_rows n (o ∷ os) = ap (λ l. line_of n o ∷ l) (line_rows n os)
 
-any_line : (c : ℕ) (os : List ContainerOrder) → list_any (λ (line : Line). nat_eq line.container c) (map as_line os) ≡ stands c (map (λ (o : ContainerOrder). o.container) os)
+any_line : (c : ℕ) (os : List ContainerOrder)
+    → list_any (λ (line : Line). nat_eq line.container c) (map as_line os) ≡ stands c (map (λ (o : ContainerOrder). o.container) os)
 any_line c [] = refl
 any_line c (o ∷ os) = ap (λ b. b || list_any (λ (line : Line). nat_eq line.container c) (map as_line os)) (flipped o.container c) ∙ ap (λ b. nat_eq c o.container || b) (any_line c os)
 
@@ -100,7 +82,8 @@ module _ (s : State) where
       ∙ ap (λ c. Some (let line : Line = record { container = c; order = o.order; ticket = it.order.ticket } in line)) it.container
       ∙ ap (λ t. Some (let line : Line = record { container = o.container; order = o.order; ticket = t } in line)) it.ticket
 
-  lines_for : (os : List ContainerOrder) → AllByRecursion (IsPlaced s) os → filter_map (line_for s) (map (λ (o : ContainerOrder). o.order) os) ≡ map as_line os
+  lines_for : (os : List ContainerOrder) → AllByRecursion (IsPlaced s) os
+      → filter_map (line_for s) (map (λ (o : ContainerOrder). o.order) os) ≡ map as_line os
   lines_for [] h = refl
   lines_for (o ∷ os) h =
       ap (λ line. cons_option line (filter_map (line_for s) (map (λ (o : ContainerOrder). o.order) os))) (line_is o h.0)
@@ -120,8 +103,10 @@ module _ (s : State) where
   one_head (Some n) o p a b = eqb-true o n a ∙ sym (eqb-true p n b)
 
   -- orders that come later are first for other containers
-  others : (o : ContainerOrder) (os : List ContainerOrder) → IsHead o → AllByRecursion (IsPlaced s) os → AllByRecursion (λ n. is_due s n ≡ true) (map (λ (o : ContainerOrder). o.order) os)
-      → AllByRecursion (λ n. o.order < n) (map (λ (o : ContainerOrder). o.order) os) → AllByRecursion (λ c. nat_eq o.container c ≡ false) (map (λ (o : ContainerOrder). o.container) os)
+  others : (o : ContainerOrder) (os : List ContainerOrder) → IsHead o → AllByRecursion (IsPlaced s) os
+      → AllByRecursion (λ n. is_due s n ≡ true) (map (λ (o : ContainerOrder). o.order) os)
+      → AllByRecursion (λ n. o.order < n) (map (λ (o : ContainerOrder). o.order) os)
+      → AllByRecursion (λ c. nat_eq o.container c ≡ false) (map (λ (o : ContainerOrder). o.container) os)
   others o [] head placed due later = tt
   others o (x ∷ os) head placed due later = (apart, others o os head placed.1 due.1 later.1)
     where
@@ -135,19 +120,24 @@ module _ (s : State) where
         | inr other ↦ other
       ]
 
-  each_once : (os : List ContainerOrder) → AllByRecursion (IsPlaced s) os → AllByRecursion (λ n. is_due s n ≡ true) (map (λ (o : ContainerOrder). o.order) os)
-      → IsAscending (map (λ (o : ContainerOrder). o.order) os) → IsDistinct nat_eq (map (λ (o : ContainerOrder). o.container) os)
+  each_once : (os : List ContainerOrder) → AllByRecursion (IsPlaced s) os
+      → AllByRecursion (λ n. is_due s n ≡ true) (map (λ (o : ContainerOrder). o.order) os)
+      → IsAscending (map (λ (o : ContainerOrder). o.order) os)
+      → IsDistinct nat_eq (map (λ (o : ContainerOrder). o.container) os)
   unfolding IsDistinct
   each_once [] placed due rises = tt
-  each_once (o ∷ os) placed due rises = (others o os (head_of o placed.0 due.0) placed.1 due.1 rises.0, each_once os placed.1 due.1 rises.1)
+  each_once (o ∷ os) placed due rises =
+      (others o os (head_of o placed.0 due.0) placed.1 due.1 rises.0, each_once os placed.1 due.1 rises.1)
 
 -- ---- what the next run takes
 
 module _ (version : Version) (s : State) where
   candidate_placed : (o : ContainerOrder) → StandsIn o (candidates_of (tables version s).desk) → IsPlaced s o
   candidate_placed o k =
-      let as_first : OrderRow → ContainerOrder = λ row. record { container = row.container; order = row.id; ticket = row.ticket } in
-      let test : OrderRow → Bool = λ row. is_first (tables version s).desk row && is_on_shelf (tables version s).desk row.container in
+      let as_first : OrderRow → ContainerOrder =
+      λ row. record { container = row.container; order = row.id; ticket = row.ticket } in
+      let test : OrderRow → Bool =
+      λ row. is_first (tables version s).desk row && is_on_shelf (tables version s).desk row.container in
       let i = in_map as_first (filter test (order_rows s)) o k in
       let m = in_rows (order_row s) s.orders i.0 (in_filter test (order_rows s) i.0 i.1).0 in
       subst (IsPlaced s) (sym (i.2 ∙ ap as_first m.3)) (record { order = m.1; there = m.2; container = refl; ticket = refl })
@@ -171,9 +161,12 @@ module _ (version : Version) (s : State) where
     none_taken = ap is_empty picked_are ∙ none_mapped (λ (o : ContainerOrder). o.order) (taken_by version s)
 
     lines_are : (state.next_run s).lines ≡ in_order is_line_before (map as_line (taken_by version s))
-    lines_are = ap (λ os. in_order is_line_before (filter_map (line_for s) os)) picked_are ∙ ap (in_order is_line_before) (lines_for s (taken_by version s) taken_placed)
+    lines_are =
+        ap (λ os. in_order is_line_before (filter_map (line_for s) os)) picked_are
+        ∙ ap (in_order is_line_before) (lines_for s (taken_by version s) taken_placed)
 
-    pub brought : (c : ℕ) → brings (state.next_run s) c ≡ stands c (map (λ (o : ContainerOrder). o.container) (taken_by version s))
+    pub brought : (c : ℕ)
+        → brings (state.next_run s) c ≡ stands c (map (λ (o : ContainerOrder). o.container) (taken_by version s))
     brought c =
         ap (list_any (λ (line : Line). nat_eq line.container c)) lines_are
         ∙ any-in_order is_line_before (λ (line : Line). nat_eq line.container c) (map as_line (taken_by version s))
@@ -200,7 +193,8 @@ module _ (version : Version) (s : State) where
         subst (λ c. (1 ≤ c) × (c ≤ length s.catalogue.containers)) it.container
         (numbered_from_one s.catalogue.containers it.order.container known, numbered_within s.catalogue.containers it.order.container known)
 
-    all_in_house : (os : List ContainerOrder) → AllByRecursion (IsPlaced s) os → AreWithin (length s.catalogue.containers) (map (λ (o : ContainerOrder). o.container) os)
+    all_in_house : (os : List ContainerOrder) → AllByRecursion (IsPlaced s) os
+        → AreWithin (length s.catalogue.containers) (map (λ (o : ContainerOrder). o.container) os)
     all_in_house [] h = tt
     all_in_house (o ∷ os) h = (in_house o h.0, all_in_house os h.1)
 
@@ -209,21 +203,25 @@ module _ (version : Version) (s : State) where
 
 -- ---- the number of the next run
 
-next_as : (version : Version) (s : State) (b : Bool) → nat_le most_runs (length s.runs) ≡ b → next_run (tables version s).desk ≡ cond b None (Some (suc (length s.runs)))
+next_as : (version : Version) (s : State) (b : Bool) → nat_le most_runs (length s.runs) ≡ b
+    → next_run (tables version s).desk ≡ cond b None (Some (suc (length s.runs)))
 next_as version s b e = ap (λ n. cond (nat_lt n most_runs) (Some (suc n)) None) (length-rows run_row 1 s.runs) ∙ at b e
   where
-    at : (b : Bool) → nat_le most_runs (length s.runs) ≡ b → cond (nat_lt (length s.runs) most_runs) (Some (suc (length s.runs))) None ≡ cond b None (Some (suc (length s.runs)))
+    at : (b : Bool) → nat_le most_runs (length s.runs) ≡ b
+        → cond (nat_lt (length s.runs) most_runs) (Some (suc (length s.runs))) None ≡ cond b None (Some (suc (length s.runs)))
     at true e = let less : nat_lt (length s.runs) most_runs ≡ false = grind (arith, nat_tests, e) in rw less refl
     at false e = let less : nat_lt (length s.runs) most_runs ≡ true = grind (arith, nat_tests, e) in rw less refl
 
 -- no number is left where there were as many runs as there may be
-pub none_left : (version : Version) (s : State) → None ≡ next_run (tables version s).desk → nat_le most_runs (length s.runs) ≡ true
+pub none_left : (version : Version) (s : State) → None ≡ next_run (tables version s).desk
+    → nat_le most_runs (length s.runs) ≡ true
 none_left version s is = elim (cases_Bool (nat_le most_runs (length s.runs))) [
   | inl full ↦ full
   | inr room ↦ absurd (let bad : None ≡ Some (suc (length s.runs)) = is ∙ next_as version s false room in cc)
 ]
 
-pub one_left : (version : Version) (s : State) (n : ℕ) → Some n ≡ next_run (tables version s).desk → (nat_le most_runs (length s.runs) ≡ false) × (n ≡ suc (length s.runs))
+pub one_left : (version : Version) (s : State) (n : ℕ) → Some n ≡ next_run (tables version s).desk
+    → (nat_le most_runs (length s.runs) ≡ false) × (n ≡ suc (length s.runs))
 one_left version s n is = elim (cases_Bool (nat_le most_runs (length s.runs))) [
   | inl full ↦ absurd (let bad : Some n ≡ None = is ∙ next_as version s true full in cc)
   | inr room ↦ (room, (let e : Some n ≡ Some (suc (length s.runs)) = is ∙ next_as version s false room in cc))

@@ -1,22 +1,10 @@
 -- The head of a container's queue, as the desk is told of it: is the container known, where is it, and who is the first
 -- that waits.
 use Rattle.std.proofs.Common.{◌≡◌, ℕ, true, false, ◌||◌, List, [], ◌∷◌, Option, Some, None, refl, sym, ap, ◌∙◌}
-use Rattle.std.specs.Prelude.{filter_map, is_some, option_and_then, option_map, slice_get}
-use Rattle.std.specs.List.{cons_option}
 use Rattle.isad_core.specs.declared.values.BoxKey.{BoxKey}
-use Rattle.office_tables.specs.Versions.{Version}
-use Rattle.desk_store.specs.Storage.{IsHeaded, container_with}
-use Rattle.desk_store.specs.declared.orders.WaitingOrder.{WaitingOrder}
-use Rattle.desk_store.specs.declared.queue_heads.QueueHead.{QueueHead}
-use Rattle.office_core.specs.SoundDesk.{is_out_for}
-use Rattle.office_core.specs.SoundOffice.{IsSoundOffice}
-use Rattle.office_core.specs.State.{Order, State, container_of, is_container}
-use Rattle.office_core.specs.Words.{first, nth, stands}
-use Rattle.office_core.proofs.Filed.{waiting}
-use Rattle.office_core.proofs.Words.{same_number}
 use Rattle.refinement.proofs.QueuesShown.{place_shown, told_queue}
-use Rattle.refinement.proofs.StorageShown.{has_container, storage_of}
 use Rattle.desk_commands.specs.Issuance.{IsQueuedFor, first_waiting}
+use Rattle.desk_commands.proofs.Common.{IsHeaded, IsSoundOffice, Order, QueueHead, State, Version, WaitingOrder, cons_option, container_of, container_with, filter_map, first, has_container, is_container, is_out_for, is_some, nth, option_and_then, option_map, same_number, slice_get, stands, storage_of, waiting}
 
 -- an order that waits, with its ticket
 abbrev pub waiter : ℕ → Order → WaitingOrder
@@ -29,14 +17,16 @@ module _ (s : State) (c : ℕ) where
   head_shown : IsSoundOffice s → slice_get (orders_of (s.queue c)) 0 ≡ first_waiting s c
   head_shown sound = at (s.queue c) refl
     where
-      at : (q : List ℕ) → s.queue c ≡ q → slice_get (orders_of q) 0 ≡ option_and_then (λ o. option_map (waiter o) (nth s.orders o)) (first q)
+      at : (q : List ℕ) → s.queue c ≡ q
+          → slice_get (orders_of q) 0 ≡ option_and_then (λ o. option_map (waiter o) (nth s.orders o)) (first q)
       at [] is = refl
       at (o ∷ os) is = found (nth s.orders o) refl
         where
           in_queue : stands o (s.queue c) ≡ true
           in_queue = ap (stands o) is ∙ ap (λ b. b || stands o os) (same_number o)
 
-          found : (order : Option Order) → nth s.orders o ≡ order → slice_get (cons_option (option_map (waiter o) order) (orders_of os)) 0 ≡ option_map (waiter o) order
+          found : (order : Option Order) → nth s.orders o ≡ order
+              → slice_get (cons_option (option_map (waiter o) order) (orders_of os)) 0 ≡ option_map (waiter o) order
           found (Some order) e = refl
           found None e =
               let it = waiting (container_of s o) (λ c. stands o (s.queue c)) (λ c. is_out_for o (s.place c)) (s.past o) c (sound.sound.desk.filed.each o) in_queue in
@@ -45,7 +35,8 @@ module _ (s : State) (c : ℕ) where
               absurd (let bad : None ≡ Some c = sym none ∙ for_it in cc)
 
   module _ (version : Version) where
-    pub none_queued : IsHeaded c (storage_of version s) (container_with c (storage_of version s)) None → is_container s c ≡ false
+    pub none_queued : IsHeaded c (storage_of version s) (container_with c (storage_of version s)) None
+        → is_container s c ≡ false
     none_queued it = sym (has_container version s c) ∙ at (container_with c (storage_of version s)) it
       where
         at : (box : Option (ℕ × BoxKey)) → IsHeaded c (storage_of version s) box None → is_some box ≡ false
@@ -53,10 +44,13 @@ module _ (s : State) (c : ℕ) where
         at (Some box) it = absurd it
 
     -- the container is known, is where it is told to be, and the order that is told is the first that waits for it
-    pub queued_at : IsSoundOffice s → (head : QueueHead) → IsHeaded c (storage_of version s) (container_with c (storage_of version s)) (Some head) → IsQueuedFor s c head.place head.first
+    pub queued_at : IsSoundOffice s → (head : QueueHead)
+        → IsHeaded c (storage_of version s) (container_with c (storage_of version s)) (Some head)
+        → IsQueuedFor s c head.place head.first
     queued_at sound head it = at (container_with c (storage_of version s)) refl it
       where
-        at : (box : Option (ℕ × BoxKey)) → container_with c (storage_of version s) ≡ box → IsHeaded c (storage_of version s) box (Some head) → IsQueuedFor s c head.place head.first
+        at : (box : Option (ℕ × BoxKey)) → container_with c (storage_of version s) ≡ box
+            → IsHeaded c (storage_of version s) box (Some head) → IsQueuedFor s c head.place head.first
         at None is it = absurd (let bad : Some head ≡ None = it in cc)
         at (Some box) is it = record {
           known = sym (has_container version s c) ∙ ap is_some is;

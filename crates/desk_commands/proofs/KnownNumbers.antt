@@ -1,34 +1,22 @@
 -- What a sound office has, has a number that a table can keep.
 use Rattle.std.proofs.Common.{◌≡◌, ℕ, ℤ, ◌<◌, Bool, true, ◌^◌, nat_eq, List, [], ◌∷◌, map, Option, Some, None, inl, inr, refl, sym, ap, subst, ◌∙◌, arith}
-use Rattle.std.specs.Prelude.{is_some, nat_lt, option_map}
-use Rattle.std.specs.List.{AllByRecursion, list_any}
-use Rattle.std.proofs.lemmas.Bool.{cases_Bool, eqb-true, false≢true, ltb-false, ltb-true}
-use Rattle.isad_core.specs.Limits.{IsNumber}
-use Rattle.tree_core.specs.Forest.{nodes}
 use Rattle.tree_core.proofs.EachLemmas.{nodes-each}
-use Rattle.catalogue_core.specs.UnitLookup.{has_unit}
-use Rattle.catalogue_core.specs.Units.{Unit, has_id}
-use Rattle.desk_core.specs.declared.reader.Place.TheVariants.{Out}
-use Rattle.office_core.specs.Rules.{checks, refusal}
-use Rattle.office_core.specs.SoundOffice.{IsSoundOffice}
-use Rattle.office_core.specs.State.{Order, State, is_container, is_ticket, opens, order_out, waits}
-use Rattle.office_core.specs.Words.{nth, some_and}
 use Rattle.office_core.specs.declared.command.Command.TheVariants as command
 use Rattle.office_core.proofs.Places.{out_known}
-use Rattle.office_core.proofs.Steps.{held_so, passes}
-use Rattle.office_core.proofs.Words.{numbered_within}
-use Rattle.refinement.proofs.Judged.{judged_now}
 use Rattle.refinement.proofs.OpenByRows.{opens_none}
+use Rattle.desk_commands.proofs.Common.{AllByRecursion, IsNumber, IsSoundOffice, Order, Out, State, Unit, cases_Bool, checks, eqb-true, false≢true, has_id, has_unit, held_so, is_container, is_some, is_ticket, judged_now, list_any, ltb-false, ltb-true, nat_lt, nodes, nth, numbered_within, opens, option_map, order_out, passes, refusal, some_and, waits}
 
 -- a test that holds of one of the units
-has_low : (u : ℕ) (xs : List Unit) → list_any (has_id u) xs ≡ true → AllByRecursion IsNumber (map (λ (x : Unit). x.id) xs) → IsNumber u
+has_low : (u : ℕ) (xs : List Unit) → list_any (has_id u) xs ≡ true
+    → AllByRecursion IsNumber (map (λ (x : Unit). x.id) xs) → IsNumber u
 has_low u [] there low = absurd (false≢true there)
 has_low u (x ∷ xs) there low = elim (cases_Bool (nat_eq u x.id)) [
   | inl same ↦ subst IsNumber (sym (eqb-true u x.id same)) low.0
   | inr other ↦ has_low u xs (rw other at there) low.1
 ]
 
-some_there : {X : Type 0} (test : ℕ → Bool) (f : X → ℕ) (x : Option X) → some_and test (option_map f x) ≡ true → is_some x ≡ true
+some_there : {X : Type 0} (test : ℕ → Bool) (f : X → ℕ) (x : Option X) → some_and test (option_map f x) ≡ true
+    → is_some x ≡ true
 some_there test f None h = h
 some_there test f (Some x) h = refl
 
@@ -64,7 +52,8 @@ module _ (s : State) (sound : IsSoundOffice s) where
       (kept_ticket t (held_so (is_ticket s t) _ ok.0), kept_open t c (held_so (opens s t c) _ ok.1.1.0))
 
   pub kept_issued : (c t : ℕ) → refusal s (command.Issue c t) ≡ None → IsNumber c
-  kept_issued c t allowed = kept_container c (held_so (is_container s c) _ (passes (checks s (command.Issue c t)) allowed).0)
+  kept_issued c t allowed =
+      kept_container c (held_so (is_container s c) _ (passes (checks s (command.Issue c t)) allowed).0)
 
   pub kept_seated : (t : ℕ) → refusal s (command.TakeSeat t) ≡ None → IsNumber t
   kept_seated t allowed = kept_ticket t (held_so (is_ticket s t) _ (passes (checks s (command.TakeSeat t)) allowed).0)

@@ -1,3 +1,4 @@
+pub mod Common
 pub mod Registered
 pub mod StillOut
 pub mod DayOpened

@@ -1,28 +1,20 @@
 -- Containers that go to one place, one after the other, in the rows of the desk.
 use Rattle.std.proofs.Common.{◌≡◌, ℕ, ◌<◌, ◌≤◌, get_or, Bool, true, false, cond, ◌||◌, nat_eq, List, [], ◌∷◌, ◌++◌, length, take, zero, suc, refl, sym, ap, ◌∙◌, arith}
-use Rattle.std.specs.List.{AllByRecursion}
 use Rattle.std.proofs.Math.Path.{fun_ext}
-use Rattle.isad_core.specs.Limits.{IsNumber}
-use Rattle.desk_core.specs.DeskRows.{Desk, HoldingRow}
-use Rattle.desk_core.specs.LegibleDesks.{IsLegible}
-use Rattle.desk_core.specs.declared.reader.Place.{Place}
-use Rattle.desk_store.specs.Holdings.{placed_at, with_place}
-use Rattle.office_core.specs.State.{Order, State}
-use Rattle.office_core.specs.Laws.{standing}
-use Rattle.office_core.specs.Words.{numbers_to, update_at, stands}
-use Rattle.state_encoding.specs.DeskEncoding.{order_row, order_rows, rows_from, state_number}
-use Rattle.state_encoding.proofs.DeskLookups.{flipped}
-use Rattle.refinement.proofs.HoldingRows.{placed_to, rows_of}
+use Rattle.desk_core.specs.DeskRows.{Desk}
+use Rattle.state_encoding.specs.DeskEncoding.{state_number}
 use Rattle.desk_store.proofs.MadeInTurn.{legible_place}
-use Rattle.desk_commands.specs.ContainerMoves.{all_placed, with_all_placed}
+use Rattle.desk_commands.proofs.Common.{AllByRecursion, HoldingRow, IsLegible, IsNumber, Order, Place, State, all_placed, flipped, numbers_to, order_row, order_rows, placed_at, placed_to, rows_from, rows_of, standing, stands, update_at, with_all_placed, with_place}
 
 -- ---- one container more
 
-pub one_more_placed : (p : Place) (cs : List ℕ) (c : ℕ) (rows : List HoldingRow) → all_placed p (cs ++ c ∷ []) rows ≡ placed_at c p (all_placed p cs rows)
+pub one_more_placed : (p : Place) (cs : List ℕ) (c : ℕ) (rows : List HoldingRow)
+    → all_placed p (cs ++ c ∷ []) rows ≡ placed_at c p (all_placed p cs rows)
 one_more_placed p [] c rows = refl
 one_more_placed p (k ∷ cs) c rows = one_more_placed p cs c (placed_at k p rows)
 
-pub legible_all : (p : Place) (cs : List ℕ) (d : Desk) → AllByRecursion IsNumber cs → IsLegible d → IsLegible (with_all_placed p cs d)
+pub legible_all : (p : Place) (cs : List ℕ) (d : Desk) → AllByRecursion IsNumber cs → IsLegible d
+    → IsLegible (with_all_placed p cs d)
 legible_all p [] d small it = it
 legible_all p (c ∷ cs) d small it = legible_all p cs (with_place c p d) small.1 (legible_place c p d small.0 it)
 
@@ -60,18 +52,23 @@ put_each place (k ∷ cs) p c =
 abbrev pub AreWithin : ℕ → List ℕ → Type 0
 AreWithin n cs = AllByRecursion (λ c. (1 ≤ c) × (c ≤ n)) cs
 
-put_all_rows : (place : ℕ → Place) (p : Place) (n : ℕ) (cs : List ℕ) → AreWithin n cs → rows_of (put_all place cs p) (numbers_to n) ≡ all_placed p cs (rows_of place (numbers_to n))
+put_all_rows : (place : ℕ → Place) (p : Place) (n : ℕ) (cs : List ℕ) → AreWithin n cs
+    → rows_of (put_all place cs p) (numbers_to n) ≡ all_placed p cs (rows_of place (numbers_to n))
 unfolding put_all
 put_all_rows place p n [] h = refl
-put_all_rows place p n (c ∷ cs) h = put_all_rows (update_at place c p) p n cs h.1 ∙ ap (all_placed p cs) (placed_to place p c n h.0.0 h.0.1)
+put_all_rows place p n (c ∷ cs) h =
+    put_all_rows (update_at place c p) p n cs h.1 ∙ ap (all_placed p cs) (placed_to place p c n h.0.0 h.0.1)
 
 pub all_moved : (place : ℕ → Place) (p : Place) (n : ℕ) (cs : List ℕ) → AreWithin n cs
     → rows_of (λ c. cond (stands c cs) p (place c)) (numbers_to n) ≡ all_placed p cs (rows_of place (numbers_to n))
-all_moved place p n cs h = ap (λ (at : ℕ → Place). rows_of at (numbers_to n)) (sym (fun_ext (put_each place cs p))) ∙ put_all_rows place p n cs h
+all_moved place p n cs h =
+    ap (λ (at : ℕ → Place). rows_of at (numbers_to n)) (sym (fun_ext (put_each place cs p)))
+    ∙ put_all_rows place p n cs h
 
 -- ---- the orders stay as they are
 
-pub rows_stay : (s t : State) → ((o : ℕ) → standing t o ≡ standing s o) → t.orders ≡ s.orders → order_rows t ≡ order_rows s
+pub rows_stay : (s t : State) → ((o : ℕ) → standing t o ≡ standing s o) → t.orders ≡ s.orders
+    → order_rows t ≡ order_rows s
 rows_stay s t same orders = ap (rows_from (order_row t) 1) orders ∙ from 1 s.orders
   where
     from : (n : ℕ) (orders : List Order) → rows_from (order_row t) n orders ≡ rows_from (order_row s) n orders

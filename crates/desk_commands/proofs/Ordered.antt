@@ -1,46 +1,14 @@
 -- An order that is placed, in the rows of the desk.
 use Rattle.std.proofs.Common.{◌≡◌, ℕ, ℤ, suc, ◌+◌, ◌<◌, Bool, true, false, List, [], ◌∷◌, ◌++◌, length, Option, Some, None, Ok, refl, sym, ap, subst, ◌∙◌, arith}
-use Rattle.std.specs.Prelude.{int_lt, is_some, nat_le, option_map}
-use Rattle.std.proofs.lemmas.Bool.{leb-false}
-use Rattle.sqlite.specs.Effect.{Database}
-use Rattle.sqlite.specs.Tree.{Trees}
-use Rattle.isad_core.specs.Limits.{most_orders}
-use Rattle.tree_core.specs.Forest.{Forest}
-use Rattle.office_tables.specs.Versions.{Version}
-use Rattle.desk_core.specs.Checks.{order_checks}
-use Rattle.desk_core.specs.Decisions.{order_facts}
-use Rattle.desk_core.specs.DeskRows.{OrderRow}
-use Rattle.desk_core.specs.Refusals.{first_that_holds}
 use Rattle.desk_core.specs.declared.order.Ask.{Ask}
-use Rattle.desk_core.specs.declared.reader.Limits.{Limits}
-use Rattle.desk_core.specs.declared.refusal.Refusal.{Refusal}
-use Rattle.desk_core.specs.declared.refusal.Refusal.TheVariants.{UnknownTicket}
-use Rattle.desk_store.specs.Orders.{IsNextOrder, with_order}
-use Rattle.desk_store.specs.Representation.{RepresentsDesk}
 use Rattle.desk_store.specs.declared.reader_summary.ReaderCard.{ReaderCard}
-use Rattle.office_core.specs.Laws.{Waiting, standing}
-use Rattle.office_core.specs.Rules.{after, checks, ordered, refusal}
-use Rattle.office_core.specs.SoundDesk.{is_out_for}
-use Rattle.office_core.specs.SoundOffice.{IsSoundOffice}
-use Rattle.office_core.specs.State.{Order, Reader, State, container_of, has_ordered, is_ticket, opens, orders_placed}
-use Rattle.office_core.specs.Words.{nth, some_and, stands}
 use Rattle.office_core.specs.declared.command.Command.TheVariants as command
 use Rattle.office_core.specs.declared.done.Done.TheVariants as done
-use Rattle.office_core.proofs.Filed.{is_ordered, only_orders}
-use Rattle.office_core.proofs.OrderLaws.{goes_same, stands_waiting}
-use Rattle.office_core.proofs.Steps.{held_not, passes}
-use Rattle.state_encoding.specs.DeskEncoding.{order_row, order_rows, rows_from, state_number}
-use Rattle.state_encoding.specs.OfficeRows.{tables}
-use Rattle.state_encoding.proofs.NumberedRows.{length-rows}
+use Rattle.state_encoding.specs.DeskEncoding.{state_number}
 use Rattle.office_tables.specs.Schema as schema
-use Rattle.office_tables.specs.Step.{OnlyTouches}
-use Rattle.refinement.specs.ReadingRoomLimits.{limits_of}
-use Rattle.refinement.specs.CommandSteps.{CarriesOutStep}
-use Rattle.refinement.specs.Representation.{RepresentsState}
-use Rattle.refinement.proofs.CardsShown.{card, card_shown}
-use Rattle.refinement.proofs.CommandSteps.{accepts}
 use Rattle.refinement.proofs.OrdersShown.{ordered_shown}
 use Rattle.desk_commands.specs.OrderPlacement.{IsCardOf, MayOrder, ask_of}
+use Rattle.desk_commands.proofs.Common.{CarriesOutStep, Database, Forest, IsNextOrder, IsSoundOffice, Limits, OnlyTouches, Order, OrderRow, Reader, Refusal, RepresentsDesk, RepresentsState, State, Trees, UnknownTicket, Version, Waiting, accepts, after, card, card_shown, checks, container_of, first_that_holds, goes_same, has_ordered, held_not, int_lt, is_ordered, is_out_for, is_some, is_ticket, leb-false, length-rows, limits_of, most_orders, nat_le, nth, only_orders, opens, option_map, order_checks, order_facts, order_row, order_rows, ordered, orders_placed, passes, refusal, rows_from, some_and, standing, stands, stands_waiting, tables, with_order}
 use Rattle.desk_commands.proofs.Registered.{rows_end}
 
 pub not_known : (s : State) (t c : ℕ) → is_ticket s t ≡ false → refusal s (command.Order t c) ≡ Some UnknownTicket
@@ -59,10 +27,12 @@ module _ (version : Version) (s : State) (sound : IsSoundOffice s) (t c : ℕ) w
       ≡ first_that_holds (order_checks (record { known = true; expired = int_lt reader.until s.day; available = opens s t c; ordered = has_ordered s t c; placed = orders_placed s t s.day; daily = s.settings.daily; orders = length s.orders }))) same
       (ap (λ has. first_that_holds (order_checks (record { known = true; expired = int_lt reader.until s.day; available = opens s t c; ordered = has; placed = orders_placed s t s.day; daily = s.settings.daily; orders = length s.orders }))) (ordered_shown version s sound t c))
 
-  known_card : (mine : ReaderCard) → IsCardOf version s t mine → option_map (card version s sound t s.day) (nth s.readers t) ≡ Some mine
+  known_card : (mine : ReaderCard) → IsCardOf version s t mine
+      → option_map (card version s sound t s.day) (nth s.readers t) ≡ Some mine
   known_card mine is = sym (card_shown version s sound t s.day) ∙ is
 
-  pub order_checked : (mine : ReaderCard) (today : ℤ) (limits : Limits) (is_open : Bool) → IsCardOf version s t mine → today ≡ s.day → limits ≡ limits_of s → is_open ≡ opens s t c
+  pub order_checked : (mine : ReaderCard) (today : ℤ) (limits : Limits) (is_open : Bool) → IsCardOf version s t mine
+      → today ≡ s.day → limits ≡ limits_of s → is_open ≡ opens s t c
       → first_that_holds (order_checks (order_facts (Some mine.reader) today (ask_of mine c is_open) limits)) ≡ refusal s (command.Order t c)
   order_checked mine today limits is_open is day allowed seen =
       ap (λ d. first_that_holds (order_checks (order_facts (Some mine.reader) d (ask_of mine c is_open) limits))) day
@@ -71,7 +41,8 @@ module _ (version : Version) (s : State) (sound : IsSoundOffice s) (t c : ℕ) w
       ∙ order_at mine (nth s.readers t) (known_card mine is)
 
   -- the card has the number of all orders
-  orders_at : (mine : ReaderCard) (o : Option Reader) → option_map (card version s sound t s.day) o ≡ Some mine → mine.orders ≡ length s.orders
+  orders_at : (mine : ReaderCard) (o : Option Reader) → option_map (card version s sound t s.day) o ≡ Some mine
+      → mine.orders ≡ length s.orders
   orders_at mine None e = absurd (cc)
   orders_at mine (Some reader) e = let same : card version s sound t s.day reader ≡ mine = cc in sym (ap (λ (k : ReaderCard). k.orders) same)
 
@@ -81,16 +52,22 @@ module _ (version : Version) (s : State) (sound : IsSoundOffice s) (t c : ℕ) w
   module _ (mine : ReaderCard) (today : ℤ) (limits : Limits) (is_open : Bool) (is : IsCardOf version s t mine) (day : today ≡ s.day) (allowed : limits ≡ limits_of s) (seen : is_open ≡ opens s t c)
       (asked : Ask) (asks : asked ≡ ask_of mine c is_open) where
     checked : first_that_holds (order_checks (order_facts (Some mine.reader) today asked limits)) ≡ refusal s (command.Order t c)
-    checked = ap (λ a. first_that_holds (order_checks (order_facts (Some mine.reader) today a limits))) asks ∙ order_checked mine today limits is_open is day allowed seen
+    checked =
+        ap (λ a. first_that_holds (order_checks (order_facts (Some mine.reader) today a limits))) asks
+        ∙ order_checked mine today limits is_open is day allowed seen
 
-    pub may_order : (order : ℕ) → order ≡ mine.orders + 1 → None ≡ first_that_holds (order_checks (order_facts (Some mine.reader) today asked limits)) → MayOrder s t c order today
+    pub may_order : (order : ℕ) → order ≡ mine.orders + 1
+        → None ≡ first_that_holds (order_checks (order_facts (Some mine.reader) today asked limits))
+        → MayOrder s t c order today
     may_order order number free = record {
       allowed = sym checked ∙ sym free;
       day = day;
       number = (let e : mine.orders + 1 ≡ suc mine.orders = omega arith in number ∙ e ∙ ap suc (card_orders mine is));
     }
 
-    pub must_not : (why : Refusal) → Some why ≡ first_that_holds (order_checks (order_facts (Some mine.reader) today asked limits)) → refusal s (command.Order t c) ≡ Some why
+    pub must_not : (why : Refusal)
+        → Some why ≡ first_that_holds (order_checks (order_facts (Some mine.reader) today asked limits))
+        → refusal s (command.Order t c) ≡ Some why
     must_not why holds = sym checked ∙ sym holds
 
   -- ---- the rows
@@ -107,7 +84,8 @@ module _ (version : Version) (s : State) (sound : IsSoundOffice s) (t c : ℕ) w
       let only = only_orders s t c in
       goes_same s next k (only.orders k ne) (only.queues k ne) (only.places k ne) (only.past k ne)
 
-  rows_stay : (n : ℕ) (xs : List Order) → ((k : ℕ) → k < n + length xs → standing next k ≡ standing s k) → rows_from (order_row next) n xs ≡ rows_from (order_row s) n xs
+  rows_stay : (n : ℕ) (xs : List Order) → ((k : ℕ) → k < n + length xs → standing next k ≡ standing s k)
+      → rows_from (order_row next) n xs ≡ rows_from (order_row s) n xs
   rows_stay n [] same = refl
   rows_stay n (x ∷ xs) same =
       let here = same n (omega arith) in
@@ -136,9 +114,13 @@ module _ (version : Version) (s : State) (sound : IsSoundOffice s) (t c : ℕ) w
       let number = may.number in
       (omega (arith, few, many), number ∙ ap suc (sym many))
 
-  pub orders : (places : Trees → Forest ℕ → Type 0) → ((old new : Trees) (f : Forest ℕ) → new schema.link.tree ≡ old schema.link.tree → places old f → places new f)
-      → (before now : Database) → RepresentsState places version before s → now.schema ≡ before.schema → OnlyTouches (schema.orders.tree ∷ []) before now
-      → (order : ℕ) (today : ℤ) → MayOrder s t c order today → RepresentsDesk now.trees (with_order t c today (tables version s).desk) → CarriesOutStep places version s (command.Order t c) (Ok (done.Order order)) now
+  pub orders : (places : Trees → Forest ℕ → Type 0)
+      → ((old new : Trees) (f : Forest ℕ) → new schema.link.tree ≡ old schema.link.tree → places old f → places new f)
+      → (before now : Database) → RepresentsState places version before s → now.schema ≡ before.schema
+      → OnlyTouches (schema.orders.tree ∷ []) before now
+      → (order : ℕ) (today : ℤ) → MayOrder s t c order today
+      → RepresentsDesk now.trees (with_order t c today (tables version s).desk)
+      → CarriesOutStep places version s (command.Order t c) (Ok (done.Order order)) now
   orders places same before now it schema_is only order today may shown =
       accepts places version s (command.Order t c) same before now (schema.orders.tree ∷ []) refl may.allowed tt it schema_is only
       (after s (command.Order t c)) refl refl refl (with_order t c s.day (tables version s).desk) (subst (λ d. RepresentsDesk now.trees (with_order t c d (tables version s).desk)) may.day shown)

@@ -1,30 +1,8 @@
 -- The orders that a run takes, by the rows of the desk.
 use Rattle.std.proofs.Common.{◌≡◌, ℕ, suc, ◌<◌, Bool, true, false, not, cond, ◌&&◌, ◌||◌, nat_eq, List, [], ◌∷◌, length, map, filter, Option, inl, inr, refl, sym, ap, subst, ◌∙◌, arith}
-use Rattle.std.specs.Prelude.{nat_lt, option_map, unwrap_or}
-use Rattle.std.specs.List.{AllByRecursion, list_any}
-use Rattle.std.proofs.lemmas.Bool.{cases_Bool, eqb-true}
-use Rattle.std.proofs.lemmas.Bool.Decides.{nat_tests}
-use Rattle.catalogue_core.specs.Members.{StandsIn}
-use Rattle.desk_core.specs.DeskRows.{HoldingRow, OrderRow}
-use Rattle.desk_core.specs.declared.reader.Place.{Place}
-use Rattle.desk_core.specs.declared.reader.Place.TheVariants.{Desk, Out}
-use Rattle.desk_store.specs.Holdings.{candidates_of, is_first, is_on_shelf, waits_for}
-use Rattle.desk_store.specs.declared.container_orders.ContainerOrder.{ContainerOrder}
-use Rattle.office_core.specs.SoundDesk.{IsAscending}
-use Rattle.office_core.specs.SoundOffice.{IsSoundOffice}
-use Rattle.office_core.specs.State.{Order, State, is_due, is_shelf, opens}
-use Rattle.office_core.specs.Words.{first, numbers_to, some_and, stands}
-use Rattle.office_core.specs.Laws.{numbers_from}
-use Rattle.office_core.proofs.Words.{below_none}
-use Rattle.state_encoding.specs.DeskEncoding.{holding_rows, order_row, order_rows, place_from, place_in, rows_from}
-use Rattle.state_encoding.specs.OfficeRows.{tables}
-use Rattle.state_encoding.proofs.DeskLookups.{flipped}
-use Rattle.state_encoding.proofs.Members.{any_same, to_from}
-use Rattle.state_encoding.proofs.NumberedRows.{in_rows}
-use Rattle.state_encoding.proofs.TableLaws.{reads_back}
-use Rattle.refinement.proofs.OrderRows.{waits_by_row}
-use Rattle.office_tables.specs.Versions.{Version}
+use Rattle.desk_core.specs.declared.reader.Place.TheVariants.{Desk}
 use Rattle.std.proofs.Math.Bool.{and_comm}
+use Rattle.desk_commands.proofs.Common.{AllByRecursion, ContainerOrder, HoldingRow, IsAscending, IsSoundOffice, Order, OrderRow, Out, Place, StandsIn, State, Version, any_same, below_none, candidates_of, cases_Bool, eqb-true, first, flipped, holding_rows, in_rows, is_due, is_first, is_on_shelf, is_shelf, list_any, nat_lt, nat_tests, numbers_from, numbers_to, opens, option_map, order_row, order_rows, place_from, place_in, reads_back, rows_from, some_and, stands, tables, to_from, unwrap_or, waits_by_row, waits_for}
 
 -- ---- a container without a row is on the shelf
 
@@ -35,9 +13,12 @@ off_shelf row = at (nat_eq row.place 1)
     at true = refl
     at false = refl
 
-shelf_in : (c : ℕ) (rows : List HoldingRow) → not (list_any (λ (h : HoldingRow). nat_eq c h.container) rows) ≡ is_shelf (place_in rows c)
+shelf_in : (c : ℕ) (rows : List HoldingRow)
+    → not (list_any (λ (h : HoldingRow). nat_eq c h.container) rows) ≡ is_shelf (place_in rows c)
 shelf_in c [] = refl
-shelf_in c (row ∷ rows) = at (nat_eq c row.container) (shelf_in c rows) ∙ ap (λ b. is_shelf (cond b (place_from row) (place_in rows c))) (flipped c row.container)
+shelf_in c (row ∷ rows) =
+    at (nat_eq c row.container) (shelf_in c rows)
+    ∙ ap (λ b. is_shelf (cond b (place_from row) (place_in rows c))) (flipped c row.container)
   where
     at : (b : Bool) → not (list_any (λ (h : HoldingRow). nat_eq c h.container) rows) ≡ is_shelf (place_in rows c)
         → not (b || list_any (λ (h : HoldingRow). nat_eq c h.container) rows) ≡ is_shelf (cond b (place_from row) (place_in rows c))
@@ -50,13 +31,15 @@ none_less : (o : ℕ) (ns : List ℕ) → AllByRecursion (λ m. o < m) ns → li
 none_less o [] h = refl
 none_less o (n ∷ ns) h = let less = h.0 in let e : nat_lt n o ≡ false = grind (arith, nat_tests, less) in rw e (none_less o ns h.1)
 
-least_first : (o : ℕ) (ns : List ℕ) → IsAscending ns → some_and (nat_eq o) (first ns) ≡ (stands o ns && not (list_any (λ k. nat_lt k o) ns))
+least_first : (o : ℕ) (ns : List ℕ) → IsAscending ns
+    → some_and (nat_eq o) (first ns) ≡ (stands o ns && not (list_any (λ k. nat_lt k o) ns))
 least_first o [] h = refl
 least_first o (n ∷ ns) h = elim (cases_Bool (nat_eq o n)) [
   | inl same ↦
       let e : o ≡ n = eqb-true o n same in
       let here : nat_lt n o ≡ false = grind (arith, nat_tests, e) in
-      let later : list_any (λ k. nat_lt k o) ns ≡ false = subst (λ m. list_any (λ k. nat_lt k m) ns ≡ false) (sym e) (none_less n ns h.0) in
+      let later : list_any (λ k. nat_lt k o) ns ≡ false =
+      subst (λ m. list_any (λ k. nat_lt k m) ns ≡ false) (sym e) (none_less n ns h.0) in
       rw (same, here, later) refl
   | inr other ↦ elim (cases_Bool (nat_lt n o)) [
     | inl before ↦ rw (other, before) (sym (no_more (stands o ns)))
@@ -75,7 +58,8 @@ least_first o (n ∷ ns) h = elim (cases_Bool (nat_eq o n)) [
     further [] h e = tt
     further (m ∷ ms) h e = (let less = h.0 in omega (arith, less, e), further ms h.1 e)
 
-any_kept : {X Y : Type 0} (test : X → Bool) (f : X → Y) (p : Y → Bool) (xs : List X) → list_any p (map f (filter test xs)) ≡ list_any (λ x. test x && p (f x)) xs
+any_kept : {X Y : Type 0} (test : X → Bool) (f : X → Y) (p : Y → Bool) (xs : List X)
+    → list_any p (map f (filter test xs)) ≡ list_any (λ x. test x && p (f x)) xs
 any_kept test f p [] = refl
 any_kept test f p (x ∷ xs) = at (test x) (any_kept test f p xs)
   where
@@ -86,7 +70,8 @@ any_kept test f p (x ∷ xs) = at (test x) (any_kept test f p xs)
 
 module _ (version : Version) (s : State) (sound : IsSoundOffice s) where
   -- a row is that of the first order for its container
-  first_by_rows : (row : OrderRow) → StandsIn row (order_rows s) → is_first (tables version s).desk row ≡ some_and (nat_eq row.id) (first (s.queue row.container))
+  first_by_rows : (row : OrderRow) → StandsIn row (order_rows s)
+      → is_first (tables version s).desk row ≡ some_and (nat_eq row.id) (first (s.queue row.container))
   first_by_rows row k =
       let i = in_rows (order_row s) s.orders row k in
       let waits_here : nat_eq 1 row.state ≡ stands row.id (s.queue row.container) =
@@ -102,7 +87,9 @@ module _ (version : Version) (s : State) (sound : IsSoundOffice s) where
       ∙ sym (least_first row.id (s.queue row.container) (sound.sound.desk.filed.queues row.container))
 
   shelf_by_rows : (c : ℕ) → is_on_shelf (tables version s).desk c ≡ is_shelf (s.place c)
-  shelf_by_rows c = shelf_in c (holding_rows s) ∙ ap (λ (place : ℕ → Place). is_shelf (place c)) (reads_back s sound.sound.desk).places
+  shelf_by_rows c =
+      shelf_in c (holding_rows s)
+      ∙ ap (λ (place : ℕ → Place). is_shelf (place c)) (reads_back s sound.sound.desk).places
 
   due_by_rows : (row : OrderRow) → StandsIn row (order_rows s)
       → is_due s row.id ≡ ((is_first (tables version s).desk row && is_on_shelf (tables version s).desk row.container) && opens s row.ticket row.container)
@@ -122,7 +109,8 @@ module _ (version : Version) (s : State) (sound : IsSoundOffice s) where
   abbrev pub is_open_for : ContainerOrder → Bool
   is_open_for o = opens s o.ticket o.container
 
-  numbers_of_rows : (n : ℕ) (orders : List Order) → map (λ (row : OrderRow). row.id) (rows_from (order_row s) n orders) ≡ numbers_from n (length orders)
+  numbers_of_rows : (n : ℕ) (orders : List Order)
+      → map (λ (row : OrderRow). row.id) (rows_from (order_row s) n orders) ≡ numbers_from n (length orders)
   numbers_of_rows n [] = refl
   numbers_of_rows n (order ∷ orders) = ap (λ l. n ∷ l) (numbers_of_rows (suc n) orders)
 

@@ -1,43 +1,21 @@
 -- A reader who is registered, in the rows of the desk.
 use Rattle.std.proofs.Common.{◌≡◌, ℕ, suc, ◌+◌, Bool, true, false, cond, List, [], ◌∷◌, ◌++◌, length, map, Option, Some, None, Ok, Err, refl, sym, ap, subst, ◌∙◌, arith}
-use Rattle.std.specs.Prelude.{ℤ, nat_le, nat_lt, is_some, IsUtf8, IsOk}
-use Rattle.std.specs.List.{flat_map}
-use Rattle.std.proofs.lemmas.Bool.Decides.{nat_tests}
-use Rattle.std.proofs.lemmas.List.{length-append}
-use Rattle.sqlite.specs.Tree.{Trees}
-use Rattle.sqlite.specs.Effect.{Database}
-use Rattle.isad_core.specs.Limits.{most_tickets}
+use Rattle.std.specs.Prelude.{ℤ}
 use Rattle.isad_core.specs.Texts.{Bytes}
-use Rattle.tree_core.specs.Forest.{Forest}
-use Rattle.office_tables.specs.Versions.{Version}
-use Rattle.desk_core.specs.DeskRows.{Desk, PermitRow, ReaderRow}
-use Rattle.desk_core.specs.declared.refusal.Refusal.TheVariants.{Full}
-use Rattle.desk_store.specs.Readers.{next_ticket, with_reader}
-use Rattle.desk_store.specs.Representation.{RepresentsDesk}
-use Rattle.office_core.specs.Words.{nth, numbers_to}
-use Rattle.office_core.specs.State.{State, Reader}
-use Rattle.office_core.specs.Rules.{is_name, after, refusal, Reply}
-use Rattle.office_core.specs.SoundOffice.{IsSoundOffice}
-use Rattle.office_core.specs.declared.command.Command.{Command}
+use Rattle.desk_core.specs.DeskRows.{Desk}
 use Rattle.office_core.specs.declared.command.Command.TheVariants as command
 use Rattle.office_core.specs.declared.done.Done.TheVariants as done
-use Rattle.office_core.proofs.Texts.{always_texts}
-use Rattle.state_encoding.specs.DeskEncoding.{rows_from, reader_row, permit_row, permit_rows}
-use Rattle.state_encoding.specs.OfficeRows.{tables}
-use Rattle.state_encoding.proofs.NumberedRows.{length-rows}
 use Rattle.office_tables.specs.Schema as schema
-use Rattle.office_tables.specs.Step.{OnlyTouches}
-use Rattle.refinement.specs.CommandSteps.{CarriesOutStep}
-use Rattle.refinement.specs.Representation.{RepresentsState}
-use Rattle.refinement.proofs.DeskSteps.{desk_step}
-use Rattle.refinement.proofs.Doings.{accepted, refused}
+use Rattle.desk_commands.proofs.Common.{CarriesOutStep, Command, Database, Forest, Full, IsOk, IsSoundOffice, IsUtf8, OnlyTouches, PermitRow, Reader, ReaderRow, Reply, RepresentsDesk, RepresentsState, State, Trees, Version, accepted, after, always_texts, desk_step, flat_map, is_name, is_some, length-append, length-rows, most_tickets, nat_le, nat_lt, nat_tests, next_ticket, nth, numbers_to, permit_row, permit_rows, reader_row, refusal, refused, rows_from, tables, with_reader}
 
-rows_more : {X Y : Type 0} (row : ℕ → X → Y) (n : ℕ) (xs : List X) (x : X) → rows_from row n (xs ++ x ∷ []) ≡ rows_from row n xs ++ row (n + length xs) x ∷ []
+rows_more : {X Y : Type 0} (row : ℕ → X → Y) (n : ℕ) (xs : List X) (x : X)
+    → rows_from row n (xs ++ x ∷ []) ≡ rows_from row n xs ++ row (n + length xs) x ∷ []
 rows_more row n [] x = ap (λ k. row k x ∷ []) (let e : n ≡ n + 0 = omega arith in e)
 rows_more row n (y ∷ xs) x = ap (λ rows. row n y ∷ rows) (rows_more row (suc n) xs x ∙ ap (λ k. rows_from row (suc n) xs ++ row k x ∷ []) (let e : suc n + length xs ≡ n + suc (length xs) = omega arith in e))
 
 -- the last row has the next number
-pub rows_end : {X Y : Type 0} (row : ℕ → X → Y) (xs : List X) (x : X) → rows_from row 1 (xs ++ x ∷ []) ≡ rows_from row 1 xs ++ row (suc (length xs)) x ∷ []
+pub rows_end : {X Y : Type 0} (row : ℕ → X → Y) (xs : List X) (x : X)
+    → rows_from row 1 (xs ++ x ∷ []) ≡ rows_from row 1 xs ++ row (suc (length xs)) x ∷ []
 rows_end row xs x = rows_more row 1 xs x ∙ ap (λ k. rows_from row 1 xs ++ row k x ∷ []) (let e : 1 + length xs ≡ suc (length xs) = omega arith in e)
 
 past_end : {X : Type 0} (xs : List X) → is_some (nth xs (suc (length xs))) ≡ false
@@ -81,10 +59,12 @@ module _ (version : Version) (s : State) (sound : IsSoundOffice s) (name : Bytes
       ap (λ (rows : List ReaderRow). record (tables version next).desk { readers = rows }) (rows_end reader_row s.readers new)
       ∙ ap (λ (rows : List PermitRow). record (with_reader (Some (suc (length s.readers))) name until desk) { permits = rows }) permits_same
 
-  next_is : (b : Bool) → nat_le most_tickets (length s.readers) ≡ b → next_ticket desk ≡ cond b None (Some (suc (length s.readers)))
+  next_is : (b : Bool) → nat_le most_tickets (length s.readers) ≡ b
+      → next_ticket desk ≡ cond b None (Some (suc (length s.readers)))
   next_is b e = ap (λ n. cond (nat_lt n most_tickets) (Some (suc n)) None) (length-rows reader_row 1 s.readers) ∙ at b e
     where
-      at : (b : Bool) → nat_le most_tickets (length s.readers) ≡ b → cond (nat_lt (length s.readers) most_tickets) (Some (suc (length s.readers))) None ≡ cond b None (Some (suc (length s.readers)))
+      at : (b : Bool) → nat_le most_tickets (length s.readers) ≡ b
+          → cond (nat_lt (length s.readers) most_tickets) (Some (suc (length s.readers))) None ≡ cond b None (Some (suc (length s.readers)))
       at true e = let less : nat_lt (length s.readers) most_tickets ≡ false = grind (arith, nat_tests, e) in rw less refl
       at false e = let less : nat_lt (length s.readers) most_tickets ≡ true = grind (arith, nat_tests, e) in rw less refl
 
@@ -94,12 +74,19 @@ module _ (version : Version) (s : State) (sound : IsSoundOffice s) (name : Bytes
   not_refused : is_name name ≡ true → nat_le most_tickets (length s.readers) ≡ false → refusal s asked ≡ None
   not_refused named room = rw (named, room) refl
 
-  pub registers : (places : Trees → Forest ℕ → Type 0) → ((old new : Trees) (f : Forest ℕ) → new schema.link.tree ≡ old schema.link.tree → places old f → places new f) → (before later : Database)
-      → is_name name ≡ true → IsUtf8 name → RepresentsState places version before s → later.schema ≡ before.schema → OnlyTouches (schema.reader.tree ∷ []) before later
-      → (ticket : Option ℕ) → ticket ≡ next_ticket desk → RepresentsDesk later.trees (with_reader (next_ticket desk) name until desk) → CarriesOutStep places version s asked (reply_for ticket) later
-  registers places same before later named utf8 it schema_is only ticket is shown = at (nat_le most_tickets (length s.readers)) refl
+  pub registers : (places : Trees → Forest ℕ → Type 0)
+      → ((old new : Trees) (f : Forest ℕ) → new schema.link.tree ≡ old schema.link.tree → places old f → places new f)
+      → (before later : Database)
+      → is_name name ≡ true → IsUtf8 name → RepresentsState places version before s → later.schema ≡ before.schema
+      → OnlyTouches (schema.reader.tree ∷ []) before later
+      → (ticket : Option ℕ) → ticket ≡ next_ticket desk
+      → RepresentsDesk later.trees (with_reader (next_ticket desk) name until desk)
+      → CarriesOutStep places version s asked (reply_for ticket) later
+  registers places same before later named utf8 it schema_is only ticket is shown =
+      at (nat_le most_tickets (length s.readers)) refl
     where
-      at : (b : Bool) → nat_le most_tickets (length s.readers) ≡ b → CarriesOutStep places version s asked (reply_for ticket) later
+      at : (b : Bool) → nat_le most_tickets (length s.readers) ≡ b
+          → CarriesOutStep places version s asked (reply_for ticket) later
       at true e =
           let none = is ∙ next_is true e in
           let one = refused s asked Full (refused_full named e) in

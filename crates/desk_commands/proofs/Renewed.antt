@@ -1,45 +1,25 @@
 -- A ticket that gets another last day, in the rows of the desk.
 use Rattle.std.proofs.Common.{◌≡◌, ℕ, zero, suc, ◌+◌, ◌<◌, true, false, nat_eq, List, [], ◌∷◌, length, map, Some, None, Ok, Err, refl, sym, ap, subst, ◌∙◌, arith}
-use Rattle.std.specs.Prelude.{ℤ, is_some}
-use Rattle.std.specs.List.{flat_map}
-use Rattle.std.proofs.lemmas.Bool.Decides.{nat_tests}
-use Rattle.sqlite.specs.Effect.{Database}
-use Rattle.sqlite.specs.Tree.{Trees}
-use Rattle.tree_core.specs.Forest.{Forest}
-use Rattle.office_tables.specs.Versions.{Version}
-use Rattle.desk_core.specs.DeskRows.{PermitRow, ReaderRow}
-use Rattle.desk_core.specs.declared.refusal.Refusal.TheVariants.{UnknownTicket}
-use Rattle.desk_store.specs.Readers.{with_last_day}
+use Rattle.std.specs.Prelude.{ℤ}
 use Rattle.desk_store.specs.Readers as store
-use Rattle.desk_store.specs.Representation.{RepresentsDesk}
-use Rattle.office_core.specs.Rules.{Reply, after, refusal, renewed}
-use Rattle.office_core.specs.SoundOffice.{AreTexts}
-use Rattle.office_core.specs.State.{Reader, State, is_ticket}
-use Rattle.office_core.specs.Words.{nth, numbers_to}
-use Rattle.office_core.specs.declared.command.Command.{Command}
 use Rattle.office_core.specs.declared.command.Command.TheVariants as command
 use Rattle.office_core.specs.declared.done.Done.TheVariants as done
-use Rattle.office_core.proofs.Texts.{always_texts}
-use Rattle.office_core.proofs.Words.{same_number}
-use Rattle.state_encoding.specs.DeskEncoding.{permit_row, permit_rows, reader_row, rows_from}
-use Rattle.state_encoding.specs.OfficeRows.{tables}
 use Rattle.office_tables.specs.Schema as schema
-use Rattle.office_tables.specs.Step.{OnlyTouches}
-use Rattle.refinement.specs.CommandSteps.{CarriesOutStep}
-use Rattle.refinement.specs.Representation.{RepresentsState}
-use Rattle.refinement.proofs.DeskSteps.{desk_step}
-use Rattle.refinement.proofs.Doings.{accepted, refused}
 use Rattle.refinement.proofs.RowsOfLists.{other}
+use Rattle.desk_commands.proofs.Common.{AreTexts, CarriesOutStep, Command, Database, Forest, OnlyTouches, PermitRow, Reader, ReaderRow, Reply, RepresentsDesk, RepresentsState, State, Trees, UnknownTicket, Version, accepted, after, always_texts, desk_step, flat_map, is_some, is_ticket, nat_tests, nth, numbers_to, permit_row, permit_rows, reader_row, refusal, refused, renewed, rows_from, same_number, tables, with_last_day}
 
 before : (n t : ℕ) → t < n → nat_eq t n ≡ false
 before n t less = grind (arith, nat_tests, less)
 
 -- rows with greater numbers stay
-later_stay : (until : ℤ) (t n : ℕ) (xs : List Reader) → t < n → store.renewed t until (rows_from reader_row n xs) ≡ rows_from reader_row n xs
+later_stay : (until : ℤ) (t n : ℕ) (xs : List Reader) → t < n
+    → store.renewed t until (rows_from reader_row n xs) ≡ rows_from reader_row n xs
 later_stay until t n [] less = refl
-later_stay until t n (x ∷ xs) less = rw (before n t less) (ap (λ rows. reader_row n x ∷ rows) (later_stay until t (suc n) xs (omega (arith, less))))
+later_stay until t n (x ∷ xs) less =
+    rw (before n t less) (ap (λ rows. reader_row n x ∷ rows) (later_stay until t (suc n) xs (omega (arith, less))))
 
-renewed_from : (until : ℤ) (n j : ℕ) (xs : List Reader) → rows_from reader_row n (renewed until xs (suc j)) ≡ store.renewed (n + j) until (rows_from reader_row n xs)
+renewed_from : (until : ℤ) (n j : ℕ) (xs : List Reader)
+    → rows_from reader_row n (renewed until xs (suc j)) ≡ store.renewed (n + j) until (rows_from reader_row n xs)
 renewed_from until n j [] = refl
 renewed_from until n zero (x ∷ xs) =
     let e : n ≡ n + 0 = omega arith in
@@ -49,7 +29,8 @@ renewed_from until n (suc j) (x ∷ xs) =
     let e : suc n + j ≡ n + suc j = omega arith in
     rw (other n j) (ap (λ rows. reader_row n x ∷ rows) (subst (λ k. rows_from reader_row (suc n) (renewed until xs (suc j)) ≡ store.renewed k until (rows_from reader_row (suc n) xs)) e (renewed_from until (suc n) j xs)))
 
-renewed_rows : (until : ℤ) (t : ℕ) (xs : List Reader) → is_some (nth xs t) ≡ true → rows_from reader_row 1 (renewed until xs t) ≡ store.renewed t until (rows_from reader_row 1 xs)
+renewed_rows : (until : ℤ) (t : ℕ) (xs : List Reader) → is_some (nth xs t) ≡ true
+    → rows_from reader_row 1 (renewed until xs t) ≡ store.renewed t until (rows_from reader_row 1 xs)
 renewed_rows until zero xs h = absurd (cc)
 renewed_rows until (suc j) xs h = let e : 1 + j ≡ suc j = omega arith in subst (λ k. rows_from reader_row 1 (renewed until xs (suc j)) ≡ store.renewed k until (rows_from reader_row 1 xs)) e (renewed_from until 1 j xs)
 
@@ -74,14 +55,18 @@ module _ (version : Version) (s : State) (t : ℕ) (until : ℤ) where
       ap (λ (rows : List ReaderRow). record (tables version next).desk { readers = rows }) (renewed_rows until t s.readers known)
       ∙ ap (λ (rows : List PermitRow). record (with_last_day t until (tables version s).desk) { permits = rows }) permits_same
 
-  pub not_known : (places : Trees → Forest ℕ → Type 0) (db : Database) → is_ticket s t ≡ false → CarriesOutStep places version s asked (Err UnknownTicket) db
+  pub not_known : (places : Trees → Forest ℕ → Type 0) (db : Database) → is_ticket s t ≡ false
+      → CarriesOutStep places version s asked (Err UnknownTicket) db
   not_known places db unknown =
       let why : refusal s asked ≡ Some UnknownTicket = rw unknown refl in
       record { told = sym (ap (λ (p : State × Reply). p.1) (refused s asked UnknownTicket why)); represents = λ ok. absurd (cc) }
 
-  pub renews : (places : Trees → Forest ℕ → Type 0) → ((old new : Trees) (f : Forest ℕ) → new schema.link.tree ≡ old schema.link.tree → places old f → places new f)
-      → (before now : Database) → is_ticket s t ≡ true → RepresentsState places version before s → now.schema ≡ before.schema → OnlyTouches (schema.reader.tree ∷ []) before now
-      → RepresentsDesk now.trees (with_last_day t until (tables version s).desk) → CarriesOutStep places version s asked (Ok (done.Renew t)) now
+  pub renews : (places : Trees → Forest ℕ → Type 0)
+      → ((old new : Trees) (f : Forest ℕ) → new schema.link.tree ≡ old schema.link.tree → places old f → places new f)
+      → (before now : Database) → is_ticket s t ≡ true → RepresentsState places version before s
+      → now.schema ≡ before.schema → OnlyTouches (schema.reader.tree ∷ []) before now
+      → RepresentsDesk now.trees (with_last_day t until (tables version s).desk)
+      → CarriesOutStep places version s asked (Ok (done.Renew t)) now
   renews places same before now known it schema_is only shown =
       let why : refusal s asked ≡ None = rw known refl in
       let one = accepted s asked why in

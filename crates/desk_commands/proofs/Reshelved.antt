@@ -1,57 +1,29 @@
 -- Containers that go back to the shelf, in the rows of the desk.
 use Rattle.std.proofs.Common.{◌≡◌, ℕ, zero, suc, ◌||◌, ◌<◌, ◌≤◌, Bool, true, false, not, cond, ◌&&◌, nat_eq, List, [], ◌∷◌, length, map, filter, Some, None, Ok, Err, refl, sym, ap, ◌∙◌, arith}
-use Rattle.std.specs.Prelude.{nat_lt}
-use Rattle.std.specs.List.{AllByRecursion, cons_option, list_any}
-use Rattle.std.proofs.lemmas.Bool.Decides.{nat_tests}
-use Rattle.sqlite.specs.Effect.{Database}
-use Rattle.sqlite.specs.Tree.{Trees}
-use Rattle.isad_core.specs.Limits.{IsNumber}
-use Rattle.tree_core.specs.Forest.{Forest}
-use Rattle.office_tables.specs.Versions.{Version}
-use Rattle.desk_core.specs.DeskRows.{HoldingRow, OrderRow}
 use Rattle.desk_core.specs.Orders.{in_order, put_in_order}
 use Rattle.desk_core.specs.Runs as decided
-use Rattle.desk_core.specs.declared.reader.Place.{Place}
-use Rattle.desk_core.specs.declared.reader.Place.TheVariants.{Shelf, Desk, Out}
-use Rattle.desk_core.specs.declared.refusal.Refusal.TheVariants.{NothingToMove}
-use Rattle.desk_store.specs.Holdings.{at_desk_of, waits_for}
-use Rattle.desk_store.specs.Representation.{RepresentsDesk}
-use Rattle.office_core.specs.Rules.{refusal, reshelved}
-use Rattle.office_core.specs.SoundDesk.{IsAscending}
-use Rattle.office_core.specs.SoundOffice.{IsSoundOffice}
-use Rattle.office_core.specs.State.{State, containers, idle, is_desk, is_idle}
-use Rattle.office_core.specs.Words.{is_empty, numbers_to, some_and}
+use Rattle.desk_core.specs.declared.reader.Place.TheVariants.{Desk}
 use Rattle.office_core.specs.declared.command.Command.TheVariants as command
 use Rattle.office_core.specs.declared.done.Done.TheVariants as done
-use Rattle.office_core.proofs.Filed.{reshelved_out}
-use Rattle.office_core.proofs.OrderLaws.{goes_same}
-use Rattle.office_core.proofs.Words.{ascending-push}
-use Rattle.state_encoding.specs.DeskEncoding.{holding_row, order_rows}
-use Rattle.state_encoding.specs.OfficeRows.{tables}
-use Rattle.state_encoding.proofs.DeskLookups.{flipped}
-use Rattle.state_encoding.proofs.Members.{all_of_in, any_same, in_filter, in_numbers}
-use Rattle.state_encoding.proofs.TableLaws.{reads_back}
 use Rattle.office_tables.specs.Schema as schema
-use Rattle.office_tables.specs.Step.{OnlyTouches}
-use Rattle.refinement.specs.CommandSteps.{CarriesOutStep}
-use Rattle.refinement.specs.Representation.{RepresentsState}
-use Rattle.refinement.proofs.CommandSteps.{accepts, refuses}
-use Rattle.refinement.proofs.HoldingRows.{rows_of}
-use Rattle.desk_commands.specs.ContainerMoves.{with_all_placed}
-use Rattle.desk_commands.proofs.MovedAll.{AreWithin, all_moved, rows_stay}
 use Rattle.std.proofs.Math.Bool.{and_comm}
+use Rattle.desk_commands.proofs.Common.{AllByRecursion, CarriesOutStep, Database, Forest, HoldingRow, IsAscending, IsNumber, IsSoundOffice, NothingToMove, OnlyTouches, OrderRow, Out, Place, RepresentsDesk, RepresentsState, Shelf, State, Trees, Version, accepts, all_of_in, any_same, ascending-push, at_desk_of, cons_option, containers, flipped, goes_same, holding_row, idle, in_filter, in_numbers, is_desk, is_empty, is_idle, list_any, nat_lt, nat_tests, numbers_to, order_rows, reads_back, refusal, refuses, reshelved, reshelved_out, rows_of, some_and, tables, waits_for, with_all_placed}
+use Rattle.desk_commands.proofs.MovedAll.{AreWithin, all_moved, rows_stay}
 
 -- ---- whether an order waits for a container
 
-none_kept : {X Y : Type 0} (test : X → Bool) (f : X → Y) (xs : List X) → is_empty (map f (filter test xs)) ≡ not (list_any test xs)
+none_kept : {X Y : Type 0} (test : X → Bool) (f : X → Y) (xs : List X)
+    → is_empty (map f (filter test xs)) ≡ not (list_any test xs)
 none_kept test f [] = refl
 none_kept test f (x ∷ xs) = at (test x) (none_kept test f xs)
   where
-    at : (b : Bool) → is_empty (map f (filter test xs)) ≡ not (list_any test xs) → is_empty (map f (cond b (x ∷ filter test xs) (filter test xs))) ≡ not (b || list_any test xs)
+    at : (b : Bool) → is_empty (map f (filter test xs)) ≡ not (list_any test xs)
+        → is_empty (map f (cond b (x ∷ filter test xs) (filter test xs))) ≡ not (b || list_any test xs)
     at true rest = refl
     at false rest = rest
 
-pub awaited : (s : State) → IsSoundOffice s → (c : ℕ) → not (list_any (waits_for c) (order_rows s)) ≡ is_empty (s.queue c)
+pub awaited : (s : State) → IsSoundOffice s → (c : ℕ)
+    → not (list_any (waits_for c) (order_rows s)) ≡ is_empty (s.queue c)
 awaited s sound c =
     ap not (any_same (waits_for c) (λ (row : OrderRow). nat_eq row.container c && nat_eq row.state 1) (order_rows s)
     (λ row. and_comm (nat_eq 1 row.state) (nat_eq c row.container) ∙ ap (λ b. b && nat_eq 1 row.state) (flipped c row.container) ∙ ap (λ b. nat_eq row.container c && b) (flipped 1 row.state)))
@@ -63,11 +35,13 @@ awaited s sound c =
 abbrev told_of : State → List HoldingRow → List (ℕ × Bool)
 told_of s rows = map (λ (h : HoldingRow). (h.container, list_any (waits_for h.container) (order_rows s))) (filter (λ h. nat_eq 1 h.place) rows)
 
-told_idle : (s : State) → IsSoundOffice s → (cs : List ℕ) → decided.idle (told_of s (rows_of s.place cs)) ≡ filter (is_idle s) cs
+told_idle : (s : State) → IsSoundOffice s → (cs : List ℕ)
+    → decided.idle (told_of s (rows_of s.place cs)) ≡ filter (is_idle s) cs
 told_idle s sound [] = refl
 told_idle s sound (c ∷ cs) = at (s.place c) (told_idle s sound cs)
   where
-    kept : (b : Bool) (rest : List (ℕ × Bool)) → map (λ (x : ℕ × Bool). x.0) (cond (not b) ((c, b) ∷ rest) rest) ≡ cond (not b) (c ∷ map (λ (x : ℕ × Bool). x.0) rest) (map (λ (x : ℕ × Bool). x.0) rest)
+    kept : (b : Bool) (rest : List (ℕ × Bool))
+        → map (λ (x : ℕ × Bool). x.0) (cond (not b) ((c, b) ∷ rest) rest) ≡ cond (not b) (c ∷ map (λ (x : ℕ × Bool). x.0) rest) (map (λ (x : ℕ × Bool). x.0) rest)
     kept true rest = refl
     kept false rest = refl
 
@@ -89,21 +63,25 @@ rising_order : (ns : List ℕ) → IsAscending ns → in_order nat_lt ns ≡ ns
 rising_order [] h = refl
 rising_order (n ∷ ns) h = ap (put_in_order nat_lt n) (rising_order ns h.1) ∙ before_all n ns h.0
 
-left_at : {X : Type 0} (P : X → Type 0) (b : Bool) (n : X) (ns : List X) → P n → AllByRecursion P ns → AllByRecursion P (cond b (n ∷ ns) ns)
+left_at : {X : Type 0} (P : X → Type 0) (b : Bool) (n : X) (ns : List X) → P n → AllByRecursion P ns
+    → AllByRecursion P (cond b (n ∷ ns) ns)
 left_at P true n ns good h = (good, h)
 left_at P false n ns good h = h
 
-pub all_left : {X : Type 0} (P : X → Type 0) (test : X → Bool) (ns : List X) → AllByRecursion P ns → AllByRecursion P (filter test ns)
+pub all_left : {X : Type 0} (P : X → Type 0) (test : X → Bool) (ns : List X) → AllByRecursion P ns
+    → AllByRecursion P (filter test ns)
 all_left P test [] h = tt
 all_left P test (n ∷ ns) h = left_at P (test n) n (filter test ns) h.0 (all_left P test ns h.1)
 
-rising_at : (b : Bool) (n : ℕ) (ns : List ℕ) → AllByRecursion (λ m. n < m) ns → IsAscending ns → IsAscending (cond b (n ∷ ns) ns)
+rising_at : (b : Bool) (n : ℕ) (ns : List ℕ) → AllByRecursion (λ m. n < m) ns → IsAscending ns
+    → IsAscending (cond b (n ∷ ns) ns)
 rising_at true n ns above h = (above, h)
 rising_at false n ns above h = h
 
 pub rising_left : (test : ℕ → Bool) (ns : List ℕ) → IsAscending ns → IsAscending (filter test ns)
 rising_left test [] h = tt
-rising_left test (n ∷ ns) h = rising_at (test n) n (filter test ns) (all_left (λ m. n < m) test ns h.0) (rising_left test ns h.1)
+rising_left test (n ∷ ns) h =
+    rising_at (test n) n (filter test ns) (all_left (λ m. n < m) test ns h.0) (rising_left test ns h.1)
 
 pub rising_to : (n : ℕ) → IsAscending (numbers_to n)
 rising_to zero = tt
@@ -112,7 +90,9 @@ rising_to (suc n) = ascending-push (numbers_to n) (suc n) (rising_to n) (all_of_
 module _ (version : Version) (s : State) (sound : IsSoundOffice s) where
   -- what is picked of what is told
   pub picks_idle : decided.reshelved (at_desk_of (tables version s).desk) ≡ idle s
-  picks_idle = ap (in_order nat_lt) (told_idle s sound (containers s)) ∙ rising_order (idle s) (rising_left (is_idle s) (containers s) (rising_to (length s.catalogue.containers)))
+  picks_idle =
+      ap (in_order nat_lt) (told_idle s sound (containers s))
+      ∙ rising_order (idle s) (rising_left (is_idle s) (containers s) (rising_to (length s.catalogue.containers)))
 
   idle_within : AreWithin (length s.catalogue.containers) (idle s)
   idle_within = all_of_in (λ c. (1 ≤ c) × (c ≤ length s.catalogue.containers)) (idle s) (λ c k. in_numbers (length s.catalogue.containers) c (in_filter (is_idle s) (containers s) c k).0)
@@ -122,16 +102,20 @@ module _ (version : Version) (s : State) (sound : IsSoundOffice s) where
       all_of_in IsNumber (idle s) (λ c k. let within = (in_numbers (length s.catalogue.containers) c (in_filter (is_idle s) (containers s) c k).0).1 in omega (arith, within, few))
 
   module _ (places : Trees → Forest ℕ → Type 0) where
-    pub nothing_idle : (db : Database) → is_empty (idle s) ≡ true → CarriesOutStep places version s command.Reshelve (Err NothingToMove) db
+    pub nothing_idle : (db : Database) → is_empty (idle s) ≡ true
+        → CarriesOutStep places version s command.Reshelve (Err NothingToMove) db
     nothing_idle db none = let why : refusal s command.Reshelve ≡ Some NothingToMove = rw none refl in refuses places version s command.Reshelve db NothingToMove why
 
     pub reshelves : ((old new : Trees) (f : Forest ℕ) → new schema.link.tree ≡ old schema.link.tree → places old f → places new f)
-        → (before now : Database) → is_empty (idle s) ≡ false → RepresentsState places version before s → now.schema ≡ before.schema → OnlyTouches (schema.holding.tree ∷ []) before now
-        → RepresentsDesk now.trees (with_all_placed Shelf (idle s) (tables version s).desk) → CarriesOutStep places version s command.Reshelve (Ok (done.Reshelve (idle s))) now
+        → (before now : Database) → is_empty (idle s) ≡ false → RepresentsState places version before s
+        → now.schema ≡ before.schema → OnlyTouches (schema.holding.tree ∷ []) before now
+        → RepresentsDesk now.trees (with_all_placed Shelf (idle s) (tables version s).desk)
+        → CarriesOutStep places version s command.Reshelve (Ok (done.Reshelve (idle s))) now
     reshelves same before now some it schema_is only shown =
         let why : refusal s command.Reshelve ≡ None = rw some refl in
         let t = reshelved s in
-        let stay : order_rows t ≡ order_rows s = rows_stay s t (λ o. goes_same s t o refl (λ c. refl) (λ c. ap (λ p. some_and (nat_eq o) p) (reshelved_out s c)) refl) refl in
+        let stay : order_rows t ≡ order_rows s =
+        rows_stay s t (λ o. goes_same s t o refl (λ c. refl) (λ c. ap (λ p. some_and (nat_eq o) p) (reshelved_out s c)) refl) refl in
         accepts places version s command.Reshelve same before now (schema.holding.tree ∷ []) refl why tt it schema_is only
         t refl refl refl (with_all_placed Shelf (idle s) (tables version s).desk) shown
         (ap (λ (rows : List OrderRow). record (tables version t).desk { orders = rows }) stay

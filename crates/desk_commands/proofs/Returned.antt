@@ -1,41 +1,13 @@
 -- A container that comes back, in the rows of the desk.
 use Rattle.std.proofs.Common.{◌≡◌, ℕ, true, false, List, [], ◌∷◌, Option, Some, None, Ok, Err, refl, sym, ap, ◌∙◌, arith}
-use Rattle.std.specs.Prelude.{is_some, unwrap_or}
-use Rattle.sqlite.specs.Effect.{Database}
-use Rattle.sqlite.specs.Tree.{Trees}
-use Rattle.isad_core.specs.Limits.{IsNumber}
-use Rattle.tree_core.specs.Forest.{Forest}
-use Rattle.office_tables.specs.Versions.{Version}
-use Rattle.desk_core.specs.DeskRows.{HoldingRow, OrderRow, with_state}
-use Rattle.desk_core.specs.declared.reader.Place.{Place}
-use Rattle.desk_core.specs.declared.reader.Place.TheVariants.{Shelf, Desk, Out}
-use Rattle.desk_core.specs.declared.refusal.Refusal.{Refusal}
-use Rattle.desk_core.specs.declared.refusal.Refusal.TheVariants.{NotIssued, UnknownContainer}
-use Rattle.desk_store.specs.Representation.{RepresentsDesk}
+use Rattle.desk_core.specs.declared.reader.Place.TheVariants.{Desk}
 use Rattle.desk_store.specs.declared.orders.OrderState.TheVariants as states
-use Rattle.office_core.specs.Laws.{Standing}
-use Rattle.office_core.specs.Rules.{refusal, returned}
-use Rattle.office_core.specs.SoundDesk.{is_out_for}
-use Rattle.office_core.specs.SoundOffice.{IsSoundOffice}
-use Rattle.office_core.specs.State.{Done, State, container_of, is_container, is_out, order_out}
-use Rattle.office_core.specs.Words.{stands}
-use Rattle.office_core.specs.declared.command.Command.{Command}
 use Rattle.office_core.specs.declared.command.Command.TheVariants as command
 use Rattle.office_core.specs.declared.done.Done.TheVariants as done
-use Rattle.office_core.proofs.Filed.{is_returned, only_returns}
-use Rattle.office_core.proofs.OrderLaws.{stands_past}
 use Rattle.office_core.proofs.Places.{out_known, out_order}
-use Rattle.office_core.proofs.Words.{numbered_within}
-use Rattle.state_encoding.specs.DeskEncoding.{order_rows, state_number}
-use Rattle.state_encoding.specs.OfficeRows.{tables}
-use Rattle.state_encoding.proofs.TableLaws.{rows_moved}
+use Rattle.state_encoding.specs.DeskEncoding.{state_number}
 use Rattle.office_tables.specs.Schema as schema
-use Rattle.office_tables.specs.Step.{OnlyTouches}
-use Rattle.refinement.specs.CommandSteps.{CarriesOutStep}
-use Rattle.refinement.specs.Representation.{RepresentsState}
-use Rattle.refinement.proofs.CommandSteps.{accepts, refuses}
-use Rattle.refinement.proofs.HoldingRows.{place_after}
-use Rattle.desk_commands.specs.ContainerMoves.{handed_over}
+use Rattle.desk_commands.proofs.Common.{CarriesOutStep, Command, Database, Done, Forest, HoldingRow, IsNumber, IsSoundOffice, NotIssued, OnlyTouches, OrderRow, Out, Place, Refusal, RepresentsDesk, RepresentsState, Shelf, Standing, State, Trees, UnknownContainer, Version, accepts, container_of, handed_over, is_container, is_out, is_out_for, is_returned, is_some, numbered_within, only_returns, order_out, order_rows, place_after, refusal, refuses, returned, rows_moved, stands, stands_past, tables, unwrap_or, with_state}
 
 -- the order that a container is out with is one of those that were placed
 pub small_order : (s : State) → IsSoundOffice s → (c o : ℕ) → s.place c ≡ Out o → IsNumber o
@@ -49,10 +21,12 @@ module _ (places : Trees → Forest ℕ → Type 0) (version : Version) (s : Sta
   abbrev asked : Command
   asked = command.Return c
 
-  pub unknown_container : (why : Refusal) → why ≡ UnknownContainer → is_container s c ≡ false → refusal s asked ≡ Some why
+  pub unknown_container : (why : Refusal) → why ≡ UnknownContainer → is_container s c ≡ false
+      → refusal s asked ≡ Some why
   unknown_container why is unknown = let first : refusal s asked ≡ Some UnknownContainer = rw unknown refl in first ∙ ap Some (sym is)
 
-  pub not_issued : (db : Database) → is_container s c ≡ true → is_out s c ≡ false → CarriesOutStep places version s asked (Err NotIssued) db
+  pub not_issued : (db : Database) → is_container s c ≡ true → is_out s c ≡ false
+      → CarriesOutStep places version s asked (Err NotIssued) db
   not_issued db known in_house = let why : refusal s asked ≡ Some NotIssued = rw (known, in_house) refl in refuses places version s asked db NotIssued why
 
   module _ (o : ℕ) (out : s.place c ≡ Out o) where
@@ -63,11 +37,15 @@ module _ (places : Trees → Forest ℕ → Type 0) (version : Version) (s : Sta
         ∙ ap (λ (x : Option Standing). with_state o (state_number x) (order_rows s))
         (stands_past (container_of t o) (λ k. stands o (t.queue k)) (λ k. is_out_for o (t.place k)) (t.past o) c Done (is_returned s c o out sound.sound.desk.filed))
 
-    pub returns_to_desk : IsSoundOffice s → ((old new : Trees) (f : Forest ℕ) → new schema.link.tree ≡ old schema.link.tree → places old f → places new f)
-        → (before now : Database) → RepresentsState places version before s → now.schema ≡ before.schema → OnlyTouches (schema.orders.tree ∷ schema.holding.tree ∷ []) before now
-        → RepresentsDesk now.trees (handed_over c Desk o states.Done (tables version s).desk) → CarriesOutStep places version s asked (Ok (done.Return o)) now
+    pub returns_to_desk : IsSoundOffice s
+        → ((old new : Trees) (f : Forest ℕ) → new schema.link.tree ≡ old schema.link.tree → places old f → places new f)
+        → (before now : Database) → RepresentsState places version before s → now.schema ≡ before.schema
+        → OnlyTouches (schema.orders.tree ∷ schema.holding.tree ∷ []) before now
+        → RepresentsDesk now.trees (handed_over c Desk o states.Done (tables version s).desk)
+        → CarriesOutStep places version s asked (Ok (done.Return o)) now
     returns_to_desk sound same before now it schema_is only shown =
-        let known : is_container s c ≡ true = out_known s c o sound.sound.desk.filed sound.sound.desk.orders (ap order_out out) in
+        let known : is_container s c ≡ true =
+        out_known s c o sound.sound.desk.filed sound.sound.desk.orders (ap order_out out) in
         let is_away : is_out s c ≡ true = ap (λ p. is_some (order_out p)) out in
         let why : refusal s asked ≡ None = rw (known, is_away) refl in
         accepts places version s asked same before now (schema.orders.tree ∷ schema.holding.tree ∷ []) refl why tt it schema_is only

@@ -1,43 +1,20 @@
 -- A permit that is taken back, in the rows of the desk.
 use Rattle.std.proofs.Common.{◌≡◌, ℕ, Bool, true, false, not, cond, List, [], ◌∷◌, filter, Some, inl, inr, refl, sym, ap, subst, ◌∙◌, nat_eq}
-use Rattle.std.specs.List.{AllByRecursion}
-use Rattle.std.proofs.lemmas.Bool.{cases_eq, eqb-true}
-use Rattle.sqlite.specs.Effect.{Database}
-use Rattle.sqlite.specs.Tree.{Trees}
 use Rattle.isad_core.specs.Days.{is_day_number}
-use Rattle.catalogue_core.specs.UnitLookup.{has_unit}
-use Rattle.catalogue_core.specs.Units.{Unit, has_id}
 use Rattle.catalogue_core.proofs.DistinctLists.{all_so}
-use Rattle.tree_core.specs.Forest.{Forest, cut, nodes}
 use Rattle.tree_core.proofs.Lists.{eqb_comm}
-use Rattle.office_tables.specs.Versions.{Version}
-use Rattle.desk_core.specs.DeskRows.{PermitRow}
-use Rattle.desk_core.specs.LegibleDesks.{IsLegible}
-use Rattle.desk_core.specs.Refusals.{first_that_holds}
-use Rattle.desk_core.specs.declared.refusal.Refusal.TheVariants.{NoPermit, UnknownTicket, UnknownUnit}
-use Rattle.desk_store.specs.Permits.{is_permit, revoked as without_it}
-use Rattle.desk_store.specs.Representation.{RepresentsDesk}
-use Rattle.office_core.specs.Rules.{after, gate, refusal}
-use Rattle.office_core.specs.SoundOffice.{AreTexts, IsSoundOffice}
-use Rattle.office_core.specs.State.{Permit, State, has_permit, is_permitted, is_ticket, revoked}
-use Rattle.office_core.specs.Words.{update_at}
+use Rattle.desk_store.specs.Permits.{revoked as without_it}
 use Rattle.office_core.specs.declared.command.Command.TheVariants as command
-use Rattle.office_core.proofs.Words.{put_here, put_there}
-use Rattle.state_encoding.specs.DeskEncoding.{permit_rows}
-use Rattle.state_encoding.specs.OfficeRows.{tables}
 use Rattle.office_tables.specs.Schema as schema
-use Rattle.office_tables.specs.Step.{OnlyTouches}
 use Rattle.refinement.specs.Gate.{OthersAreOpen}
-use Rattle.refinement.specs.AccessConditions.{CanBeJudged}
-use Rattle.refinement.specs.Representation.{RepresentsState}
-use Rattle.refinement.proofs.DeskSteps.{desk_step}
-use Rattle.refinement.proofs.Judged.{judged_now}
 use Rattle.refinement.proofs.OpenByPermits.{IsAlike, permitted_left}
 use Rattle.refinement.proofs.OpenElsewhere.{none_left, stays_permitted, still_open}
 use Rattle.refinement.proofs.PermitsShown.{revoked_rows}
 use Rattle.desk_commands.specs.Revocation.{HasPermit}
+use Rattle.desk_commands.proofs.Common.{AllByRecursion, AreTexts, CanBeJudged, Database, Forest, IsLegible, IsSoundOffice, NoPermit, OnlyTouches, Permit, PermitRow, RepresentsDesk, RepresentsState, State, Trees, Unit, UnknownTicket, UnknownUnit, Version, after, cases_eq, cut, desk_step, eqb-true, first_that_holds, gate, has_id, has_permit, has_unit, is_permit, is_permitted, is_ticket, judged_now, nodes, permit_rows, put_here, put_there, refusal, revoked, tables, update_at}
 
-all_kept : {X : Type 0} (P : X → Type 0) (p : X → Bool) (xs : List X) → AllByRecursion P xs → AllByRecursion P (filter p xs)
+all_kept : {X : Type 0} (P : X → Type 0) (p : X → Bool) (xs : List X) → AllByRecursion P xs
+    → AllByRecursion P (filter p xs)
 all_kept P p [] all = tt
 all_kept P p (x ∷ xs) all = at (p x) (all_kept P p xs all.1)
   where
@@ -50,14 +27,17 @@ all_kept P p (x ∷ xs) all = at (p x) (all_kept P p xs all.1)
 pub no_ticket : (s : State) (t u : ℕ) → is_ticket s t ≡ false → refusal s (command.Revoke t u) ≡ Some UnknownTicket
 no_ticket s t u unknown = rw unknown refl
 
-pub no_unit : (s : State) (t u : ℕ) → is_ticket s t ≡ true → has_unit s.catalogue.forest u ≡ false → refusal s (command.Revoke t u) ≡ Some UnknownUnit
+pub no_unit : (s : State) (t u : ℕ) → is_ticket s t ≡ true → has_unit s.catalogue.forest u ≡ false
+    → refusal s (command.Revoke t u) ≡ Some UnknownUnit
 no_unit s t u ticket unknown = rw (ticket, unknown) refl
 
-pub no_permit : (s : State) (t u : ℕ) → is_ticket s t ≡ true → has_unit s.catalogue.forest u ≡ true → has_permit s t u ≡ false → refusal s (command.Revoke t u) ≡ Some NoPermit
+pub no_permit : (s : State) (t u : ℕ) → is_ticket s t ≡ true → has_unit s.catalogue.forest u ≡ true
+    → has_permit s t u ≡ false → refusal s (command.Revoke t u) ≡ Some NoPermit
 no_permit s t u ticket unit none = rw (ticket, unit, none) refl
 
 -- only the gate is left to be asked
-pub gate_is_left : (s : State) (t u : ℕ) → HasPermit s t u → refusal s (command.Revoke t u) ≡ first_that_holds (gate (after s (command.Revoke t u)) ∷ [])
+pub gate_is_left : (s : State) (t u : ℕ) → HasPermit s t u
+    → refusal s (command.Revoke t u) ≡ first_that_holds (gate (after s (command.Revoke t u)) ∷ [])
 gate_is_left s t u has = rw (has.ticket_there, has.unit_there, has.held) refl
 
 -- ---- the rows
@@ -102,8 +82,10 @@ module _ (s : State) (sound : IsSoundOffice s) (t u : ℕ) where
   texts : AreTexts s → AreTexts next
   texts are = record { country = are.country; repo = are.repo; catalogue = are.catalogue; readers = are.readers }
 
-  pub represents : (places : Trees → Forest ℕ → Type 0) → ((old new : Trees) (f : Forest ℕ) → new schema.link.tree ≡ old schema.link.tree → places old f → places new f)
-      → (version : Version) (before now : Database) → RepresentsState places version before s → now.schema ≡ before.schema → OnlyTouches (schema.permit.tree ∷ []) before now
+  pub represents : (places : Trees → Forest ℕ → Type 0)
+      → ((old new : Trees) (f : Forest ℕ) → new schema.link.tree ≡ old schema.link.tree → places old f → places new f)
+      → (version : Version) (before now : Database) → RepresentsState places version before s
+      → now.schema ≡ before.schema → OnlyTouches (schema.permit.tree ∷ []) before now
       → RepresentsDesk now.trees (without_it t u (tables version s).desk) → RepresentsState places version now next
   represents places same version before now it schema_is only shown =
       desk_step places same version s next before now (schema.permit.tree ∷ []) refl schema_is only it (without_it t u (tables version s).desk) shown
@@ -118,7 +100,8 @@ module _ (s : State) (sound : IsSoundOffice s) (t u : ℕ) where
   for_others : (n v : ℕ) → nat_eq u v ≡ false → is_permitted s.day (s.permits n) v ≡ is_permitted s.day (left n) v
   for_others n v other = at (nat_eq t n) refl
     where
-      at : (b : Bool) → nat_eq t n ≡ b → is_permitted s.day (s.permits n) v ≡ is_permitted s.day (cond b (revoked u (s.permits t)) (s.permits n)) v
+      at : (b : Bool) → nat_eq t n ≡ b
+          → is_permitted s.day (s.permits n) v ≡ is_permitted s.day (cond b (revoked u (s.permits t)) (s.permits n)) v
       at false e = refl
       at true e =
           ap (λ k. is_permitted s.day (s.permits k) v) (sym (eqb-true t n e))

@@ -1,51 +1,25 @@
 -- A run that is made, in the rows of the desk.
 use Rattle.std.proofs.Common.{◌≡◌, ℕ, suc, true, false, cond, nat_eq, List, [], ◌∷◌, ◌++◌, length, map, Option, Some, None, Ok, Err, refl, sym, ap, subst, ◌∙◌}
-use Rattle.std.specs.Prelude.{ℤ, nat_le}
-use Rattle.std.specs.List.{AllByRecursion}
-use Rattle.std.specs.List.Sorted.{IsPermutation}
+use Rattle.std.specs.Prelude.{ℤ}
 use Rattle.std.proofs.Math.Path.{fun_ext}
 use Rattle.std.proofs.lemmas.List.Elements.{All-from_recursion, recursion_from_All}
-use Rattle.std.proofs.lemmas.List.Sorted.{All-permutation, IsPermutation-sym, IsPermutation-trans}
-use Rattle.sqlite.specs.Effect.{Database}
-use Rattle.sqlite.specs.Tree.{Trees}
 use Rattle.isad_core.specs.Days.{IsDayNumber, is_day_number}
-use Rattle.isad_core.specs.Limits.{most_runs}
 use Rattle.isad_core.proofs.DayLemmas.{is_day_number-true}
-use Rattle.tree_core.specs.Forest.{Forest}
-use Rattle.office_tables.specs.Versions.{Version}
-use Rattle.desk_core.specs.DeskRows.{Desk as Rows, HoldingRow, OrderRow, RunLineRow, RunRow}
-use Rattle.desk_core.specs.declared.reader.Place.{Place}
+use Rattle.desk_core.specs.DeskRows.{Desk as Rows}
 use Rattle.desk_core.specs.declared.reader.Place.TheVariants.{Desk}
-use Rattle.desk_core.specs.declared.refusal.Refusal.TheVariants.{Full, NothingToMove}
-use Rattle.desk_core.specs.LegibleDesks.{IsLegible}
-use Rattle.desk_store.specs.Runs.{with_run}
 use Rattle.desk_store.specs.Runs as stored
-use Rattle.desk_store.specs.Representation.{IsNumberOf, RepresentsDesk}
-use Rattle.desk_store.specs.declared.container_orders.ContainerOrder.{ContainerOrder}
-use Rattle.office_core.specs.Rules.{fetched, refusal}
-use Rattle.office_core.specs.SoundOffice.{IsSoundOffice}
-use Rattle.office_core.specs.State.{State, next_run, orders_of_run}
-use Rattle.office_core.specs.Words.{is_empty, numbers_to, some_and}
+use Rattle.office_core.specs.State.{next_run}
 use Rattle.office_core.specs.declared.command.Command.TheVariants as command
 use Rattle.office_core.specs.declared.done.Done.TheVariants as done
-use Rattle.office_core.proofs.Filed.{fetched_out}
-use Rattle.office_core.proofs.OrderLaws.{goes_same}
-use Rattle.state_encoding.specs.DeskEncoding.{holding_rows, order_rows, run_line_rows, run_row}
-use Rattle.state_encoding.specs.OfficeRows.{tables}
 use Rattle.office_tables.specs.Schema as schema
-use Rattle.office_tables.specs.Step.{OnlyTouches}
-use Rattle.refinement.specs.CommandSteps.{CarriesOutStep}
-use Rattle.refinement.specs.Representation.{RepresentsState}
-use Rattle.refinement.proofs.CommandSteps.{accepts, refuses}
-use Rattle.refinement.proofs.HoldingRows.{rows_of}
-use Rattle.desk_commands.specs.ContainerMoves.{all_placed, with_all_placed}
-use Rattle.desk_commands.specs.RunCreation.{taken_by}
+use Rattle.desk_commands.proofs.Common.{All-permutation, AllByRecursion, CarriesOutStep, ContainerOrder, Database, Forest, Full, HoldingRow, IsLegible, IsNumberOf, IsPermutation, IsPermutation-sym, IsPermutation-trans, IsSoundOffice, NothingToMove, OnlyTouches, OrderRow, Place, RepresentsDesk, RepresentsState, RunLineRow, RunRow, State, Trees, Version, accepts, all_placed, fetched, fetched_out, goes_same, holding_rows, is_empty, most_runs, nat_le, numbers_to, order_rows, orders_of_run, refusal, refuses, rows_of, run_line_rows, run_row, some_and, tables, taken_by, with_all_placed, with_run}
 use Rattle.desk_commands.proofs.Fetched.{as_many, brought, none_left, none_taken, one_left, same_lines, taken_within}
 use Rattle.desk_commands.proofs.MovedAll.{all_moved, rows_stay}
 use Rattle.desk_commands.proofs.Registered.{rows_end}
 
 -- lines in another order are shown as well
-pub lines_moved : (db : Trees) (d : Rows) (ls : List RunLineRow) → IsPermutation d.run_lines ls → RepresentsDesk db d → RepresentsDesk db (record d { run_lines = ls })
+pub lines_moved : (db : Trees) (d : Rows) (ls : List RunLineRow) → IsPermutation d.run_lines ls → RepresentsDesk db d
+    → RepresentsDesk db (record d { run_lines = ls })
 lines_moved db d ls same it = record {
   readers = it.readers;
   tickets = it.tickets;
@@ -75,7 +49,8 @@ lines_moved db d ls same it = record {
 }
 
 -- a desk with one run more can be read back
-pub legible_run : (k : Option ℕ) (day : ℤ) (os : List ContainerOrder) (d : Rows) → is_day_number day ≡ true → IsLegible d → IsLegible (with_run k day os d)
+pub legible_run : (k : Option ℕ) (day : ℤ) (os : List ContainerOrder) (d : Rows) → is_day_number day ≡ true
+    → IsLegible d → IsLegible (with_run k day os d)
 legible_run None day os d good it = it
 legible_run (Some n) day os d good it = record {
   readers = it.readers;
@@ -86,7 +61,8 @@ legible_run (Some n) day os d good it = record {
   permits = it.permits;
 }
   where
-    one_more : (rows : List RunRow) → AllByRecursion (λ (r : RunRow). is_day_number r.day ≡ true) rows → AllByRecursion (λ (r : RunRow). is_day_number r.day ≡ true) (rows ++ record { id = n; day = day } ∷ [])
+    one_more : (rows : List RunRow) → AllByRecursion (λ (r : RunRow). is_day_number r.day ≡ true) rows
+        → AllByRecursion (λ (r : RunRow). is_day_number r.day ≡ true) (rows ++ record { id = n; day = day } ∷ [])
     one_more [] h = (good, tt)
     one_more (row ∷ rows) h = (h.0, one_more rows h.1)
 
@@ -122,21 +98,25 @@ module _ (version : Version) (s : State) (sound : IsSoundOffice s) where
       ∙ ap (λ (rows : List RunRow). record desk { holdings = all_placed Desk containers_taken (holding_rows s); runs = rows; run_lines = run_line_rows (fetched s) }) (rows_end run_row s.runs (next_run s))
 
   module _ (places : Trees → Forest ℕ → Type 0) where
-    pub nothing_due : (db : Database) → is_empty taken ≡ true → CarriesOutStep places version s command.Run (Err NothingToMove) db
+    pub nothing_due : (db : Database) → is_empty taken ≡ true
+        → CarriesOutStep places version s command.Run (Err NothingToMove) db
     nothing_due db none =
         let nobody : is_empty (orders_of_run s) ≡ true = none_taken version s sound ∙ none in
         let why : refusal s command.Run ≡ Some NothingToMove = rw nobody refl in
         refuses places version s command.Run db NothingToMove why
 
-    no_number_left : (db : Database) → is_empty taken ≡ false → nat_le most_runs (length s.runs) ≡ true → CarriesOutStep places version s command.Run (Err Full) db
+    no_number_left : (db : Database) → is_empty taken ≡ false → nat_le most_runs (length s.runs) ≡ true
+        → CarriesOutStep places version s command.Run (Err Full) db
     no_number_left db some full =
         let due : is_empty (orders_of_run s) ≡ false = none_taken version s sound ∙ some in
         let why : refusal s command.Run ≡ Some Full = rw (due, full) refl in
         refuses places version s command.Run db Full why
 
     runs : ((old new : Trees) (f : Forest ℕ) → new schema.link.tree ≡ old schema.link.tree → places old f → places new f)
-        → (before now : Database) → is_empty taken ≡ false → nat_le most_runs (length s.runs) ≡ false → RepresentsState places version before s → now.schema ≡ before.schema
-        → OnlyTouches (schema.run.tree ∷ schema.run_line.tree ∷ schema.holding.tree ∷ []) before now → RepresentsDesk now.trees run_made
+        → (before now : Database) → is_empty taken ≡ false → nat_le most_runs (length s.runs) ≡ false
+        → RepresentsState places version before s → now.schema ≡ before.schema
+        → OnlyTouches (schema.run.tree ∷ schema.run_line.tree ∷ schema.holding.tree ∷ []) before now
+        → RepresentsDesk now.trees run_made
         → CarriesOutStep places version s command.Run (Ok (done.Run (suc (length s.runs)) (length taken))) now
     runs same before now some room it schema_is only shown =
         let due : is_empty (orders_of_run s) ≡ false = none_taken version s sound ∙ some in
@@ -148,13 +128,16 @@ module _ (version : Version) (s : State) (sound : IsSoundOffice s) where
         (done.Run (suc (length s.runs)) (length taken)) (ap (λ n. done.Run (suc (length s.runs)) n) (as_many version s sound))
 
     -- no number is left
-    pub runs_out : (db : Database) (due : List ContainerOrder) → due ≡ taken → is_empty due ≡ false → None ≡ stored.next_run desk → CarriesOutStep places version s command.Run (Err Full) db
+    pub runs_out : (db : Database) (due : List ContainerOrder) → due ≡ taken → is_empty due ≡ false
+        → None ≡ stored.next_run desk → CarriesOutStep places version s command.Run (Err Full) db
     runs_out db due is some number = no_number_left db (ap is_empty (sym is) ∙ some) (none_left version s number)
 
     -- the tables show the desk with what was taken
     pub runs_with : ((old new : Trees) (f : Forest ℕ) → new schema.link.tree ≡ old schema.link.tree → places old f → places new f)
-        → (before now : Database) (day : ℤ) (due : List ContainerOrder) (run : ℕ) → day ≡ s.day → due ≡ taken → is_empty due ≡ false → Some run ≡ stored.next_run desk
-        → RepresentsState places version before s → now.schema ≡ before.schema → OnlyTouches (schema.run.tree ∷ schema.run_line.tree ∷ schema.holding.tree ∷ []) before now
+        → (before now : Database) (day : ℤ) (due : List ContainerOrder) (run : ℕ) → day ≡ s.day → due ≡ taken
+        → is_empty due ≡ false → Some run ≡ stored.next_run desk
+        → RepresentsState places version before s → now.schema ≡ before.schema
+        → OnlyTouches (schema.run.tree ∷ schema.run_line.tree ∷ schema.holding.tree ∷ []) before now
         → RepresentsDesk now.trees (with_all_placed Desk (map (λ (o : ContainerOrder). o.container) due) (with_run (stored.next_run desk) day due desk))
         → CarriesOutStep places version s command.Run (Ok (done.Run run (length due))) now
     runs_with same before now day due run today is some number it schema_is only shown =

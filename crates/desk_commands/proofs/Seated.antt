@@ -1,48 +1,23 @@
 -- Tickets that take seats and leave them, in the rows of the desk.
 use Rattle.std.proofs.Common.{◌≡◌, ℕ, ℤ, nat_eq, List, [], ◌∷◌, map, Option, Some, None, Ok, refl, sym, ap, ◌∙◌}
-use Rattle.std.specs.Prelude.{int_lt, is_some, option_map, unwrap_or}
-use Rattle.std.specs.List.{list_any}
-use Rattle.std.specs.List.Sorted.{IsPermutation}
-use Rattle.std.proofs.lemmas.List.Sorted.{list_any-IsPermutation}
-use Rattle.sqlite.specs.Effect.{Database}
-use Rattle.sqlite.specs.Tree.{Trees}
 use Rattle.tree_core.proofs.Lists.{list_any-map}
-use Rattle.tree_core.specs.Forest.{Forest}
-use Rattle.office_tables.specs.Versions.{Version}
-use Rattle.desk_core.specs.Checks.{leave_seat_checks, take_seat_checks}
-use Rattle.desk_core.specs.Decisions.{leave_seat_facts, take_seat_facts}
 use Rattle.desk_core.specs.Decisions as decision
-use Rattle.desk_core.specs.DeskRows.{SeatRow}
-use Rattle.desk_core.specs.Refusals.{first_that_holds}
-use Rattle.desk_core.specs.declared.reader.Limits.{Limits}
 use Rattle.desk_core.specs.declared.reader.Reader.{Reader as Sitter}
-use Rattle.desk_core.specs.declared.refusal.Refusal.{Refusal}
 use Rattle.desk_store.specs.Seats.{MayTake, taken_seats, with_seat}
-use Rattle.desk_store.specs.Representation.{RepresentsDesk}
 use Rattle.desk_store.specs.declared.taken_seats.TakenSeat.{TakenSeat}
-use Rattle.office_core.specs.Rules.{after, checks, refusal}
-use Rattle.office_core.specs.SoundOffice.{IsSoundOffice}
-use Rattle.office_core.specs.State.{Reader, State, free_seat, held_count, is_seat_of, is_seated, seat_of}
-use Rattle.office_core.specs.Words.{nth, some_and}
 use Rattle.office_core.specs.declared.command.Command.TheVariants as command
 use Rattle.office_core.specs.declared.done.Done.TheVariants as done
-use Rattle.office_core.proofs.Steps.{held_not, passes}
-use Rattle.state_encoding.specs.DeskEncoding.{seat_rows}
-use Rattle.state_encoding.specs.OfficeRows.{tables}
 use Rattle.office_tables.specs.Schema as schema
-use Rattle.office_tables.specs.Step.{OnlyTouches}
-use Rattle.refinement.specs.ReadingRoomLimits.{limits_of}
-use Rattle.refinement.specs.CommandSteps.{CarriesOutStep}
-use Rattle.refinement.specs.Representation.{RepresentsState}
 use Rattle.refinement.specs.Sitters.{sitter, sitter_of}
-use Rattle.refinement.proofs.CommandSteps.{accepts}
 use Rattle.refinement.proofs.SeatsShown.{free_is, is_free, risen, sat, sits_by_row, some_placed}
 use Rattle.desk_commands.specs.Seats.{MayLeave, MaySit}
+use Rattle.desk_commands.proofs.Common.{CarriesOutStep, Database, Forest, IsPermutation, IsSoundOffice, Limits, OnlyTouches, Reader, Refusal, RepresentsDesk, RepresentsState, SeatRow, State, Trees, Version, accepts, after, checks, first_that_holds, free_seat, held_count, held_not, int_lt, is_seat_of, is_seated, is_some, leave_seat_checks, leave_seat_facts, limits_of, list_any, list_any-IsPermutation, nth, option_map, passes, refusal, seat_of, seat_rows, some_and, tables, take_seat_checks, take_seat_facts, unwrap_or}
 
 module _ (s : State) (sound : IsSoundOffice s) (t : ℕ) where
   -- ---- the checks, of the reader as the desk sees him
 
-  leave_at : (o : Option Reader) → first_that_holds (leave_seat_checks (leave_seat_facts (option_map (sitter_of s t) o)))
+  leave_at : (o : Option Reader)
+      → first_that_holds (leave_seat_checks (leave_seat_facts (option_map (sitter_of s t) o)))
       ≡ first_that_holds (leave_seat_checks (record { known = is_some o; seated = is_seated s t; held = held_count s t }))
   leave_at None = refl
   leave_at (Some reader) = rw (some_placed (is_seat_of t) s.seats) refl
@@ -57,31 +32,41 @@ module _ (s : State) (sound : IsSoundOffice s) (t : ℕ) where
   take_at taken free (Some reader) = rw (some_placed (is_seat_of t) s.seats, free) refl
 
   -- the numbers of the rows, in whatever order, tell the least free seat
-  pub least_free : (taken : List ℕ) → ((k : ℕ) → list_any (nat_eq k) taken ≡ list_any (nat_eq k) (map (λ (r : SeatRow). r.seat) (seat_rows s))) → decision.free_seat taken s.settings.seats ≡ free_seat s
+  pub least_free : (taken : List ℕ)
+      → ((k : ℕ) → list_any (nat_eq k) taken ≡ list_any (nat_eq k) (map (λ (r : SeatRow). r.seat) (seat_rows s)))
+      → decision.free_seat taken s.settings.seats ≡ free_seat s
   least_free taken same = ap (decision.free_seat taken) (sym sound.sound.desk.seats.count) ∙ free_is taken s.seats same
 
-  pub take_checked : (today : ℤ) (limits : Limits) (taken : List ℕ) → today ≡ s.day → limits ≡ limits_of s → decision.free_seat taken s.settings.seats ≡ free_seat s
+  pub take_checked : (today : ℤ) (limits : Limits) (taken : List ℕ) → today ≡ s.day → limits ≡ limits_of s
+      → decision.free_seat taken s.settings.seats ≡ free_seat s
       → first_that_holds (take_seat_checks (take_seat_facts (sitter s t) today taken limits)) ≡ refusal s (command.TakeSeat t)
   take_checked today limits taken day is free =
       ap (λ d. first_that_holds (take_seat_checks (take_seat_facts (sitter s t) d taken limits))) day
       ∙ ap (λ l. first_that_holds (take_seat_checks (take_seat_facts (sitter s t) s.day taken l))) is
       ∙ take_at taken free (nth s.readers t)
 
-  seat_at : (k : ℕ) (o : Option Reader) → decision.seat_of (option_map (sitter_of s t) o) ≡ Some k → seat_of s t ≡ Some k
+  seat_at : (k : ℕ) (o : Option Reader) → decision.seat_of (option_map (sitter_of s t) o) ≡ Some k
+      → seat_of s t ≡ Some k
   seat_at k None e = absurd (cc)
   seat_at k (Some reader) e = e
 
-  pub may_leave : (who : Option Sitter) (k : ℕ) → who ≡ sitter s t → None ≡ first_that_holds (leave_seat_checks (leave_seat_facts who)) → decision.seat_of who ≡ Some k → MayLeave s t k
+  pub may_leave : (who : Option Sitter) (k : ℕ) → who ≡ sitter s t
+      → None ≡ first_that_holds (leave_seat_checks (leave_seat_facts who)) → decision.seat_of who ≡ Some k
+      → MayLeave s t k
   may_leave who k is passes seat = record {
     allowed = sym leave_checked ∙ ap (λ w. first_that_holds (leave_seat_checks (leave_seat_facts w))) (sym is) ∙ sym passes;
     seat = seat_at k (nth s.readers t) (ap decision.seat_of (sym is) ∙ seat);
   }
 
-  pub must_stay : (who : Option Sitter) (why : Refusal) → who ≡ sitter s t → Some why ≡ first_that_holds (leave_seat_checks (leave_seat_facts who)) → refusal s (command.LeaveSeat t) ≡ Some why
-  must_stay who why is holds = sym leave_checked ∙ ap (λ w. first_that_holds (leave_seat_checks (leave_seat_facts w))) (sym is) ∙ sym holds
+  pub must_stay : (who : Option Sitter) (why : Refusal) → who ≡ sitter s t
+      → Some why ≡ first_that_holds (leave_seat_checks (leave_seat_facts who))
+      → refusal s (command.LeaveSeat t) ≡ Some why
+  must_stay who why is holds =
+      sym leave_checked ∙ ap (λ w. first_that_holds (leave_seat_checks (leave_seat_facts w))) (sym is) ∙ sym holds
 
   -- the seats that are taken, in whatever order
-  pub numbers_told : (version : Version) (taken : List TakenSeat) (numbers : List ℕ) → taken ≡ taken_seats (tables version s).desk → IsPermutation (map (λ (r : TakenSeat). r.seat) taken) numbers
+  pub numbers_told : (version : Version) (taken : List TakenSeat) (numbers : List ℕ)
+      → taken ≡ taken_seats (tables version s).desk → IsPermutation (map (λ (r : TakenSeat). r.seat) taken) numbers
       → (k : ℕ) → list_any (nat_eq k) numbers ≡ list_any (nat_eq k) (map (λ (r : SeatRow). r.seat) (seat_rows s))
   numbers_told version taken numbers are same k =
       sym (list_any-IsPermutation (nat_eq k) (map (λ (r : TakenSeat). r.seat) taken) numbers same)
@@ -93,29 +78,36 @@ module _ (s : State) (sound : IsSoundOffice s) (t : ℕ) where
   module _ (today : ℤ) (limits : Limits) (who : Option Sitter) (day : today ≡ s.day) (allowed : limits ≡ limits_of s) (is : who ≡ sitter s t)
       (taken : List ℕ) (same : (k : ℕ) → list_any (nat_eq k) taken ≡ list_any (nat_eq k) (map (λ (r : SeatRow). r.seat) (seat_rows s))) where
     checked : first_that_holds (take_seat_checks (take_seat_facts who today taken limits)) ≡ refusal s (command.TakeSeat t)
-    checked = ap (λ w. first_that_holds (take_seat_checks (take_seat_facts w today taken limits))) is ∙ take_checked today limits taken day allowed (least_free taken same)
+    checked =
+        ap (λ w. first_that_holds (take_seat_checks (take_seat_facts w today taken limits))) is
+        ∙ take_checked today limits taken day allowed (least_free taken same)
 
-    pub may_sit : (k : ℕ) → None ≡ first_that_holds (take_seat_checks (take_seat_facts who today taken limits)) → decision.free_seat taken limits.seats ≡ Some k → MaySit s t k
+    pub may_sit : (k : ℕ) → None ≡ first_that_holds (take_seat_checks (take_seat_facts who today taken limits))
+        → decision.free_seat taken limits.seats ≡ Some k → MaySit s t k
     may_sit k passes free = record {
       allowed = sym checked ∙ sym passes;
       seat = sym (least_free taken same) ∙ ap (λ (l : Limits). decision.free_seat taken l.seats) (sym allowed) ∙ free;
     }
 
-    pub must_stand : (why : Refusal) → Some why ≡ first_that_holds (take_seat_checks (take_seat_facts who today taken limits)) → refusal s (command.TakeSeat t) ≡ Some why
+    pub must_stand : (why : Refusal)
+        → Some why ≡ first_that_holds (take_seat_checks (take_seat_facts who today taken limits))
+        → refusal s (command.TakeSeat t) ≡ Some why
     must_stand why holds = sym checked ∙ sym holds
 
   -- ---- the rows
 
   module _ (version : Version) (places : Trees → Forest ℕ → Type 0) (same : (old new : Trees) (f : Forest ℕ) → new schema.link.tree ≡ old schema.link.tree → places old f → places new f)
       (before now : Database) (it : RepresentsState places version before s) (schema_is : now.schema ≡ before.schema) (only : OnlyTouches (schema.seat.tree ∷ []) before now) (k : ℕ) where
-    pub leaves : MayLeave s t k → RepresentsDesk now.trees (with_seat k None (tables version s).desk) → CarriesOutStep places version s (command.LeaveSeat t) (Ok (done.LeaveSeat k)) now
+    pub leaves : MayLeave s t k → RepresentsDesk now.trees (with_seat k None (tables version s).desk)
+        → CarriesOutStep places version s (command.LeaveSeat t) (Ok (done.LeaveSeat k)) now
     leaves may shown =
         accepts places version s (command.LeaveSeat t) same before now (schema.seat.tree ∷ []) refl may.allowed tt it schema_is only
         (after s (command.LeaveSeat t)) refl refl refl (with_seat k None (tables version s).desk) shown
         (ap (λ (rows : List SeatRow). record (tables version s).desk { seats = rows }) (risen t k s.seats sound.sound.desk.seats.once may.seat))
         (done.LeaveSeat k) (ap (λ seat. done.LeaveSeat (unwrap_or seat 0)) may.seat)
 
-    pub sits : MaySit s t k → RepresentsDesk now.trees (with_seat k (Some t) (tables version s).desk) → CarriesOutStep places version s (command.TakeSeat t) (Ok (done.TakeSeat k)) now
+    pub sits : MaySit s t k → RepresentsDesk now.trees (with_seat k (Some t) (tables version s).desk)
+        → CarriesOutStep places version s (command.TakeSeat t) (Ok (done.TakeSeat k)) now
     sits may shown =
         accepts places version s (command.TakeSeat t) same before now (schema.seat.tree ∷ []) refl may.allowed tt it schema_is only
         (after s (command.TakeSeat t)) refl refl refl (with_seat k (Some t) (tables version s).desk) shown

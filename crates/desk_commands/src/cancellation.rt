@@ -7,11 +7,10 @@ ghost use Rattle.office_core.specs.State.{waits};
 ghost use Rattle.office_core.specs.declared.command.Command.TheVariants as command;
 ghost use Rattle.refinement.specs.CommandSteps.{Performs};
 
-use crate::known_numbers::known_number;
 use catalogue_store::Places;
 use desk_store::{OrderState, end_order, order};
 use office_core::{Done, Refusal};
-use office_tables::{StoreFault, Tables};
+use office_tables::{StoreFault, Tables, known_number};
 use sqlite::Alter;
 use std::alloc::Global;
 

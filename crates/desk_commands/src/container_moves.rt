@@ -9,10 +9,9 @@ ghost use Rattle.office_tables.specs.Calls.{Updates};
 ghost use Rattle.office_tables.specs.Schema as schema;
 ghost use Rattle.desk_commands.specs.ContainerMoves.{handed_over, with_all_placed};
 
-use crate::known_numbers::known_number;
 use desk_core::Place;
 use desk_store::{OrderState, end_order, set_place};
-use office_tables::{Number, StoreFault, Tables, Versioned};
+use office_tables::{Number, StoreFault, Tables, Versioned, known_number};
 use sqlite::Alter;
 
 /// Moves a container to a place, and sets its order to the state that goes with the place.

@@ -6,12 +6,11 @@ ghost use Rattle.office_core.specs.declared.command.Command.TheVariants as comma
 ghost use Rattle.refinement.specs.CommandSteps.{Performs};
 
 use crate::container_moves::hand_over;
-use crate::known_numbers::known_number;
 use catalogue_store::Places;
 use desk_core::{Place, known_container};
 use desk_store::{OrderState, queue_head};
 use office_core::{Done, Refusal};
-use office_tables::{StoreFault, Tables};
+use office_tables::{StoreFault, Tables, known_number};
 use sqlite::Alter;
 use std::alloc::Global;
 

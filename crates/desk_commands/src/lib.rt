@@ -7,7 +7,6 @@ mod container_moves;
 mod container_return;
 mod emptiness;
 mod issuance;
-mod known_numbers;
 mod new_day;
 mod order_placement;
 mod permits;

@@ -8,12 +8,11 @@ ghost use Rattle.office_core.specs.declared.command.Command.TheVariants as comma
 ghost use Rattle.refinement.specs.CommandSteps.{Performs};
 ghost use Rattle.desk_commands.specs.Permits.{MayPermit, later_of, until_for};
 
-use crate::known_numbers::known_number;
 use catalogue_store::{Places, is_unit};
 use desk_store::{Permit, grant, is_registered, permits};
 use isad_core::{Day, limits};
 use office_core::{Done, Refusal};
-use office_tables::{StoreFault, Tables};
+use office_tables::{StoreFault, Tables, known_number};
 use sqlite::Alter;
 use std::alloc::Global;
 

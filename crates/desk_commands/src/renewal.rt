@@ -5,12 +5,11 @@ ghost use Rattle.office_core.specs.State.{is_ticket};
 ghost use Rattle.office_core.specs.declared.command.Command.TheVariants as command;
 ghost use Rattle.refinement.specs.CommandSteps.{Performs};
 
-use crate::known_numbers::known_number;
 use catalogue_store::Places;
 use desk_store::{is_registered, renew};
 use isad_core::Day;
 use office_core::{Done, Refusal};
-use office_tables::{StoreFault, Tables};
+use office_tables::{StoreFault, Tables, known_number};
 use sqlite::Alter;
 use std::alloc::Global;
 

@@ -9,13 +9,12 @@ ghost use Rattle.refinement.specs.CommandSteps.{Performs};
 ghost use Rattle.refinement.specs.Sitters.{sitter};
 ghost use Rattle.desk_commands.specs.Seats.{MayLeave, MaySit};
 
-use crate::known_numbers::known_number;
 use catalogue_store::Places;
 use desk_core::{Limits, Reader, may_leave, may_sit};
 use desk_store::{TakenSeat, seats, set_seat, ticket_holder};
 use isad_core::Day;
 use office_core::{Done, Refusal};
-use office_tables::{StoreFault, Tables};
+use office_tables::{StoreFault, Tables, known_number};
 use sqlite::Alter;
 use std::alloc::{AllocError, Global};
 

@@ -1,13 +1,10 @@
 -- A character begins with one byte of those that begin characters (UTF-8).
 use Rattle.std.proofs.Common.{◌≡◌, ℕ, ◌+◌, ◌<◌, ◌≤◌, Bool, true, false, cond, List, [], ◌∷◌, ◌++◌, length, filter, map, suc, eqb, subst, ⊎_elim, refl, sym, ap, ◌∙◌, arith, ltb, lt-ltb, ◌/◌, ◌%◌}
 use Rattle.std.specs.Str.{IsUtf8, chars}
-use Rattle.std.proofs.lemmas.Bool.{cases_Bool, eqb-true, le-leb, le-ltb, lt-leb, ltb-true, ne_eqb}
 use Rattle.std.proofs.lemmas.Str.{encodes-chars}
-use Rattle.std.proofs.lemmas.List.{length-append, length-map}
-use Rattle.std.proofs.lemmas.List.Elements.{filter-append}
 use lib.Utf8.{encode, encodes}
 use Rattle.isad_core.specs.Texts.{is_line_break, one_line, single_breaks, byte_or_space}
-use Rattle.desk_core.specs.Slips.{begins_character, characters}
+use Rattle.desk_core.proofs.Common.{begins_character, cases_Bool, characters, eqb-true, filter-append, le-leb, le-ltb, length-append, length-map, lt-leb, ltb-true, ne_eqb}
 
 characters-append : (xs ys : List ℕ) → characters (xs ++ ys) ≡ characters xs + characters ys
 characters-append xs ys = ap length (filter-append begins_character xs ys) ∙ length-append _ _
@@ -34,8 +31,10 @@ encoded c one two three =
 by_width : (c : ℕ) (one two three : Bool) → ltb c 128 ≡ one → characters (encoded c one two three) ≡ 1
 by_width c true two three e = rw (begins-ascii c (ltb-true c 128 e)) refl
 by_width c false true three e = rw (begins-high (192 + c / 64) (omega arith), begins-next c) refl
-by_width c false false true e = rw (begins-high (224 + c / 4096) (omega arith), begins-next (c / 64), begins-next c) refl
-by_width c false false false e = rw (begins-high (240 + c / 262144) (omega arith), begins-next (c / 4096), begins-next (c / 64), begins-next c) refl
+by_width c false false true e =
+    rw (begins-high (224 + c / 4096) (omega arith), begins-next (c / 64), begins-next c) refl
+by_width c false false false e =
+    rw (begins-high (240 + c / 262144) (omega arith), begins-next (c / 4096), begins-next (c / 64), begins-next c) refl
 
 characters-encode : (c : ℕ) → characters (encode c) ≡ 1
 unfolding encode
@@ -59,7 +58,8 @@ single_breaks-past : (b : ℕ) (rest : List ℕ) → eqb b 13 ≡ false → sing
 single_breaks-past b [] other = refl
 single_breaks-past b (d ∷ rest) other = rw other refl
 
-single_breaks-return : (d : ℕ) (rest : List ℕ) → eqb d 10 ≡ false → single_breaks (13 ∷ d ∷ rest) ≡ 13 ∷ single_breaks (d ∷ rest)
+single_breaks-return : (d : ℕ) (rest : List ℕ) → eqb d 10 ≡ false
+    → single_breaks (13 ∷ d ∷ rest) ≡ 13 ∷ single_breaks (d ∷ rest)
 single_breaks-return d rest other = rw other refl
 
 characters-first : (b : ℕ) (rest : List ℕ) → begins_character b ≡ true → characters (b ∷ rest) ≡ suc (characters rest)
@@ -68,14 +68,20 @@ characters-first b rest begins = rw begins refl
 characters-next : (n : ℕ) (rest : List ℕ) → characters ((128 + n % 64) ∷ rest) ≡ characters rest
 characters-next n rest = rw (begins-next n) refl
 
-next_past : (n : ℕ) (rest : List ℕ) → characters (single_breaks ((128 + n % 64) ∷ rest)) ≡ characters (single_breaks rest)
-next_past n rest = ap characters (single_breaks-past (128 + n % 64) rest (ne_eqb (128 + n % 64) 13 (λ e. omega arith))) ∙ characters-next n (single_breaks rest)
+next_past : (n : ℕ) (rest : List ℕ)
+    → characters (single_breaks ((128 + n % 64) ∷ rest)) ≡ characters (single_breaks rest)
+next_past n rest =
+    ap characters (single_breaks-past (128 + n % 64) rest (ne_eqb (128 + n % 64) 13 (λ e. omega arith)))
+    ∙ characters-next n (single_breaks rest)
 
-first_past : (b : ℕ) (rest : List ℕ) → begins_character b ≡ true → eqb b 13 ≡ false → characters (single_breaks (b ∷ rest)) ≡ suc (characters (single_breaks rest))
-first_past b rest begins other = ap characters (single_breaks-past b rest other) ∙ characters-first b (single_breaks rest) begins
+first_past : (b : ℕ) (rest : List ℕ) → begins_character b ≡ true → eqb b 13 ≡ false
+    → characters (single_breaks (b ∷ rest)) ≡ suc (characters (single_breaks rest))
+first_past b rest begins other =
+    ap characters (single_breaks-past b rest other) ∙ characters-first b (single_breaks rest) begins
 
 -- a character that is no carriage return is one more
-char_past : (c : ℕ) (rest : List ℕ) → eqb c 13 ≡ false → (one two three : Bool) → ltb c 128 ≡ one → characters (single_breaks (encoded c one two three ++ rest)) ≡ suc (characters (single_breaks rest))
+char_past : (c : ℕ) (rest : List ℕ) → eqb c 13 ≡ false → (one two three : Bool) → ltb c 128 ≡ one
+    → characters (single_breaks (encoded c one two three ++ rest)) ≡ suc (characters (single_breaks rest))
 char_past c rest other true two three e = first_past c rest (begins-ascii c (ltb-true c 128 e)) other
 char_past c rest other false true three e =
     first_past (192 + c / 64) ((128 + c % 64) ∷ rest) (begins-high (192 + c / 64) (omega arith)) (ne_eqb (192 + c / 64) 13 (λ e. omega arith)) ∙ ap suc (next_past c rest)
@@ -85,17 +91,23 @@ char_past c rest other false false false e =
     first_past (240 + c / 262144) ((128 + c / 4096 % 64) ∷ (128 + c / 64 % 64) ∷ (128 + c % 64) ∷ rest) (begins-high (240 + c / 262144) (omega arith)) (ne_eqb (240 + c / 262144) 13 (λ e. omega arith)) ∙ ap suc (next_past (c / 4096) ((128 + c / 64 % 64) ∷ (128 + c % 64) ∷ rest) ∙ next_past (c / 64) ((128 + c % 64) ∷ rest) ∙ next_past c rest)
 
 -- and so is a carriage return before a character that is no line feed
-return_past : (c : ℕ) (rest : List ℕ) → eqb c 10 ≡ false → (one two three : Bool) → characters (single_breaks (13 ∷ (encoded c one two three ++ rest))) ≡ suc (characters (single_breaks (encoded c one two three ++ rest)))
+return_past : (c : ℕ) (rest : List ℕ) → eqb c 10 ≡ false → (one two three : Bool)
+    → characters (single_breaks (13 ∷ (encoded c one two three ++ rest))) ≡ suc (characters (single_breaks (encoded c one two three ++ rest)))
 return_past c rest other true two three = ap characters (single_breaks-return c rest other)
-return_past c rest other false true three = ap characters (single_breaks-return (192 + c / 64) ((128 + c % 64) ∷ rest) (ne_eqb (192 + c / 64) 10 (λ e. omega arith)))
-return_past c rest other false false true = ap characters (single_breaks-return (224 + c / 4096) ((128 + c / 64 % 64) ∷ (128 + c % 64) ∷ rest) (ne_eqb (224 + c / 4096) 10 (λ e. omega arith)))
-return_past c rest other false false false = ap characters (single_breaks-return (240 + c / 262144) ((128 + c / 4096 % 64) ∷ (128 + c / 64 % 64) ∷ (128 + c % 64) ∷ rest) (ne_eqb (240 + c / 262144) 10 (λ e. omega arith)))
+return_past c rest other false true three =
+    ap characters (single_breaks-return (192 + c / 64) ((128 + c % 64) ∷ rest) (ne_eqb (192 + c / 64) 10 (λ e. omega arith)))
+return_past c rest other false false true =
+    ap characters (single_breaks-return (224 + c / 4096) ((128 + c / 64 % 64) ∷ (128 + c % 64) ∷ rest) (ne_eqb (224 + c / 4096) 10 (λ e. omega arith)))
+return_past c rest other false false false =
+    ap characters (single_breaks-return (240 + c / 262144) ((128 + c / 4096 % 64) ∷ (128 + c / 64 % 64) ∷ (128 + c % 64) ∷ rest) (ne_eqb (240 + c / 262144) 10 (λ e. omega arith)))
 
-past-encode : (c : ℕ) (rest : List ℕ) → eqb c 13 ≡ false → characters (single_breaks (encode c ++ rest)) ≡ suc (characters (single_breaks rest))
+past-encode : (c : ℕ) (rest : List ℕ) → eqb c 13 ≡ false
+    → characters (single_breaks (encode c ++ rest)) ≡ suc (characters (single_breaks rest))
 unfolding encode
 past-encode c rest other = char_past c rest other (ltb c 128) (ltb c 2048) (ltb c 65536) refl
 
-past-return : (c : ℕ) (rest : List ℕ) → eqb c 10 ≡ false → characters (single_breaks (13 ∷ (encode c ++ rest))) ≡ suc (characters (single_breaks (encode c ++ rest)))
+past-return : (c : ℕ) (rest : List ℕ) → eqb c 10 ≡ false
+    → characters (single_breaks (13 ∷ (encode c ++ rest))) ≡ suc (characters (single_breaks (encode c ++ rest)))
 unfolding encode
 past-return c rest other = return_past c rest other (ltb c 128) (ltb c 2048) (ltb c 65536)
 
@@ -108,14 +120,16 @@ counts-break ds so_far = ap suc so_far
 
 counts-return : (d : ℕ) (ds : List ℕ) → eqb d 10 ≡ false → Counts (d ∷ ds) → Counts (13 ∷ d ∷ ds)
 unfolding encode
-counts-return d ds other so_far = past-return d (encodes ds) other ∙ ap suc so_far ∙ sym (ap length (single_breaks-return d ds other))
+counts-return d ds other so_far =
+    past-return d (encodes ds) other ∙ ap suc so_far ∙ sym (ap length (single_breaks-return d ds other))
 
 counts-last : Counts (13 ∷ [])
 unfolding encode
 counts-last = refl
 
 counts-char : (c : ℕ) (cs : List ℕ) → eqb c 13 ≡ false → Counts cs → Counts (c ∷ cs)
-counts-char c cs other so_far = past-encode c (encodes cs) other ∙ ap suc so_far ∙ sym (ap length (single_breaks-past c cs other))
+counts-char c cs other so_far =
+    past-encode c (encodes cs) other ∙ ap suc so_far ∙ sym (ap length (single_breaks-past c cs other))
 
 counts : (cs : List ℕ) → Counts cs
 counts [] = refl

@@ -1,24 +1,26 @@
 -- How many of a list pass a test.
 use Rattle.std.proofs.Common.{◌≡◌, ◌+◌, Bool, true, false, not, ◌&&◌, ◌||◌, cond, List, [], ◌∷◌, refl, sym, ap, ◌∙◌, inl, inr, arith, map, filter, nat_lt, zero-add}
-use Rattle.std.proofs.lemmas.Bool.{or_parts, lt-ltb}
-use Rattle.std.proofs.lemmas.List.Sums.{sum_by-cons}
-use Rattle.std.specs.List.{list_any, count_by}
-use Rattle.tree_core.proofs.Lists.{In}
+use Rattle.std.proofs.lemmas.Bool.{lt-ltb}
+use Rattle.desk_core.proofs.Common.{In, count_by, list_any, or_parts, sum_by-cons}
 
-pub count_cons : {X : Type 0} (p : X → Bool) (x : X) (xs : List X) → count_by p (x ∷ xs) ≡ cond (p x) 1 0 + count_by p xs
+pub count_cons : {X : Type 0} (p : X → Bool) (x : X) (xs : List X)
+    → count_by p (x ∷ xs) ≡ cond (p x) 1 0 + count_by p xs
 count_cons p x xs = sum_by-cons (λ y. cond (p y) 1 0) x xs
 
-pub count_agree : {X : Type 0} (p q : X → Bool) (xs : List X) → ((x : X) → In x xs → p x ≡ q x) → count_by p xs ≡ count_by q xs
+pub count_agree : {X : Type 0} (p q : X → Bool) (xs : List X) → ((x : X) → In x xs → p x ≡ q x)
+    → count_by p xs ≡ count_by q xs
 count_agree p q [] h = refl
 count_agree p q (x ∷ xs) h =
     count_cons p x xs ∙ ap (λ b. cond b 1 0 + count_by p xs) (h x (inl refl)) ∙ ap (λ n. cond (q x) 1 0 + n) (count_agree p q xs (λ y i. h y (inr i))) ∙ sym (count_cons q x xs)
 
-pub count_map : {X Y : Type 0} (p : Y → Bool) (f : X → Y) (xs : List X) → count_by p (map f xs) ≡ count_by (λ x. p (f x)) xs
+pub count_map : {X Y : Type 0} (p : Y → Bool) (f : X → Y) (xs : List X)
+    → count_by p (map f xs) ≡ count_by (λ x. p (f x)) xs
 count_map p f [] = refl
 count_map p f (x ∷ xs) =
     count_cons p (f x) (map f xs) ∙ ap (λ n. cond (p (f x)) 1 0 + n) (count_map p f xs) ∙ sym (count_cons (λ x. p (f x)) x xs)
 
-pub count_filter : {X : Type 0} (p w : X → Bool) (xs : List X) → count_by p (filter w xs) ≡ count_by (λ x. w x && p x) xs
+pub count_filter : {X : Type 0} (p w : X → Bool) (xs : List X)
+    → count_by p (filter w xs) ≡ count_by (λ x. w x && p x) xs
 count_filter p w [] = refl
 count_filter p w (x ∷ xs) =
     (elim (w x) as (λ b. count_by p (cond b (x ∷ filter w xs) (filter w xs)) ≡ cond (b && p x) 1 0 + count_by (λ x. w x && p x) xs) [
@@ -44,7 +46,8 @@ count_none p (x ∷ xs) h =
     count_cons p x xs ∙ ap (λ b. cond b 1 0 + count_by p xs) parts.0 ∙ zero-add (count_by p xs) ∙ count_none p xs parts.1
 
 -- those that pass another test too, and those that do not
-pub count_split : {X : Type 0} (e p : X → Bool) (xs : List X) → count_by p xs ≡ count_by (λ x. not (e x) && p x) xs + count_by (λ x. e x && p x) xs
+pub count_split : {X : Type 0} (e p : X → Bool) (xs : List X)
+    → count_by p xs ≡ count_by (λ x. not (e x) && p x) xs + count_by (λ x. e x && p x) xs
 count_split e p [] = refl
 count_split e p (x ∷ xs) =
     let rest = count_split e p xs in

@@ -1,20 +1,11 @@
 -- Holdings as they are judged from the values at hand.
 use Rattle.std.proofs.Common.{◌≡◌, ℕ, ◌<◌, ◌≤◌, Bool, true, false, not, ◌&&◌, ◌||◌, List, map, length, Option, Some, None, refl, sym, ap, ◌∙◌, inl, inr, arith, nat_eq, nat_le, nat_lt}
-use Rattle.std.specs.Prelude.{is_none}
-use Rattle.std.specs.List.{list_any, list_all, count_by}
 use Rattle.std.specs.Option.{option_map_or, unwrap_or}
-use Rattle.std.proofs.lemmas.Bool.{and_parts, and_right, cases_eq, cases_lt, eq-eqb, ne_eqb, eqb-true, le-leb, lt-leb, le-ltb, lt-ltb}
-use Rattle.std.proofs.lemmas.List.Folds.{list_all-map}
-use Rattle.isad_core.specs.Words.{are_numbered_from, some_and}
+use Rattle.std.proofs.lemmas.Bool.{eq-eqb, lt-ltb}
 use Rattle.desk_core.specs.DeskCauses as causes
 use Rattle.desk_core.specs.DeskRows as desk
-use Rattle.tree_core.proofs.Lists.{In, list_any-map}
-use Rattle.desk_core.specs.RowRecords.{Surrounds, order_row, holding_row}
-use Rattle.desk_core.specs.Consistency.{holder, is_held, is_fit_holding, is_out_for, lies_well, nth_order, times}
-use Rattle.desk_core.specs.declared.consistency.context.Around.{Around}
 use Rattle.desk_core.specs.declared.consistency.rows.HoldingRow.{HoldingRow}
-use Rattle.desk_core.specs.declared.consistency.rows.OrderRow.{OrderRow}
-use Rattle.desk_core.specs.declared.consistency.tally.Tally.{Tally}
+use Rattle.desk_core.proofs.Common.{Around, In, OrderRow, Surrounds, Tally, and_parts, and_right, are_numbered_from, cases_eq, cases_lt, count_by, eqb-true, holder, holding_row, is_fit_holding, is_held, is_none, is_out_for, le-leb, le-ltb, lies_well, list_all, list_all-map, list_any, list_any-map, lt-leb, ne_eqb, nth_order, order_row, some_and, times}
 use Rattle.desk_core.proofs.Counts.{any_count, count_map}
 use Rattle.desk_core.proofs.NumberedRows.{any_numbered, own_number}
 use Rattle.desk_core.proofs.Tests.{all_agree, all_at, and_same, any_agree_in}
@@ -27,7 +18,8 @@ from_one n = elim (cases_lt 0 n) [
 
 module _ (d : desk.Desk) (orders : List OrderRow) (e : d.orders ≡ map order_row orders) (numbered : are_numbered_from (λ (row : OrderRow). row.id) 1 orders ≡ true) where
   -- the order with a number passes a test
-  pub order_there : (p : desk.OrderRow → Bool) (o : ℕ) → list_any (λ (row : desk.OrderRow). nat_eq row.id o && p row) d.orders ≡ some_and (λ row. p (order_row row)) (nth_order orders o)
+  pub order_there : (p : desk.OrderRow → Bool) (o : ℕ)
+      → list_any (λ (row : desk.OrderRow). nat_eq row.id o && p row) d.orders ≡ some_and (λ row. p (order_row row)) (nth_order orders o)
   order_there p o =
       ap (list_any (λ (row : desk.OrderRow). nat_eq row.id o && p row)) e
       ∙ list_any-map (λ (row : desk.OrderRow). nat_eq row.id o && p row) order_row orders
@@ -49,7 +41,9 @@ module _ (d : desk.Desk) (orders : List OrderRow) (e : d.orders ≡ map order_ro
       out true y t u f = ap (λ v. y && v) f
       out false y t u f = ap (λ v. y && v) f
 
-  pub holdings_told : (s : Around) (a : causes.Around) (holdings : List HoldingRow) → Surrounds s a d → d.holdings ≡ map holding_row holdings → list_all (is_fit_holding s orders) holdings ≡ list_all (causes.is_good_holding a d) d.holdings
+  pub holdings_told : (s : Around) (a : causes.Around) (holdings : List HoldingRow) → Surrounds s a d
+      → d.holdings ≡ map holding_row holdings
+      → list_all (is_fit_holding s orders) holdings ≡ list_all (causes.is_good_holding a d) d.holdings
   holdings_told s a holdings h f =
       all_agree (is_fit_holding s orders) (λ row. causes.is_good_holding a d (holding_row row)) holdings
       (λ row i. and_same (list_any (nat_eq row.container) s.containers) (a.is_container row.container) _ _ (sym (h.containers row.container)) (lies row.container row.place row.held_by))
@@ -59,7 +53,8 @@ module _ (d : desk.Desk) (orders : List OrderRow) (e : d.orders ≡ map order_ro
   -- ---- each order that is out
 
   -- a holding that lies well tells its order where it is that order's
-  answers : (order : OrderRow) → 1 ≤ order.id → nth_order orders order.id ≡ Some order → (c place : ℕ) (o : Option ℕ) → option_map_or (λ o. nat_eq place 2 && is_out_for orders c o) o (nat_eq place 1) ≡ true
+  answers : (order : OrderRow) → 1 ≤ order.id → nth_order orders order.id ≡ Some order → (c place : ℕ) (o : Option ℕ)
+      → option_map_or (λ o. nat_eq place 2 && is_out_for orders c o) o (nat_eq place 1) ≡ true
       → nat_eq order.id (unwrap_or o 0) ≡ (nat_eq c order.container && (nat_eq place 2 && some_and (nat_eq order.id) o))
   answers order above at c place None well =
       ne_eqb order.id 0 (λ z. absurd (omega (arith, above, z))) ∙ sym (and_right (nat_eq c order.container) _ (and_right (nat_eq place 2) false refl))
@@ -75,7 +70,8 @@ module _ (d : desk.Desk) (orders : List OrderRow) (e : d.orders ≡ map order_ro
         (and_same (nat_eq place 2) true (nat_eq order.id o) true parts.0 (eq-eqb order.id o same)))
   ]
 
-  pub held_told : (s : Around) (holdings : List HoldingRow) (tally : Tally) → d.holdings ≡ map holding_row holdings → list_all (is_fit_holding s orders) holdings ≡ true
+  pub held_told : (s : Around) (holdings : List HoldingRow) (tally : Tally) → d.holdings ≡ map holding_row holdings
+      → list_all (is_fit_holding s orders) holdings ≡ true
       → ((n : ℕ) → n ≤ length orders → times tally n ≡ count_by (nat_eq n) (map holder holdings))
       → list_all (is_held tally) orders ≡ list_all (causes.has_its_holding d) d.orders
   held_told s holdings tally f good counts =
@@ -83,7 +79,8 @@ module _ (d : desk.Desk) (orders : List OrderRow) (e : d.orders ≡ map order_ro
       ∙ sym (list_all-map (causes.has_its_holding d) order_row orders)
       ∙ ap (list_all (causes.has_its_holding d)) (sym e)
     where
-      held : (order : OrderRow) → In order orders → nat_le 1 (times tally order.id) ≡ list_any (causes.is_holding_of (order_row order)) d.holdings
+      held : (order : OrderRow) → In order orders
+          → nat_le 1 (times tally order.id) ≡ list_any (causes.is_holding_of (order_row order)) d.holdings
       held order i =
           let own = own_number (λ (row : OrderRow). row.id) orders order numbered i in
           ap (nat_le 1) (counts order.id own.1 ∙ count_map (nat_eq order.id) holder holdings)
@@ -96,12 +93,17 @@ module _ (d : desk.Desk) (orders : List OrderRow) (e : d.orders ≡ map order_ro
 
   -- ---- as it is judged, one after the other
 
-  pub not_told : (s : Around) (a : causes.Around) (holdings : List HoldingRow) (b : Bool) → Surrounds s a d → d.holdings ≡ map holding_row holdings → b ≡ list_all (is_fit_holding s orders) holdings → b ≡ false → false ≡ causes.are_good_holdings a d
+  pub not_told : (s : Around) (a : causes.Around) (holdings : List HoldingRow) (b : Bool) → Surrounds s a d
+      → d.holdings ≡ map holding_row holdings → b ≡ list_all (is_fit_holding s orders) holdings → b ≡ false
+      → false ≡ causes.are_good_holdings a d
   not_told s a holdings b h f w n =
       sym (ap (λ v. v && list_all (causes.has_its_holding d) d.orders) (sym (holdings_told s a holdings h f) ∙ sym w ∙ n))
 
-  pub held_well : (s : Around) (a : causes.Around) (holdings : List HoldingRow) (holders : List ℕ) (tally : Tally) (b r : Bool) → Surrounds s a d → d.holdings ≡ map holding_row holdings → b ≡ list_all (is_fit_holding s orders) holdings → b ≡ true
-      → holders ≡ map holder holdings → ((n : ℕ) → n ≤ length orders → times tally n ≡ count_by (nat_eq n) holders) → r ≡ list_all (is_held tally) orders → r ≡ causes.are_good_holdings a d
+  pub held_well : (s : Around) (a : causes.Around) (holdings : List HoldingRow) (holders : List ℕ) (tally : Tally) (b r : Bool)
+      → Surrounds s a d → d.holdings ≡ map holding_row holdings → b ≡ list_all (is_fit_holding s orders) holdings
+      → b ≡ true
+      → holders ≡ map holder holdings → ((n : ℕ) → n ≤ length orders → times tally n ≡ count_by (nat_eq n) holders)
+      → r ≡ list_all (is_held tally) orders → r ≡ causes.are_good_holdings a d
   held_well s a holdings holders tally b r h f w t l counts v =
       let good = sym w ∙ t in
       v ∙ held_told s holdings tally f good (λ m le. counts m le ∙ ap (count_by (nat_eq m)) l)

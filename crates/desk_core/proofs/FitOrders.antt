@@ -1,25 +1,12 @@
 -- Orders as they are judged from the values at hand.
 use Rattle.std.proofs.Common.{◌≡◌, ℕ, ◌+◌, ◌<◌, ◌≤◌, Bool, true, false, not, ◌&&◌, ◌||◌, List, map, filter, length, refl, sym, ap, ◌∙◌, inl, inr, arith, nat_eq, nat_le, nat_lt}
-use Rattle.std.specs.Prelude.{int_le}
 use Rattle.std.specs.declared.cmp.Ordering.{Ordering}
-use Rattle.std.specs.declared.cmp.Ordering.TheVariants.{Less, Equal, Greater}
-use Rattle.std.specs.List.{list_any, list_all, count_by}
-use Rattle.std.specs.Ordering.{is_eq, nat_cmp, int_cmp, int_eq, ordering_then}
-use Rattle.std.proofs.lemmas.Bool.{and_left, and_right, and_parts, not-false, cases_Bool, cases_lt, cases_order, eq-eqb, ne_eqb, lt-ltb, le-ltb, le-leb, lt-leb}
+use Rattle.std.proofs.lemmas.Bool.{eq-eqb, lt-ltb}
 use Rattle.std.proofs.lemmas.Cmp.{int_eq_equiv}
-use Rattle.std.proofs.lemmas.List.{length-map}
-use Rattle.std.proofs.lemmas.List.Folds.{list_all-map}
-use Rattle.isad_core.specs.Days.{is_day_number}
-use Rattle.isad_core.specs.Limits.{most_orders}
-use Rattle.isad_core.specs.Words.{are_numbered_from, is_between}
 use Rattle.desk_core.specs.DeskCauses as causes
 use Rattle.desk_core.specs.DeskRows as desk
-use Rattle.tree_core.proofs.Lists.{In, any_none, eqb_comm, list_any-map}
-use Rattle.desk_core.specs.RowRecords.{Surrounds, order_row}
 use Rattle.desk_core.specs.KeyCounts.{standing, occurs_more_than}
-use Rattle.desk_core.specs.Consistency.{is_fit_order, placing, placing_cmp, asking, asking_cmp, waits_or_is_out}
-use Rattle.desk_core.specs.declared.consistency.context.Around.{Around}
-use Rattle.desk_core.specs.declared.consistency.rows.OrderRow.{OrderRow}
+use Rattle.desk_core.proofs.Common.{Around, Equal, Greater, In, Less, OrderRow, Surrounds, and_left, and_parts, and_right, any_none, are_numbered_from, asking, asking_cmp, cases_Bool, cases_lt, cases_order, count_by, eqb_comm, int_cmp, int_eq, int_le, is_between, is_day_number, is_eq, is_fit_order, le-leb, le-ltb, length-map, list_all, list_all-map, list_any, list_any-map, lt-leb, most_orders, nat_cmp, ne_eqb, not-false, order_row, ordering_then, placing, placing_cmp, waits_or_is_out}
 use Rattle.desk_core.proofs.Counts.{any_count, count_agree, count_filter, count_map, count_split}
 use Rattle.desk_core.proofs.NumberedRows.{numbered_map, once}
 use Rattle.desk_core.proofs.Tests.{all_agree, all_and, all_filter, and_same, and_then, any_agree_in, not_any, not_over}
@@ -43,7 +30,8 @@ then_same Greater q = refl
 
 -- ---- a key that stands too often, told from the rows
 
-rows_over : {K : Type 0} (cmp : K → K → Ordering) (key : OrderRow → K) (most : ℕ) (rows : List OrderRow) → not (occurs_more_than cmp most (map key rows)) ≡ list_all (λ row. nat_le (count_by (λ other. is_eq (cmp (key row) (key other))) rows) most) rows
+rows_over : {K : Type 0} (cmp : K → K → Ordering) (key : OrderRow → K) (most : ℕ) (rows : List OrderRow)
+    → not (occurs_more_than cmp most (map key rows)) ≡ list_all (λ row. nat_le (count_by (λ other. is_eq (cmp (key row) (key other))) rows) most) rows
 rows_over cmp key most rows =
     ap not (list_any-map (λ k. nat_lt most (standing cmp k (map key rows))) key rows)
     ∙ not_any (λ row. nat_lt most (standing cmp (key row) (map key rows))) rows
@@ -52,16 +40,19 @@ rows_over cmp key most rows =
 
 -- ---- as many of a day as may be
 
-same_day : (row other : OrderRow) → is_eq (placing_cmp (placing row) (placing other)) ≡ causes.is_of_the_day (order_row row) (order_row other)
+same_day : (row other : OrderRow)
+    → is_eq (placing_cmp (placing row) (placing other)) ≡ causes.is_of_the_day (order_row row) (order_row other)
 same_day row other =
     then_same (nat_cmp row.ticket other.ticket) (int_cmp row.day other.day)
     ∙ and_same (is_eq (nat_cmp row.ticket other.ticket)) (nat_eq other.ticket row.ticket) (int_eq row.day other.day) (int_eq other.day row.day)
     (nat_same row.ticket other.ticket ∙ eqb_comm row.ticket other.ticket) (int_eq_equiv.symm row.day other.day)
 
 abbrev within_daily : ℕ → List OrderRow → OrderRow → Bool
-within_daily daily orders row = nat_le (count_by (λ (other : OrderRow). causes.is_of_the_day (order_row row) (order_row other)) orders) daily
+within_daily daily orders row =
+    nat_le (count_by (λ (other : OrderRow). causes.is_of_the_day (order_row row) (order_row other)) orders) daily
 
-daily_told : (daily : ℕ) (orders : List OrderRow) → not (occurs_more_than placing_cmp daily (map placing orders)) ≡ list_all (within_daily daily orders) orders
+daily_told : (daily : ℕ) (orders : List OrderRow)
+    → not (occurs_more_than placing_cmp daily (map placing orders)) ≡ list_all (within_daily daily orders) orders
 daily_told daily orders =
     rows_over placing_cmp placing daily orders
     ∙ all_agree (λ row. nat_le (count_by (λ other. is_eq (placing_cmp (placing row) (placing other))) orders) daily) (within_daily daily orders) orders
@@ -69,7 +60,8 @@ daily_told daily orders =
 
 -- ---- no two that ask for the same
 
-same_ask : (row other : OrderRow) → is_eq (asking_cmp (asking row) (asking other)) ≡ (nat_eq row.ticket other.ticket && nat_eq row.container other.container)
+same_ask : (row other : OrderRow)
+    → is_eq (asking_cmp (asking row) (asking other)) ≡ (nat_eq row.ticket other.ticket && nat_eq row.container other.container)
 same_ask row other =
     then_same (nat_cmp row.ticket other.ticket) (nat_cmp row.container other.container)
     ∙ and_same (is_eq (nat_cmp row.ticket other.ticket)) (nat_eq row.ticket other.ticket) (is_eq (nat_cmp row.container other.container)) (nat_eq row.container other.container)
@@ -101,7 +93,8 @@ module _ (orders : List OrderRow) (numbered : are_numbered_from (λ (row : Order
       and_same (waits_or_is_out row) true (is_eq (asking_cmp (asking row) (asking row))) true t
       (same_ask row row ∙ and_same (nat_eq row.ticket row.ticket) true (nat_eq row.container row.container) true (eq-eqb row.ticket row.ticket refl) (eq-eqb row.container row.container refl))
 
-  double : waits_or_is_out row ≡ true → (other : OrderRow) → causes.are_twice (order_row row) (order_row other) ≡ (not (itself other) && asks other)
+  double : waits_or_is_out row ≡ true → (other : OrderRow)
+      → causes.are_twice (order_row row) (order_row other) ≡ (not (itself other) && asks other)
   double t other =
       and_same (not (nat_eq row.id other.id)) (not (itself other)) _ (asks other) (ap not (eqb_comm row.id other.id))
       (ap (λ b. b && (waits_or_is_out other && (nat_eq row.ticket other.ticket && nat_eq row.container other.container))) t
@@ -126,7 +119,8 @@ module _ (orders : List OrderRow) (numbered : are_numbered_from (λ (row : Order
         | inr f ↦ ap (λ b. not b || nat_le (count_by asks orders) 1) f ∙ sym (idle f)
       ]
 
-asked_told : (orders : List OrderRow) → are_numbered_from (λ (row : OrderRow). row.id) 1 orders ≡ true → not (occurs_more_than asking_cmp 1 (map asking (filter waits_or_is_out orders))) ≡ list_all (asks_once orders) orders
+asked_told : (orders : List OrderRow) → are_numbered_from (λ (row : OrderRow). row.id) 1 orders ≡ true
+    → not (occurs_more_than asking_cmp 1 (map asking (filter waits_or_is_out orders))) ≡ list_all (asks_once orders) orders
 asked_told orders numbered =
     rows_over asking_cmp asking 1 (filter waits_or_is_out orders)
     ∙ all_filter (λ row. nat_le (count_by (λ other. is_eq (asking_cmp (asking row) (asking other))) (filter waits_or_is_out orders)) 1) waits_or_is_out orders
@@ -143,7 +137,8 @@ regroup true false c d e x = refl
 regroup false b c d e x = refl
 
 module _ (s : Around) (a : causes.Around) (d : desk.Desk) (orders : List OrderRow) (h : Surrounds s a d) (e : d.orders ≡ map order_row orders) where
-  row_told : (row : OrderRow) → causes.is_good_order a d (order_row row) ≡ (is_fit_order s row && (within_daily s.daily orders row && asks_once orders row))
+  row_told : (row : OrderRow)
+      → causes.is_good_order a d (order_row row) ≡ (is_fit_order s row && (within_daily s.daily orders row && asks_once orders row))
   row_told row =
       regroup (causes.is_registered d row.ticket) (a.is_container row.container) (is_between 1 4 row.state) (is_day_number row.day) (int_le row.day a.day) _
       ∙ and_same _ (is_fit_order s row) _ (within_daily s.daily orders row && asks_once orders row)
@@ -162,7 +157,8 @@ module _ (s : Around) (a : causes.Around) (d : desk.Desk) (orders : List OrderRo
       ∙ sym (numbered_map (λ (row : desk.OrderRow). row.id) order_row 1 orders)
       ∙ ap (are_numbered_from (λ (row : desk.OrderRow). row.id) 1) (sym e)
 
-  each_told : are_numbered_from (λ (row : OrderRow). row.id) 1 orders ≡ true → list_all (causes.is_good_order a d) d.orders
+  each_told : are_numbered_from (λ (row : OrderRow). row.id) 1 orders ≡ true
+      → list_all (causes.is_good_order a d) d.orders
       ≡ (list_all (is_fit_order s) orders && (not (occurs_more_than placing_cmp s.daily (map placing orders)) && not (occurs_more_than asking_cmp 1 (map asking (filter waits_or_is_out orders)))))
   each_told numbered =
       ap (list_all (causes.is_good_order a d)) e
@@ -199,21 +195,29 @@ module _ (s : Around) (a : causes.Around) (d : desk.Desk) (orders : List OrderRo
   abbrev IsPlainly : List ℕ → Bool → Type 0
   IsPlainly numbers b = b ≡ (are_numbered_from (λ n. n) 1 numbers && (nat_le (length orders) most_orders && list_all (is_fit_order s) orders))
 
-  judged : (numbers : List ℕ) (b : Bool) → numbers ≡ map (λ (row : OrderRow). row.id) orders → IsPlainly numbers b → causes.are_good_orders a d ≡ (b && (keeps && asks_well))
-  judged numbers b n p = orders_told ∙ ap (λ v. v && (keeps && asks_well)) (sym (p ∙ ap (λ ns. are_numbered_from (λ n. n) 1 ns && (nat_le (length orders) most_orders && list_all (is_fit_order s) orders)) n))
+  judged : (numbers : List ℕ) (b : Bool) → numbers ≡ map (λ (row : OrderRow). row.id) orders → IsPlainly numbers b
+      → causes.are_good_orders a d ≡ (b && (keeps && asks_well))
+  judged numbers b n p =
+      orders_told
+      ∙ ap (λ v. v && (keeps && asks_well)) (sym (p ∙ ap (λ ns. are_numbered_from (λ n. n) 1 ns && (nat_le (length orders) most_orders && list_all (is_fit_order s) orders)) n))
 
-  pub not_plain : (numbers : List ℕ) (b : Bool) → numbers ≡ map (λ (row : OrderRow). row.id) orders → IsPlainly numbers b → b ≡ false → false ≡ causes.are_good_orders a d
+  pub not_plain : (numbers : List ℕ) (b : Bool) → numbers ≡ map (λ (row : OrderRow). row.id) orders
+      → IsPlainly numbers b → b ≡ false → false ≡ causes.are_good_orders a d
   not_plain numbers b n p f = sym (judged numbers b n p ∙ ap (λ v. v && (keeps && asks_well)) f)
 
-  pub too_many : (numbers : List ℕ) (b k : Bool) → numbers ≡ map (λ (row : OrderRow). row.id) orders → IsPlainly numbers b → k ≡ keeps → k ≡ false → false ≡ causes.are_good_orders a d
-  too_many numbers b k n p w f = sym (judged numbers b n p ∙ and_right b (keeps && asks_well) (ap (λ v. v && asks_well) (sym w ∙ f)))
+  pub too_many : (numbers : List ℕ) (b k : Bool) → numbers ≡ map (λ (row : OrderRow). row.id) orders
+      → IsPlainly numbers b → k ≡ keeps → k ≡ false → false ≡ causes.are_good_orders a d
+  too_many numbers b k n p w f =
+      sym (judged numbers b n p ∙ and_right b (keeps && asks_well) (ap (λ v. v && asks_well) (sym w ∙ f)))
 
-  pub asked_well : (numbers : List ℕ) (b k o : Bool) → numbers ≡ map (λ (row : OrderRow). row.id) orders → IsPlainly numbers b → b ≡ true → k ≡ keeps → k ≡ true → o ≡ asks_well → o ≡ causes.are_good_orders a d
+  pub asked_well : (numbers : List ℕ) (b k o : Bool) → numbers ≡ map (λ (row : OrderRow). row.id) orders
+      → IsPlainly numbers b → b ≡ true → k ≡ keeps → k ≡ true → o ≡ asks_well → o ≡ causes.are_good_orders a d
   asked_well numbers b k o n p t w u v =
       v ∙ sym (judged numbers b n p ∙ ap (λ x. x && (keeps && asks_well)) t ∙ ap (λ x. x && asks_well) (sym w ∙ u))
 
 -- orders that have no cause are numbered
-pub numbered_orders : (a : causes.Around) (d : desk.Desk) (orders : List OrderRow) → d.orders ≡ map order_row orders → causes.orders_are_bad a d ≡ false → are_numbered_from (λ (row : OrderRow). row.id) 1 orders ≡ true
+pub numbered_orders : (a : causes.Around) (d : desk.Desk) (orders : List OrderRow) → d.orders ≡ map order_row orders
+    → causes.orders_are_bad a d ≡ false → are_numbered_from (λ (row : OrderRow). row.id) 1 orders ≡ true
 numbered_orders a d orders e bad =
     sym (numbered_map (λ (row : desk.OrderRow). row.id) order_row 1 orders)
     ∙ ap (are_numbered_from (λ (row : desk.OrderRow). row.id) 1) (sym e)

@@ -1,29 +1,21 @@
 -- Seats and permits as they are judged from the values at hand.
 use Rattle.std.proofs.Common.{◌≡◌, ℕ, ◌≤◌, true, ◌&&◌, List, map, sym, ap, ◌∙◌, nat_eq, nat_le}
-use Rattle.std.specs.List.{list_any, list_all, count_by}
-use Rattle.std.proofs.lemmas.Bool.{and_parts, leb-true}
-use Rattle.std.proofs.lemmas.List.Folds.{list_all-map}
-use Rattle.isad_core.specs.Days.{is_day_number}
-use Rattle.isad_core.specs.Limits.{most_permits}
-use Rattle.isad_core.specs.Words.{is_between}
 use Rattle.desk_core.specs.DeskCauses as causes
 use Rattle.desk_core.specs.DeskRows as desk
-use Rattle.tree_core.proofs.Lists.{eqb_comm}
-use Rattle.desk_core.specs.RowRecords.{Surrounds, seat_row, permit_row}
-use Rattle.desk_core.specs.Consistency.{is_fit_seat, is_fit_permit, times}
-use Rattle.desk_core.specs.declared.consistency.context.Around.{Around}
 use Rattle.desk_core.specs.declared.consistency.rows.PermitRow.{PermitRow}
 use Rattle.desk_core.specs.declared.consistency.rows.SeatRow.{SeatRow}
-use Rattle.desk_core.specs.declared.consistency.tally.Tally.{Tally}
+use Rattle.desk_core.proofs.Common.{Around, Surrounds, Tally, and_parts, count_by, eqb_comm, is_between, is_day_number, is_fit_permit, is_fit_seat, leb-true, list_all, list_all-map, list_any, most_permits, permit_row, seat_row, times}
 use Rattle.desk_core.proofs.Counts.{count_agree, count_map}
 use Rattle.desk_core.proofs.NumberedRows.{has_number}
 use Rattle.desk_core.proofs.Tests.{all_agree, and_same, and_then}
 
 -- a ticket is registered where it is a number of a reader
-pub registered : (s : Around) (a : causes.Around) (d : desk.Desk) → Surrounds s a d → (t : ℕ) → causes.is_registered d t ≡ is_between 1 s.readers t
+pub registered : (s : Around) (a : causes.Around) (d : desk.Desk) → Surrounds s a d → (t : ℕ)
+    → causes.is_registered d t ≡ is_between 1 s.readers t
 registered s a d h t = has_number (λ (row : desk.ReaderRow). row.ticket) d.readers t h.tickets ∙ ap (λ n. is_between 1 n t) h.readers
 
-pub seats_told : (s : Around) (a : causes.Around) (d : desk.Desk) (seats : List SeatRow) → Surrounds s a d → d.seats ≡ map seat_row seats → list_all (is_fit_seat s) seats ≡ list_all (causes.is_good_seat a d) d.seats
+pub seats_told : (s : Around) (a : causes.Around) (d : desk.Desk) (seats : List SeatRow) → Surrounds s a d
+    → d.seats ≡ map seat_row seats → list_all (is_fit_seat s) seats ≡ list_all (causes.is_good_seat a d) d.seats
 seats_told s a d seats h e =
     all_agree (is_fit_seat s) (λ row. causes.is_good_seat a d (seat_row row)) seats
     (λ row i. and_same (is_between 1 s.seats row.seat) (is_between 1 a.seats row.seat) (is_between 1 s.readers row.ticket) (causes.is_registered d row.ticket)
@@ -31,7 +23,8 @@ seats_told s a d seats h e =
     ∙ sym (list_all-map (causes.is_good_seat a d) seat_row seats)
     ∙ ap (list_all (causes.is_good_seat a d)) (sym e)
 
-pub permits_told : (s : Around) (a : causes.Around) (d : desk.Desk) (tally : Tally) (permits : List PermitRow) → Surrounds s a d → d.permits ≡ map permit_row permits
+pub permits_told : (s : Around) (a : causes.Around) (d : desk.Desk) (tally : Tally) (permits : List PermitRow)
+    → Surrounds s a d → d.permits ≡ map permit_row permits
     → ((n : ℕ) → n ≤ s.readers → times tally n ≡ count_by (nat_eq n) (map (λ (row : PermitRow). row.ticket) permits))
     → list_all (is_fit_permit s tally) permits ≡ list_all (causes.is_good_permit a d) d.permits
 permits_told s a d tally permits h e counts =
@@ -42,7 +35,8 @@ permits_told s a d tally permits h e counts =
     ∙ sym (list_all-map (causes.is_good_permit a d) permit_row permits)
     ∙ ap (list_all (causes.is_good_permit a d)) (sym e)
   where
-    many : (t : ℕ) → is_between 1 s.readers t ≡ true → times tally t ≡ count_by (λ (other : desk.PermitRow). nat_eq other.ticket t) d.permits
+    many : (t : ℕ) → is_between 1 s.readers t ≡ true
+        → times tally t ≡ count_by (λ (other : desk.PermitRow). nat_eq other.ticket t) d.permits
     many t given =
         counts t (leb-true t s.readers (and_parts (nat_le 1 t) (nat_le t s.readers) given).1)
         ∙ count_map (nat_eq t) (λ (row : PermitRow). row.ticket) permits

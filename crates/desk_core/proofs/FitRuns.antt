@@ -1,28 +1,15 @@
 -- Runs and their lines as they are judged from the values at hand.
 use Rattle.std.proofs.Common.{◌≡◌, ℕ, ◌≤◌, Bool, true, false, ◌&&◌, List, map, length, refl, sym, ap, ◌∙◌, nat_eq, nat_le}
-use Rattle.std.specs.Prelude.{int_le}
-use Rattle.std.specs.List.{list_any, list_all, count_by}
-use Rattle.std.proofs.lemmas.Bool.{and_parts}
-use Rattle.std.proofs.lemmas.List.{length-map}
-use Rattle.std.proofs.lemmas.List.Folds.{list_all-map}
-use Rattle.isad_core.specs.Days.{is_day_number}
-use Rattle.isad_core.specs.Limits.{most_runs}
-use Rattle.isad_core.specs.Words.{are_numbered_from, is_between}
 use Rattle.desk_core.specs.DeskCauses as causes
 use Rattle.desk_core.specs.DeskRows as desk
-use Rattle.tree_core.proofs.Lists.{In, eqb_comm}
-use Rattle.desk_core.specs.RowRecords.{Surrounds, order_row, run_row, run_line_row}
-use Rattle.desk_core.specs.Consistency.{is_fit_line, is_fit_run, times}
-use Rattle.desk_core.specs.declared.consistency.context.Around.{Around}
-use Rattle.desk_core.specs.declared.consistency.rows.OrderRow.{OrderRow}
 use Rattle.desk_core.specs.declared.consistency.rows.RunLineRow.{RunLineRow}
 use Rattle.desk_core.specs.declared.consistency.rows.RunRow.{RunRow}
-use Rattle.desk_core.specs.declared.consistency.tally.Tally.{Tally}
+use Rattle.std.proofs.Math.Bool.{and_comm}
+use Rattle.desk_core.proofs.Common.{Around, In, OrderRow, Surrounds, Tally, and_parts, are_numbered_from, count_by, eqb_comm, int_le, is_between, is_day_number, is_fit_line, is_fit_run, length-map, list_all, list_all-map, list_any, most_runs, order_row, run_line_row, run_row, times}
 use Rattle.desk_core.proofs.Counts.{count_agree, count_map}
 use Rattle.desk_core.proofs.NumberedRows.{has_number, numbered_map, own_number}
 use Rattle.desk_core.proofs.Tests.{all_agree, and_same, and_then}
 use Rattle.desk_core.proofs.FitHoldings.{order_there}
-use Rattle.std.proofs.Math.Bool.{and_comm}
 
 module _ (a : causes.Around) (d : desk.Desk) (orders : List OrderRow) (e : d.orders ≡ map order_row orders) (numbered : are_numbered_from (λ (row : OrderRow). row.id) 1 orders ≡ true)
     (runs : List RunRow) (f : d.runs ≡ map run_row runs) (lines : List RunLineRow) (g : d.run_lines ≡ map run_line_row lines) where
@@ -35,7 +22,8 @@ module _ (a : causes.Around) (d : desk.Desk) (orders : List OrderRow) (e : d.ord
   long : length d.runs ≡ length runs
   long = ap length f ∙ length-map runs run_row
 
-  lines_told : are_numbered_from (λ (row : desk.RunRow). row.id) 1 d.runs ≡ true → list_all (causes.is_good_line d) d.run_lines ≡ list_all (is_fit_line orders (length runs)) lines
+  lines_told : are_numbered_from (λ (row : desk.RunRow). row.id) 1 d.runs ≡ true
+      → list_all (causes.is_good_line d) d.run_lines ≡ list_all (is_fit_line orders (length runs)) lines
   lines_told counted =
       ap (list_all (causes.is_good_line d)) g
       ∙ list_all-map (causes.is_good_line d) run_line_row lines
@@ -59,7 +47,8 @@ module _ (a : causes.Around) (d : desk.Desk) (orders : List OrderRow) (e : d.ord
       three true false t x = refl
       three false l t x = refl
 
-  pub each_told : (s : Around) (tally : Tally) → Surrounds s a d → are_numbered_from (λ n. n) 1 (map (λ (row : RunRow). row.id) runs) ≡ true
+  pub each_told : (s : Around) (tally : Tally) → Surrounds s a d
+      → are_numbered_from (λ n. n) 1 (map (λ (row : RunRow). row.id) runs) ≡ true
       → ((n : ℕ) → n ≤ length runs → times tally n ≡ count_by (nat_eq n) (map (λ (line : RunLineRow). line.run) lines))
       → list_all (is_fit_run s tally) runs ≡ list_all (causes.is_good_run a d) d.runs
   each_told s tally h counted counts =
@@ -70,7 +59,8 @@ module _ (a : causes.Around) (d : desk.Desk) (orders : List OrderRow) (e : d.ord
       ∙ sym (list_all-map (causes.is_good_run a d) run_row runs)
       ∙ ap (list_all (causes.is_good_run a d)) (sym f)
     where
-      many : (row : RunRow) → In row runs → times tally row.id ≡ count_by (λ (line : desk.RunLineRow). nat_eq line.run row.id) d.run_lines
+      many : (row : RunRow) → In row runs
+          → times tally row.id ≡ count_by (λ (line : desk.RunLineRow). nat_eq line.run row.id) d.run_lines
       many row i =
           let own = own_number (λ (r : RunRow). r.id) runs row (sym (numbered_map (λ n. n) (λ (r : RunRow). r.id) 1 runs) ∙ counted) i in
           counts row.id own.1
@@ -84,14 +74,22 @@ module _ (a : causes.Around) (d : desk.Desk) (orders : List OrderRow) (e : d.ord
   abbrev IsPlainly : List ℕ → Bool → Type 0
   IsPlainly numbers b = b ≡ (are_numbered_from (λ n. n) 1 numbers && (nat_le (length runs) most_runs && list_all (is_fit_line orders (length runs)) lines))
 
-  is_plain : (numbers : List ℕ) (b : Bool) → numbers ≡ map (λ (row : RunRow). row.id) runs → IsPlainly numbers b → b ≡ plain
-  is_plain numbers b n p = p ∙ ap (λ ns. are_numbered_from (λ n. n) 1 ns && (nat_le (length runs) most_runs && list_all (is_fit_line orders (length runs)) lines)) n
+  is_plain : (numbers : List ℕ) (b : Bool) → numbers ≡ map (λ (row : RunRow). row.id) runs → IsPlainly numbers b
+      → b ≡ plain
+  is_plain numbers b n p =
+      p
+      ∙ ap (λ ns. are_numbered_from (λ n. n) 1 ns && (nat_le (length runs) most_runs && list_all (is_fit_line orders (length runs)) lines)) n
 
-  pub not_plain : (numbers : List ℕ) (b : Bool) → numbers ≡ map (λ (row : RunRow). row.id) runs → IsPlainly numbers b → b ≡ false → false ≡ causes.are_good_runs a d
-  not_plain numbers b n p f = sym (runs_told ∙ ap (λ v. v && list_all (causes.is_good_run a d) d.runs) (sym (is_plain numbers b n p) ∙ f))
+  pub not_plain : (numbers : List ℕ) (b : Bool) → numbers ≡ map (λ (row : RunRow). row.id) runs → IsPlainly numbers b
+      → b ≡ false → false ≡ causes.are_good_runs a d
+  not_plain numbers b n p f =
+      sym (runs_told ∙ ap (λ v. v && list_all (causes.is_good_run a d) d.runs) (sym (is_plain numbers b n p) ∙ f))
 
-  pub counted_well : (s : Around) (tally : Tally) (numbers of_lines : List ℕ) (b r : Bool) → Surrounds s a d → numbers ≡ map (λ (row : RunRow). row.id) runs → IsPlainly numbers b → b ≡ true
-      → of_lines ≡ map (λ (line : RunLineRow). line.run) lines → ((n : ℕ) → n ≤ length runs → times tally n ≡ count_by (nat_eq n) of_lines) → r ≡ list_all (is_fit_run s tally) runs → r ≡ causes.are_good_runs a d
+  pub counted_well : (s : Around) (tally : Tally) (numbers of_lines : List ℕ) (b r : Bool) → Surrounds s a d
+      → numbers ≡ map (λ (row : RunRow). row.id) runs → IsPlainly numbers b → b ≡ true
+      → of_lines ≡ map (λ (line : RunLineRow). line.run) lines
+      → ((n : ℕ) → n ≤ length runs → times tally n ≡ count_by (nat_eq n) of_lines)
+      → r ≡ list_all (is_fit_run s tally) runs → r ≡ causes.are_good_runs a d
   counted_well s tally numbers of_lines b r h n p t l counts v =
       let whole = sym (is_plain numbers b n p) ∙ t in
       let counted = (and_parts (are_numbered_from (λ n. n) 1 (map (λ (row : RunRow). row.id) runs)) _ whole).0 in

@@ -1,3 +1,4 @@
+pub mod Common
 pub mod CharacterLemmas
 pub mod OrderLemmas
 pub mod RunLemmas

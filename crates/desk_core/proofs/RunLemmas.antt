@@ -1,21 +1,15 @@
 -- What a run takes, and what goes back to the shelf.
 use Rattle.std.proofs.Common.{◌≡◌, ℕ, ◌≤◌, true, List, length, map, take, drop, get_or, min, ◌<◌, ◌+◌, ◌-◌, subst, length-drop, sym, ap, ◌∙◌, arith, nat_lt, Bor}
-use Rattle.std.specs.Cmp.{IsStrictWeakOrder, nat_cmp_total}
-use Rattle.std.specs.List.{All, filter}
-use Rattle.std.specs.List.Sorted.{IsPermutation, IsSorted, IsStableBy, ties}
-use Rattle.std.specs.Ordering.{is_lt, nat_cmp}
-use Rattle.std.proofs.lemmas.Bool.{ltb-false}
-use Rattle.std.proofs.lemmas.List.{get_or-drop, get_or-take, get_or_default, length-take, same_lists, take-append-drop, take-map, take_all}
-use Rattle.std.proofs.lemmas.List.Elements.{All-weaker, filter_passes}
-use Rattle.std.proofs.lemmas.List.Sorted.{IsNonDecreasingBy-take, IsStrictWeakOrder-by_number, length_permutation, ranks_by, sum_by-IsPermutation}
-use Rattle.std.proofs.lemmas.List.Sums.{length-filter}
-use Rattle.desk_core.specs.declared.run.Candidate.{Candidate}
-use Rattle.desk_core.specs.Orders.{in_order}
+use Rattle.std.specs.List.{filter}
 use Rattle.desk_core.specs.Runs.{IsRun, has_lesser_order, run_of}
+use Rattle.desk_core.proofs.Common.{All, All-weaker, Candidate, IsNonDecreasingBy-take, IsPermutation, IsSorted, IsStableBy, IsStrictWeakOrder, IsStrictWeakOrder-by_number, filter_passes, get_or-drop, get_or-take, get_or_default, in_order, is_lt, length-filter, length-take, length_permutation, ltb-false, nat_cmp, nat_cmp_total, ranks_by, same_lists, sum_by-IsPermutation, take-append-drop, take-map, take_all, ties}
 use Rattle.desk_core.proofs.OrderLemmas.{far-in_order, in_order-agree, in_order-is, in_order-map, in_order-permutation, is_lt-nat_cmp, neither, sorted-is}
 
 -- copies of the first of a queue that is in order
-pub run_of-copies : (candidates run : List Candidate) (lent sorted items : List (Bor Candidate)) (most n : ℕ) → map (λ (b : Bor Candidate). b.now) lent ≡ candidates → sorted ≡ in_order (λ (a b : Bor Candidate). nat_lt a.now.order b.now.order) lent → items ≡ take most sorted → length items ≤ n → run ≡ map (λ (b : Bor Candidate). b.now) (take n items) → run ≡ run_of candidates most
+pub run_of-copies : (candidates run : List Candidate) (lent sorted items : List (Bor Candidate)) (most n : ℕ)
+    → map (λ (b : Bor Candidate). b.now) lent ≡ candidates
+    → sorted ≡ in_order (λ (a b : Bor Candidate). nat_lt a.now.order b.now.order) lent → items ≡ take most sorted
+    → length items ≤ n → run ≡ map (λ (b : Bor Candidate). b.now) (take n items) → run ≡ run_of candidates most
 run_of-copies candidates run lent sorted items most n shows is_sorted front whole copies =
     copies
     ∙ ap (map (λ (b : Bor Candidate). b.now)) (take_all n items whole ∙ front)
@@ -36,8 +30,10 @@ ties-numbers m n tie =
 numbers-stable : (xs ys : List ℕ) → IsPermutation xs ys → IsStableBy (λ a b. is_lt (nat_cmp a b)) xs ys
 numbers-stable xs ys same n =
     let alike = ties (λ a b. is_lt (nat_cmp a b)) n in
-    let all : (zs : List ℕ) → All (λ m. m ≡ n) (filter alike zs) = λ zs. All-weaker _ _ (ties-numbers n) (filter alike zs) (filter_passes alike zs) in
-    let many : length (filter alike ys) ≡ length (filter alike xs) = length-filter alike ys ∙ sum_by-IsPermutation _ xs ys same ∙ sym (length-filter alike xs) in
+    let all : (zs : List ℕ) → All (λ m. m ≡ n) (filter alike zs) =
+    λ zs. All-weaker _ _ (ties-numbers n) (filter alike zs) (filter_passes alike zs) in
+    let many : length (filter alike ys) ≡ length (filter alike xs) =
+    length-filter alike ys ∙ sum_by-IsPermutation _ xs ys same ∙ sym (length-filter alike xs) in
     same_lists (filter alike ys) (filter alike xs) many (λ k d h. all ys k d h ∙ sym (all xs k d (omega arith)))
 
 -- what a sort of numbers gives
@@ -48,7 +44,9 @@ sorted_numbers-is xs ys sorted same =
 
 -- ---- a run is least
 
-run-far : (candidates : List Candidate) (i j : ℕ) (d : Candidate) → i ≤ j → j < length (in_order has_lesser_order candidates) → (get_or (in_order has_lesser_order candidates) i d).order ≤ (get_or (in_order has_lesser_order candidates) j d).order
+run-far : (candidates : List Candidate) (i j : ℕ) (d : Candidate) → i ≤ j
+    → j < length (in_order has_lesser_order candidates)
+    → (get_or (in_order has_lesser_order candidates) i d).order ≤ (get_or (in_order has_lesser_order candidates) j d).order
 run-far candidates i j d low high =
     let order : IsStrictWeakOrder has_lesser_order = IsStrictWeakOrder-by_number (λ (c : Candidate). c.order) in
     ltb-false _ _ (far-in_order has_lesser_order (in_order has_lesser_order candidates) (in_order-is has_lesser_order order candidates) order i j d low high)
@@ -66,6 +64,7 @@ run_of-is candidates most =
       rising = IsNonDecreasingBy-take (λ (c : Candidate). c.order) most queue (λ i j d low high. run-far candidates i j d low high);
       least = λ i d low j e high.
           let there : get_or (take most queue) i d ≡ get_or queue i d = get_or-take most queue i d (omega arith) in
-          let other : get_or (drop most queue) j e ≡ get_or queue (most + j) d = get_or-drop most queue j e ∙ get_or_default queue (most + j) e d (omega arith) in
+          let other : get_or (drop most queue) j e ≡ get_or queue (most + j) d =
+          get_or-drop most queue j e ∙ get_or_default queue (most + j) e d (omega arith) in
           rw (there, other) (run-far candidates i (most + j) d (omega arith) (omega arith));
     }

@@ -1,20 +1,11 @@
 -- The lines of a slip: their order, and what a format with places writes.
 use Rattle.std.proofs.Common.{◌≡◌, ℕ, ◌-◌, ◌^◌, ◌<◌, ◌≤◌, List, [], ◌∷◌, ◌++◌, length, map, take, replicate, refl, sym, ap, ◌∙◌, arith, lt-ltb, suc, append_assoc, Bor}
 use Rattle.std.proofs.Padding.{padded_integral_right, styled_decimal_is}
-use Rattle.std.specs.Fmt.{decimal, format_spec, styled_decimal}
-use Rattle.std.specs.Cmp.{IsTotalOrder, nat_cmp_total, on_total, then_total}
 use Rattle.std.specs.Cmp.Lexicographic.{on_texts}
-use Rattle.std.specs.List.{flat_map}
-use Rattle.std.specs.List.Sorted.{IsSortedBy, IsStableBy}
-use Rattle.std.specs.Ordering.{is_lt}
 use Rattle.std.specs.Str.{IsAscii}
 use Rattle.std.proofs.lemmas.Fmt.{IsAscii-decimal}
-use Rattle.std.proofs.lemmas.List.{take_all}
-use Rattle.std.proofs.lemmas.List.Sorted.{ranks_by}
-use Rattle.desk_core.specs.Orders.{in_order}
+use Rattle.desk_core.proofs.Common.{Candidate, IsSortedBy, IsStableBy, IsTotalOrder, at_right, characters, decimal, flat_map, format_spec, in_order, is_lt, is_shelved_before, nat_cmp_total, on_total, ranks_by, shelf_order, slip_line, slip_numbers, styled_decimal, take_all, then_total}
 use Rattle.desk_core.proofs.OrderLemmas.{in_order-map, sorted-is}
-use Rattle.desk_core.specs.Slips.{at_right, characters, is_shelved_before, shelf_order, slip_line, slip_numbers}
-use Rattle.desk_core.specs.declared.run.Candidate.{Candidate}
 
 -- ASCII has a byte for each character
 characters-ascii : (text : List ℕ) → IsAscii text → characters text ≡ length text
@@ -23,7 +14,8 @@ characters-ascii (b ∷ text) ascii =
     rw (lt-ltb b 128 (ascii 0)) (let rest : characters text ≡ length text = characters-ascii text (λ i. ascii (suc i)) in omega arith)
 
 -- what `{:>places}` writes of a number
-pub styled_decimal-at_right : (n places : ℕ) → n < 2 ^ 64 → styled_decimal (format_spec 32 3 0 places (2 ^ 64 - 1)) n ≡ at_right places (decimal n)
+pub styled_decimal-at_right : (n places : ℕ) → n < 2 ^ 64
+    → styled_decimal (format_spec 32 3 0 places (2 ^ 64 - 1)) n ≡ at_right places (decimal n)
 styled_decimal-at_right n places small =
     let wide : characters (decimal n) ≡ length (decimal n) = characters-ascii (decimal n) (IsAscii-decimal n small) in
     styled_decimal_is (format_spec 32 3 0 places (2 ^ 64 - 1)) n
@@ -35,7 +27,8 @@ abbrev pub columns : (container order ticket : List ℕ) → List ℕ
 columns container order ticket =
     (32 ∷ []) ++ (container ++ ((32 ∷ []) ++ (order ++ ((32 ∷ []) ++ (ticket ++ (10 ∷ []))))))
 
-pub slip_numbers-is : (c : Candidate) → columns (at_right 6 (decimal c.container)) (at_right 8 (decimal c.order)) (at_right 7 (decimal c.ticket)) ≡ slip_numbers c
+pub slip_numbers-is : (c : Candidate)
+    → columns (at_right 6 (decimal c.container)) (at_right 8 (decimal c.order)) (at_right 7 (decimal c.ticket)) ≡ slip_numbers c
 slip_numbers-is c = simp append_assoc
 
 -- ---- the order of the lines
@@ -44,12 +37,18 @@ pub shelf_order-ranks : IsTotalOrder shelf_order
 shelf_order-ranks =
     then_total (on_texts (λ (c : Candidate). c.location)) (then_total (on_texts (λ (c : Candidate). c.name)) (then_total (on_texts (λ (c : Candidate). c.kind)) (on_total (λ (c : Candidate). c.container) nat_cmp_total)))
 
-flat_map-map : {X Y Z : Type 0} (f : X → Y) (g : Y → List Z) (xs : List X) → flat_map g (map f xs) ≡ flat_map (λ x. g (f x)) xs
+flat_map-map : {X Y Z : Type 0} (f : X → Y) (g : Y → List Z) (xs : List X)
+    → flat_map g (map f xs) ≡ flat_map (λ x. g (f x)) xs
 flat_map-map f g [] = refl
 flat_map-map f g (x ∷ xs) = ap (λ zs. g (f x) ++ zs) (flat_map-map f g xs)
 
 -- lines of what is lent, in order
-pub lines-of_lent : (candidates : List Candidate) (lent sorted items : List (Bor Candidate)) (n : ℕ) → map (λ (b : Bor Candidate). b.now) lent ≡ candidates → IsSortedBy (λ (a b : Bor Candidate). is_lt (shelf_order a.now b.now)) sorted → IsStableBy (λ (a b : Bor Candidate). is_lt (shelf_order a.now b.now)) lent sorted → items ≡ sorted → length items ≤ n → flat_map (λ (b : Bor Candidate). slip_line b.now) (take n items) ≡ flat_map slip_line (in_order is_shelved_before candidates)
+pub lines-of_lent : (candidates : List Candidate) (lent sorted items : List (Bor Candidate)) (n : ℕ)
+    → map (λ (b : Bor Candidate). b.now) lent ≡ candidates
+    → IsSortedBy (λ (a b : Bor Candidate). is_lt (shelf_order a.now b.now)) sorted
+    → IsStableBy (λ (a b : Bor Candidate). is_lt (shelf_order a.now b.now)) lent sorted → items ≡ sorted
+    → length items ≤ n
+    → flat_map (λ (b : Bor Candidate). slip_line b.now) (take n items) ≡ flat_map slip_line (in_order is_shelved_before candidates)
 lines-of_lent candidates lent sorted items n shows rising stable same whole =
     ap (flat_map (λ (b : Bor Candidate). slip_line b.now)) (take_all n items whole ∙ same)
     ∙ sym (flat_map-map (λ (b : Bor Candidate). b.now) slip_line sorted)

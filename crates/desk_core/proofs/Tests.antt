@@ -1,8 +1,7 @@
 -- Tests of lists that agree.
 use Rattle.std.proofs.Common.{◌≡◌, ℕ, Bool, true, false, not, ◌&&◌, ◌||◌, cond, List, [], ◌∷◌, refl, sym, ap, ◌∙◌, inl, inr, filter, nat_le, nat_lt}
-use Rattle.std.proofs.lemmas.Bool.{false≢true, cases_lt, lt-ltb, le-ltb, le-leb, lt-leb}
-use Rattle.std.specs.List.{list_any, list_all}
-use Rattle.tree_core.proofs.Lists.{In}
+use Rattle.std.proofs.lemmas.Bool.{lt-ltb}
+use Rattle.desk_core.proofs.Common.{In, cases_lt, false≢true, le-leb, le-ltb, list_all, list_any, lt-leb}
 
 -- ---- of two truths
 
@@ -38,15 +37,20 @@ not_over m n = elim (cases_lt m n) [
 
 -- ---- of lists
 
-pub all_agree : {X : Type 0} (p q : X → Bool) (xs : List X) → ((x : X) → In x xs → p x ≡ q x) → list_all p xs ≡ list_all q xs
+pub all_agree : {X : Type 0} (p q : X → Bool) (xs : List X) → ((x : X) → In x xs → p x ≡ q x)
+    → list_all p xs ≡ list_all q xs
 all_agree p q [] h = refl
-all_agree p q (x ∷ xs) h = and_same (p x) (q x) (list_all p xs) (list_all q xs) (h x (inl refl)) (all_agree p q xs (λ y i. h y (inr i)))
+all_agree p q (x ∷ xs) h =
+    and_same (p x) (q x) (list_all p xs) (list_all q xs) (h x (inl refl)) (all_agree p q xs (λ y i. h y (inr i)))
 
-pub any_agree_in : {X : Type 0} (p q : X → Bool) (xs : List X) → ((x : X) → In x xs → p x ≡ q x) → list_any p xs ≡ list_any q xs
+pub any_agree_in : {X : Type 0} (p q : X → Bool) (xs : List X) → ((x : X) → In x xs → p x ≡ q x)
+    → list_any p xs ≡ list_any q xs
 any_agree_in p q [] h = refl
-any_agree_in p q (x ∷ xs) h = or_same (p x) (q x) (list_any p xs) (list_any q xs) (h x (inl refl)) (any_agree_in p q xs (λ y i. h y (inr i)))
+any_agree_in p q (x ∷ xs) h =
+    or_same (p x) (q x) (list_any p xs) (list_any q xs) (h x (inl refl)) (any_agree_in p q xs (λ y i. h y (inr i)))
 
-pub all_and : {X : Type 0} (p q : X → Bool) (xs : List X) → list_all (λ x. p x && q x) xs ≡ (list_all p xs && list_all q xs)
+pub all_and : {X : Type 0} (p q : X → Bool) (xs : List X)
+    → list_all (λ x. p x && q x) xs ≡ (list_all p xs && list_all q xs)
 all_and p q [] = refl
 all_and p q (x ∷ xs) = ap (λ b. (p x && q x) && b) (all_and p q xs) ∙ mix (p x) (q x) (list_all p xs) (list_all q xs)
   where
@@ -73,7 +77,8 @@ all_at p (y ∷ ys) x h (inr i) = all_at p ys x (rest (p y) (list_all p ys) h) i
     rest true b e = e
     rest false b e = absurd (false≢true e)
 
-pub all_filter : {X : Type 0} (p w : X → Bool) (xs : List X) → list_all p (filter w xs) ≡ list_all (λ x. not (w x) || p x) xs
+pub all_filter : {X : Type 0} (p w : X → Bool) (xs : List X)
+    → list_all p (filter w xs) ≡ list_all (λ x. not (w x) || p x) xs
 all_filter p w [] = refl
 all_filter p w (x ∷ xs) =
     elim (w x) as (λ b. list_all p (cond b (x ∷ filter w xs) (filter w xs)) ≡ ((not b || p x) && list_all (λ x. not (w x) || p x) xs)) [

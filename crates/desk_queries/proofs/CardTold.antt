@@ -1,36 +1,20 @@
 -- What is told of a reader is what the rules tell of him.
 use Rattle.std.proofs.Common.{◌≡◌, ℕ, ℤ, suc, Bool, true, false, cond, ◌&&◌, ◌||◌, nat_eq, List, [], ◌∷◌, length, map, filter, Option, Some, None, inl, inr, refl, sym, ap, subst, ◌∙◌}
-use Rattle.std.specs.Prelude.{codes, filter_map, is_some, nat_lt, option_map}
 use Rattle.std.proofs.lemmas.Bool.{and_parts}
-use Rattle.std.proofs.lemmas.Simd.{map-map}
-use Rattle.serde_json.specs.Data.{Data, string}
-use Rattle.serde_json.specs.Written.{has_float}
 use Rattle.isad_core.specs.Texts.{Bytes}
-use Rattle.office_tables.specs.Versions.{Version}
 use Rattle.catalogue_core.specs.Members.{StandsIn}
-use Rattle.desk_core.specs.DeskRows.{OrderRow}
-use Rattle.desk_core.specs.declared.refusal.Refusal.TheVariants.{UnknownTicket}
 use Rattle.desk_store.specs.Readers.{card_of, is_live}
 use Rattle.desk_store.specs.Readers as store
 use Rattle.desk_store.specs.declared.reader_summary.LiveOrder.{LiveOrder}
 use Rattle.desk_store.specs.declared.reader_summary.ReaderCard.{ReaderCard}
-use Rattle.office_core.specs.Json.{count, date, fields, list, or_null}
 use Rattle.office_core.specs.Laws.{Waiting, WithItsReader, Ended, numbers_from, standing, stands_as}
-use Rattle.office_core.specs.Queries.{answer, is_out_now, known_json, live_orders, order_json, reader_json}
-use Rattle.office_core.specs.SoundDesk.{ExactlyOne, IsFiled, is_out_for}
-use Rattle.office_core.specs.SoundOffice.{IsSoundOffice}
-use Rattle.office_core.specs.State.{Cancelled, Done, End, Order, Reader, State, container_of, is_by, order_out, seat_of, waits}
-use Rattle.office_core.specs.Words.{nth, some_and, stands}
 use Rattle.office_core.specs.declared.query.Query.TheVariants as query
-use Rattle.state_encoding.specs.DeskEncoding.{order_from, order_row, order_rows, rows_from, state_number}
-use Rattle.state_encoding.specs.OfficeRows.{tables}
 use Rattle.state_encoding.proofs.DeskLookups.{flipped}
 use Rattle.state_encoding.proofs.Members.{in_filter, to_from}
 use Rattle.state_encoding.proofs.NumberedRows.{in_rows}
 use Rattle.refinement.proofs.CardsShown.{card, card_shown}
 use Rattle.refinement.proofs.QueuesShown.{told_rows}
-use Rattle.desk_queries.specs.JsonValues.{card_data, live_data}
-use Rattle.replies.proofs.Lists.{no_float}
+use Rattle.desk_queries.proofs.Common.{Cancelled, Data, Done, End, ExactlyOne, IsFiled, IsSoundOffice, Order, OrderRow, Reader, State, UnknownTicket, Version, answer, card_data, codes, container_of, count, date, fields, filter_map, has_float, is_by, is_out_for, is_out_now, is_some, known_json, list, live_data, live_orders, map-map, nat_lt, no_float, nth, option_map, or_null, order_from, order_json, order_out, order_row, order_rows, reader_json, rows_from, seat_of, some_and, stands, state_number, string, tables, waits}
 
 -- ---- none of it is a number with a fraction
 
@@ -62,27 +46,34 @@ named out waiting false false past some = absurd (cc)
 
 -- ---- lists of rows
 
-ids : {X : Type 0} (row : ℕ → X → OrderRow) → ((n : ℕ) (x : X) → (row n x).id ≡ n) → (n : ℕ) (xs : List X) → map (λ (r : OrderRow). r.id) (rows_from row n xs) ≡ numbers_from n (length xs)
+ids : {X : Type 0} (row : ℕ → X → OrderRow) → ((n : ℕ) (x : X) → (row n x).id ≡ n) → (n : ℕ) (xs : List X)
+    → map (λ (r : OrderRow). r.id) (rows_from row n xs) ≡ numbers_from n (length xs)
 ids row same n [] = refl
-ids row same n (x ∷ xs) = ap (λ k. k ∷ map (λ (r : OrderRow). r.id) (rows_from row (suc n) xs)) (same n x) ∙ ap (λ l. n ∷ l) (ids row same (suc n) xs)
+ids row same n (x ∷ xs) =
+    ap (λ k. k ∷ map (λ (r : OrderRow). r.id) (rows_from row (suc n) xs)) (same n x)
+    ∙ ap (λ l. n ∷ l) (ids row same (suc n) xs)
 
-filtered : (p : ℕ → Bool) (rows : List OrderRow) → filter p (map (λ (r : OrderRow). r.id) rows) ≡ map (λ (r : OrderRow). r.id) (filter (λ (r : OrderRow). p r.id) rows)
+filtered : (p : ℕ → Bool) (rows : List OrderRow)
+    → filter p (map (λ (r : OrderRow). r.id) rows) ≡ map (λ (r : OrderRow). r.id) (filter (λ (r : OrderRow). p r.id) rows)
 filtered p [] = refl
 filtered p (r ∷ rows) = at (p r.id) (filtered p rows)
   where
-    at : (b : Bool) → filter p (map (λ (r : OrderRow). r.id) rows) ≡ map (λ (r : OrderRow). r.id) (filter (λ (r : OrderRow). p r.id) rows)
+    at : (b : Bool)
+        → filter p (map (λ (r : OrderRow). r.id) rows) ≡ map (λ (r : OrderRow). r.id) (filter (λ (r : OrderRow). p r.id) rows)
         → cond b (r.id ∷ filter p (map (λ (r : OrderRow). r.id) rows)) (filter p (map (λ (r : OrderRow). r.id) rows)) ≡ map (λ (r : OrderRow). r.id) (cond b (r ∷ filter (λ (r : OrderRow). p r.id) rows) (filter (λ (r : OrderRow). p r.id) rows))
     at true e = ap (λ l. r.id ∷ l) e
     at false e = e
 
-kept_same : {R Y : Type 0} (p q : R → Bool) (f g : R → Y) (rows : List R) → ((r : R) → StandsIn r rows → p r ≡ q r) → ((r : R) → StandsIn r rows → q r ≡ true → f r ≡ g r)
+kept_same : {R Y : Type 0} (p q : R → Bool) (f g : R → Y) (rows : List R) → ((r : R) → StandsIn r rows → p r ≡ q r)
+    → ((r : R) → StandsIn r rows → q r ≡ true → f r ≡ g r)
     → map f (filter p rows) ≡ map g (filter q rows)
 kept_same p q f g [] tests answers = refl
 kept_same {R} p q f g (r ∷ rows) tests answers =
     ap (λ b. map f (cond b (r ∷ filter p rows) (filter p rows))) (tests r (inl refl))
     ∙ at (q r) refl (kept_same p q f g rows (λ x k. tests x (inr k)) (λ x k. answers x (inr k)))
   where
-    at : (b : Bool) → q r ≡ b → map f (filter p rows) ≡ map g (filter q rows) → map f (cond b (r ∷ filter p rows) (filter p rows)) ≡ map g (cond b (r ∷ filter q rows) (filter q rows))
+    at : (b : Bool) → q r ≡ b → map f (filter p rows) ≡ map g (filter q rows)
+        → map f (cond b (r ∷ filter p rows) (filter p rows)) ≡ map g (cond b (r ∷ filter q rows) (filter q rows))
     at true e rest = ap (λ y. y ∷ map f (filter p rows)) (answers r (inl refl) e) ∙ ap (λ l. g r ∷ l) rest
     at false e rest = rest
 
@@ -125,7 +116,8 @@ module _ (version : Version) (s : State) (sound : IsSoundOffice s) (t : ℕ) whe
         ap (λ b. b && (waits s m || is_out_now s m)) (ap (some_and (λ (order : Order). nat_eq order.ticket t)) is ∙ flipped x.ticket t)
         ∙ ap (λ b. nat_eq t x.ticket && b) (sym live)
 
-    name_at : (waits s m || is_out_now s m) ≡ true → cond (waits s m) (codes "waiting") (codes "out") ≡ cond (nat_eq (state_number (standing s m)) 2) (codes "out") (codes "waiting")
+    name_at : (waits s m || is_out_now s m) ≡ true
+        → cond (waits s m) (codes "waiting") (codes "out") ≡ cond (nat_eq (state_number (standing s m)) 2) (codes "out") (codes "waiting")
     name_at =
         subst (λ k. (some_and (λ c. stands m (s.queue c)) k || some_and (λ c. some_and (nat_eq m) (order_out (s.place c))) k) ≡ true
         → cond (some_and (λ c. stands m (s.queue c)) k) (codes "waiting") (codes "out") ≡ cond (nat_eq (state_number (stands_as k (λ c. stands m (s.queue c)) (λ c. is_out_for m (s.place c)) (s.past m))) 2) (codes "out") (codes "waiting"))
@@ -141,7 +133,8 @@ module _ (version : Version) (s : State) (sound : IsSoundOffice s) (t : ℕ) whe
       let i = in_rows (order_row s) s.orders row k in
       subst (λ (r : OrderRow). is_theirs r.id ≡ is_kept r) (sym i.3) (test_at i.0 i.1 i.2)
 
-  answers : (row : OrderRow) → StandsIn row (order_rows s) → is_kept row ≡ true → told row.id (order_from row) ≡ live_data (live_of row)
+  answers : (row : OrderRow) → StandsIn row (order_rows s) → is_kept row ≡ true
+      → told row.id (order_from row) ≡ live_data (live_of row)
   answers row k =
       let i = in_rows (order_row s) s.orders row k in
       subst (λ (r : OrderRow). is_kept r ≡ true → told r.id (order_from r) ≡ live_data (live_of r)) (sym i.3) (tell_at i.0 i.1 i.2)
@@ -156,10 +149,12 @@ module _ (version : Version) (s : State) (sound : IsSoundOffice s) (t : ℕ) whe
 
   -- ---- the reader
 
-  card_told : (day : ℤ) → option_map card_data (card_of t day (tables version s).desk) ≡ option_map (reader_json s t) (nth s.readers t)
+  card_told : (day : ℤ)
+      → option_map card_data (card_of t day (tables version s).desk) ≡ option_map (reader_json s t) (nth s.readers t)
   card_told day = ap (option_map card_data) (card_shown version s sound t day) ∙ at (nth s.readers t)
     where
-      at : (reader : Option Reader) → option_map card_data (option_map (card version s sound t day) reader) ≡ option_map (reader_json s t) reader
+      at : (reader : Option Reader)
+          → option_map card_data (option_map (card version s sound t day) reader) ≡ option_map (reader_json s t) reader
       at None = refl
       at (Some reader) =
           ap
@@ -172,5 +167,8 @@ module _ (version : Version) (s : State) (sound : IsSoundOffice s) (t : ℕ) whe
           ∷ [])))
           live_told
 
-  pub card_answer : (day : ℤ) (found : Option ReaderCard) → found ≡ card_of t day (tables version s).desk → known_json UnknownTicket (option_map card_data found) ≡ answer s (query.ReaderOrders t)
-  card_answer day found is = ap (λ (c : Option ReaderCard). known_json UnknownTicket (option_map card_data c)) is ∙ ap (known_json UnknownTicket) (card_told day)
+  pub card_answer : (day : ℤ) (found : Option ReaderCard) → found ≡ card_of t day (tables version s).desk
+      → known_json UnknownTicket (option_map card_data found) ≡ answer s (query.ReaderOrders t)
+  card_answer day found is =
+      ap (λ (c : Option ReaderCard). known_json UnknownTicket (option_map card_data c)) is
+      ∙ ap (known_json UnknownTicket) (card_told day)

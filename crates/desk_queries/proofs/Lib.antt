@@ -1,3 +1,4 @@
+pub mod Common
 pub mod QueueTold
 pub mod IssuedTold
 pub mod PermitsTold

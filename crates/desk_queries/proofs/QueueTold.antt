@@ -1,31 +1,15 @@
 -- What is told of a container is what the rules tell of it.
 use Rattle.std.proofs.Common.{◌≡◌, ℕ, false, List, [], ◌∷◌, map, filter, Option, Some, None, refl, sym, ap, subst, ◌∙◌}
-use Rattle.std.specs.Prelude.{codes, filter_map, option_map}
-use Rattle.serde_json.specs.Data.{Data, string}
-use Rattle.serde_json.specs.Written.{has_float}
-use Rattle.std.proofs.lemmas.Simd.{map-map}
 use Rattle.isad_core.specs.declared.values.BoxKey.{BoxKey}
-use Rattle.office_tables.specs.Versions.{Version}
-use Rattle.desk_core.specs.DeskRows.{OrderRow}
-use Rattle.desk_core.specs.declared.refusal.Refusal.TheVariants.{UnknownContainer}
 use Rattle.desk_core.specs.declared.reader.Place.{Place}
 use Rattle.desk_core.specs.declared.reader.Place.TheVariants.{Shelf, Desk, Out}
 use Rattle.desk_store.specs.Orders.{queue_of}
 use Rattle.desk_store.specs.Storage.{IsQueued, container_with}
 use Rattle.desk_store.specs.declared.orders.WaitingOrder.{WaitingOrder}
 use Rattle.desk_store.specs.declared.queues.ContainerQueue.{ContainerQueue}
-use Rattle.office_core.specs.Json.{count, fields, list, or_null}
-use Rattle.office_core.specs.Queries.{answer, known_json, place_name, queue_json, waiting_json}
 use Rattle.office_core.specs.declared.query.Query.TheVariants as query
-use Rattle.office_core.specs.SoundOffice.{IsSoundOffice}
-use Rattle.office_core.specs.State.{State, order_out}
-use Rattle.office_core.specs.Words.{nth}
-use Rattle.state_encoding.specs.DeskEncoding.{order_rows}
-use Rattle.state_encoding.specs.OfficeRows.{tables}
 use Rattle.refinement.proofs.QueuesShown.{place_shown, told_queue, waits_in}
-use Rattle.refinement.proofs.StorageShown.{box_row, storage_of}
-use Rattle.desk_queries.specs.JsonValues.{queue_data, waiting_data}
-use Rattle.replies.proofs.Lists.{no_float}
+use Rattle.desk_queries.proofs.Common.{Data, IsSoundOffice, OrderRow, State, UnknownContainer, Version, answer, box_row, codes, count, fields, filter_map, has_float, known_json, list, map-map, no_float, nth, option_map, or_null, order_out, order_rows, place_name, queue_data, queue_json, storage_of, string, tables, waiting_data, waiting_json}
 
 -- none of it is a number with a fraction
 pub queue_whole : (c : ℕ) (q : ContainerQueue) → has_float (queue_data c q) ≡ false
@@ -45,11 +29,13 @@ module _ (version : Version) (s : State) (sound : IsSoundOffice s) (c : ℕ) whe
       map-map waiting_data (λ (o : OrderRow). (let w : WaitingOrder = record { order = o.id; ticket = o.ticket } in w)) (filter (waits_in c) (order_rows s))
       ∙ sym (told_queue s (λ o order. waiting_data (record { order = o; ticket = order.ticket })) sound.sound.desk c)
 
-  pub queue_told : (found : Option ContainerQueue) → IsQueued c (storage_of version s) (container_with c (storage_of version s)) found
+  pub queue_told : (found : Option ContainerQueue)
+      → IsQueued c (storage_of version s) (container_with c (storage_of version s)) found
       → option_map (queue_data c) found ≡ option_map (queue_json s c) (nth s.catalogue.containers c)
   queue_told found is = at (nth s.catalogue.containers c) found (subst (λ (box : Option (ℕ × BoxKey)). IsQueued c (storage_of version s) box found) (box_row version s c) is)
     where
-      at : (box : Option BoxKey) (found : Option ContainerQueue) → IsQueued c (storage_of version s) (option_map (λ (b : BoxKey). (let x : ℕ × BoxKey = (c, b) in x)) box) found
+      at : (box : Option BoxKey) (found : Option ContainerQueue)
+          → IsQueued c (storage_of version s) (option_map (λ (b : BoxKey). (let x : ℕ × BoxKey = (c, b) in x)) box) found
           → option_map (queue_data c) found ≡ option_map (queue_json s c) box
       at None found is = ap (option_map (queue_data c)) is
       at (Some box) None is = absurd is
@@ -67,6 +53,7 @@ module _ (version : Version) (s : State) (sound : IsSoundOffice s) (c : ℕ) whe
           ∷ [])))
           waiting_told
 
-  pub queue_answer : (found : Option ContainerQueue) → IsQueued c (storage_of version s) (container_with c (storage_of version s)) found
+  pub queue_answer : (found : Option ContainerQueue)
+      → IsQueued c (storage_of version s) (container_with c (storage_of version s)) found
       → known_json UnknownContainer (option_map (queue_data c) found) ≡ answer s (query.Queue c)
   queue_answer found is = ap (known_json UnknownContainer) (queue_told found is)

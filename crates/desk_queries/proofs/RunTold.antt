@@ -1,38 +1,24 @@
 -- What is told of a run is what the rules tell of it.
 use Rattle.std.proofs.Common.{◌≡◌, ◌⊎◌, ℕ, suc, ◌<◌, true, nat_eq, List, [], ◌∷◌, ◌++◌, map, Option, Some, None, inl, inr, refl, sym, ap, subst, ◌∙◌}
-use Rattle.std.specs.Prelude.{ℤ, filter_map, option_map}
-use Rattle.std.specs.List.{AllByRecursion, AllZip, cons_option, flat_map}
+use Rattle.std.specs.Prelude.{ℤ}
 use Rattle.std.specs.List.Sorted.{IsPermutation}
 use Rattle.std.proofs.lemmas.List.Sorted.{IsPermutation-map}
-use Rattle.std.proofs.lemmas.Simd.{map-map}
 use Rattle.sqlite_trees.proofs.ListLemmas.{IsPermutation-flat_map}
 use Rattle.isad_core.specs.declared.values.BoxKey.{BoxKey}
-use Rattle.office_tables.specs.Versions.{Version}
 use Rattle.catalogue_core.specs.Members.{StandsIn}
-use Rattle.desk_core.specs.DeskRows.{RunLineRow, RunRow}
-use Rattle.desk_core.specs.Slips.{slip}
 use Rattle.desk_core.specs.declared.run.Candidate.{Candidate}
-use Rattle.desk_core.specs.declared.refusal.Refusal.TheVariants.{UnknownRun}
 use Rattle.desk_store.specs.Runs.{IsCandidate, lines_of, run_with}
 use Rattle.desk_store.specs.Storage.{AreKnown, IsBrought, IsKnownLine, IsToldLine, IsToldRun, container_with}
 use Rattle.desk_store.specs.declared.runs.Brought.{Brought}
-use Rattle.office_core.specs.Queries.{answer, candidate_of, run_answer}
-use Rattle.office_core.specs.SoundDesk.{ByContainer, IsGoodLine}
-use Rattle.office_core.specs.SoundOffice.{IsSoundOffice}
-use Rattle.office_core.specs.State.{Line, Order, Run, State, is_container}
-use Rattle.office_core.specs.Words.{nth}
 use Rattle.office_core.specs.declared.query.Answer.{Answer}
-use Rattle.office_core.specs.declared.query.Answer.TheVariants.{Text, Unknown}
 use Rattle.office_core.specs.declared.query.Query.TheVariants as query
-use Rattle.state_encoding.specs.DeskEncoding.{lines_from, rows_from, run_line_row, run_row}
-use Rattle.state_encoding.specs.OfficeRows.{line_from, run_from, tables}
 use Rattle.state_encoding.proofs.DeskLookups.{flipped, some_is}
 use Rattle.state_encoding.proofs.Members.{all_in, all_of_in, in_append, in_filter, in_map}
 use Rattle.state_encoding.proofs.NumberedRows.{numbered-map, numbered-rows, stands_at}
 use Rattle.state_encoding.proofs.ReadBack.{runs_back}
 use Rattle.office_tables.proofs.Rows.{same_test}
 use Rattle.refinement.proofs.RowsOfLists.{found_row}
-use Rattle.refinement.proofs.StorageShown.{box_row, has_container, storage_of}
+use Rattle.desk_queries.proofs.Common.{AllByRecursion, AllZip, ByContainer, IsGoodLine, IsSoundOffice, Line, Order, Run, RunLineRow, RunRow, State, Text, Unknown, UnknownRun, Version, answer, box_row, candidate_of, cons_option, filter_map, flat_map, has_container, is_container, line_from, lines_from, map-map, nth, option_map, rows_from, run_answer, run_from, run_line_row, run_row, slip, storage_of, tables}
 use Rattle.desk_queries.proofs.SlipTold.{Rise, same_slip}
 
 -- what the slip says where no line is told
@@ -45,17 +31,20 @@ each_some : {X Y : Type 0} (f : X → Option Y) (xs : List X) → filter_map f x
 each_some {X} {Y} f [] = refl
 each_some {X} {Y} f (x ∷ xs) = at (f x) (each_some f xs)
   where
-    at : (y : Option Y) → filter_map f xs ≡ flat_map (λ x. cons_option (f x) []) xs → cons_option y (filter_map f xs) ≡ cons_option y [] ++ flat_map (λ x. cons_option (f x) []) xs
+    at : (y : Option Y) → filter_map f xs ≡ flat_map (λ x. cons_option (f x) []) xs
+        → cons_option y (filter_map f xs) ≡ cons_option y [] ++ flat_map (λ x. cons_option (f x) []) xs
     at None e = e
     at (Some y) e = ap (λ l. y ∷ l) e
 
 module _ (version : Version) (s : State) (sound : IsSoundOffice s) where
   -- ---- the lines
 
-  told_line : (l : RunLineRow) (c : Candidate) → IsCandidate (storage_of version s).containers l c → candidate_of s (line_from l) ≡ Some c
+  told_line : (l : RunLineRow) (c : Candidate) → IsCandidate (storage_of version s).containers l c
+      → candidate_of s (line_from l) ≡ Some c
   told_line l c it = at (nth s.catalogue.containers l.container) (sym (box_row version s l.container) ∙ it.known)
     where
-      at : (box : Option BoxKey) → option_map (λ (b : BoxKey). (let x : ℕ × BoxKey = (l.container, b) in x)) box ≡ Some (let x : ℕ × BoxKey = (l.container, it.box) in x)
+      at : (box : Option BoxKey)
+          → option_map (λ (b : BoxKey). (let x : ℕ × BoxKey = (l.container, b) in x)) box ≡ Some (let x : ℕ × BoxKey = (l.container, it.box) in x)
           → option_map (λ (b : BoxKey). (let c : Candidate = record { container = l.container; order = l.order_no; ticket = l.ticket; location = b.location; name = b.name; kind = b.kind } in c)) box ≡ Some c
       at None e = absurd (cc)
       at (Some box) e =
@@ -64,7 +53,8 @@ module _ (version : Version) (s : State) (sound : IsSoundOffice s) where
           ap (λ (b : BoxKey). Some (let c : Candidate = record { container = l.container; order = l.order_no; ticket = l.ticket; location = b.location; name = b.name; kind = b.kind } in c)) same ∙ ap Some (sym it.is)
 
   module _ {T : Type 0} (Answers : T → Candidate → Type 0) (line : T → Line) (answers : (l : T) (c : Candidate) → Answers l c → candidate_of s (line l) ≡ Some c) where
-    told_lines : (ls : List T) (cs : List Candidate) → AllZip Answers ls cs → filter_map (candidate_of s) (map line ls) ≡ cs
+    told_lines : (ls : List T) (cs : List Candidate) → AllZip Answers ls cs
+        → filter_map (candidate_of s) (map line ls) ≡ cs
     told_lines [] [] all = refl
     told_lines [] (c ∷ cs) all = absurd all
     told_lines (l ∷ ls) [] all = absurd all
@@ -72,8 +62,10 @@ module _ (version : Version) (s : State) (sound : IsSoundOffice s) where
         ap (λ o. cons_option o (filter_map (candidate_of s) (map line ls))) (answers l c all.0) ∙ ap (λ k. c ∷ k) (told_lines ls cs all.1)
 
     -- the lines in whatever order, each with what is written on its container
-    mixed_lines : (ls : List T) (cs : List Candidate) (rows : List RunLineRow) (taken : RunLineRow → T) → IsPermutation (map taken rows) ls → AllZip Answers ls cs
-        → (lines : List Line) → map (λ (r : RunLineRow). line (taken r)) rows ≡ lines → IsPermutation (filter_map (candidate_of s) lines) cs
+    mixed_lines : (ls : List T) (cs : List Candidate) (rows : List RunLineRow) (taken : RunLineRow → T)
+        → IsPermutation (map taken rows) ls → AllZip Answers ls cs
+        → (lines : List Line) → map (λ (r : RunLineRow). line (taken r)) rows ≡ lines
+        → IsPermutation (filter_map (candidate_of s) lines) cs
     mixed_lines ls cs rows taken same all lines are =
         let moved : IsPermutation lines (map line ls) =
         subst (λ (l : List Line). IsPermutation l (map line ls)) (map-map line taken rows ∙ are) (IsPermutation-map line (map taken rows) ls same) in
@@ -82,7 +74,8 @@ module _ (version : Version) (s : State) (sound : IsSoundOffice s) where
         (subst (IsPermutation (flat_map (λ (x : Line). cons_option (candidate_of s x) []) lines)) (sym (each_some (candidate_of s) (map line ls)) ∙ told_lines ls cs all) mixed)
 
   -- the rows of a run are its lines
-  rows_told : (n : ℕ) (run : Run) → nth s.runs n ≡ Some run → map line_from (lines_of n (tables version s).desk) ≡ run.lines
+  rows_told : (n : ℕ) (run : Run) → nth s.runs n ≡ Some run
+      → map line_from (lines_of n (tables version s).desk) ≡ run.lines
   rows_told n run is =
       let all = lines_from 1 s.runs in
       let again : Some (run_from all (run_row n run)) ≡ Some run =
@@ -95,7 +88,8 @@ module _ (version : Version) (s : State) (sound : IsSoundOffice s) where
 
   -- ---- each container is on a slip once
 
-  later : (k : ℕ) (ls : List Line) → AllByRecursion (λ (l : Line). k < l.container) ls → AllByRecursion (λ (c : Candidate). k < c.container) (filter_map (candidate_of s) ls)
+  later : (k : ℕ) (ls : List Line) → AllByRecursion (λ (l : Line). k < l.container) ls
+      → AllByRecursion (λ (c : Candidate). k < c.container) (filter_map (candidate_of s) ls)
   later k [] all = tt
   later k (l ∷ ls) all = at (nth s.catalogue.containers l.container) (later k ls all.1)
     where
@@ -109,14 +103,17 @@ module _ (version : Version) (s : State) (sound : IsSoundOffice s) where
   rise [] by = tt
   rise (l ∷ ls) by = at (nth s.catalogue.containers l.container) (later l.container ls by.0) (rise ls by.1)
     where
-      at : (box : Option BoxKey) → AllByRecursion (λ (c : Candidate). l.container < c.container) (filter_map (candidate_of s) ls) → Rise (filter_map (candidate_of s) ls)
+      at : (box : Option BoxKey)
+          → AllByRecursion (λ (c : Candidate). l.container < c.container) (filter_map (candidate_of s) ls)
+          → Rise (filter_map (candidate_of s) ls)
           → Rise (cons_option (option_map (λ (b : BoxKey). (let c : Candidate = record { container = l.container; order = l.order; ticket = l.ticket; location = b.location; name = b.name; kind = b.kind } in c)) box) (filter_map (candidate_of s) ls))
       at None above rest = rest
       at (Some box) above rest = (above, rest)
 
   -- ---- the slip
 
-  brought : (n : ℕ) (run : Run) (told : Brought) → nth s.runs n ≡ Some run → IsBrought (storage_of version s) (run_row n run) told
+  brought : (n : ℕ) (run : Run) (told : Brought) → nth s.runs n ≡ Some run
+      → IsBrought (storage_of version s) (run_row n run) told
       → Text (slip n told.day told.lines) ≡ Text (slip n run.day (filter_map (candidate_of s) run.lines))
   brought n run told is it =
       let good = sound.sound.desk.runs.each n run is in
@@ -126,11 +123,14 @@ module _ (version : Version) (s : State) (sound : IsSoundOffice s) where
       ap (λ (day : ℤ). Text (slip n day told.lines)) it.day
       ∙ ap Text (same_slip n run.day (filter_map (candidate_of s) run.lines) told.lines (rise run.lines good.by_container) mixed)
 
-  pub run_told : (n : ℕ) (found : Option Brought) → IsToldRun (storage_of version s) (run_with n (storage_of version s).desk) found → told_slip n found ≡ answer s (query.RunSlip n)
+  pub run_told : (n : ℕ) (found : Option Brought)
+      → IsToldRun (storage_of version s) (run_with n (storage_of version s).desk) found
+      → told_slip n found ≡ answer s (query.RunSlip n)
   run_told n found it =
       at (nth s.runs n) refl found (subst (λ (row : Option RunRow). IsToldRun (storage_of version s) row found) (found_row run_row (λ (r : RunRow). r.id) (λ n x. refl) n s.runs) it)
     where
-      at : (run : Option Run) → nth s.runs n ≡ run → (found : Option Brought) → IsToldRun (storage_of version s) (option_map (run_row n) run) found → told_slip n found ≡ run_answer s n run
+      at : (run : Option Run) → nth s.runs n ≡ run → (found : Option Brought)
+          → IsToldRun (storage_of version s) (option_map (run_row n) run) found → told_slip n found ≡ run_answer s n run
       at None is found it = ap (told_slip n) it
       at (Some run) is None it = absurd it
       at (Some run) is (Some told) it = brought n run told is it
@@ -140,17 +140,22 @@ module _ (version : Version) (s : State) (sound : IsSoundOffice s) where
   known_line : (l : Line) → IsGoodLine s l → is_container s l.container ≡ true
   known_line l good = at (nth s.orders l.order) refl good.order
     where
-      at : (order : Option Order) → nth s.orders l.order ≡ order → option_map (λ (order : Order). order.container) order ≡ Some l.container → is_container s l.container ≡ true
+      at : (order : Option Order) → nth s.orders l.order ≡ order
+          → option_map (λ (order : Order). order.container) order ≡ Some l.container → is_container s l.container ≡ true
       at None is e = absurd (cc)
       at (Some order) is e =
           let same : order.container ≡ l.container = cc in
           subst (λ c. is_container s c ≡ true) same (sound.sound.desk.orders.each l.order order is).container
 
-  in_lines : (m : ℕ) (runs : List Run) → ((run : Run) → StandsIn run runs → AllByRecursion (IsGoodLine s) run.lines) → (row : RunLineRow) → StandsIn row (lines_from m runs) → is_container s row.container ≡ true
+  in_lines : (m : ℕ) (runs : List Run) → ((run : Run) → StandsIn run runs → AllByRecursion (IsGoodLine s) run.lines)
+      → (row : RunLineRow) → StandsIn row (lines_from m runs) → is_container s row.container ≡ true
   in_lines m [] good row k = absurd k
-  in_lines m (run ∷ runs) good row k = at (in_append (map (run_line_row m) run.lines) (lines_from (suc m) runs) row k) (in_lines (suc m) runs (λ r i. good r (inr i)) row)
+  in_lines m (run ∷ runs) good row k =
+      at (in_append (map (run_line_row m) run.lines) (lines_from (suc m) runs) row k) (in_lines (suc m) runs (λ r i. good r (inr i)) row)
     where
-      at : StandsIn row (map (run_line_row m) run.lines) ⊎ StandsIn row (lines_from (suc m) runs) → (StandsIn row (lines_from (suc m) runs) → is_container s row.container ≡ true) → is_container s row.container ≡ true
+      at : StandsIn row (map (run_line_row m) run.lines) ⊎ StandsIn row (lines_from (suc m) runs)
+          → (StandsIn row (lines_from (suc m) runs) → is_container s row.container ≡ true)
+          → is_container s row.container ≡ true
       at (inl here) rest =
           let i = in_map (run_line_row m) run.lines row here in
           subst (λ (r : RunLineRow). is_container s r.container ≡ true) (sym i.2) (known_line i.0 (all_in (IsGoodLine s) run.lines i.0 (good run (inl refl)) i.1))

@@ -1,36 +1,9 @@
 -- The statements on a container: what their texts mean, what they tell, and why they fail. And the container that is told.
 use Rattle.std.proofs.Common.{◌≡◌, ℕ, pos, List, [], ◌∷◌, map, filter, codes, Result, IfOk, IfErr, Ordering, nat_eq, refl}
-use Rattle.std.proofs.Math.Nat.{le_refl}
-use Rattle.std.specs.Prelude.{⊤}
-use Rattle.std.specs.Cmp.{IsTotalOrder, on_total, int_cmp_total}
-use Rattle.std.specs.List.{AllByRecursion}
-use Rattle.std.specs.Ordering.{int_cmp}
 use Rattle.isad_core.specs.LegibleValues.{IsLegibleBox}
-use Rattle.isad_core.specs.declared.values.BoxKey.{BoxKey}
-use Rattle.sqlite.specs.declared.types.Value.TheVariants.{Int, Text}
-use Rattle.sqlite.specs.Order.{Row}
-use Rattle.sqlite.specs.Term.{Term, col, op2}
-use Rattle.sqlite.specs.Collation.TheVariants.{Binary}
-use Rattle.sqlite.specs.Command.{Command}
-use Rattle.sqlite.specs.Command.TheVariants.{Select}
 use Rattle.sqlite.specs.Listing.{understood}
-use Rattle.sqlite.specs.State.{State}
-use Rattle.sqlite_sql.specs.declared.ops.BinaryOp.TheVariants.{Compare}
-use Rattle.sqlite_sql.specs.declared.ops.CompareOp.TheVariants.{Eq}
 use Rattle.sqlite_tied.specs.Compute.{everything}
-use Rattle.sqlite_trees.proofs.ListLemmas.{all_of}
-use Rattle.office_tables.specs.Versions.{Version}
-use Rattle.office_tables.specs.Query.{Finds, Misses}
-use Rattle.office_tables.specs.Faults.{IsUnlimited, HasCause}
-use Rattle.office_tables.specs.StatementMeaning.{Means}
-use Rattle.office_tables.specs.Order.{IsOrdered}
-use Rattle.office_tables.specs.Schema.{schema, container}
-use Rattle.office_tables.specs.SharedRows.{container_row}
-use Rattle.office_tables.specs.Step.{Holds}
-use Rattle.office_tables.specs.declared.fault.StoreFault.{StoreFault}
-use Rattle.office_tables.proofs.Queries.{asking}
-use Rattle.office_tables.proofs.statements.SelectOf.{select_finds, select_faults}
-use Rattle.office_tables.proofs.Tests.{only, same_number, by_one_int}
+use Rattle.desk_store.proofs.Common.{AllByRecursion, Binary, BoxKey, Command, Compare, Eq, Finds, HasCause, Holds, Int, IsOrdered, IsTotalOrder, IsUnlimited, Means, Misses, Row, Select, State, StoreFault, Term, Text, Version, all_of, asking, by_one_int, col, container, container_row, int_cmp, int_cmp_total, le_refl, on_total, only, op2, same_number, schema, select_faults, select_finds, ⊤}
 use Rattle.desk_store.proofs.CardRows.{in_order}
 
 -- a container under its number
@@ -73,7 +46,8 @@ module _ (old new : State) (n : ℕ) (v : Version) (has : old.now.schema ≡ sch
       (λ (b : Numbered). nat_eq n b.0) (λ b. only (same_number b.0 n)) (λ b. written_cells b.1) (λ (b : Numbered). Int (pos b.0) ∷ []) (λ _. refl) by_number (λ _. refl) (λ a b. by_one_int (pos a.0) (pos b.0))
       written_cells items (λ (b : Numbered). b.1) (λ _. refl) r
 
-  pub box_faults : AllByRecursion (λ (b : Numbered). IsLegibleBox b.1) bs → IsUnlimited old → IfErr r (Misses written_cells IsLegibleBox box_text (Int (pos n) ∷ []) old new) → IfErr r (HasCause old new)
+  pub box_faults : AllByRecursion (λ (b : Numbered). IsLegibleBox b.1) bs → IsUnlimited old
+      → IfErr r (Misses written_cells IsLegibleBox box_text (Int (pos n) ∷ []) old new) → IfErr r (HasCause old new)
   box_faults legible free =
       select_faults v container box_text with_its_number box_columns in_order box_names (Int (pos n) ∷ []) (box_means v) old new has container_row bs stored
       (λ (b : Numbered). nat_eq n b.0) (λ b. only (same_number b.0 n)) (λ b. written_cells b.1) (λ (b : Numbered). Int (pos b.0) ∷ []) (λ _. refl) by_number (λ _. refl) (λ a b. by_one_int (pos a.0) (pos b.0))
@@ -102,7 +76,8 @@ module _ (old new : State) (n : ℕ) (v : Version) (has : old.now.schema ≡ sch
       (λ (b : Numbered). nat_eq n b.0) (λ b. only (same_number b.0 n)) (λ b. number_cells b.0) (λ (b : Numbered). Int (pos b.0) ∷ []) (λ _. refl) by_number (λ _. refl) (λ a b. by_one_int (pos a.0) (pos b.0))
       number_cells items (λ (b : Numbered). b.0) (λ _. refl) r
 
-  pub number_faults : IsUnlimited old → IfErr r (Misses number_cells (λ _. ⊤) number_text (Int (pos n) ∷ []) old new) → IfErr r (HasCause old new)
+  pub number_faults : IsUnlimited old → IfErr r (Misses number_cells (λ _. ⊤) number_text (Int (pos n) ∷ []) old new)
+      → IfErr r (HasCause old new)
   number_faults free =
       select_faults v container number_text with_its_number (col 1 0 ∷ []) in_order (codes "id" ∷ []) (Int (pos n) ∷ []) (number_means v) old new has container_row bs stored
       (λ (b : Numbered). nat_eq n b.0) (λ b. only (same_number b.0 n)) (λ b. number_cells b.0) (λ (b : Numbered). Int (pos b.0) ∷ []) (λ _. refl) by_number (λ _. refl) (λ a b. by_one_int (pos a.0) (pos b.0))

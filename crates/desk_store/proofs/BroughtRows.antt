@@ -1,41 +1,10 @@
 -- The statement on the day of a run: what its text means, what it tells, and why it fails. And the lines of a run, as they are told.
 use Rattle.std.proofs.Common.{◌≡◌, ℕ, pos, Bool, List, [], ◌∷◌, ◌++◌, map, filter, find, codes, true, cond, Option, Some, None, Result, IfOk, IfErr, nat_eq, inl, inr, refl, sym, ap, ap₂, subst, ◌∙◌}
-use Rattle.std.proofs.Math.Nat.{le_refl}
-use Rattle.std.specs.Prelude.{option_map}
-use Rattle.std.specs.List.{AllByRecursion, AllZip}
-use Rattle.std.proofs.lemmas.Bool.{cases_Bool, eqb-true}
-use Rattle.sqlite.specs.declared.types.Value.TheVariants.{Int}
-use Rattle.sqlite.specs.Order.{Row}
-use Rattle.sqlite.specs.Term.{Term, col, op2}
-use Rattle.sqlite.specs.Collation.TheVariants.{Binary}
-use Rattle.sqlite.specs.Command.{Command}
-use Rattle.sqlite.specs.Command.TheVariants.{Select}
 use Rattle.sqlite.specs.Listing.{understood}
-use Rattle.sqlite.specs.State.{State}
-use Rattle.sqlite_sql.specs.declared.ops.BinaryOp.TheVariants.{Compare}
-use Rattle.sqlite_sql.specs.declared.ops.CompareOp.TheVariants.{Eq}
 use Rattle.sqlite_tied.specs.Compute.{everything}
-use Rattle.std.specs.Cmp.{IsTotalOrder, on_total, int_cmp_total}
-use Rattle.std.specs.Ordering.{int_cmp}
 use Rattle.std.specs.declared.cmp.Ordering.{Ordering}
-use Rattle.office_tables.specs.Versions.{Version}
-use Rattle.isad_core.specs.Days.{is_day_number}
-use Rattle.isad_core.specs.declared.values.BoxKey.{BoxKey}
-use Rattle.desk_core.specs.DeskRows.{RunRow}
-use Rattle.office_tables.specs.Query.{Finds, Misses}
-use Rattle.office_tables.specs.Faults.{IsUnlimited, HasCause}
-use Rattle.office_tables.specs.StatementMeaning.{Means}
-use Rattle.office_tables.specs.Order.{IsOrdered}
-use Rattle.office_tables.specs.Schema.{schema, run}
-use Rattle.office_tables.specs.Step.{Holds}
-use Rattle.office_tables.specs.declared.fault.StoreFault.{StoreFault}
-use Rattle.office_tables.proofs.Queries.{asking}
-use Rattle.office_tables.proofs.statements.SelectOf.{select_finds, select_faults}
-use Rattle.office_tables.proofs.Tests.{only, same_number, by_one_int}
-use Rattle.desk_store.specs.Rows.{run_cells}
-use Rattle.desk_store.specs.Storage.{Storage, container_with, IsToldLine}
 use Rattle.desk_store.specs.declared.run_lines.RunDay.{RunDay}
-use Rattle.desk_store.specs.declared.container_orders.ContainerOrder.{ContainerOrder}
+use Rattle.desk_store.proofs.Common.{AllByRecursion, AllZip, Binary, BoxKey, Command, Compare, ContainerOrder, Eq, Finds, HasCause, Holds, Int, IsOrdered, IsToldLine, IsTotalOrder, IsUnlimited, Means, Misses, Row, RunRow, Select, State, Storage, StoreFault, Term, Version, asking, by_one_int, cases_Bool, col, container_with, eqb-true, int_cmp, int_cmp_total, is_day_number, le_refl, on_total, only, op2, option_map, run, run_cells, same_number, schema, select_faults, select_finds}
 use Rattle.desk_store.proofs.BoxRows.{Numbered}
 use Rattle.desk_store.proofs.CardRows.{in_order}
 
@@ -68,13 +37,15 @@ unfolding understood everything
 day_means v = record { is = refl; plain = (refl, refl); whole = (le_refl _, refl, refl); unlisted = refl }
 
 module _ (old new : State) (n : ℕ) (v : Version) (has : old.now.schema ≡ schema v) (xs : List RunRow) (stored : Holds run run_cells old xs) {X : Type 0} (items : X → List RunDay) (r : Result X StoreFault) where
-  pub day_finds : IfOk r (λ found. Finds day_cells day_text (Int (pos n) ∷ []) old new (items found)) → IfOk r (λ found. (ys : List RunRow) × IsOrdered by_run (filter (λ (x : RunRow). nat_eq n x.id) xs) ys × (items found ≡ map day_of ys))
+  pub day_finds : IfOk r (λ found. Finds day_cells day_text (Int (pos n) ∷ []) old new (items found))
+      → IfOk r (λ found. (ys : List RunRow) × IsOrdered by_run (filter (λ (x : RunRow). nat_eq n x.id) xs) ys × (items found ≡ map day_of ys))
   day_finds =
       select_finds v run day_text with_its_number (col 1 2 ∷ []) in_order (codes "day" ∷ []) (Int (pos n) ∷ []) (day_means v) old new has run_cells xs stored
       (λ (x : RunRow). nat_eq n x.id) (λ x. only (same_number x.id n)) (λ x. day_cells (day_of x)) (λ (x : RunRow). Int (pos x.id) ∷ []) (λ _. refl) by_run (λ _. refl) (λ a b. by_one_int (pos a.id) (pos b.id))
       day_cells items day_of (λ _. refl) r
 
-  pub day_faults : AllByRecursion (λ (x : RunRow). is_day_number x.day ≡ true) xs → IsUnlimited old → IfErr r (Misses day_cells IsCalendarDay day_text (Int (pos n) ∷ []) old new) → IfErr r (HasCause old new)
+  pub day_faults : AllByRecursion (λ (x : RunRow). is_day_number x.day ≡ true) xs → IsUnlimited old
+      → IfErr r (Misses day_cells IsCalendarDay day_text (Int (pos n) ∷ []) old new) → IfErr r (HasCause old new)
   day_faults legible free =
       select_faults v run day_text with_its_number (col 1 2 ∷ []) in_order (codes "day" ∷ []) (Int (pos n) ∷ []) (day_means v) old new has run_cells xs stored
       (λ (x : RunRow). nat_eq n x.id) (λ x. only (same_number x.id n)) (λ x. day_cells (day_of x)) (λ (x : RunRow). Int (pos x.id) ∷ []) (λ _. refl) by_run (λ _. refl) (λ a b. by_one_int (pos a.id) (pos b.id))
@@ -95,15 +66,18 @@ same_run n xs x e = eqb-true n x.id (found_by (λ (x : RunRow). nat_eq n x.id) x
 
 -- ---- a line that is told
 
-pub line_told : (l : ContainerOrder) (s : Storage) (w : BoxKey) (box : Option Numbered) → container_with l.container s ≡ box → option_map (λ (b : Numbered). b.1) box ≡ Some w
+pub line_told : (l : ContainerOrder) (s : Storage) (w : BoxKey) (box : Option Numbered)
+    → container_with l.container s ≡ box → option_map (λ (b : Numbered). b.1) box ≡ Some w
     → IsToldLine s l (record { container = l.container; order = l.order; ticket = l.ticket; location = w.location; name = w.name; kind = w.kind })
 line_told l s w None e is = absurd (cc)
 line_told l s w (Some b) e is =
     let same : b.1 ≡ w = cc in
-    let number : l.container ≡ b.0 = eqb-true l.container b.0 (found_by (λ (b : Numbered). nat_eq l.container b.0) s.containers b e) in
+    let number : l.container ≡ b.0 =
+    eqb-true l.container b.0 (found_by (λ (b : Numbered). nat_eq l.container b.0) s.containers b e) in
     record { box = w; known = e ∙ ap₂ (λ (n : ℕ) (k : BoxKey). let it : Option Numbered = Some (n, k) in it) (sym number) same; is = refl }
 
-pub zip_more : {A B : Type 0} (P : A → B → Type 0) (xs : List A) (ys : List B) (x : A) (y : B) → AllZip P xs ys → P x y → AllZip P (xs ++ x ∷ []) (ys ++ y ∷ [])
+pub zip_more : {A B : Type 0} (P : A → B → Type 0) (xs : List A) (ys : List B) (x : A) (y : B) → AllZip P xs ys → P x y
+    → AllZip P (xs ++ x ∷ []) (ys ++ y ∷ [])
 zip_more P [] [] x y all p = (p, tt)
 zip_more P [] (b ∷ bs) x y all p = absurd all
 zip_more P (a ∷ rest) [] x y all p = absurd all

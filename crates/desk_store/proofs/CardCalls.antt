@@ -1,36 +1,30 @@
 -- A reader's card, and the holder of a ticket: the parts are read one after another, and nothing is changed between them.
 use Rattle.std.proofs.Common.{◌≡◌, ℕ, ℤ, suc, ◌+◌, ◌<◌, ◌≤◌, ◌^◌, ◌&&◌, true, false, Bool, cond, nat_eq, List, [], ◌∷◌, map, filter, length, find, Option, Some, None, refl, sym, ap, subst, ◌∙◌, arith}
-use Rattle.std.specs.Prelude.{nat_lt, is_some, option_map}
-use Rattle.std.specs.List.{AllByRecursion, count_by}
-use Rattle.std.proofs.lemmas.Bool.Decides.{nat_tests}
-use Rattle.std.proofs.lemmas.List.{length-map}
 use Rattle.std.proofs.lemmas.List.Sums.{length-filter, count_by-le-length}
-use Rattle.isad_core.specs.Limits.{most_orders}
-use Rattle.desk_core.specs.DeskRows.{Desk, SeatRow, OrderRow}
 use Rattle.desk_core.specs.declared.reader.Reader.{Reader}
 use Rattle.desk_core.proofs.Counts.{count_map}
-use Rattle.desk_store.specs.Readers.{is_live, live_orders, held_with, reader_with, seat_of, placed_on, card_of, ticket_holder}
-use Rattle.office_tables.specs.RowNumbers.{AreCounted}
-use Rattle.desk_store.specs.declared.reader_summary.OrderLine.{OrderLine}
 use Rattle.desk_store.specs.declared.reader_summary.ReaderCard.{ReaderCard}
 use Rattle.desk_store.specs.declared.readers.NamedReader.{NamedReader}
 use Rattle.desk_store.specs.declared.taken_seats.TakenSeat.{TakenSeat}
-use Rattle.office_tables.proofs.numbered.Counted.{counted_within}
+use Rattle.desk_store.proofs.Common.{AllByRecursion, AreCounted, Desk, OrderLine, OrderRow, SeatRow, card_of, count_by, counted_within, held_with, is_live, is_some, length-map, live_orders, most_orders, nat_lt, nat_tests, option_map, placed_on, reader_with, seat_of, ticket_holder}
 use Rattle.desk_store.proofs.CardRows.{line_of}
 use Rattle.desk_store.proofs.ReaderRows.{named}
 use Rattle.desk_store.proofs.SeatRows.{taken}
 
 -- ---- a number that was not given
 
-find_none : {A : Type 0} (number : A → ℕ) (t n : ℕ) (xs : List A) → AllByRecursion (λ x. number x < n) xs → n ≤ t → find (λ x. nat_eq t (number x)) xs ≡ None
+find_none : {A : Type 0} (number : A → ℕ) (t n : ℕ) (xs : List A) → AllByRecursion (λ x. number x < n) xs → n ≤ t
+    → find (λ x. nat_eq t (number x)) xs ≡ None
 find_none number t n [] all h = refl
 find_none number t n (x ∷ xs) all h =
     let low = all.0 in
     let apart : nat_eq t (number x) ≡ false = grind (arith, nat_tests, low, h) in
     rw apart (find_none number t n xs all.1 h)
 
-pub unknown : {A : Type 0} (number : A → ℕ) (t : ℕ) (xs : List A) → AreCounted number xs → length xs < t → find (λ x. nat_eq t (number x)) xs ≡ None
-unknown number t xs counted h = find_none number t (1 + length xs) xs (counted_within number 1 xs counted) (omega (arith, h))
+pub unknown : {A : Type 0} (number : A → ℕ) (t : ℕ) (xs : List A) → AreCounted number xs → length xs < t
+    → find (λ x. nat_eq t (number x)) xs ≡ None
+unknown number t xs counted h =
+    find_none number t (1 + length xs) xs (counted_within number 1 xs counted) (omega (arith, h))
 
 -- ---- a number that was given
 
@@ -49,18 +43,21 @@ one_more : (mine : Bool) (o : OrderRow) (live out : List OrderRow) → length (o
 one_more false o live out same = same
 one_more true o live out same = by (nat_lt o.state 3) (nat_eq o.state 2) refl refl
   where
-    by : (x y : Bool) → nat_lt o.state 3 ≡ x → nat_eq o.state 2 ≡ y → length (out_among (cond x (o ∷ live) live)) ≡ length (cond (nat_eq o.state 2) (o ∷ out) out)
+    by : (x y : Bool) → nat_lt o.state 3 ≡ x → nat_eq o.state 2 ≡ y
+        → length (out_among (cond x (o ∷ live) live)) ≡ length (cond (nat_eq o.state 2) (o ∷ out) out)
     by true true h k = rw k (ap suc same)
     by true false h k = rw k same
     by false true h k = absurd (grind (arith, nat_tests, h, k))
     by false false h k = rw k same
 
-same_out : (t : ℕ) (xs : List OrderRow) → length (out_among (filter (λ (o : OrderRow). nat_eq t o.ticket && is_live o) xs)) ≡ length (filter (λ (o : OrderRow). nat_eq t o.ticket && nat_eq o.state 2) xs)
+same_out : (t : ℕ) (xs : List OrderRow)
+    → length (out_among (filter (λ (o : OrderRow). nat_eq t o.ticket && is_live o) xs)) ≡ length (filter (λ (o : OrderRow). nat_eq t o.ticket && nat_eq o.state 2) xs)
 same_out t [] = refl
 same_out t (o ∷ xs) =
     one_more (nat_eq t o.ticket) o (filter (λ (o : OrderRow). nat_eq t o.ticket && is_live o) xs) (filter (λ (o : OrderRow). nat_eq t o.ticket && nat_eq o.state 2) xs) (same_out t xs)
 
-pub out_of_lines : (t : ℕ) (xs : List OrderRow) → count_by (λ (l : OrderLine). nat_eq l.state 2) (map line_of (filter (λ (o : OrderRow). nat_eq t o.ticket && is_live o) xs)) ≡ count_by (λ (o : OrderRow). nat_eq t o.ticket && nat_eq o.state 2) xs
+pub out_of_lines : (t : ℕ) (xs : List OrderRow)
+    → count_by (λ (l : OrderLine). nat_eq l.state 2) (map line_of (filter (λ (o : OrderRow). nat_eq t o.ticket && is_live o) xs)) ≡ count_by (λ (o : OrderRow). nat_eq t o.ticket && nat_eq o.state 2) xs
 out_of_lines t xs =
     let kept = filter (λ (o : OrderRow). nat_eq t o.ticket && is_live o) xs in
     count_map (λ (l : OrderLine). nat_eq l.state 2) line_of kept ∙ sym (length-filter (λ (o : OrderRow). nat_eq o.state 2) kept)
@@ -70,7 +67,8 @@ out_of_lines t xs =
 few_kept : (p : OrderRow → Bool) (xs : List OrderRow) → length (filter p xs) ≤ length xs
 few_kept p xs = subst (λ n. n ≤ length xs) (sym (length-filter p xs)) (count_by-le-length p xs)
 
-pub few_lines : (t : ℕ) (d : Desk) → length d.orders ≤ most_orders → length (map line_of (filter (λ (o : OrderRow). nat_eq t o.ticket && is_live o) d.orders)) < 2 ^ 32
+pub few_lines : (t : ℕ) (d : Desk) → length d.orders ≤ most_orders
+    → length (map line_of (filter (λ (o : OrderRow). nat_eq t o.ticket && is_live o) d.orders)) < 2 ^ 32
 few_lines t d few =
     let kept = filter (λ (o : OrderRow). nat_eq t o.ticket && is_live o) d.orders in
     let same = length-map kept line_of in
@@ -79,12 +77,17 @@ few_lines t d few =
 
 -- ---- the card
 
-mapped_twice : {A B C : Type 0} (f : A → B) (h : B → C) (o : Option A) → option_map h (option_map f o) ≡ option_map (λ x. h (f x)) o
+mapped_twice : {A B C : Type 0} (f : A → B) (h : B → C) (o : Option A)
+    → option_map h (option_map f o) ≡ option_map (λ x. h (f x)) o
 mapped_twice f h None = refl
 mapped_twice f h (Some x) = refl
 
-pub seat_told : (t : ℕ) (d : Desk) (seat : Option TakenSeat) → seat ≡ option_map taken (find (λ (s : SeatRow). nat_eq t s.ticket) d.seats) → option_map (λ (s : TakenSeat). s.seat) seat ≡ seat_of t d
-seat_told t d seat is = ap (option_map (λ (s : TakenSeat). s.seat)) is ∙ mapped_twice taken (λ (s : TakenSeat). s.seat) (find (λ (s : SeatRow). nat_eq t s.ticket) d.seats)
+pub seat_told : (t : ℕ) (d : Desk) (seat : Option TakenSeat)
+    → seat ≡ option_map taken (find (λ (s : SeatRow). nat_eq t s.ticket) d.seats)
+    → option_map (λ (s : TakenSeat). s.seat) seat ≡ seat_of t d
+seat_told t d seat is =
+    ap (option_map (λ (s : TakenSeat). s.seat)) is
+    ∙ mapped_twice taken (λ (s : TakenSeat). s.seat) (find (λ (s : SeatRow). nat_eq t s.ticket) d.seats)
 
 -- the card that the ticket's row makes
 abbrev pub card_with : ℕ → ℤ → Desk → NamedReader → ReaderCard
@@ -96,8 +99,10 @@ card_with t today d x = record {
   orders = length d.orders;
 }
 
-pub card_told : (t : ℕ) (today : ℤ) (d : Desk) (row : Option NamedReader) → row ≡ option_map named (reader_with t d) → option_map (card_with t today d) row ≡ card_of t today d
-card_told t today d row is = ap (option_map (card_with t today d)) is ∙ mapped_twice named (card_with t today d) (reader_with t d)
+pub card_told : (t : ℕ) (today : ℤ) (d : Desk) (row : Option NamedReader) → row ≡ option_map named (reader_with t d)
+    → option_map (card_with t today d) row ≡ card_of t today d
+card_told t today d row is =
+    ap (option_map (card_with t today d)) is ∙ mapped_twice named (card_with t today d) (reader_with t d)
 
 -- ---- the holder
 
@@ -105,5 +110,6 @@ card_told t today d row is = ap (option_map (card_with t today d)) is ∙ mapped
 abbrev pub holder_with : ℕ → Desk → NamedReader → Reader
 holder_with t d x = record { ticket = t; until = x.until; seat = seat_of t d; held = held_with t d }
 
-pub holder_told : (t : ℕ) (d : Desk) (row : Option NamedReader) → row ≡ option_map named (reader_with t d) → option_map (holder_with t d) row ≡ ticket_holder t d
+pub holder_told : (t : ℕ) (d : Desk) (row : Option NamedReader) → row ≡ option_map named (reader_with t d)
+    → option_map (holder_with t d) row ≡ ticket_holder t d
 holder_told t d row is = ap (option_map (holder_with t d)) is ∙ mapped_twice named (holder_with t d) (reader_with t d)

@@ -1,51 +1,11 @@
 -- The statements on what was ordered that a reader's card tells: what their texts mean, what they tell, and why they fail.
-use Rattle.std.proofs.Common.{◌≡◌, ◌≤◌, ◌<◌, ◌^◌, ℕ, ℤ, pos, List, [], ◌∷◌, length, codes, ◌&&◌, Result, IfOk, IfErr, nat_eq, refl, arith}
-use Rattle.std.proofs.Common.{map, filter, true, false, Bool, cond, Less, Equal, Greater, Ordering, ap, ◌∙◌}
-use Rattle.std.specs.Prelude.{⊤, nat_lt}
-use Rattle.std.specs.Cmp.{IsTotalOrder, on_total, int_cmp_total}
-use Rattle.std.specs.List.{AllByRecursion}
-use Rattle.std.specs.Ordering.{int_cmp, is_lt}
-use Rattle.sqlite.specs.Order.{Row}
+use Rattle.std.proofs.Common.{◌≡◌, ◌≤◌, ◌<◌, ◌^◌, ℕ, ℤ, pos, List, [], ◌∷◌, length, codes, ◌&&◌, Result, IfOk, IfErr, nat_eq, refl, arith, map, filter, true, false, Bool, cond, Less, Equal, Greater, Ordering, ap, ◌∙◌}
 use Rattle.sqlite.specs.Ops.{binary, is_true}
-use Rattle.sqlite.specs.Term.{lit}
-use Rattle.sqlite_sql.specs.declared.ops.CompareOp.TheVariants.{Lt}
-use Rattle.sqlite_value.specs.declared.keys.Key.{Key}
-use Rattle.sqlite_value.specs.Keys.{ascending}
 use Rattle.sqlite_value.proofs.OrderLemmas.{value_cmp-Int}
-use Rattle.office_tables.specs.Query.{Finds}
-use Rattle.office_tables.specs.Order.{IsOrdered}
-use Rattle.office_tables.proofs.Queries.{asking}
-use Rattle.office_tables.proofs.statements.SelectOf.{select_finds, select_faults}
-use Rattle.office_tables.proofs.Tests.{flag, by_one_int}
-use Rattle.desk_store.specs.Readers.{is_live}
-use Rattle.desk_store.specs.declared.reader_summary.OrderLine.{OrderLine}
-use Rattle.std.proofs.Math.Nat.{le_refl}
-use Rattle.std.specs.List.{count_by}
-use Rattle.std.specs.Ordering.{int_eq}
-use Rattle.sqlite.specs.declared.types.Value.TheVariants.{Int}
-use Rattle.sqlite.specs.Term.{Term, col, op2}
-use Rattle.sqlite.specs.Collation.TheVariants.{Binary}
-use Rattle.sqlite.specs.Command.{Command}
-use Rattle.sqlite.specs.Command.TheVariants.{Select}
 use Rattle.sqlite.specs.Listing.{understood}
-use Rattle.sqlite.specs.State.{State}
-use Rattle.sqlite_sql.specs.declared.ops.BinaryOp.TheVariants.{Compare}
-use Rattle.sqlite_sql.specs.declared.ops.CompareOp.TheVariants.{Eq}
 use Rattle.sqlite_tied.specs.Compute.{everything}
-use Rattle.office_tables.specs.Versions.{Version}
-use Rattle.isad_core.specs.Limits.{most_orders}
-use Rattle.desk_core.specs.DeskRows.{OrderRow}
-use Rattle.office_tables.specs.Query.{FindsFirst, Misses}
-use Rattle.office_tables.specs.Faults.{IsUnlimited, HasCause}
-use Rattle.office_tables.specs.StatementMeaning.{Means}
-use Rattle.office_tables.specs.Schema.{schema, orders}
-use Rattle.office_tables.specs.Step.{Holds}
-use Rattle.office_tables.specs.declared.fault.StoreFault.{StoreFault}
-use Rattle.office_tables.proofs.Tests.{both, same_number, eq_ints}
-use Rattle.desk_store.specs.Rows.{order_cells}
-use Rattle.office_tables.specs.RowNumbers.{AreCounted}
 use Rattle.office_tables.proofs.statements.CountOf.{counting, count_finds, count_faults}
-use Rattle.office_tables.proofs.statements.LastOf.{last_of, last_finds, last_faults}
+use Rattle.desk_store.proofs.Common.{AllByRecursion, AreCounted, Binary, Command, Compare, Eq, Finds, FindsFirst, HasCause, Holds, Int, IsOrdered, IsTotalOrder, IsUnlimited, Key, Lt, Means, Misses, OrderLine, OrderRow, Row, Select, State, StoreFault, Term, Version, ascending, asking, both, by_one_int, col, count_by, eq_ints, flag, int_cmp, int_cmp_total, int_eq, is_live, is_lt, last_faults, last_finds, last_of, le_refl, lit, most_orders, nat_lt, on_total, op2, order_cells, orders, same_number, schema, select_faults, select_finds, ⊤}
 
 -- ---- how many orders there are
 
@@ -112,13 +72,15 @@ each_read [] = tt
 each_read (x ∷ xs) = (tt, each_read xs)
 
 module _ (old new : State) (t : ℕ) (v : Version) (has : old.now.schema ≡ schema v) (xs : List OrderRow) (stored : Holds orders order_cells old xs) {X : Type 0} (items : X → List OrderLine) (r : Result X StoreFault) where
-  pub live_finds : IfOk r (λ found. Finds line_cells live_text (Int (pos t) ∷ []) old new (items found)) → IfOk r (λ found. (ys : List OrderRow) × IsOrdered by_order (filter (λ (o : OrderRow). nat_eq t o.ticket && is_live o) xs) ys × (items found ≡ map line_of ys))
+  pub live_finds : IfOk r (λ found. Finds line_cells live_text (Int (pos t) ∷ []) old new (items found))
+      → IfOk r (λ found. (ys : List OrderRow) × IsOrdered by_order (filter (λ (o : OrderRow). nat_eq t o.ticket && is_live o) xs) ys × (items found ≡ map line_of ys))
   live_finds =
       select_finds v orders live_text live_there live_columns in_order live_names (Int (pos t) ∷ []) (live_means v) old new has order_cells xs stored
       (λ (o : OrderRow). nat_eq t o.ticket && is_live o) (λ o. both (same_number o.ticket t) (below o.state 3)) (λ o. line_cells (line_of o)) (λ (o : OrderRow). Int (pos o.id) ∷ []) (λ _. refl) by_order (λ _. refl) (λ a b. by_one_int (pos a.id) (pos b.id))
       line_cells items line_of (λ _. refl) r
 
-  pub live_faults : IsUnlimited old → IfErr r (Misses line_cells (λ _. ⊤) live_text (Int (pos t) ∷ []) old new) → IfErr r (HasCause old new)
+  pub live_faults : IsUnlimited old → IfErr r (Misses line_cells (λ _. ⊤) live_text (Int (pos t) ∷ []) old new)
+      → IfErr r (HasCause old new)
   live_faults free =
       select_faults v orders live_text live_there live_columns in_order live_names (Int (pos t) ∷ []) (live_means v) old new has order_cells xs stored
       (λ (o : OrderRow). nat_eq t o.ticket && is_live o) (λ o. both (same_number o.ticket t) (below o.state 3)) (λ o. line_cells (line_of o)) (λ (o : OrderRow). Int (pos o.id) ∷ []) (λ _. refl) by_order (λ _. refl) (λ a b. by_one_int (pos a.id) (pos b.id))
@@ -140,19 +102,27 @@ unfolding understood everything
 placed_means v = record { is = refl; plain = (refl, refl); whole = (le_refl _, refl, refl); unlisted = refl }
 
 module _ (old new : State) (v : Version) (has : old.now.schema ≡ schema v) (xs : List OrderRow) (stored : Holds orders order_cells old xs) (few : length xs ≤ most_orders) (r : Result ℕ StoreFault) where
-  pub last_order_finds : AreCounted (λ (o : OrderRow). o.id) xs → IfOk r (FindsFirst last_order_text [] old new) → IfOk r (λ n. n ≡ length xs)
-  last_order_finds counted = last_finds (λ (o : OrderRow). o.id) v orders last_order_text (codes "id" ∷ []) (last_order_means v) old new has order_cells (λ _. refl) xs stored counted r
+  pub last_order_finds : AreCounted (λ (o : OrderRow). o.id) xs → IfOk r (FindsFirst last_order_text [] old new)
+      → IfOk r (λ n. n ≡ length xs)
+  last_order_finds counted =
+      last_finds (λ (o : OrderRow). o.id) v orders last_order_text (codes "id" ∷ []) (last_order_means v) old new has order_cells (λ _. refl) xs stored counted r
 
-  pub last_order_faults : AreCounted (λ (o : OrderRow). o.id) xs → IsUnlimited old → IfErr r (Misses (λ n. Int (pos n) ∷ []) (λ n. n < 2 ^ 32) last_order_text [] old new) → IfErr r (HasCause old new)
-  last_order_faults counted free = last_faults (λ (o : OrderRow). o.id) v orders last_order_text (codes "id" ∷ []) (last_order_means v) old new has order_cells (λ _. refl) xs stored counted refl (omega (arith, few)) free r
+  pub last_order_faults : AreCounted (λ (o : OrderRow). o.id) xs → IsUnlimited old
+      → IfErr r (Misses (λ n. Int (pos n) ∷ []) (λ n. n < 2 ^ 32) last_order_text [] old new)
+      → IfErr r (HasCause old new)
+  last_order_faults counted free =
+      last_faults (λ (o : OrderRow). o.id) v orders last_order_text (codes "id" ∷ []) (last_order_means v) old new has order_cells (λ _. refl) xs stored counted refl (omega (arith, few)) free r
 
   module _ (t : ℕ) (day : ℤ) where
-    pub placed_finds : IfOk r (FindsFirst placed_text (Int (pos t) ∷ Int day ∷ []) old new) → IfOk r (λ n. n ≡ count_by (λ (o : OrderRow). nat_eq t o.ticket && int_eq o.day day) xs)
+    pub placed_finds : IfOk r (FindsFirst placed_text (Int (pos t) ∷ Int day ∷ []) old new)
+        → IfOk r (λ n. n ≡ count_by (λ (o : OrderRow). nat_eq t o.ticket && int_eq o.day day) xs)
     placed_finds =
         count_finds v orders placed_text placed_there (codes "count(*)" ∷ []) (Int (pos t) ∷ Int day ∷ []) (placed_means v) old new has order_cells xs stored
         (λ (o : OrderRow). nat_eq t o.ticket && int_eq o.day day) (λ o. both (same_number o.ticket t) (eq_ints o.day day)) (omega (arith, few)) r
 
-    pub placed_faults : IsUnlimited old → IfErr r (Misses (λ n. Int (pos n) ∷ []) (λ n. n < 2 ^ 32) placed_text (Int (pos t) ∷ Int day ∷ []) old new) → IfErr r (HasCause old new)
+    pub placed_faults : IsUnlimited old
+        → IfErr r (Misses (λ n. Int (pos n) ∷ []) (λ n. n < 2 ^ 32) placed_text (Int (pos t) ∷ Int day ∷ []) old new)
+        → IfErr r (HasCause old new)
     placed_faults free =
         count_faults v orders placed_text placed_there (codes "count(*)" ∷ []) (Int (pos t) ∷ Int day ∷ []) (placed_means v) old new has order_cells xs stored
         (λ (o : OrderRow). nat_eq t o.ticket && int_eq o.day day) (λ o. both (same_number o.ticket t) (eq_ints o.day day)) (omega (arith, few)) refl free r

@@ -7,7 +7,7 @@ use Rattle.sqlite.specs.Listing.{understood}
 use Rattle.sqlite_tied.specs.Compute.{everything}
 use Rattle.office_tables.proofs.Creations.{naming}
 use Rattle.office_tables.specs.Creation.{DefinesTable}
-use Rattle.office_tables.specs.Schema.{no_schema, desk_schema, reader, seat, orders, holding, run, run_line, permit}
+use Rattle.desk_store.proofs.Common.{desk_schema, holding, no_schema, orders, permit, reader, run, run_line, seat}
 
 abbrev pub reader_text : List ℕ
 reader_text = codes "CREATE TABLE reader (ticket INTEGER PRIMARY KEY, name TEXT NOT NULL, until INTEGER NOT NULL) STRICT"

@@ -1,20 +1,13 @@
 -- A desk of which one part changes: the tables show the others as before.
 use Rattle.std.proofs.Common.{◌≡◌, ◌≤◌, List, [], ◌∷◌, map, length, refl, ◌∙◌}
-use Rattle.std.specs.List.{AllByRecursion}
-use Rattle.sqlite.specs.Effect.{Database}
-use Rattle.isad_core.specs.Limits.{most_orders, most_tickets, most_runs}
-use Rattle.desk_core.specs.DeskRows.{Desk, ReaderRow, SeatRow, OrderRow, HoldingRow, RunRow, RunLineRow, PermitRow}
-use Rattle.office_tables.specs.Step.{OnlyTouches}
-use Rattle.desk_store.specs.Rows.{reader_cells, seat_cells, order_cells, holding_cells, run_cells, run_line_cells}
-use Rattle.office_tables.specs.Permits.{permit_cells}
-use Rattle.desk_store.specs.Representation.{RepresentsDesk, IsNumberOf}
-use Rattle.office_tables.specs.RowNumbers.{AreCounted, AreByNumber, HasNumbered}
 use Rattle.office_tables.specs.Schema as tables
-use Rattle.office_tables.proofs.numbered.OwnNumbers.{still_numbered}
+use Rattle.desk_store.proofs.Common.{AllByRecursion, AreByNumber, AreCounted, Database, Desk, HasNumbered, HoldingRow, IsNumberOf, OnlyTouches, OrderRow, PermitRow, ReaderRow, RepresentsDesk, RunLineRow, RunRow, SeatRow, holding_cells, most_orders, most_runs, most_tickets, order_cells, permit_cells, reader_cells, run_cells, run_line_cells, seat_cells, still_numbered}
 use Rattle.desk_store.proofs.NumbersOf.{widened}
 
 module _ (old new : Database) (d : Desk) (shown : RepresentsDesk old.trees d) where
-  pub with_readers : (xs : List ReaderRow) → OnlyTouches (tables.reader.tree ∷ []) old new → new.trees tables.reader.tree ≡ map reader_cells xs → AreCounted (λ (r : ReaderRow). r.ticket) xs → length xs ≤ most_tickets → length d.readers ≤ length xs
+  pub with_readers : (xs : List ReaderRow) → OnlyTouches (tables.reader.tree ∷ []) old new
+      → new.trees tables.reader.tree ≡ map reader_cells xs → AreCounted (λ (r : ReaderRow). r.ticket) xs
+      → length xs ≤ most_tickets → length d.readers ≤ length xs
       → RepresentsDesk new.trees (record d { readers = xs })
   with_readers xs only are counted few more = record {
     readers = are;
@@ -36,7 +29,9 @@ module _ (old new : Database) (d : Desk) (shown : RepresentsDesk old.trees d) wh
     permit_tickets = widened (λ (p : PermitRow). p.ticket) d.readers xs more d.permits shown.permit_tickets;
   }
 
-  pub with_seats : (xs : List SeatRow) → OnlyTouches (tables.seat.tree ∷ []) old new → new.trees tables.seat.tree ≡ map seat_cells xs → AreByNumber (λ (s : SeatRow). s.seat) xs → RepresentsDesk new.trees (record d { seats = xs })
+  pub with_seats : (xs : List SeatRow) → OnlyTouches (tables.seat.tree ∷ []) old new
+      → new.trees tables.seat.tree ≡ map seat_cells xs → AreByNumber (λ (s : SeatRow). s.seat) xs
+      → RepresentsDesk new.trees (record d { seats = xs })
   with_seats xs only are rise = record {
     readers = only tables.reader.tree refl refl ∙ shown.readers;
     tickets = shown.tickets;
@@ -57,7 +52,9 @@ module _ (old new : Database) (d : Desk) (shown : RepresentsDesk old.trees d) wh
     permit_tickets = shown.permit_tickets;
   }
 
-  pub with_orders : (xs : List OrderRow) → OnlyTouches (tables.orders.tree ∷ []) old new → new.trees tables.orders.tree ≡ map order_cells xs → AreCounted (λ (o : OrderRow). o.id) xs → length xs ≤ most_orders → RepresentsDesk new.trees (record d { orders = xs })
+  pub with_orders : (xs : List OrderRow) → OnlyTouches (tables.orders.tree ∷ []) old new
+      → new.trees tables.orders.tree ≡ map order_cells xs → AreCounted (λ (o : OrderRow). o.id) xs
+      → length xs ≤ most_orders → RepresentsDesk new.trees (record d { orders = xs })
   with_orders xs only are counted few = record {
     readers = only tables.reader.tree refl refl ∙ shown.readers;
     tickets = shown.tickets;
@@ -78,7 +75,9 @@ module _ (old new : Database) (d : Desk) (shown : RepresentsDesk old.trees d) wh
     permit_tickets = shown.permit_tickets;
   }
 
-  pub with_holdings : (xs : List HoldingRow) → OnlyTouches (tables.holding.tree ∷ []) old new → new.trees tables.holding.tree ≡ map holding_cells xs → AreByNumber (λ (h : HoldingRow). h.container) xs → RepresentsDesk new.trees (record d { holdings = xs })
+  pub with_holdings : (xs : List HoldingRow) → OnlyTouches (tables.holding.tree ∷ []) old new
+      → new.trees tables.holding.tree ≡ map holding_cells xs → AreByNumber (λ (h : HoldingRow). h.container) xs
+      → RepresentsDesk new.trees (record d { holdings = xs })
   with_holdings xs only are rise = record {
     readers = only tables.reader.tree refl refl ∙ shown.readers;
     tickets = shown.tickets;
@@ -99,8 +98,12 @@ module _ (old new : Database) (d : Desk) (shown : RepresentsDesk old.trees d) wh
     permit_tickets = shown.permit_tickets;
   }
 
-  pub with_runs : (xs : List RunRow) (ls : List RunLineRow) → OnlyTouches (tables.run.tree ∷ tables.run_line.tree ∷ []) old new → new.trees tables.run.tree ≡ map run_cells xs → AreCounted (λ (r : RunRow). r.id) xs → length xs ≤ most_runs → HasNumbered run_line_cells (new.trees tables.run_line.tree) ls
-      → AllByRecursion (λ (l : RunLineRow). IsNumberOf xs l.run) ls → RepresentsDesk new.trees (record d { runs = xs; run_lines = ls })
+  pub with_runs : (xs : List RunRow) (ls : List RunLineRow)
+      → OnlyTouches (tables.run.tree ∷ tables.run_line.tree ∷ []) old new → new.trees tables.run.tree ≡ map run_cells xs
+      → AreCounted (λ (r : RunRow). r.id) xs → length xs ≤ most_runs
+      → HasNumbered run_line_cells (new.trees tables.run_line.tree) ls
+      → AllByRecursion (λ (l : RunLineRow). IsNumberOf xs l.run) ls
+      → RepresentsDesk new.trees (record d { runs = xs; run_lines = ls })
   with_runs xs ls only are counted few lines of_runs = record {
     readers = only tables.reader.tree refl refl ∙ shown.readers;
     tickets = shown.tickets;
@@ -121,7 +124,10 @@ module _ (old new : Database) (d : Desk) (shown : RepresentsDesk old.trees d) wh
     permit_tickets = shown.permit_tickets;
   }
 
-  pub with_permits : (xs : List PermitRow) → OnlyTouches (tables.permit.tree ∷ []) old new → HasNumbered permit_cells (new.trees tables.permit.tree) xs → AllByRecursion (λ (p : PermitRow). IsNumberOf d.readers p.ticket) xs → RepresentsDesk new.trees (record d { permits = xs })
+  pub with_permits : (xs : List PermitRow) → OnlyTouches (tables.permit.tree ∷ []) old new
+      → HasNumbered permit_cells (new.trees tables.permit.tree) xs
+      → AllByRecursion (λ (p : PermitRow). IsNumberOf d.readers p.ticket) xs
+      → RepresentsDesk new.trees (record d { permits = xs })
   with_permits xs only has of_tickets = record {
     readers = only tables.reader.tree refl refl ∙ shown.readers;
     tickets = shown.tickets;

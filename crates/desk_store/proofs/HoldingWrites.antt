@@ -1,66 +1,18 @@
 -- The statements that change the rows of holdings: what their texts mean, what they leave, and why they fail; and what that is on the whole desk.
 use Rattle.std.proofs.Common.{◌≡◌, ℕ, pos, List, [], ◌∷◌, map, filter, codes, true, false, not, Option, Some, None, Ok, Result, OnOk, IfErr, nat_eq, refl, ap, ◌∙◌}
-use Rattle.std.specs.Prelude.{⊤, option_map}
-use Rattle.std.proofs.Math.Nat.{le_refl}
 use Rattle.std.proofs.lemmas.Map.Views.{any-filter_same}
-use Rattle.std.specs.List.{list_any}
-use Rattle.sqlite.specs.declared.types.Value.TheVariants.{Null, Int}
-use Rattle.sqlite.specs.Order.{Row}
-use Rattle.sqlite.specs.Edit.{edit_of}
-use Rattle.sqlite.specs.Effect.{value_rows}
-use Rattle.sqlite.specs.Held.{Held, state}
-use Rattle.sqlite.specs.Rowids.TheVariants.{Chosen}
-use Rattle.sqlite.specs.Term.{Term, lit, col, op2}
-use Rattle.sqlite.specs.Collation.TheVariants.{Binary}
-use Rattle.sqlite.specs.Command.{Command}
-use Rattle.sqlite.specs.Command.TheVariants.{Insert, Delete}
-use Rattle.sqlite.specs.Source.TheVariants.{Values}
 use Rattle.sqlite.specs.Listing.{understood}
-use Rattle.sqlite.specs.State.{State, IsLive, HasCleanDisk}
-use Rattle.sqlite.specs.Tree.{Trees, put_row}
-use Rattle.sqlite.specs.Values.{or_null}
 use Rattle.sqlite_schema.specs.Names.{same_name}
-use Rattle.sqlite_schema.specs.Rules.{references_fit}
-use Rattle.sqlite_sql.specs.declared.ops.BinaryOp.TheVariants.{Compare}
-use Rattle.sqlite_sql.specs.declared.ops.CompareOp.TheVariants.{Eq}
 use Rattle.sqlite_tied.specs.Compute.{everything}
-use Rattle.sqlite_trees.proofs.ListLemmas.{ascending-filter}
 use Rattle.sqlite_trees.specs.declared.store.Store as store
 use Rattle.sqlite_typing.specs.Types.{accepts_terms}
 use Rattle.sqlite_rules.specs.Steps.{is_typed}
 use Rattle.sqlite_value.specs.Keys.{joined}
-use Rattle.office_tables.specs.Versions.{Version}
-use Rattle.desk_core.specs.DeskRows.{Desk, HoldingRow}
-use Rattle.desk_core.specs.declared.reader.Place.TheVariants.{Shelf}
-use Rattle.office_tables.specs.Calls.{StoreUpdates}
-use Rattle.office_tables.specs.ChangeStatement.{Leaves, Ran}
-use Rattle.office_tables.specs.Faults.{FaultsHaveCause, IsUnlimited, HasCause}
-use Rattle.office_tables.specs.StatementMeaning.{Means}
-use Rattle.office_tables.specs.Schema.{schema, holding}
 use Rattle.office_tables.specs.Schema as tables
-use Rattle.office_tables.specs.Step.{Goes, Holds, HasRows, OnlyTouches, PutsRow}
-use Rattle.office_tables.specs.declared.fault.StoreFault.{StoreFault}
-use Rattle.desk_store.specs.Holdings.{put_down, with_place}
-use Rattle.desk_store.specs.Rows.{holding_cells}
-use Rattle.desk_store.specs.Representation.{RepresentsDesk, RepresentsDeskAlone, IsLegible}
-use Rattle.office_tables.specs.RowNumbers.{AreByNumber}
-use Rattle.office_tables.proofs.Calls.{early, goes_then, cut_then, on_ok_then, on_err_then}
-use Rattle.office_tables.proofs.Casts.{cast_int, cast_null, cast_maybe}
-use Rattle.office_tables.proofs.Causes.{still_unlimited}
-use Rattle.office_tables.proofs.Queries.{choosing}
-use Rattle.office_tables.proofs.statements.DeleteOf.{delete_leaves, delete_faults}
-use Rattle.office_tables.proofs.InsertCauses.{IsWelcome}
-use Rattle.office_tables.proofs.statements.InsertOf.{insert_puts, insert_faults}
-use Rattle.office_tables.proofs.LaterCauses.{last_cause}
-use Rattle.office_tables.proofs.Puts.{put_rows, put_rises}
 use Rattle.office_tables.proofs.Steps.{is_referred_to}
-use Rattle.office_tables.proofs.Tests.{only, same_number}
-use Rattle.office_tables.proofs.Touching.{touched_again}
-use Rattle.desk_store.proofs.Frames.{with_holdings}
-use Rattle.office_tables.proofs.statements.OnlyOf.{delete_only}
 use Rattle.office_tables.proofs.numbered.PutAgain.{put_gone}
-use Rattle.office_tables.proofs.statements.WelcomeOf.{number_welcome}
-use Rattle.office_tables.proofs.Sparing.{untouched_last, last_touched}
+use Rattle.desk_store.proofs.Common.{AreByNumber, Binary, Chosen, Command, Compare, Delete, Desk, Eq, FaultsHaveCause, Goes, HasCause, HasCleanDisk, HasRows, Held, HoldingRow, Holds, Insert, Int, IsLegible, IsLive, IsUnlimited, IsWelcome, Leaves, Means, Null, OnlyTouches, PutsRow, Ran, RepresentsDesk, RepresentsDeskAlone, Row, Shelf, State, StoreFault, StoreUpdates, Term, Trees, Values, Version, ascending-filter, cast_int, cast_maybe, cast_null, choosing, col, cut_then, delete_faults, delete_leaves, delete_only, early, edit_of, goes_then, holding, holding_cells, insert_faults, insert_puts, last_cause, last_touched, le_refl, list_any, lit, number_welcome, on_err_then, on_ok_then, only, op2, option_map, or_null, put_down, put_rises, put_row, put_rows, references_fit, same_number, schema, state, still_unlimited, touched_again, untouched_last, value_rows, with_place, ⊤}
+use Rattle.desk_store.proofs.Frames.{with_holdings}
 
 -- ---- a container has no row any more
 
@@ -86,7 +38,8 @@ unfolding joined same_name
 holding_fits v = refl
 
 module _ (old new : State) (n : ℕ) (v : Version) (has : old.now.schema ≡ schema v) (r : Result Unit StoreFault) (ran : Ran clear_holding_text (Int (pos n) ∷ []) old new r) where
-  pub clear_holding_leaves : (xs : List HoldingRow) → Holds holding holding_cells old xs → AreByNumber (λ (h : HoldingRow). h.container) xs
+  pub clear_holding_leaves : (xs : List HoldingRow) → Holds holding holding_cells old xs
+      → AreByNumber (λ (h : HoldingRow). h.container) xs
       → OnOk r (HasRows tables.holding.tree (map holding_cells (filter (λ (h : HoldingRow). not (nat_eq n h.container)) xs)) old.now new.now)
   clear_holding_leaves xs stored up =
       delete_leaves v 3 holding refl (holding_unreferred v) clear_holding_text with_its_number (col 1 0 ∷ []) (Int (pos n) ∷ []) (clear_holding_means v) old new has holding_cells (λ h. pos h.container) (λ _. refl) xs stored up
@@ -114,11 +67,13 @@ pub insert_holding_means : (v : Version) → Means v insert_holding_text 3 inser
 unfolding understood everything
 insert_holding_means v = record { is = refl; plain = (refl, refl); whole = (le_refl _, refl, refl); unlisted = refl }
 
-holding_typed : (c p : ℕ) (o : Option ℕ) → is_typed holding (holding_cells (record { container = c; place = p; held_by = o })) ≡ true
+holding_typed : (c p : ℕ) (o : Option ℕ)
+    → is_typed holding (holding_cells (record { container = c; place = p; held_by = o })) ≡ true
 holding_typed c p None = refl
 holding_typed c p (Some o) = refl
 
-holding_welcome : (c p : ℕ) (o : Option ℕ) (xs : List HoldingRow) (v : Version) (db : Trees) → db tables.holding.tree ≡ map holding_cells xs → list_any (λ (x : HoldingRow). nat_eq c x.container) xs ≡ false
+holding_welcome : (c p : ℕ) (o : Option ℕ) (xs : List HoldingRow) (v : Version) (db : Trees)
+    → db tables.holding.tree ≡ map holding_cells xs → list_any (λ (x : HoldingRow). nat_eq c x.container) xs ≡ false
     → IsWelcome (schema v) db holding (holding_cells (record { container = c; place = p; held_by = o }))
 holding_welcome c p o xs v db stored none =
     number_welcome v holding holding_cells (λ x. x.container) (λ _. refl) (record { container = c; place = p; held_by = o }) xs db stored none refl
@@ -134,13 +89,15 @@ module _ (old new : State) (c p : ℕ) (o : Option ℕ) (v : Version) (has : old
   news : (edit_of old.now.trees holding [] Chosen 0 (value_rows params 4 1 insert_holding_terms)).news ≡ holding_cells h ∷ []
   news = rw (cast_int (pos c), cast_null, cast_int (pos p), cast_maybe (option_map pos o)) refl
 
-  pub insert_holding_puts : (r : Result Unit StoreFault) → Ran insert_holding_text params old new r → OnOk r (PutsRow tables.holding.tree (holding_cells h) old.now new.now)
+  pub insert_holding_puts : (r : Result Unit StoreFault) → Ran insert_holding_text params old new r
+      → OnOk r (PutsRow tables.holding.tree (holding_cells h) old.now new.now)
   insert_holding_puts = insert_puts v 3 holding refl insert_holding_text insert_holding_terms 4 params (insert_holding_means v) old new has (holding_cells h) news
 
   values_type : accepts_terms insert_holding_terms params ≡ true
   values_type = elim o as (λ o. accepts_terms insert_holding_terms (Int (pos c) ∷ Int (pos p) ∷ or_null Int (option_map pos o) ∷ []) ≡ true) [ None ↦ refl | Some x ↦ refl ]
 
-  pub insert_holding_faults : (xs : List HoldingRow) → Holds holding holding_cells old xs → list_any (λ (x : HoldingRow). nat_eq c x.container) xs ≡ false → IsUnlimited old → IsLive old
+  pub insert_holding_faults : (xs : List HoldingRow) → Holds holding holding_cells old xs
+      → list_any (λ (x : HoldingRow). nat_eq c x.container) xs ≡ false → IsUnlimited old → IsLive old
       → (r : Result Unit StoreFault) → Ran insert_holding_text params old new r → IfErr r (HasCause old new)
   insert_holding_faults xs stored none =
       insert_faults v 3 holding refl insert_holding_text insert_holding_terms 4 params (insert_holding_means v) old new has (holding_cells h) news values_type (holding_welcome c p o xs v old.now.trees stored none)
@@ -150,7 +107,8 @@ module _ (old new : State) (c p : ℕ) (o : Option ℕ) (v : Version) (has : old
 abbrev without : ℕ → List HoldingRow → List HoldingRow
 without n xs = filter (λ (h : HoldingRow). not (nat_eq n h.container)) xs
 
-none_without : (n : ℕ) (xs : List HoldingRow) → list_any (λ (h : HoldingRow). nat_eq n h.container) (without n xs) ≡ false
+none_without : (n : ℕ) (xs : List HoldingRow)
+    → list_any (λ (h : HoldingRow). nat_eq n h.container) (without n xs) ≡ false
 none_without n xs = any-filter_same (λ (h : HoldingRow). nat_eq n h.container) (λ (h : HoldingRow). not (nat_eq n h.container)) false (λ h is. ap not is) xs
 
 module _ {S : Type 0} (g : store.Ghosts S) (before mid : Held S) (n : ℕ) where
@@ -186,7 +144,9 @@ module _ {S : Type 0} (g : store.Ghosts S) (before mid : Held S) (n : ℕ) where
         back : HasCleanDisk z → HasCleanDisk b
         back = early b z _ leaves.crash
 
-        moved : HasCleanDisk z → PutsRow tables.holding.tree (holding_cells here) b.now z.now → (d : Desk) → RepresentsDesk a.now.trees d → RepresentsDesk z.now.trees (record d { holdings = put_down here d.holdings })
+        moved : HasCleanDisk z → PutsRow tables.holding.tree (holding_cells here) b.now z.now → (d : Desk)
+            → RepresentsDesk a.now.trees d
+            → RepresentsDesk z.now.trees (record d { holdings = put_down here d.holdings })
         moved clean put d shown =
             let has = rows (back clean) d.holdings shown.holdings shown.holdings_rise in
             with_holdings a.now z.now d shown (put_down here d.holdings) (touched_again (tables.holding.tree ∷ []) a.now b.now z.now has.only put.only)

@@ -1,3 +1,4 @@
+pub mod Common
 pub mod Creations
 pub mod SeatRows
 pub mod NumbersOf

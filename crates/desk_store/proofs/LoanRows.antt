@@ -1,39 +1,9 @@
 -- The statements that tell which containers are out, and with whom: what their texts mean, what they tell, and why they fail.
 use Rattle.std.proofs.Common.{◌≡◌, ℕ, pos, List, [], ◌∷◌, map, filter, codes, true, nat_eq, Result, IfOk, IfErr, refl}
-use Rattle.std.specs.Prelude.{⊤, option_map}
-use Rattle.std.proofs.Math.Nat.{le_refl}
-use Rattle.std.specs.Cmp.{IsTotalOrder, on_total, int_cmp_total}
-use Rattle.std.specs.Ordering.{int_cmp}
 use Rattle.std.specs.declared.cmp.Ordering.{Ordering}
-use Rattle.sqlite.specs.declared.types.Value.TheVariants.{Int}
-use Rattle.sqlite.specs.Order.{Row}
-use Rattle.sqlite.specs.Term.{Term, col, op2}
-use Rattle.sqlite.specs.Collation.TheVariants.{Binary}
-use Rattle.sqlite.specs.Command.{Command}
-use Rattle.sqlite.specs.Command.TheVariants.{Select}
 use Rattle.sqlite.specs.Listing.{understood}
-use Rattle.sqlite.specs.State.{State}
-use Rattle.sqlite.specs.Values.{or_null}
-use Rattle.sqlite_sql.specs.declared.ops.BinaryOp.TheVariants.{Compare}
-use Rattle.sqlite_sql.specs.declared.ops.CompareOp.TheVariants.{Eq}
 use Rattle.sqlite_tied.specs.Compute.{everything}
-use Rattle.sqlite_value.specs.declared.keys.Key.{Key}
-use Rattle.sqlite_value.specs.Keys.{ascending}
-use Rattle.sqlite_trees.proofs.ListLemmas.{all_of}
-use Rattle.office_tables.specs.Versions.{Version}
-use Rattle.desk_core.specs.DeskRows.{HoldingRow, OrderRow}
-use Rattle.office_tables.specs.Query.{Finds, Misses}
-use Rattle.office_tables.specs.Faults.{IsUnlimited, HasCause}
-use Rattle.office_tables.specs.StatementMeaning.{Means}
-use Rattle.office_tables.specs.Order.{IsOrdered}
-use Rattle.office_tables.specs.Schema.{schema, holding, orders}
-use Rattle.office_tables.specs.Step.{Holds}
-use Rattle.office_tables.specs.declared.fault.StoreFault.{StoreFault}
-use Rattle.office_tables.proofs.Queries.{asking}
-use Rattle.office_tables.proofs.statements.SelectOf.{select_finds, select_faults}
-use Rattle.office_tables.proofs.Tests.{only, same_number, by_one_int}
-use Rattle.desk_store.specs.Rows.{holding_cells, order_cells}
-use Rattle.desk_store.specs.declared.loans.HoldingLine.{HoldingLine}
+use Rattle.desk_store.proofs.Common.{Binary, Command, Compare, Eq, Finds, HasCause, HoldingLine, HoldingRow, Holds, Int, IsOrdered, IsTotalOrder, IsUnlimited, Key, Means, Misses, OrderRow, Row, Select, State, StoreFault, Term, Version, all_of, ascending, asking, by_one_int, col, holding, holding_cells, int_cmp, int_cmp_total, le_refl, on_total, only, op2, option_map, or_null, order_cells, orders, same_number, schema, select_faults, select_finds, ⊤}
 use Rattle.desk_store.proofs.CardRows.{by_order}
 
 abbrev in_order : List (Term × Key)
@@ -70,13 +40,15 @@ unfolding understood everything
 lines_means v = record { is = refl; plain = (refl, refl); whole = (le_refl _, refl, refl); unlisted = refl }
 
 module _ (old new : State) (v : Version) (has : old.now.schema ≡ schema v) (xs : List HoldingRow) (stored : Holds holding holding_cells old xs) {X : Type 0} (items : X → List HoldingLine) (r : Result X StoreFault) where
-  pub lines_finds : IfOk r (λ found. Finds line_cells lines_text [] old new (items found)) → IfOk r (λ found. (ys : List HoldingRow) × IsOrdered by_container (filter (λ _. true) xs) ys × (items found ≡ map line_of ys))
+  pub lines_finds : IfOk r (λ found. Finds line_cells lines_text [] old new (items found))
+      → IfOk r (λ found. (ys : List HoldingRow) × IsOrdered by_container (filter (λ _. true) xs) ys × (items found ≡ map line_of ys))
   lines_finds =
       select_finds v holding lines_text [] line_columns in_order line_names [] (lines_means v) old new has holding_cells xs stored
       (λ _. true) (λ _. refl) (λ h. line_cells (line_of h)) (λ (h : HoldingRow). Int (pos h.container) ∷ []) (λ _. refl) by_container (λ _. refl) (λ a b. by_one_int (pos a.container) (pos b.container))
       line_cells items line_of (λ _. refl) r
 
-  pub lines_faults : IsUnlimited old → IfErr r (Misses line_cells (λ _. ⊤) lines_text [] old new) → IfErr r (HasCause old new)
+  pub lines_faults : IsUnlimited old → IfErr r (Misses line_cells (λ _. ⊤) lines_text [] old new)
+      → IfErr r (HasCause old new)
   lines_faults free =
       select_faults v holding lines_text [] line_columns in_order line_names [] (lines_means v) old new has holding_cells xs stored
       (λ _. true) (λ _. refl) (λ h. line_cells (line_of h)) (λ (h : HoldingRow). Int (pos h.container) ∷ []) (λ _. refl) by_container (λ _. refl) (λ a b. by_one_int (pos a.container) (pos b.container))
@@ -108,7 +80,8 @@ module _ (old new : State) (n : ℕ) (v : Version) (has : old.now.schema ≡ sch
       (λ (o : OrderRow). nat_eq n o.id) (λ o. only (same_number o.id n)) (λ o. ticket_cells o.ticket) (λ (o : OrderRow). Int (pos o.id) ∷ []) (λ _. refl) by_order (λ _. refl) (λ a b. by_one_int (pos a.id) (pos b.id))
       ticket_cells items (λ (o : OrderRow). o.ticket) (λ _. refl) r
 
-  pub tickets_faults : IsUnlimited old → IfErr r (Misses ticket_cells (λ _. ⊤) tickets_text (Int (pos n) ∷ []) old new) → IfErr r (HasCause old new)
+  pub tickets_faults : IsUnlimited old → IfErr r (Misses ticket_cells (λ _. ⊤) tickets_text (Int (pos n) ∷ []) old new)
+      → IfErr r (HasCause old new)
   tickets_faults free =
       select_faults v orders tickets_text with_its_number (col 1 2 ∷ []) in_order (codes "ticket" ∷ []) (Int (pos n) ∷ []) (tickets_means v) old new has order_cells xs stored
       (λ (o : OrderRow). nat_eq n o.id) (λ o. only (same_number o.id n)) (λ o. ticket_cells o.ticket) (λ (o : OrderRow). Int (pos o.id) ∷ []) (λ _. refl) by_order (λ _. refl) (λ a b. by_one_int (pos a.id) (pos b.id))

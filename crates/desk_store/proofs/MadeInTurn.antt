@@ -1,31 +1,17 @@
 -- Two calls that change the desk, one after the other; and that what they make can be read back.
 use Rattle.std.proofs.Common.{◌≡◌, ℕ, ◌≤◌, pos, Bool, true, false, not, cond, nat_eq, List, [], ◌∷◌, filter, Some, None, Ok, Err, Result, Less, Equal, Greater, inr, refl, arith}
 use Rattle.std.specs.Prelude.{OnErr, OnOk}
-use Rattle.std.specs.List.{AllByRecursion, list_all, list_any}
-use Rattle.std.specs.Ordering.{int_cmp, match_ordering}
-use Rattle.sqlite.specs.Held.{Held, state}
-use Rattle.sqlite.specs.State.{State, Survives}
 use Rattle.sqlite_trees.specs.declared.store.Store as store
-use Rattle.isad_core.specs.Limits.{IsNumber}
-use Rattle.desk_core.specs.DeskRows.{Desk, HoldingRow, OrderRow, with_state}
 use Rattle.desk_core.specs.LegibleDesks.{IsLegibleHolding, IsLegibleOrder}
-use Rattle.desk_core.specs.declared.reader.Place.{Place}
-use Rattle.desk_core.specs.declared.reader.Place.TheVariants.{Shelf, Desk as AtTheDesk, Out}
-use Rattle.desk_store.specs.Holdings.{placed_at, put_down, with_place}
-use Rattle.desk_store.specs.Orders.{state_number, with_order_state}
-use Rattle.desk_store.specs.Representation.{IsLegible, RepresentsDeskAlone}
+use Rattle.desk_core.specs.declared.reader.Place.TheVariants.{Desk as AtTheDesk}
 use Rattle.desk_store.specs.declared.orders.OrderState.{OrderState}
 use Rattle.desk_store.specs.declared.orders.OrderState.TheVariants.{Waiting, «Out» as WithReader, Done, Cancelled}
-use Rattle.office_tables.specs.Calls.{Updates}
-use Rattle.office_tables.specs.Step.{Goes, IsAborted}
-use Rattle.office_tables.specs.declared.fault.StoreFault.{StoreFault}
-use Rattle.office_tables.proofs.CallEnds.{excused_then}
-use Rattle.office_tables.proofs.Calls.{cut_then, early, goes_then, on_err_then, on_ok_then}
-use Rattle.office_tables.proofs.Touching.{touched_again, touched_wider}
+use Rattle.desk_store.proofs.Common.{AllByRecursion, Desk, Goes, Held, HoldingRow, IsAborted, IsLegible, IsNumber, OrderRow, Out, Place, RepresentsDeskAlone, Shelf, State, StoreFault, Survives, Updates, cut_then, early, excused_then, goes_then, int_cmp, list_all, list_any, match_ordering, on_err_then, on_ok_then, placed_at, put_down, state, state_number, touched_again, touched_wider, with_order_state, with_place, with_state}
 
 -- ---- one call, and then another
 
-went : {X E : Type 0} (r : Result X E) (a b : State) → OnOk r (Goes a b) → OnErr r (IsAborted a b) → Survives a b (λ _. ⊥)
+went : {X E : Type 0} (r : Result X E) (a b : State) → OnOk r (Goes a b) → OnErr r (IsAborted a b)
+    → Survives a b (λ _. ⊥)
 went (Ok x) a b goes cut = goes.on.crash
 went (Err e) a b goes cut = cut.crash
 
@@ -39,7 +25,8 @@ module _ {S X Y : Type 0} (g : store.Ghosts S) (before mid after : Held S) (done
   abbrev c : State
   c = state g after
 
-  pub makes_then : Updates g RepresentsDeskAlone IsLegible before mid (Ok done) may first one → Updates g RepresentsDeskAlone IsLegible mid after r later second two
+  pub makes_then : Updates g RepresentsDeskAlone IsLegible before mid (Ok done) may first one
+      → Updates g RepresentsDeskAlone IsLegible mid after r later second two
       → ((d : Desk) → may d → later (first d)) → ((d : Desk) → IsLegible d → IsLegible (first d))
       → list_all (λ t. list_any (nat_eq t) touched) one ≡ true → list_all (λ t. list_any (nat_eq t) touched) two ≡ true
       → Updates g RepresentsDeskAlone IsLegible before after r may (λ d. second (first d)) touched
@@ -63,7 +50,8 @@ one_of WithReader = (omega arith, omega arith)
 one_of Done = (omega arith, omega arith)
 one_of Cancelled = (omega arith, omega arith)
 
-orders_kept : (o : ℕ) (k : OrderState) (rows : List OrderRow) → AllByRecursion IsLegibleOrder rows → AllByRecursion IsLegibleOrder (with_state o (state_number k) rows)
+orders_kept : (o : ℕ) (k : OrderState) (rows : List OrderRow) → AllByRecursion IsLegibleOrder rows
+    → AllByRecursion IsLegibleOrder (with_state o (state_number k) rows)
 orders_kept o k [] h = tt
 orders_kept o k (row ∷ rows) h = (at (nat_eq row.id o), orders_kept o k rows h.1)
   where
@@ -82,7 +70,8 @@ legible_state o k d it = record {
   permits = it.permits;
 }
 
-put_kept : (new : HoldingRow) (rows : List HoldingRow) → IsLegibleHolding new → AllByRecursion IsLegibleHolding rows → AllByRecursion IsLegibleHolding (put_down new rows)
+put_kept : (new : HoldingRow) (rows : List HoldingRow) → IsLegibleHolding new → AllByRecursion IsLegibleHolding rows
+    → AllByRecursion IsLegibleHolding (put_down new rows)
 put_kept new [] good h = (good, tt)
 put_kept new (row ∷ rows) good h =
     elim (int_cmp (pos row.container) (pos new.container)) as (λ o. AllByRecursion IsLegibleHolding (match_ordering o (row ∷ put_down new rows) (new ∷ rows) (new ∷ row ∷ rows))) [
@@ -91,18 +80,24 @@ put_kept new (row ∷ rows) good h =
       | Greater ↦ (good, h)
     ]
 
-kept_or_gone : (b : Bool) (row : HoldingRow) (rows : List HoldingRow) → IsLegibleHolding row → AllByRecursion IsLegibleHolding rows → AllByRecursion IsLegibleHolding (cond b (row ∷ rows) rows)
+kept_or_gone : (b : Bool) (row : HoldingRow) (rows : List HoldingRow) → IsLegibleHolding row
+    → AllByRecursion IsLegibleHolding rows → AllByRecursion IsLegibleHolding (cond b (row ∷ rows) rows)
 kept_or_gone true row rows good h = (good, h)
 kept_or_gone false row rows good h = h
 
-rest_kept : (c : ℕ) (rows : List HoldingRow) → AllByRecursion IsLegibleHolding rows → AllByRecursion IsLegibleHolding (filter (λ h. not (nat_eq c h.container)) rows)
+rest_kept : (c : ℕ) (rows : List HoldingRow) → AllByRecursion IsLegibleHolding rows
+    → AllByRecursion IsLegibleHolding (filter (λ h. not (nat_eq c h.container)) rows)
 rest_kept c [] h = tt
-rest_kept c (row ∷ rows) h = kept_or_gone (not (nat_eq c row.container)) row (filter (λ h. not (nat_eq c h.container)) rows) h.0 (rest_kept c rows h.1)
+rest_kept c (row ∷ rows) h =
+    kept_or_gone (not (nat_eq c row.container)) row (filter (λ h. not (nat_eq c h.container)) rows) h.0 (rest_kept c rows h.1)
 
-holdings_kept : (c : ℕ) (place : Place) (rows : List HoldingRow) → IsNumber c → AllByRecursion IsLegibleHolding rows → AllByRecursion IsLegibleHolding (placed_at c place rows)
+holdings_kept : (c : ℕ) (place : Place) (rows : List HoldingRow) → IsNumber c → AllByRecursion IsLegibleHolding rows
+    → AllByRecursion IsLegibleHolding (placed_at c place rows)
 holdings_kept c Shelf rows number h = rest_kept c rows h
-holdings_kept c AtTheDesk rows number h = put_kept (record { container = c; place = 1; held_by = None }) rows (record { number = number; place = refl }) h
-holdings_kept c (Out o) rows number h = put_kept (record { container = c; place = 2; held_by = Some o }) rows (record { number = number; place = inr refl }) h
+holdings_kept c AtTheDesk rows number h =
+    put_kept (record { container = c; place = 1; held_by = None }) rows (record { number = number; place = refl }) h
+holdings_kept c (Out o) rows number h =
+    put_kept (record { container = c; place = 2; held_by = Some o }) rows (record { number = number; place = inr refl }) h
 
 -- a container in another place
 pub legible_place : (c : ℕ) (place : Place) (d : Desk) → IsNumber c → IsLegible d → IsLegible (with_place c place d)

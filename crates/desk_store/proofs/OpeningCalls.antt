@@ -1,34 +1,14 @@
 -- A new day, on the whole desk and the office's row: first all seats become free, then the day is written.
 use Rattle.std.proofs.Common.{ℤ, List, [], ◌∷◌, Result, Err, OnOk, refl, ◌∙◌}
-use Rattle.std.specs.Prelude.{⊤}
-use Rattle.sqlite.specs.Effect.{Database}
-use Rattle.sqlite.specs.Held.{Held, state}
-use Rattle.sqlite.specs.State.{State, HasCleanDisk}
 use Rattle.sqlite_trees.specs.declared.store.Store as store
-use Rattle.desk_core.specs.DeskRows.{Desk, SeatRow}
-use Rattle.office_tables.specs.Calls.{StoreUpdates}
-use Rattle.office_tables.specs.ChangeStatement.{Leaves}
-use Rattle.office_tables.specs.Faults.{FaultsHaveCause}
-use Rattle.office_tables.specs.Schema.{seat, office}
 use Rattle.office_tables.specs.Schema as tables
-use Rattle.office_tables.specs.SharedRows.{OfficeRow, office_cells}
-use Rattle.office_tables.specs.Step.{Goes, Holds, HasRows, OnlyTouches}
-use Rattle.office_tables.specs.declared.fault.StoreFault.{StoreFault}
-use Rattle.office_tables.proofs.Calls.{early, goes_then, cut_then, on_ok_then, on_err_then}
-use Rattle.office_tables.proofs.Causes.{still_unlimited}
-use Rattle.office_tables.proofs.LaterCauses.{last_cause}
-use Rattle.office_tables.proofs.Touching.{touched_again, touched_wider}
-use Rattle.office_tables.proofs.numbered.OwnNumbers.{still_numbered}
 use Rattle.desk_store.specs.OfficeDay.{RepresentsBoth, IsLegibleHouse, opened}
-use Rattle.desk_store.specs.Rows.{seat_cells, run_line_cells}
-use Rattle.office_tables.specs.Permits.{permit_cells}
-use Rattle.desk_store.specs.Representation.{RepresentsDesk}
-use Rattle.office_tables.specs.RowNumbers.{AreByNumber}
+use Rattle.desk_store.proofs.Common.{AreByNumber, Database, Desk, FaultsHaveCause, Goes, HasCleanDisk, HasRows, Held, Holds, Leaves, OfficeRow, OnlyTouches, RepresentsDesk, SeatRow, State, StoreFault, StoreUpdates, cut_then, early, goes_then, last_cause, last_touched, office, office_cells, on_err_then, on_ok_then, permit_cells, run_line_cells, seat, seat_cells, state, still_numbered, still_unlimited, touched_again, touched_wider, untouched, untouched_last, ⊤}
 use Rattle.desk_store.proofs.Frames.{with_seats}
-use Rattle.office_tables.proofs.Sparing.{untouched, untouched_last, last_touched}
 
 -- another row of the office is nothing to the desk
-same_desk : (old new : Database) (d : Desk) → OnlyTouches (tables.office.tree ∷ []) old new → RepresentsDesk old.trees d → RepresentsDesk new.trees d
+same_desk : (old new : Database) (d : Desk) → OnlyTouches (tables.office.tree ∷ []) old new → RepresentsDesk old.trees d
+    → RepresentsDesk new.trees d
 same_desk old new d only shown = record {
   readers = only tables.reader.tree refl refl ∙ shown.readers;
   tickets = shown.tickets;
@@ -57,7 +37,8 @@ module _ {S : Type 0} (g : store.Ghosts S) (before mid : Held S) (day : ℤ) whe
   b = state g mid
 
   -- the seats could not be freed
-  pub not_freed : (e : StoreFault) → Leaves {X = Unit} a b (Err e) → FaultsHaveCause {X = Unit} a b (Err e) → StoreUpdates {X = Unit} g RepresentsBoth IsLegibleHouse before mid (Err e) (λ _. ⊤) (opened day) (tables.seat.tree ∷ tables.office.tree ∷ [])
+  pub not_freed : (e : StoreFault) → Leaves {X = Unit} a b (Err e) → FaultsHaveCause {X = Unit} a b (Err e)
+      → StoreUpdates {X = Unit} g RepresentsBoth IsLegibleHouse before mid (Err e) (λ _. ⊤) (opened day) (tables.seat.tree ∷ tables.office.tree ∷ [])
   not_freed e leaves faults = record {
     represents_updated = λ clean beside house shown may. tt;
     only = λ clean. tt;
@@ -72,8 +53,10 @@ module _ {S : Type 0} (g : store.Ghosts S) (before mid : Held S) (day : ℤ) whe
     abbrev c : State
     c = state g after
 
-    pub opens : Leaves b c r → (HasCleanDisk c → (o : OfficeRow) → Holds office office_cells b (o ∷ []) → OnOk r (HasRows tables.office.tree (office_cells (record o { day = day }) ∷ []) b.now c.now))
-        → (HasCleanDisk c → OnOk r (OnlyTouches (tables.office.tree ∷ []) b.now c.now)) → ((o : OfficeRow) → Holds office office_cells b (o ∷ []) → FaultsHaveCause b c r)
+    pub opens : Leaves b c r
+        → (HasCleanDisk c → (o : OfficeRow) → Holds office office_cells b (o ∷ []) → OnOk r (HasRows tables.office.tree (office_cells (record o { day = day }) ∷ []) b.now c.now))
+        → (HasCleanDisk c → OnOk r (OnlyTouches (tables.office.tree ∷ []) b.now c.now))
+        → ((o : OfficeRow) → Holds office office_cells b (o ∷ []) → FaultsHaveCause b c r)
         → StoreUpdates g RepresentsBoth IsLegibleHouse before after r (λ _. ⊤) (opened day) (tables.seat.tree ∷ tables.office.tree ∷ [])
     opens leaves dated dates faults =
         let back = early b c _ leaves.crash in

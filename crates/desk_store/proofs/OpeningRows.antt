@@ -1,37 +1,9 @@
 -- The statements of a new day: what their texts mean, what they leave, and why they fail.
 use Rattle.std.proofs.Common.{◌≡◌, ℕ, ℤ, pos, List, [], ◌∷◌, map, filter, drop, codes, true, false, Result, OnOk, IfErr, refl, subst}
-use Rattle.std.proofs.Math.Nat.{le_refl}
-use Rattle.sqlite.specs.declared.types.Value.TheVariants.{Null, Int}
-use Rattle.sqlite.specs.Order.{Row}
-use Rattle.sqlite.specs.Cast.{cast_row}
-use Rattle.sqlite.specs.Term.{Term, lit, col, op2}
-use Rattle.sqlite.specs.Collation.TheVariants.{Binary}
-use Rattle.sqlite.specs.Command.{Command}
-use Rattle.sqlite.specs.Command.TheVariants.{Update, Delete}
 use Rattle.sqlite.specs.Listing.{understood}
-use Rattle.sqlite.specs.State.{State, IsLive}
-use Rattle.sqlite_sql.specs.declared.ops.BinaryOp.TheVariants.{Compare}
-use Rattle.sqlite_sql.specs.declared.ops.CompareOp.TheVariants.{Eq}
 use Rattle.sqlite_tied.specs.Compute.{everything}
-use Rattle.office_tables.specs.Versions.{Version}
-use Rattle.desk_core.specs.DeskRows.{SeatRow}
-use Rattle.office_tables.specs.ChangeStatement.{Ran}
-use Rattle.office_tables.specs.Faults.{IsUnlimited, HasCause}
-use Rattle.office_tables.specs.StatementMeaning.{Means}
-use Rattle.office_tables.specs.Schema.{schema, seat, office}
 use Rattle.office_tables.specs.Schema as tables
-use Rattle.office_tables.specs.SharedRows.{OfficeRow, office_cells}
-use Rattle.office_tables.specs.Step.{Holds, HasRows, OnlyTouches}
-use Rattle.office_tables.specs.declared.fault.StoreFault.{StoreFault}
-use Rattle.desk_store.specs.Rows.{seat_cells}
-use Rattle.office_tables.specs.RowNumbers.{AreByNumber}
-use Rattle.office_tables.proofs.Casts.{cast_int, cast_null}
-use Rattle.office_tables.proofs.Queries.{choosing}
-use Rattle.office_tables.proofs.statements.DeleteOf.{delete_leaves, delete_faults}
-use Rattle.office_tables.proofs.Tests.{only, same_number}
-use Rattle.office_tables.proofs.statements.UpdateOf.{update_leaves, update_faults}
-use Rattle.office_tables.proofs.statements.OnlyOf.{delete_only, update_only}
-use Rattle.office_tables.proofs.statements.LeafOf.{seat_alone, office_kept, seat_fits}
+use Rattle.desk_store.proofs.Common.{AreByNumber, Binary, Command, Compare, Delete, Eq, HasCause, HasRows, Holds, Int, IsLive, IsUnlimited, Means, Null, OfficeRow, OnlyTouches, Ran, Row, SeatRow, State, StoreFault, Term, Update, Version, cast_int, cast_null, cast_row, choosing, col, delete_faults, delete_leaves, delete_only, le_refl, lit, office, office_cells, office_kept, only, op2, same_number, schema, seat, seat_alone, seat_cells, seat_fits, update_faults, update_leaves, update_only}
 
 -- ---- all seats become free
 
@@ -50,7 +22,8 @@ none_kept [] = refl
 none_kept (x ∷ xs) = none_kept xs
 
 module _ (old new : State) (v : Version) (has : old.now.schema ≡ schema v) (r : Result Unit StoreFault) (ran : Ran free_text [] old new r) where
-  pub free_leaves : (xs : List SeatRow) → Holds seat seat_cells old xs → AreByNumber (λ (s : SeatRow). s.seat) xs → OnOk r (HasRows tables.seat.tree [] old.now new.now)
+  pub free_leaves : (xs : List SeatRow) → Holds seat seat_cells old xs → AreByNumber (λ (s : SeatRow). s.seat) xs
+      → OnOk r (HasRows tables.seat.tree [] old.now new.now)
   free_leaves xs stored up =
       subst (λ (kept : List SeatRow). OnOk r (HasRows tables.seat.tree (map seat_cells kept) old.now new.now)) (none_kept xs)
       (delete_leaves v 1 seat refl (seat_alone v) free_text [] (col 1 0 ∷ []) [] (free_means v) old new has seat_cells (λ s. pos s.seat) (λ _. refl) xs stored up

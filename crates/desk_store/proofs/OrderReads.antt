@@ -1,38 +1,11 @@
 -- The statement that finds an order: what its text means, what it tells, and why it fails.
 use Rattle.std.proofs.Common.{◌≡◌, ◌≤◌, ℕ, pos, List, [], ◌∷◌, map, filter, find, codes, true, false, Bool, cond, Option, Some, None, Result, IfOk, IfErr, nat_eq, refl, sym, ap, subst, ◌∙◌}
-use Rattle.std.proofs.Math.Nat.{le_refl}
-use Rattle.std.specs.Prelude.{option_map}
-use Rattle.std.specs.List.{AllByRecursion}
-use Rattle.sqlite.specs.declared.types.Value.TheVariants.{Int}
-use Rattle.sqlite.specs.Order.{Row}
-use Rattle.sqlite.specs.Term.{Term, col, op2}
-use Rattle.sqlite.specs.Collation.TheVariants.{Binary}
-use Rattle.sqlite.specs.Command.{Command}
-use Rattle.sqlite.specs.Command.TheVariants.{Select}
 use Rattle.sqlite.specs.Listing.{understood}
-use Rattle.sqlite.specs.State.{State}
-use Rattle.sqlite_sql.specs.declared.ops.BinaryOp.TheVariants.{Compare}
-use Rattle.sqlite_sql.specs.declared.ops.CompareOp.TheVariants.{Eq}
 use Rattle.sqlite_tied.specs.Compute.{everything}
-use Rattle.sqlite_trees.proofs.ListLemmas.{all_weaker}
-use Rattle.office_tables.specs.Versions.{Version}
-use Rattle.isad_core.specs.Days.{is_day_number}
-use Rattle.desk_core.specs.DeskRows.{OrderRow}
-use Rattle.office_tables.specs.Query.{Finds, Misses}
-use Rattle.office_tables.specs.Faults.{IsUnlimited, HasCause}
-use Rattle.office_tables.specs.StatementMeaning.{Means}
-use Rattle.office_tables.specs.Order.{IsOrdered}
-use Rattle.office_tables.specs.Schema.{schema, orders}
-use Rattle.office_tables.specs.Step.{Holds}
-use Rattle.office_tables.specs.declared.fault.StoreFault.{StoreFault}
-use Rattle.office_tables.proofs.Queries.{asking}
-use Rattle.office_tables.proofs.statements.SelectOf.{select_finds, select_faults}
-use Rattle.office_tables.proofs.Tests.{only, same_number, by_one_int}
-use Rattle.desk_store.specs.Orders.{state_number, IsThere}
-use Rattle.desk_store.specs.Rows.{order_cells}
 use Rattle.desk_store.specs.Representation.{IsLegibleOrder}
 use Rattle.desk_store.specs.declared.orders.OrderEntry.{OrderEntry}
 use Rattle.desk_store.specs.declared.orders.PlacedOrder.{PlacedOrder}
+use Rattle.desk_store.proofs.Common.{AllByRecursion, Binary, Command, Compare, Eq, Finds, HasCause, Holds, Int, IsOrdered, IsThere, IsUnlimited, Means, Misses, OrderRow, Row, Select, State, StoreFault, Term, Version, all_weaker, asking, by_one_int, col, is_day_number, le_refl, only, op2, option_map, order_cells, orders, same_number, schema, select_faults, select_finds, state_number}
 use Rattle.desk_store.proofs.CardRows.{by_order, in_order}
 
 abbrev pub entry_of : OrderRow → OrderEntry
@@ -64,13 +37,15 @@ unfolding understood everything
 find_order_means v = record { is = refl; plain = (refl, refl); whole = (le_refl _, refl, refl); unlisted = refl }
 
 module _ (old new : State) (n : ℕ) (v : Version) (has : old.now.schema ≡ schema v) (xs : List OrderRow) (stored : Holds orders order_cells old xs) {X : Type 0} (items : X → List OrderEntry) (r : Result X StoreFault) where
-  pub find_order_finds : IfOk r (λ found. Finds entry_cells find_order_text (Int (pos n) ∷ []) old new (items found)) → IfOk r (λ found. (ys : List OrderRow) × IsOrdered by_order (filter (λ (o : OrderRow). nat_eq n o.id) xs) ys × (items found ≡ map entry_of ys))
+  pub find_order_finds : IfOk r (λ found. Finds entry_cells find_order_text (Int (pos n) ∷ []) old new (items found))
+      → IfOk r (λ found. (ys : List OrderRow) × IsOrdered by_order (filter (λ (o : OrderRow). nat_eq n o.id) xs) ys × (items found ≡ map entry_of ys))
   find_order_finds =
       select_finds v orders find_order_text with_its_number entry_columns in_order entry_names (Int (pos n) ∷ []) (find_order_means v) old new has order_cells xs stored
       (λ (o : OrderRow). nat_eq n o.id) (λ o. only (same_number o.id n)) (λ o. entry_cells (entry_of o)) (λ (o : OrderRow). Int (pos o.id) ∷ []) (λ _. refl) by_order (λ _. refl) (λ a b. by_one_int (pos a.id) (pos b.id))
       entry_cells items entry_of (λ _. refl) r
 
-  pub find_order_faults : AllByRecursion IsLegibleOrder xs → IsUnlimited old → IfErr r (Misses entry_cells IsEntry find_order_text (Int (pos n) ∷ []) old new) → IfErr r (HasCause old new)
+  pub find_order_faults : AllByRecursion IsLegibleOrder xs → IsUnlimited old
+      → IfErr r (Misses entry_cells IsEntry find_order_text (Int (pos n) ∷ []) old new) → IfErr r (HasCause old new)
   find_order_faults legible free =
       select_faults v orders find_order_text with_its_number entry_columns in_order entry_names (Int (pos n) ∷ []) (find_order_means v) old new has order_cells xs stored
       (λ (o : OrderRow). nat_eq n o.id) (λ o. only (same_number o.id n)) (λ o. entry_cells (entry_of o)) (λ (o : OrderRow). Int (pos o.id) ∷ []) (λ _. refl) by_order (λ _. refl) (λ a b. by_one_int (pos a.id) (pos b.id))
@@ -82,7 +57,9 @@ pub told_none : (row : Option OrderRow) → option_map entry_of row ≡ None →
 told_none None h = refl
 told_none (Some row) h = absurd (cc)
 
-pub told_there : (row : Option OrderRow) (e : OrderEntry) (o : PlacedOrder) → option_map entry_of row ≡ Some e → o.ticket ≡ e.ticket → o.container ≡ e.container → o.day ≡ e.day → state_number o.state ≡ e.state → IsThere row (Some o)
+pub told_there : (row : Option OrderRow) (e : OrderEntry) (o : PlacedOrder) → option_map entry_of row ≡ Some e
+    → o.ticket ≡ e.ticket → o.container ≡ e.container → o.day ≡ e.day → state_number o.state ≡ e.state
+    → IsThere row (Some o)
 told_there None e o h ticket container day state = absurd (cc)
 told_there (Some row) e o h ticket container day state =
     let same : entry_of row ≡ e = cc in
@@ -93,7 +70,8 @@ told_there (Some row) e o h ticket container day state =
 abbrev InState : OrderEntry → Type 0
 InState e = (1 ≤ e.state) × (e.state ≤ 4)
 
-pub legible_there : (p : OrderRow → Bool) (xs : List OrderRow) → AllByRecursion IsLegibleOrder xs → (e : OrderEntry) → option_map entry_of (find p xs) ≡ Some e → InState e
+pub legible_there : (p : OrderRow → Bool) (xs : List OrderRow) → AllByRecursion IsLegibleOrder xs → (e : OrderEntry)
+    → option_map entry_of (find p xs) ≡ Some e → InState e
 legible_there p [] all e h = absurd (cc)
 legible_there p (x ∷ xs) all e h =
     (elim (p x) as (λ b. option_map entry_of (cond b (Some x) (find p xs)) ≡ Some e → InState e) [

@@ -1,62 +1,16 @@
 -- The statements that change the rows of orders: what their texts mean, what they leave, and why they fail; and what that is on the whole desk.
 use Rattle.std.proofs.Common.{◌≡◌, ◌≤◌, ◌+◌, ℕ, zero, suc, ℤ, pos, List, [], ◌∷◌, ◌++◌, map, length, drop, codes, Bool, true, false, cond, ltb, Result, OnOk, IfErr, nat_eq, refl, sym, ap, subst, ◌∙◌, arith}
-use Rattle.std.specs.Prelude.{⊤}
-use Rattle.std.proofs.Math.Nat.{le_refl}
-use Rattle.std.proofs.lemmas.Bool.{ltb-true}
-use Rattle.std.proofs.lemmas.List.{length-append, length-map}
-use Rattle.std.specs.List.{list_any}
-use Rattle.sqlite.specs.declared.types.Value.TheVariants.{Null, Int}
-use Rattle.sqlite.specs.Order.{Row, column}
-use Rattle.sqlite.specs.Cast.{cast_row}
-use Rattle.sqlite.specs.Edit.{edit_of}
-use Rattle.sqlite.specs.Effect.{value_rows}
-use Rattle.sqlite.specs.Held.{Held, state}
-use Rattle.sqlite.specs.Rowids.TheVariants.{Chosen}
-use Rattle.sqlite.specs.Term.{Term, lit, col, op2}
-use Rattle.sqlite.specs.Collation.TheVariants.{Binary}
-use Rattle.sqlite.specs.Command.{Command}
-use Rattle.sqlite.specs.Command.TheVariants.{Insert, Update}
-use Rattle.sqlite.specs.Source.TheVariants.{Values}
 use Rattle.sqlite.specs.Listing.{understood}
-use Rattle.sqlite.specs.State.{State, IsLive, HasCleanDisk}
-use Rattle.sqlite.specs.Tree.{Trees, put_row}
 use Rattle.sqlite_schema.specs.Names.{same_name}
-use Rattle.sqlite_sql.specs.declared.ops.BinaryOp.TheVariants.{Compare}
-use Rattle.sqlite_sql.specs.declared.ops.CompareOp.TheVariants.{Eq}
 use Rattle.sqlite_tied.specs.Compute.{everything}
 use Rattle.sqlite_trees.specs.declared.store.Store as store
 use Rattle.sqlite_value.specs.Keys.{joined}
 use Rattle.tree_core.proofs.Lists.{eqb_comm}
-use Rattle.office_tables.specs.Versions.{Version, First, Second}
-use Rattle.isad_core.specs.Limits.{most_orders}
-use Rattle.desk_core.specs.DeskRows.{OrderRow, with_state}
-use Rattle.office_tables.specs.Calls.{StoreUpdates}
-use Rattle.office_tables.specs.ChangeStatement.{Leaves, Ran}
-use Rattle.office_tables.specs.Faults.{FaultsHaveCause, IsUnlimited, HasCause}
-use Rattle.office_tables.specs.StatementMeaning.{Means}
-use Rattle.office_tables.specs.Schema.{schema, orders}
 use Rattle.office_tables.specs.Schema as tables
-use Rattle.office_tables.specs.Step.{Holds, HasRows, OnlyTouches, PutsRow}
-use Rattle.office_tables.specs.declared.fault.StoreFault.{StoreFault}
-use Rattle.desk_store.specs.Orders.{state_number, with_order, with_order_state, IsNextOrder}
-use Rattle.desk_store.specs.Rows.{order_cells}
-use Rattle.desk_store.specs.Representation.{RepresentsDeskAlone, IsLegible}
-use Rattle.office_tables.specs.RowNumbers.{AreCounted}
 use Rattle.desk_store.specs.declared.orders.OrderState.{OrderState}
-use Rattle.office_tables.proofs.Calls.{on_ok_then}
-use Rattle.office_tables.proofs.Casts.{cast_int, cast_null}
-use Rattle.office_tables.proofs.InsertCauses.{IsWelcome}
-use Rattle.office_tables.proofs.Queries.{choosing}
-use Rattle.office_tables.proofs.statements.InsertOf.{insert_puts, insert_faults}
-use Rattle.office_tables.proofs.Puts.{put_rows}
-use Rattle.office_tables.proofs.Tests.{only, same_number}
 use Rattle.office_tables.proofs.UpdateCauses.{KeepsTable}
-use Rattle.office_tables.proofs.statements.UpdateOf.{update_leaves, update_faults}
-use Rattle.office_tables.proofs.numbered.Counted.{counted_again, counted_free, counted_more, counted_rises, put_end}
+use Rattle.desk_store.proofs.Common.{AreCounted, Binary, Chosen, Command, Compare, Eq, FaultsHaveCause, First, HasCause, HasCleanDisk, HasRows, Held, Holds, Insert, Int, IsLegible, IsLive, IsNextOrder, IsUnlimited, IsWelcome, Leaves, Means, Null, OnlyTouches, OrderRow, PutsRow, Ran, RepresentsDeskAlone, Row, Second, State, StoreFault, StoreUpdates, Term, Trees, Update, Values, Version, cast_int, cast_null, cast_row, choosing, col, column, counted_again, counted_free, counted_more, counted_rises, edit_of, insert_faults, insert_puts, le_refl, length-append, length-map, list_any, lit, ltb-true, most_orders, number_welcome, on_ok_then, only, op2, order_cells, orders, put_end, put_row, put_rows, same_number, schema, state, state_number, untouched_last, update_faults, update_leaves, update_only, value_rows, with_order, with_order_state, with_state, ⊤}
 use Rattle.desk_store.proofs.Frames.{with_orders}
-use Rattle.office_tables.proofs.statements.OnlyOf.{update_only}
-use Rattle.office_tables.proofs.statements.WelcomeOf.{number_welcome}
-use Rattle.office_tables.proofs.Sparing.{untouched_last}
 
 -- ---- a new order
 
@@ -73,8 +27,11 @@ pub insert_order_means : (v : Version) → Means v insert_order_text 4 insert_or
 unfolding understood everything
 insert_order_means v = record { is = refl; plain = (refl, refl); whole = (le_refl _, refl, refl); unlisted = refl }
 
-order_welcome : (o : OrderRow) (xs : List OrderRow) (v : Version) (db : Trees) → db tables.orders.tree ≡ map order_cells xs → list_any (λ (x : OrderRow). nat_eq o.id x.id) xs ≡ false → IsWelcome (schema v) db orders (order_cells o)
-order_welcome o xs v db stored none = number_welcome v orders order_cells (λ x. x.id) (λ _. refl) o xs db stored none refl
+order_welcome : (o : OrderRow) (xs : List OrderRow) (v : Version) (db : Trees)
+    → db tables.orders.tree ≡ map order_cells xs → list_any (λ (x : OrderRow). nat_eq o.id x.id) xs ≡ false
+    → IsWelcome (schema v) db orders (order_cells o)
+order_welcome o xs v db stored none =
+    number_welcome v orders order_cells (λ x. x.id) (λ _. refl) o xs db stored none refl
     (record { typed = refl; present = refl; checked = refl; referred = refl; parents = refl })
 
 module _ (old new : State) (id ticket container : ℕ) (day : ℤ) (v : Version) (has : old.now.schema ≡ schema v) where
@@ -87,10 +44,12 @@ module _ (old new : State) (id ticket container : ℕ) (day : ℤ) (v : Version)
   news : (edit_of old.now.trees orders [] Chosen 0 (value_rows params 6 1 insert_order_terms)).news ≡ order_cells x ∷ []
   news = rw (cast_int (pos id), cast_null, cast_int (pos ticket), cast_int (pos container), cast_int day, cast_int (pos 1)) refl
 
-  pub insert_order_puts : (r : Result Unit StoreFault) → Ran insert_order_text params old new r → OnOk r (PutsRow tables.orders.tree (order_cells x) old.now new.now)
+  pub insert_order_puts : (r : Result Unit StoreFault) → Ran insert_order_text params old new r
+      → OnOk r (PutsRow tables.orders.tree (order_cells x) old.now new.now)
   insert_order_puts = insert_puts v 2 orders refl insert_order_text insert_order_terms 6 params (insert_order_means v) old new has (order_cells x) news
 
-  pub insert_order_faults : (xs : List OrderRow) → Holds orders order_cells old xs → list_any (λ (o : OrderRow). nat_eq id o.id) xs ≡ false → IsUnlimited old → IsLive old
+  pub insert_order_faults : (xs : List OrderRow) → Holds orders order_cells old xs
+      → list_any (λ (o : OrderRow). nat_eq id o.id) xs ≡ false → IsUnlimited old → IsLive old
       → (r : Result Unit StoreFault) → Ran insert_order_text params old new r → IfErr r (HasCause old new)
   insert_order_faults xs stored none =
       insert_faults v 2 orders refl insert_order_text insert_order_terms 6 params (insert_order_means v) old new has (order_cells x) news refl (order_welcome x xs v old.now.trees stored none)
@@ -125,7 +84,8 @@ orders_kept Second = record { listed = refl; apart = refl; spared = refl; fits =
 abbrev brought_to : ℕ → OrderRow → OrderRow
 brought_to n o = record o { state = n }
 
-order_alike : (n : ℕ) (o : OrderRow) (p : ℕ) → ltb p 2 ≡ true → column (order_cells o) p ≡ column (order_cells (brought_to n o)) p
+order_alike : (n : ℕ) (o : OrderRow) (p : ℕ) → ltb p 2 ≡ true
+    → column (order_cells o) p ≡ column (order_cells (brought_to n o)) p
 order_alike n o zero h = refl
 order_alike n o (suc zero) h = refl
 order_alike n o (suc (suc p)) h = absurd (omega (arith, ltb-true _ _ h))
@@ -174,11 +134,13 @@ module _ {S : Type 0} (g : store.Ghosts S) (before after : Held S) (r : Result U
         let n = may.1 in
         let few = may.0 in
         let next : id ≡ 1 + length d.orders = n ∙ omega arith in
-        let row : OrderRow = record { id = suc (length d.orders); ticket = ticket; container = container; day = day; state = 1 } in
+        let row : OrderRow =
+        record { id = suc (length d.orders); ticket = ticket; container = container; day = day; state = 1 } in
         let is : suc (length d.orders) ≡ 1 + length d.orders = omega arith in
         with_orders old.now new.now d shown (d.orders ++ row ∷ []) put.only
         (put.rows ∙ ap (λ (i : ℕ). put_row (order_cells (record { id = i; ticket = ticket; container = container; day = day; state = 1 })) (old.now.trees tables.orders.tree)) n ∙ ap (put_row (order_cells row)) shown.orders
-        ∙ put_rows order_cells (λ (o : OrderRow). pos o.id) (λ _. refl) row d.orders ∙ ap (map order_cells) (put_end (λ (o : OrderRow). o.id) 1 d.orders row shown.order_numbers is))
+        ∙ put_rows order_cells (λ (o : OrderRow). pos o.id) (λ _. refl) row d.orders
+        ∙ ap (map order_cells) (put_end (λ (o : OrderRow). o.id) 1 d.orders row shown.order_numbers is))
         (counted_more (λ (o : OrderRow). o.id) 1 d.orders row shown.order_numbers is)
         (let size = length-append d.orders (row ∷ []) in omega (arith, size, few))) (puts clean);
     only = λ clean. on_ok_then r _ _ (λ put. put.only) (puts clean);

@@ -1,52 +1,24 @@
 -- Permits that are told, granted and taken back, on the whole desk.
 use Rattle.std.proofs.Common.{◌≡◌, ℕ, ◌+◌, ◌<◌, ℤ, pos, List, [], ◌∷◌, length, map, filter, get_or, Bool, false, not, nat_eq, Equal, Result, Err, OnOk, inl, inr, refl, sym, ap, ap₂, subst, ◌∙◌, arith}
-use Rattle.std.specs.Prelude.{⊤}
-use Rattle.std.specs.Cmp.{int_cmp_total, tied_itself}
-use Rattle.std.specs.List.{AllByRecursion, list_any}
-use Rattle.std.specs.List.Sorted.{IsPermutation, IsSorted}
 use Rattle.std.proofs.lemmas.List.Sorted.{IsPermutation-refl}
-use Rattle.std.specs.Ordering.{int_cmp, is_lt, ordering_then}
-use Rattle.std.proofs.lemmas.Bool.{cases_Bool, eqb-true, or_from}
-use Rattle.std.proofs.lemmas.List.{get_or-map, length-map}
-use Rattle.sqlite.specs.Edit.{next_rowid}
-use Rattle.sqlite.specs.Held.{Held, state}
-use Rattle.sqlite.specs.Order.{Row}
-use Rattle.sqlite.specs.State.{State, HasCleanDisk}
-use Rattle.sqlite.specs.Tree.{Trees, rowid}
-use Rattle.sqlite.specs.declared.types.Value.TheVariants.{Int}
 use Rattle.sqlite_rules.specs.Lists.{Has}
-use Rattle.sqlite_rules.proofs.ListLemmas.{has_filtered}
-use Rattle.sqlite_trees.proofs.ListLemmas.{all-filter}
 use Rattle.sqlite_trees.specs.declared.store.Store as store
-use Rattle.desk_core.specs.DeskRows.{Desk, PermitRow}
-use Rattle.office_tables.specs.Calls.{StoreUpdates}
-use Rattle.office_tables.specs.Order.{IsOrdered}
-use Rattle.office_tables.specs.Step.{Goes, PutsRow, OnlyTouches}
 use Rattle.office_tables.specs.NumberedStatements.{PutsNumbered, ThinsNumbered}
-use Rattle.office_tables.specs.declared.fault.StoreFault.{StoreFault}
-use Rattle.office_tables.proofs.Calls.{early, on_ok_then, on_ok_both, on_err_then, goes_then, cut_then}
-use Rattle.office_tables.proofs.Causes.{still_unlimited}
-use Rattle.office_tables.proofs.LaterCauses.{last_cause}
-use Rattle.office_tables.proofs.Puts.{has_at}
-use Rattle.office_tables.proofs.Rows.{had}
-use Rattle.desk_store.specs.Permits.{by_unit, is_permit, without_permit, with_permit, granted, permits_of, revoked, HasUnitRow, MayHave}
-use Rattle.office_tables.specs.Permits.{permit_cells}
-use Rattle.desk_store.specs.Representation.{RepresentsDesk, RepresentsDeskAlone, IsLegible, IsNumberOf}
-use Rattle.office_tables.specs.RowNumbers.{HasNumbered}
 use Rattle.office_tables.specs.Schema as tables
 use Rattle.desk_store.specs.declared.reader_permits.Permit.{Permit}
+use Rattle.desk_store.proofs.Common.{AllByRecursion, Desk, Goes, HasCleanDisk, HasNumbered, HasUnitRow, Held, Int, IsLegible, IsNumberOf, IsOrdered, IsPermutation, IsSorted, MayHave, OnlyTouches, PermitRow, PutsRow, RepresentsDesk, RepresentsDeskAlone, Row, State, StoreFault, StoreUpdates, Trees, all-filter, by_unit, cases_Bool, cut_then, early, eqb-true, get_or-map, goes_then, granted, had, has_at, has_filtered, int_cmp, int_cmp_total, is_lt, is_permit, last_cause, last_touched, length-map, list_any, next_rowid, on_err_then, on_ok_both, on_ok_then, one_more, or_from, ordering_then, permit_cells, permits_of, revoked, rowid, state, still_unlimited, tied_itself, told_permuted, untouched, untouched_last, with_permit, without_permit, ⊤}
 use Rattle.desk_store.proofs.NumbersOf.{none_after}
 use Rattle.desk_store.proofs.Frames.{with_permits}
-use Rattle.office_tables.proofs.numbered.OwnNumbers.{one_more, told_permuted}
 use Rattle.desk_store.proofs.PermitRows.{by_ticket, permit_of, told_of}
-use Rattle.office_tables.proofs.Sparing.{untouched, untouched_last, last_touched}
 
 -- ---- what is told
 
 -- of one ticket the units alone make the order
-not_below : (a b : ℤ × PermitRow) (t : ℕ) → a.1.ticket ≡ t → b.1.ticket ≡ t → is_lt (by_ticket a b) ≡ false → is_lt (by_unit (told_of a) (told_of b)) ≡ false
+not_below : (a b : ℤ × PermitRow) (t : ℕ) → a.1.ticket ≡ t → b.1.ticket ≡ t → is_lt (by_ticket a b) ≡ false
+    → is_lt (by_unit (told_of a) (told_of b)) ≡ false
 not_below a b t at_a at_b h =
-    let tied : int_cmp (pos a.1.ticket) (pos b.1.ticket) ≡ Equal = ap₂ (λ m n. int_cmp (pos m) (pos n)) at_a at_b ∙ tied_itself int_cmp_total (pos t) in
+    let tied : int_cmp (pos a.1.ticket) (pos b.1.ticket) ≡ Equal =
+    ap₂ (λ m n. int_cmp (pos m) (pos n)) at_a at_b ∙ tied_itself int_cmp_total (pos t) in
     ap (λ o. is_lt (ordering_then o (int_cmp (pos a.1.unit) (pos b.1.unit)))) (sym tied) ∙ h
 
 module _ (t : ℕ) (there : List Row) (ps : List PermitRow) (at : HasNumbered permit_cells there ps) where
@@ -56,7 +28,8 @@ module _ (t : ℕ) (there : List Row) (ps : List PermitRow) (at : HasNumbered pe
   abbrev of_ticket : PermitRow → Bool
   of_ticket p = nat_eq t p.ticket
 
-  told_sorted : (ys : List (ℤ × PermitRow)) → IsPermutation theirs ys → IsSorted by_ticket ys → IsSorted by_unit (map told_of ys)
+  told_sorted : (ys : List (ℤ × PermitRow)) → IsPermutation theirs ys → IsSorted by_ticket ys
+      → IsSorted by_unit (map told_of ys)
   told_sorted ys same sorted = λ k d low high.
       let own = λ (x : ℤ × PermitRow) (h : Has ys x). sym (eqb-true t x.1.ticket (has_filtered (λ (x : ℤ × PermitRow). nat_eq t x.1.ticket) at.numbered x (had theirs ys same x h)).1) in
       let e : ℤ × PermitRow = (pos 0, record { ticket = t; unit = d.unit; until = d.until }) in
@@ -66,11 +39,14 @@ module _ (t : ℕ) (there : List Row) (ps : List PermitRow) (at : HasNumbered pe
       let less = not_below (get_or ys (k + 1) e) (get_or ys k e) t (own (get_or ys (k + 1) e) (has_at ys (k + 1) e next)) (own (get_or ys k e) (has_at ys k e here)) (sorted k e low next) in
       ap₂ (λ a b. is_lt (by_unit a b)) (get_or-map told_of ys (k + 1) e d next) (get_or-map told_of ys k e d here) ∙ less
 
-  pub told_ordered : (ys : List (ℤ × PermitRow)) → IsOrdered by_ticket theirs ys → IsOrdered by_unit (map permit_of (filter of_ticket ps)) (map told_of ys)
-  told_ordered ys ordered = (told_permuted permit_cells permit_of there ps at of_ticket ys ordered.0, told_sorted ys ordered.0 ordered.1)
+  pub told_ordered : (ys : List (ℤ × PermitRow)) → IsOrdered by_ticket theirs ys
+      → IsOrdered by_unit (map permit_of (filter of_ticket ps)) (map told_of ys)
+  told_ordered ys ordered =
+      (told_permuted permit_cells permit_of there ps at of_ticket ys ordered.0, told_sorted ys ordered.0 ordered.1)
 
 -- a ticket that was not given has no permit
-pub none_given : (t : ℕ) (db : Trees) (d : Desk) → RepresentsDesk db d → length d.readers < t → IsOrdered by_unit (permits_of t d) []
+pub none_given : (t : ℕ) (db : Trees) (d : Desk) → RepresentsDesk db d → length d.readers < t
+    → IsOrdered by_unit (permits_of t d) []
 none_given t db d shown over =
     subst (λ ps. IsOrdered by_unit (map told ps) []) (sym (none_after (λ (p : PermitRow). p.ticket) d.readers t over d.permits shown.permit_tickets)) (IsPermutation-refl [], λ k e low high. absurd (omega (arith, high)))
   where
@@ -80,8 +56,10 @@ none_given t db d shown over =
 -- ---- the ticket has no permit any more
 
 -- those that are left are of tickets that were given
-tickets_left : (t u : ℕ) (d : Desk) (db : Trees) → RepresentsDesk db d → AllByRecursion (λ (p : PermitRow). IsNumberOf d.readers p.ticket) (without_permit t u d.permits)
-tickets_left t u d db shown = all-filter (λ (p : PermitRow). IsNumberOf d.readers p.ticket) (λ p. not (is_permit t u p)) d.permits shown.permit_tickets
+tickets_left : (t u : ℕ) (d : Desk) (db : Trees) → RepresentsDesk db d
+    → AllByRecursion (λ (p : PermitRow). IsNumberOf d.readers p.ticket) (without_permit t u d.permits)
+tickets_left t u d db shown =
+    all-filter (λ (p : PermitRow). IsNumberOf d.readers p.ticket) (λ p. not (is_permit t u p)) d.permits shown.permit_tickets
 
 none_left : (t u : ℕ) (ps : List PermitRow) → list_any (is_permit t u) (without_permit t u ps) ≡ false
 none_left t u [] = refl
@@ -99,7 +77,8 @@ module _ {S : Type 0} (g : store.Ghosts S) (before after : Held S) (r : Result U
   abbrev new : State
   new = state g after
 
-  pub takes_back : (t u : ℕ) → ThinsNumbered g tables.permit permit_cells before after r (without_permit t u) → StoreUpdates g RepresentsDeskAlone IsLegible before after r (λ _. ⊤) (revoked t u) (tables.permit.tree ∷ [])
+  pub takes_back : (t u : ℕ) → ThinsNumbered g tables.permit permit_cells before after r (without_permit t u)
+      → StoreUpdates g RepresentsDeskAlone IsLegible before after r (λ _. ⊤) (revoked t u) (tables.permit.tree ∷ [])
   takes_back t u thins = record {
     represents_updated = λ clean beside d shown may. on_ok_both r _ _ _ (λ touches has. with_permits old.now new.now d shown _ touches has (tickets_left t u d old.now.trees shown)) (thins.only clean) (thins.rows clean d.permits shown.permits);
     only = thins.only;
@@ -124,7 +103,8 @@ module _ {S : Type 0} (g : store.Ghosts S) (before mid after : Held S) (t u : �
   abbrev row : PermitRow
   row = record { ticket = t; unit = u; until = until }
 
-  pub not_cleared : (e : StoreFault) → ThinsNumbered {X = Unit} g tables.permit permit_cells before mid (Err e) (without_permit t u)
+  pub not_cleared : (e : StoreFault)
+      → ThinsNumbered {X = Unit} g tables.permit permit_cells before mid (Err e) (without_permit t u)
       → StoreUpdates {X = Unit} g RepresentsDeskAlone IsLegible before mid (Err e) (MayHave t u a.now.trees) (with_permit t u until) (tables.permit.tree ∷ [])
   not_cleared e thins = record {
     represents_updated = λ clean beside d shown may. tt;
@@ -138,16 +118,26 @@ module _ {S : Type 0} (g : store.Ghosts S) (before mid after : Held S) (t u : �
   module _ (goes : Goes a b) (only : HasCleanDisk b → OnlyTouches (tables.permit.tree ∷ []) a.now b.now) (left : HasCleanDisk b → (ps : List PermitRow) → HasNumbered permit_cells (a.now.trees tables.permit.tree) ps → HasNumbered permit_cells (b.now.trees tables.permit.tree) (without_permit t u ps))
       (r : Result Unit StoreFault) (puts : PutsNumbered g tables.permit permit_cells mid after r row (λ s ps. (list_any (is_permit t u) ps ≡ false) × HasUnitRow u s.now.trees)) where
     still_there : HasCleanDisk b → HasUnitRow u a.now.trees → HasUnitRow u b.now.trees
-    still_there clean known = subst (λ rows. (row : Row) × Has rows row × (rowid row ≡ Int (pos u))) (sym (only clean tables.unit.tree refl refl)) known
+    still_there clean known =
+        subst (λ rows. (row : Row) × Has rows row × (rowid row ≡ Int (pos u))) (sym (only clean tables.unit.tree refl refl)) known
 
-    row_put : HasCleanDisk b → PutsRow tables.permit.tree (permit_cells (next_rowid (b.now.trees tables.permit.tree), row)) b.now c.now → (ps : List PermitRow) → HasNumbered permit_cells (a.now.trees tables.permit.tree) ps → HasNumbered permit_cells (c.now.trees tables.permit.tree) (granted t u until ps)
+    row_put : HasCleanDisk b
+        → PutsRow tables.permit.tree (permit_cells (next_rowid (b.now.trees tables.permit.tree), row)) b.now c.now
+        → (ps : List PermitRow) → HasNumbered permit_cells (a.now.trees tables.permit.tree) ps
+        → HasNumbered permit_cells (c.now.trees tables.permit.tree) (granted t u until ps)
     row_put clean at ps stored =
         one_more permit_cells (λ _. refl) (b.now.trees tables.permit.tree) (c.now.trees tables.permit.tree) (without_permit t u ps) (next_rowid (b.now.trees tables.permit.tree)) row (left clean ps stored) at.rows at.fresh
 
-    pub rows_granted : HasCleanDisk c → (ps : List PermitRow) → HasNumbered permit_cells (a.now.trees tables.permit.tree) ps → OnOk r (HasNumbered permit_cells (c.now.trees tables.permit.tree) (granted t u until ps))
-    rows_granted clean ps stored = on_ok_then r _ _ (λ at. row_put (early b c _ puts.leaves.crash clean) at ps stored) (puts.puts clean)
+    pub rows_granted : HasCleanDisk c → (ps : List PermitRow)
+        → HasNumbered permit_cells (a.now.trees tables.permit.tree) ps
+        → OnOk r (HasNumbered permit_cells (c.now.trees tables.permit.tree) (granted t u until ps))
+    rows_granted clean ps stored =
+        on_ok_then r _ _ (λ at. row_put (early b c _ puts.leaves.crash clean) at ps stored) (puts.puts clean)
 
-    put : HasCleanDisk b → PutsRow tables.permit.tree (permit_cells (next_rowid (b.now.trees tables.permit.tree), row)) b.now c.now → (d : Desk) → RepresentsDesk a.now.trees d → IsNumberOf d.readers t → RepresentsDesk c.now.trees (with_permit t u until d)
+    put : HasCleanDisk b
+        → PutsRow tables.permit.tree (permit_cells (next_rowid (b.now.trees tables.permit.tree), row)) b.now c.now
+        → (d : Desk) → RepresentsDesk a.now.trees d → IsNumberOf d.readers t
+        → RepresentsDesk c.now.trees (with_permit t u until d)
     put clean at d shown given =
         with_permits a.now c.now d shown (granted t u until d.permits) (λ tree known other. at.only tree known other ∙ only clean tree known other)
         (row_put clean at d.permits shown.permits) (given, tickets_left t u d a.now.trees shown)

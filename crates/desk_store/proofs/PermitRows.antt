@@ -1,59 +1,13 @@
 -- The statements on the rows of permits: what their texts mean, what they leave or tell, and why they fail.
 use Rattle.std.proofs.Common.{◌≡◌, ℕ, ℤ, pos, List, [], ◌∷◌, map, filter, codes, true, false, Result, OnOk, IfOk, IfErr, nat_eq, refl, ◌∙◌}
-use Rattle.std.proofs.Math.Nat.{le_refl}
-use Rattle.std.proofs.lemmas.Bool.{or_right, eq-eqb}
-use Rattle.std.specs.List.{AllByRecursion, list_any, list_all}
-use Rattle.std.specs.Ordering.{int_cmp, ordering_then}
 use Rattle.std.specs.declared.cmp.Ordering.{Ordering}
-use Rattle.sqlite.specs.declared.types.Value.TheVariants.{Null, Int}
-use Rattle.sqlite.specs.Order.{Row, column}
-use Rattle.sqlite.specs.Edit.{edit_of, next_rowid}
-use Rattle.sqlite.specs.Effect.{value_rows}
-use Rattle.sqlite.specs.Rowids.TheVariants.{Chosen}
-use Rattle.sqlite.specs.Term.{Term, lit, col, op2}
-use Rattle.sqlite.specs.Collation.TheVariants.{Binary}
-use Rattle.sqlite.specs.Command.{Command}
-use Rattle.sqlite.specs.Command.TheVariants.{Insert, Delete, Select}
-use Rattle.sqlite.specs.Source.TheVariants.{Values}
 use Rattle.sqlite.specs.Listing.{understood}
-use Rattle.sqlite.specs.State.{State, IsLive}
-use Rattle.sqlite.specs.Tree.{Trees}
-use Rattle.sqlite_rules.proofs.ListLemmas.{some_from}
 use Rattle.sqlite_schema.specs.Names.{same_name}
-use Rattle.sqlite_schema.specs.Rules.{agree, has_null, has_parent, is_key_of}
-use Rattle.sqlite_sql.specs.declared.ops.BinaryOp.TheVariants.{Compare}
-use Rattle.sqlite_sql.specs.declared.ops.CompareOp.TheVariants.{Eq}
 use Rattle.sqlite_tied.specs.Compute.{everything}
-use Rattle.sqlite_value.specs.declared.keys.Key.{Key}
-use Rattle.sqlite_value.specs.Keys.{ascending, joined, first_key, plain}
-use Rattle.office_tables.specs.Versions.{Version}
-use Rattle.isad_core.specs.Days.{is_day_number}
-use Rattle.desk_core.specs.DeskRows.{PermitRow}
-use Rattle.office_tables.specs.Query.{Finds, Misses}
-use Rattle.office_tables.specs.ChangeStatement.{Ran}
-use Rattle.office_tables.specs.Faults.{IsUnlimited, HasCause}
-use Rattle.office_tables.specs.StatementMeaning.{Means}
-use Rattle.office_tables.specs.Order.{IsOrdered}
-use Rattle.office_tables.specs.Schema.{schema, to_unit, unit, permit}
+use Rattle.sqlite_value.specs.Keys.{joined, first_key}
 use Rattle.office_tables.specs.Schema as tables
-use Rattle.office_tables.specs.Step.{OnlyTouches, PutsRow}
-use Rattle.office_tables.specs.declared.fault.StoreFault.{StoreFault}
-use Rattle.desk_store.specs.Permits.{is_permit, without_permit, HasUnitRow}
-use Rattle.office_tables.specs.Permits.{permit_cells}
-use Rattle.office_tables.specs.RowNumbers.{HasNumbered}
 use Rattle.desk_store.specs.declared.reader_permits.Permit.{Permit}
-use Rattle.office_tables.proofs.Calls.{on_ok_then}
-use Rattle.office_tables.proofs.Casts.{cast_int, cast_null}
-use Rattle.office_tables.proofs.Queries.{asking, choosing}
-use Rattle.office_tables.proofs.statements.DeleteOf.{delete_leaves, delete_faults}
-use Rattle.office_tables.proofs.InsertCauses.{IsWelcome}
-use Rattle.office_tables.proofs.statements.InsertOf.{insert_puts, insert_faults}
-use Rattle.office_tables.proofs.statements.SelectOf.{select_finds, select_faults}
-use Rattle.office_tables.proofs.Tests.{only, both, either_first, same_number, by_two_ints}
-use Rattle.office_tables.proofs.statements.OnlyOf.{delete_only}
-use Rattle.office_tables.proofs.numbered.OwnNumbers.{all_numbered, those_left}
-use Rattle.office_tables.proofs.statements.WelcomeOf.{next_welcome, none_agrees}
-use Rattle.office_tables.proofs.statements.LeafOf.{permit_alone, permit_fits}
+use Rattle.desk_store.proofs.Common.{AllByRecursion, Binary, Chosen, Command, Compare, Delete, Eq, Finds, HasCause, HasNumbered, HasUnitRow, Insert, Int, IsLive, IsOrdered, IsUnlimited, IsWelcome, Key, Means, Misses, Null, OnlyTouches, PermitRow, PutsRow, Ran, Row, Select, State, StoreFault, Term, Trees, Values, Version, agree, all_numbered, ascending, asking, both, by_two_ints, cast_int, cast_null, choosing, col, column, delete_faults, delete_leaves, delete_only, edit_of, either_first, eq-eqb, has_null, has_parent, insert_faults, insert_puts, int_cmp, is_day_number, is_key_of, is_permit, le_refl, list_all, list_any, lit, next_rowid, next_welcome, none_agrees, on_ok_then, only, op2, or_right, ordering_then, permit, permit_alone, permit_cells, permit_fits, plain, same_number, schema, select_faults, select_finds, some_from, those_left, to_unit, unit, value_rows, without_permit}
 
 -- ---- a permit for a unit that has its row
 
@@ -61,16 +15,21 @@ unit_fits : (v : Version) → list_all (is_key_of (schema v)) (to_unit 2 ∷ [])
 unfolding joined same_name
 unit_fits v = refl
 
-held_by_unit : (v : Version) (db : Trees) (row : Row) → list_any (λ parent. agree plain (0 ∷ []) parent (2 ∷ []) row) (db unit.tree) ≡ true → list_all (has_parent (schema v).tables db row) (to_unit 2 ∷ []) ≡ true
+held_by_unit : (v : Version) (db : Trees) (row : Row)
+    → list_any (λ parent. agree plain (0 ∷ []) parent (2 ∷ []) row) (db unit.tree) ≡ true
+    → list_all (has_parent (schema v).tables db row) (to_unit 2 ∷ []) ≡ true
 unfolding joined same_name
 held_by_unit v db row h = rw (h, or_right (has_null (2 ∷ []) row) true refl) refl
 
-unit_agrees : (u : ℕ) (parent row : Row) → column parent 0 ≡ Int (pos u) → column row 2 ≡ Int (pos u) → agree plain (0 ∷ []) parent (2 ∷ []) row ≡ true
+unit_agrees : (u : ℕ) (parent row : Row) → column parent 0 ≡ Int (pos u) → column row 2 ≡ Int (pos u)
+    → agree plain (0 ∷ []) parent (2 ∷ []) row ≡ true
 unfolding first_key
 unit_agrees u parent row at is = rw (at, is) (only (same_number u u ∙ eq-eqb u u refl))
 
-has_its_unit : (v : Version) (db : Trees) (row : Row) (u : ℕ) → column row 2 ≡ Int (pos u) → HasUnitRow u db → list_all (has_parent (schema v).tables db row) (to_unit 2 ∷ []) ≡ true
-has_its_unit v db row u is known = held_by_unit v db row (some_from (λ parent. agree plain (0 ∷ []) parent (2 ∷ []) row) (db unit.tree) known.0 known.1 (unit_agrees u known.0 row known.2 is))
+has_its_unit : (v : Version) (db : Trees) (row : Row) (u : ℕ) → column row 2 ≡ Int (pos u) → HasUnitRow u db
+    → list_all (has_parent (schema v).tables db row) (to_unit 2 ∷ []) ≡ true
+has_its_unit v db row u is known =
+    held_by_unit v db row (some_from (λ parent. agree plain (0 ∷ []) parent (2 ∷ []) row) (db unit.tree) known.0 known.1 (unit_agrees u known.0 row known.2 is))
 
 -- ---- a new permit
 
@@ -87,14 +46,18 @@ pub insert_permit_means : (v : Version) → Means v insert_permit_text 3 insert_
 unfolding understood everything
 insert_permit_means v = record { is = refl; plain = (refl, refl); whole = (le_refl _, refl, refl); unlisted = refl }
 
-same_permit : (a b : ℤ × PermitRow) → agree plain (1 ∷ 2 ∷ []) (permit_cells a) (1 ∷ 2 ∷ []) (permit_cells b) ≡ is_permit b.1.ticket b.1.unit a.1
+same_permit : (a b : ℤ × PermitRow)
+    → agree plain (1 ∷ 2 ∷ []) (permit_cells a) (1 ∷ 2 ∷ []) (permit_cells b) ≡ is_permit b.1.ticket b.1.unit a.1
 unfolding first_key
 same_permit a b = both (same_number a.1.ticket b.1.ticket) (same_number a.1.unit b.1.unit)
 
 -- the same by the unit first
-same_by_unit : (a b : ℤ × PermitRow) → agree plain (2 ∷ 1 ∷ []) (permit_cells a) (2 ∷ 1 ∷ []) (permit_cells b) ≡ is_permit b.1.ticket b.1.unit a.1
+same_by_unit : (a b : ℤ × PermitRow)
+    → agree plain (2 ∷ 1 ∷ []) (permit_cells a) (2 ∷ 1 ∷ []) (permit_cells b) ≡ is_permit b.1.ticket b.1.unit a.1
 unfolding first_key
-same_by_unit a b = both (same_number a.1.unit b.1.unit) (same_number a.1.ticket b.1.ticket) ∙ either_first (nat_eq b.1.unit a.1.unit) (nat_eq b.1.ticket a.1.ticket)
+same_by_unit a b =
+    both (same_number a.1.unit b.1.unit) (same_number a.1.ticket b.1.ticket)
+    ∙ either_first (nat_eq b.1.unit a.1.unit) (nat_eq b.1.ticket a.1.ticket)
 
 module _ (old new : State) (p : PermitRow) (v : Version) (has : old.now.schema ≡ schema v) where
   abbrev params : Row
@@ -106,7 +69,8 @@ module _ (old new : State) (p : PermitRow) (v : Version) (has : old.now.schema �
   news : (edit_of old.now.trees permit [] Chosen 0 (value_rows params 4 1 insert_permit_terms)).news ≡ permit_cells added ∷ []
   news = rw (cast_null, cast_int (pos p.ticket), cast_int (pos p.unit), cast_int p.until) refl
 
-  pub insert_permit_puts : (r : Result Unit StoreFault) → Ran insert_permit_text params old new r → OnOk r (PutsRow tables.permit.tree (permit_cells added) old.now new.now)
+  pub insert_permit_puts : (r : Result Unit StoreFault) → Ran insert_permit_text params old new r
+      → OnOk r (PutsRow tables.permit.tree (permit_cells added) old.now new.now)
   insert_permit_puts = insert_puts v 6 permit refl insert_permit_text insert_permit_terms 4 params (insert_permit_means v) old new has (permit_cells added) news
 
   module _ (ps : List PermitRow) (at : HasNumbered permit_cells (old.now.trees tables.permit.tree) ps) (none : list_any (is_permit p.ticket p.unit) ps ≡ false) (known : HasUnitRow p.unit old.now.trees) where
@@ -119,7 +83,8 @@ module _ (old new : State) (p : PermitRow) (v : Version) (has : old.now.schema �
         next_welcome v permit permit_cells (λ (p : PermitRow). Int (pos p.ticket) ∷ Int (pos p.unit) ∷ Int p.until ∷ []) (λ _. refl) p ps old.now.trees at (rw (apart, apart_too) refl)
         (record { typed = refl; present = refl; checked = refl; referred = unit_fits v; parents = has_its_unit v old.now.trees (permit_cells added) p.unit refl known })
 
-    pub insert_permit_faults : IsUnlimited old → IsLive old → (r : Result Unit StoreFault) → Ran insert_permit_text params old new r → IfErr r (HasCause old new)
+    pub insert_permit_faults : IsUnlimited old → IsLive old → (r : Result Unit StoreFault)
+        → Ran insert_permit_text params old new r → IfErr r (HasCause old new)
     insert_permit_faults = insert_faults v 6 permit refl insert_permit_text insert_permit_terms 4 params (insert_permit_means v) old new has (permit_cells added) news refl welcome
 
 -- ---- a permit is taken
@@ -138,7 +103,8 @@ unfolding understood everything
 clear_permit_means v = record { is = refl; plain = (refl, refl); whole = (le_refl _, refl, refl); unlisted = refl }
 
 module _ (old new : State) (t u : ℕ) (v : Version) (has : old.now.schema ≡ schema v) (r : Result Unit StoreFault) (ran : Ran clear_permit_text (Int (pos t) ∷ Int (pos u) ∷ []) old new r) where
-  pub clear_permit_leaves : (ps : List PermitRow) → HasNumbered permit_cells (old.now.trees tables.permit.tree) ps → OnOk r (HasNumbered permit_cells (new.now.trees tables.permit.tree) (without_permit t u ps))
+  pub clear_permit_leaves : (ps : List PermitRow) → HasNumbered permit_cells (old.now.trees tables.permit.tree) ps
+      → OnOk r (HasNumbered permit_cells (new.now.trees tables.permit.tree) (without_permit t u ps))
   clear_permit_leaves ps at =
       on_ok_then r _ _ (λ has. those_left permit_cells (old.now.trees tables.permit.tree) (new.now.trees tables.permit.tree) ps at (is_permit t u) has.are)
       (delete_leaves v 6 permit refl (permit_alone v) clear_permit_text of_both (col 1 0 ∷ []) (Int (pos t) ∷ Int (pos u) ∷ []) (clear_permit_means v) old new has permit_cells (λ x. x.0) (λ _. refl) at.numbered at.are at.rise
@@ -195,7 +161,9 @@ module _ (old new : State) (t : ℕ) (v : Version) (has : old.now.schema ≡ sch
       (λ (x : ℤ × PermitRow). nat_eq t x.1.ticket) (λ x. only (same_number x.1.ticket t)) (λ x. told_cells (told_of x)) (λ (x : ℤ × PermitRow). Int (pos x.1.ticket) ∷ Int (pos x.1.unit) ∷ []) (λ _. refl)
       by_ticket (λ _. refl) (λ a b. by_two_ints (pos a.1.ticket) (pos b.1.ticket) (pos a.1.unit) (pos b.1.unit)) told_cells items told_of (λ _. refl) r
 
-  pub permits_faults : AllByRecursion (λ (p : PermitRow). is_day_number p.until ≡ true) ps → IsUnlimited old → IfErr r (Misses told_cells (λ p. is_day_number p.until ≡ true) permits_text (Int (pos t) ∷ []) old new) → IfErr r (HasCause old new)
+  pub permits_faults : AllByRecursion (λ (p : PermitRow). is_day_number p.until ≡ true) ps → IsUnlimited old
+      → IfErr r (Misses told_cells (λ p. is_day_number p.until ≡ true) permits_text (Int (pos t) ∷ []) old new)
+      → IfErr r (HasCause old new)
   permits_faults legible free =
       select_faults v permit permits_text of_ticket permit_columns in_order permit_names (Int (pos t) ∷ []) (permits_means v) old new has permit_cells at.numbered at.are
       (λ (x : ℤ × PermitRow). nat_eq t x.1.ticket) (λ x. only (same_number x.1.ticket t)) (λ x. told_cells (told_of x)) (λ (x : ℤ × PermitRow). Int (pos x.1.ticket) ∷ Int (pos x.1.unit) ∷ []) (λ _. refl)

@@ -1,21 +1,10 @@
 -- The first order for each container, among those that rise by their numbers.
 use Rattle.std.proofs.Common.{◌≡◌, ℕ, zero, suc, ◌+◌, ◌<◌, pos, Bool, true, false, cond, not, ◌&&◌, ◌||◌, nat_eq, List, [], ◌∷◌, ◌++◌, filter, length, take, Less, Greater, Equal, refl, sym, ap, ap₂, ◌∙◌, arith}
-use Rattle.std.specs.Prelude.{get_or, nat_lt}
-use Rattle.std.specs.List.{AllByRecursion, list_any}
-use Rattle.std.specs.Ordering.{is_eq, int_cmp, nat_cmp}
-use Rattle.std.proofs.lemmas.Bool.Decides.{nat_tests}
-use Rattle.std.proofs.lemmas.List.{take_more}
-use Rattle.std.proofs.lemmas.List.Elements.{filter-append}
+use Rattle.std.specs.Prelude.{get_or}
 use Rattle.std.proofs.lemmas.List.Folds.{list_any-append}
 use Rattle.std.proofs.Math.Bool.{or_assoc}
-use Rattle.std.proofs.lemmas.Bool.{lt-ltb}
-use Rattle.sqlite_rules.proofs.ListLemmas.{all_has}
 use Rattle.desk_core.proofs.Tests.{not_or}
-use Rattle.office_tables.proofs.Puts.{has_at}
-use Rattle.office_tables.proofs.numbered.Counted.{less_below}
-use Rattle.desk_store.specs.RunCandidates.{is_earliest, is_new}
-use Rattle.office_tables.specs.RowNumbers.{AreByNumber}
-use Rattle.desk_store.specs.declared.container_orders.ContainerOrder.{ContainerOrder}
+use Rattle.desk_store.proofs.Common.{AllByRecursion, AreByNumber, ContainerOrder, all_has, filter-append, has_at, int_cmp, is_earliest, is_eq, is_new, less_below, list_any, lt-ltb, nat_cmp, nat_lt, nat_tests, take_more}
 
 -- ---- a set of numbers
 
@@ -32,7 +21,8 @@ pub contains_any : (known : List ℕ) (c : ℕ) → list_any (λ k. is_eq (nat_c
 contains_any [] c = refl
 contains_any (k ∷ ks) c = ap₂ ◌||◌ (same_numbers c k) (contains_any ks c)
 
-pub has_more : (old new : List ℕ) (n : ℕ) → ((q : ℕ) → list_any (λ k. is_eq (nat_cmp q k)) new ≡ cond (is_eq (nat_cmp n q)) true (list_any (λ k. is_eq (nat_cmp q k)) old))
+pub has_more : (old new : List ℕ) (n : ℕ)
+    → ((q : ℕ) → list_any (λ k. is_eq (nat_cmp q k)) new ≡ cond (is_eq (nat_cmp n q)) true (list_any (λ k. is_eq (nat_cmp q k)) old))
     → (c : ℕ) → list_any (nat_eq c) new ≡ (nat_eq c n || list_any (nat_eq c) old)
 has_more old new n updates c =
     sym (contains_any new c) ∙ updates c ∙ ap₂ (λ (x y : Bool). cond x true y) (same_numbers n c ∙ flipped) (contains_any old c) ∙ go (nat_eq c n)
@@ -52,11 +42,16 @@ swap true false = refl
 swap false true = refl
 swap false false = refl
 
-pub any_more : {A : Type 0} (p : A → Bool) (xs : List A) (i : ℕ) (d : A) → i < length xs → list_any p (take (i + 1) xs) ≡ (p (get_or xs i d) || list_any p (take i xs))
-any_more p xs i d low = ap (list_any p) (take_more xs i d low) ∙ list_any-append p (take i xs) (get_or xs i d ∷ []) ∙ swap (list_any p (take i xs)) (p (get_or xs i d))
+pub any_more : {A : Type 0} (p : A → Bool) (xs : List A) (i : ℕ) (d : A) → i < length xs
+    → list_any p (take (i + 1) xs) ≡ (p (get_or xs i d) || list_any p (take i xs))
+any_more p xs i d low =
+    ap (list_any p) (take_more xs i d low) ∙ list_any-append p (take i xs) (get_or xs i d ∷ [])
+    ∙ swap (list_any p (take i xs)) (p (get_or xs i d))
 
-pub met_more : (known0 : List ℕ) (orders : List ContainerOrder) (i : ℕ) (d : ContainerOrder) (c : ℕ) (old new : Bool) → i < length orders
-    → old ≡ (list_any (λ (o : ContainerOrder). nat_eq c o.container) (take i orders) || list_any (nat_eq c) known0) → new ≡ (nat_eq c (get_or orders i d).container || old)
+pub met_more : (known0 : List ℕ) (orders : List ContainerOrder) (i : ℕ) (d : ContainerOrder) (c : ℕ) (old new : Bool)
+    → i < length orders
+    → old ≡ (list_any (λ (o : ContainerOrder). nat_eq c o.container) (take i orders) || list_any (nat_eq c) known0)
+    → new ≡ (nat_eq c (get_or orders i d).container || old)
     → new ≡ (list_any (λ (o : ContainerOrder). nat_eq c o.container) (take (i + 1) orders) || list_any (nat_eq c) known0)
 met_more known0 orders i d c old new low so is =
     is ∙ ap (λ b. nat_eq c (get_or orders i d).container || b) so
@@ -68,7 +63,8 @@ met_more known0 orders i d c old new low so is =
 less_is : (a b : ℕ) → int_cmp (pos a) (pos b) ≡ Less → nat_lt a b ≡ true
 less_is a b h = lt-ltb a b (less_below a b h)
 
-none_below : (q : ContainerOrder → Bool) (x : ContainerOrder) (xs : List ContainerOrder) → AllByRecursion (λ (y : ContainerOrder). int_cmp (pos x.order) (pos y.order) ≡ Less) xs
+none_below : (q : ContainerOrder → Bool) (x : ContainerOrder) (xs : List ContainerOrder)
+    → AllByRecursion (λ (y : ContainerOrder). int_cmp (pos x.order) (pos y.order) ≡ Less) xs
     → list_any (λ (y : ContainerOrder). q y && nat_lt y.order x.order) xs ≡ false
 none_below q x [] all = refl
 none_below q x (y ∷ ys) all =
@@ -80,7 +76,8 @@ none_below q x (y ∷ ys) all =
     both_none true b h = h
     both_none false b h = h
 
-pub before : (q : ContainerOrder → Bool) (xs : List ContainerOrder) (i : ℕ) (d : ContainerOrder) → AreByNumber (λ (o : ContainerOrder). o.order) xs → i < length xs
+pub before : (q : ContainerOrder → Bool) (xs : List ContainerOrder) (i : ℕ) (d : ContainerOrder)
+    → AreByNumber (λ (o : ContainerOrder). o.order) xs → i < length xs
     → list_any (λ (y : ContainerOrder). q y && nat_lt y.order (get_or xs i d).order) xs ≡ list_any q (take i xs)
 before q [] i d up low = absurd (omega (arith, low))
 before q (x ∷ xs) zero d up low =
@@ -99,7 +96,8 @@ before q (x ∷ xs) (suc i) d up low =
     as_is true = refl
     as_is false = refl
 
-pub is_picked : (known0 now : List ℕ) (orders : List ContainerOrder) (i : ℕ) (d : ContainerOrder) → AreByNumber (λ (o : ContainerOrder). o.order) orders → i < length orders
+pub is_picked : (known0 now : List ℕ) (orders : List ContainerOrder) (i : ℕ) (d : ContainerOrder)
+    → AreByNumber (λ (o : ContainerOrder). o.order) orders → i < length orders
     → list_any (nat_eq (get_or orders i d).container) now ≡ (list_any (λ (o : ContainerOrder). nat_eq (get_or orders i d).container o.container) (take i orders) || list_any (nat_eq (get_or orders i d).container) known0)
     → not (list_any (nat_eq (get_or orders i d).container) now) ≡ (is_earliest (get_or orders i d) orders && is_new known0 (get_or orders i d))
 is_picked known0 now orders i d up low met =
@@ -107,7 +105,8 @@ is_picked known0 now orders i d up low met =
     ap not met ∙ not_or _ _ ∙ ap (λ b. not b && is_new known0 x) (sym (before (λ (o : ContainerOrder). nat_eq x.container o.container) orders i d up low))
 
 -- what is kept of one order more
-pub kept_more : (p : ContainerOrder → Bool) (orders : List ContainerOrder) (i : ℕ) (d : ContainerOrder) (done : List ContainerOrder) → i < length orders → done ≡ filter p (take i orders)
+pub kept_more : (p : ContainerOrder → Bool) (orders : List ContainerOrder) (i : ℕ) (d : ContainerOrder) (done : List ContainerOrder)
+    → i < length orders → done ≡ filter p (take i orders)
     → done ++ cond (p (get_or orders i d)) (get_or orders i d ∷ []) [] ≡ filter p (take (i + 1) orders)
 kept_more p orders i d done low so =
     ap (λ l. l ++ cond (p (get_or orders i d)) (get_or orders i d ∷ []) []) so

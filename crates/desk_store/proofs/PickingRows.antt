@@ -1,33 +1,8 @@
 -- The statement on all orders that wait: what its text means, what it tells, and why it fails.
 use Rattle.std.proofs.Common.{◌≡◌, ℕ, pos, List, [], ◌∷◌, map, filter, codes, Result, IfOk, IfErr, nat_eq, refl}
-use Rattle.std.proofs.Math.Nat.{le_refl}
-use Rattle.std.specs.Prelude.{⊤}
-use Rattle.sqlite.specs.declared.types.Value.TheVariants.{Int}
-use Rattle.sqlite.specs.Order.{Row}
-use Rattle.sqlite.specs.Term.{Term, lit, col, op2}
-use Rattle.sqlite.specs.Collation.TheVariants.{Binary}
-use Rattle.sqlite.specs.Command.{Command}
-use Rattle.sqlite.specs.Command.TheVariants.{Select}
 use Rattle.sqlite.specs.Listing.{understood}
-use Rattle.sqlite.specs.State.{State}
-use Rattle.sqlite_sql.specs.declared.ops.BinaryOp.TheVariants.{Compare}
-use Rattle.sqlite_sql.specs.declared.ops.CompareOp.TheVariants.{Eq}
 use Rattle.sqlite_tied.specs.Compute.{everything}
-use Rattle.sqlite_trees.proofs.ListLemmas.{all_of}
-use Rattle.office_tables.specs.Versions.{Version}
-use Rattle.desk_core.specs.DeskRows.{OrderRow}
-use Rattle.office_tables.specs.Query.{Finds, Misses}
-use Rattle.office_tables.specs.Faults.{IsUnlimited, HasCause}
-use Rattle.office_tables.specs.StatementMeaning.{Means}
-use Rattle.office_tables.specs.Order.{IsOrdered}
-use Rattle.office_tables.specs.Schema.{schema, orders}
-use Rattle.office_tables.specs.Step.{Holds}
-use Rattle.office_tables.specs.declared.fault.StoreFault.{StoreFault}
-use Rattle.office_tables.proofs.Queries.{asking}
-use Rattle.office_tables.proofs.statements.SelectOf.{select_finds, select_faults}
-use Rattle.office_tables.proofs.Tests.{only, same_number, by_one_int}
-use Rattle.desk_store.specs.Rows.{order_cells}
-use Rattle.desk_store.specs.declared.container_orders.ContainerOrder.{ContainerOrder}
+use Rattle.desk_store.proofs.Common.{Binary, Command, Compare, ContainerOrder, Eq, Finds, HasCause, Holds, Int, IsOrdered, IsUnlimited, Means, Misses, OrderRow, Row, Select, State, StoreFault, Term, Version, all_of, asking, by_one_int, col, le_refl, lit, only, op2, order_cells, orders, same_number, schema, select_faults, select_finds, ⊤}
 use Rattle.desk_store.proofs.CardRows.{by_order, in_order}
 
 abbrev pub first_of : OrderRow → ContainerOrder
@@ -56,13 +31,15 @@ unfolding understood everything
 all_means v = record { is = refl; plain = (refl, refl); whole = (le_refl _, refl, refl); unlisted = refl }
 
 module _ (old new : State) (v : Version) (has : old.now.schema ≡ schema v) (xs : List OrderRow) (stored : Holds orders order_cells old xs) {X : Type 0} (items : X → List ContainerOrder) (r : Result X StoreFault) where
-  pub all_finds : IfOk r (λ found. Finds first_cells all_text [] old new (items found)) → IfOk r (λ found. (ys : List OrderRow) × IsOrdered by_order (filter (λ (o : OrderRow). nat_eq 1 o.state) xs) ys × (items found ≡ map first_of ys))
+  pub all_finds : IfOk r (λ found. Finds first_cells all_text [] old new (items found))
+      → IfOk r (λ found. (ys : List OrderRow) × IsOrdered by_order (filter (λ (o : OrderRow). nat_eq 1 o.state) xs) ys × (items found ≡ map first_of ys))
   all_finds =
       select_finds v orders all_text it_waits first_columns in_order first_names [] (all_means v) old new has order_cells xs stored
       (λ (o : OrderRow). nat_eq 1 o.state) (λ o. only (same_number o.state 1)) (λ o. first_cells (first_of o)) (λ (o : OrderRow). Int (pos o.id) ∷ []) (λ _. refl) by_order (λ _. refl) (λ a b. by_one_int (pos a.id) (pos b.id))
       first_cells items first_of (λ _. refl) r
 
-  pub all_faults : IsUnlimited old → IfErr r (Misses first_cells (λ _. ⊤) all_text [] old new) → IfErr r (HasCause old new)
+  pub all_faults : IsUnlimited old → IfErr r (Misses first_cells (λ _. ⊤) all_text [] old new)
+      → IfErr r (HasCause old new)
   all_faults free =
       select_faults v orders all_text it_waits first_columns in_order first_names [] (all_means v) old new has order_cells xs stored
       (λ (o : OrderRow). nat_eq 1 o.state) (λ o. only (same_number o.state 1)) (λ o. first_cells (first_of o)) (λ (o : OrderRow). Int (pos o.id) ∷ []) (λ _. refl) by_order (λ _. refl) (λ a b. by_one_int (pos a.id) (pos b.id))

@@ -1,39 +1,11 @@
 -- The statement on where a container is: what its text means, what it tells, and why it fails. And the place that it tells.
 use Rattle.std.proofs.Common.{◌≡◌, ℕ, pos, Bool, List, [], ◌∷◌, map, filter, find, codes, true, false, cond, Option, Some, None, Result, IfOk, IfErr, nat_eq, refl, sym, subst}
-use Rattle.std.proofs.Math.Nat.{le_refl}
-use Rattle.std.specs.Prelude.{⊤, option_map}
-use Rattle.std.specs.List.{AllByRecursion}
-use Rattle.sqlite.specs.declared.types.Value.TheVariants.{Int}
-use Rattle.sqlite.specs.Order.{Row}
-use Rattle.sqlite.specs.Values.{or_null}
-use Rattle.sqlite.specs.Term.{Term, col, op2}
-use Rattle.sqlite.specs.Collation.TheVariants.{Binary}
-use Rattle.sqlite.specs.Command.{Command}
-use Rattle.sqlite.specs.Command.TheVariants.{Select}
 use Rattle.sqlite.specs.Listing.{understood}
-use Rattle.sqlite.specs.State.{State}
-use Rattle.sqlite_sql.specs.declared.ops.BinaryOp.TheVariants.{Compare}
-use Rattle.sqlite_sql.specs.declared.ops.CompareOp.TheVariants.{Eq}
 use Rattle.sqlite_tied.specs.Compute.{everything}
-use Rattle.sqlite_trees.proofs.ListLemmas.{all_of}
-use Rattle.office_tables.specs.Versions.{Version}
-use Rattle.desk_core.specs.DeskRows.{HoldingRow}
-use Rattle.desk_core.specs.declared.reader.Place.{Place}
-use Rattle.desk_core.specs.declared.reader.Place.TheVariants.{Shelf, Desk as AtTheDesk, Out}
-use Rattle.office_tables.specs.Query.{Finds, Misses}
-use Rattle.office_tables.specs.Faults.{IsUnlimited, HasCause}
-use Rattle.office_tables.specs.StatementMeaning.{Means}
-use Rattle.office_tables.specs.Order.{IsOrdered}
-use Rattle.office_tables.specs.Schema.{schema, holding}
-use Rattle.office_tables.specs.Step.{Holds}
-use Rattle.office_tables.specs.declared.fault.StoreFault.{StoreFault}
-use Rattle.office_tables.proofs.Queries.{asking}
-use Rattle.office_tables.proofs.statements.SelectOf.{select_finds, select_faults}
-use Rattle.office_tables.proofs.Tests.{only, same_number, by_one_int}
-use Rattle.desk_store.specs.Orders.{IsAt}
-use Rattle.desk_store.specs.Rows.{holding_cells}
-use Rattle.desk_store.specs.Representation.{IsKnownPlace, IsLegibleHolding}
+use Rattle.desk_core.specs.declared.reader.Place.TheVariants.{Desk as AtTheDesk}
+use Rattle.desk_store.specs.Representation.{IsLegibleHolding}
 use Rattle.desk_store.specs.declared.queues.PlaceEntry.{PlaceEntry}
+use Rattle.desk_store.proofs.Common.{AllByRecursion, Binary, Command, Compare, Eq, Finds, HasCause, HoldingRow, Holds, Int, IsAt, IsKnownPlace, IsOrdered, IsUnlimited, Means, Misses, Out, Place, Row, Select, Shelf, State, StoreFault, Term, Version, all_of, asking, by_one_int, col, holding, holding_cells, le_refl, only, op2, option_map, or_null, same_number, schema, select_faults, select_finds, ⊤}
 use Rattle.desk_store.proofs.CardRows.{in_order}
 use Rattle.desk_store.proofs.LoanRows.{by_container}
 
@@ -70,7 +42,8 @@ module _ (old new : State) (n : ℕ) (v : Version) (has : old.now.schema ≡ sch
       (λ (h : HoldingRow). nat_eq n h.container) (λ h. only (same_number h.container n)) (λ h. place_cells (place_entry h)) (λ (h : HoldingRow). Int (pos h.container) ∷ []) (λ _. refl) by_container (λ _. refl) (λ a b. by_one_int (pos a.container) (pos b.container))
       place_cells items place_entry (λ _. refl) r
 
-  pub place_faults : IsUnlimited old → IfErr r (Misses place_cells (λ _. ⊤) place_text (Int (pos n) ∷ []) old new) → IfErr r (HasCause old new)
+  pub place_faults : IsUnlimited old → IfErr r (Misses place_cells (λ _. ⊤) place_text (Int (pos n) ∷ []) old new)
+      → IfErr r (HasCause old new)
   place_faults free =
       select_faults v holding place_text with_its_number place_columns in_order place_names (Int (pos n) ∷ []) (place_means v) old new has holding_cells xs stored
       (λ (h : HoldingRow). nat_eq n h.container) (λ h. only (same_number h.container n)) (λ h. place_cells (place_entry h)) (λ (h : HoldingRow). Int (pos h.container) ∷ []) (λ _. refl) by_container (λ _. refl) (λ a b. by_one_int (pos a.container) (pos b.container))
@@ -87,7 +60,8 @@ same_place h Shelf at = at
 same_place h AtTheDesk at = at
 same_place h (Out o) at = at
 
-pub at_entry : (h : Option HoldingRow) (e : PlaceEntry) (place : Place) → option_map place_entry h ≡ Some e → IsAt (Some (row_of e)) place → IsAt h place
+pub at_entry : (h : Option HoldingRow) (e : PlaceEntry) (place : Place) → option_map place_entry h ≡ Some e
+    → IsAt (Some (row_of e)) place → IsAt h place
 at_entry None e place is at = absurd (cc)
 at_entry (Some h) e place is at =
     let same : place_entry h ≡ e = cc in
@@ -98,7 +72,8 @@ at_shelf None is = refl
 at_shelf (Some h) is = absurd (cc)
 
 -- an entry of a legible row is in a place that there is
-pub legible_place : (p : HoldingRow → Bool) (xs : List HoldingRow) → AllByRecursion IsLegibleHolding xs → (e : PlaceEntry) → option_map place_entry (find p xs) ≡ Some e → IsKnownPlace e.place e.held_by
+pub legible_place : (p : HoldingRow → Bool) (xs : List HoldingRow) → AllByRecursion IsLegibleHolding xs
+    → (e : PlaceEntry) → option_map place_entry (find p xs) ≡ Some e → IsKnownPlace e.place e.held_by
 legible_place p [] all e is = absurd (cc)
 legible_place p (x ∷ xs) all e is =
     (elim (p x) as (λ b. option_map place_entry (cond b (Some x) (find p xs)) ≡ Some e → IsKnownPlace e.place e.held_by) [

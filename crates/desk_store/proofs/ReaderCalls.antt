@@ -1,33 +1,10 @@
 -- A reader more, on the whole desk: first the next ticket is read, then the row is put.
 use Rattle.std.proofs.Common.{◌≡◌, ℕ, suc, ◌+◌, ◌<◌, ℤ, pos, false, cond, nat_eq, List, [], ◌∷◌, ◌++◌, map, length, Option, Some, None, Ok, Err, inl, inr, refl, sym, ap, subst, ◌∙◌, arith}
-use Rattle.std.specs.Prelude.{⊤, nat_lt}
-use Rattle.std.specs.List.{list_any}
-use Rattle.std.proofs.lemmas.Bool.{cases_Bool, ltb-true}
-use Rattle.std.proofs.lemmas.List.{length-append}
 use Rattle.isad_core.specs.Texts.{Bytes}
-use Rattle.sqlite.specs.Effect.{Database}
-use Rattle.sqlite.specs.Held.{Held, state}
-use Rattle.sqlite.specs.State.{State, HasCleanDisk}
-use Rattle.sqlite.specs.Tree.{put_row}
 use Rattle.sqlite_trees.specs.declared.store.Store as store
-use Rattle.isad_core.specs.Limits.{most_tickets}
-use Rattle.desk_core.specs.DeskRows.{Desk, ReaderRow}
-use Rattle.office_tables.specs.Calls.{StoreUpdates}
-use Rattle.office_tables.specs.Faults.{IsUnlimited, HasCause}
-use Rattle.office_tables.specs.Schema.{reader}
 use Rattle.office_tables.specs.Schema as tables
-use Rattle.office_tables.specs.Step.{Goes, Holds, IsAborted, LeavesUnchanged, OnlyTouches, PutsRow, Spares, IsSame}
-use Rattle.office_tables.specs.declared.fault.StoreFault.{StoreFault}
-use Rattle.office_tables.proofs.Calls.{early, goes_then, cut_then}
-use Rattle.office_tables.proofs.Causes.{still_unlimited}
-use Rattle.office_tables.proofs.LaterCauses.{next_cause}
-use Rattle.office_tables.proofs.Puts.{put_rows}
-use Rattle.desk_store.specs.Readers.{next_ticket, with_reader}
-use Rattle.desk_store.specs.Rows.{reader_cells}
-use Rattle.desk_store.specs.Representation.{RepresentsDesk, RepresentsDeskAlone, IsLegible}
-use Rattle.office_tables.proofs.numbered.Counted.{counted_more, counted_free, put_end}
+use Rattle.desk_store.proofs.Common.{Database, Desk, Goes, HasCause, HasCleanDisk, Held, Holds, IsAborted, IsLegible, IsSame, IsUnlimited, LeavesUnchanged, OnlyTouches, PutsRow, ReaderRow, RepresentsDesk, RepresentsDeskAlone, Spares, State, StoreFault, StoreUpdates, cases_Bool, counted_free, counted_more, cut_then, early, goes_then, length-append, list_any, looked_spares, ltb-true, most_tickets, nat_lt, next_cause, next_ticket, put_end, put_row, put_rows, reader, reader_cells, state, still_unlimited, untouched, with_reader, ⊤}
 use Rattle.desk_store.proofs.Frames.{with_readers}
-use Rattle.office_tables.proofs.Sparing.{untouched, looked_spares}
 
 -- where there is a next ticket, it is one more than those that were given
 next_is : (d : Desk) (t : ℕ) → Some t ≡ next_ticket d → (t ≡ 1 + length d.readers) × (length d.readers < most_tickets)
@@ -53,7 +30,8 @@ module _ {S : Type 0} (g : store.Ghosts S) (before mid after : Held S) (name : B
     still_shown : HasCleanDisk b → (d : Desk) → RepresentsDesk a.now.trees d → RepresentsDesk b.now.trees d
     still_shown clean d shown = subst (λ (db : Database). RepresentsDesk db.trees d) (sym (looked.same clean)) shown
 
-    put : HasCleanDisk b → PutsRow tables.reader.tree (reader_cells row) b.now c.now → (d : Desk) → RepresentsDesk a.now.trees d → RepresentsDesk c.now.trees (with_reader (next_ticket d) name until d)
+    put : HasCleanDisk b → PutsRow tables.reader.tree (reader_cells row) b.now c.now → (d : Desk)
+        → RepresentsDesk a.now.trees d → RepresentsDesk c.now.trees (with_reader (next_ticket d) name until d)
     put clean puts d shown =
         let at = is clean d shown in
         let n = next_is d ticket at in
@@ -66,7 +44,8 @@ module _ {S : Type 0} (g : store.Ghosts S) (before mid after : Held S) (name : B
         (counted_more (λ (r : ReaderRow). r.ticket) 1 d.readers row shown.tickets n.0)
         (let size = length-append d.readers (row ∷ []) in omega (arith, size, few)) (let size = length-append d.readers (row ∷ []) in omega (arith, size)))
 
-    pub added : Goes b c → (HasCleanDisk c → PutsRow tables.reader.tree (reader_cells row) b.now c.now) → StoreUpdates g RepresentsDeskAlone IsLegible before after (Ok (Some ticket)) (λ _. ⊤) (λ d. with_reader (next_ticket d) name until d) (tables.reader.tree ∷ [])
+    pub added : Goes b c → (HasCleanDisk c → PutsRow tables.reader.tree (reader_cells row) b.now c.now)
+        → StoreUpdates g RepresentsDeskAlone IsLegible before after (Ok (Some ticket)) (λ _. ⊤) (λ d. with_reader (next_ticket d) name until d) (tables.reader.tree ∷ [])
     added goes puts =
         let back = early b c _ goes.on.crash in
         record {

@@ -1,64 +1,14 @@
 -- The statements on the rows of readers: what their texts mean, what they leave or tell, and why they fail.
 use Rattle.std.proofs.Common.{◌≡◌, ◌≤◌, ◌<◌, ◌^◌, ℕ, zero, suc, ℤ, pos, List, [], ◌∷◌, map, filter, length, drop, codes, Bool, true, false, if◌then◌else◌, ltb, Result, OnOk, IfOk, IfErr, nat_eq, refl, arith}
-use Rattle.std.proofs.Math.Nat.{le_refl}
-use Rattle.std.proofs.lemmas.Bool.{ltb-true}
-use Rattle.std.specs.List.{list_any}
-use Rattle.sqlite.specs.declared.types.Value.TheVariants.{Null, Int, Text}
-use Rattle.std.specs.Prelude.{IsUtf8}
-use Rattle.std.specs.Cmp.{IsTotalOrder, on_total, int_cmp_total}
-use Rattle.std.specs.List.{AllByRecursion}
-use Rattle.std.specs.Ordering.{int_cmp}
 use Rattle.std.specs.declared.cmp.Ordering.{Ordering}
-use Rattle.isad_core.specs.Days.{is_day_number}
-use Rattle.sqlite.specs.Order.{Row, column}
-use Rattle.sqlite.specs.Cast.{cast_row}
-use Rattle.sqlite.specs.Edit.{edit_of}
-use Rattle.sqlite.specs.Effect.{value_rows}
-use Rattle.sqlite.specs.Rowids.TheVariants.{Chosen}
-use Rattle.sqlite.specs.Term.{Term, lit, col, op2}
-use Rattle.sqlite.specs.Collation.TheVariants.{Binary}
-use Rattle.sqlite.specs.Command.{Command}
-use Rattle.sqlite.specs.Command.TheVariants.{Insert, Update, Select}
-use Rattle.sqlite.specs.Source.TheVariants.{Values}
 use Rattle.sqlite.specs.Listing.{understood}
-use Rattle.sqlite.specs.State.{State, IsLive}
-use Rattle.sqlite.specs.Tree.{Trees}
 use Rattle.sqlite_schema.specs.Names.{same_name}
-use Rattle.sqlite_sql.specs.declared.ops.BinaryOp.TheVariants.{Compare}
-use Rattle.sqlite_sql.specs.declared.ops.CompareOp.TheVariants.{Eq}
 use Rattle.sqlite_tied.specs.Compute.{everything}
-use Rattle.sqlite_trees.proofs.ListLemmas.{all_weaker}
-use Rattle.sqlite_value.specs.declared.keys.Key.{Key}
-use Rattle.sqlite_value.specs.Keys.{ascending, joined}
-use Rattle.office_tables.specs.Versions.{Version, First, Second}
-use Rattle.isad_core.specs.Limits.{most_tickets}
-use Rattle.desk_core.specs.DeskRows.{ReaderRow}
-use Rattle.office_tables.specs.Query.{Finds, FindsFirst, Misses}
-use Rattle.office_tables.specs.ChangeStatement.{Ran}
-use Rattle.office_tables.specs.Faults.{IsUnlimited, HasCause}
-use Rattle.office_tables.specs.StatementMeaning.{Means}
-use Rattle.office_tables.specs.Order.{IsOrdered}
-use Rattle.office_tables.specs.Schema.{schema, reader}
+use Rattle.sqlite_value.specs.Keys.{joined}
 use Rattle.office_tables.specs.Schema as tables
-use Rattle.office_tables.specs.Step.{Holds, HasRows, OnlyTouches, PutsRow}
-use Rattle.office_tables.specs.declared.fault.StoreFault.{StoreFault}
-use Rattle.desk_store.specs.Readers.{renewed}
-use Rattle.desk_store.specs.Rows.{reader_cells}
-use Rattle.desk_store.specs.Representation.{IsLegibleReader}
-use Rattle.office_tables.specs.RowNumbers.{AreCounted}
 use Rattle.desk_store.specs.declared.readers.NamedReader.{NamedReader}
-use Rattle.office_tables.proofs.Casts.{cast_int, cast_null}
-use Rattle.office_tables.proofs.InsertCauses.{IsWelcome}
-use Rattle.office_tables.proofs.Queries.{asking, choosing}
-use Rattle.office_tables.proofs.statements.InsertOf.{insert_puts, insert_faults}
-use Rattle.office_tables.proofs.statements.SelectOf.{select_finds, select_faults}
-use Rattle.office_tables.proofs.Tests.{only, same_number, by_one_int}
 use Rattle.office_tables.proofs.UpdateCauses.{KeepsTable}
-use Rattle.office_tables.proofs.statements.UpdateOf.{update_leaves, update_faults}
-use Rattle.office_tables.proofs.numbered.Counted.{counted_rises}
-use Rattle.office_tables.proofs.statements.LastOf.{last_of, last_finds, last_faults}
-use Rattle.office_tables.proofs.statements.OnlyOf.{update_only}
-use Rattle.office_tables.proofs.statements.WelcomeOf.{number_welcome}
+use Rattle.desk_store.proofs.Common.{AllByRecursion, AreCounted, Binary, Chosen, Command, Compare, Eq, Finds, FindsFirst, First, HasCause, HasRows, Holds, Insert, Int, IsLegibleReader, IsLive, IsOrdered, IsTotalOrder, IsUnlimited, IsUtf8, IsWelcome, Key, Means, Misses, Null, OnlyTouches, PutsRow, Ran, ReaderRow, Row, Second, Select, State, StoreFault, Term, Text, Trees, Update, Values, Version, all_weaker, ascending, asking, by_one_int, cast_int, cast_null, cast_row, choosing, col, column, counted_rises, edit_of, insert_faults, insert_puts, int_cmp, int_cmp_total, is_day_number, last_faults, last_finds, last_of, le_refl, list_any, lit, ltb-true, most_tickets, number_welcome, on_total, only, op2, reader, reader_cells, renewed, same_number, schema, select_faults, select_finds, update_faults, update_leaves, update_only, value_rows}
 
 -- ---- a new reader
 
@@ -75,8 +25,11 @@ pub insert_reader_means : (v : Version) → Means v insert_reader_text 3 insert_
 unfolding understood everything
 insert_reader_means v = record { is = refl; plain = (refl, refl); whole = (le_refl _, refl, refl); unlisted = refl }
 
-reader_welcome : (r : ReaderRow) (xs : List ReaderRow) (v : Version) (db : Trees) → db tables.reader.tree ≡ map reader_cells xs → list_any (λ (x : ReaderRow). nat_eq r.ticket x.ticket) xs ≡ false → IsWelcome (schema v) db reader (reader_cells r)
-reader_welcome r xs v db stored none = number_welcome v reader reader_cells (λ x. x.ticket) (λ _. refl) r xs db stored none refl
+reader_welcome : (r : ReaderRow) (xs : List ReaderRow) (v : Version) (db : Trees)
+    → db tables.reader.tree ≡ map reader_cells xs → list_any (λ (x : ReaderRow). nat_eq r.ticket x.ticket) xs ≡ false
+    → IsWelcome (schema v) db reader (reader_cells r)
+reader_welcome r xs v db stored none =
+    number_welcome v reader reader_cells (λ x. x.ticket) (λ _. refl) r xs db stored none refl
     (record { typed = refl; present = refl; checked = refl; referred = refl; parents = refl })
 
 module _ (old new : State) (x : ReaderRow) (v : Version) (has : old.now.schema ≡ schema v) where
@@ -86,10 +39,12 @@ module _ (old new : State) (x : ReaderRow) (v : Version) (has : old.now.schema �
   news : (edit_of old.now.trees reader [] Chosen 0 (value_rows params 4 1 insert_reader_terms)).news ≡ reader_cells x ∷ []
   news = rw (cast_int (pos x.ticket), cast_null, cast_int x.until) refl
 
-  pub insert_reader_puts : (r : Result Unit StoreFault) → Ran insert_reader_text params old new r → OnOk r (PutsRow tables.reader.tree (reader_cells x) old.now new.now)
+  pub insert_reader_puts : (r : Result Unit StoreFault) → Ran insert_reader_text params old new r
+      → OnOk r (PutsRow tables.reader.tree (reader_cells x) old.now new.now)
   insert_reader_puts = insert_puts v 0 reader refl insert_reader_text insert_reader_terms 4 params (insert_reader_means v) old new has (reader_cells x) news
 
-  pub insert_reader_faults : (xs : List ReaderRow) → Holds reader reader_cells old xs → list_any (λ (r : ReaderRow). nat_eq x.ticket r.ticket) xs ≡ false → IsUnlimited old → IsLive old
+  pub insert_reader_faults : (xs : List ReaderRow) → Holds reader reader_cells old xs
+      → list_any (λ (r : ReaderRow). nat_eq x.ticket r.ticket) xs ≡ false → IsUnlimited old → IsLive old
       → (r : Result Unit StoreFault) → Ran insert_reader_text params old new r → IfErr r (HasCause old new)
   insert_reader_faults xs stored none =
       insert_faults v 0 reader refl insert_reader_text insert_reader_terms 4 params (insert_reader_means v) old new has (reader_cells x) news refl (reader_welcome x xs v old.now.trees stored none)
@@ -124,7 +79,8 @@ reader_kept Second = record { listed = refl; apart = refl; spared = refl; fits =
 abbrev renewed_to : ℤ → ReaderRow → ReaderRow
 renewed_to until r = record r { until = until }
 
-reader_alike : (until : ℤ) (r : ReaderRow) (p : ℕ) → ltb p 2 ≡ true → column (reader_cells r) p ≡ column (reader_cells (renewed_to until r)) p
+reader_alike : (until : ℤ) (r : ReaderRow) (p : ℕ) → ltb p 2 ≡ true
+    → column (reader_cells r) p ≡ column (reader_cells (renewed_to until r)) p
 reader_alike until r zero h = refl
 reader_alike until r (suc zero) h = refl
 reader_alike until r (suc (suc p)) h = absurd (omega (arith, ltb-true _ _ h))
@@ -188,13 +144,15 @@ unfolding understood everything
 find_reader_means v = record { is = refl; plain = (refl, refl); whole = (le_refl _, refl, refl); unlisted = refl }
 
 module _ (old new : State) (t : ℕ) (v : Version) (has : old.now.schema ≡ schema v) (xs : List ReaderRow) (stored : Holds reader reader_cells old xs) {X : Type 0} (items : X → List NamedReader) (r : Result X StoreFault) where
-  pub find_reader_finds : IfOk r (λ found. Finds named_cells find_reader_text (Int (pos t) ∷ []) old new (items found)) → IfOk r (λ found. (ys : List ReaderRow) × IsOrdered by_ticket (filter (λ (x : ReaderRow). nat_eq t x.ticket) xs) ys × (items found ≡ map named ys))
+  pub find_reader_finds : IfOk r (λ found. Finds named_cells find_reader_text (Int (pos t) ∷ []) old new (items found))
+      → IfOk r (λ found. (ys : List ReaderRow) × IsOrdered by_ticket (filter (λ (x : ReaderRow). nat_eq t x.ticket) xs) ys × (items found ≡ map named ys))
   find_reader_finds =
       select_finds v reader find_reader_text with_its_number named_columns in_order named_names (Int (pos t) ∷ []) (find_reader_means v) old new has reader_cells xs stored
       (λ (x : ReaderRow). nat_eq t x.ticket) (λ x. only (same_number x.ticket t)) (λ x. named_cells (named x)) (λ (x : ReaderRow). Int (pos x.ticket) ∷ []) (λ _. refl) by_ticket (λ _. refl) (λ a b. by_one_int (pos a.ticket) (pos b.ticket))
       named_cells items named (λ _. refl) r
 
-  pub find_reader_faults : AllByRecursion IsLegibleReader xs → IsUnlimited old → IfErr r (Misses named_cells IsNamed find_reader_text (Int (pos t) ∷ []) old new) → IfErr r (HasCause old new)
+  pub find_reader_faults : AllByRecursion IsLegibleReader xs → IsUnlimited old
+      → IfErr r (Misses named_cells IsNamed find_reader_text (Int (pos t) ∷ []) old new) → IfErr r (HasCause old new)
   find_reader_faults legible free =
       select_faults v reader find_reader_text with_its_number named_columns in_order named_names (Int (pos t) ∷ []) (find_reader_means v) old new has reader_cells xs stored
       (λ (x : ReaderRow). nat_eq t x.ticket) (λ x. only (same_number x.ticket t)) (λ x. named_cells (named x)) (λ (x : ReaderRow). Int (pos x.ticket) ∷ []) (λ _. refl) by_ticket (λ _. refl) (λ a b. by_one_int (pos a.ticket) (pos b.ticket))
@@ -216,9 +174,13 @@ module _ (old new : State) (v : Version) (has : old.now.schema ≡ schema v) (xs
   pub last_ticket_finds : IfOk r (FindsFirst last_ticket_text [] old new) → IfOk r (λ n. n ≡ length xs)
   last_ticket_finds = last_finds (λ (x : ReaderRow). x.ticket) v reader last_ticket_text (codes "ticket" ∷ []) (last_ticket_means v) old new has reader_cells (λ _. refl) xs stored counted r
 
-  pub last_ticket_faults : length xs ≤ most_tickets → IsUnlimited old → IfErr r (Misses (λ n. Int (pos n) ∷ []) (λ n. n < 2 ^ 32) last_ticket_text [] old new) → IfErr r (HasCause old new)
-  last_ticket_faults few free = last_faults (λ (x : ReaderRow). x.ticket) v reader last_ticket_text (codes "ticket" ∷ []) (last_ticket_means v) old new has reader_cells (λ _. refl) xs stored counted refl (omega (arith, few)) free r
+  pub last_ticket_faults : length xs ≤ most_tickets → IsUnlimited old
+      → IfErr r (Misses (λ n. Int (pos n) ∷ []) (λ n. n < 2 ^ 32) last_ticket_text [] old new)
+      → IfErr r (HasCause old new)
+  last_ticket_faults few free =
+      last_faults (λ (x : ReaderRow). x.ticket) v reader last_ticket_text (codes "ticket" ∷ []) (last_ticket_means v) old new has reader_cells (λ _. refl) xs stored counted refl (omega (arith, few)) free r
 
 -- a ticket that is renewed is the same ticket
-pub same_tickets : (t : ℕ) (until : ℤ) (r : ReaderRow) → (if nat_eq t r.ticket then renewed_to until r else r).ticket ≡ r.ticket
+pub same_tickets : (t : ℕ) (until : ℤ) (r : ReaderRow)
+    → (if nat_eq t r.ticket then renewed_to until r else r).ticket ≡ r.ticket
 same_tickets t until r = elim (nat_eq t r.ticket) as (λ b. (if b then renewed_to until r else r).ticket ≡ r.ticket) [ true ↦ refl | false ↦ refl ]

@@ -1,11 +1,7 @@
 -- The containers at the desk are read, and then for each whether an order waits for it.
 use Rattle.std.proofs.Common.{◌≡◌, ℕ, ◌+◌, ◌<◌, ◌≤◌, Bool, nat_eq, List, [], ◌∷◌, ◌++◌, map, filter, length, take, sym, ap, ◌∙◌}
 use Rattle.std.specs.Prelude.{get_or}
-use Rattle.std.specs.List.{list_any}
-use Rattle.std.proofs.lemmas.List.{map-append, take_more, take_all}
-use Rattle.sqlite_trees.proofs.ListLemmas.{map-map}
-use Rattle.desk_core.specs.DeskRows.{Desk, OrderRow, HoldingRow}
-use Rattle.desk_store.specs.Holdings.{waits_for, at_desk_of}
+use Rattle.desk_store.proofs.Common.{Desk, HoldingRow, OrderRow, at_desk_of, list_any, map-append, map-map, take_all, take_more, waits_for}
 
 abbrev pub is_at_desk : HoldingRow → Bool
 is_at_desk h = nat_eq 1 h.place
@@ -16,12 +12,16 @@ containers_at_desk d = map (λ (h : HoldingRow). h.container) (filter is_at_desk
 abbrev pub with_awaited : List OrderRow → ℕ → ℕ × Bool
 with_awaited orders c = (c, list_any (waits_for c) orders)
 
-pub told_more : (orders : List OrderRow) (cs : List ℕ) (i : ℕ) (done : List (ℕ × Bool)) (awaited : Bool) → i < length cs → done ≡ map (with_awaited orders) (take i cs)
-    → awaited ≡ list_any (waits_for (get_or cs i 0)) orders → done ++ (get_or cs i 0, awaited) ∷ [] ≡ map (with_awaited orders) (take (i + 1) cs)
+pub told_more : (orders : List OrderRow) (cs : List ℕ) (i : ℕ) (done : List (ℕ × Bool)) (awaited : Bool) → i < length cs
+    → done ≡ map (with_awaited orders) (take i cs)
+    → awaited ≡ list_any (waits_for (get_or cs i 0)) orders
+    → done ++ (get_or cs i 0, awaited) ∷ [] ≡ map (with_awaited orders) (take (i + 1) cs)
 told_more orders cs i done awaited low so is =
     ap (λ l. l ++ (get_or cs i 0, awaited) ∷ []) so ∙ ap (λ b. map (with_awaited orders) (take i cs) ++ (get_or cs i 0, b) ∷ []) is
-    ∙ sym (map-append (with_awaited orders) (take i cs) (get_or cs i 0 ∷ [])) ∙ sym (ap (map (with_awaited orders)) (take_more cs i 0 low))
+    ∙ sym (map-append (with_awaited orders) (take i cs) (get_or cs i 0 ∷ []))
+    ∙ sym (ap (map (with_awaited orders)) (take_more cs i 0 low))
 
-pub told_whole : (d : Desk) (cs : List ℕ) (i : ℕ) (done : List (ℕ × Bool)) → length cs ≤ i → cs ≡ containers_at_desk d → done ≡ map (with_awaited d.orders) (take i cs) → done ≡ at_desk_of d
+pub told_whole : (d : Desk) (cs : List ℕ) (i : ℕ) (done : List (ℕ × Bool)) → length cs ≤ i → cs ≡ containers_at_desk d
+    → done ≡ map (with_awaited d.orders) (take i cs) → done ≡ at_desk_of d
 told_whole d cs i done whole are so =
     so ∙ ap (map (with_awaited d.orders)) (take_all i cs whole ∙ are) ∙ map-map (with_awaited d.orders) (λ (h : HoldingRow). h.container) (filter is_at_desk d.holdings)

@@ -1,32 +1,8 @@
 -- The statement on the containers at the desk: what its text means, what it tells, and why it fails.
 use Rattle.std.proofs.Common.{◌≡◌, ℕ, pos, List, [], ◌∷◌, map, filter, codes, Result, IfOk, IfErr, nat_eq, refl}
-use Rattle.std.proofs.Math.Nat.{le_refl}
-use Rattle.std.specs.Prelude.{⊤}
-use Rattle.sqlite.specs.declared.types.Value.TheVariants.{Int}
-use Rattle.sqlite.specs.Order.{Row}
-use Rattle.sqlite.specs.Term.{Term, lit, col, op2}
-use Rattle.sqlite.specs.Collation.TheVariants.{Binary}
-use Rattle.sqlite.specs.Command.{Command}
-use Rattle.sqlite.specs.Command.TheVariants.{Select}
 use Rattle.sqlite.specs.Listing.{understood}
-use Rattle.sqlite.specs.State.{State}
-use Rattle.sqlite_sql.specs.declared.ops.BinaryOp.TheVariants.{Compare}
-use Rattle.sqlite_sql.specs.declared.ops.CompareOp.TheVariants.{Eq}
 use Rattle.sqlite_tied.specs.Compute.{everything}
-use Rattle.sqlite_trees.proofs.ListLemmas.{all_of}
-use Rattle.office_tables.specs.Versions.{Version}
-use Rattle.desk_core.specs.DeskRows.{HoldingRow}
-use Rattle.office_tables.specs.Query.{Finds, Misses}
-use Rattle.office_tables.specs.Faults.{IsUnlimited, HasCause}
-use Rattle.office_tables.specs.StatementMeaning.{Means}
-use Rattle.office_tables.specs.Order.{IsOrdered}
-use Rattle.office_tables.specs.Schema.{schema, holding}
-use Rattle.office_tables.specs.Step.{Holds}
-use Rattle.office_tables.specs.declared.fault.StoreFault.{StoreFault}
-use Rattle.office_tables.proofs.Queries.{asking}
-use Rattle.office_tables.proofs.statements.SelectOf.{select_finds, select_faults}
-use Rattle.office_tables.proofs.Tests.{only, same_number, by_one_int}
-use Rattle.desk_store.specs.Rows.{holding_cells}
+use Rattle.desk_store.proofs.Common.{Binary, Command, Compare, Eq, Finds, HasCause, HoldingRow, Holds, Int, IsOrdered, IsUnlimited, Means, Misses, Row, Select, State, StoreFault, Term, Version, all_of, asking, by_one_int, col, holding, holding_cells, le_refl, lit, only, op2, same_number, schema, select_faults, select_finds, ⊤}
 use Rattle.desk_store.proofs.CardRows.{in_order}
 use Rattle.desk_store.proofs.LoanRows.{by_container}
 
@@ -54,7 +30,8 @@ module _ (old new : State) (v : Version) (has : old.now.schema ≡ schema v) (xs
       (λ (h : HoldingRow). nat_eq 1 h.place) (λ h. only (same_number h.place 1)) (λ h. number_cells h.container) (λ (h : HoldingRow). Int (pos h.container) ∷ []) (λ _. refl) by_container (λ _. refl) (λ a b. by_one_int (pos a.container) (pos b.container))
       number_cells items (λ (h : HoldingRow). h.container) (λ _. refl) r
 
-  pub desk_faults : IsUnlimited old → IfErr r (Misses number_cells (λ _. ⊤) desk_text [] old new) → IfErr r (HasCause old new)
+  pub desk_faults : IsUnlimited old → IfErr r (Misses number_cells (λ _. ⊤) desk_text [] old new)
+      → IfErr r (HasCause old new)
   desk_faults free =
       select_faults v holding desk_text is_there (col 1 0 ∷ []) in_order (codes "container" ∷ []) [] (desk_means v) old new has holding_cells xs stored
       (λ (h : HoldingRow). nat_eq 1 h.place) (λ h. only (same_number h.place 1)) (λ h. number_cells h.container) (λ (h : HoldingRow). Int (pos h.container) ∷ []) (λ _. refl) by_container (λ _. refl) (λ a b. by_one_int (pos a.container) (pos b.container))

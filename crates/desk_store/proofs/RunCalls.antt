@@ -1,39 +1,14 @@
 -- A run and its lines, on the whole desk: first the next number is read, then the run is put, and then a line for each container.
 use Rattle.std.proofs.Common.{◌≡◌, ℕ, zero, suc, ◌+◌, ◌<◌, ℤ, pos, Bool, false, ◌&&◌, cond, nat_eq, List, [], ◌∷◌, ◌++◌, map, filter, take, get_or, length, Option, Some, None, Result, Ok, Err, OnOk, OnErr, inl, inr, refl, sym, ap, subst, ◌∙◌, arith}
-use Rattle.std.specs.Prelude.{nat_lt, ⊤}
-use Rattle.std.specs.List.{AllByRecursion, IsDistinct, list_any}
-use Rattle.std.proofs.lemmas.Bool.{cases_Bool, ltb-true, or_from, and_right}
-use Rattle.std.proofs.lemmas.List.{length-append, append_assoc, map_more}
+use Rattle.std.specs.List.{IsDistinct}
 use Rattle.std.proofs.lemmas.List.Folds.{list_any-append}
-use Rattle.sqlite.specs.Effect.{Database}
-use Rattle.sqlite.specs.Held.{Held, state}
-use Rattle.sqlite.specs.State.{State, HasCleanDisk}
-use Rattle.sqlite.specs.Tree.{put_row}
-use Rattle.sqlite_trees.proofs.ListLemmas.{all_of, all-append, all-get_or, all-map, all_from_map}
 use Rattle.sqlite_trees.specs.declared.store.Store as store
 use Rattle.tree_core.proofs.Lists.{eqb_comm}
-use Rattle.isad_core.specs.Limits.{most_runs}
-use Rattle.desk_core.specs.DeskRows.{Desk, RunRow, RunLineRow}
-use Rattle.office_tables.specs.Calls.{StoreUpdates}
-use Rattle.office_tables.specs.Faults.{IsUnlimited, HasCause}
-use Rattle.office_tables.specs.Step.{Goes, IsAborted, LeavesUnchanged, OnlyTouches, PutsRow, Spares}
-use Rattle.office_tables.specs.declared.fault.StoreFault.{StoreFault}
-use Rattle.office_tables.proofs.Calls.{early, goes_then, cut_then}
-use Rattle.office_tables.proofs.Causes.{still_unlimited}
-use Rattle.office_tables.proofs.LaterCauses.{next_cause}
-use Rattle.office_tables.proofs.Puts.{put_rows}
-use Rattle.office_tables.proofs.Touching.{touched_again, touched_wider}
-use Rattle.desk_store.specs.Rows.{run_cells, run_line_cells}
-use Rattle.desk_store.specs.Runs.{next_run, line_of, with_run, TakesEachOnce}
-use Rattle.desk_store.specs.Representation.{RepresentsDesk, RepresentsDeskAlone, IsLegible, IsNumberOf}
-use Rattle.office_tables.specs.RowNumbers.{HasNumbered}
+use Rattle.desk_store.specs.Runs.{line_of}
 use Rattle.office_tables.specs.Schema as tables
-use Rattle.desk_store.specs.declared.container_orders.ContainerOrder.{ContainerOrder}
-use Rattle.office_tables.proofs.numbered.Counted.{counted_more, counted_free, put_end}
-use Rattle.office_tables.proofs.numbered.OwnNumbers.{still_numbered}
+use Rattle.desk_store.proofs.Common.{AllByRecursion, ContainerOrder, Database, Desk, Goes, HasCause, HasCleanDisk, HasNumbered, Held, IsAborted, IsLegible, IsNumberOf, IsUnlimited, LeavesUnchanged, OnlyTouches, PutsRow, RepresentsDesk, RepresentsDeskAlone, RunLineRow, RunRow, Spares, State, StoreFault, StoreUpdates, TakesEachOnce, all-append, all-get_or, all-map, all_from_map, all_of, and_right, append_assoc, cases_Bool, counted_free, counted_more, cut_then, early, goes_then, length-append, list_any, looked_spares, ltb-true, map_more, most_runs, nat_lt, next_cause, next_run, or_from, put_end, put_row, put_rows, run_cells, run_line_cells, state, still_numbered, still_unlimited, touched_again, touched_wider, with_run, ⊤}
 use Rattle.desk_store.proofs.Frames.{with_runs}
 use Rattle.desk_store.proofs.NumbersOf.{widened, none_after}
-use Rattle.office_tables.proofs.Sparing.{looked_spares}
 
 -- ---- the lines
 
@@ -41,7 +16,8 @@ abbrev pub is_line : ℕ → ℕ → RunLineRow → Bool
 is_line run c l = nat_eq run l.run && nat_eq c l.container
 
 -- a run that has no line has none for a container
-none_of_run : (run c : ℕ) (ls : List RunLineRow) → filter (λ (l : RunLineRow). nat_eq run l.run) ls ≡ [] → list_any (is_line run c) ls ≡ false
+none_of_run : (run c : ℕ) (ls : List RunLineRow) → filter (λ (l : RunLineRow). nat_eq run l.run) ls ≡ []
+    → list_any (is_line run c) ls ≡ false
 none_of_run run c [] none = refl
 none_of_run run c (l ∷ ls) none =
     let rest = filter (λ (l : RunLineRow). nat_eq run l.run) ls in
@@ -51,7 +27,8 @@ none_of_run run c (l ∷ ls) none =
     ]
 
 -- the containers before this one are others
-not_yet : (run : ℕ) (xs : List ContainerOrder) (i : ℕ) (d : ContainerOrder) → IsDistinct nat_eq (map (λ (t : ContainerOrder). t.container) xs) → i < length xs
+not_yet : (run : ℕ) (xs : List ContainerOrder) (i : ℕ) (d : ContainerOrder)
+    → IsDistinct nat_eq (map (λ (t : ContainerOrder). t.container) xs) → i < length xs
     → list_any (is_line run (get_or xs i d).container) (map (line_of run) (take i xs)) ≡ false
 unfolding IsDistinct
 not_yet run [] i d apart low = absurd (omega (arith, low))
@@ -61,14 +38,18 @@ not_yet run (x ∷ xs) (suc i) d apart low =
     ∙ all-get_or (λ (t : ContainerOrder). nat_eq x.container t.container ≡ false) xs i d (all_from_map (λ c. nat_eq x.container c ≡ false) (λ (t : ContainerOrder). t.container) xs apart.0) (omega (arith, low)) in
     or_from _ _ (and_right (nat_eq run run) _ other) (not_yet run xs i d apart.1 (omega (arith, low)))
 
-pub free_line : (run : ℕ) (ls : List RunLineRow) (xs : List ContainerOrder) (i : ℕ) (d : ContainerOrder) → filter (λ (l : RunLineRow). nat_eq run l.run) ls ≡ [] → IsDistinct nat_eq (map (λ (t : ContainerOrder). t.container) xs) → i < length xs
+pub free_line : (run : ℕ) (ls : List RunLineRow) (xs : List ContainerOrder) (i : ℕ) (d : ContainerOrder)
+    → filter (λ (l : RunLineRow). nat_eq run l.run) ls ≡ []
+    → IsDistinct nat_eq (map (λ (t : ContainerOrder). t.container) xs) → i < length xs
     → list_any (is_line run (get_or xs i d).container) (ls ++ map (line_of run) (take i xs)) ≡ false
 free_line run ls xs i d none apart low =
     list_any-append (is_line run (get_or xs i d).container) ls (map (line_of run) (take i xs)) ∙ or_from _ _ (none_of_run run (get_or xs i d).container ls none) (not_yet run xs i d apart low)
 
 pub line_more : (run : ℕ) (ls : List RunLineRow) (xs : List ContainerOrder) (i : ℕ) (d : ContainerOrder) → i < length xs
     → ((ls ++ map (line_of run) (take i xs)) ++ line_of run (get_or xs i d) ∷ []) ≡ (ls ++ map (line_of run) (take (i + 1) xs))
-line_more run ls xs i d low = append_assoc ls (map (line_of run) (take i xs)) (line_of run (get_or xs i d) ∷ []) ∙ ap (λ l. ls ++ l) (sym (map_more (line_of run) xs i d low))
+line_more run ls xs i d low =
+    append_assoc ls (map (line_of run) (take i xs)) (line_of run (get_or xs i d) ∷ [])
+    ∙ ap (λ l. ls ++ l) (sym (map_more (line_of run) xs i d low))
 
 -- ---- a run with its lines
 
@@ -83,23 +64,30 @@ module _ (a b c : State) (run : ℕ) (on : ℤ) (taken : List ContainerOrder) wh
   abbrev row : RunRow
   row = record { id = run; day = on }
 
-  pub both_touched : OnlyTouches (tables.run.tree ∷ []) a.now b.now → OnlyTouches (tables.run_line.tree ∷ []) b.now c.now → OnlyTouches (tables.run.tree ∷ tables.run_line.tree ∷ []) a.now c.now
+  pub both_touched : OnlyTouches (tables.run.tree ∷ []) a.now b.now
+      → OnlyTouches (tables.run_line.tree ∷ []) b.now c.now
+      → OnlyTouches (tables.run.tree ∷ tables.run_line.tree ∷ []) a.now c.now
   both_touched first then =
       touched_again (tables.run.tree ∷ tables.run_line.tree ∷ []) a.now b.now c.now (touched_wider (tables.run.tree ∷ []) (tables.run.tree ∷ tables.run_line.tree ∷ []) a.now b.now refl first) (touched_wider (tables.run_line.tree ∷ []) (tables.run.tree ∷ tables.run_line.tree ∷ []) b.now c.now refl then)
 
   -- the lines are as they were
-  pub lines_still : OnlyTouches (tables.run.tree ∷ []) a.now b.now → (d : Desk) → RepresentsDesk a.now.trees d → HasNumbered run_line_cells (b.now.trees tables.run_line.tree) d.run_lines
-  lines_still first d shown = still_numbered run_line_cells (a.now.trees tables.run_line.tree) (b.now.trees tables.run_line.tree) d.run_lines (first tables.run_line.tree refl refl) shown.run_lines
+  pub lines_still : OnlyTouches (tables.run.tree ∷ []) a.now b.now → (d : Desk) → RepresentsDesk a.now.trees d
+      → HasNumbered run_line_cells (b.now.trees tables.run_line.tree) d.run_lines
+  lines_still first d shown =
+      still_numbered run_line_cells (a.now.trees tables.run_line.tree) (b.now.trees tables.run_line.tree) d.run_lines (first tables.run_line.tree refl refl) shown.run_lines
 
-  pub run_free : (d : Desk) → RepresentsDesk a.now.trees d → Some run ≡ next_run d → list_any (λ (r : RunRow). nat_eq run r.id) d.runs ≡ false
+  pub run_free : (d : Desk) → RepresentsDesk a.now.trees d → Some run ≡ next_run d
+      → list_any (λ (r : RunRow). nat_eq run r.id) d.runs ≡ false
   run_free d shown is = counted_free (λ (r : RunRow). r.id) 1 d.runs run shown.run_numbers ((next_is d run is).0 ∙ omega arith)
 
   -- no line has the run's number yet
-  pub no_line : (d : Desk) → RepresentsDesk a.now.trees d → Some run ≡ next_run d → filter (λ (l : RunLineRow). nat_eq run l.run) d.run_lines ≡ []
+  pub no_line : (d : Desk) → RepresentsDesk a.now.trees d → Some run ≡ next_run d
+      → filter (λ (l : RunLineRow). nat_eq run l.run) d.run_lines ≡ []
   no_line d shown is = none_after (λ (l : RunLineRow). l.run) d.runs run (let n = (next_is d run is).0 in omega (arith, n)) d.run_lines shown.line_runs
 
   -- the old lines are of the old runs, and the new ones of this
-  lines_known : (d : Desk) → RepresentsDesk a.now.trees d → Some run ≡ next_run d → AllByRecursion (λ (l : RunLineRow). IsNumberOf (d.runs ++ row ∷ []) l.run) (d.run_lines ++ map (line_of run) taken)
+  lines_known : (d : Desk) → RepresentsDesk a.now.trees d → Some run ≡ next_run d
+      → AllByRecursion (λ (l : RunLineRow). IsNumberOf (d.runs ++ row ∷ []) l.run) (d.run_lines ++ map (line_of run) taken)
   lines_known d shown is =
       let size = length-append d.runs (row ∷ []) in
       let n = (next_is d run is).0 in
@@ -107,8 +95,11 @@ module _ (a b c : State) (run : ℕ) (on : ℤ) (taken : List ContainerOrder) wh
       (widened (λ (l : RunLineRow). l.run) d.runs (d.runs ++ row ∷ []) (omega (arith, size)) d.run_lines shown.line_runs)
       (all-map (λ (l : RunLineRow). IsNumberOf (d.runs ++ row ∷ []) l.run) (line_of run) taken (all_of (λ _. IsNumberOf (d.runs ++ row ∷ []) run) (λ _. (omega (arith, n), omega (arith, n, size))) taken))
 
-  pub run_shown : PutsRow tables.run.tree (run_cells row) a.now b.now → OnlyTouches (tables.run_line.tree ∷ []) b.now c.now → (d : Desk) → RepresentsDesk a.now.trees d → Some run ≡ next_run d
-      → HasNumbered run_line_cells (c.now.trees tables.run_line.tree) (d.run_lines ++ map (line_of run) taken) → RepresentsDesk c.now.trees (with_run (Some run) on taken d)
+  pub run_shown : PutsRow tables.run.tree (run_cells row) a.now b.now
+      → OnlyTouches (tables.run_line.tree ∷ []) b.now c.now → (d : Desk) → RepresentsDesk a.now.trees d
+      → Some run ≡ next_run d
+      → HasNumbered run_line_cells (c.now.trees tables.run_line.tree) (d.run_lines ++ map (line_of run) taken)
+      → RepresentsDesk c.now.trees (with_run (Some run) on taken d)
   run_shown put lines d shown is has =
       let n = next_is d run is in
       let few = n.1 in
@@ -120,7 +111,8 @@ module _ (a b c : State) (run : ℕ) (on : ℤ) (taken : List ContainerOrder) wh
       (let size = length-append d.runs (row ∷ []) in omega (arith, size, few)) has (lines_known d shown is)
 
 -- before the last step the disk was clean too
-pub clean_before : {X : Type 0} (b c : State) (r : Result X StoreFault) → OnOk r (Goes b c) → OnErr r (IsAborted b c) → HasCleanDisk c → HasCleanDisk b
+pub clean_before : {X : Type 0} (b c : State) (r : Result X StoreFault) → OnOk r (Goes b c) → OnErr r (IsAborted b c)
+    → HasCleanDisk c → HasCleanDisk b
 clean_before b c (Ok x) goes cut clean = early b c _ goes.on.crash clean
 clean_before b c (Err e) goes cut clean = early b c _ cut.crash clean
 
@@ -140,7 +132,9 @@ module _ {S : Type 0} (g : store.Ghosts S) (before mid after : Held S) (on : ℤ
     still_shown : HasCleanDisk b → (d : Desk) → RepresentsDesk a.now.trees d → RepresentsDesk b.now.trees d
     still_shown clean d shown = subst (λ (db : Database). RepresentsDesk db.trees d) (sym (looked.same clean)) shown
 
-    pub recorded : Goes b c → (HasCleanDisk c → (d : Desk) → RepresentsDesk b.now.trees d → Some run ≡ next_run d → RepresentsDesk c.now.trees (with_run (Some run) on taken d)) → (HasCleanDisk c → OnlyTouches (tables.run.tree ∷ tables.run_line.tree ∷ []) b.now c.now)
+    pub recorded : Goes b c
+        → (HasCleanDisk c → (d : Desk) → RepresentsDesk b.now.trees d → Some run ≡ next_run d → RepresentsDesk c.now.trees (with_run (Some run) on taken d))
+        → (HasCleanDisk c → OnlyTouches (tables.run.tree ∷ tables.run_line.tree ∷ []) b.now c.now)
         → StoreUpdates g RepresentsDeskAlone (λ d. IsLegible d × TakesEachOnce taken) before after (Ok (Some run)) (λ _. ⊤) (λ d. with_run (next_run d) on taken d) (tables.run.tree ∷ tables.run_line.tree ∷ [])
     recorded goes represents only =
         let back = early b c _ goes.on.crash in
@@ -155,7 +149,9 @@ module _ {S : Type 0} (g : store.Ghosts S) (before mid after : Held S) (on : ℤ
           faults = λ beside d shown may kept clean free. tt;
         }
 
-    pub not_recorded : (e : StoreFault) → IsAborted b c → (HasCleanDisk c → Spares (OnlyTouches (tables.run.tree ∷ tables.run_line.tree ∷ [])) b c e) → ((d : Desk) → RepresentsDesk b.now.trees d → Some run ≡ next_run d → TakesEachOnce taken → HasCleanDisk c → IsUnlimited b → HasCause b c e)
+    pub not_recorded : (e : StoreFault) → IsAborted b c
+        → (HasCleanDisk c → Spares (OnlyTouches (tables.run.tree ∷ tables.run_line.tree ∷ [])) b c e)
+        → ((d : Desk) → RepresentsDesk b.now.trees d → Some run ≡ next_run d → TakesEachOnce taken → HasCleanDisk c → IsUnlimited b → HasCause b c e)
         → StoreUpdates {X = Option ℕ} g RepresentsDeskAlone (λ d. IsLegible d × TakesEachOnce taken) before after (Err e) (λ _. ⊤) (λ d. with_run (next_run d) on taken d) (tables.run.tree ∷ tables.run_line.tree ∷ [])
     not_recorded e cut spares why = record {
       represents_updated = λ clean beside d shown may. tt;

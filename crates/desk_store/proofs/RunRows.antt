@@ -1,55 +1,11 @@
 -- The statements on the rows of runs and of their lines: what their texts mean, what they leave or tell, and why they fail.
 use Rattle.std.proofs.Common.{◌≡◌, ◌≤◌, ◌<◌, ◌^◌, ℕ, ℤ, pos, List, [], ◌∷◌, length, map, filter, codes, false, ◌&&◌, Result, OnOk, IfOk, IfErr, nat_eq, refl, sym, subst, arith}
-use Rattle.std.specs.Prelude.{⊤}
-use Rattle.std.proofs.Math.Nat.{le_refl}
-use Rattle.std.proofs.lemmas.Result.{IfOk-weaker}
-use Rattle.std.specs.List.{list_any}
-use Rattle.std.specs.List.Sorted.{IsPermutation}
-use Rattle.std.specs.Ordering.{int_cmp, ordering_then}
 use Rattle.std.specs.declared.cmp.Ordering.{Ordering}
-use Rattle.sqlite.specs.declared.types.Value.TheVariants.{Null, Int}
-use Rattle.sqlite.specs.Order.{Row}
-use Rattle.sqlite.specs.Edit.{edit_of, next_rowid}
-use Rattle.sqlite.specs.Effect.{value_rows}
-use Rattle.sqlite.specs.Rowids.TheVariants.{Chosen}
-use Rattle.sqlite.specs.Term.{Term, lit, col, op2}
-use Rattle.sqlite.specs.Collation.TheVariants.{Binary}
-use Rattle.sqlite_sql.specs.declared.ops.BinaryOp.TheVariants.{Compare}
-use Rattle.sqlite_sql.specs.declared.ops.CompareOp.TheVariants.{Eq}
-use Rattle.sqlite_value.specs.declared.keys.Key.{Key}
-use Rattle.sqlite.specs.Command.{Command}
-use Rattle.sqlite.specs.Command.TheVariants.{Insert, Select}
-use Rattle.sqlite.specs.Source.TheVariants.{Values}
 use Rattle.sqlite.specs.Listing.{understood}
-use Rattle.sqlite.specs.State.{State, IsLive}
-use Rattle.sqlite.specs.Tree.{Trees}
-use Rattle.sqlite_schema.specs.Rules.{agree}
 use Rattle.sqlite_tied.specs.Compute.{everything}
-use Rattle.sqlite_value.specs.Keys.{ascending, first_key, plain}
-use Rattle.sqlite_trees.proofs.ListLemmas.{all_of}
-use Rattle.office_tables.specs.Versions.{Version}
-use Rattle.isad_core.specs.Limits.{most_runs}
-use Rattle.desk_core.specs.DeskRows.{RunRow, RunLineRow}
-use Rattle.office_tables.specs.Query.{Finds, FindsFirst, Misses}
-use Rattle.office_tables.specs.ChangeStatement.{Ran}
-use Rattle.office_tables.specs.Faults.{IsUnlimited, HasCause}
-use Rattle.office_tables.specs.StatementMeaning.{Means}
-use Rattle.office_tables.specs.Schema.{schema, run, run_line}
+use Rattle.sqlite_value.specs.Keys.{first_key}
 use Rattle.office_tables.specs.Schema as tables
-use Rattle.office_tables.specs.Step.{Holds, PutsRow}
-use Rattle.office_tables.specs.declared.fault.StoreFault.{StoreFault}
-use Rattle.desk_store.specs.Rows.{run_cells, run_line_cells}
-use Rattle.office_tables.specs.RowNumbers.{AreCounted, HasNumbered}
-use Rattle.desk_store.specs.declared.container_orders.ContainerOrder.{ContainerOrder}
-use Rattle.office_tables.proofs.Casts.{cast_int, cast_null}
-use Rattle.office_tables.proofs.InsertCauses.{IsWelcome}
-use Rattle.office_tables.proofs.Queries.{asking}
-use Rattle.office_tables.proofs.statements.InsertOf.{insert_puts, insert_faults}
-use Rattle.office_tables.proofs.statements.SelectOf.{select_finds, select_faults}
-use Rattle.office_tables.proofs.Tests.{only, both, same_number, by_two_ints}
-use Rattle.office_tables.proofs.statements.LastOf.{last_of, last_finds, last_faults}
-use Rattle.office_tables.proofs.numbered.OwnNumbers.{told_permuted}
-use Rattle.office_tables.proofs.statements.WelcomeOf.{number_welcome, next_welcome, none_agrees}
+use Rattle.desk_store.proofs.Common.{AreCounted, Binary, Chosen, Command, Compare, ContainerOrder, Eq, Finds, FindsFirst, HasCause, HasNumbered, Holds, IfOk-weaker, Insert, Int, IsLive, IsPermutation, IsUnlimited, IsWelcome, Key, Means, Misses, Null, PutsRow, Ran, Row, RunLineRow, RunRow, Select, State, StoreFault, Term, Trees, Values, Version, agree, all_of, ascending, asking, both, by_two_ints, cast_int, cast_null, col, edit_of, insert_faults, insert_puts, int_cmp, last_faults, last_finds, last_of, le_refl, list_any, lit, most_runs, next_rowid, next_welcome, none_agrees, number_welcome, only, op2, ordering_then, plain, run, run_cells, run_line, run_line_cells, same_number, schema, select_faults, select_finds, told_permuted, value_rows, ⊤}
 
 -- ---- the last run
 
@@ -67,8 +23,10 @@ module _ (old new : State) (v : Version) (has : old.now.schema ≡ schema v) (xs
   pub last_run_finds : IfOk r (FindsFirst last_run_text [] old new) → IfOk r (λ n. n ≡ length xs)
   last_run_finds = last_finds (λ (x : RunRow). x.id) v run last_run_text (codes "id" ∷ []) (last_run_means v) old new has run_cells (λ _. refl) xs stored counted r
 
-  pub last_run_faults : length xs ≤ most_runs → IsUnlimited old → IfErr r (Misses (λ n. Int (pos n) ∷ []) (λ n. n < 2 ^ 32) last_run_text [] old new) → IfErr r (HasCause old new)
-  last_run_faults few free = last_faults (λ (x : RunRow). x.id) v run last_run_text (codes "id" ∷ []) (last_run_means v) old new has run_cells (λ _. refl) xs stored counted refl (omega (arith, few)) free r
+  pub last_run_faults : length xs ≤ most_runs → IsUnlimited old
+      → IfErr r (Misses (λ n. Int (pos n) ∷ []) (λ n. n < 2 ^ 32) last_run_text [] old new) → IfErr r (HasCause old new)
+  last_run_faults few free =
+      last_faults (λ (x : RunRow). x.id) v run last_run_text (codes "id" ∷ []) (last_run_means v) old new has run_cells (λ _. refl) xs stored counted refl (omega (arith, few)) free r
 
 -- ---- a new run
 
@@ -85,7 +43,8 @@ pub insert_run_means : (v : Version) → Means v insert_run_text 2 insert_run_co
 unfolding understood everything
 insert_run_means v = record { is = refl; plain = (refl, refl); whole = (le_refl _, refl, refl); unlisted = refl }
 
-run_welcome : (x : RunRow) (xs : List RunRow) (v : Version) (db : Trees) → db tables.run.tree ≡ map run_cells xs → list_any (λ (y : RunRow). nat_eq x.id y.id) xs ≡ false → IsWelcome (schema v) db run (run_cells x)
+run_welcome : (x : RunRow) (xs : List RunRow) (v : Version) (db : Trees) → db tables.run.tree ≡ map run_cells xs
+    → list_any (λ (y : RunRow). nat_eq x.id y.id) xs ≡ false → IsWelcome (schema v) db run (run_cells x)
 run_welcome x xs v db stored none = number_welcome v run run_cells (λ y. y.id) (λ _. refl) x xs db stored none refl
     (record { typed = refl; present = refl; checked = refl; referred = refl; parents = refl })
 
@@ -96,10 +55,12 @@ module _ (old new : State) (x : RunRow) (v : Version) (has : old.now.schema ≡ 
   run_news : (edit_of old.now.trees run [] Chosen 0 (value_rows run_params 3 1 insert_run_terms)).news ≡ run_cells x ∷ []
   run_news = rw (cast_int (pos x.id), cast_null, cast_int x.day) refl
 
-  pub insert_run_puts : (r : Result Unit StoreFault) → Ran insert_run_text run_params old new r → OnOk r (PutsRow tables.run.tree (run_cells x) old.now new.now)
+  pub insert_run_puts : (r : Result Unit StoreFault) → Ran insert_run_text run_params old new r
+      → OnOk r (PutsRow tables.run.tree (run_cells x) old.now new.now)
   insert_run_puts = insert_puts v 4 run refl insert_run_text insert_run_terms 3 run_params (insert_run_means v) old new has (run_cells x) run_news
 
-  pub insert_run_faults : (xs : List RunRow) → Holds run run_cells old xs → list_any (λ (y : RunRow). nat_eq x.id y.id) xs ≡ false → IsUnlimited old → IsLive old
+  pub insert_run_faults : (xs : List RunRow) → Holds run run_cells old xs
+      → list_any (λ (y : RunRow). nat_eq x.id y.id) xs ≡ false → IsUnlimited old → IsLive old
       → (r : Result Unit StoreFault) → Ran insert_run_text run_params old new r → IfErr r (HasCause old new)
   insert_run_faults xs stored none =
       insert_faults v 4 run refl insert_run_text insert_run_terms 3 run_params (insert_run_means v) old new has (run_cells x) run_news refl (run_welcome x xs v old.now.trees stored none)
@@ -119,7 +80,8 @@ pub insert_line_means : (v : Version) → Means v insert_line_text 4 insert_line
 unfolding understood everything
 insert_line_means v = record { is = refl; plain = (refl, refl); whole = (le_refl _, refl, refl); unlisted = refl }
 
-same_line : (a b : ℤ × RunLineRow) → agree plain (1 ∷ 2 ∷ []) (run_line_cells a) (1 ∷ 2 ∷ []) (run_line_cells b) ≡ (nat_eq b.1.run a.1.run && nat_eq b.1.container a.1.container)
+same_line : (a b : ℤ × RunLineRow)
+    → agree plain (1 ∷ 2 ∷ []) (run_line_cells a) (1 ∷ 2 ∷ []) (run_line_cells b) ≡ (nat_eq b.1.run a.1.run && nat_eq b.1.container a.1.container)
 unfolding first_key
 same_line a b = both (same_number a.1.run b.1.run) (same_number a.1.container b.1.container)
 
@@ -133,7 +95,8 @@ module _ (old new : State) (l : RunLineRow) (v : Version) (has : old.now.schema 
   news : (edit_of old.now.trees run_line [] Chosen 0 (value_rows params 5 1 insert_line_terms)).news ≡ run_line_cells added ∷ []
   news = rw (cast_null, cast_int (pos l.run), cast_int (pos l.container), cast_int (pos l.order_no), cast_int (pos l.ticket)) refl
 
-  pub insert_line_puts : (r : Result Unit StoreFault) → Ran insert_line_text params old new r → OnOk r (PutsRow tables.run_line.tree (run_line_cells added) old.now new.now)
+  pub insert_line_puts : (r : Result Unit StoreFault) → Ran insert_line_text params old new r
+      → OnOk r (PutsRow tables.run_line.tree (run_line_cells added) old.now new.now)
   insert_line_puts = insert_puts v 5 run_line refl insert_line_text insert_line_terms 5 params (insert_line_means v) old new has (run_line_cells added) news
 
   module _ (ls : List RunLineRow) (at : HasNumbered run_line_cells (old.now.trees tables.run_line.tree) ls) (none : list_any (λ (x : RunLineRow). nat_eq l.run x.run && nat_eq l.container x.container) ls ≡ false) where
@@ -144,7 +107,8 @@ module _ (old new : State) (l : RunLineRow) (v : Version) (has : old.now.schema 
         next_welcome v run_line run_line_cells (λ (l : RunLineRow). Int (pos l.run) ∷ Int (pos l.container) ∷ Int (pos l.order_no) ∷ Int (pos l.ticket) ∷ []) (λ _. refl) l ls old.now.trees at (rw apart refl)
         (record { typed = refl; present = refl; checked = refl; referred = refl; parents = refl })
 
-    pub insert_line_faults : IsUnlimited old → IsLive old → (r : Result Unit StoreFault) → Ran insert_line_text params old new r → IfErr r (HasCause old new)
+    pub insert_line_faults : IsUnlimited old → IsLive old → (r : Result Unit StoreFault)
+        → Ran insert_line_text params old new r → IfErr r (HasCause old new)
     insert_line_faults = insert_faults v 5 run_line refl insert_line_text insert_line_terms 5 params (insert_line_means v) old new has (run_line_cells added) news refl welcome
 
 -- ---- the lines of a run
@@ -190,7 +154,8 @@ module _ (old new : State) (n : ℕ) (v : Version) (has : old.now.schema ≡ sch
       (λ (x : ℤ × RunLineRow). nat_eq n x.1.run) (λ x. only (same_number x.1.run n)) (λ x. taken_cells (taken_line x.1)) (λ (x : ℤ × RunLineRow). Int (pos x.1.run) ∷ Int (pos x.1.container) ∷ []) (λ _. refl)
       by_run (λ _. refl) (λ a b. by_two_ints (pos a.1.run) (pos b.1.run) (pos a.1.container) (pos b.1.container)) taken_cells items (λ (x : ℤ × RunLineRow). taken_line x.1) (λ _. refl) r found)
 
-  pub lines_with_faults : IsUnlimited old → IfErr r (Misses taken_cells (λ _. ⊤) lines_with_text (Int (pos n) ∷ []) old new) → IfErr r (HasCause old new)
+  pub lines_with_faults : IsUnlimited old
+      → IfErr r (Misses taken_cells (λ _. ⊤) lines_with_text (Int (pos n) ∷ []) old new) → IfErr r (HasCause old new)
   lines_with_faults free =
       select_faults v run_line lines_with_text of_run line_columns in_order line_names (Int (pos n) ∷ []) (lines_with_means v) old new has run_line_cells at.numbered at.are
       (λ (x : ℤ × RunLineRow). nat_eq n x.1.run) (λ x. only (same_number x.1.run n)) (λ x. taken_cells (taken_line x.1)) (λ (x : ℤ × RunLineRow). Int (pos x.1.run) ∷ Int (pos x.1.container) ∷ []) (λ _. refl)

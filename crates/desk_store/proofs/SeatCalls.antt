@@ -1,28 +1,11 @@
 -- A seat that is taken or freed, on the whole desk.
 use Rattle.std.proofs.Common.{◌≡◌, ℕ, ℤ, pos, List, [], ◌∷◌, map, filter, false, not, nat_eq, Some, None, Result, OnOk, refl, ap, ◌∙◌}
-use Rattle.std.specs.List.{list_any}
-use Rattle.sqlite.specs.Held.{Held, state}
-use Rattle.sqlite.specs.State.{State, HasCleanDisk}
-use Rattle.sqlite.specs.Tree.{put_row}
-use Rattle.sqlite_trees.proofs.ListLemmas.{ascending-filter}
 use Rattle.sqlite_trees.specs.declared.store.Store as store
-use Rattle.desk_core.specs.DeskRows.{SeatRow}
-use Rattle.office_tables.specs.Calls.{StoreUpdates}
-use Rattle.office_tables.specs.ChangeStatement.{Leaves}
-use Rattle.office_tables.specs.Faults.{FaultsHaveCause}
-use Rattle.office_tables.specs.Schema.{seat}
 use Rattle.office_tables.specs.Schema as tables
-use Rattle.office_tables.specs.Step.{Holds, HasRows, OnlyTouches}
-use Rattle.office_tables.specs.declared.fault.StoreFault.{StoreFault}
-use Rattle.office_tables.proofs.Calls.{on_ok_then}
-use Rattle.office_tables.proofs.Puts.{put_rows, put_rises}
 use Rattle.office_tables.specs.TableStatements.{Puts}
-use Rattle.desk_store.specs.Rows.{seat_cells}
 use Rattle.desk_store.specs.Seats.{MayTake, with_seat}
-use Rattle.desk_store.specs.Representation.{RepresentsDeskAlone, IsLegible}
-use Rattle.office_tables.specs.RowNumbers.{AreByNumber}
+use Rattle.desk_store.proofs.Common.{AreByNumber, FaultsHaveCause, HasCleanDisk, HasRows, Held, Holds, IsLegible, Leaves, OnlyTouches, RepresentsDeskAlone, SeatRow, State, StoreFault, StoreUpdates, ascending-filter, list_any, on_ok_then, put_rises, put_row, put_rows, seat, seat_cells, state, untouched_last}
 use Rattle.desk_store.proofs.Frames.{with_seats}
-use Rattle.office_tables.proofs.Sparing.{untouched_last}
 
 abbrev seat_key : SeatRow → ℤ
 seat_key s = pos s.seat
@@ -34,7 +17,8 @@ module _ {S : Type 0} (g : store.Ghosts S) (before after : Held S) (r : Result U
   abbrev new : State
   new = state g after
 
-  pub takes : (n t : ℕ) → Puts g tables.seat seat_cells before after r (record { seat = n; ticket = t }) (λ xs. (list_any (λ s. nat_eq n s.seat) xs ≡ false) × (list_any (λ s. nat_eq t s.ticket) xs ≡ false))
+  pub takes : (n t : ℕ)
+      → Puts g tables.seat seat_cells before after r (record { seat = n; ticket = t }) (λ xs. (list_any (λ s. nat_eq n s.seat) xs ≡ false) × (list_any (λ s. nat_eq t s.ticket) xs ≡ false))
       → StoreUpdates g RepresentsDeskAlone IsLegible before after r (MayTake n (Some t)) (with_seat n (Some t)) (tables.seat.tree ∷ [])
   takes n t it = record {
     represents_updated = λ clean beside d shown may. on_ok_then r _ _ (λ put.
@@ -48,8 +32,10 @@ module _ {S : Type 0} (g : store.Ghosts S) (before after : Held S) (r : Result U
     faults = λ beside d shown may kept. it.faults d.seats shown.seats may;
   }
 
-  pub frees : (n : ℕ) → Leaves old new r → (HasCleanDisk new → (xs : List SeatRow) → Holds seat seat_cells old xs → AreByNumber (λ (s : SeatRow). s.seat) xs → OnOk r (HasRows tables.seat.tree (map seat_cells (filter (λ (s : SeatRow). not (nat_eq n s.seat)) xs)) old.now new.now))
-      → FaultsHaveCause old new r → (HasCleanDisk new → OnOk r (OnlyTouches (tables.seat.tree ∷ []) old.now new.now)) → StoreUpdates g RepresentsDeskAlone IsLegible before after r (MayTake n None) (with_seat n None) (tables.seat.tree ∷ [])
+  pub frees : (n : ℕ) → Leaves old new r
+      → (HasCleanDisk new → (xs : List SeatRow) → Holds seat seat_cells old xs → AreByNumber (λ (s : SeatRow). s.seat) xs → OnOk r (HasRows tables.seat.tree (map seat_cells (filter (λ (s : SeatRow). not (nat_eq n s.seat)) xs)) old.now new.now))
+      → FaultsHaveCause old new r → (HasCleanDisk new → OnOk r (OnlyTouches (tables.seat.tree ∷ []) old.now new.now))
+      → StoreUpdates g RepresentsDeskAlone IsLegible before after r (MayTake n None) (with_seat n None) (tables.seat.tree ∷ [])
   frees n leaves rows faults only = record {
     represents_updated = λ clean beside d shown may. on_ok_then r _ _ (λ has.
         with_seats old.now new.now d shown _ has.only has.are (ascending-filter _ (λ (s : SeatRow). not (nat_eq n s.seat)) d.seats shown.seats_rise)) (rows clean d.seats shown.seats shown.seats_rise);

@@ -1,54 +1,13 @@
 -- The statements on the rows of seats: what their texts mean, what they leave or tell, and why they fail.
 use Rattle.std.proofs.Common.{◌≡◌, ◌<◌, ◌^◌, ℕ, pos, List, [], ◌∷◌, map, filter, codes, true, false, not, Result, OnOk, IfOk, IfErr, nat_eq, refl, ap, ◌∙◌}
-use Rattle.std.proofs.Math.Nat.{le_refl}
-use Rattle.std.specs.Cmp.{IsTotalOrder, on_total, int_cmp_total}
-use Rattle.std.specs.List.{AllByRecursion, list_any}
-use Rattle.std.specs.Ordering.{int_cmp}
 use Rattle.std.specs.declared.cmp.Ordering.{Ordering}
-use Rattle.sqlite.specs.declared.types.Value.TheVariants.{Null, Int}
-use Rattle.sqlite.specs.Order.{Row}
-use Rattle.sqlite.specs.Edit.{edit_of}
-use Rattle.sqlite.specs.Effect.{value_rows}
-use Rattle.sqlite.specs.Rowids.TheVariants.{Chosen}
-use Rattle.sqlite.specs.Term.{Term, lit, col, op2}
-use Rattle.sqlite.specs.Collation.TheVariants.{Binary}
-use Rattle.sqlite.specs.Command.{Command}
-use Rattle.sqlite.specs.Command.TheVariants.{Insert, Delete, Select}
-use Rattle.sqlite.specs.Source.TheVariants.{Values}
 use Rattle.sqlite.specs.Listing.{understood}
-use Rattle.sqlite.specs.State.{State, IsLive}
-use Rattle.sqlite.specs.Tree.{Trees}
-use Rattle.sqlite_schema.specs.Rules.{agree}
-use Rattle.sqlite_sql.specs.declared.ops.BinaryOp.TheVariants.{Compare}
-use Rattle.sqlite_sql.specs.declared.ops.CompareOp.TheVariants.{Eq}
 use Rattle.sqlite_tied.specs.Compute.{everything}
-use Rattle.sqlite_value.specs.declared.keys.Key.{Key}
-use Rattle.sqlite_value.specs.Keys.{ascending, first_key, plain}
-use Rattle.office_tables.specs.Versions.{Version}
-use Rattle.desk_core.specs.DeskRows.{SeatRow}
-use Rattle.office_tables.specs.Query.{Finds, Misses}
-use Rattle.office_tables.specs.ChangeStatement.{Ran}
-use Rattle.office_tables.specs.Faults.{IsUnlimited, HasCause}
-use Rattle.office_tables.specs.StatementMeaning.{Means}
-use Rattle.office_tables.specs.Order.{IsOrdered}
-use Rattle.office_tables.specs.Schema.{schema, seat}
+use Rattle.sqlite_value.specs.Keys.{first_key}
 use Rattle.office_tables.specs.Schema as tables
-use Rattle.office_tables.specs.Step.{Holds, HasRows, OnlyTouches, PutsRow}
-use Rattle.office_tables.specs.declared.fault.StoreFault.{StoreFault}
-use Rattle.desk_store.specs.Rows.{seat_cells}
-use Rattle.office_tables.specs.RowNumbers.{AreByNumber}
 use Rattle.desk_store.specs.declared.taken_seats.TakenSeat.{TakenSeat}
-use Rattle.office_tables.proofs.Casts.{cast_int, cast_null}
-use Rattle.office_tables.proofs.Queries.{asking, choosing}
-use Rattle.office_tables.proofs.statements.DeleteOf.{delete_leaves, delete_faults}
 use Rattle.office_tables.proofs.Fresh.{any_mapped}
-use Rattle.office_tables.proofs.InsertCauses.{IsWelcome}
-use Rattle.office_tables.proofs.statements.InsertOf.{insert_puts, insert_faults}
-use Rattle.office_tables.proofs.statements.SelectOf.{select_finds, select_faults}
-use Rattle.office_tables.proofs.Tests.{only, same_number, by_one_int}
-use Rattle.office_tables.proofs.statements.OnlyOf.{delete_only}
-use Rattle.office_tables.proofs.statements.WelcomeOf.{number_welcome}
-use Rattle.office_tables.proofs.statements.LeafOf.{seat_alone, seat_fits}
+use Rattle.desk_store.proofs.Common.{AllByRecursion, AreByNumber, Binary, Chosen, Command, Compare, Delete, Eq, Finds, HasCause, HasRows, Holds, Insert, Int, IsLive, IsOrdered, IsTotalOrder, IsUnlimited, IsWelcome, Key, Means, Misses, Null, OnlyTouches, PutsRow, Ran, Row, SeatRow, Select, State, StoreFault, Term, Trees, Values, Version, agree, ascending, asking, by_one_int, cast_int, cast_null, choosing, col, delete_faults, delete_leaves, delete_only, edit_of, insert_faults, insert_puts, int_cmp, int_cmp_total, le_refl, list_any, lit, number_welcome, on_total, only, op2, plain, same_number, schema, seat, seat_alone, seat_cells, seat_fits, select_faults, select_finds, value_rows}
 
 -- ---- a seat is taken
 
@@ -69,7 +28,9 @@ same_ticket : (a b : SeatRow) → agree plain (2 ∷ []) (seat_cells a) (2 ∷ [
 unfolding first_key
 same_ticket a b = only (same_number a.ticket b.ticket)
 
-seat_welcome : (s : SeatRow) (xs : List SeatRow) (v : Version) (db : Trees) → db tables.seat.tree ≡ map seat_cells xs → list_any (λ (x : SeatRow). nat_eq s.seat x.seat) xs ≡ false → list_any (λ (x : SeatRow). nat_eq s.ticket x.ticket) xs ≡ false
+seat_welcome : (s : SeatRow) (xs : List SeatRow) (v : Version) (db : Trees) → db tables.seat.tree ≡ map seat_cells xs
+    → list_any (λ (x : SeatRow). nat_eq s.seat x.seat) xs ≡ false
+    → list_any (λ (x : SeatRow). nat_eq s.ticket x.ticket) xs ≡ false
     → IsWelcome (schema v) db seat (seat_cells s)
 seat_welcome s xs v db stored none other =
     let apart : list_any (λ r. agree plain (2 ∷ []) r (2 ∷ []) (seat_cells s)) (db tables.seat.tree) ≡ false =
@@ -83,10 +44,13 @@ module _ (old new : State) (s : SeatRow) (v : Version) (has : old.now.schema ≡
   news : (edit_of old.now.trees seat [] Chosen 0 (value_rows params 3 1 insert_seat_terms)).news ≡ seat_cells s ∷ []
   news = rw (cast_int (pos s.seat), cast_null, cast_int (pos s.ticket)) refl
 
-  pub insert_seat_puts : (r : Result Unit StoreFault) → Ran insert_seat_text params old new r → OnOk r (PutsRow tables.seat.tree (seat_cells s) old.now new.now)
+  pub insert_seat_puts : (r : Result Unit StoreFault) → Ran insert_seat_text params old new r
+      → OnOk r (PutsRow tables.seat.tree (seat_cells s) old.now new.now)
   insert_seat_puts = insert_puts v 1 seat refl insert_seat_text insert_seat_terms 3 params (insert_seat_means v) old new has (seat_cells s) news
 
-  pub insert_seat_faults : (xs : List SeatRow) → Holds seat seat_cells old xs → list_any (λ (x : SeatRow). nat_eq s.seat x.seat) xs ≡ false → list_any (λ (x : SeatRow). nat_eq s.ticket x.ticket) xs ≡ false → IsUnlimited old → IsLive old
+  pub insert_seat_faults : (xs : List SeatRow) → Holds seat seat_cells old xs
+      → list_any (λ (x : SeatRow). nat_eq s.seat x.seat) xs ≡ false
+      → list_any (λ (x : SeatRow). nat_eq s.ticket x.ticket) xs ≡ false → IsUnlimited old → IsLive old
       → (r : Result Unit StoreFault) → Ran insert_seat_text params old new r → IfErr r (HasCause old new)
   insert_seat_faults xs stored none other =
       insert_faults v 1 seat refl insert_seat_text insert_seat_terms 3 params (insert_seat_means v) old new has (seat_cells s) news refl (seat_welcome s xs v old.now.trees stored none other)
@@ -107,7 +71,8 @@ unfolding understood everything
 clear_seat_means v = record { is = refl; plain = (refl, refl); whole = (le_refl _, refl, refl); unlisted = refl }
 
 module _ (old new : State) (n : ℕ) (v : Version) (has : old.now.schema ≡ schema v) (r : Result Unit StoreFault) (ran : Ran clear_seat_text (Int (pos n) ∷ []) old new r) where
-  pub clear_seat_leaves : (xs : List SeatRow) → Holds seat seat_cells old xs → AreByNumber (λ (s : SeatRow). s.seat) xs → OnOk r (HasRows tables.seat.tree (map seat_cells (filter (λ (s : SeatRow). not (nat_eq n s.seat)) xs)) old.now new.now)
+  pub clear_seat_leaves : (xs : List SeatRow) → Holds seat seat_cells old xs → AreByNumber (λ (s : SeatRow). s.seat) xs
+      → OnOk r (HasRows tables.seat.tree (map seat_cells (filter (λ (s : SeatRow). not (nat_eq n s.seat)) xs)) old.now new.now)
   clear_seat_leaves xs stored up =
       delete_leaves v 1 seat refl (seat_alone v) clear_seat_text with_its_number (col 1 0 ∷ []) (Int (pos n) ∷ []) (clear_seat_means v) old new has seat_cells (λ s. pos s.seat) (λ _. refl) xs stored up
       (λ (s : SeatRow). nat_eq n s.seat) (λ s. only (same_number s.seat n)) (λ s. Int (pos s.seat) ∷ []) (λ _. refl) (λ _. refl) r ran
@@ -166,25 +131,31 @@ unfolding understood everything
 find_seat_means v = record { is = refl; plain = (refl, refl); whole = (le_refl _, refl, refl); unlisted = refl }
 
 module _ (old new : State) (v : Version) (has : old.now.schema ≡ schema v) (xs : List SeatRow) (stored : Holds seat seat_cells old xs) {X : Type 0} (items : X → List TakenSeat) (r : Result X StoreFault) where
-  pub seats_finds : IfOk r (λ found. Finds taken_cells seats_text [] old new (items found)) → IfOk r (λ found. (ys : List SeatRow) × IsOrdered by_seat (filter (λ _. true) xs) ys × (items found ≡ map taken ys))
+  pub seats_finds : IfOk r (λ found. Finds taken_cells seats_text [] old new (items found))
+      → IfOk r (λ found. (ys : List SeatRow) × IsOrdered by_seat (filter (λ _. true) xs) ys × (items found ≡ map taken ys))
   seats_finds =
       select_finds v seat seats_text [] taken_columns in_order taken_names [] (seats_means v) old new has seat_cells xs stored
       (λ _. true) (λ _. refl) (λ s. taken_cells (taken s)) (λ (s : SeatRow). Int (pos s.seat) ∷ []) (λ _. refl) by_seat (λ _. refl) (λ a b. by_one_int (pos a.seat) (pos b.seat))
       taken_cells items taken (λ _. refl) r
 
-  pub seats_faults : AllByRecursion (λ (s : SeatRow). s.seat < 2 ^ 32) xs → IsUnlimited old → IfErr r (Misses taken_cells (λ s. s.seat < 2 ^ 32) seats_text [] old new) → IfErr r (HasCause old new)
+  pub seats_faults : AllByRecursion (λ (s : SeatRow). s.seat < 2 ^ 32) xs → IsUnlimited old
+      → IfErr r (Misses taken_cells (λ s. s.seat < 2 ^ 32) seats_text [] old new) → IfErr r (HasCause old new)
   seats_faults legible free =
       select_faults v seat seats_text [] taken_columns in_order taken_names [] (seats_means v) old new has seat_cells xs stored
       (λ _. true) (λ _. refl) (λ s. taken_cells (taken s)) (λ (s : SeatRow). Int (pos s.seat) ∷ []) (λ _. refl) by_seat (λ _. refl) (λ a b. by_one_int (pos a.seat) (pos b.seat))
       taken_cells items taken (λ _. refl) (λ s. s.seat < 2 ^ 32) refl free legible r
 
-  pub find_seat_finds : (t : ℕ) → IfOk r (λ found. Finds taken_cells find_seat_text (Int (pos t) ∷ []) old new (items found)) → IfOk r (λ found. (ys : List SeatRow) × IsOrdered by_seat (filter (λ (s : SeatRow). nat_eq t s.ticket) xs) ys × (items found ≡ map taken ys))
+  pub find_seat_finds : (t : ℕ)
+      → IfOk r (λ found. Finds taken_cells find_seat_text (Int (pos t) ∷ []) old new (items found))
+      → IfOk r (λ found. (ys : List SeatRow) × IsOrdered by_seat (filter (λ (s : SeatRow). nat_eq t s.ticket) xs) ys × (items found ≡ map taken ys))
   find_seat_finds t =
       select_finds v seat find_seat_text with_the_ticket taken_columns in_order taken_names (Int (pos t) ∷ []) (find_seat_means v) old new has seat_cells xs stored
       (λ (s : SeatRow). nat_eq t s.ticket) (λ s. only (same_number s.ticket t)) (λ s. taken_cells (taken s)) (λ (s : SeatRow). Int (pos s.seat) ∷ []) (λ _. refl) by_seat (λ _. refl) (λ a b. by_one_int (pos a.seat) (pos b.seat))
       taken_cells items taken (λ _. refl) r
 
-  pub find_seat_faults : (t : ℕ) → AllByRecursion (λ (s : SeatRow). s.seat < 2 ^ 32) xs → IsUnlimited old → IfErr r (Misses taken_cells (λ s. s.seat < 2 ^ 32) find_seat_text (Int (pos t) ∷ []) old new) → IfErr r (HasCause old new)
+  pub find_seat_faults : (t : ℕ) → AllByRecursion (λ (s : SeatRow). s.seat < 2 ^ 32) xs → IsUnlimited old
+      → IfErr r (Misses taken_cells (λ s. s.seat < 2 ^ 32) find_seat_text (Int (pos t) ∷ []) old new)
+      → IfErr r (HasCause old new)
   find_seat_faults t legible free =
       select_faults v seat find_seat_text with_the_ticket taken_columns in_order taken_names (Int (pos t) ∷ []) (find_seat_means v) old new has seat_cells xs stored
       (λ (s : SeatRow). nat_eq t s.ticket) (λ s. only (same_number s.ticket t)) (λ s. taken_cells (taken s)) (λ (s : SeatRow). Int (pos s.seat) ∷ []) (λ _. refl) by_seat (λ _. refl) (λ a b. by_one_int (pos a.seat) (pos b.seat))

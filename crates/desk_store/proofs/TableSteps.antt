@@ -1,26 +1,21 @@
 -- How the steps of a creation of tables follow one another.
 use Rattle.std.proofs.Common.{◌≡◌, ℕ, List, [], Result, Ok, Err, OnOk, OnErr, IfErr, sym, subst}
 use Rattle.sqlite_trees.specs.declared.store.Store as store
-use Rattle.sqlite.specs.Effect.{Database}
-use Rattle.sqlite.specs.Held.{Held, state}
 use Rattle.sqlite.specs.Schema.{Schema}
-use Rattle.sqlite.specs.State.{HasCleanDisk}
 use Rattle.sqlite.specs.Table.{Table}
 use Rattle.office_tables.specs.Creation.{DefinesTable, IsMaking}
-use Rattle.office_tables.specs.Faults.{HasCause}
-use Rattle.office_tables.specs.Step.{Continues, IsAborted}
-use Rattle.office_tables.specs.declared.fault.StoreFault.{StoreFault}
-use Rattle.office_tables.proofs.Calls.{continues_then, cut_then, on_ok_then, on_err_then}
-use Rattle.office_tables.proofs.LaterCauses.{last_cause}
 use Rattle.desk_store.specs.TableCreation.{Makes}
+use Rattle.desk_store.proofs.Common.{Continues, Database, HasCause, HasCleanDisk, Held, IsAborted, StoreFault, continues_then, cut_then, last_cause, on_err_then, on_ok_then, state}
 
 -- a step fails
-pub makes_not : {S : Type 0} {g : store.Ghosts S} {here next last : Schema} {before after : Held S} {r : Result Unit StoreFault} {e : StoreFault} → r ≡ Err e → Makes g here next before after (Err e) → Makes g here last before after r
+pub makes_not : {S : Type 0} {g : store.Ghosts S} {here next last : Schema} {before after : Held S} {r : Result Unit StoreFault} {e : StoreFault}
+    → r ≡ Err e → Makes g here next before after (Err e) → Makes g here last before after r
 makes_not {S} {g} {here} {next} {last} {before} {after} is step =
     subst (Makes g here last before after) (sym is) (record { made = λ start making. tt; faults = step.faults; aborts = step.aborts })
 
 -- the next step is made of what the steps before it left
-pub makes_next : {S : Type 0} {g : store.Ghosts S} {here next last : Schema} {before mid after : Held S} {x : Unit} {r : Result Unit StoreFault} → Makes g here next before mid (Ok x) → Makes g next last mid after r → Makes g here last before after r
+pub makes_next : {S : Type 0} {g : store.Ghosts S} {here next last : Schema} {before mid after : Held S} {x : Unit} {r : Result Unit StoreFault}
+    → Makes g here next before mid (Ok x) → Makes g next last mid after r → Makes g here last before after r
 makes_next {S} {g} {here} {next} {last} {before} {mid} {after} {x} {r} first then =
     let a = state g before in
     let b = state g mid in
@@ -38,7 +33,8 @@ makes_next {S} {g} {here} {next} {last} {before} {mid} {after} {x} {r} first the
     }
 
 -- one table is made
-pub makes_one : {S : Type 0} (g : store.Ghosts S) {text : List ℕ} {here next : Schema} (before after : Held S) (r : Result Unit StoreFault) → DefinesTable [] here text next
+pub makes_one : {S : Type 0} (g : store.Ghosts S) {text : List ℕ} {here next : Schema} (before after : Held S) (r : Result Unit StoreFault)
+    → DefinesTable [] here text next
     → ((there : List Table) (start : Database) (from to : Schema) → IsMaking there from start (state g before) → DefinesTable there from text to → OnOk r (Continues (state g before) (state g after) × IsMaking there to start (state g after)))
     → ((there : List Table) (start : Database) (from to : Schema) → IsMaking there from start (state g before) → DefinesTable there from text to → HasCleanDisk (state g after) → IfErr r (HasCause (state g before) (state g after)))
     → ((there : List Table) (start : Database) (from to : Schema) → IsMaking there from start (state g before) → DefinesTable there from text to → OnErr r (IsAborted (state g before) (state g after)))

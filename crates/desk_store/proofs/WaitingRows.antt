@@ -1,47 +1,17 @@
 -- The statements on the orders that wait: what their texts mean, what they tell, and why they fail.
 use Rattle.std.proofs.Common.{◌≡◌, ◌≤◌, ◌<◌, ◌^◌, ℕ, pos, List, [], ◌∷◌, length, map, filter, take, codes, true, false, Bool, cond, ◌||◌, Result, IfOk, IfErr, refl, sym, ap, ◌∙◌, arith}
-use Rattle.std.proofs.Math.Nat.{le_refl}
-use Rattle.std.specs.Prelude.{⊤, nat_lt, slice_get}
-use Rattle.std.proofs.lemmas.Bool.{lt-ltb}
 use Rattle.std.proofs.lemmas.List.Sums.{length-filter}
-use Rattle.std.proofs.lemmas.Result.{IfOk-weaker}
-use Rattle.std.specs.List.{count_by, list_any}
-use Rattle.sqlite.specs.declared.types.Value.TheVariants.{Int, Null}
-use Rattle.sqlite.specs.Order.{Row}
-use Rattle.sqlite.specs.Term.{Term, lit, col, op2}
 use Rattle.sqlite.specs.Query.{inner, end}
-use Rattle.sqlite.specs.Collation.TheVariants.{Binary}
-use Rattle.sqlite.specs.Command.{Command}
-use Rattle.sqlite.specs.Command.TheVariants.{Select}
 use Rattle.sqlite.specs.Listing.{understood}
-use Rattle.sqlite.specs.State.{State, Shown}
 use Rattle.sqlite.proofs.Callers.{reads_as}
 use Rattle.sqlite_schema.specs.declared.program.Program.{Program}
-use Rattle.sqlite_sql.specs.declared.ops.BinaryOp.TheVariants.{Compare}
-use Rattle.sqlite_sql.specs.declared.ops.CompareOp.TheVariants.{Eq}
 use Rattle.sqlite_tied.specs.Compute.{everything}
-use Rattle.sqlite_trees.proofs.ListLemmas.{all_of, map-map}
-use Rattle.office_tables.specs.Versions.{Version}
-use Rattle.isad_core.specs.Limits.{most_orders}
-use Rattle.desk_core.specs.DeskRows.{OrderRow}
-use Rattle.office_tables.specs.Query.{Finds, FindsFirst, Misses}
-use Rattle.office_tables.specs.Faults.{IsUnlimited, HasCause}
-use Rattle.office_tables.specs.StatementMeaning.{Means}
-use Rattle.office_tables.specs.Order.{IsOrdered}
-use Rattle.office_tables.specs.Schema.{schema, orders}
-use Rattle.office_tables.specs.Step.{Holds}
-use Rattle.office_tables.specs.declared.fault.StoreFault.{StoreFault}
-use Rattle.office_tables.proofs.Causes.{read_cause, none_refuse, sums_nothing}
 use Rattle.office_tables.proofs.Limits.{limited_query, first_answers}
-use Rattle.office_tables.proofs.Queries.{asking}
 use Rattle.office_tables.proofs.RowReads.{all_caused}
-use Rattle.office_tables.proofs.statements.SelectOf.{select_finds, select_faults}
-use Rattle.office_tables.proofs.Tests.{both, same_number, by_one_int}
-use Rattle.desk_store.specs.Holdings.{waits_for}
-use Rattle.desk_store.specs.Rows.{order_cells}
 use Rattle.desk_store.specs.declared.orders.WaitingOrder.{WaitingOrder}
-use Rattle.desk_store.proofs.CardRows.{by_order, in_order}
 use Rattle.office_tables.proofs.statements.CountOf.{counting, count_finds, count_faults}
+use Rattle.desk_store.proofs.Common.{Binary, Command, Compare, Eq, Finds, FindsFirst, HasCause, Holds, IfOk-weaker, Int, IsOrdered, IsUnlimited, Means, Misses, Null, OrderRow, Row, Select, Shown, State, StoreFault, Term, Version, all_of, asking, both, by_one_int, col, count_by, le_refl, list_any, lit, lt-ltb, map-map, most_orders, nat_lt, none_refuse, op2, order_cells, orders, read_cause, same_number, schema, select_faults, select_finds, slice_get, sums_nothing, waits_for, ⊤}
+use Rattle.desk_store.proofs.CardRows.{by_order, in_order}
 
 -- it waits, and for this container
 abbrev for_the_container : List Term
@@ -72,13 +42,15 @@ unfolding understood everything
 waiting_means v = record { is = refl; plain = (refl, refl); whole = (le_refl _, refl, refl); unlisted = refl }
 
 module _ (old new : State) (c : ℕ) (v : Version) (has : old.now.schema ≡ schema v) (xs : List OrderRow) (stored : Holds orders order_cells old xs) {X : Type 0} (items : X → List WaitingOrder) (r : Result X StoreFault) where
-  pub waiting_finds : IfOk r (λ found. Finds waiting_cells waiting_text (Int (pos c) ∷ []) old new (items found)) → IfOk r (λ found. (ys : List OrderRow) × IsOrdered by_order (filter (waits_for c) xs) ys × (items found ≡ map waiting_of ys))
+  pub waiting_finds : IfOk r (λ found. Finds waiting_cells waiting_text (Int (pos c) ∷ []) old new (items found))
+      → IfOk r (λ found. (ys : List OrderRow) × IsOrdered by_order (filter (waits_for c) xs) ys × (items found ≡ map waiting_of ys))
   waiting_finds =
       select_finds v orders waiting_text for_the_container waiting_columns in_order waiting_names (Int (pos c) ∷ []) (waiting_means v) old new has order_cells xs stored
       (waits_for c) (λ o. both (same_number o.state 1) (same_number o.container c)) (λ o. waiting_cells (waiting_of o)) (λ (o : OrderRow). Int (pos o.id) ∷ []) (λ _. refl) by_order (λ _. refl) (λ a b. by_one_int (pos a.id) (pos b.id))
       waiting_cells items waiting_of (λ _. refl) r
 
-  pub waiting_faults : IsUnlimited old → IfErr r (Misses waiting_cells (λ _. ⊤) waiting_text (Int (pos c) ∷ []) old new) → IfErr r (HasCause old new)
+  pub waiting_faults : IsUnlimited old → IfErr r (Misses waiting_cells (λ _. ⊤) waiting_text (Int (pos c) ∷ []) old new)
+      → IfErr r (HasCause old new)
   waiting_faults free =
       select_faults v orders waiting_text for_the_container waiting_columns in_order waiting_names (Int (pos c) ∷ []) (waiting_means v) old new has order_cells xs stored
       (waits_for c) (λ o. both (same_number o.state 1) (same_number o.container c)) (λ o. waiting_cells (waiting_of o)) (λ (o : OrderRow). Int (pos o.id) ∷ []) (λ _. refl) by_order (λ _. refl) (λ a b. by_one_int (pos a.id) (pos b.id))
@@ -114,7 +86,8 @@ module _ (old new : State) (c : ℕ) (v : Version) (has : old.now.schema ≡ sch
       → IfOk r (λ found. (ys : List OrderRow) × IsOrdered by_order (filter (waits_for c) xs) ys × (items found ≡ map waiting_of (take 1 ys)))
   first_finds found = IfOk-weaker r _ _ (λ all it. let got = first_rows it.rows it.shown in (got.0, got.1, it.are (map waiting_of (take 1 got.0)) got.2)) found
 
-  pub first_faults : IsUnlimited old → IfErr r (Misses waiting_cells (λ _. ⊤) first_text (Int (pos c) ∷ []) old new) → IfErr r (HasCause old new)
+  pub first_faults : IsUnlimited old → IfErr r (Misses waiting_cells (λ _. ⊤) first_text (Int (pos c) ∷ []) old new)
+      → IfErr r (HasCause old new)
   first_faults free missed =
       let means = first_means v in
       all_caused waiting_cells (λ _. ⊤) first_text (Int (pos c) ∷ []) old new r missed
@@ -139,12 +112,15 @@ unfolding understood everything
 count_means v = record { is = refl; plain = (refl, refl); whole = (le_refl _, refl, refl); unlisted = refl }
 
 module _ (old new : State) (v : Version) (has : old.now.schema ≡ schema v) (c : ℕ) (xs : List OrderRow) (stored : Holds orders order_cells old xs) (few : length xs ≤ most_orders) (r : Result ℕ StoreFault) where
-  pub waiting_count_finds : IfOk r (FindsFirst count_text (Int (pos c) ∷ []) old new) → IfOk r (λ n. n ≡ count_by (waits_for c) xs)
+  pub waiting_count_finds : IfOk r (FindsFirst count_text (Int (pos c) ∷ []) old new)
+      → IfOk r (λ n. n ≡ count_by (waits_for c) xs)
   waiting_count_finds =
       count_finds v orders count_text for_the_container (codes "count(*)" ∷ []) (Int (pos c) ∷ []) (count_means v) old new has order_cells xs stored
       (waits_for c) (λ o. both (same_number o.state 1) (same_number o.container c)) (omega (arith, few)) r
 
-  pub waiting_count_faults : IsUnlimited old → IfErr r (Misses (λ n. Int (pos n) ∷ []) (λ n. n < 2 ^ 32) count_text (Int (pos c) ∷ []) old new) → IfErr r (HasCause old new)
+  pub waiting_count_faults : IsUnlimited old
+      → IfErr r (Misses (λ n. Int (pos n) ∷ []) (λ n. n < 2 ^ 32) count_text (Int (pos c) ∷ []) old new)
+      → IfErr r (HasCause old new)
   waiting_count_faults free =
       count_faults v orders count_text for_the_container (codes "count(*)" ∷ []) (Int (pos c) ∷ []) (count_means v) old new has order_cells xs stored
       (waits_for c) (λ o. both (same_number o.state 1) (same_number o.container c)) (omega (arith, few)) refl free r

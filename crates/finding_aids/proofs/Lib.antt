@@ -1,3 +1,4 @@
+pub mod Common
 pub mod PrintLemmas
 pub mod PlaceLemmas
 pub mod PlantLemmas

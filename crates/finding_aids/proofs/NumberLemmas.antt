@@ -1,21 +1,14 @@
 -- The numbers of containers, one more at a time.
 use Rattle.std.proofs.Common.{◌≡◌, ℕ, suc, ◌+◌, Bool, true, false, cond, List, [], ◌∷◌, ◌++◌, length, Option, Some, None, Result, Ok, Err, refl, sym, ap, ◌∙◌, arith, add-one, inl, inr}
-use Rattle.std.specs.Prelude.{is_some, option_map, if◌then◌else◌}
-use Rattle.std.specs.BTreeMap.{BTreeMap, btree_map_len, get_by, is_at}
 use Rattle.std.specs.Borrow.{Bor}
 use Rattle.std.specs.Ordering.{is_eq}
 use Rattle.std.specs.Result.{OnOk}
-use Rattle.std.proofs.lemmas.Bool.{cases_Bool}
-use Rattle.std.proofs.lemmas.List.{append-nil}
-use Rattle.isad_core.specs.Texts.{Bytes}
-use Rattle.isad_core.specs.declared.values.BoxKey.{BoxKey}
 use Rattle.isad_core.specs.Boxes.{distinct, is_same}
 use Rattle.isad_core.proofs.BoxLemmas.{distinct_more}
 use Rattle.atom_csv.proofs.BoxLemmas.{same_compared}
-use Rattle.catalogue_core.specs.CatalogueMerge.{number_in}
 use Rattle.catalogue_core.proofs.DistinctFront.{found_any, known_distinct}
 use Rattle.catalogue_core.proofs.Imported.{same_box}
-use Rattle.finding_aids.specs.Numbers.{AreNumbered, Texts, compare_container, number_at}
+use Rattle.finding_aids.proofs.Common.{AreNumbered, BTreeMap, BoxKey, Bytes, Texts, append-nil, btree_map_len, cases_Bool, compare_container, get_by, if◌then◌else◌, is_at, is_some, number_at, number_in, option_map}
 use Rattle.finding_aids.proofs.PlantLemmas.{length-push}
 
 -- ---- what the map finds
@@ -37,7 +30,8 @@ number_set old new b name location kind number n l k updates q =
     ∙ (ap (λ (text : Bytes). cond (is_eq (compare_container b.name b.location text (texts_of q))) (Some number) (number_at old q)) k
     ∙ ap (λ (same : Bool). if same then Some number else number_at old q) (same_compared (texts_of b) (texts_of q)))))
 
-pub number_found : (numbers : BTreeMap Texts ℕ) (b : BoxKey) (name location kind : Bytes) → name ≡ b.name → location ≡ b.location → kind ≡ b.kind
+pub number_found : (numbers : BTreeMap Texts ℕ) (b : BoxKey) (name location kind : Bytes) → name ≡ b.name
+    → location ≡ b.location → kind ≡ b.kind
     → get_by (compare_container name location kind) numbers ≡ number_at numbers b
 number_found numbers b name location kind n l k =
     ap (λ (text : Bytes). get_by (compare_container text location kind) numbers) n
@@ -47,7 +41,8 @@ number_found numbers b name location kind n l k =
 -- ---- numbers among containers
 
 -- the containers that were told, with one more
-distinct_next : (seen : List BoxKey) (b : BoxKey) → distinct (seen ++ b ∷ []) ≡ distinct seen ++ (if is_some (number_in (distinct seen) b) then [] else b ∷ [])
+distinct_next : (seen : List BoxKey) (b : BoxKey)
+    → distinct (seen ++ b ∷ []) ≡ distinct seen ++ (if is_some (number_in (distinct seen) b) then [] else b ∷ [])
 distinct_next seen b =
     distinct_more seen b
     ∙ ap (λ (any : Bool). distinct seen ++ (if any then [] else b ∷ [])) (sym (found_any (distinct seen) b ∙ known_distinct seen b))
@@ -57,7 +52,8 @@ abbrev or_last : Option ℕ → Option ℕ → Option ℕ
 or_last None last = last
 or_last (Some n) last = Some n
 
-number_in-push : (cs : List BoxKey) (b q : BoxKey) → number_in (cs ++ b ∷ []) q ≡ or_last (number_in cs q) (if is_same b q then Some (length cs + 1) else None)
+number_in-push : (cs : List BoxKey) (b q : BoxKey)
+    → number_in (cs ++ b ∷ []) q ≡ or_last (number_in cs q) (if is_same b q then Some (length cs + 1) else None)
 number_in-push [] b q = refl
 number_in-push (c ∷ cs) b q =
     elim (cases_Bool (is_same c q)) [
@@ -65,14 +61,16 @@ number_in-push (c ∷ cs) b q =
       | inr differs ↦ rw differs (ap (option_map suc) (number_in-push cs b q) ∙ later (number_in cs q) (is_same b q))
     ]
   where
-    later : (o : Option ℕ) (same : Bool) → option_map suc (or_last o (if same then Some (length cs + 1) else None)) ≡ or_last (option_map suc o) (if same then Some (suc (length cs) + 1) else None)
+    later : (o : Option ℕ) (same : Bool)
+        → option_map suc (or_last o (if same then Some (length cs + 1) else None)) ≡ or_last (option_map suc o) (if same then Some (suc (length cs) + 1) else None)
     later (Some n) same = refl
     later None false = refl
     later None true = ap Some (omega arith)
 
 -- ---- one more container
 
-pub numbered_again : (seen : List BoxKey) (b : BoxKey) (numbers : BTreeMap Texts ℕ) → AreNumbered seen numbers → is_some (number_at numbers b) ≡ true
+pub numbered_again : (seen : List BoxKey) (b : BoxKey) (numbers : BTreeMap Texts ℕ) → AreNumbered seen numbers
+    → is_some (number_at numbers b) ≡ true
     → AreNumbered (seen ++ b ∷ []) numbers
 numbered_again seen b numbers h stood =
     let known : is_some (number_in (distinct seen) b) ≡ true = ap is_some (sym (h.numbered b)) ∙ stood in
@@ -87,8 +85,10 @@ pub none_from : (o : Option ℕ) → is_some o ≡ false → o ≡ None
 none_from None h = refl
 none_from (Some n) h = absurd (cc)
 
-pub numbered_new : (seen : List BoxKey) (b : BoxKey) (old new : BTreeMap Texts ℕ) (number : ℕ) → AreNumbered seen old → is_some (number_at old b) ≡ false
-    → number ≡ btree_map_len old + 1 → ((q : BoxKey) → number_at new q ≡ (if is_same b q then Some number else number_at old q))
+pub numbered_new : (seen : List BoxKey) (b : BoxKey) (old new : BTreeMap Texts ℕ) (number : ℕ) → AreNumbered seen old
+    → is_some (number_at old b) ≡ false
+    → number ≡ btree_map_len old + 1
+    → ((q : BoxKey) → number_at new q ≡ (if is_same b q then Some number else number_at old q))
     → btree_map_len new ≡ btree_map_len old + 1 → AreNumbered (seen ++ b ∷ []) new
 numbered_new seen b old new number h missing next sets grows =
     let unknown : is_some (number_in (distinct seen) b) ≡ false = ap is_some (sym (h.numbered b)) ∙ missing in
@@ -104,7 +104,8 @@ numbered_new seen b old new number h missing next sets grows =
     first None = refl
     first (Some n) = refl
 
-    here : (q : BoxKey) (same : Bool) → is_same b q ≡ same → number ≡ length (distinct seen) + 1 → is_some (number_in (distinct seen) b) ≡ false
+    here : (q : BoxKey) (same : Bool) → is_same b q ≡ same → number ≡ length (distinct seen) + 1
+        → is_some (number_in (distinct seen) b) ≡ false
         → (if same then Some number else number_at old q) ≡ or_last (number_in (distinct seen) q) (if same then Some (length (distinct seen) + 1) else None)
     here q true e is unknown =
         ap Some is ∙ sym (ap (λ (o : Option ℕ). or_last o (Some (length (distinct seen) + 1))) (ap (number_in (distinct seen)) (sym (same_box b q e)) ∙ none_from (number_in (distinct seen) b) unknown))

@@ -1,18 +1,10 @@
 -- Places of rows: what the code looks up is what the rows above say.
 use Rattle.std.proofs.Common.{◌≡◌, ℕ, zero, suc, ◌+◌, ◌<◌, ◌≤◌, true, false, nat_eq, nat_lt, List, [], ◌∷◌, ◌++◌, length, get_or, take, drop, reverse, Option, Some, None, refl, sym, ap, ◌∙◌, subst, arith, append_assoc, add-one, inl, inr}
-use Rattle.std.specs.Prelude.{option_and_then, option_map, slice_get, if◌then◌else◌}
 use Rattle.std.specs.Option.{option_to_list}
-use Rattle.std.proofs.lemmas.Bool.{cases_Bool, eq-eqb, eqb-false, eqb-true, le-ltb, lt-ltb, ne_eqb}
-use Rattle.std.proofs.lemmas.List.{append-nil, drop_more, length-append, length-reverse, reverse-append, take-append-drop, take_more}
 use Rattle.std.proofs.lemmas.List.Elements.{All-push}
 use Rattle.std.specs.Str.{bytes_eq}
-use Rattle.isad_core.specs.Limits.{most_deep}
-use Rattle.isad_core.specs.Texts.{Bytes}
-use Rattle.atom_csv.specs.declared.file.Row.{Row}
-use Rattle.tree_core.specs.Forest.{Empty}
-use Rattle.catalogue_core.specs.CatalogueMerge.{cause_at, faults_below, has_legacy}
 use Rattle.finding_aids.specs.declared.previews.places.RowPosition.{RowPosition}
-use Rattle.finding_aids.specs.Places.{AllPlaced, IsPlaced, IsPlacing, depth_below, faults, index_of, place_at, place_of}
+use Rattle.finding_aids.proofs.Common.{AllPlaced, Bytes, Empty, IsPlaced, IsPlacing, Row, append-nil, cases_Bool, cause_at, depth_below, drop_more, eq-eqb, eqb-false, eqb-true, faults, faults_below, has_legacy, if◌then◌else◌, index_of, le-ltb, length-append, length-reverse, lt-ltb, most_deep, ne_eqb, option_and_then, option_map, place_at, place_of, reverse-append, slice_get, take-append-drop, take_more}
 
 -- the place with this index, in a list that has the last place first
 abbrev pub from_last : List RowPosition → ℕ → Option RowPosition
@@ -60,7 +52,8 @@ depth_below-named legacy (row ∷ above) (place ∷ places) h =
     below None e = refl
     below (Some j) e =
         let within = index_of_within legacy above j e in
-        let differs : nat_eq j (length places) ≡ false = ne_eqb j (length places) (λ equal. absurd (omega (arith, as_many above places h.1))) in
+        let differs : nat_eq j (length places) ≡ false =
+        ne_eqb j (length places) (λ equal. absurd (omega (arith, as_many above places h.1))) in
         rw differs refl
 
 -- ---- lists that have the last first
@@ -71,16 +64,19 @@ reverse-push xs x = reverse-append xs (x ∷ [])
 from_last-first : (places : List RowPosition) (place : RowPosition) → from_last (places ++ place ∷ []) 0 ≡ Some place
 from_last-first [] place = refl
 from_last-first (next ∷ places) place =
-    let other : nat_eq 0 (length (places ++ place ∷ [])) ≡ false = ne_eqb 0 (length (places ++ place ∷ [])) (λ equal. absurd (omega (arith, length-append places (place ∷ [])))) in
+    let other : nat_eq 0 (length (places ++ place ∷ [])) ≡ false =
+    ne_eqb 0 (length (places ++ place ∷ [])) (λ equal. absurd (omega (arith, length-append places (place ∷ [])))) in
     rw other (from_last-first places place)
 
-from_last-later : (places : List RowPosition) (place : RowPosition) (j : ℕ) → from_last (places ++ place ∷ []) (suc j) ≡ from_last places j
+from_last-later : (places : List RowPosition) (place : RowPosition) (j : ℕ)
+    → from_last (places ++ place ∷ []) (suc j) ≡ from_last places j
 from_last-later [] place j = let other : nat_eq (suc j) 0 ≡ false = ne_eqb (suc j) 0 (λ equal. absurd (omega arith)) in rw other refl
 from_last-later (next ∷ places) place j =
     elim (cases_Bool (nat_eq j (length places))) [
       | inl same ↦
           let equal : j ≡ length places = eqb-true j (length places) same in
-          let here : nat_eq (suc j) (length (places ++ place ∷ [])) ≡ true = eq-eqb (suc j) (length (places ++ place ∷ [])) (omega (arith, length-append places (place ∷ []))) in
+          let here : nat_eq (suc j) (length (places ++ place ∷ [])) ≡ true =
+          eq-eqb (suc j) (length (places ++ place ∷ [])) (omega (arith, length-append places (place ∷ []))) in
           rw (here, same) refl
       | inr other ↦
           let differs : nat_eq (suc j) (length (places ++ place ∷ [])) ≡ false = ne_eqb (suc j) (length (places ++ place ∷ []))
@@ -97,7 +93,8 @@ from_last-reverse (place ∷ places) (suc j) =
 
 -- ---- what the code finds
 
-depth_found : (o : Option RowPosition) (j : ℕ) → option_map (λ (p : RowPosition). p.depth) (option_map (λ (above : RowPosition). record { parent = Some j; depth = above.depth + 1 }) o) ≡ option_map (λ (p : RowPosition). suc p.depth) o
+depth_found : (o : Option RowPosition) (j : ℕ)
+    → option_map (λ (p : RowPosition). p.depth) (option_map (λ (above : RowPosition). record { parent = Some j; depth = above.depth + 1 }) o) ≡ option_map (λ (p : RowPosition). suc p.depth) o
 depth_found None j = refl
 depth_found (Some above) j = ap Some (add-one above.depth)
 
@@ -109,18 +106,24 @@ place_of-depth known above places (Some legacy) knows placed =
     ap (λ (o : Option ℕ). option_map (λ (p : RowPosition). p.depth) (option_and_then (place_at places) o)) (knows legacy)
     ∙ (by_index (index_of legacy above) ∙ sym (depth_below-named legacy above (reverse places) placed))
   where
-    by_index : (o : Option ℕ) → option_map (λ (p : RowPosition). p.depth) (option_and_then (place_at places) o) ≡ depth_by (reverse places) o
+    by_index : (o : Option ℕ)
+        → option_map (λ (p : RowPosition). p.depth) (option_and_then (place_at places) o) ≡ depth_by (reverse places) o
     by_index None = refl
-    by_index (Some j) = depth_found (slice_get places j) j ∙ ap (option_map (λ (p : RowPosition). suc p.depth)) (sym (from_last-reverse places j))
+    by_index (Some j) =
+        depth_found (slice_get places j) j
+        ∙ ap (option_map (λ (p : RowPosition). suc p.depth)) (sym (from_last-reverse places j))
 
 pub place_of-parent : (known : Bytes → Option ℕ) (above : List Row) (places : List RowPosition) (parent : Option Bytes) (place : RowPosition)
     → ((legacy : Bytes) → known legacy ≡ index_of legacy above) → place_of known places parent ≡ Some place
     → place.parent ≡ option_and_then (λ legacy. index_of legacy above) parent
-place_of-parent known above places None place knows found = ap (λ (o : Option RowPosition). option_and_then (λ (p : RowPosition). p.parent) o) (sym found)
+place_of-parent known above places None place knows found =
+    ap (λ (o : Option RowPosition). option_and_then (λ (p : RowPosition). p.parent) o) (sym found)
 place_of-parent known above places (Some legacy) place knows found =
     by_index (index_of legacy above) (ap (λ (o : Option ℕ). option_and_then (place_at places) o) (sym (knows legacy)) ∙ found)
   where
-    by_place : (j : ℕ) (o : Option RowPosition) → option_map (λ (p : RowPosition). record { parent = Some j; depth = p.depth + 1 }) o ≡ Some place → place.parent ≡ Some j
+    by_place : (j : ℕ) (o : Option RowPosition)
+        → option_map (λ (p : RowPosition). record { parent = Some j; depth = p.depth + 1 }) o ≡ Some place
+        → place.parent ≡ Some j
     by_place j None e = absurd (cc)
     by_place j (Some p) e = ap (λ (o : Option RowPosition). option_and_then (λ (p : RowPosition). p.parent) o) (sym e)
 
@@ -130,7 +133,8 @@ place_of-parent known above places (Some legacy) place knows found =
 
 -- ---- faults of rows, one after another
 
-pub faults_below-append : (above xs ys : List Row) → faults_below Empty [] above (xs ++ ys) ≡ faults_below Empty [] above xs ++ faults_below Empty [] (reverse xs ++ above) ys
+pub faults_below-append : (above xs ys : List Row)
+    → faults_below Empty [] above (xs ++ ys) ≡ faults_below Empty [] above xs ++ faults_below Empty [] (reverse xs ++ above) ys
 faults_below-append above [] ys = refl
 faults_below-append above (x ∷ xs) ys =
     let here = option_to_list (option_map (λ cause. (x.row, cause)) (cause_at (depth_below above x.parent))) in
@@ -200,9 +204,11 @@ fault_deep xs x ys known places place h found deep =
 
 -- ---- a row of the code, in the list
 
-pub rows_around : (rows : List Row) (i : ℕ) (x : Row) → i < length rows → x ≡ get_or rows i x → rows ≡ take i rows ++ x ∷ drop (i + 1) rows
+pub rows_around : (rows : List Row) (i : ℕ) (x : Row) → i < length rows → x ≡ get_or rows i x
+    → rows ≡ take i rows ++ x ∷ drop (i + 1) rows
 rows_around rows i x within is =
     sym (take-append-drop i rows) ∙ ap (λ (behind : List Row). take i rows ++ behind) (drop_more rows i x within ∙ ap (λ (y : Row). y ∷ drop (i + 1) rows) (sym is))
 
-pub rows_to : (rows : List Row) (i : ℕ) (x : Row) → i < length rows → x ≡ get_or rows i x → take (i + 1) rows ≡ take i rows ++ x ∷ []
+pub rows_to : (rows : List Row) (i : ℕ) (x : Row) → i < length rows → x ≡ get_or rows i x
+    → take (i + 1) rows ≡ take i rows ++ x ∷ []
 rows_to rows i x within is = take_more rows i x within ∙ ap (λ (y : Row). take i rows ++ y ∷ []) (sym is)

@@ -1,26 +1,11 @@
 -- A forest that grows from the last row up is what the public sees of the rows.
 use Rattle.std.proofs.Common.{◌≡◌, ℕ, zero, suc, ◌+◌, ◌-◌, ◌<◌, ◌≤◌, max, Bool, true, false, nat_eq, pos, List, [], ◌∷◌, ◌++◌, length, get_or, take, drop, reverse, map, Option, Some, None, refl, sym, ap, ◌∙◌, subst, arith, add-one, inl, inr}
-use Rattle.std.specs.Prelude.{option_and_then, option_map, slice_get, if◌then◌else◌}
 use Rattle.std.specs.Option.{option_eq, option_map_or}
 use Rattle.std.proofs.Math.Dec.{eqb-suc-suc}
-use Rattle.std.proofs.lemmas.Bool.{cases_Bool, eqb-true}
-use Rattle.std.proofs.lemmas.List.{drop_all, drop_more, length-map, length-reverse, length-take-le, map-append, reverse-append, take_all}
 use Rattle.std.proofs.lemmas.Option.{get_or_from_slice_get, slice_get-map, slice_get_within}
-use Rattle.std.specs.List.{All}
-use Rattle.isad_core.specs.Limits.{most_deep}
-use Rattle.isad_core.specs.Texts.{Bytes}
-use Rattle.atom_csv.specs.declared.file.Row.{Row}
-use Rattle.tree_core.specs.Forest.{Forest, Empty, Node, each, join}
-use Rattle.catalogue_core.specs.CatalogueMerge.{New, branches, new_unit, has_legacy, number_of, numbered_from}
-use Rattle.catalogue_core.specs.PublicForest.{PublicUnit, Told, public_of}
 use Rattle.finding_aids.specs.declared.previews.places.RowPosition.{RowPosition}
-use Rattle.finding_aids.specs.declared.previews.trees.Slot.{Slot}
-use Rattle.finding_aids.specs.declared.previews.trees.Tree.{Tree}
-use Rattle.finding_aids.specs.declared.previews.trees.Tree.TheViews.{out-Tree}
 use Rattle.finding_aids.specs.declared.previews.trees.Tree.TheFolds.{fold_out-Tree}
-use Rattle.finding_aids.specs.Places.{AllPlaced, ArePlaced, IsPlaced, depth_below, index_of}
-use Rattle.finding_aids.specs.RowTrees.{grove, height, height_of_all, height_step, highest, in_order, forest_of_trees, side_by_side, rest_of, seen_below, tree_of, tree_step}
-use Rattle.finding_aids.specs.Slots.{HasGrown, IsBelow, depth_at, grown_at}
+use Rattle.finding_aids.proofs.Common.{All, AllPlaced, ArePlaced, Bytes, Empty, Forest, HasGrown, IsBelow, IsPlaced, New, Node, PublicUnit, Row, Slot, Told, Tree, branches, cases_Bool, depth_at, depth_below, drop_all, drop_more, each, eqb-true, forest_of_trees, grove, grown_at, has_legacy, height, height_of_all, height_step, highest, if◌then◌else◌, in_order, index_of, join, length-map, length-reverse, length-take-le, map-append, most_deep, new_unit, number_of, numbered_from, option_and_then, option_map, out-Tree, public_of, rest_of, reverse-append, seen_below, side_by_side, slice_get, take_all, tree_of, tree_step}
 use Rattle.finding_aids.proofs.PlaceLemmas.{as_many, depth_below-named, depth_by, from_last-reverse, index_of_within, reverse-push, rows_to}
 
 -- ---- forests side by side
@@ -37,7 +22,8 @@ in_order-push : (fs : List (Forest PublicUnit)) (f : Forest PublicUnit) → in_o
 in_order-push [] f = sym (join-Empty f)
 in_order-push (g ∷ fs) f = ap (λ (h : Forest PublicUnit). join h g) (in_order-push fs f) ∙ join-join f (in_order fs) g
 
-pub side_by_side-push : (fs : List (Forest PublicUnit)) (f : Forest PublicUnit) → side_by_side (fs ++ f ∷ []) ≡ join (side_by_side fs) f
+pub side_by_side-push : (fs : List (Forest PublicUnit)) (f : Forest PublicUnit)
+    → side_by_side (fs ++ f ∷ []) ≡ join (side_by_side fs) f
 side_by_side-push [] f = join-Empty f
 side_by_side-push (g ∷ fs) f = ap (join g) (side_by_side-push fs f) ∙ sym (join-join g (side_by_side fs) f)
 
@@ -58,11 +44,13 @@ map-reverse f (x ∷ xs) =
 pub grove-reverse : (trees : List Tree) → grove (reverse trees) ≡ forest_of_trees trees
 grove-reverse trees = ap side_by_side (map-reverse tree_of trees) ∙ side_by_side-reverse (map tree_of trees)
 
-pub tree_of-parts : (t : Tree) → tree_of t ≡ Node (Told (out-Tree t).id (out-Tree t).row.now.values) (grove (out-Tree t).children.items) Empty
+pub tree_of-parts : (t : Tree)
+    → tree_of t ≡ Node (Told (out-Tree t).id (out-Tree t).row.now.values) (grove (out-Tree t).children.items) Empty
 tree_of-parts = fold_out-Tree (Forest PublicUnit) tree_step
 
 -- one more tree comes before the others
-pub planted-push : (trees : List Tree) (t : Tree) → forest_of_trees (trees ++ t ∷ []) ≡ Node (Told (out-Tree t).id (out-Tree t).row.now.values) (grove (out-Tree t).children.items) (forest_of_trees trees)
+pub planted-push : (trees : List Tree) (t : Tree)
+    → forest_of_trees (trees ++ t ∷ []) ≡ Node (Told (out-Tree t).id (out-Tree t).row.now.values) (grove (out-Tree t).children.items) (forest_of_trees trees)
 planted-push trees t =
     ap in_order (map-append tree_of trees (t ∷ []))
     ∙ (in_order-push (map tree_of trees) (tree_of t)
@@ -76,7 +64,8 @@ highest-push (m ∷ ns) n = omega (arith, highest-push ns n)
 
 highest-reverse : (ns : List ℕ) → highest (reverse ns) ≡ highest ns
 highest-reverse [] = refl
-highest-reverse (n ∷ ns) = omega (arith, ap highest (reverse-append (n ∷ []) ns), highest-push (reverse ns) n, highest-reverse ns)
+highest-reverse (n ∷ ns) =
+    omega (arith, ap highest (reverse-append (n ∷ []) ns), highest-push (reverse ns) n, highest-reverse ns)
 
 pub height_of_all-reverse : (trees : List Tree) → height_of_all (reverse trees) ≡ height_of_all trees
 height_of_all-reverse trees = ap highest (map-reverse height trees) ∙ highest-reverse (map height trees)
@@ -84,12 +73,14 @@ height_of_all-reverse trees = ap highest (map-reverse height trees) ∙ highest-
 pub height-parts : (t : Tree) → height t ≡ suc (height_of_all (out-Tree t).children.items)
 height-parts = fold_out-Tree ℕ height_step
 
-height_of_all-push : (trees : List Tree) (t : Tree) → height_of_all (trees ++ t ∷ []) ≡ max (height_of_all trees) (height t)
+height_of_all-push : (trees : List Tree) (t : Tree)
+    → height_of_all (trees ++ t ∷ []) ≡ max (height_of_all trees) (height t)
 height_of_all-push trees t = ap highest (map-append height trees (t ∷ [])) ∙ highest-push (map height trees) (height t)
 
 -- ---- numbers of rows
 
-number_of-index : (legacy : Bytes) (above : List Row) → number_of Empty [] (suc (length above)) above legacy ≡ option_map suc (index_of legacy above)
+number_of-index : (legacy : Bytes) (above : List Row)
+    → number_of Empty [] (suc (length above)) above legacy ≡ option_map suc (index_of legacy above)
 number_of-index legacy [] = refl
 number_of-index legacy (row ∷ above) =
     let back : suc (suc (length above)) - 1 ≡ suc (length above) = omega arith in
@@ -107,12 +98,14 @@ parent-index (Some legacy) above = number_of-index legacy above
 abbrev pub new_of : ℕ → Option ℕ → Row → New
 new_of k parent x = record { id = suc k; parent = option_map suc parent; row = x }
 
-pub rest_of-row : (rows : List Row) (k : ℕ) (x : Row) (place : RowPosition) → k < length rows → x ≡ get_or rows k x → IsPlaced (reverse (take k rows)) x place
+pub rest_of-row : (rows : List Row) (k : ℕ) (x : Row) (place : RowPosition) → k < length rows → x ≡ get_or rows k x
+    → IsPlaced (reverse (take k rows)) x place
     → rest_of rows k ≡ new_of k place.parent x ∷ rest_of rows (suc k)
 rest_of-row rows k x place within is placed =
     let above = reverse (take k rows) in
     let count : length above ≡ k = length-reverse (take k rows) ∙ length-take-le k rows (omega arith) in
-    let here : drop k rows ≡ x ∷ drop (k + 1) rows = drop_more rows k x within ∙ ap (λ (y : Row). y ∷ drop (k + 1) rows) (sym is) in
+    let here : drop k rows ≡ x ∷ drop (k + 1) rows =
+    drop_more rows k x within ∙ ap (λ (y : Row). y ∷ drop (k + 1) rows) (sym is) in
     let turned : reverse (take (suc k) rows) ≡ x ∷ above =
     ap (λ (n : ℕ). reverse (take n rows)) (sym (add-one k)) ∙ (ap reverse (rows_to rows k x within is) ∙ reverse-push (take k rows) x) in
     let parent : option_and_then (number_of Empty [] (suc k) above) x.parent ≡ option_map suc place.parent =
@@ -157,7 +150,8 @@ seen_below-draft k parent p x rest draft =
 
 -- ---- slots
 
-slice_get_front : {X : Type 0} → (xs : List X) (x : X) (j : ℕ) → j < length xs → slice_get (xs ++ x ∷ []) j ≡ slice_get xs j
+slice_get_front : {X : Type 0} → (xs : List X) (x : X) (j : ℕ) → j < length xs
+    → slice_get (xs ++ x ∷ []) j ≡ slice_get xs j
 slice_get_front [] x j h = absurd (omega arith)
 slice_get_front (y ∷ xs) x zero h = refl
 slice_get_front (y ∷ xs) x (suc j) h = slice_get_front xs x j (omega arith)
@@ -166,19 +160,27 @@ slice_get_last : {X : Type 0} → (xs : List X) (x : X) → slice_get (xs ++ x �
 slice_get_last [] x = refl
 slice_get_last (y ∷ xs) x = slice_get_last xs x
 
-grown_at-front : (slots : List Slot) (slot : Slot) (tops : List Tree) (p : Option ℕ) → IsBelow (length slots) p → grown_at (slots ++ slot ∷ []) tops p ≡ grown_at slots tops p
+grown_at-front : (slots : List Slot) (slot : Slot) (tops : List Tree) (p : Option ℕ) → IsBelow (length slots) p
+    → grown_at (slots ++ slot ∷ []) tops p ≡ grown_at slots tops p
 grown_at-front slots slot tops None h = refl
-grown_at-front slots slot tops (Some j) h = ap (λ (o : Option Slot). option_map_or (λ (s : Slot). s.children.items) o []) (slice_get_front slots slot j h)
+grown_at-front slots slot tops (Some j) h =
+    ap (λ (o : Option Slot). option_map_or (λ (s : Slot). s.children.items) o []) (slice_get_front slots slot j h)
 
-grown_at-last : (slots : List Slot) (slot : Slot) (tops : List Tree) → grown_at (slots ++ slot ∷ []) tops (Some (length slots)) ≡ slot.children.items
-grown_at-last slots slot tops = ap (λ (o : Option Slot). option_map_or (λ (s : Slot). s.children.items) o []) (slice_get_last slots slot)
+grown_at-last : (slots : List Slot) (slot : Slot) (tops : List Tree)
+    → grown_at (slots ++ slot ∷ []) tops (Some (length slots)) ≡ slot.children.items
+grown_at-last slots slot tops =
+    ap (λ (o : Option Slot). option_map_or (λ (s : Slot). s.children.items) o []) (slice_get_last slots slot)
 
-depth_at-front : (slots : List Slot) (slot : Slot) (p : Option ℕ) → IsBelow (length slots) p → depth_at (slots ++ slot ∷ []) p ≡ depth_at slots p
+depth_at-front : (slots : List Slot) (slot : Slot) (p : Option ℕ) → IsBelow (length slots) p
+    → depth_at (slots ++ slot ∷ []) p ≡ depth_at slots p
 depth_at-front slots slot None h = refl
-depth_at-front slots slot (Some j) h = ap (λ (o : Option Slot). option_map_or (λ (s : Slot). s.place.depth) o 0) (slice_get_front slots slot j h)
+depth_at-front slots slot (Some j) h =
+    ap (λ (o : Option Slot). option_map_or (λ (s : Slot). s.place.depth) o 0) (slice_get_front slots slot j h)
 
-depth_at-last : (slots : List Slot) (slot : Slot) → depth_at (slots ++ slot ∷ []) (Some (length slots)) ≡ slot.place.depth
-depth_at-last slots slot = ap (λ (o : Option Slot). option_map_or (λ (s : Slot). s.place.depth) o 0) (slice_get_last slots slot)
+depth_at-last : (slots : List Slot) (slot : Slot)
+    → depth_at (slots ++ slot ∷ []) (Some (length slots)) ≡ slot.place.depth
+depth_at-last slots slot =
+    ap (λ (o : Option Slot). option_map_or (λ (s : Slot). s.place.depth) o 0) (slice_get_last slots slot)
 
 -- the same by the places alone
 abbrev depth_in : List RowPosition → Option ℕ → ℕ
@@ -187,31 +189,39 @@ depth_in places (Some j) = option_map_or (λ (place : RowPosition). place.depth)
 
 depth_at-places : (slots : List Slot) (p : Option ℕ) → depth_at slots p ≡ depth_in (map (λ (s : Slot). s.place) slots) p
 depth_at-places slots None = refl
-depth_at-places slots (Some j) = by_slot (slice_get slots j) ∙ ap (λ (o : Option RowPosition). option_map_or (λ (place : RowPosition). place.depth) o 0) (sym (slice_get-map (λ (s : Slot). s.place) slots j))
+depth_at-places slots (Some j) =
+    by_slot (slice_get slots j)
+    ∙ ap (λ (o : Option RowPosition). option_map_or (λ (place : RowPosition). place.depth) o 0) (sym (slice_get-map (λ (s : Slot). s.place) slots j))
   where
-    by_slot : (o : Option Slot) → option_map_or (λ (s : Slot). s.place.depth) o 0 ≡ option_map_or (λ (place : RowPosition). place.depth) (option_map (λ (s : Slot). s.place) o) 0
+    by_slot : (o : Option Slot)
+        → option_map_or (λ (s : Slot). s.place.depth) o 0 ≡ option_map_or (λ (place : RowPosition). place.depth) (option_map (λ (s : Slot). s.place) o) 0
     by_slot None = refl
     by_slot (Some s) = refl
 
 -- a place is one deeper than its parent's
-deeper : (above : List Row) (places : List RowPosition) (x : Row) (place : RowPosition) → IsPlaced above x place → AllPlaced above (reverse places)
+deeper : (above : List Row) (places : List RowPosition) (x : Row) (place : RowPosition) → IsPlaced above x place
+    → AllPlaced above (reverse places)
     → place.depth ≡ suc (depth_in places place.parent)
 deeper above places x place h placed = by_parent x.parent h.parent h.depth
   where
-    by_place : (j : ℕ) (o : Option RowPosition) → option_map (λ (p : RowPosition). suc p.depth) o ≡ Some place.depth → place.depth ≡ suc (option_map_or (λ (p : RowPosition). p.depth) o 0)
+    by_place : (j : ℕ) (o : Option RowPosition) → option_map (λ (p : RowPosition). suc p.depth) o ≡ Some place.depth
+        → place.depth ≡ suc (option_map_or (λ (p : RowPosition). p.depth) o 0)
     by_place j None e = absurd (cc)
     by_place j (Some p) e = cc
 
-    by_index : (o : Option ℕ) → place.parent ≡ o → depth_by (reverse places) o ≡ Some place.depth → place.depth ≡ suc (depth_in places place.parent)
+    by_index : (o : Option ℕ) → place.parent ≡ o → depth_by (reverse places) o ≡ Some place.depth
+        → place.depth ≡ suc (depth_in places place.parent)
     by_index None p e = absurd (cc)
     by_index (Some j) p e =
         by_place j (slice_get places j) (ap (option_map (λ (q : RowPosition). suc q.depth)) (sym (from_last-reverse places j)) ∙ e)
         ∙ ap (λ (o : Option ℕ). suc (depth_in places o)) (sym p)
 
-    by_parent : (parent : Option Bytes) → place.parent ≡ option_and_then (λ legacy. index_of legacy above) parent → depth_below above parent ≡ Some place.depth
+    by_parent : (parent : Option Bytes) → place.parent ≡ option_and_then (λ legacy. index_of legacy above) parent
+        → depth_below above parent ≡ Some place.depth
         → place.depth ≡ suc (depth_in places place.parent)
     by_parent None p d = let one : place.depth ≡ 1 = cc in one ∙ ap (λ (o : Option ℕ). suc (depth_in places o)) (sym p)
-    by_parent (Some legacy) p d = by_index (index_of legacy above) p (sym (depth_below-named legacy above (reverse places) placed) ∙ d)
+    by_parent (Some legacy) p d =
+        by_index (index_of legacy above) p (sym (depth_below-named legacy above (reverse places) placed) ∙ d)
 
 below_more : (n : ℕ) (p : Option ℕ) → IsBelow n p → IsBelow (suc n) p
 below_more n None h = tt
@@ -227,10 +237,12 @@ pub record Last (rows : List Row) (slots : List Slot) (slot : Slot) (tops : List
   pub placed : IsPlaced (reverse (take (length slots) rows)) x slot.place
   pub others : AllPlaced (reverse (take (length slots) rows)) (reverse (map (λ (s : Slot). s.place) slots))
   pub children : forest_of_trees slot.children.items ≡ seen_below (Some (suc (length slots))) (rest_of rows (suc (length slots)))
-  pub grown : (p : Option ℕ) → IsBelow (length slots) p → forest_of_trees (grown_at slots tops p) ≡ seen_below (option_map suc p) (rest_of rows (suc (length slots)))
+  pub grown : (p : Option ℕ) → IsBelow (length slots) p
+      → forest_of_trees (grown_at slots tops p) ≡ seen_below (option_map suc p) (rest_of rows (suc (length slots)))
   pub deep : slot.place.depth ≡ suc (depth_at slots slot.place.parent)
   pub low_children : height_of_all slot.children.items + slot.place.depth ≤ most_deep
-  pub low : (p : Option ℕ) → IsBelow (length slots) p → height_of_all (grown_at slots tops p) + depth_at slots p ≤ most_deep
+  pub low : (p : Option ℕ) → IsBelow (length slots) p
+      → height_of_all (grown_at slots tops p) + depth_at slots p ≤ most_deep
 
 pub last_slot : (rows : List Row) (slots : List Slot) (slot : Slot) (tops : List Tree) (x : Row)
     → HasGrown rows (slots ++ slot ∷ []) tops → x ≡ get_or rows (length slots) x → Last rows slots slot tops x
@@ -265,8 +277,10 @@ last_slot rows slots slot tops x h is =
     }
 
 -- a parent comes before
-pub parent_below : (rows : List Row) (slots : List Slot) (slot : Slot) (tops : List Tree) (x : Row) → Last rows slots slot tops x → IsBelow (length slots) slot.place.parent
-parent_below rows slots slot tops x h = subst (λ (p : Option ℕ). IsBelow (length slots) p) (sym h.placed.parent) (named x.parent)
+pub parent_below : (rows : List Row) (slots : List Slot) (slot : Slot) (tops : List Tree) (x : Row)
+    → Last rows slots slot tops x → IsBelow (length slots) slot.place.parent
+parent_below rows slots slot tops x h =
+    subst (λ (p : Option ℕ). IsBelow (length slots) p) (sym h.placed.parent) (named x.parent)
   where
     found : (o : Option ℕ) → ((j : ℕ) → o ≡ Some j → j < length slots) → IsBelow (length slots) o
     found None f = tt
@@ -275,7 +289,8 @@ parent_below rows slots slot tops x h = subst (λ (p : Option ℕ). IsBelow (len
     count : length (reverse (take (length slots) rows)) ≡ length slots
     count = length-reverse (take (length slots) rows) ∙ length-take-le (length slots) rows (omega (arith, h.within))
 
-    named : (parent : Option Bytes) → IsBelow (length slots) (option_and_then (λ legacy. index_of legacy (reverse (take (length slots) rows))) parent)
+    named : (parent : Option Bytes)
+        → IsBelow (length slots) (option_and_then (λ legacy. index_of legacy (reverse (take (length slots) rows))) parent)
     named None = tt
     named (Some legacy) = found (index_of legacy (reverse (take (length slots) rows)))
         (λ j e. subst (λ (n : ℕ). j < n) count (index_of_within legacy (reverse (take (length slots) rows)) j e))
@@ -301,7 +316,8 @@ option_eq-true (Some m) (Some n) h = ap Some (eqb-true m n h)
 -- a published row comes before the others below its parent
 pub grown_published : (rows : List Row) (slots more : List Slot) (slot : Slot) (tops later : List Tree) (x : Row) (t : Tree)
     → Last rows slots slot tops x → x ≡ get_or rows (length slots) x → x.published ≡ true
-    → (out-Tree t).id ≡ suc (length slots) → (out-Tree t).row.now ≡ x → (out-Tree t).children.items ≡ reverse slot.children.items
+    → (out-Tree t).id ≡ suc (length slots) → (out-Tree t).row.now ≡ x
+    → (out-Tree t).children.items ≡ reverse slot.children.items
     → map (λ (s : Slot). s.place) more ≡ map (λ (s : Slot). s.place) slots
     → ((p : Option ℕ) → grown_at more later p ≡ (if option_eq nat_eq slot.place.parent p then grown_at slots tops p ++ t ∷ [] else grown_at slots tops p))
     → HasGrown rows more later
@@ -330,8 +346,10 @@ grown_published rows slots more slot tops later x t h is published id row childr
     low_at : (p : Option ℕ) (b : Bool) → option_eq nat_eq slot.place.parent p ≡ b → IsBelow (length slots) p
         → height_of_all (if b then grown_at slots tops p ++ t ∷ [] else grown_at slots tops p) + depth_at slots p ≤ most_deep
     low_at p true e below =
-        let same : depth_at slots slot.place.parent ≡ depth_at slots p = ap (depth_at slots) (option_eq-true slot.place.parent p e) in
-        let tall : height t ≡ suc (height_of_all slot.children.items) = height-parts t ∙ ap suc (ap height_of_all children ∙ height_of_all-reverse slot.children.items) in
+        let same : depth_at slots slot.place.parent ≡ depth_at slots p =
+        ap (depth_at slots) (option_eq-true slot.place.parent p e) in
+        let tall : height t ≡ suc (height_of_all slot.children.items) =
+        height-parts t ∙ ap suc (ap height_of_all children ∙ height_of_all-reverse slot.children.items) in
         omega (arith, height_of_all-push (grown_at slots tops p) t, h.low p below, h.low_children, h.deep)
     low_at p false e below = h.low p below
 
@@ -351,7 +369,8 @@ grown_published rows slots more slot tops later x t h is published id row childr
 
 pub grown_none : (rows : List Row) (slots : List Slot) (places : List RowPosition) → ArePlaced rows places
     → All (λ (place : RowPosition). place.depth ≤ most_deep) places
-    → map (λ (s : Slot). s.place) slots ≡ places → All (λ (s : Slot). s.children.items ≡ []) slots → HasGrown rows slots []
+    → map (λ (s : Slot). s.place) slots ≡ places → All (λ (s : Slot). s.children.items ≡ []) slots
+    → HasGrown rows slots []
 grown_none rows slots places placed shallow are bare = record {
   few = omega (arith, count);
   placed = subst (λ (r : List Row). AllPlaced (reverse r) (reverse (map (λ (s : Slot). s.place) slots))) (sym (take_all (length slots) rows (omega (arith, count))))
@@ -368,15 +387,18 @@ grown_none rows slots places placed shallow are bare = record {
     nothing : rest_of rows (length slots) ≡ []
     nothing = ap (numbered_from Empty [] (suc (length slots)) (reverse (take (length slots) rows))) (drop_all (length slots) rows (omega (arith, count)))
 
-    shallow_at : (j : ℕ) (o : Option RowPosition) → slice_get places j ≡ o → option_map_or (λ (place : RowPosition). place.depth) o 0 ≤ most_deep
+    shallow_at : (j : ℕ) (o : Option RowPosition) → slice_get places j ≡ o
+        → option_map_or (λ (place : RowPosition). place.depth) o 0 ≤ most_deep
     shallow_at j None e = omega arith
-    shallow_at j (Some place) e = subst (λ (p : RowPosition). p.depth ≤ most_deep) (get_or_from_slice_get places j place place e) (shallow j place (slice_get_within places j place e))
+    shallow_at j (Some place) e =
+        subst (λ (p : RowPosition). p.depth ≤ most_deep) (get_or_from_slice_get places j place place e) (shallow j place (slice_get_within places j place e))
 
     shallow_in : (p : Option ℕ) → 0 + depth_in places p ≤ most_deep
     shallow_in None = omega arith
     shallow_in (Some j) = omega (arith, shallow_at j (slice_get places j) refl)
 
-    children_none : (j : ℕ) (o : Option Slot) → slice_get slots j ≡ o → option_map_or (λ (s : Slot). s.children.items) o [] ≡ []
+    children_none : (j : ℕ) (o : Option Slot) → slice_get slots j ≡ o
+        → option_map_or (λ (s : Slot). s.children.items) o [] ≡ []
     children_none j None e = refl
     children_none j (Some s) e =
         ap (λ (t : Slot). t.children.items) (sym (get_or_from_slice_get slots j s s e)) ∙ bare j s (slice_get_within slots j s e)
@@ -385,5 +407,6 @@ grown_none rows slots places placed shallow are bare = record {
     empty None = refl
     empty (Some j) = children_none j (slice_get slots j) refl
 
-pub grown_all : (rows : List Row) (tops : List Tree) → HasGrown rows [] tops → forest_of_trees tops ≡ seen_below None (numbered_from Empty [] 1 [] rows)
+pub grown_all : (rows : List Row) (tops : List Tree) → HasGrown rows [] tops
+    → forest_of_trees tops ≡ seen_below None (numbered_from Empty [] 1 [] rows)
 grown_all rows tops h = h.grown None tt

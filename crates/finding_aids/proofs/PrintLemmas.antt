@@ -2,29 +2,21 @@
 use Rattle.std.proofs.Common.{◌≡◌, ℕ, zero, suc, ◌+◌, ◌-◌, ◌<◌, ◌≤◌, List, [], ◌∷◌, ◌++◌, length, get_or, take, map, refl, sym, ap, ◌∙◌, arith, append_assoc}
 use Rattle.std.proofs.Math.Seq.{take-append_seam}
 use Rattle.std.proofs.lemmas.Grind.{flat_map-append}
-use Rattle.std.proofs.lemmas.List.{append-nil, map-append, take_more}
-use Rattle.isad_core.specs.Limits.{most_deep}
-use Rattle.isad_core.specs.Texts.{Bytes}
-use Rattle.isad_core.specs.PrintedDescriptions.{aid, unit_lines}
 use Rattle.isad_core.specs.Values.{identifier}
-use Rattle.isad_core.specs.declared.values.BoxKey.{BoxKey}
 use Rattle.isad_core.specs.declared.display.Shown.{Shown}
-use Rattle.tree_core.specs.Forest.{Forest, Empty, Node, join}
-use Rattle.catalogue_core.specs.PublicForest.{PublicUnit}
-use Rattle.catalogue_core.specs.Aids.{Repository, identifier_of, shown_by, shown_told, shown_unit_by}
-use Rattle.finding_aids.specs.RowTrees.{grove, height, height_of_all, side_by_side, tree_of}
-use Rattle.finding_aids.specs.declared.previews.trees.Tree.{Tree}
-use Rattle.finding_aids.specs.declared.previews.trees.Tree.TheViews.{out-Tree}
+use Rattle.finding_aids.proofs.Common.{BoxKey, Bytes, Empty, Forest, Node, PublicUnit, Repository, Tree, aid, append-nil, grove, height, height_of_all, identifier_of, join, map-append, most_deep, out-Tree, shown_by, shown_told, shown_unit_by, side_by_side, take_more, tree_of, unit_lines}
 use Rattle.finding_aids.proofs.PlantLemmas.{height-parts, length-push, side_by_side-push, tree_of-parts}
 
 -- ---- no child is too deep
 
-highest-le : (trees : List Tree) (i : ℕ) (t : Tree) → i < length trees → t ≡ get_or trees i t → height t ≤ height_of_all trees
+highest-le : (trees : List Tree) (i : ℕ) (t : Tree) → i < length trees → t ≡ get_or trees i t
+    → height t ≤ height_of_all trees
 highest-le [] i t within is = absurd (omega arith)
 highest-le (u ∷ trees) zero t within is = omega (arith, ap height is)
 highest-le (u ∷ trees) (suc i) t within is = omega (arith, highest-le trees i t (omega arith) is)
 
-pub child_fits : (depth : ℕ) (trees : List Tree) (i : ℕ) (t : Tree) → i < length trees → t ≡ get_or trees i t → depth + height_of_all trees ≤ most_deep
+pub child_fits : (depth : ℕ) (trees : List Tree) (i : ℕ) (t : Tree) → i < length trees → t ≡ get_or trees i t
+    → depth + height_of_all trees ≤ most_deep
     → depth + 1 + height_of_all (out-Tree t).children.items ≤ most_deep
 child_fits depth trees i t within is fits = omega (arith, highest-le trees i t within is, height-parts t)
 
@@ -50,7 +42,8 @@ printed_tree at number ids depth t =
     ∙ ap (λ (more : List Shown). unit_lines (shown_told at number (ids ++ identifier (out-Tree t).row.now.values ∷ []) depth (out-Tree t).row.now.values) ++ aid more) (append-nil inner)
 
 -- one more tree of several
-pub printed_more : (at : Repository) (number : BoxKey → ℕ) (ids : List Bytes) (depth : ℕ) (trees : List Tree) (i : ℕ) (t : Tree) → i < length trees → t ≡ get_or trees i t
+pub printed_more : (at : Repository) (number : BoxKey → ℕ) (ids : List Bytes) (depth : ℕ) (trees : List Tree) (i : ℕ) (t : Tree)
+    → i < length trees → t ≡ get_or trees i t
     → aid (shown_by at number ids depth (grove (take (i + 1) trees)))
     ≡ aid (shown_by at number ids depth (grove (take i trees))) ++ aid (shown_by at number ids depth (tree_of t))
 printed_more at number ids depth trees i t within is =
@@ -62,7 +55,8 @@ printed_more at number ids depth trees i t within is =
     ∙ flat_map-append unit_lines before (shown_by at number ids depth (tree_of t)))))
 
 -- the children of a tree stand less high than the trees beside it
-pub child_lower : (trees : List Tree) (i : ℕ) (t : Tree) → i < length trees → t ≡ get_or trees i t → height_of_all (out-Tree t).children.items < height_of_all trees
+pub child_lower : (trees : List Tree) (i : ℕ) (t : Tree) → i < length trees → t ≡ get_or trees i t
+    → height_of_all (out-Tree t).children.items < height_of_all trees
 child_lower trees i t within is = omega (arith, highest-le trees i t within is, height-parts t)
 
 -- one more tree is printed: its unit below the units above it, and then its children
@@ -90,7 +84,8 @@ tree_printed at number start before middle after above ids more given id depth t
     ∙ ap (λ (m : Bytes). start ++ m) (sym (printed_more at number above depth trees i t within is))))))))
 
 -- the identifiers are as they were before
-pub popped : (ids more left : List Bytes) (id : Bytes) (n : ℕ) → more ≡ ids ++ id ∷ [] → n ≡ length more → left ≡ take (n - 1) more → left ≡ ids
+pub popped : (ids more left : List Bytes) (id : Bytes) (n : ℕ) → more ≡ ids ++ id ∷ [] → n ≡ length more
+    → left ≡ take (n - 1) more → left ≡ ids
 popped ids more left id n pushed count rest =
     let one : n - 1 ≡ length ids = omega (arith, count, ap length pushed, length-push ids id) in
     rest ∙ (ap (λ (k : ℕ). take k more) one ∙ (ap (take (length ids)) pushed ∙ take-append_seam ids (id ∷ [])))

@@ -5,7 +5,7 @@ use crate::parents::{FOREST, Place, put_all};
 use catalogue_store::{LinkPlaces, Places, StoreFault};
 use integrity_checks::CheckedPlaces;
 use nested_sets::SpanPlaces;
-use office_tables::Tables;
+use office_tables::{Number, Tables};
 use sqlite::{Alter, Connection};
 use std::alloc::{AllocError, Global};
 use std::process::Abort;
@@ -41,11 +41,11 @@ fn carry_out<P: Places, S: Alter>(
     change: Change,
 ) -> Result<(), StoreFault> {
     match change {
-        Change::Move(unit, None) => P::shift(alloc, tables, u64::from(unit), None),
+        Change::Move(unit, None) => P::shift(alloc, tables, Number::from(unit), None),
         Change::Move(unit, Some(above)) => {
-            P::shift(alloc, tables, u64::from(unit), Some(u64::from(above)))
+            P::shift(alloc, tables, Number::from(unit), Some(Number::from(above)))
         }
-        Change::Cut(unit) => P::cut(alloc, tables, u64::from(unit)),
+        Change::Cut(unit) => P::cut(alloc, tables, Number::from(unit)),
     }
 }
 
@@ -62,10 +62,10 @@ fn change_all<P: Places, S: Alter>(
 }
 
 /// The units by their numbers, with a blank after each.
-fn listing(alloc: Global, units: &[u64]) -> Result<String, AllocError> {
+fn listing(alloc: Global, units: &[Number]) -> Result<String, AllocError> {
     let mut text = String::new(alloc);
     for unit in units {
-        write!(text, "{unit} ")?;
+        write!(text, "{} ", unit.get())?;
     }
     Ok(text)
 }
@@ -78,12 +78,12 @@ fn answer<P: CheckedPlaces, S: Alter>(
 ) -> Result<String, Fail> {
     let units = match question {
         Question::All => P::all(alloc, tables)?,
-        Question::Path(unit) => P::path(alloc, tables, u64::from(unit))?,
-        Question::Branch(unit) => P::branch(alloc, tables, u64::from(unit))?,
+        Question::Path(unit) => P::path(alloc, tables, Number::from(unit))?,
+        Question::Branch(unit) => P::branch(alloc, tables, Number::from(unit))?,
         Question::Below(None) => P::below(alloc, tables, None)?,
-        Question::Below(Some(above)) => P::below(alloc, tables, Some(u64::from(above)))?,
+        Question::Below(Some(above)) => P::below(alloc, tables, Some(Number::from(above)))?,
         Question::IsBelow(unit, other) => {
-            let is_below = P::is_below(alloc, tables, u64::from(unit), u64::from(other))?;
+            let is_below = P::is_below(alloc, tables, Number::from(unit), Number::from(other))?;
             return Ok(format!(in alloc; "{is_below}")?);
         }
         Question::Judged => return check_result(alloc, tables),

@@ -1,6 +1,6 @@
 //! An office in either version, and what the check of its places finds.
 
-ghost use Rattle.std.specs.Prelude.{◌≡◌, IfOk, OnOk};
+ghost use Rattle.std.specs.Prelude.{◌≡◌, OnOk};
 ghost use Rattle.sqlite.specs.Held.{state};
 ghost use Rattle.sqlite.specs.State.{HasCleanDisk};
 ghost use Rattle.office_tables.specs.Schema.{no_schema};
@@ -10,7 +10,7 @@ use catalogue_store::{OfficeRow, Places, StoreFault, begin, create};
 use desk_store::{create_desk, is_blank};
 use integrity_checks::{CheckedPlaces, Placed};
 use isad_core::{Day, Text};
-use office_tables::Tables;
+use office_tables::{Number, Tables};
 use sqlite::types::ValueRef;
 use sqlite::{Alter, Connection};
 use std::alloc::Global;
@@ -19,9 +19,7 @@ use std::test::Fail;
 /// A row, whatever its numbers are.
 pub(crate) type Row = [ValueRef<'static>; 3];
 
-fn settings(alloc: Global) -> Result<OfficeRow, StoreFault>
-    ensures { IfOk result (λ row. row.next_unit ≡ 1) }
-{
+fn settings(alloc: Global) -> Result<OfficeRow, StoreFault> {
     let Some(day) = Day::from_number(19783) else {
         return Err(StoreFault::Schema);
     };
@@ -33,7 +31,7 @@ fn settings(alloc: Global) -> Result<OfficeRow, StoreFault>
         hands: 1,
         run_size: 2,
         day,
-        next_unit: 1,
+        next_unit: Number::from(1),
     })
 }
 

@@ -1,16 +1,11 @@
 //! The units right above many, in either version.
 
-ghost use Rattle.std.specs.Prelude.{◌≡◌, true};
-ghost use Rattle.std.specs.List.{AllByRecursion};
-ghost use Rattle.isad_core.specs.Limits.{IsNumber};
-
 use crate::offices::new_office;
 use catalogue_store::{LinkPlaces, Places, StoreFault};
 use nested_sets::SpanPlaces;
-use office_tables::Tables;
-use office_tables::value::NO_NUMBER;
+use office_tables::{Number, Tables};
 use sqlite::{Alter, Connection};
-use std::alloc::Global;
+use std::alloc::{AllocError, Global};
 use std::process::Abort;
 use std::test::Fail;
 
@@ -38,11 +33,7 @@ fn put<P: Places, S: Alter>(
     place: Place,
 ) -> Result<(), StoreFault> {
     let (unit, above) = place;
-    let parent = match above {
-        Some(above) => Some(u64::from(above)),
-        None => None,
-    };
-    P::add(alloc, tables, parent, u64::from(unit))
+    P::add(alloc, tables, above.map(Number::from), Number::from(unit))
 }
 
 /// Puts the units of a forest at their places, one after another.
@@ -57,27 +48,23 @@ pub(crate) fn put_all<P: Places, S: Alter>(
     Ok(())
 }
 
-/// Whether a unit may have each of these numbers.
-fn are_numbers(units: &[u64]) -> bool
-    ensures { result ≡ true → AllByRecursion IsNumber units.now }
-{
-    units.iter().all(|unit| *unit < NO_NUMBER)
+/// These numbers, as a store takes them.
+fn numbers(alloc: Global, units: &[u32]) -> Result<Vec<Number>, AllocError> {
+    units.iter().map(|unit| Number::from(*unit)).collect(alloc)
 }
 
 /// The numbers of the units right above these in the forest, with a dash for none.
 fn listing<P: Places, S: Alter>(
     alloc: Global,
     tables: &mut Tables<P, S>,
-    units: &[u64],
+    units: &[u32],
 ) -> Result<String, Fail> {
     put_all(alloc, tables, &FOREST)?;
+    let units = numbers(alloc, units)?;
     let mut text = String::new(alloc);
-    if !are_numbers(units) {
-        return Ok(text);
-    }
-    for above in &P::parents(alloc, tables, units)? {
+    for above in &P::parents(alloc, tables, &units)? {
         match above {
-            Some(above) => write!(text, "{above} ")?,
+            Some(above) => write!(text, "{} ", above.get())?,
             None => write!(text, "- ")?,
         }
     }
@@ -85,7 +72,7 @@ fn listing<P: Places, S: Alter>(
 }
 
 /// The same, in a new office.
-fn told_of<P: Places>(alloc: Global, units: &[u64]) -> Result<String, Fail> {
+fn told_of<P: Places>(alloc: Global, units: &[u32]) -> Result<String, Fail> {
     let mut tables = new_office::<P, _>(alloc, Connection::open_in_memory(alloc)?)?;
     let text = listing(alloc, &mut tables, units);
     let _ = tables.into_connection();
@@ -93,7 +80,7 @@ fn told_of<P: Places>(alloc: Global, units: &[u64]) -> Result<String, Fail> {
 }
 
 /// Units, and the units right above them in either version.
-type Case = (&'static [u64], &'static str);
+type Case = (&'static [u32], &'static str);
 
 fn see(rt: &impl Abort, alloc: Global, cases: &[Case]) -> Result<(), Fail> {
     for (at, &(units, wanted)) in cases.iter().enumerate() {

@@ -1,33 +1,19 @@
 -- Sessions that a bound ended in a text.
 use Rattle.std.proofs.Common.{◌≡◌, ◌≤◌, ◌+◌, ℕ, List, [], ◌++◌, length, take, drop, refl, sym, ap, ◌∙◌, subst, true, false, Bool, append_assoc, inl, inr, Option}
-use Rattle.std.specs.Prelude.{◌||◌, nat_eq, Result, Ok, Err, IfOk, OnErr, MatchResult}
-use Rattle.std.specs.Io.KnownBytes.{Consumes, Appends}
-use Rattle.std.proofs.KnownBytes.{Consumes-nil, Consumes-trans, Appends-trans}
-use Rattle.isad_core.specs.Texts.{Bytes}
-use Rattle.office_core.specs.State.{State}
-use Rattle.office_core.specs.declared.command.Command.{Command}
-use Rattle.http_desk.specs.declared.session_end.Ended.TheVariants.{Closed, Bound}
-use Rattle.http_desk.specs.declared.session_end.Next.{Next}
-use Rattle.http_desk.specs.declared.session_end.Next.TheVariants.{Ends}
-use Rattle.http_desk.specs.declared.output.Sent.{Sent}
+use Rattle.std.specs.Prelude.{◌||◌, Ok}
+use Rattle.http_desk.specs.declared.session_end.Ended.TheVariants.{Bound}
 use Rattle.http_desk.specs.declared.output.Sent.TheVariants.{All, Failed, Bound as OutOfTurns}
-use Rattle.http_messages.specs.declared.status.Status.{Status}
-use Rattle.http_messages.specs.declared.status.Status.TheVariants.{Busy}
-use Rattle.http_messages.specs.Heads.{Request, Accepted, is_head, body_length}
-use Rattle.http_messages.specs.Answers.{Answer, error, answer_text, response, continue_text}
-use Rattle.http_desk.specs.Messages.{HasHead, Message, Last, Answers, Fails, Stands}
-use Rattle.http_desk.specs.Session.{most_answers, IsFront, closes, continue_if, message_answer, refusal, state_after, state_after_all, last_text, state_after_last}
-use Rattle.http_desk.specs.AnswerOutput.{Sends}
-use Rattle.http_desk.specs.Exchanges.{Through, Refused, Replies, after_answer, after_sending}
-use Rattle.http_desk.specs.Streams.{Stream}
-use Rattle.http_desk.specs.StreamFaults.{TellsWriteBound, TextIsUsedUp}
-use Rattle.http_desk.specs.Bounds.{ExchangeBounded, IsLastAnswer, SessionBounded, StopsBounded, leave_of}
+use Rattle.http_messages.specs.Answers.{continue_text}
+use Rattle.http_desk.specs.Session.{state_after}
+use Rattle.http_desk.specs.Exchanges.{Refused}
+use Rattle.http_desk.proofs.Common.{Accepted, Answer, Answers, Appends, Appends-trans, Busy, Bytes, Closed, Command, Consumes, Consumes-nil, Consumes-trans, Ends, Err, ExchangeBounded, Fails, HasHead, IfOk, IsFront, IsLastAnswer, Last, MatchResult, Message, Next, OnErr, Replies, Request, Result, Sends, Sent, SessionBounded, Stands, State, Status, StopsBounded, Stream, TellsWriteBound, TextIsUsedUp, Through, after_answer, after_sending, answer_text, body_length, closes, continue_if, error, is_head, last_text, leave_of, message_answer, most_answers, nat_eq, refusal, response, state_after_all, state_after_last}
 use Rattle.http_desk.proofs.Faults.{bound_sent, closed_no_bound, goes_no_bound}
 use Rattle.http_desk.proofs.Turns.{front_after, head_more, may_fail_after, message_at}
 use Rattle.http_desk.proofs.Sessions.{Begun, Carried, cuts_longer}
 
 -- a sending that ends in a bound wrote a front of its text
-sent_front : (sent : Sent) (next : Next) (a b : Option Bytes) (text : Bytes) → (next ≡ Ends Bound → ⊥) → after_sending sent next ≡ Ends Bound → Sends a b text sent
+sent_front : (sent : Sent) (next : Next) (a b : Option Bytes) (text : Bytes) → (next ≡ Ends Bound → ⊥)
+    → after_sending sent next ≡ Ends Bound → Sends a b text sent
     → (front : Bytes) × IsFront front text × Appends a b front
 sent_front All next a b text n e s = absurd (n e)
 sent_front Failed next a b text n e s = absurd (cc)
@@ -41,7 +27,8 @@ front_longer : (front text more : Bytes) → IsFront front text → IsFront fron
 front_longer front text more (rest, e) = (rest ++ more, ap (λ l. l ++ more) e ∙ append_assoc front rest more)
 
 -- after the messages that were answered
-begun_bounded : (number : ℕ) (s t u : State) (read written buffer more out : Bytes) (writer : Stream) → Begun number s read written t buffer
+begun_bounded : (number : ℕ) (s t u : State) (read written buffer more out : Bytes) (writer : Stream)
+    → Begun number s read written t buffer
     → StopsBounded number t (buffer ++ more) out u writer → SessionBounded s (read ++ more) (written ++ out) u writer
 begun_bounded number s t u read written buffer more out writer b g =
     let there = subst (λ x. StopsBounded number x (buffer ++ more) out u writer) b.leaves g in
@@ -62,7 +49,8 @@ begun_bounded number s t u read written buffer more out writer b g =
 module _ {M : Type 0} (represents : M → State → Type 0) (is_intact is_open : M → Type 0) (recovers : M → List Command → State → Type 0) where
   -- a fixed answer broke off
   pub refused_to_bound : (number : ℕ) (old new : M) (input before : Bytes) (last : Last) (bare : Bool) (status : Status) (a b : Option Bytes) (next : Next) (writer : Stream)
-      → Refused a b bare status next → TellsWriteBound (refusal bare (error status)) writer next → Stands input last → before ≡ continue_if (leave_of last)
+      → Refused a b bare status next → TellsWriteBound (refusal bare (error status)) writer next → Stands input last
+      → before ≡ continue_if (leave_of last)
       → ((s : State) → IsLastAnswer number s last (refusal bare (error status)))
       → ((s : State) → (before ++ refusal bare (error status) ≡ last_text number s last) × (s ≡ state_after_last s last))
       → (is_intact new → (s : State) → represents old s → represents new s) → next ≡ Ends Bound
@@ -84,7 +72,8 @@ module _ {M : Type 0} (represents : M → State → Type 0) (is_intact is_open :
 
   -- what the office answered broke off, or that it is busy
   pub answered_to_bound : {A E : Type 0} (answer : A → Answer) (number : ℕ) (old new : M) (items : Bytes) (size n : ℕ) (request : Request) (made : Result A E) (bare : Bool) (a b : Option Bytes) (closing : Bool) (next : Next) (writer : Stream)
-      → HasHead items (take size items) (Accepted request) (drop size items) → size + n ≤ length items → n ≡ body_length request
+      → HasHead items (take size items) (Accepted request) (drop size items) → size + n ≤ length items
+      → n ≡ body_length request
       → bare ≡ is_head request.method → (request.closes || nat_eq number most_answers) ≡ closing
       → MatchResult made (λ x. Replies a b closing (answer_text bare closing (answer x)) next) (λ e. Refused a b false Busy next)
       → MatchResult made (λ x. TellsWriteBound (answer_text bare closing (answer x)) writer next) (λ e. TellsWriteBound (refusal false (error Busy)) writer next)
@@ -93,7 +82,8 @@ module _ {M : Type 0} (represents : M → State → Type 0) (is_intact is_open :
       → (written : Bytes) × Appends a b written × Through represents is_intact old new (λ s t. StopsBounded number s items (continue_if request.waits ++ written) t writer)
   answered_to_bound answer number old new items size n request (Ok x) bare a b closing next writer h within e is_bare is_closing (sent, sends, ends) told answers busy bound =
       let text = answer_text bare closing (answer x) in
-      let (front, is_front, appended) = sent_front sent (after_answer closing) a b text (after_no_bound closing) (sym ends ∙ bound) sends in
+      let (front, is_front, appended) =
+      sent_front sent (after_answer closing) a b text (after_no_bound closing) (sym ends ∙ bound) sends in
       let message : Message = record { request = request; body = take n (drop size items) } in
       let rest = drop (size + n) items in
       let begins = message_at represents is_intact is_open recovers items size n request rest h within e refl in (
@@ -118,12 +108,15 @@ module _ {M : Type 0} (represents : M → State → Type 0) (is_intact is_open :
 
   -- the leave to send a body broke off
   pub leave_to_bound : (number : ℕ) (office : M) (items block more : Bytes) (request : Request) (a b : Option Bytes) (writer : Stream) (sent : Sent) (result : Next)
-      → result ≡ after_sending sent (Ends Closed) → HasHead items block (Accepted request) more → Sends b writer.bytes (continue_if request.waits) sent
-      → (sent ≡ OutOfTurns → request.waits ≡ true) → (sent ≡ OutOfTurns → TextIsUsedUp continue_text writer) → result ≡ Ends Bound
+      → result ≡ after_sending sent (Ends Closed) → HasHead items block (Accepted request) more
+      → Sends b writer.bytes (continue_if request.waits) sent
+      → (sent ≡ OutOfTurns → request.waits ≡ true) → (sent ≡ OutOfTurns → TextIsUsedUp continue_text writer)
+      → result ≡ Ends Bound
       → ExchangeBounded represents is_intact number a a b writer office items office
   leave_to_bound number office items block more request a b writer sent result e h sends due used bound =
       let is = bound_sent sent (Ends Closed) closed_no_bound (sym e ∙ bound) in
-      let (front, is_front, appended) = sent_front sent (Ends Closed) b writer.bytes (continue_if request.waits) closed_no_bound (sym e ∙ bound) sends in
+      let (front, is_front, appended) =
+      sent_front sent (Ends Closed) b writer.bytes (continue_if request.waits) closed_no_bound (sym e ∙ bound) sends in
       let leave : IsFront front continue_text = subst (λ x. IsFront front (continue_if x)) (due is) is_front in
       let there = head_more items block (Accepted request) more [] h in (
         [],
@@ -148,7 +141,8 @@ module _ {M : Type 0} (represents : M → State → Type 0) (is_intact is_open :
 
   -- a bound in the place of a message is one of the session
   pub carried_to_bound : (a b b2 c d : Option Bytes) (writer : Stream) (start now new : M) (number : ℕ) (buffer : Bytes)
-      → (is_intact new → is_intact now) → Carried represents is_intact is_open recovers a b c d start now number buffer → ExchangeBounded represents is_intact number b b2 d writer now buffer new
+      → (is_intact new → is_intact now) → Carried represents is_intact is_open recovers a b c d start now number buffer
+      → ExchangeBounded represents is_intact number b b2 d writer now buffer new
       → (read : Bytes) × (written : Bytes) × Consumes a b2 read × Appends c writer.bytes written × Through represents is_intact start new (λ s t. SessionBounded s read written t writer)
   carried_to_bound a b b2 c d writer start now new number buffer before (read, written, consumed, appended, intact, through) (read2, written2, consumed2, appended2, through2) = (
     read ++ read2,

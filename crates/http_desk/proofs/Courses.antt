@@ -1,15 +1,8 @@
 -- Two courses of one input go together until one of them is busy.
 use Rattle.std.proofs.Common.{◌≡◌, ◌<◌, ℕ, suc, ◌+◌, List, [], ◌∷◌, ◌++◌, length, refl, sym, ap, ◌∙◌, subst, arith, true, false, Bool}
-use Rattle.std.proofs.lemmas.Bool.Decides.{nat_tests}
-use Rattle.std.specs.Prelude.{nat_eq, ◌||◌}
-use Rattle.std.specs.List.{AllByRecursion}
-use Rattle.isad_core.specs.Texts.{Bytes}
-use Rattle.office_core.specs.State.{State}
-use Rattle.http_desk.specs.declared.session_end.Ended.{Ended}
-use Rattle.http_desk.specs.declared.session_end.Ended.TheVariants.{End, Closed, Cut, ReadFault, WriteFault, Bound}
-use Rattle.http_desk.specs.Messages.{Message, Begins, Cuts, Last, Nothing, HeadCut, BodyCut, NoHead, Refuses, Answers, Fails, Stands}
-use Rattle.http_desk.specs.Session.{most_answers, StaysOpen, EndsSo, IsStopped, IsClosing, Written, Session, text_after_all, state_after_all, last_text, state_after_last}
-use Rattle.http_desk.specs.Laws.{is_busy, HasEnded, was_busy, IsSame}
+use Rattle.std.specs.Prelude.{◌||◌}
+use Rattle.http_desk.specs.declared.session_end.Ended.TheVariants.{Cut, Bound}
+use Rattle.http_desk.proofs.Common.{AllByRecursion, Answers, Begins, BodyCut, Bytes, Closed, Cuts, End, Ended, EndsSo, Fails, HasEnded, HeadCut, IsClosing, IsSame, IsStopped, Last, Message, NoHead, Nothing, ReadFault, Refuses, Session, Stands, State, StaysOpen, WriteFault, Written, is_busy, last_text, most_answers, nat_eq, nat_tests, state_after_all, state_after_last, text_after_all, was_busy}
 use Rattle.http_desk.proofs.Cutting.{begins_unique, stands_unique}
 
 pub data Meet (ms : List Message) (l : Last) (ns : List Message) (k : Last) : Type 0 where
@@ -28,26 +21,31 @@ stays true b e f g = cc
 stays false b e f g = cc
 
 -- a message that leaves the connection open is no end
-goes_on : (number : ℕ) (n : Message) (end : Ended) → StaysOpen n → suc number < most_answers → EndsSo (suc number) (Answers n) end → HasEnded end → ⊥
+goes_on : (number : ℕ) (n : Message) (end : Ended) → StaysOpen n → suc number < most_answers
+    → EndsSo (suc number) (Answers n) end → HasEnded end → ⊥
 goes_on number n End open_ few e h = answers_not_nothing n e
 goes_on number n Cut open_ few e h = e
-goes_on number n Closed open_ few e h = stays n.request.closes (nat_eq (suc number) most_answers) open_ (not_ten_thousand number few) e
+goes_on number n Closed open_ few e h =
+    stays n.request.closes (nat_eq (suc number) most_answers) open_ (not_ten_thousand number few) e
 goes_on number n ReadFault open_ few e h = h
 goes_on number n WriteFault open_ few e h = h
 goes_on number n Bound open_ few e h = h
 
-clash : (number : ℕ) (input rest : Bytes) (l : Last) (n : Message) (end : Ended) → Stands input l → Begins input n rest → is_busy l ≡ false
+clash : (number : ℕ) (input rest : Bytes) (l : Last) (n : Message) (end : Ended) → Stands input l → Begins input n rest
+    → is_busy l ≡ false
     → StaysOpen n → suc number < most_answers → EndsSo (suc number) l end → HasEnded end → ⊥
 clash number input rest l n end x b quiet open_ few e h =
     let is : l ≡ Answers n = stands_unique input l (Answers n) x (rest, b) quiet refl in
     goes_on number n end open_ few (subst (λ k. EndsSo (suc number) k end) is e) h
 
-both_end : (input : Bytes) (l k : Last) (a b : Bool) → is_busy l ≡ a → is_busy k ≡ b → Stands input l → Stands input k → Meet [] l [] k
+both_end : (input : Bytes) (l k : Last) (a b : Bool) → is_busy l ≡ a → is_busy k ≡ b → Stands input l → Stands input k
+    → Meet [] l [] k
 both_end input l k true b e f x y = first_fails [] refl e
 both_end input l k false true e f x y = second_fails [] refl f
 both_end input l k false false e f x y = same refl (stands_unique input l k x y e f)
 
-one_ends : (number : ℕ) (input rest : Bytes) (l : Last) (n : Message) (end : Ended) → Stands input l → Begins input n rest
+one_ends : (number : ℕ) (input rest : Bytes) (l : Last) (n : Message) (end : Ended) → Stands input l
+    → Begins input n rest
     → StaysOpen n → suc number < most_answers → EndsSo (suc number) l end → HasEnded end → is_busy l ≡ true
 one_ends number input rest l n end x b open_ few e h = by_cases (is_busy l) refl
   where
@@ -100,7 +98,8 @@ not_stopped number (Refuses t b) s c = s
 not_stopped number (Answers m) s c = s
 not_stopped number (Fails a b) s c = s
 
-pub ends_unique : (number : ℕ) (l : Last) (e f : Ended) → EndsSo number l e → EndsSo number l f → HasEnded e → HasEnded f → e ≡ f
+pub ends_unique : (number : ℕ) (l : Last) (e f : Ended) → EndsSo number l e → EndsSo number l f → HasEnded e
+    → HasEnded f → e ≡ f
 ends_unique number l End End x y h k = refl
 ends_unique number l End Cut x y h k = absurd (subst IsStopped x y)
 ends_unique number l End Closed x y h k = absurd (subst (IsClosing number) x y)
@@ -136,7 +135,8 @@ meeting s t input out out2 end fin new new2 a b h k =
     a.stops.stands b.stops.stands a.stops.ends b.stops.ends h k
 
 -- all that is written
-pub whole_text : (s : State) (input out : Bytes) (end : Ended) (new : State) (a : Session s input out end new) → HasEnded end
+pub whole_text : (s : State) (input out : Bytes) (end : Ended) (new : State) (a : Session s input out end new)
+    → HasEnded end
     → out ≡ text_after_all s a.messages ++ last_text (suc (length a.messages)) (state_after_all s a.messages) a.stops.last
 whole_text s input out end new a h =
     a.says ∙ ap (λ l. text_after_all s a.messages ++ l) (written_all end _ a.out h a.stops.written)
@@ -145,12 +145,14 @@ same_course : (s : State) (input out out2 : Bytes) (end fin : Ended) (new new2 :
     (a : Session s input out end new) (b : Session s input out2 fin new2) → HasEnded end → HasEnded fin
     → a.messages ≡ b.messages → a.stops.last ≡ b.stops.last → IsSame out out2 end fin new new2
 same_course s input out out2 end fin new new2 a b h k e f =
-    let text : List Message → Last → Bytes = λ ms l. text_after_all s ms ++ last_text (suc (length ms)) (state_after_all s ms) l in
+    let text : List Message → Last → Bytes =
+    λ ms l. text_after_all s ms ++ last_text (suc (length ms)) (state_after_all s ms) l in
     let after : List Message → Last → State = λ ms l. state_after_last (state_after_all s ms) l in
     let texts : text a.messages a.stops.last ≡ text b.messages b.stops.last = λ i. text (e i) (f i) in
     let states : after a.messages a.stops.last ≡ after b.messages b.stops.last = λ i. after (e i) (f i) in
     let numbers : suc (length a.messages) ≡ suc (length b.messages) = ap (λ ms. suc (length ms)) e in
-    let there : EndsSo (suc (length b.messages)) b.stops.last end = subst (λ l. EndsSo (suc (length b.messages)) l end) f (subst (λ n. EndsSo n a.stops.last end) numbers a.stops.ends) in
+    let there : EndsSo (suc (length b.messages)) b.stops.last end =
+    subst (λ l. EndsSo (suc (length b.messages)) l end) f (subst (λ n. EndsSo n a.stops.last end) numbers a.stops.ends) in
     record {
       output = whole_text s input out end new a h ∙ texts ∙ sym (whole_text s input out2 fin new2 b k);
       ended = ends_unique (suc (length b.messages)) b.stops.last end fin there b.stops.ends h k;

@@ -1,16 +1,11 @@
 -- An input has one message at its front, if any.
 use Rattle.std.proofs.Common.{◌≡◌, ◌≢◌, ◌<◌, ◌≤◌, inl, inr, ℕ, [], ◌∷◌, ◌++◌, length, take, take_all, refl, sym, ap, ◌∙◌, subst, arith, false, Bool, length-append}
 use Rattle.httparse.proofs.GrammarLemmas.{request_unique}
-use Rattle.isad_core.specs.Texts.{Bytes}
 use Rattle.http_messages.specs.declared.head_scan.HeadScanState.{HeadScanState}
-use Rattle.http_messages.specs.declared.head_scan.HeadScanState.TheVariants.{Lead}
 use Rattle.http_messages.specs.declared.head_scan.Scan.{Scan}
-use Rattle.http_messages.specs.declared.head_scan.Scan.TheVariants.{Whole, Open}
-use Rattle.http_messages.specs.declared.status.Status.{Status}
 use Rattle.http_messages.specs.HeadScan.{scan}
-use Rattle.http_messages.specs.Heads.{Request, Verdict, Refused, Accepted, Judges, verdict_on, body_length}
-use Rattle.http_desk.specs.Messages.{longest_head, HasHead, Message, Begins, Last, Nothing, HeadCut, BodyCut, NoHead, Refuses, Answers, Fails, Stands}
-use Rattle.http_desk.specs.Laws.{is_busy}
+use Rattle.http_messages.specs.Heads.{Refused}
+use Rattle.http_desk.proofs.Common.{Accepted, Answers, Begins, BodyCut, Bytes, Fails, HasHead, HeadCut, Judges, Last, Lead, Message, NoHead, Nothing, Open, Refuses, Request, Stands, Status, Verdict, Whole, body_length, is_busy, longest_head, verdict_on}
 
 -- two splits of a list at one place
 pub split_unique : (a c b d : Bytes) → a ++ b ≡ c ++ d → length a ≡ length c → (a ≡ c) × (b ≡ d)
@@ -36,7 +31,8 @@ pub record SameHead (v w : Verdict) (more more2 : Bytes) : Type 0 where
   pub verdicts : v ≡ w
   pub mores : more ≡ more2
 
-pub head_unique : (input b c : Bytes) (v w : Verdict) (more more2 : Bytes) → HasHead input b v more → HasHead input c w more2 → SameHead v w more more2
+pub head_unique : (input b c : Bytes) (v w : Verdict) (more more2 : Bytes) → HasHead input b v more
+    → HasHead input c w more2 → SameHead v w more more2
 head_unique input b c v w more more2 x y =
     let ends : Whole (length b) ≡ Whole (length c) = sym x.ends ∙ y.ends in
     let lengths : length b ≡ length c = cc in
@@ -50,7 +46,8 @@ pub record SameMessage (m n : Message) (rest rest2 : Bytes) : Type 0 where
 same_request : (r q : Request) → Accepted r ≡ Accepted q → r ≡ q
 same_request r q e = cc
 
-pub begins_unique : (input : Bytes) (m n : Message) (rest rest2 : Bytes) → Begins input m rest → Begins input n rest2 → SameMessage m n rest rest2
+pub begins_unique : (input : Bytes) (m n : Message) (rest rest2 : Bytes) → Begins input m rest → Begins input n rest2
+    → SameMessage m n rest rest2
 begins_unique input m n rest rest2 x y =
     let same = head_unique input x.block y.block (Accepted m.request) (Accepted n.request) (m.body ++ rest) (n.body ++ rest2) x.head y.head in
     let requests = same_request m.request n.request same.verdicts in
@@ -76,7 +73,8 @@ not_both : (s : Status) (b : Bool) (r : Request) → Refused s b ≡ Accepted r 
 not_both s b r e = cc
 
 -- a message that came whole is not cut in its body
-cut_not_whole : (input block more rest : Bytes) (r : Request) (m : Message) → HasHead input block (Accepted r) more → length more < body_length r → Begins input m rest → ⊥
+cut_not_whole : (input block more rest : Bytes) (r : Request) (m : Message) → HasHead input block (Accepted r) more
+    → length more < body_length r → Begins input m rest → ⊥
 cut_not_whole input block more rest r m h short b =
     let same = head_unique input block b.block (Accepted r) (Accepted m.request) more (m.body ++ rest) h b.head in
     let requests = same_request r m.request same.verdicts in
@@ -85,7 +83,8 @@ cut_not_whole input block more rest r m h short b =
     omega (arith, length-append m.body rest)
 
 -- the same, with what is open at the front
-open_front : (input : Bytes) (p : HeadScanState) → length input < longest_head → scan input ≡ Open p → scan (take longest_head input) ≡ Open p
+open_front : (input : Bytes) (p : HeadScanState) → length input < longest_head → scan input ≡ Open p
+    → scan (take longest_head input) ≡ Open p
 open_front input p short e =
     let all : length input ≤ longest_head = omega arith in
     ap scan (take_all longest_head input all) ∙ e
@@ -110,7 +109,8 @@ front_of input (Refuses status bare) h = (length h.0, h.2.ends)
 front_of input (Answers message) h = (length h.1.block, h.1.head.ends)
 front_of input (Fails leave bare) h = tt
 
-stands_one : (input : Bytes) (l k : Last) → Stands input l → Front input l → Stands input k → Front input k → is_busy l ≡ false → is_busy k ≡ false → l ≡ k
+stands_one : (input : Bytes) (l k : Last) → Stands input l → Front input l → Stands input k → Front input k
+    → is_busy l ≡ false → is_busy k ≡ false → l ≡ k
 unfolding Front
 stands_one input Nothing Nothing x f y g a b = refl
 stands_one input Nothing HeadCut x f y g a b = absurd (g.2 (open_same g.1 Lead _ g.3 f.1))
@@ -136,26 +136,33 @@ stands_one input NoHead (Fails c d) x f y g a b = absurd (cc)
 stands_one input (BodyCut q) Nothing x f y g a b = absurd (open_not_whole _ _ _ g.1 f.1)
 stands_one input (BodyCut q) HeadCut x f y g a b = absurd (open_not_whole _ _ _ g.3 f.1)
 stands_one input (BodyCut q) NoHead x f y g a b = absurd (open_not_whole _ _ _ g.2 f.1)
-stands_one input (BodyCut q) (BodyCut r) x f y g a b = ap BodyCut (same_request q r (head_unique input _ _ _ _ _ _ x.2 y.2).verdicts)
-stands_one input (BodyCut q) (Refuses s c) x f y g a b = absurd (not_both s c q (head_unique input _ _ _ _ _ _ y.2 x.2).verdicts)
+stands_one input (BodyCut q) (BodyCut r) x f y g a b =
+    ap BodyCut (same_request q r (head_unique input _ _ _ _ _ _ x.2 y.2).verdicts)
+stands_one input (BodyCut q) (Refuses s c) x f y g a b =
+    absurd (not_both s c q (head_unique input _ _ _ _ _ _ y.2 x.2).verdicts)
 stands_one input (BodyCut q) (Answers m) x f y g a b = absurd (cut_not_whole input x.0 x.1 y.0 q m x.2 x.3 y.1)
 stands_one input (BodyCut q) (Fails c d) x f y g a b = absurd (cc)
 stands_one input (Refuses t e) Nothing x f y g a b = absurd (open_not_whole _ _ _ g.1 f.1)
 stands_one input (Refuses t e) HeadCut x f y g a b = absurd (open_not_whole _ _ _ g.3 f.1)
 stands_one input (Refuses t e) NoHead x f y g a b = absurd (open_not_whole _ _ _ g.2 f.1)
-stands_one input (Refuses t e) (BodyCut r) x f y g a b = absurd (not_both t e r (head_unique input _ _ _ _ _ _ x.2 y.2).verdicts)
-stands_one input (Refuses t e) (Refuses s c) x f y g a b = same_bare t s e c (head_unique input _ _ _ _ _ _ x.2 y.2).verdicts
-stands_one input (Refuses t e) (Answers m) x f y g a b = absurd (not_both t e m.request (head_unique input _ _ _ _ _ _ x.2 y.1.head).verdicts)
+stands_one input (Refuses t e) (BodyCut r) x f y g a b =
+    absurd (not_both t e r (head_unique input _ _ _ _ _ _ x.2 y.2).verdicts)
+stands_one input (Refuses t e) (Refuses s c) x f y g a b =
+    same_bare t s e c (head_unique input _ _ _ _ _ _ x.2 y.2).verdicts
+stands_one input (Refuses t e) (Answers m) x f y g a b =
+    absurd (not_both t e m.request (head_unique input _ _ _ _ _ _ x.2 y.1.head).verdicts)
 stands_one input (Refuses t e) (Fails c d) x f y g a b = absurd (cc)
 stands_one input (Answers n) Nothing x f y g a b = absurd (open_not_whole _ _ _ g.1 f.1)
 stands_one input (Answers n) HeadCut x f y g a b = absurd (open_not_whole _ _ _ g.3 f.1)
 stands_one input (Answers n) NoHead x f y g a b = absurd (open_not_whole _ _ _ g.2 f.1)
 stands_one input (Answers n) (BodyCut r) x f y g a b = absurd (cut_not_whole input y.0 y.1 x.0 r n y.2 y.3 x.1)
-stands_one input (Answers n) (Refuses s c) x f y g a b = absurd (not_both s c n.request (head_unique input _ _ _ _ _ _ y.2 x.1.head).verdicts)
+stands_one input (Answers n) (Refuses s c) x f y g a b =
+    absurd (not_both s c n.request (head_unique input _ _ _ _ _ _ y.2 x.1.head).verdicts)
 stands_one input (Answers n) (Answers m) x f y g a b = ap Answers (begins_unique input n m x.0 y.0 x.1 y.1).messages
 stands_one input (Answers n) (Fails c d) x f y g a b = absurd (cc)
 stands_one input (Fails c d) k x f y g a b = absurd (cc)
 
 -- where the office is not busy, one thing stands last
-pub stands_unique : (input : Bytes) (l k : Last) → Stands input l → Stands input k → is_busy l ≡ false → is_busy k ≡ false → l ≡ k
+pub stands_unique : (input : Bytes) (l k : Last) → Stands input l → Stands input k → is_busy l ≡ false
+    → is_busy k ≡ false → l ≡ k
 stands_unique input l k x y a b = stands_one input l k x (front_of input l x) y (front_of input k y) a b

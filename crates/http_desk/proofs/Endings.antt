@@ -1,15 +1,9 @@
 -- What comes next agrees with the calls on the reader and the writer: from one step to the next.
 use Rattle.std.proofs.Common.{◌≡◌, refl, ap, ◌∙◌, sym, true, false, subst, arith, inl, inr, Option, Bool}
 use Rattle.std.specs.Prelude.{◌||◌}
-use Rattle.isad_core.specs.Texts.{Bytes}
-use Rattle.http_desk.specs.declared.output.Sent.{Sent}
 use Rattle.http_desk.specs.declared.output.Sent.TheVariants.{All, Bound}
 use Rattle.http_desk.specs.declared.session_end.Ended.TheVariants as ends
-use Rattle.http_desk.specs.declared.session_end.Next.{Next}
-use Rattle.http_desk.specs.declared.session_end.Next.TheVariants.{Goes, Ends}
-use Rattle.http_desk.specs.Streams.{Stream, most_reads}
-use Rattle.http_desk.specs.StreamFaults.{IsUsedUp, TakesCalls, TakesTurns, TellsReadFault, TellsSomeWriteBound, is_read_fault, is_write_fault, send_failed}
-use Rattle.http_desk.specs.Exchanges.{AtEndIf, EndsAsCalled, IsNoEnd, WritesAsCalled, after_answer, after_sending}
+use Rattle.http_desk.proofs.Common.{AtEndIf, Bytes, Ends, EndsAsCalled, Goes, IsNoEnd, IsUsedUp, Next, Sent, Stream, TakesCalls, TakesTurns, TellsReadFault, TellsSomeWriteBound, WritesAsCalled, after_answer, after_sending, is_read_fault, is_write_fault, most_reads, send_failed}
 use Rattle.http_desk.proofs.Faults.{bound_sent, closed_no_bound, flushed_after, flushed_then, goes_no_bound, no_end_after, writes_told}
 
 -- ---- one step after another
@@ -32,8 +26,10 @@ ends_on a b c w x y next first second calls = record {
 
 -- ---- the reader alone
 
-pub by_reader : {T : Stream → Stream → Type 0} (r s w : Stream) (next : Next) → AtEndIf s.bytes next → TellsReadFault r s next → is_write_fault next ≡ false
-    → (s.interrupted ≡ false → (r.interrupted ≡ false) × (next ≡ Ends ends.Bound → ⊥)) → (next ≡ Ends ends.Bound → IsUsedUp most_reads s)
+pub by_reader : {T : Stream → Stream → Type 0} (r s w : Stream) (next : Next) → AtEndIf s.bytes next
+    → TellsReadFault r s next → is_write_fault next ≡ false
+    → (s.interrupted ≡ false → (r.interrupted ≡ false) × (next ≡ Ends ends.Bound → ⊥))
+    → (next ≡ Ends ends.Bound → IsUsedUp most_reads s)
     → T r s → EndsAsCalled T r s w w next
 by_reader r s w next at_end reads none bound used calls = record {
   at_end = at_end;
@@ -47,7 +43,8 @@ by_reader r s w next at_end reads none bound used calls = record {
 }
 
 -- bytes came
-pub came : {T : Stream → Stream → Type 0} (r s w : Stream) → s.failed ≡ r.failed → (s.interrupted ≡ false → r.interrupted ≡ false) → T r s
+pub came : {T : Stream → Stream → Type 0} (r s w : Stream) → s.failed ≡ r.failed
+    → (s.interrupted ≡ false → r.interrupted ≡ false) → T r s
     → EndsAsCalled T r s w w Goes
 came r s w reads quiet calls =
     by_reader r s w Goes tt reads refl (λ p. (quiet p, goes_no_bound)) (λ e. absurd (goes_no_bound e)) calls
@@ -81,7 +78,8 @@ no_read_fault (Ends ends.ReadFault) n = absurd n
 no_read_fault (Ends ends.WriteFault) n = refl
 no_read_fault (Ends ends.Bound) n = refl
 
-pub by_writer : {T : Stream → Stream → Type 0} (r w x : Stream) (next : Next) → WritesAsCalled w x next → TellsSomeWriteBound x next → T r r
+pub by_writer : {T : Stream → Stream → Type 0} (r w x : Stream) (next : Next) → WritesAsCalled w x next
+    → TellsSomeWriteBound x next → T r r
     → EndsAsCalled T r r w x next
 by_writer r w x next e told calls = record {
   at_end = not_at_end r.bytes next e.no_end;
@@ -103,7 +101,8 @@ no_bound true = closed_no_bound
 no_bound false = goes_no_bound
 
 -- what comes after an answer
-pub answered : (w x : Stream) (sent : Sent) (closing : Bool) (next : Next) → next ≡ after_sending sent (after_answer closing)
+pub answered : (w x : Stream) (sent : Sent) (closing : Bool) (next : Next)
+    → next ≡ after_sending sent (after_answer closing)
     → (sent ≡ All → x.flushed ≡ true) → x.failed ≡ (send_failed sent || w.failed)
     → (x.interrupted ≡ false → (w.interrupted ≡ false) × (sent ≡ Bound → ⊥)) → x.name ≡ w.name → WritesAsCalled w x next
 answered w x sent closing next e flushed failed bound same = record {
@@ -126,14 +125,16 @@ begun r r1 s w x next is e =
     record { at_end = a.at_end; flushed = a.flushed; reads = a.reads; writes = a.writes; turns = a.turns; used_up = a.used_up; calls = (a.calls.0, omega (arith, a.calls.1)); same = a.same }
 
 -- bytes came, and an answer was written
-pub came_then : (r s w x : Stream) (next : Next) → s.failed ≡ r.failed → (s.interrupted ≡ false → r.interrupted ≡ false) → TakesTurns r s
+pub came_then : (r s w x : Stream) (next : Next) → s.failed ≡ r.failed → (s.interrupted ≡ false → r.interrupted ≡ false)
+    → TakesTurns r s
     → WritesAsCalled w x next → TellsSomeWriteBound x next → EndsAsCalled TakesTurns r s w x next
 came_then r s w x next failed quiet calls written told =
     let none : TakesTurns s s = (refl, omega arith, refl) in
     ends_on r s s w w x next (came {T = TakesTurns} r s w failed quiet calls) (by_writer {T = TakesTurns} s w x next written told none) calls
 
 -- 100 Continue was written, or was not due
-pub allowed : (r w x : Stream) → x.failed ≡ w.failed → (x.interrupted ≡ false → (w.interrupted ≡ false) × (All ≡ Bound → ⊥)) → x.name ≡ w.name
+pub allowed : (r w x : Stream) → x.failed ≡ w.failed
+    → (x.interrupted ≡ false → (w.interrupted ≡ false) × (All ≡ Bound → ⊥)) → x.name ≡ w.name
     → (w.flushed ≡ true → x.flushed ≡ true) → EndsAsCalled TakesTurns r r w x Goes
 allowed r w x failed quiet same flushed = record {
   at_end = tt;

@@ -1,18 +1,13 @@
 -- Sessions of the public in offices whose public parts are equal.
 use Rattle.std.proofs.Common.{◌≡◌, inl, inr, ℕ, suc, List, [], ◌∷◌, ◌++◌, length, refl, sym, ap, ◌∙◌, subst, true, false, Bool, append_assoc, append-nil}
-use Rattle.std.specs.List.{AllByRecursion}
-use Rattle.isad_core.specs.Texts.{Bytes}
-use Rattle.office_core.specs.State.{State}
-use Rattle.office_core.specs.Secrecy.{SamePublic, AnswersAlike}
 use Rattle.office_core.proofs.NoLeak.{answers_alike}
-use Rattle.http_desk.specs.declared.session_end.Ended.{Ended}
-use Rattle.http_desk.specs.Messages.{Message, Begins, Cuts, Last, Nothing, HeadCut, BodyCut, NoHead, Refuses, Answers, Fails, Stands}
-use Rattle.http_desk.specs.Session.{IsFront, EndsSo, Session, closes, message_text, state_after, text_after_all, state_after_all, last_text}
-use Rattle.http_desk.specs.Laws.{is_busy, was_busy, until_busy, HasEnded, IsPublicGet, AsksThePublic, AreAlike}
+use Rattle.http_desk.specs.Session.{state_after}
+use Rattle.http_desk.proofs.Common.{AllByRecursion, Answers, AnswersAlike, AreAlike, AsksThePublic, Begins, BodyCut, Bytes, Cuts, Ended, EndsSo, Fails, HasEnded, HeadCut, IsFront, IsPublicGet, Last, Message, NoHead, Nothing, Refuses, SamePublic, Session, Stands, State, closes, is_busy, last_text, message_text, state_after_all, text_after_all, until_busy, was_busy}
 use Rattle.http_desk.proofs.Courses.{Meet, same, first_fails, second_fails, meeting, whole_text, ends_unique, true_not_false}
 use Rattle.http_desk.proofs.Public.{text_alike, all_alike}
 
-pub cuts_more : (input : Bytes) (ms : List Message) (middle : Bytes) (m : Message) (rest : Bytes) → Cuts input ms middle → Begins middle m rest → Cuts input (ms ++ m ∷ []) rest
+pub cuts_more : (input : Bytes) (ms : List Message) (middle : Bytes) (m : Message) (rest : Bytes) → Cuts input ms middle
+    → Begins middle m rest → Cuts input (ms ++ m ∷ []) rest
 cuts_more input [] middle m rest e b = (rest, subst (λ i. Begins i m rest) (sym e) b, refl)
 cuts_more input (n ∷ ms) middle m rest (more, first, others) b = (more, first, cuts_more more ms middle m rest others b)
 
@@ -21,7 +16,8 @@ last_one P [] m h = h.0
 last_one P (n ∷ ms) m h = last_one P ms m h.1
 
 -- what stands last is answered alike
-last_alike : (number : ℕ) (s t : State) (input rest : Bytes) (ms : List Message) (l : Last) → AnswersAlike s t → AsksThePublic input → Cuts input ms rest → Stands rest l
+last_alike : (number : ℕ) (s t : State) (input rest : Bytes) (ms : List Message) (l : Last) → AnswersAlike s t
+    → AsksThePublic input → Cuts input ms rest → Stands rest l
     → last_text number s l ≡ last_text number t l
 last_alike number s t input rest ms Nothing alike asks cut x = refl
 last_alike number s t input rest ms HeadCut alike asks cut x = refl
@@ -32,7 +28,8 @@ last_alike number s t input rest ms (Answers m) alike asks cut x =
     text_alike s t (closes number m) m alike (last_one IsPublicGet ms m (asks (ms ++ m ∷ []) x.0 (cuts_more input ms rest m x.0 cut x.1)))
 last_alike number s t input rest ms (Fails a b) alike asks cut x = refl
 
-pub text_append : (ms ns : List Message) (s : State) → text_after_all s (ms ++ ns) ≡ text_after_all s ms ++ text_after_all (state_after_all s ms) ns
+pub text_append : (ms ns : List Message) (s : State)
+    → text_after_all s (ms ++ ns) ≡ text_after_all s ms ++ text_after_all (state_after_all s ms) ns
 text_append [] ns s = refl
 text_append (m ∷ ms) ns s =
     ap (λ l. message_text false s m ++ l) (text_append ms ns (state_after s m))
@@ -42,7 +39,8 @@ front_equal : (x y : Bytes) → x ≡ y → IsFront x y
 front_equal x y e = ([], sym e ∙ sym (append-nil x))
 
 -- the messages before the place where an office is busy are answered in the other one too
-front_of_other : (s t : State) (ms ns more : List Message) (out tail : Bytes) → AnswersAlike s t → AllByRecursion IsPublicGet ms
+front_of_other : (s t : State) (ms ns more : List Message) (out tail : Bytes) → AnswersAlike s t
+    → AllByRecursion IsPublicGet ms
     → ns ≡ ms ++ more → out ≡ text_after_all t ns ++ tail → IsFront (text_after_all s ms) out
 front_of_other s t ms ns more out tail alike p e f = (
   text_after_all (state_after_all t ms) more ++ tail,
@@ -74,10 +72,16 @@ module _ (s t : State) (input out out2 : Bytes) (end fin : Ended) (new new2 : St
       let pa = all_alike s t a.messages alike (asks a.messages a.rest a.cut) in
       let number = suc (length b.messages) in
       let numbers : suc (length a.messages) ≡ number = ap (λ ms. suc (length ms)) e in
-      let mine : last_text (suc (length a.messages)) (state_after_all s a.messages) a.stops.last ≡ last_text (suc (length a.messages)) s a.stops.last = ap (λ x. last_text (suc (length a.messages)) x a.stops.last) pa.kept in
-      let theirs : last_text (suc (length a.messages)) (state_after_all t a.messages) a.stops.last ≡ last_text (suc (length a.messages)) t a.stops.last = ap (λ x. last_text (suc (length a.messages)) x a.stops.last) pa.kept_too in
-      let lasts = mine ∙ last_alike (suc (length a.messages)) s t input a.rest a.messages a.stops.last alike asks a.cut a.stops.stands ∙ sym theirs in
-      let text : List Message → Last → Bytes = λ ms l. text_after_all t ms ++ last_text (suc (length ms)) (state_after_all t ms) l in
+      let mine : last_text (suc (length a.messages)) (state_after_all s a.messages) a.stops.last ≡ last_text (suc (length a.messages)) s a.stops.last =
+      ap (λ x. last_text (suc (length a.messages)) x a.stops.last) pa.kept in
+      let theirs : last_text (suc (length a.messages)) (state_after_all t a.messages) a.stops.last ≡ last_text (suc (length a.messages)) t a.stops.last =
+      ap (λ x. last_text (suc (length a.messages)) x a.stops.last) pa.kept_too in
+      let lasts =
+      mine
+      ∙ last_alike (suc (length a.messages)) s t input a.rest a.messages a.stops.last alike asks a.cut a.stops.stands
+      ∙ sym theirs in
+      let text : List Message → Last → Bytes =
+      λ ms l. text_after_all t ms ++ last_text (suc (length ms)) (state_after_all t ms) l in
       let moved : text a.messages a.stops.last ≡ text b.messages b.stops.last = λ i. text (e i) (f i) in
       let there : EndsSo number b.stops.last end = subst (λ l. EndsSo number l end) f (subst (λ n. EndsSo n a.stops.last end) numbers a.stops.ends) in (
         whole_text s input out end new a h ∙ (λ i. pa.texts i ++ lasts i) ∙ moved ∙ sym (whole_text t input out2 fin new2 b k),
@@ -90,21 +94,24 @@ module _ (s t : State) (input out out2 : Bytes) (end fin : Ended) (new new2 : St
   front_there : (more : List Message) → a.messages ≡ b.messages ++ more → IsFront (text_after_all t b.messages) out
   front_there more e = front_of_other t s b.messages a.messages more out _ (alike_back s t alike) (asks b.messages b.rest b.cut) e (whole_text s input out end new a h)
 
-  front_both : (more : List Message) → b.messages ≡ a.messages ++ more → was_busy a ≡ true → (c : Bool) → was_busy b ≡ c → IsFront (until_busy a) (until_busy b)
+  front_both : (more : List Message) → b.messages ≡ a.messages ++ more → was_busy a ≡ true → (c : Bool) → was_busy b ≡ c
+      → IsFront (until_busy a) (until_busy b)
   front_both more e f true g =
       let here = front_of_other s t a.messages b.messages more (text_after_all t b.messages) [] alike (asks a.messages a.rest a.cut) e (sym (append-nil (text_after_all t b.messages))) in
       subst (λ x. IsFront x (until_busy b)) (sym (busy_text f)) (subst (λ y. IsFront (text_after_all s a.messages) y) (sym (busy_text_too g)) here)
   front_both more e f false g =
       subst (λ x. IsFront x (until_busy b)) (sym (busy_text f)) (subst (λ y. IsFront (text_after_all s a.messages) y) (sym (quiet_text_too g)) (front_here more e))
 
-  front_both_too : (more : List Message) → a.messages ≡ b.messages ++ more → was_busy b ≡ true → (c : Bool) → was_busy a ≡ c → IsFront (until_busy b) (until_busy a)
+  front_both_too : (more : List Message) → a.messages ≡ b.messages ++ more → was_busy b ≡ true → (c : Bool)
+      → was_busy a ≡ c → IsFront (until_busy b) (until_busy a)
   front_both_too more e f true g =
       let here = front_of_other t s b.messages a.messages more (text_after_all s a.messages) [] (alike_back s t alike) (asks b.messages b.rest b.cut) e (sym (append-nil (text_after_all s a.messages))) in
       subst (λ x. IsFront x (until_busy a)) (sym (busy_text_too f)) (subst (λ y. IsFront (text_after_all t b.messages) y) (sym (busy_text g)) here)
   front_both_too more e f false g =
       subst (λ x. IsFront x (until_busy a)) (sym (busy_text_too f)) (subst (λ y. IsFront (text_after_all t b.messages) y) (sym (quiet_text g)) (front_there more e))
 
-  same_front : a.messages ≡ b.messages → a.stops.last ≡ b.stops.last → (c : Bool) → was_busy a ≡ c → IsFront (until_busy a) (until_busy b)
+  same_front : a.messages ≡ b.messages → a.stops.last ≡ b.stops.last → (c : Bool) → was_busy a ≡ c
+      → IsFront (until_busy a) (until_busy b)
   same_front e f true g =
       let all = e ∙ sym (append-nil b.messages) in
       front_both [] (sym e ∙ sym (append-nil a.messages)) g true (ap is_busy (sym f) ∙ g)
@@ -134,4 +141,5 @@ module _ (s t : State) (input out out2 : Bytes) (end fin : Ended) (new new2 : St
 pub nothing_leaks : (s t : State) (input out out2 : Bytes) (end fin : Ended) (new new2 : State)
     (a : Session s input out end new) (b : Session t input out2 fin new2)
     → SamePublic s t → AsksThePublic input → HasEnded end → HasEnded fin → AreAlike a b
-nothing_leaks s t input out out2 end fin new new2 a b p asks h k = leak_meet s t input out out2 end fin new new2 a b (answers_alike s t p) asks h k (meeting s t input out out2 end fin new new2 a b h k)
+nothing_leaks s t input out out2 end fin new new2 a b p asks h k =
+    leak_meet s t input out out2 end fin new new2 a b (answers_alike s t p) asks h k (meeting s t input out out2 end fin new new2 a b h k)

@@ -1,3 +1,4 @@
+pub mod Common
 pub mod Places
 pub mod Cutting
 pub mod Courses

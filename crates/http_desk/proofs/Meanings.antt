@@ -1,28 +1,13 @@
 -- What messages mean, and what a session has the machine do.
 use Rattle.std.proofs.Common.{◌≡◌, Bool, true, false, List, [], ◌∷◌, ◌++◌, refl, sym, ap, ◌∙◌, Option, None, Some, cond}
-use Rattle.std.specs.Prelude.{IfSome, ◌&&◌, not, is_none}
-use Rattle.std.specs.List.{AllByRecursion}
-use Rattle.std.specs.Str.{bytes_eq}
-use Rattle.isad_core.specs.Texts.{Bytes}
+use Rattle.std.specs.Prelude.{◌&&◌}
 use Rattle.catalogue_core.proofs.EachOf.{all_and}
-use Rattle.office_core.specs.declared.command.Command.{Command}
 use Rattle.office_core.specs.declared.command.Command.TheVariants.{Import}
-use Rattle.office_core.specs.MixedRuns.{ToDo, ToTell}
 use Rattle.office_core.specs.Rules as machine
-use Rattle.office_core.specs.SoundOffice.{NamesTexts}
-use Rattle.office_core.specs.Soundness.{NamesDays}
-use Rattle.office_core.specs.State.{State}
-use Rattle.http_messages.specs.declared.status.Status.TheVariants.{BadRequest, NotFound, LengthRequired}
-use Rattle.http_messages.specs.Heads.{Request}
-use Rattle.http_messages.specs.Targets.{path_of}
-use Rattle.http_messages.specs.Members.{command_in}
-use Rattle.http_messages.specs.Routes.{Route, Asks, Does, TakesFile, TakesForm, route_of, method_of, is_post}
-use Rattle.http_messages.specs.Answers.{Answer, error, not_allowed, done_if_read, by_route}
 use Rattle.http_messages.specs.Answers as answers
-use Rattle.http_desk.specs.declared.session_end.Ended.{Ended}
-use Rattle.http_desk.specs.Messages.{Message, Last, Nothing, HeadCut, BodyCut, NoHead, Refuses, Answers, Fails}
-use Rattle.http_desk.specs.Session.{Session, state_after, state_after_all, state_after_last}
-use Rattle.http_desk.specs.Runs.{Meaning, Puts, Fixed, carried_out, AllMean, commands_among, message_in, all_messages, answers_of, machines_answers, HasCarriedOut}
+use Rattle.http_desk.specs.Session.{state_after}
+use Rattle.http_desk.specs.Runs.{carried_out}
+use Rattle.http_desk.proofs.Common.{AllByRecursion, AllMean, Answer, Answers, Asks, BadRequest, BodyCut, Bytes, Command, Does, Ended, Fails, Fixed, HasCarriedOut, HeadCut, IfSome, Last, LengthRequired, Meaning, Message, NamesDays, NamesTexts, NoHead, NotFound, Nothing, Puts, Refuses, Request, Route, Session, State, TakesFile, TakesForm, ToDo, ToTell, all_messages, answers_of, by_route, bytes_eq, command_in, commands_among, done_if_read, error, is_none, is_post, machines_answers, message_in, method_of, not, not_allowed, path_of, route_of, state_after_all, state_after_last}
 use Rattle.http_desk.proofs.Named.{Names, IsNamed, bodies_name, routes_named}
 
 -- ---- one message
@@ -46,10 +31,12 @@ read_meant (Some asked) h = record { meaning = Puts (ToDo asked); is = λ s. ref
 route_meant : (body : Bytes) (route : Route) → IsNamed route → IsMeant (λ s. answers.carried_out s body route)
 route_meant body (Asks asked) h = record { meaning = Puts (ToTell asked); is = λ s. refl; names = tt }
 route_meant body (Does asked) h = record { meaning = Puts (ToDo asked); is = λ s. refl; names = (h, tt) }
-route_meant body (TakesFile source) h = record { meaning = Puts (ToDo (Import source body)); is = λ s. refl; names = ((tt, tt), tt) }
+route_meant body (TakesFile source) h =
+    record { meaning = Puts (ToDo (Import source body)); is = λ s. refl; names = ((tt, tt), tt) }
 route_meant body (TakesForm asked) h = read_meant (command_in asked body) (bodies_name asked body)
 
-request_meant : (request : Request) (body : Bytes) (o : Option Route) → IfSome o IsNamed → IsMeant (λ s. by_route s request body o)
+request_meant : (request : Request) (body : Bytes) (o : Option Route) → IfSome o IsNamed
+    → IsMeant (λ s. by_route s request body o)
 request_meant request body None h = fixed (error NotFound)
 request_meant request body (Some route) h =
     if_meant (not (bytes_eq request.method (method_of route))) _ _ (fixed (not_allowed (method_of route)))
@@ -60,7 +47,8 @@ message_meant m = request_meant m.request m.body (route_of (path_of m.request.ta
 
 -- ---- all messages
 
-names_too : (k : Meaning) (ks : List Meaning) → AllByRecursion Names (commands_among (k ∷ [])) → AllByRecursion Names (commands_among ks) → AllByRecursion Names (commands_among (k ∷ ks))
+names_too : (k : Meaning) (ks : List Meaning) → AllByRecursion Names (commands_among (k ∷ []))
+    → AllByRecursion Names (commands_among ks) → AllByRecursion Names (commands_among (k ∷ ks))
 names_too (Puts (ToDo command)) ks h more = (h.0, more)
 names_too (Puts (ToTell query)) ks h more = more
 names_too (Fixed told) ks h more = more
@@ -77,19 +65,22 @@ all_meant (m ∷ ms) =
     let more = all_meant ms in
     record { meanings = one.meaning ∷ more.meanings; mean = (one.is, more.mean); names = names_too one.meaning more.meanings one.names more.names }
 
-one_state : (s : State) (k : Meaning) (ks : List Meaning) → machine.state_after (carried_out s k).1 (commands_among ks) ≡ machine.state_after s (commands_among (k ∷ ks))
+one_state : (s : State) (k : Meaning) (ks : List Meaning)
+    → machine.state_after (carried_out s k).1 (commands_among ks) ≡ machine.state_after s (commands_among (k ∷ ks))
 one_state s (Puts (ToDo command)) ks = refl
 one_state s (Puts (ToTell query)) ks = refl
 one_state s (Fixed told) ks = refl
 
-machines_state : (ms : List Message) (ks : List Meaning) (s : State) → AllMean ms ks → state_after_all s ms ≡ machine.state_after s (commands_among ks)
+machines_state : (ms : List Message) (ks : List Meaning) (s : State) → AllMean ms ks
+    → state_after_all s ms ≡ machine.state_after s (commands_among ks)
 machines_state [] [] s h = refl
 machines_state [] (k ∷ ks) s h = absurd h
 machines_state (m ∷ ms) [] s h = absurd h
 machines_state (m ∷ ms) (k ∷ ks) s h =
     ap (λ p. state_after_all p.1 ms) (h.0 s) ∙ machines_state ms ks (carried_out s k).1 h.1 ∙ one_state s k ks
 
-pub same_answers : (ms : List Message) (ks : List Meaning) (s : State) → AllMean ms ks → answers_of s ms ≡ machines_answers s ks
+pub same_answers : (ms : List Message) (ks : List Meaning) (s : State) → AllMean ms ks
+    → answers_of s ms ≡ machines_answers s ks
 same_answers [] [] s h = refl
 same_answers [] (k ∷ ks) s h = absurd h
 same_answers (m ∷ ms) [] s h = absurd h

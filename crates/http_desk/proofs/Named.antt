@@ -1,25 +1,19 @@
 -- A request's command names days of the calendar, and a text that is UTF-8.
 use Rattle.std.proofs.Common.{ℕ, true, false, List, [], ◌∷◌, IsUtf8, Option, None, Some, cond, codes}
-use Rattle.std.specs.Prelude.{IfSome, ◌==◌, ◌&&◌, ◌+◌, ◌*◌}
+use Rattle.std.specs.Prelude.{◌==◌, ◌&&◌, ◌+◌, ◌*◌}
 use Rattle.std.specs.Str.{is_utf8}
 use Rattle.std.proofs.lemmas.Bool.{and_parts}
 use Rattle.serde_json.specs.Data.{Data}
 use Rattle.serde_json.specs.Data as values
 use Rattle.serde_json.specs.Find.{get, as_str}
-use Rattle.isad_core.specs.Texts.{Bytes}
 use Rattle.isad_core.proofs.DayLemmas.{is_day_number-so}
-use Rattle.isad_core.specs.Days.{IsDayNumber, number_of_date, two_digits, day_of}
 use Rattle.catalogue_core.specs.GoodCatalogues.{IsSomeDay}
-use Rattle.office_core.specs.declared.command.Command.{Command}
 use Rattle.office_core.specs.declared.command.Command.TheVariants as command
-use Rattle.office_core.specs.SoundOffice.{NamesTexts}
-use Rattle.office_core.specs.Soundness.{NamesDays}
 use Rattle.http_messages.specs.declared.body_form.Form.{Form}
 use Rattle.http_messages.specs.declared.body_form.Form.TheVariants as form
-use Rattle.http_messages.specs.Members.{as_day, or_null, day_at, day_or_null_at, number_at, number_or_null_at, text_at, draft_at, flag_at, command_of, command_in, value_of}
 use Rattle.http_messages.specs.declared.table.Leads.{Leads}
 use Rattle.http_messages.specs.declared.table.Leads.TheVariants as leads
-use Rattle.http_messages.specs.Routes.{Route, Asks, Does, TakesFile, TakesForm, table, question, leads_to, or_else, parameter_in, first_route, route_of, number_in}
+use Rattle.http_desk.proofs.Common.{Asks, Bytes, Command, Does, IfSome, IsDayNumber, NamesDays, NamesTexts, Route, TakesFile, TakesForm, as_day, command_in, command_of, day_at, day_of, day_or_null_at, draft_at, first_route, flag_at, leads_to, number_at, number_in, number_of_date, number_or_null_at, or_else, or_null, parameter_in, question, route_of, table, text_at, two_digits, value_of}
 use Rattle.http_desk.proofs.Options.{each_then, each_map, known_then, known_map, if_some, if_then}
 use Rattle.http_desk.proofs.Values.{HasStrings, values_have, texts_at}
 
@@ -56,7 +50,8 @@ days_or_null : (value : Data) → IfSome (or_null as_day value) IsSomeDay
 days_or_null values.null = tt
 days_or_null (values.boolean _) = tt
 days_or_null (values.number _) = tt
-days_or_null (values.string text) = known_map IsSomeDay IsDayNumber Some (as_day (values.string text)) (days_of_values (values.string text)) (λ day h. h)
+days_or_null (values.string text) =
+    known_map IsSomeDay IsDayNumber Some (as_day (values.string text)) (days_of_values (values.string text)) (λ day h. h)
 days_or_null (values.array _) = tt
 days_or_null (values.object _) = tt
 
@@ -69,15 +64,18 @@ days_or_null_at key value = each_then IsSomeDay (or_null as_day) (get key value)
 -- ---- the members of a body
 
 members_name : (asked : Form) (v : Data) → HasStrings v → IfSome (command_of asked v) Names
-members_name form.Order v has = each_then Names _ (number_at (codes "ticket") v) (λ t. each_map Names (command.Order t) (number_at (codes "container") v) (λ c. (tt, tt)))
-members_name form.OpenDay v has = known_map Names IsDayNumber command.OpenDay (day_at (codes "day") v) (days_at (codes "day") v) (λ day h. (h, tt))
+members_name form.Order v has =
+    each_then Names _ (number_at (codes "ticket") v) (λ t. each_map Names (command.Order t) (number_at (codes "container") v) (λ c. (tt, tt)))
+members_name form.OpenDay v has =
+    known_map Names IsDayNumber command.OpenDay (day_at (codes "day") v) (days_at (codes "day") v) (λ day h. (h, tt))
 members_name form.SetStatus v has =
     each_then Names _ (number_at (codes "unit") v) (λ u. each_then Names _ (draft_at (codes "status") v)
     (λ draft. each_map Names (command.SetStatus u draft) (flag_at (codes "branch") v) (λ whole. (tt, tt))))
 members_name form.SetClosure v has =
     each_then Names _ (number_at (codes "unit") v)
     (λ u. known_map Names IsSomeDay (command.SetClosure u) (day_or_null_at (codes "until") v) (days_or_null_at (codes "until") v) (λ until h. (h, tt)))
-members_name form.Move v has = each_then Names _ (number_at (codes "unit") v) (λ u. each_map Names (command.Move u) (number_or_null_at (codes "parent") v) (λ parent. (tt, tt)))
+members_name form.Move v has =
+    each_then Names _ (number_at (codes "unit") v) (λ u. each_map Names (command.Move u) (number_or_null_at (codes "parent") v) (λ parent. (tt, tt)))
 members_name form.Remove v has = each_map Names command.Remove (number_at (codes "unit") v) (λ u. (tt, tt))
 members_name form.Register v has =
     known_then Names IsUtf8 _ (text_at (codes "name") v) (texts_at (codes "name") v has)
@@ -88,15 +86,18 @@ members_name form.Renew v has =
 members_name form.TakeSeat v has = each_map Names command.TakeSeat (number_at (codes "ticket") v) (λ t. (tt, tt))
 members_name form.LeaveSeat v has = each_map Names command.LeaveSeat (number_at (codes "ticket") v) (λ t. (tt, tt))
 members_name form.Cancel v has = each_map Names command.Cancel (number_at (codes "order") v) (λ o. (tt, tt))
-members_name form.Issue v has = each_then Names _ (number_at (codes "container") v) (λ c. each_map Names (command.Issue c) (number_at (codes "ticket") v) (λ t. (tt, tt)))
+members_name form.Issue v has =
+    each_then Names _ (number_at (codes "container") v) (λ c. each_map Names (command.Issue c) (number_at (codes "ticket") v) (λ t. (tt, tt)))
 members_name form.Return v has = each_map Names command.Return (number_at (codes "container") v) (λ c. (tt, tt))
 members_name form.Permit v has =
     each_then Names _ (number_at (codes "ticket") v) (λ t. each_then Names _ (number_at (codes "unit") v)
     (λ u. known_map Names IsDayNumber (command.Permit t u) (day_at (codes "until") v) (days_at (codes "until") v) (λ until h. (h, tt))))
-members_name form.Revoke v has = each_then Names _ (number_at (codes "ticket") v) (λ t. each_map Names (command.Revoke t) (number_at (codes "unit") v) (λ u. (tt, tt)))
+members_name form.Revoke v has =
+    each_then Names _ (number_at (codes "ticket") v) (λ t. each_map Names (command.Revoke t) (number_at (codes "unit") v) (λ u. (tt, tt)))
 
 pub bodies_name : (asked : Form) (body : Bytes) → IfSome (command_in asked body) Names
-bodies_name asked body = known_then Names HasStrings (command_of asked) (value_of body) (values_have body) (members_name asked)
+bodies_name asked body =
+    known_then Names HasStrings (command_of asked) (value_of body) (values_have body) (members_name asked)
 
 -- ---- routes
 
@@ -113,7 +114,8 @@ either_named (Some route) b x y = x
 
 led_to_named : (to : Leads) (parameter : Bytes) → IfSome (leads_to to parameter) IsNamed
 led_to_named (leads.Asks asked) parameter = tt
-led_to_named (leads.AsksOf asked) parameter = each_map IsNamed (λ n. Asks (question asked n)) (number_in parameter) (λ n. tt)
+led_to_named (leads.AsksOf asked) parameter =
+    each_map IsNamed (λ n. Asks (question asked n)) (number_in parameter) (λ n. tt)
 led_to_named leads.Run parameter = (tt, tt)
 led_to_named leads.Reshelve parameter = (tt, tt)
 led_to_named leads.Import parameter = tt

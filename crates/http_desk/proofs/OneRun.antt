@@ -1,21 +1,15 @@
 -- Sessions and calls make one run of the machine.
 use Rattle.std.proofs.Common.{◌≡◌, List, [], ◌∷◌, ◌++◌, refl, sym, ap, ◌∙◌, subst, None, Some}
-use Rattle.std.specs.Prelude.{IsOk}
-use Rattle.std.specs.List.{AllByRecursion}
 use Rattle.catalogue_core.proofs.EachOf.{all_append, all_split}
-use Rattle.office_core.specs.declared.command.Command.{Command}
-use Rattle.office_core.specs.MixedRuns.{ToDo, ToTell}
 use Rattle.office_core.specs.Rules.{state_after, step}
-use Rattle.office_core.specs.SoundOffice.{NamesTexts}
-use Rattle.office_core.specs.Soundness.{IsSound, NamesDays}
-use Rattle.office_core.specs.State.{State}
 use Rattle.office_core.proofs.OrderLaws.{out_apart, issues_the_first}
 use Rattle.office_core.proofs.Published.{only_published}
 use Rattle.office_core.proofs.SoundDesk.{open_to_holders}
 use Rattle.office_core.proofs.StaysSound.{always_sound}
 use Rattle.office_core.proofs.Texts.{always_sound_office}
 use Rattle.http_desk.specs.Headline.{KeepsTheRules, IsOneRun, MakeVisits}
-use Rattle.http_desk.specs.Runs.{Visit, ByHttp, Directly, Replied, Answered, Happens, AllHappen, CallsNameDays, CallsNameTexts, AreVisits, Brings, AllBring, VisitLeavesOpen, VisitsLeaveOpen}
+use Rattle.http_desk.specs.Runs.{Answered}
+use Rattle.http_desk.proofs.Common.{AllBring, AllByRecursion, AllHappen, AreVisits, Brings, ByHttp, CallsNameDays, CallsNameTexts, Command, Directly, Happens, IsOk, IsSound, NamesDays, NamesTexts, Replied, State, ToDo, ToTell, Visit, VisitLeavesOpen, VisitsLeaveOpen}
 use Rattle.http_desk.proofs.Meanings.{runs_the_machine}
 use Rattle.http_desk.proofs.Openings.{not_known, visits_open}
 
@@ -36,21 +30,26 @@ record HasRun (Bring : List Command → Type 0) (CallsAreNamed : Type 0) (s new 
   texts : CallsAreNamed → AllByRecursion NamesTexts commands
   leaves : new ≡ state_after s commands
 
-one_visit : (s new : State) (visit : Visit) → CallsNameDays visit → Happens s visit new → HasRun (λ commands. Brings s visit commands new) (CallsNameTexts visit) s new
+one_visit : (s new : State) (visit : Visit) → CallsNameDays visit → Happens s visit new
+    → HasRun (λ commands. Brings s visit commands new) (CallsNameTexts visit) s new
 one_visit s new (ByHttp input output end) named session =
     let it = runs_the_machine s new input output end session in
     record { commands = it.0; bring = (session, it.1); days = it.1.days; texts = λ _. it.1.texts; leaves = it.1.leaves }
-one_visit s new (Directly (ToDo command) (Some told)) named h = record { commands = command ∷ []; bring = (refl, h); days = (named, tt); texts = λ text. (text, tt); leaves = h.1 }
+one_visit s new (Directly (ToDo command) (Some told)) named h =
+    record { commands = command ∷ []; bring = (refl, h); days = (named, tt); texts = λ text. (text, tt); leaves = h.1 }
 one_visit s new (Directly (ToTell query) (Some told)) named h = record { commands = []; bring = (refl, h); days = tt; texts = λ _. tt; leaves = h.1 }
 one_visit s new (Directly (ToDo command) None) named h = record { commands = []; bring = (refl, h); days = tt; texts = λ _. tt; leaves = h }
 one_visit s new (Directly (ToTell query) None) named h = record { commands = []; bring = (refl, h); days = tt; texts = λ _. tt; leaves = h }
 
-after_both : (first others : List Command) (s : State) → state_after s (first ++ others) ≡ state_after (state_after s first) others
+after_both : (first others : List Command) (s : State)
+    → state_after s (first ++ others) ≡ state_after (state_after s first) others
 after_both [] others s = refl
 after_both (asked ∷ first) others s = after_both first others (step s asked).0
 
-two_runs : (s mid new : State) (visit : Visit) (later : List Visit) → HasRun (λ commands. Brings s visit commands mid) (CallsNameTexts visit) s mid
-    → HasRun (λ commands. AllBring mid later commands new) (AllByRecursion CallsNameTexts later) mid new → HasRun (λ commands. AllBring s (visit ∷ later) commands new) (AllByRecursion CallsNameTexts (visit ∷ later)) s new
+two_runs : (s mid new : State) (visit : Visit) (later : List Visit)
+    → HasRun (λ commands. Brings s visit commands mid) (CallsNameTexts visit) s mid
+    → HasRun (λ commands. AllBring mid later commands new) (AllByRecursion CallsNameTexts later) mid new
+    → HasRun (λ commands. AllBring s (visit ∷ later) commands new) (AllByRecursion CallsNameTexts (visit ∷ later)) s new
 two_runs s mid new visit later one more = record {
   commands = one.commands ++ more.commands;
   bring = (one.commands, more.commands, mid, refl, one.bring, more.bring);
@@ -59,11 +58,14 @@ two_runs s mid new visit later one more = record {
   leaves = more.leaves ∙ ap (λ x. state_after x more.commands) one.leaves ∙ sym (after_both one.commands more.commands s);
 }
 
-all_visits : (s new : State) (visits : List Visit) → AllHappen s visits new → AllByRecursion CallsNameDays visits → HasRun (λ commands. AllBring s visits commands new) (AllByRecursion CallsNameTexts visits) s new
+all_visits : (s new : State) (visits : List Visit) → AllHappen s visits new → AllByRecursion CallsNameDays visits
+    → HasRun (λ commands. AllBring s visits commands new) (AllByRecursion CallsNameTexts visits) s new
 all_visits s new [] same named = record { commands = []; bring = (refl, same); days = tt; texts = λ _. tt; leaves = same }
-all_visits s new (visit ∷ later) (mid, happens, more) named = two_runs s mid new visit later (one_visit s mid visit named.0 happens) (all_visits mid new later more named.1)
+all_visits s new (visit ∷ later) (mid, happens, more) named =
+    two_runs s mid new visit later (one_visit s mid visit named.0 happens) (all_visits mid new later more named.1)
 
-pub one_run : (s new : State) (visits : List Visit) → AllHappen s visits new → AllByRecursion CallsNameDays visits → IsSound s → IsOneRun s visits new
+pub one_run : (s new : State) (visits : List Visit) → AllHappen s visits new → AllByRecursion CallsNameDays visits
+    → IsSound s → IsOneRun s visits new
 one_run s new visits happen named sound =
     let run = all_visits s new visits happen named in
     record {
@@ -82,19 +84,24 @@ one_run s new visits happen named sound =
     }
 
 module _ {M : Type 0} (represents : M → State → Type 0) (is_intact is_open : M → Type 0) where
-  intact_before : (visits : List Visit) (old new : M) → AreVisits represents is_intact is_open old new visits → is_intact new → is_intact old
+  intact_before : (visits : List Visit) (old new : M) → AreVisits represents is_intact is_open old new visits
+      → is_intact new → is_intact old
   intact_before [] old new same intact = subst (λ (m : M). is_intact m) (sym same) intact
   intact_before (visit ∷ later) old new it intact = it.1.intact (intact_before later it.0 new it.2 intact)
 
-  all_happen : (visits : List Visit) (old new : M) → AreVisits represents is_intact is_open old new visits → is_intact new
-      → (s : State) → represents old s → (t : State) × represents new t × ((all : AllHappen s visits t) × (VisitsLeaveOpen (is_open old) s visits t all → is_open new))
-  all_happen [] old new same intact s is = (s, subst (λ (m : M). represents m s) same is, (refl, λ stays. subst (λ (m : M). is_open m) same stays))
+  all_happen : (visits : List Visit) (old new : M) → AreVisits represents is_intact is_open old new visits
+      → is_intact new
+      → (s : State) → represents old s
+      → (t : State) × represents new t × ((all : AllHappen s visits t) × (VisitsLeaveOpen (is_open old) s visits t all → is_open new))
+  all_happen [] old new same intact s is =
+      (s, subst (λ (m : M). represents m s) same is, (refl, λ stays. subst (λ (m : M). is_open m) same stays))
   all_happen (visit ∷ later) old new it intact s is =
       let (mid, shown, one) = it.1.happens (intact_before later it.0 new it.2 intact) s is in
       let (t, shown_too, more) = all_happen later it.0 new it.2 intact mid shown in
       (t, shown_too, ((mid, one.0, more.0), λ h. more.1 (visits_open (VisitLeavesOpen (is_open old) s visit mid one.0) (is_open it.0) one.1 mid t later more.0 h)))
 
-  pub the_headline : (visits : List Visit) (old new : M) → AreVisits represents is_intact is_open old new visits → AllByRecursion CallsNameDays visits → is_intact new
+  pub the_headline : (visits : List Visit) (old new : M) → AreVisits represents is_intact is_open old new visits
+      → AllByRecursion CallsNameDays visits → is_intact new
       → (s : State) → represents old s → IsSound s
       → (t : State) × represents new t × IsOneRun s visits t × ((all : AllHappen s visits t) × (VisitsLeaveOpen (is_open old) s visits t all → is_open new))
   the_headline visits old new are named intact s is sound =

@@ -2,13 +2,12 @@
 use Rattle.std.proofs.Common.{◌≡◌, ◌<◌, ◌≤◌, ◌⊎◌, inl, inr, ℕ, List, length, ◌++◌, take, take_all, ap, sym, ◌∙◌, arith}
 use Rattle.std.proofs.Math.Seq.{take-append_seam}
 use Rattle.http_messages.specs.declared.head_scan.HeadScanState.{HeadScanState}
-use Rattle.http_messages.specs.declared.head_scan.HeadScanState.TheVariants.{Lead, LeadReturn, Start, StartReturn, Middle}
-use Rattle.http_messages.specs.declared.head_scan.Scan.TheVariants.{Open}
 use Rattle.http_messages.specs.HeadScan.{scan}
-use Rattle.http_desk.specs.Messages.{longest_head, IsBlank, IsHeadCut}
+use Rattle.http_desk.proofs.Common.{IsBlank, IsHeadCut, Lead, LeadReturn, Middle, Open, Start, StartReturn, longest_head}
 
 -- an open head is nothing but empty lines, or it has begun
-pub blank_or_cut : (input : List ℕ) (p : HeadScanState) → length input < longest_head → scan input ≡ Open p → IsBlank input ⊎ IsHeadCut input
+pub blank_or_cut : (input : List ℕ) (p : HeadScanState) → length input < longest_head → scan input ≡ Open p
+    → IsBlank input ⊎ IsHeadCut input
 blank_or_cut input Lead h e = inl (h, e)
 blank_or_cut input LeadReturn h e = inr (h, LeadReturn, (λ q. absurd (cc)), e)
 blank_or_cut input Start h e = inr (h, Start, (λ q. absurd (cc)), e)

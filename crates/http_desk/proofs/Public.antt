@@ -1,26 +1,16 @@
 -- What the public is answered is the same in offices whose public parts are equal.
 use Rattle.std.proofs.Common.{◌≡◌, ℕ, List, [], ◌∷◌, ◌++◌, refl, sym, ap, ◌∙◌, subst, true, false, Bool, Option, None, Some, cond, codes}
-use Rattle.std.specs.Prelude.{◌==◌, option_map, option_and_then}
+use Rattle.std.specs.Prelude.{◌==◌}
 use Rattle.std.specs.Str.{is_utf8}
-use Rattle.std.specs.List.{AllByRecursion}
-use Rattle.isad_core.specs.Texts.{Bytes}
-use Rattle.office_core.specs.State.{State}
 use Rattle.office_core.specs.Queries.{is_public}
-use Rattle.office_core.specs.Secrecy.{AnswersAlike}
 use Rattle.office_core.specs.declared.query.Query.{Query}
 use Rattle.http_messages.specs.declared.body_form.Form.TheVariants as form
-use Rattle.http_messages.specs.Heads.{Request, is_head}
-use Rattle.http_messages.specs.Targets.{path_of}
 use Rattle.http_messages.specs.declared.table.Leads.{Leads}
 use Rattle.http_messages.specs.declared.table.Leads.TheVariants as leads
 use Rattle.http_messages.specs.declared.table.Numbered.{Numbered}
 use Rattle.http_messages.specs.declared.table.Numbered.TheVariants as numbered
-use Rattle.http_messages.specs.Routes.{Route, Asks, Does, TakesFile, TakesForm, table, question, leads_to, or_else, parameter_in, number_in, first_route, route_of}
-use Rattle.http_messages.specs.Answers.{Answer, answer_text, of_told, by_route, response}
 use Rattle.http_messages.proofs.Bodies.{never_true}
-use Rattle.http_desk.specs.Messages.{Message}
-use Rattle.http_desk.specs.Session.{continue_if, message_text, text_after_all, state_after_all}
-use Rattle.http_desk.specs.Laws.{IsPublicGet}
+use Rattle.http_desk.proofs.Common.{AllByRecursion, Answer, AnswersAlike, Asks, Bytes, Does, IsPublicGet, Message, Request, Route, State, TakesFile, TakesForm, answer_text, by_route, continue_if, first_route, is_head, leads_to, message_text, number_in, of_told, option_and_then, option_map, or_else, parameter_in, path_of, question, response, route_of, state_after_all, table, text_after_all}
 
 -- ---- routes below /public
 
@@ -37,11 +27,13 @@ either_open : (a b : Option Route) → IsOpen a → IsOpen b → IsOpen (or_else
 either_open None b x y = y
 either_open (Some route) b x y = x
 
-then_open : (updates : Bytes → Option Route) (o : Option Bytes) → ((y : Bytes) → IsOpen (updates y)) → IsOpen (option_and_then updates o)
+then_open : (updates : Bytes → Option Route) (o : Option Bytes) → ((y : Bytes) → IsOpen (updates y))
+    → IsOpen (option_and_then updates o)
 then_open updates None h = tt
 then_open updates (Some y) h = h y
 
-map_open : (asks : ℕ → Query) (o : Option ℕ) → ((n : ℕ) → IsOpen (Some (Asks (asks n)))) → IsOpen (option_map (λ n. Asks (asks n)) o)
+map_open : (asks : ℕ → Query) (o : Option ℕ) → ((n : ℕ) → IsOpen (Some (Asks (asks n))))
+    → IsOpen (option_map (λ n. Asks (asks n)) o)
 map_open asks None h = tt
 map_open asks (Some n) h = h n
 
@@ -56,7 +48,8 @@ none_taken [] path x d = absurd (never_true d)
 none_taken (a ∷ pattern) [] x d = absurd (never_true d)
 none_taken (a ∷ pattern) (b ∷ path) x d = by (λ e. none_taken pattern path x e) (a == 123) refl
   where
-    by_byte : (differ pattern path ≡ true → parameter_in pattern (path ++ x) ≡ None) → (v : Bool) → (a == b) ≡ v → (a == 123) ≡ false
+    by_byte : (differ pattern path ≡ true → parameter_in pattern (path ++ x) ≡ None) → (v : Bool) → (a == b) ≡ v
+        → (a == 123) ≡ false
         → parameter_in (a ∷ pattern) (b ∷ (path ++ x)) ≡ None
     by_byte deep true e f = rw (f, e) (deep (rw (f, e) at d))
     by_byte deep false e f = rw (f, e) refl
@@ -73,22 +66,28 @@ unless false this others = this × others
 -- each line leads to an open route, unless its pattern is not below /public
 abbrev AreOpen : List (Bytes × Leads) → Type 0
 AreOpen [] = Unit {0}
-AreOpen ((pattern, to) ∷ others) = unless (differ pattern (codes "/public/")) ((y : Bytes) → IsOpen (leads_to to y)) (AreOpen others)
+AreOpen ((pattern, to) ∷ others) =
+    unless (differ pattern (codes "/public/")) ((y : Bytes) → IsOpen (leads_to to y)) (AreOpen others)
 
-first_open : (lines : List (Bytes × Leads)) (x : Bytes) → AreOpen lines → IsOpen (first_route lines (codes "/public/" ++ x))
+first_open : (lines : List (Bytes × Leads)) (x : Bytes) → AreOpen lines
+    → IsOpen (first_route lines (codes "/public/" ++ x))
 first_open [] x h = tt
-first_open ((pattern, to) ∷ others) x h = by (λ more. first_open others x more) (differ pattern (codes "/public/")) refl h
+first_open ((pattern, to) ∷ others) x h =
+    by (λ more. first_open others x more) (differ pattern (codes "/public/")) refl h
   where
-    by : (AreOpen others → IsOpen (first_route others (codes "/public/" ++ x))) → (v : Bool) → differ pattern (codes "/public/") ≡ v
+    by : (AreOpen others → IsOpen (first_route others (codes "/public/" ++ x))) → (v : Bool)
+        → differ pattern (codes "/public/") ≡ v
         → unless v ((y : Bytes) → IsOpen (leads_to to y)) (AreOpen others)
         → IsOpen (first_route ((pattern, to) ∷ others) (codes "/public/" ++ x))
     by deep true e more = let none = none_taken pattern (codes "/public/") x e in rw none (deep more)
-    by deep false e (this, more) = either_open _ _ (then_open (leads_to to) (parameter_in pattern (codes "/public/" ++ x)) this) (deep more)
+    by deep false e (this, more) =
+        either_open _ _ (then_open (leads_to to) (parameter_in pattern (codes "/public/" ++ x)) this) (deep more)
 
 table_open : AreOpen table
 table_open = ((λ y. refl), (asks_of numbered.Aid (λ n. refl), (asks_of numbered.Page (λ n. refl), ((λ y. tt), tt))))
   where
-    asks_of : (asked : Numbered) → ((n : ℕ) → IsOpen (Some (Asks (question asked n)))) → (y : Bytes) → IsOpen (leads_to (leads.AsksOf asked) y)
+    asks_of : (asked : Numbered) → ((n : ℕ) → IsOpen (Some (Asks (question asked n)))) → (y : Bytes)
+        → IsOpen (leads_to (leads.AsksOf asked) y)
     asks_of asked h y = map_open (question asked) (number_in y) h
 
 pub public_routes : (x : Bytes) → IsOpen (route_of (codes "/public/" ++ x))
@@ -103,15 +102,19 @@ pub record IsAlike (s t : State) (a b : Answer × State) : Type 0 where
   pub kept : a.1 ≡ s
   pub kept_too : b.1 ≡ t
 
-get_alike : (s t : State) (request : Request) (body : Bytes) (route : Option Route) → AnswersAlike s t → request.method ≡ codes "GET" → IsOpen route
+get_alike : (s t : State) (request : Request) (body : Bytes) (route : Option Route) → AnswersAlike s t
+    → request.method ≡ codes "GET" → IsOpen route
     → IsAlike s t (by_route s request body route) (by_route t request body route)
 get_alike s t request body None same e o = record { answers = refl; kept = refl; kept_too = refl }
-get_alike s t request body (Some (Asks asked)) same e o = rw e (record { answers = ap of_told (same asked o); kept = refl; kept_too = refl })
+get_alike s t request body (Some (Asks asked)) same e o =
+    rw e (record { answers = ap of_told (same asked o); kept = refl; kept_too = refl })
 get_alike s t request body (Some (Does asked)) same e o = absurd o
 get_alike s t request body (Some (TakesFile source)) same e o = absurd o
-get_alike s t request body (Some (TakesForm asked)) same e o = rw e (record { answers = refl; kept = refl; kept_too = refl })
+get_alike s t request body (Some (TakesForm asked)) same e o =
+    rw e (record { answers = refl; kept = refl; kept_too = refl })
 
-pub message_alike : (s t : State) (m : Message) → AnswersAlike s t → IsPublicGet m → IsAlike s t (response s m.request m.body) (response t m.request m.body)
+pub message_alike : (s t : State) (m : Message) → AnswersAlike s t → IsPublicGet m
+    → IsAlike s t (response s m.request m.body) (response t m.request m.body)
 message_alike s t m same p =
     get_alike s t m.request m.body (route_of (path_of m.request.target)) same p.method
     (subst (λ path. IsOpen (route_of path)) (sym p.path) (public_routes p.below))
@@ -119,7 +122,8 @@ message_alike s t m same p =
 said : Bool → Message → Answer → Bytes
 said closing m a = continue_if m.request.waits ++ answer_text (is_head m.request.method) closing a
 
-pub text_alike : (s t : State) (closing : Bool) (m : Message) → AnswersAlike s t → IsPublicGet m → message_text closing s m ≡ message_text closing t m
+pub text_alike : (s t : State) (closing : Bool) (m : Message) → AnswersAlike s t → IsPublicGet m
+    → message_text closing s m ≡ message_text closing t m
 text_alike s t closing m same p = unfold said in ap (λ a. said closing m a) (message_alike s t m same p).answers
 
 -- ---- all messages
@@ -129,7 +133,8 @@ pub record AreAllAlike (s t : State) (ms : List Message) : Type 0 where
   pub kept : state_after_all s ms ≡ s
   pub kept_too : state_after_all t ms ≡ t
 
-pub all_alike : (s t : State) (ms : List Message) → AnswersAlike s t → AllByRecursion IsPublicGet ms → AreAllAlike s t ms
+pub all_alike : (s t : State) (ms : List Message) → AnswersAlike s t → AllByRecursion IsPublicGet ms
+    → AreAllAlike s t ms
 all_alike s t [] same p = record { texts = refl; kept = refl; kept_too = refl }
 all_alike s t (m ∷ ms) same p =
     let one = message_alike s t m same p.0 in

@@ -1,31 +1,18 @@
 -- What the public may put to an office by HTTP, and what it is shown.
 use Rattle.std.proofs.Common.{◌≡◌, Bool, true, false, List, [], ◌∷◌, codes, refl, sym, ap, ◌∙◌, subst, Option, None, Some, cond}
-use Rattle.std.specs.Prelude.{IfSome, ◌&&◌, not, is_none}
-use Rattle.std.specs.Str.{bytes_eq}
-use Rattle.isad_core.specs.Texts.{Bytes}
-use Rattle.office_core.specs.declared.command.Command.{Command}
+use Rattle.std.specs.Prelude.{◌&&◌}
 use Rattle.office_core.specs.declared.command.Command.TheVariants as command
 use Rattle.office_core.specs.declared.query.Answer.{Answer as Told}
 use Rattle.office_core.specs.declared.query.Answer.TheVariants as told
 use Rattle.office_core.specs.declared.query.Query.{Query}
-use Rattle.office_core.specs.MixedRuns.{ToDo, ToTell}
 use Rattle.office_core.specs.Queries.{answer}
-use Rattle.office_core.specs.Secrecy.{PrintsPublished}
-use Rattle.office_core.specs.State.{State}
 use Rattle.office_core.proofs.Published.{only_published}
 use Rattle.http_messages.specs.declared.body_form.Form.TheVariants as form
-use Rattle.http_messages.specs.declared.status.Status.TheVariants.{BadRequest, NotFound, LengthRequired}
-use Rattle.http_messages.specs.Heads.{Request}
-use Rattle.http_messages.specs.Members.{command_in, command_of, number_at, value_of}
-use Rattle.http_messages.specs.Routes.{Route, Asks, Does, TakesFile, TakesForm, route_of, method_of, is_post}
-use Rattle.http_messages.specs.Answers.{Answer, error, not_allowed, of_told, done_if_read, by_route}
 use Rattle.http_messages.specs.Answers as answers
-use Rattle.http_messages.specs.Targets.{path_of}
-use Rattle.http_desk.specs.declared.session_end.Ended.{Ended}
-use Rattle.http_desk.specs.Messages.{Message}
 use Rattle.http_desk.specs.PublicSessions.{IsBelowPublic, IsForThePublic, IsAnsweredInPublic, AreAnsweredInPublic}
-use Rattle.http_desk.specs.Runs.{Meaning, Puts, Fixed, carried_out, all_messages}
-use Rattle.http_desk.specs.Session.{Session, state_after}
+use Rattle.http_desk.specs.Runs.{carried_out}
+use Rattle.http_desk.specs.Session.{state_after}
+use Rattle.http_desk.proofs.Common.{Answer, Asks, BadRequest, Bytes, Command, Does, Ended, Fixed, IfSome, LengthRequired, Meaning, Message, NotFound, PrintsPublished, Puts, Request, Route, Session, State, TakesFile, TakesForm, ToDo, ToTell, all_messages, by_route, bytes_eq, command_in, command_of, done_if_read, error, is_none, is_post, method_of, not, not_allowed, number_at, of_told, path_of, route_of, value_of}
 use Rattle.http_desk.proofs.Options.{each_then, each_map}
 use Rattle.http_desk.proofs.Public.{IsOpen, public_routes}
 
@@ -39,7 +26,8 @@ record IsOpenlyMeant (to : State → Answer × State) : Type 0 where
 fixed : (a : Answer) → a.is_text ≡ false → IsOpenlyMeant (λ s. (a, s))
 fixed a e = record { meaning = Fixed a; is = λ s. refl; asks = e }
 
-either : (b : Bool) (f g : State → Answer × State) → IsOpenlyMeant f → IsOpenlyMeant g → IsOpenlyMeant (λ s. cond b (f s) (g s))
+either : (b : Bool) (f g : State → Answer × State) → IsOpenlyMeant f → IsOpenlyMeant g
+    → IsOpenlyMeant (λ s. cond b (f s) (g s))
 either true f g h k = h
 either false f g h k = k
 
@@ -55,7 +43,8 @@ read_meant : (o : Option Command) → IfSome o IsOrder → IsOpenlyMeant (λ s. 
 read_meant None h = fixed (error BadRequest) refl
 read_meant (Some asked) h = record { meaning = Puts (ToDo asked); is = λ s. refl; asks = h }
 
-route_meant : (body : Bytes) (route : Route) → IsOpen (Some route) → IsOpenlyMeant (λ s. answers.carried_out s body route)
+route_meant : (body : Bytes) (route : Route) → IsOpen (Some route)
+    → IsOpenlyMeant (λ s. answers.carried_out s body route)
 route_meant body (Asks asked) h = record { meaning = Puts (ToTell asked); is = λ s. refl; asks = h }
 route_meant body (Does asked) h = absurd h
 route_meant body (TakesFile source) h = absurd h
@@ -75,7 +64,8 @@ route_meant body (TakesForm form.Return) h = absurd h
 route_meant body (TakesForm form.Permit) h = absurd h
 route_meant body (TakesForm form.Revoke) h = absurd h
 
-request_meant : (request : Request) (body : Bytes) (o : Option Route) → IsOpen o → IsOpenlyMeant (λ s. by_route s request body o)
+request_meant : (request : Request) (body : Bytes) (o : Option Route) → IsOpen o
+    → IsOpenlyMeant (λ s. by_route s request body o)
 request_meant request body None h = fixed (error NotFound) refl
 request_meant request body (Some route) h =
     either (not (bytes_eq request.method (method_of route))) _ _ (fixed (not_allowed (method_of route)) refl)

@@ -1,34 +1,25 @@
 -- Lemmas on sessions, one place after the other.
 use Rattle.std.proofs.Common.{◌≡◌, ◌<◌, ◌+◌, ℕ, suc, List, [], ◌∷◌, ◌++◌, length, refl, sym, ap, ◌∙◌, subst, arith, true, false, Bool, append-nil, Option, length-append}
-use Rattle.std.specs.Prelude.{◌||◌, nat_eq}
-use Rattle.std.specs.List.{AllByRecursion}
-use Rattle.std.specs.Io.KnownBytes.{Consumes, Appends}
-use Rattle.std.proofs.KnownBytes.{Consumes-nil, Consumes-trans, Appends-nil, Appends-trans}
-use Rattle.std.proofs.lemmas.Bool.Decides.{nat_tests}
-use Rattle.isad_core.specs.Texts.{Bytes}
-use Rattle.office_core.specs.State.{State}
-use Rattle.office_core.specs.declared.command.Command.{Command}
-use Rattle.http_desk.specs.declared.session_end.Ended.{Ended}
-use Rattle.http_desk.specs.declared.session_end.Next.{Next}
-use Rattle.http_desk.specs.declared.session_end.Next.TheVariants.{Goes, Ends}
-use Rattle.http_desk.specs.AcceptedMessages.{IsAccepted, AllLeaveOpen}
-use Rattle.http_desk.specs.BusyMessages.{StaysFound}
-use Rattle.http_desk.specs.Messages.{Message, Cuts}
-use Rattle.http_desk.specs.Session.{most_answers, StaysOpen, message_text, state_after, text_after_all, state_after_all}
-use Rattle.http_desk.specs.Exchanges.{GoesOn, Turn, Through, Exchange, Keeps, Talks}
+use Rattle.std.specs.Prelude.{◌||◌}
+use Rattle.http_desk.specs.Session.{state_after}
+use Rattle.http_desk.proofs.Common.{AllByRecursion, AllLeaveOpen, Appends, Appends-nil, Appends-trans, Bytes, Command, Consumes, Consumes-nil, Consumes-trans, Cuts, Ended, Ends, Exchange, Goes, GoesOn, IsAccepted, Keeps, Message, Next, State, StaysFound, StaysOpen, Talks, Through, Turn, message_text, most_answers, nat_eq, nat_tests, state_after_all, text_after_all}
 use Rattle.http_desk.proofs.Turns.{LastTurn, begins_more}
 use Rattle.http_desk.proofs.Leaks.{cuts_more, text_append}
 use Rattle.http_desk.proofs.Openings.{last_accepted, last_open}
 
-pub cuts_longer : (input : Bytes) (ms : List Message) (rest more : Bytes) → Cuts input ms rest → Cuts (input ++ more) ms (rest ++ more)
+pub cuts_longer : (input : Bytes) (ms : List Message) (rest more : Bytes) → Cuts input ms rest
+    → Cuts (input ++ more) ms (rest ++ more)
 cuts_longer input [] rest more e = ap (λ l. l ++ more) e
-cuts_longer input (m ∷ ms) rest more (later, begins, others) = (later ++ more, begins_more input m later more begins, cuts_longer later ms rest more others)
+cuts_longer input (m ∷ ms) rest more (later, begins, others) =
+    (later ++ more, begins_more input m later more begins, cuts_longer later ms rest more others)
 
-all_and_one : (P : Message → Type 0) (ms : List Message) (m : Message) → AllByRecursion P ms → P m → AllByRecursion P (ms ++ m ∷ [])
+all_and_one : (P : Message → Type 0) (ms : List Message) (m : Message) → AllByRecursion P ms → P m
+    → AllByRecursion P (ms ++ m ∷ [])
 all_and_one P [] m h p = (p, tt)
 all_and_one P (n ∷ ms) m h p = (h.0, all_and_one P ms m h.1 p)
 
-pub state_append : (ms : List Message) (m : Message) (s : State) → state_after_all s (ms ++ m ∷ []) ≡ state_after (state_after_all s ms) m
+pub state_append : (ms : List Message) (m : Message) (s : State)
+    → state_after_all s (ms ++ m ∷ []) ≡ state_after (state_after_all s ms) m
 state_append [] m s = refl
 state_append (n ∷ ms) m s = state_append ms m (state_after s n)
 
@@ -43,11 +34,15 @@ pub record Begun (number : ℕ) (s : State) (read written : Bytes) (t : State) (
   pub leaves : t ≡ state_after_all s messages
 
 -- the same; an office that they leave open is open then, and what a crash found before, it finds then
-abbrev BegunOpen : Type 0 → Type 0 → (had has : List Command → State → Type 0) → ℕ → State → Bytes → Bytes → State → Bytes → Type 0
-BegunOpen was now had has number s read written t rest = (begun : Begun number s read written t rest) × (AllLeaveOpen was s begun.messages → now) × StaysFound had has s t
+abbrev BegunOpen : Type 0 → Type 0 → (had has : List Command → State → Type 0) → ℕ → State → Bytes → Bytes → State
+    → Bytes → Type 0
+BegunOpen was now had has number s read written t rest =
+    (begun : Begun number s read written t rest) × (AllLeaveOpen was s begun.messages → now) × StaysFound had has s t
 
-begun_none : (was : Type 0) (had : List Command → State → Type 0) (s : State) (buffer : Bytes) → buffer ≡ [] → BegunOpen was was had had 1 s [] [] s buffer
-begun_none was had s buffer e = (record { messages = []; cut = sym e; stay = tt; few = omega arith; count = refl; says = refl; leaves = refl }, (λ stays. stays), (λ asked before. before))
+begun_none : (was : Type 0) (had : List Command → State → Type 0) (s : State) (buffer : Bytes) → buffer ≡ []
+    → BegunOpen was was had had 1 s [] [] s buffer
+begun_none was had s buffer e =
+    (record { messages = []; cut = sym e; stay = tt; few = omega arith; count = refl; says = refl; leaves = refl }, (λ stays. stays), (λ asked before. before))
 
 open_is : (a b : Bool) → (a || b) ≡ false → a ≡ false
 open_is true b e = cc
@@ -57,11 +52,14 @@ not_last : (a b : Bool) → (a || b) ≡ false → b ≡ false
 not_last true b e = absurd (cc)
 not_last false b e = e
 
-still_few : (n number : ℕ) → n < most_answers → suc n ≡ number → nat_eq number most_answers ≡ false → suc n < most_answers
+still_few : (n number : ℕ) → n < most_answers → suc n ≡ number → nat_eq number most_answers ≡ false
+    → suc n < most_answers
 still_few n number few e h = grind (arith, nat_tests)
 
-begun_on : (was now : Type 0) (had mid has : List Command → State → Type 0) (number : ℕ) (s t u : State) (read written buffer more out rest : Bytes) → Begun number s read written t buffer → StaysFound had mid s t
-    → (goes : GoesOn number t (buffer ++ more) out u rest) → (IsAccepted t goes.message → now) → StaysFound mid has t u → BegunOpen was now had has (number + 1) s (read ++ more) (written ++ out) u rest
+begun_on : (was now : Type 0) (had mid has : List Command → State → Type 0) (number : ℕ) (s t u : State) (read written buffer more out rest : Bytes)
+    → Begun number s read written t buffer → StaysFound had mid s t
+    → (goes : GoesOn number t (buffer ++ more) out u rest) → (IsAccepted t goes.message → now) → StaysFound mid has t u
+    → BegunOpen was now had has (number + 1) s (read ++ more) (written ++ out) u rest
 begun_on was now had mid has number s t u read written buffer more out rest b first g kept second =
     let before = state_after_all s b.messages in
     let one : out ≡ message_text false before g.message = g.says ∙ ap (λ x. message_text false x g.message) b.leaves in
@@ -80,11 +78,16 @@ begun_on was now had mid has number s t u read written buffer more out rest b fi
       (λ asked before. second asked (first asked before)),
     )
 
-begun_ends : (was between now : Type 0) (had mid has : List Command → State → Type 0) (number : ℕ) (s t u : State) (read written buffer more out : Bytes) (end : Ended) → (b : Begun number s read written t buffer)
-    → (AllLeaveOpen was s b.messages → between) → StaysFound had mid s t → LastTurn between now mid has number t (buffer ++ more) out end u → Keeps was now had has s (read ++ more) (written ++ out) end u
+begun_ends : (was between now : Type 0) (had mid has : List Command → State → Type 0) (number : ℕ) (s t u : State) (read written buffer more out : Bytes) (end : Ended)
+    → (b : Begun number s read written t buffer)
+    → (AllLeaveOpen was s b.messages → between) → StaysFound had mid s t
+    → LastTurn between now mid has number t (buffer ++ more) out end u
+    → Keeps was now had has s (read ++ more) (written ++ out) end u
 begun_ends was between now had mid has number s t u read written buffer more out end b stays first g =
-    let carried : StaysFound had mid s (state_after_all s b.messages) = subst (λ x. StaysFound had mid s x) b.leaves first in
-    let there : LastTurn between now mid has number (state_after_all s b.messages) (buffer ++ more) out end u = subst (λ x. LastTurn between now mid has number x (buffer ++ more) out end u) b.leaves g in
+    let carried : StaysFound had mid s (state_after_all s b.messages) =
+    subst (λ x. StaysFound had mid s x) b.leaves first in
+    let there : LastTurn between now mid has number (state_after_all s b.messages) (buffer ++ more) out end u =
+    subst (λ x. LastTurn between now mid has number x (buffer ++ more) out end u) b.leaves g in
     let (stops, kept, found) = subst (λ n. LastTurn between now mid has n (state_after_all s b.messages) (buffer ++ more) out end u) (sym b.count) there in (
       record {
         messages = b.messages;
@@ -111,11 +114,14 @@ module _ {M : Type 0} (represents : M → State → Type 0) (is_intact is_open :
       × (is_intact now → is_intact start)
       × Through represents is_intact start now (λ s t. BegunOpen (is_open start) (is_open now) (recovers start) (recovers now) number s read written t buffer)
 
-  pub carried_none : (a c : Option Bytes) (start : M) (buffer : Bytes) → buffer ≡ [] → Carried a a c c start start 1 buffer
-  carried_none a c start buffer e = ([], [], Consumes-nil a, Appends-nil c, (λ i. i), λ i s h. (s, h, begun_none (is_open start) (recovers start) s buffer e))
+  pub carried_none : (a c : Option Bytes) (start : M) (buffer : Bytes) → buffer ≡ []
+      → Carried a a c c start start 1 buffer
+  carried_none a c start buffer e =
+      ([], [], Consumes-nil a, Appends-nil c, (λ i. i), λ i s h. (s, h, begun_none (is_open start) (recovers start) s buffer e))
 
   pub carried_on : (a b b2 c d d2 : Option Bytes) (start now new : M) (number : ℕ) (buffer rest : Bytes) (next : Next)
-      → next ≡ Goes → (is_intact new → is_intact now) → Carried a b c d start now number buffer → Exchange represents is_intact is_open recovers number b b2 d d2 now buffer next new rest
+      → next ≡ Goes → (is_intact new → is_intact now) → Carried a b c d start now number buffer
+      → Exchange represents is_intact is_open recovers number b b2 d d2 now buffer next new rest
       → Carried a b2 c d2 start new (number + 1) rest
   carried_on a b b2 c d d2 start now new number buffer rest next e before (read, written, consumed, appended, intact, through) (read2, written2, consumed2, appended2, through2) = (
     read ++ read2,
@@ -126,12 +132,14 @@ module _ {M : Type 0} (represents : M → State → Type 0) (is_intact is_open :
     λ i s h.
         let (t, shown, begun) = through (before i) s h in
         let (u, shown2, turn) = through2 i t shown in
-        let (goes, kept, found) = subst (λ n. Turn (is_open now) (is_open new) (recovers now) (recovers new) number t (buffer ++ read2) n written2 u rest) e turn in
+        let (goes, kept, found) =
+        subst (λ n. Turn (is_open now) (is_open new) (recovers now) (recovers new) number t (buffer ++ read2) n written2 u rest) e turn in
         (u, shown2, begun_on (is_open start) (is_open new) (recovers start) (recovers now) (recovers new) number s t u read written buffer read2 written2 rest begun.0 begun.2 goes kept found),
   )
 
   pub carried_to_end : (a b b2 c d d2 : Option Bytes) (start now new : M) (number : ℕ) (buffer rest : Bytes) (next : Next) (end : Ended)
-      → next ≡ Ends end → (is_intact new → is_intact now) → Carried a b c d start now number buffer → Exchange represents is_intact is_open recovers number b b2 d d2 now buffer next new rest
+      → next ≡ Ends end → (is_intact new → is_intact now) → Carried a b c d start now number buffer
+      → Exchange represents is_intact is_open recovers number b b2 d d2 now buffer next new rest
       → Talks represents is_intact is_open recovers a b2 c d2 start end new
   carried_to_end a b b2 c d d2 start now new number buffer rest next end e before (read, written, consumed, appended, intact, through) (read2, written2, consumed2, appended2, through2) = (
     read ++ read2,
@@ -141,11 +149,14 @@ module _ {M : Type 0} (represents : M → State → Type 0) (is_intact is_open :
     λ i s h.
         let (t, shown, begun) = through (before i) s h in
         let (u, shown2, turn) = through2 i t shown in
-        let stops : LastTurn (is_open now) (is_open new) (recovers now) (recovers new) number t (buffer ++ read2) written2 end u = subst (λ n. Turn (is_open now) (is_open new) (recovers now) (recovers new) number t (buffer ++ read2) n written2 u rest) e turn in
+        let stops : LastTurn (is_open now) (is_open new) (recovers now) (recovers new) number t (buffer ++ read2) written2 end u =
+        subst (λ n. Turn (is_open now) (is_open new) (recovers now) (recovers new) number t (buffer ++ read2) n written2 u rest) e turn in
         (u, shown2, begun_ends (is_open start) (is_open now) (is_open new) (recovers start) (recovers now) (recovers new) number s t u read written buffer read2 written2 end begun.0 begun.1 begun.2 stops),
   )
 
   -- no more messages are answered than may be
-  pub carried_over : (a b c d : Option Bytes) (start now : M) (buffer : Bytes) (end : Ended) → Carried a b c d start now (most_answers + 1) buffer → Talks represents is_intact is_open recovers a b c d start end now
+  pub carried_over : (a b c d : Option Bytes) (start now : M) (buffer : Bytes) (end : Ended)
+      → Carried a b c d start now (most_answers + 1) buffer
+      → Talks represents is_intact is_open recovers a b c d start end now
   carried_over a b c d start now buffer end (read, written, consumed, appended, intact, through) =
       (read, written, consumed, appended, λ i s h. let (t, shown, begun) = through i s h in absurd (not_over s t read written buffer begun.0))

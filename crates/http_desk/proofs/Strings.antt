@@ -1,12 +1,8 @@
 -- The strings among the tokens of a JSON text in UTF-8 are UTF-8: they are cut out at ASCII bytes, and an escape stands
 -- for a character.
 use Rattle.std.proofs.Common.{◌≡◌, ℕ, ◌<◌, ◌+◌, ◌-◌, Bool, true, false, cond, ◌&&◌, ◌||◌, ◌==◌, List, [], ◌∷◌, ◌++◌, length, take, drop, get_or, IsUtf8, Option, Some, None, refl, sym, subst, arith, append_assoc, nat_lt}
-use Rattle.std.specs.Prelude.{IfSome, nat_eq}
-use Rattle.std.specs.List.{AllByRecursion, starts_with}
 use Rattle.std.specs.Char.{digit_value, is_digit, encode_utf8, IsScalar}
 use Rattle.std.proofs.lemmas.Bool.{and_parts, eqb-true}
-use Rattle.std.proofs.lemmas.Bool.Decides.{nat_tests}
-use Rattle.std.proofs.lemmas.Str.{IsUtf8-append, IsUtf8-encode, encode_ascii, IsUtf8-take, IsUtf8-drop, IsCharBoundary-before_ascii, IsCharBoundary-after_ascii}
 use Rattle.std.proofs.lemmas.List.{append-nil, length-append}
 use Rattle.std.proofs.Math.Seq.{take-append_seam, drop-append-add, get_or-append_seam}
 use lib.Utf8.{low_scalar}
@@ -17,6 +13,7 @@ use Rattle.json.specs.Word.{literal, number_before, after_number, head, ends_wor
 use Rattle.json.specs.Lex as lexing
 use Rattle.json.specs.Lex.{Lexeme, Mode, Class, class, string_token, operator_lexeme, lex_byte, lex, begins_colon, if_allowed, place_token, may_begin, may_close, Place, punctuate, tokens}
 use Rattle.json.specs.Ascii as ascii
+use Rattle.http_desk.proofs.Common.{AllByRecursion, IfSome, IsCharBoundary-after_ascii, IsCharBoundary-before_ascii, IsUtf8-append, IsUtf8-drop, IsUtf8-encode, IsUtf8-take, encode_ascii, nat_eq, nat_tests, starts_with}
 use Rattle.http_desk.proofs.Options.{known_map, known_then, either_way, if_some, if_then}
 
 -- ---- texts are cut at ASCII bytes
@@ -62,11 +59,13 @@ by_byte x xs more slash p u =
     after p None u h = tt
     after p (Some s) u h = IsUtf8-append p s u h
 
-    next : (o : Option (List ℕ)) → IfSome o (λ s. IsUtf8 ((p ++ x ∷ []) ++ s)) → IfSome (prepend (x ∷ []) o) (λ s. IsUtf8 (p ++ s))
+    next : (o : Option (List ℕ)) → IfSome o (λ s. IsUtf8 ((p ++ x ∷ []) ++ s))
+        → IfSome (prepend (x ∷ []) o) (λ s. IsUtf8 (p ++ s))
     next None h = tt
     next (Some s) h = subst IsUtf8 (append_assoc p (x ∷ []) s) h
 
-    none_or : (b : Bool) → IfSome (content plain xs) (λ s. IsUtf8 ((p ++ x ∷ []) ++ s)) → IfSome (cond b None (prepend (x ∷ []) (content plain xs))) (λ s. IsUtf8 (p ++ s))
+    none_or : (b : Bool) → IfSome (content plain xs) (λ s. IsUtf8 ((p ++ x ∷ []) ++ s))
+        → IfSome (cond b None (prepend (x ∷ []) (content plain xs))) (λ s. IsUtf8 (p ++ s))
     none_or true h = tt
     none_or false h = next (content plain xs) h
 
@@ -118,8 +117,10 @@ units a b c d =
     let w = low_digit d first.1 in
     record { ascii = (x.0, y.0, z.0, w.0); fits = omega (arith, x.1, y.1, z.1, w.1) })
 
-past_four : (a b c d : ℕ) (xs : List ℕ) → (a < 128) × (b < 128) × (c < 128) × (d < 128) → IsUtf8 (a ∷ b ∷ c ∷ d ∷ xs) → IsUtf8 xs
-past_four a b c d xs low u = past d xs low.3 (past c (d ∷ xs) low.2 (past b (c ∷ d ∷ xs) low.1 (past a (b ∷ c ∷ d ∷ xs) low.0 u)))
+past_four : (a b c d : ℕ) (xs : List ℕ) → (a < 128) × (b < 128) × (c < 128) × (d < 128) → IsUtf8 (a ∷ b ∷ c ∷ d ∷ xs)
+    → IsUtf8 xs
+past_four a b c d xs low u =
+    past d xs low.3 (past c (d ∷ xs) low.2 (past b (c ∷ d ∷ xs) low.1 (past a (b ∷ c ∷ d ∷ xs) low.0 u)))
 
 no_surrogate : (u : ℕ) → u < 65536 → is_high_surrogate u ≡ false → is_low_surrogate u ≡ false → IsScalar u
 no_surrogate u fits e f = grind (arith, nat_tests, fits, e, f)
@@ -127,7 +128,8 @@ no_surrogate u fits e f = grind (arith, nat_tests, fits, e, f)
 pair_scalar : (h l : ℕ) → is_high_surrogate h ≡ true → is_low_surrogate l ≡ true → IsScalar (surrogate_pair h l)
 pair_scalar h l e f = grind (arith, nat_tests, e, f)
 
-by_four : (a b c d : ℕ) (xs : List ℕ) → Says plain xs → ((h : ℕ) → Says (after_high h) xs) → Says after_u (a ∷ b ∷ c ∷ d ∷ xs)
+by_four : (a b c d : ℕ) (xs : List ℕ) → Says plain xs → ((h : ℕ) → Says (after_high h) xs)
+    → Says after_u (a ∷ b ∷ c ∷ d ∷ xs)
 unfolding content
 by_four a b c d xs more high u =
     known_then IsUtf8 (Spells a b c d) _ (code_unit a b c d) (units a b c d)
@@ -190,10 +192,12 @@ either_lexeme false l k h i = i
 
 numbers_have : (t : List ℕ) (o : Option (List ℕ)) → HasText (number_before t o)
 numbers_have t None = tt
-numbers_have t (Some rest) = either_text (ends_word rest) (kinds.number (take (length t - length rest) t)) kinds.bad tt tt
+numbers_have t (Some rest) =
+    either_text (ends_word rest) (kinds.number (take (length t - length rest) t)) kinds.bad tt tt
 
 literals_have : (name t : List ℕ) (made : Token) → HasText made → HasText (literal name made t)
-literals_have name t made h = either_text (starts_with nat_eq t name && ends_word (drop (length name) t)) made kinds.bad h tt
+literals_have name t made h =
+    either_text (starts_with nat_eq t name && ends_word (drop (length name) t)) made kinds.bad h tt
 
 words_have : (t : List ℕ) → HasText (word t)
 unfolding word
@@ -219,7 +223,9 @@ abbrev IsQuote : Class → Type 0
 IsQuote lexing.quote = Unit {0}
 IsQuote _ = ⊥
 
-is_quote : (q b o s : Bool) → IsQuote (cond q lexing.quote (cond b lexing.backslash (cond o lexing.operator (cond s lexing.space lexing.other)))) → q ≡ true
+is_quote : (q b o s : Bool)
+    → IsQuote (cond q lexing.quote (cond b lexing.backslash (cond o lexing.operator (cond s lexing.space lexing.other))))
+    → q ≡ true
 is_quote true b o s h = refl
 is_quote false true o s h = absurd h
 is_quote false false true s h = absurd h
@@ -229,8 +235,10 @@ is_quote false false false false h = absurd h
 abbrev AllText : List Lexeme → Type 0
 AllText ls = AllByRecursion HasTextIn ls
 
-lexed_byte : (m : Mode) (c : Class) (x : ℕ) (xs : List ℕ) (k : Mode → List Lexeme) → ((n : Mode) → AllText (k n)) → (IsQuote c → IsUtf8 xs) → AllText (lex_byte m c x xs k)
-lexed_byte lexing.between lexing.quote x xs k h u = (strings_have (content plain xs) (plain_says xs (says plain xs) (u tt)), h lexing.in_string)
+lexed_byte : (m : Mode) (c : Class) (x : ℕ) (xs : List ℕ) (k : Mode → List Lexeme) → ((n : Mode) → AllText (k n))
+    → (IsQuote c → IsUtf8 xs) → AllText (lex_byte m c x xs k)
+lexed_byte lexing.between lexing.quote x xs k h u =
+    (strings_have (content plain xs) (plain_says xs (says plain xs) (u tt)), h lexing.in_string)
 lexed_byte lexing.between lexing.backslash x xs k h u = (tt, h lexing.in_word)
 lexed_byte lexing.between lexing.operator x xs k h u = (operators_have x, h lexing.between)
 lexed_byte lexing.between lexing.space x xs k h u = h lexing.between
@@ -257,20 +265,28 @@ lexed m p (x ∷ xs) u =
 
 -- ---- tokens
 
-allowed : (b : Bool) (t : Token) (k : Place → List Token) (next : Place) → HasText t → AllByRecursion HasText (k next) → AllByRecursion HasText (if_allowed b t k next)
+allowed : (b : Bool) (t : Token) (k : Place → List Token) (next : Place) → HasText t → AllByRecursion HasText (k next)
+    → AllByRecursion HasText (if_allowed b t k next)
 allowed true t k next h more = (h, more)
 allowed false t k next h more = (tt, tt)
 
-placed : (p : Place) (t : Token) (before_colon : Bool) (k : Place → List Token) → HasText t → ((q : Place) → AllByRecursion HasText (k q)) → AllByRecursion HasText (place_token p t before_colon k)
+placed : (p : Place) (t : Token) (before_colon : Bool) (k : Place → List Token) → HasText t
+    → ((q : Place) → AllByRecursion HasText (k q)) → AllByRecursion HasText (place_token p t before_colon k)
 placed p kinds.begin_object b k h more = allowed (may_begin p) kinds.begin_object k lexing.fresh tt (more lexing.fresh)
-placed p kinds.end_object b k h more = allowed (may_close p) kinds.end_object k lexing.after_value tt (more lexing.after_value)
+placed p kinds.end_object b k h more =
+    allowed (may_close p) kinds.end_object k lexing.after_value tt (more lexing.after_value)
 placed p kinds.begin_array b k h more = allowed (may_begin p) kinds.begin_array k lexing.fresh tt (more lexing.fresh)
-placed p kinds.end_array b k h more = allowed (may_close p) kinds.end_array k lexing.after_value tt (more lexing.after_value)
+placed p kinds.end_array b k h more =
+    allowed (may_close p) kinds.end_array k lexing.after_value tt (more lexing.after_value)
 placed p (kinds.key s) b k h more = (tt, tt)
-placed p (kinds.string s) true k h more = allowed (may_begin p) (kinds.key s) k lexing.after_key tt (more lexing.after_key)
-placed p (kinds.string s) false k h more = allowed (may_begin p) (kinds.string s) k lexing.after_value h (more lexing.after_value)
-placed p (kinds.number s) b k h more = allowed (may_begin p) (kinds.number s) k lexing.after_value tt (more lexing.after_value)
-placed p (kinds.boolean c) b k h more = allowed (may_begin p) (kinds.boolean c) k lexing.after_value tt (more lexing.after_value)
+placed p (kinds.string s) true k h more =
+    allowed (may_begin p) (kinds.key s) k lexing.after_key tt (more lexing.after_key)
+placed p (kinds.string s) false k h more =
+    allowed (may_begin p) (kinds.string s) k lexing.after_value h (more lexing.after_value)
+placed p (kinds.number s) b k h more =
+    allowed (may_begin p) (kinds.number s) k lexing.after_value tt (more lexing.after_value)
+placed p (kinds.boolean c) b k h more =
+    allowed (may_begin p) (kinds.boolean c) k lexing.after_value tt (more lexing.after_value)
 placed p kinds.null b k h more = allowed (may_begin p) kinds.null k lexing.after_value tt (more lexing.after_value)
 placed p kinds.bad b k h more = (tt, tt)
 
@@ -280,10 +296,14 @@ punctuated lexing.fresh [] h = tt
 punctuated lexing.after_value [] h = tt
 punctuated lexing.after_comma [] h = (tt, tt)
 punctuated lexing.after_key [] h = (tt, tt)
-punctuated lexing.fresh (lexing.token t ∷ ls) h = placed lexing.fresh t (begins_colon ls) (λ next. punctuate next ls) h.0 (λ q. punctuated q ls h.1)
-punctuated lexing.after_value (lexing.token t ∷ ls) h = placed lexing.after_value t (begins_colon ls) (λ next. punctuate next ls) h.0 (λ q. punctuated q ls h.1)
-punctuated lexing.after_comma (lexing.token t ∷ ls) h = placed lexing.after_comma t (begins_colon ls) (λ next. punctuate next ls) h.0 (λ q. punctuated q ls h.1)
-punctuated lexing.after_key (lexing.token t ∷ ls) h = placed lexing.after_key t (begins_colon ls) (λ next. punctuate next ls) h.0 (λ q. punctuated q ls h.1)
+punctuated lexing.fresh (lexing.token t ∷ ls) h =
+    placed lexing.fresh t (begins_colon ls) (λ next. punctuate next ls) h.0 (λ q. punctuated q ls h.1)
+punctuated lexing.after_value (lexing.token t ∷ ls) h =
+    placed lexing.after_value t (begins_colon ls) (λ next. punctuate next ls) h.0 (λ q. punctuated q ls h.1)
+punctuated lexing.after_comma (lexing.token t ∷ ls) h =
+    placed lexing.after_comma t (begins_colon ls) (λ next. punctuate next ls) h.0 (λ q. punctuated q ls h.1)
+punctuated lexing.after_key (lexing.token t ∷ ls) h =
+    placed lexing.after_key t (begins_colon ls) (λ next. punctuate next ls) h.0 (λ q. punctuated q ls h.1)
 punctuated lexing.fresh (lexing.comma ∷ ls) h = (tt, tt)
 punctuated lexing.after_value (lexing.comma ∷ ls) h = punctuated lexing.after_comma ls h.1
 punctuated lexing.after_comma (lexing.comma ∷ ls) h = (tt, tt)

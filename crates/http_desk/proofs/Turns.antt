@@ -1,36 +1,18 @@
 -- Lemmas on one message's place.
 use Rattle.std.proofs.Common.{◌≡◌, ◌<◌, ◌≤◌, ◌+◌, ◌⊎◌, inl, inr, ℕ, List, [], ◌++◌, length, take, drop, refl, sym, ap, ◌∙◌, subst, arith, true, false, Bool, codes, append_assoc, Option, length-take, length-drop, length-append, take-append-drop, drop-drop}
-use Rattle.std.specs.Prelude.{◌||◌, nat_eq, Result, Ok, Err, IfOk, OnOk, OnErr, MatchResult}
-use Rattle.std.specs.Io.KnownBytes.{Appends}
-use Rattle.std.proofs.KnownBytes.{Consumes-nil}
-use Rattle.std.proofs.lemmas.List.{take-append-le, drop-append-le}
-use Rattle.isad_core.specs.Texts.{Bytes}
-use Rattle.office_core.specs.State.{State}
-use Rattle.office_core.specs.declared.command.Command.{Command}
-use Rattle.http_desk.specs.declared.session_end.Ended.{Ended}
-use Rattle.http_desk.specs.declared.session_end.Ended.TheVariants.{Closed, Cut, ReadFault, Bound}
-use Rattle.http_desk.specs.declared.session_end.Next.{Next}
-use Rattle.http_desk.specs.declared.session_end.Next.TheVariants.{Goes, Ends}
-use Rattle.http_messages.specs.declared.head_scan.Scan.TheVariants.{Whole}
-use Rattle.http_desk.specs.declared.output.Sent.{Sent}
+use Rattle.std.specs.Prelude.{◌||◌, Ok}
+use Rattle.http_desk.specs.declared.session_end.Ended.TheVariants.{Cut, Bound}
 use Rattle.http_desk.specs.declared.output.Sent.TheVariants.{All, Failed, Bound as OutOfTurns}
-use Rattle.http_messages.specs.declared.status.Status.{Status}
-use Rattle.http_messages.specs.declared.status.Status.TheVariants.{Busy, Fine}
 use Rattle.http_messages.specs.HeadScan.{scan}
-use Rattle.http_messages.specs.Heads.{Request, Verdict, Accepted, Judges, is_head, body_length}
-use Rattle.http_messages.specs.Answers.{Answer, error, answer_text, response}
-use Rattle.http_desk.specs.Messages.{longest_head, HasHead, Message, Begins, Last, Nothing, HeadCut, BodyCut, Answers, Fails, Stands, MayFail, IsBlank, IsHeadCut}
-use Rattle.http_desk.specs.AcceptedMessages.{IsAccepted, LastLeavesOpen}
-use Rattle.http_desk.specs.BusyMessages.{AnswersTo, IsBusyWith, StaysFound, StaysFoundOrBusy}
-use Rattle.http_desk.specs.Session.{most_answers, IsFront, Stops, IsClosing, closes, continue_if, refusal, message_text, state_after, last_text, state_after_last}
-use Rattle.http_desk.specs.AnswerOutput.{Sends}
-use Rattle.http_desk.specs.Exchanges.{Turn, Through, Exchange, Refused, Replies, after_sending}
-use Rattle.http_messages.proofs.Scans.{scan_take_more}
+use Rattle.http_desk.specs.Session.{state_after}
+use Rattle.http_desk.specs.Exchanges.{Refused}
+use Rattle.http_desk.proofs.Common.{Accepted, Answer, Answers, AnswersTo, Appends, Begins, BodyCut, Busy, Bytes, Closed, Command, Consumes-nil, Ended, Ends, Err, Exchange, Fails, Fine, Goes, HasHead, HeadCut, IfOk, IsAccepted, IsBlank, IsBusyWith, IsClosing, IsFront, IsHeadCut, Judges, Last, LastLeavesOpen, MatchResult, MayFail, Message, Next, Nothing, OnErr, OnOk, ReadFault, Replies, Request, Result, Sends, Sent, Stands, State, Status, StaysFound, StaysFoundOrBusy, Stops, Through, Turn, Verdict, Whole, after_sending, answer_text, body_length, closes, continue_if, drop-append-le, error, is_head, last_text, longest_head, message_text, most_answers, nat_eq, refusal, response, scan_take_more, state_after_last, take-append-le}
 
 -- ---- heads
 
 -- more input changes no head
-pub head_more : (input block : Bytes) (v : Verdict) (more rest : Bytes) → HasHead input block v more → HasHead (input ++ rest) block v (more ++ rest)
+pub head_more : (input block : Bytes) (v : Verdict) (more rest : Bytes) → HasHead input block v more
+    → HasHead (input ++ rest) block v (more ++ rest)
 head_more input block v more rest h = record {
   ends = scan_take_more longest_head input rest (length block) h.ends;
   whole = ap (λ l. l ++ rest) h.whole ∙ append_assoc block more rest;
@@ -38,12 +20,14 @@ head_more input block v more rest h = record {
 }
 
 -- the head that was found
-pub head_found : (items : Bytes) (size : ℕ) (v : Verdict) → scan (take longest_head items) ≡ Whole size → size ≤ length items → Judges (take size items) v → HasHead items (take size items) v (drop size items)
+pub head_found : (items : Bytes) (size : ℕ) (v : Verdict) → scan (take longest_head items) ≡ Whole size
+    → size ≤ length items → Judges (take size items) v → HasHead items (take size items) v (drop size items)
 head_found items size v e h j =
     let len : length (take size items) ≡ size = omega (arith, length-take size items) in
     record { ends = e ∙ ap Whole (sym len); whole = sym (take-append-drop size items); judged = j }
 
-pub begins_more : (input : Bytes) (m : Message) (rest more : Bytes) → Begins input m rest → Begins (input ++ more) m (rest ++ more)
+pub begins_more : (input : Bytes) (m : Message) (rest more : Bytes) → Begins input m rest
+    → Begins (input ++ more) m (rest ++ more)
 begins_more input m rest more b = record {
   block = b.block;
   head = subst (λ l. HasHead (input ++ more) b.block (Accepted m.request) l) (append_assoc m.body rest more) (head_more input b.block (Accepted m.request) (m.body ++ rest) more b.head);
@@ -57,7 +41,8 @@ IsWritten All full written = written ≡ full
 IsWritten Failed full written = IsFront written full
 IsWritten OutOfTurns full written = IsFront written full
 
-pub written_of : (a b : Option Bytes) (full : Bytes) (sent : Sent) → Sends a b full sent → (written : Bytes) × Appends a b written × IsWritten sent full written
+pub written_of : (a b : Option Bytes) (full : Bytes) (sent : Sent) → Sends a b full sent
+    → (written : Bytes) × Appends a b written × IsWritten sent full written
 unfolding IsWritten
 written_of a b full All s = (full, s, refl)
 written_of a b full Failed (front, f, s) = (front, s, f)
@@ -68,8 +53,10 @@ front_after before front full (rest, e) = (rest, ap (λ l. before ++ l) e ∙ sy
 
 -- the answer that closes was sent, or broken off
 pub closed_turn : (was now : Type 0) (had has : List Command → State → Type 0) (number : ℕ) (s : State) (input before full written rest : Bytes) (new : State) (last : Last) (sent : Sent)
-    → Stands input last → IsClosing number last → before ++ full ≡ last_text number s last → new ≡ state_after_last s last → IsWritten sent full written → (LastLeavesOpen was s last → now)
-    → StaysFoundOrBusy had has (IsBusyWith input last) s new → Turn was now had has number s input (after_sending sent (Ends Closed)) (before ++ written) new rest
+    → Stands input last → IsClosing number last → before ++ full ≡ last_text number s last
+    → new ≡ state_after_last s last → IsWritten sent full written → (LastLeavesOpen was s last → now)
+    → StaysFoundOrBusy had has (IsBusyWith input last) s new
+    → Turn was now had has number s input (after_sending sent (Ends Closed)) (before ++ written) new rest
 unfolding IsWritten
 closed_turn was now had has number s input before full written rest new last All x c e n w k f =
     (record { last = last; stands = x; ends = c; written = ap (λ l. before ++ l) w ∙ e; leaves = n }, k, f)
@@ -80,8 +67,10 @@ closed_turn was now had has number s input before full written rest new last Out
 
 -- the answer that leaves the connection open was sent, or broken off
 pub open_turn : (was now : Type 0) (had has : List Command → State → Type 0) (number : ℕ) (s : State) (input before full written rest : Bytes) (new : State) (m : Message) (sent : Sent)
-    → Begins input m rest → closes number m ≡ false → before ++ full ≡ message_text false s m → new ≡ state_after s m → IsWritten sent full written → (IsAccepted s m → now)
-    → StaysFound had has s new → Turn was now had has number s input (after_sending sent Goes) (before ++ written) new rest
+    → Begins input m rest → closes number m ≡ false → before ++ full ≡ message_text false s m → new ≡ state_after s m
+    → IsWritten sent full written → (IsAccepted s m → now)
+    → StaysFound had has s new
+    → Turn was now had has number s input (after_sending sent Goes) (before ++ written) new rest
 unfolding IsWritten
 open_turn was now had has number s input before full written rest new m All x c e n w k f =
     (record { message = m; begins = x; stays = c; says = ap (λ l. before ++ l) w ∙ e; leaves = n }, k, f)
@@ -102,11 +91,13 @@ pub may_fail : (input : Bytes) → MayFail input false false
 may_fail input = record { continue_due = λ e. never e; to_head = λ e. never e }
 
 -- and after 100 Continue, where a head that came whole waits for it
-pub may_fail_after : (input block more : Bytes) (r : Request) → HasHead input block (Accepted r) more → MayFail input r.waits false
+pub may_fail_after : (input block more : Bytes) (r : Request) → HasHead input block (Accepted r) more
+    → MayFail input r.waits false
 may_fail_after input block more r h = record { continue_due = λ e. (block, more, Accepted r, h, e); to_head = λ e. never e }
 
 -- what is left in a buffer once it is given back
-pub left_back : {A E : Type 0} (made : Result A E) (lent back rest : Bytes) → OnOk made (lent ≡ rest) → back ≡ lent → OnOk made (back ≡ rest)
+pub left_back : {A E : Type 0} (made : Result A E) (lent back rest : Bytes) → OnOk made (lent ≡ rest) → back ≡ lent
+    → OnOk made (back ≡ rest)
 left_back (Ok x) lent back rest left same = same ∙ left
 left_back (Err why) lent back rest left same = left
 
@@ -117,8 +108,10 @@ module _ {M : Type 0} (represents : M → State → Type 0) (is_intact is_open :
 
   -- a fixed answer was sent
   pub refused : (number : ℕ) (old new : M) (input before rest : Bytes) (last : Last) (bare : Bool) (status : Status) (a b : Option Bytes) (next : Next)
-      → Refused a b bare status next → Stands input last → IsClosing number last → AloneAt number last (before ++ refusal bare (error status))
-      → (is_intact new → (s : State) → represents old s → represents new s) → ((s : State) → LastLeavesOpen (is_open old) s last → is_open new)
+      → Refused a b bare status next → Stands input last → IsClosing number last
+      → AloneAt number last (before ++ refusal bare (error status))
+      → (is_intact new → (s : State) → represents old s → represents new s)
+      → ((s : State) → LastLeavesOpen (is_open old) s last → is_open new)
       → (is_intact new → (s : State) → represents old s → StaysFoundOrBusy (recovers old) (recovers new) (IsBusyWith input last) s s)
       → (written : Bytes) × Appends a b written × Through represents is_intact old new (λ s t. Turn (is_open old) (is_open new) (recovers old) (recovers new) number s input next (before ++ written) t rest)
   refused number old new input before rest last bare status a b next (sent, sends, e) x c alone kept stays found =
@@ -138,7 +131,8 @@ module _ {M : Type 0} (represents : M → State → Type 0) (is_intact is_open :
   body_at items size n = take n (drop size items)
 
   pub message_at : (items : Bytes) (size n : ℕ) (request : Request) (rest : Bytes)
-      → HasHead items (take size items) (Accepted request) (drop size items) → size + n ≤ length items → n ≡ body_length request → rest ≡ drop (size + n) items
+      → HasHead items (take size items) (Accepted request) (drop size items) → size + n ≤ length items
+      → n ≡ body_length request → rest ≡ drop (size + n) items
       → Begins items (record { request = request; body = body_at items size n }) rest
   message_at items size n request rest h within e r =
       let split : drop size items ≡ body_at items size n ++ rest =
@@ -151,8 +145,10 @@ module _ {M : Type 0} (represents : M → State → Type 0) (is_intact is_open :
 
   -- the same, where the answer closes
   acted_closing : (number : ℕ) (old new : M) (items : Bytes) (size n : ℕ) (request : Request) (told : Answer) (bare : Bool) (rest : Bytes) (a b : Option Bytes) (sent : Sent) (next : Next)
-      → HasHead items (take size items) (Accepted request) (drop size items) → size + n ≤ length items → n ≡ body_length request → rest ≡ drop (size + n) items
-      → bare ≡ is_head request.method → (request.closes || nat_eq number most_answers) ≡ true → next ≡ after_sending sent (Ends Closed)
+      → HasHead items (take size items) (Accepted request) (drop size items) → size + n ≤ length items
+      → n ≡ body_length request → rest ≡ drop (size + n) items
+      → bare ≡ is_head request.method → (request.closes || nat_eq number most_answers) ≡ true
+      → next ≡ after_sending sent (Ends Closed)
       → Sends a b (answer_text bare true told) sent
       → (is_intact new → (s : State) → represents old s → represents new (response s request (body_at items size n)).1 × (told ≡ (response s request (body_at items size n)).0))
       → (request.method ≡ codes "POST" → is_intact new → told.status ≡ Fine → is_open new)
@@ -177,8 +173,10 @@ module _ {M : Type 0} (represents : M → State → Type 0) (is_intact is_open :
       )
 
   acted_open : (number : ℕ) (old new : M) (items : Bytes) (size n : ℕ) (request : Request) (told : Answer) (bare : Bool) (rest : Bytes) (a b : Option Bytes) (sent : Sent) (next : Next)
-      → HasHead items (take size items) (Accepted request) (drop size items) → size + n ≤ length items → n ≡ body_length request → rest ≡ drop (size + n) items
-      → bare ≡ is_head request.method → (request.closes || nat_eq number most_answers) ≡ false → next ≡ after_sending sent Goes
+      → HasHead items (take size items) (Accepted request) (drop size items) → size + n ≤ length items
+      → n ≡ body_length request → rest ≡ drop (size + n) items
+      → bare ≡ is_head request.method → (request.closes || nat_eq number most_answers) ≡ false
+      → next ≡ after_sending sent Goes
       → Sends a b (answer_text bare false told) sent
       → (is_intact new → (s : State) → represents old s → represents new (response s request (body_at items size n)).1 × (told ≡ (response s request (body_at items size n)).0))
       → (request.method ≡ codes "POST" → is_intact new → told.status ≡ Fine → is_open new)
@@ -204,8 +202,10 @@ module _ {M : Type 0} (represents : M → State → Type 0) (is_intact is_open :
 
   -- the office answered, and its answer was sent
   pub acted : (number : ℕ) (old new : M) (items : Bytes) (size n : ℕ) (request : Request) (told : Answer) (bare : Bool) (rest : Bytes) (a b : Option Bytes) (closing : Bool) (next : Next)
-      → HasHead items (take size items) (Accepted request) (drop size items) → size + n ≤ length items → n ≡ body_length request → rest ≡ drop (size + n) items
-      → bare ≡ is_head request.method → (request.closes || nat_eq number most_answers) ≡ closing → Replies a b closing (answer_text bare closing told) next
+      → HasHead items (take size items) (Accepted request) (drop size items) → size + n ≤ length items
+      → n ≡ body_length request → rest ≡ drop (size + n) items
+      → bare ≡ is_head request.method → (request.closes || nat_eq number most_answers) ≡ closing
+      → Replies a b closing (answer_text bare closing told) next
       → (is_intact new → (s : State) → represents old s → represents new (response s request (body_at items size n)).1 × (told ≡ (response s request (body_at items size n)).0))
       → (request.method ≡ codes "POST" → is_intact new → told.status ≡ Fine → is_open new)
       → (is_intact new → (s : State) → represents old s → StaysFound (recovers old) (recovers new) s (response s request (body_at items size n)).1)
@@ -217,7 +217,8 @@ module _ {M : Type 0} (represents : M → State → Type 0) (is_intact is_open :
 
   -- what the office answered was sent, or that it is busy
   pub answered_at : {A E : Type 0} (answer : A → Answer) (number : ℕ) (old new : M) (items : Bytes) (size n : ℕ) (request : Request) (made : Result A E) (bare : Bool) (rest : Bytes) (a b : Option Bytes) (closing : Bool) (next : Next)
-      → HasHead items (take size items) (Accepted request) (drop size items) → size + n ≤ length items → n ≡ body_length request → OnOk made (rest ≡ drop (size + n) items)
+      → HasHead items (take size items) (Accepted request) (drop size items) → size + n ≤ length items
+      → n ≡ body_length request → OnOk made (rest ≡ drop (size + n) items)
       → bare ≡ is_head request.method → (request.closes || nat_eq number most_answers) ≡ closing
       → MatchResult made (λ x. Replies a b closing (answer_text bare closing (answer x)) next) (λ e. Refused a b false Busy next)
       → IfOk made (λ x. is_intact new → (s : State) → represents old s → represents new (response s request (body_at items size n)).1 × (answer x ≡ (response s request (body_at items size n)).0))
@@ -238,7 +239,8 @@ module _ {M : Type 0} (represents : M → State → Type 0) (is_intact is_open :
 
   -- the leave to send a body was broken off
   pub leave_broken : (number : ℕ) (office : M) (items block more : Bytes) (request : Request) (a b c : Option Bytes) (sent : Sent) (next result : Next)
-      → (sent ≡ All → ⊥) → result ≡ after_sending sent next → HasHead items block (Accepted request) more → Sends b c (continue_if request.waits) sent
+      → (sent ≡ All → ⊥) → result ≡ after_sending sent next → HasHead items block (Accepted request) more
+      → Sends b c (continue_if request.waits) sent
       → Exchange represents is_intact is_open recovers number a a b c office items result office items
   leave_broken number office items block more request a b c All next result n e h s = absurd (n refl)
   leave_broken number office items block more request a b c Failed next result n e h (front, (others, f), s) =
@@ -287,7 +289,8 @@ module _ {M : Type 0} (represents : M → State → Type 0) (is_intact is_open :
       )
 
 -- a head that was found is the same in a buffer that has grown
-pub front_same : (items new got : Bytes) (size : ℕ) → size ≤ length items → new ≡ items ++ got → take size items ≡ take size new
+pub front_same : (items new got : Bytes) (size : ℕ) → size ≤ length items → new ≡ items ++ got
+    → take size items ≡ take size new
 front_same items new got size h e = sym (ap (take size) e ∙ take-append-le size items got h)
 
 pub head_grown : (items new got : Bytes) (size : ℕ) (v : Verdict) → size ≤ length items → new ≡ items ++ got
@@ -295,32 +298,42 @@ pub head_grown : (items new got : Bytes) (size : ℕ) (v : Verdict) → size ≤
 head_grown items new got size v h e a =
     let t : take size items ≡ take size new = sym (ap (take size) e ∙ take-append-le size items got h) in
     let d : drop size items ++ got ≡ drop size new = sym (ap (drop size) e ∙ drop-append-le size items got h) in
-    let one : HasHead (items ++ got) (take size items) v (drop size items ++ got) = head_more items (take size items) v (drop size items) got a in
+    let one : HasHead (items ++ got) (take size items) v (drop size items ++ got) =
+    head_more items (take size items) v (drop size items) got a in
     let two = subst (λ b. HasHead (items ++ got) b v (drop size items ++ got)) t one in
     let three = subst (λ m. HasHead (items ++ got) (take size new) v m) d two in
     subst (λ i. HasHead i (take size new) v (drop size new)) (sym e) three
 
 -- the last place; an office that it leaves open is open then
-abbrev pub LastTurn : Type 0 → Type 0 → (had has : List Command → State → Type 0) → ℕ → State → Bytes → Bytes → Ended → State → Type 0
+abbrev pub LastTurn : Type 0 → Type 0 → (had has : List Command → State → Type 0) → ℕ → State → Bytes → Bytes → Ended
+    → State → Type 0
 LastTurn was now had has number s input out end new =
     (stops : Stops number s input out end new) × (LastLeavesOpen was s stops.last → now) × StaysFoundOrBusy had has (IsBusyWith input stops.last) s new
 
 -- the input stops inside a body
-pub stops_in_body : (was : Type 0) (had : List Command → State → Type 0) (number : ℕ) (s : State) (items new got : Bytes) (size : ℕ) (r : Request) (end : Ended) → size ≤ length items → new ≡ items ++ got → length new < size + body_length r
-    → HasHead items (take size items) (Accepted r) (drop size items) → ((end ≡ Cut) ⊎ (end ≡ ReadFault)) → LastTurn was was had had number s (items ++ got) (continue_if r.waits) end s
+pub stops_in_body : (was : Type 0) (had : List Command → State → Type 0) (number : ℕ) (s : State) (items new got : Bytes) (size : ℕ) (r : Request) (end : Ended)
+    → size ≤ length items → new ≡ items ++ got → length new < size + body_length r
+    → HasHead items (take size items) (Accepted r) (drop size items) → ((end ≡ Cut) ⊎ (end ≡ ReadFault))
+    → LastTurn was was had had number s (items ++ got) (continue_if r.waits) end s
 stops_in_body was had number s items new got size r end h e l a which =
     let len : length new ≡ length items + length got = ap length e ∙ length-append items got in
-    let stands : Stands (items ++ got) (BodyCut r) = (take size items, drop size items ++ got, head_more items (take size items) (Accepted r) (drop size items) got a, omega (arith, length-append (drop size items) got, length-drop size items)) in
+    let stands : Stands (items ++ got) (BodyCut r) =
+    (take size items, drop size items ++ got, head_more items (take size items) (Accepted r) (drop size items) got a, omega (arith, length-append (drop size items) got, length-drop size items)) in
     elim which as (λ w. LastTurn was was had had number s (items ++ got) (continue_if r.waits) end s) [
       | inl f ↦ subst (λ x. LastTurn was was had had number s (items ++ got) (continue_if r.waits) x s) (sym f) (record { last = BodyCut r; stands = stands; ends = tt; written = refl; leaves = refl }, (λ stays. stays), (λ asked before. inl before))
       | inr f ↦ subst (λ x. LastTurn was was had had number s (items ++ got) (continue_if r.waits) x s) (sym f) (record { last = BodyCut r; stands = stands; ends = inr tt; written = refl; leaves = refl }, (λ stays. stays), (λ asked before. inl before))
     ]
 
 -- the input stops before a head or inside it
-pub stops_early : (was : Type 0) (had : List Command → State → Type 0) (number : ℕ) (s : State) (input : Bytes) → (IsBlank input ⊎ IsHeadCut input) → LastTurn was was had had number s input [] ReadFault s
-stops_early was had number s input (inl h) = (record { last = Nothing; stands = h; ends = inl refl; written = refl; leaves = refl }, (λ stays. stays), (λ asked before. inl before))
-stops_early was had number s input (inr h) = (record { last = HeadCut; stands = h; ends = inr tt; written = refl; leaves = refl }, (λ stays. stays), (λ asked before. inl before))
+pub stops_early : (was : Type 0) (had : List Command → State → Type 0) (number : ℕ) (s : State) (input : Bytes)
+    → (IsBlank input ⊎ IsHeadCut input) → LastTurn was was had had number s input [] ReadFault s
+stops_early was had number s input (inl h) =
+    (record { last = Nothing; stands = h; ends = inl refl; written = refl; leaves = refl }, (λ stays. stays), (λ asked before. inl before))
+stops_early was had number s input (inr h) =
+    (record { last = HeadCut; stands = h; ends = inr tt; written = refl; leaves = refl }, (λ stays. stays), (λ asked before. inl before))
 
 -- a bound, where a head may have asked for leave
-pub bound_here : (was : Type 0) (had : List Command → State → Type 0) (number : ℕ) (s : State) (input : Bytes) (leave : Bool) → MayFail input leave false → LastTurn was was had had number s input (continue_if leave) Bound s
-bound_here was had number s input leave m = (record { last = Fails leave false; stands = m; ends = tt; written = (refusal false (error Busy), refl); leaves = refl }, (λ never. absurd never), (λ asked before. inl before))
+pub bound_here : (was : Type 0) (had : List Command → State → Type 0) (number : ℕ) (s : State) (input : Bytes) (leave : Bool)
+    → MayFail input leave false → LastTurn was was had had number s input (continue_if leave) Bound s
+bound_here was had number s input leave m =
+    (record { last = Fails leave false; stands = m; ends = tt; written = (refusal false (error Busy), refl); leaves = refl }, (λ never. absurd never), (λ asked before. inl before))

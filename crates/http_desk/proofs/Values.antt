@@ -1,11 +1,8 @@
 -- The strings of a value that is read from a JSON text in UTF-8 are UTF-8.
 use Rattle.std.proofs.Common.{ℕ, zero, suc, List, [], ◌∷◌, length, IsUtf8, Option, Some, None, Ordering, Less, Equal, Greater}
-use Rattle.std.specs.Prelude.{IfSome}
-use Rattle.std.specs.List.{AllByRecursion}
 use Rattle.std.specs.Ordering.{nat_cmp, match_ordering}
 use Rattle.std.specs.Cmp.Lexicographic.{slice_cmp}
 use Rattle.std.specs.Str.{is_utf8}
-use Rattle.std.proofs.lemmas.Str.{IsUtf8-from_is_utf8}
 use Rattle.json.specs.Token.{Token}
 use Rattle.json.specs.Token as kinds
 use Rattle.json.specs.Lex.{tokens}
@@ -15,8 +12,7 @@ use Rattle.serde_json.specs.Data as values
 use Rattle.serde_json.specs.Data.{Data, put}
 use Rattle.serde_json.specs.Read.{number_of, of_json, of_items, of_members, max_depth, read}
 use Rattle.serde_json.specs.Find.{get_member, get, as_str}
-use Rattle.isad_core.specs.Texts.{Bytes}
-use Rattle.http_messages.specs.Members.{text_at, value_of}
+use Rattle.http_desk.proofs.Common.{AllByRecursion, Bytes, IfSome, IsUtf8-from_is_utf8, text_at, value_of}
 use Rattle.http_desk.proofs.Options.{each_map, known_map, known_then, if_then}
 use Rattle.http_desk.proofs.Strings.{HasText, tokens_have_texts}
 
@@ -47,7 +43,8 @@ AllTexts ts = AllByRecursion HasText ts
 abbrev Reads : {A : Type 0} → (A → Type 0) → Option (A × List Token) → Type 0
 Reads P o = IfSome o (λ r. P r.0 × AllTexts r.1)
 
-mapped : {A B : Type 0} (P : A → Type 0) (Q : B → Type 0) (f : A → B) (o : Option (A × List Token)) → ((a : A) → P a → Q (f a)) → Reads P o → Reads Q (parse_map f o)
+mapped : {A B : Type 0} (P : A → Type 0) (Q : B → Type 0) (f : A → B) (o : Option (A × List Token))
+    → ((a : A) → P a → Q (f a)) → Reads P o → Reads Q (parse_map f o)
 mapped P Q f None h r = tt
 mapped P Q f (Some p) h r = (h p.0 r.0, r.1)
 
@@ -78,7 +75,8 @@ key_read (kinds.null ∷ ts) u = tt
 key_read (kinds.bad ∷ ts) u = tt
 
 module _ (p : Parse json.Json) (h : (ts : List Token) → AllTexts ts → Reads IsLegible (p ts)) where
-  one_item : (more : Parse json.Items) → ((ts : List Token) → AllTexts ts → Reads AreLegible (more ts)) → (ts : List Token) → AllTexts ts
+  one_item : (more : Parse json.Items) → ((ts : List Token) → AllTexts ts → Reads AreLegible (more ts))
+      → (ts : List Token) → AllTexts ts
       → (o : Option (List Token)) → IfSome o AllTexts → Reads AreLegible (items_step p more ts o)
   one_item more k ts u (Some rest) e = (tt, e)
   one_item more k ts u None e =
@@ -90,7 +88,8 @@ module _ (p : Parse json.Json) (h : (ts : List Token) → AllTexts ts → Reads 
   items_read zero ts u = tt
   items_read (suc n) ts u = one_item (items p n) (items_read n) ts u (after_end_array ts) (array_ends ts u)
 
-  one_member : (more : Parse json.Members) → ((ts : List Token) → AllTexts ts → Reads HaveLegible (more ts)) → (o : Option Bytes) (ts : List Token) → AllTexts ts
+  one_member : (more : Parse json.Members) → ((ts : List Token) → AllTexts ts → Reads HaveLegible (more ts))
+      → (o : Option Bytes) (ts : List Token) → AllTexts ts
       → Reads HaveLegible (members_step p more o ts)
   one_member more k None ts u = (tt, u)
   one_member more k (Some key) ts u =
@@ -104,8 +103,10 @@ module _ (p : Parse json.Json) (h : (ts : List Token) → AllTexts ts → Reads 
       known_then (λ r. HaveLegible r.0 × AllTexts r.1) (λ r. AllTexts r.1) _ (read_key ts) (key_read ts u)
       (λ q r. one_member (members p n) (members_read n) q.0 q.1 r)
 
-one_value : (a : Parse json.Items) (o : Parse json.Members) → ((ts : List Token) → AllTexts ts → Reads AreLegible (a ts))
-    → ((ts : List Token) → AllTexts ts → Reads HaveLegible (o ts)) → (ts : List Token) → AllTexts ts → Reads IsLegible (value_with a o ts)
+one_value : (a : Parse json.Items) (o : Parse json.Members)
+    → ((ts : List Token) → AllTexts ts → Reads AreLegible (a ts))
+    → ((ts : List Token) → AllTexts ts → Reads HaveLegible (o ts)) → (ts : List Token) → AllTexts ts
+    → Reads IsLegible (value_with a o ts)
 one_value a o h k [] u = tt
 one_value a o h k (kinds.begin_object ∷ ts) u = mapped HaveLegible IsLegible json.object (o ts) (λ ms l. l) (k ts u.1)
 one_value a o h k (kinds.end_object ∷ ts) u = tt
@@ -149,7 +150,8 @@ ordered P Less a b c h i j = h
 ordered P Equal a b c h i j = i
 ordered P Greater a b c h i j = j
 
-put_in : (k : Bytes) (d : Data) (ms : values.Members) → HasStrings d → MembersHaveStrings ms → MembersHaveStrings (put k d ms)
+put_in : (k : Bytes) (d : Data) (ms : values.Members) → HasStrings d → MembersHaveStrings ms
+    → MembersHaveStrings (put k d ms)
 put_in k d values.no_members h u = (h, tt)
 put_in k d (values.member l e ms) h u =
     ordered MembersHaveStrings (slice_cmp nat_cmp k l) (values.member k d (values.member l e ms)) (values.member l d ms) (values.member l e (put k d ms))
@@ -161,8 +163,10 @@ mutual
   json_made (json.boolean b) u = tt
   json_made (json.number s) u = each_map HasStrings values.number (number_of s) (λ n. tt)
   json_made (json.string s) u = u
-  json_made (json.array js) u = known_map HasStrings ItemsHaveStrings values.array (of_items js) (items_made js u) (λ ds k. k)
-  json_made (json.object ms) u = known_map HasStrings MembersHaveStrings values.object (of_members ms values.no_members) (members_made ms values.no_members u tt) (λ found k. k)
+  json_made (json.array js) u =
+      known_map HasStrings ItemsHaveStrings values.array (of_items js) (items_made js u) (λ ds k. k)
+  json_made (json.object ms) u =
+      known_map HasStrings MembersHaveStrings values.object (of_members ms values.no_members) (members_made ms values.no_members u tt) (λ found k. k)
 
   items_made : (js : json.Items) → AreLegible js → IfSome (of_items js) ItemsHaveStrings
   items_made json.no_items u = tt
@@ -170,7 +174,8 @@ mutual
       known_then ItemsHaveStrings HasStrings _ (of_json j) (json_made j u.0)
       (λ d h. known_map ItemsHaveStrings ItemsHaveStrings (values.item d) (of_items js) (items_made js u.1) (λ ds k. (h, k)))
 
-  members_made : (ms : json.Members) (found : values.Members) → HaveLegible ms → MembersHaveStrings found → IfSome (of_members ms found) MembersHaveStrings
+  members_made : (ms : json.Members) (found : values.Members) → HaveLegible ms → MembersHaveStrings found
+      → IfSome (of_members ms found) MembersHaveStrings
   members_made json.no_members found u h = h
   members_made (json.member k j ms) found u h =
       known_then MembersHaveStrings HasStrings _ (of_json j) (json_made j u.0) (λ d l. members_made ms (put k d found) u.1 (put_in k d found l h))

@@ -1,18 +1,8 @@
 -- The session of the whole input: what follows a closing answer means nothing.
 use Rattle.std.proofs.Common.{◌≡◌, ℕ, suc, List, [], ◌++◌, length, length-append, Option, None, Some, Bool, inl, inr, sym, ap, ◌∙◌, subst, append-nil, arith}
-use Rattle.std.proofs.lemmas.List.{take-append-le}
-use Rattle.isad_core.specs.Texts.{Bytes}
-use Rattle.office_core.specs.State.{State}
-use Rattle.office_core.specs.declared.command.Command.{Command}
-use Rattle.http_desk.specs.declared.session_end.Ended.{Ended}
-use Rattle.http_desk.specs.declared.session_end.Ended.TheVariants.{End, Closed, Cut, ReadFault, WriteFault, Bound}
-use Rattle.http_desk.specs.declared.session_end.Next.TheVariants.{Ends}
+use Rattle.http_desk.specs.declared.session_end.Ended.TheVariants.{Cut, Bound}
 use Rattle.http_messages.specs.HeadScan.{scan}
-use Rattle.http_messages.specs.Heads.{Verdict}
-use Rattle.http_desk.specs.BusyMessages.{IsBusyWith}
-use Rattle.http_desk.specs.Messages.{longest_head, Last, Nothing, HeadCut, BodyCut, NoHead, Refuses, Answers, Fails, Stands, SomeHead, IsTooLong}
-use Rattle.http_desk.specs.Session.{IsClosing}
-use Rattle.http_desk.specs.Exchanges.{AtEndIf, Keeps, Talks, TalksWhole}
+use Rattle.http_desk.proofs.Common.{Answers, AtEndIf, BodyCut, Bytes, Closed, Command, End, Ended, Ends, Fails, HeadCut, IsBusyWith, IsClosing, IsTooLong, Keeps, Last, NoHead, Nothing, ReadFault, Refuses, SomeHead, Stands, State, Talks, TalksWhole, Verdict, WriteFault, longest_head, take-append-le}
 use Rattle.http_desk.proofs.Turns.{head_more, begins_more}
 use Rattle.http_desk.proofs.Sessions.{cuts_longer}
 
@@ -21,9 +11,11 @@ too_long_more input more (long, place, is_open) =
     (omega (arith, length-append input more), place, ap scan (take-append-le longest_head input more long) ∙ is_open)
 
 some_head_more : (input more : Bytes) (test : Verdict → Bool) → SomeHead input test → SomeHead (input ++ more) test
-some_head_more input more test (block, rest, verdict, h, e) = (block, rest ++ more, verdict, head_more input block verdict rest more h, e)
+some_head_more input more test (block, rest, verdict, h, e) =
+    (block, rest ++ more, verdict, head_more input block verdict rest more h, e)
 
-stands_more : (number : ℕ) (input more : Bytes) (last : Last) → IsClosing number last → Stands input last → Stands (input ++ more) last
+stands_more : (number : ℕ) (input more : Bytes) (last : Last) → IsClosing number last → Stands input last
+    → Stands (input ++ more) last
 stands_more number input more Nothing c x = absurd c
 stands_more number input more HeadCut c x = absurd c
 stands_more number input more (BodyCut r) c x = absurd c
@@ -35,12 +27,15 @@ stands_more number input more (Fails leave bare) c x = record {
   to_head = λ e. some_head_more input more _ (x.to_head e);
 }
 
-busy_more : (input more : Bytes) (command : Command) (last : Last) → IsBusyWith input last command → IsBusyWith (input ++ more) last command
-busy_more input more command (Fails leave bare) (message, rest, begins, asks) = (message, rest ++ more, begins_more input message rest more begins, asks)
+busy_more : (input more : Bytes) (command : Command) (last : Last) → IsBusyWith input last command
+    → IsBusyWith (input ++ more) last command
+busy_more input more command (Fails leave bare) (message, rest, begins, asks) =
+    (message, rest ++ more, begins_more input message rest more begins, asks)
 busy_more input more command _ never = absurd never
 
 -- what follows a closing answer means nothing
-pub nothing_follows : (was now : Type 0) (had has : List Command → State → Type 0) (s : State) (input out more : Bytes) (new : State) → Keeps was now had has s input out Closed new → Keeps was now had has s (input ++ more) out Closed new
+pub nothing_follows : (was now : Type 0) (had has : List Command → State → Type 0) (s : State) (input out more : Bytes) (new : State)
+    → Keeps was now had has s input out Closed new → Keeps was now had has s (input ++ more) out Closed new
 nothing_follows was now had has s input out more new (a, kept, found) = (
   record {
     messages = a.messages;
@@ -69,9 +64,11 @@ all_read : (xs ys read : Bytes) → xs ≡ read ++ ys → ys ≡ [] → read ≡
 all_read xs ys read e f = sym (e ∙ ap (λ l. read ++ l) f ∙ append-nil read)
 
 pub talks_whole : {M : Type 0} (represents : M → State → Type 0) (is_intact is_open : M → Type 0) (recovers : M → List Command → State → Type 0) (a b c d : Option Bytes) (old new : M) (end : Ended)
-    → Talks represents is_intact is_open recovers a b c d old end new → AtEndIf b (Ends end) → TalksWhole represents is_intact is_open recovers a c d old end new
+    → Talks represents is_intact is_open recovers a b c d old end new → AtEndIf b (Ends end)
+    → TalksWhole represents is_intact is_open recovers a c d old end new
 talks_whole represents is_intact is_open recovers None b c d old new end t at_end = tt
-talks_whole represents is_intact is_open recovers (Some xs) None c d old new end (read, written, q, p, through) at_end = absurd q
+talks_whole represents is_intact is_open recovers (Some xs) None c d old new end (read, written, q, p, through) at_end =
+    absurd q
 talks_whole represents is_intact is_open recovers (Some xs) (Some ys) c d old new End (read, written, q, p, through) at_end =
     λ h. (written, p, λ i s x. let (t, y, session) = through i s x in (t, y, subst (λ l. Keeps (is_open old) (is_open new) (recovers old) (recovers new) s l written End t) (all_read xs ys read q at_end) session))
 talks_whole represents is_intact is_open recovers (Some xs) (Some ys) c d old new Cut (read, written, q, p, through) at_end =

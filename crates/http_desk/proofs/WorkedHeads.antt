@@ -1,33 +1,28 @@
 -- Heads of worked requests, and sessions of two messages from their pieces.
 use Rattle.std.proofs.Common.{◌≡◌, ◌<◌, ◌≤◌, ℕ, List, [], ◌∷◌, ◌++◌, length, take, refl, sym, ap, ◌∙◌, lit<, inl, true, false, codes, append-nil, Some, None}
-use Rattle.std.specs.List.{All, list_all}
+use Rattle.std.specs.List.{All}
 use Rattle.std.specs.Str.{is_utf8, chars}
-use Rattle.std.proofs.lemmas.Str.{IsUtf8-from_is_utf8}
 use Rattle.std.proofs.Math.Utf8.{encode}
 use Rattle.std.proofs.lemmas.List.Elements.{All-nil, All-cons}
 use Rattle.std.proofs.lemmas.List.Sums.{AllPass-from_list_all}
 use Rattle.httparse.specs.Grammar.{Field, IsField, RequestHead, IsRequestHead, print_request, crlf, is_token_byte, is_uri_byte, is_value_byte, trim_ows, IsToken}
-use Rattle.isad_core.specs.Texts.{Bytes}
-use Rattle.office_core.specs.State.{State}
-use Rattle.http_messages.specs.declared.head_scan.Scan.TheVariants.{Whole}
 use Rattle.http_messages.specs.HeadScan.{scan}
-use Rattle.http_messages.specs.Heads.{Request, Verdict, Accepted, verdict_on}
-use Rattle.http_messages.proofs.Scans.{scan_take_more}
-use Rattle.http_desk.specs.declared.session_end.Ended.TheVariants.{End, Cut}
-use Rattle.http_desk.specs.Messages.{longest_head, IsBlank, HasHead, Message, Begins, Nothing, BodyCut, Stands}
-use Rattle.http_desk.specs.Session.{Session, StaysOpen, message_text, state_after, text_after_all, continue_if}
-use Rattle.http_desk.specs.WorkedSessions.{list_request, register_head, draft_head, page_request}
+use Rattle.http_desk.specs.declared.session_end.Ended.TheVariants.{Cut}
+use Rattle.http_desk.specs.Session.{state_after}
+use Rattle.http_desk.proofs.Common.{Accepted, Begins, BodyCut, Bytes, End, HasHead, IsBlank, IsUtf8-from_is_utf8, Message, Nothing, Request, Session, Stands, State, StaysOpen, Verdict, Whole, continue_if, draft_head, list_all, list_request, longest_head, message_text, page_request, register_head, scan_take_more, text_after_all, verdict_on}
 
 -- ---- heads
 
 token : (bytes : Bytes) → list_all is_token_byte bytes ≡ true → 0 < length bytes → IsToken bytes
 token bytes e h = (h, AllPass-from_list_all is_token_byte bytes e)
 
-is_field : (name raw : Bytes) → list_all is_token_byte name ≡ true → 0 < length name → list_all is_value_byte raw ≡ true → IsField (record { name = name; raw = raw; end = crlf })
+is_field : (name raw : Bytes) → list_all is_token_byte name ≡ true → 0 < length name → list_all is_value_byte raw ≡ true
+    → IsField (record { name = name; raw = raw; end = crlf })
 is_field name raw e h f = record { name = token name e h; raw = AllPass-from_list_all is_value_byte raw f }
 
 abbrev head_of : (method target : Bytes) → List Field → RequestHead
-head_of method target fields = record { blank = []; method = method; target = target; minor = 1; line_end = crlf; fields = fields; last = crlf }
+head_of method target fields =
+    record { blank = []; method = method; target = target; minor = 1; line_end = crlf; fields = fields; last = crlf }
 
 abbrev host : Field
 host = record { name = codes "Host"; raw = codes " x"; end = crlf }
@@ -101,7 +96,8 @@ drafting_is = record {
   fields = two_fields (codes " 27") refl;
 }
 
-has_head : (block more : Bytes) (head : RequestHead) (verdict : Verdict) → scan (take longest_head block) ≡ Whole (length block)
+has_head : (block more : Bytes) (head : RequestHead) (verdict : Verdict)
+    → scan (take longest_head block) ≡ Whole (length block)
     → IsRequestHead head → block ≡ print_request head ++ [] → length head.fields ≤ 64 → verdict ≡ verdict_on head
     → HasHead (block ++ more) block verdict more
 has_head block more head verdict ends is printed few worth = record {
@@ -114,27 +110,33 @@ abbrev pub asks_for : Bytes → Request
 asks_for target = record { method = codes "GET"; target = target; length = None; waits = false; closes = false }
 
 abbrev pub orders_at : Bytes → ℕ → Request
-orders_at target count = record { method = codes "POST"; target = target; length = Some count; waits = false; closes = false }
+orders_at target count =
+    record { method = codes "POST"; target = target; length = Some count; waits = false; closes = false }
 
-pub list_has : (more : Bytes) → HasHead (list_request ++ more) list_request (Accepted (asks_for (codes "/public/fonds"))) more
+pub list_has : (more : Bytes)
+    → HasHead (list_request ++ more) list_request (Accepted (asks_for (codes "/public/fonds"))) more
 unfolding scan print_request trim_ows
 list_has more = has_head list_request more list_head (Accepted (asks_for (codes "/public/fonds"))) refl list_is refl (lit< tt) refl
 
-pub page_has : (more : Bytes) → HasHead (page_request ++ more) page_request (Accepted (asks_for (codes "/public/units/2"))) more
+pub page_has : (more : Bytes)
+    → HasHead (page_request ++ more) page_request (Accepted (asks_for (codes "/public/units/2"))) more
 unfolding scan print_request trim_ows
 page_has more = has_head page_request more page_head (Accepted (asks_for (codes "/public/units/2"))) refl page_is refl (lit< tt) refl
 
-pub register_has : (more : Bytes) → HasHead (register_head ++ more) register_head (Accepted (orders_at (codes "/desk/register") 35)) more
+pub register_has : (more : Bytes)
+    → HasHead (register_head ++ more) register_head (Accepted (orders_at (codes "/desk/register") 35)) more
 unfolding scan print_request trim_ows
 register_has more = has_head register_head more registering (Accepted (orders_at (codes "/desk/register") 35)) refl registering_is refl (lit< tt) refl
 
-pub draft_has : (more : Bytes) → HasHead (draft_head ++ more) draft_head (Accepted (orders_at (codes "/desk/status") 27)) more
+pub draft_has : (more : Bytes)
+    → HasHead (draft_head ++ more) draft_head (Accepted (orders_at (codes "/desk/status") 27)) more
 unfolding scan print_request trim_ows
 draft_has more = has_head draft_head more drafting (Accepted (orders_at (codes "/desk/status") 27)) refl drafting_is refl (lit< tt) refl
 
 -- ---- sessions
 
-pub two_texts : (s t : State) (m n : Message) (a b : Bytes) → message_text false s m ≡ a → state_after s m ≡ t → message_text false t n ≡ b
+pub two_texts : (s t : State) (m n : Message) (a b : Bytes) → message_text false s m ≡ a → state_after s m ≡ t
+    → message_text false t n ≡ b
     → a ++ b ≡ text_after_all s (m ∷ n ∷ []) ++ []
 two_texts s t m n a b e kept f =
     let later : message_text false (state_after s m) n ≡ b = ap (λ x. message_text false x n) kept ∙ f in
@@ -145,7 +147,8 @@ unfolding scan
 nothing_is_blank = (lit< tt, refl)
 
 -- two messages are answered, and the input ends
-abbrev pub two_answered : (s t u : State) (input more : Bytes) (m n : Message) (a b : Bytes) → Begins input m more → Begins more n [] → StaysOpen m → StaysOpen n
+abbrev pub two_answered : (s t u : State) (input more : Bytes) (m n : Message) (a b : Bytes) → Begins input m more
+    → Begins more n [] → StaysOpen m → StaysOpen n
     → message_text false s m ≡ a → state_after s m ≡ t → message_text false t n ≡ b → state_after t n ≡ u
     → Session s input (a ++ b) End u
 two_answered s t u input more m n a b first second stays stays2 e kept f left = record {
@@ -160,7 +163,8 @@ two_answered s t u input more m n a b first second stays stays2 e kept f left = 
 }
 
 -- one message is answered, and the input ends inside the body of the next
-abbrev pub one_answered : (s t : State) (input more : Bytes) (m : Message) (next : Request) (a : Bytes) → Begins input m more → StaysOpen m
+abbrev pub one_answered : (s t : State) (input more : Bytes) (m : Message) (next : Request) (a : Bytes)
+    → Begins input m more → StaysOpen m
     → message_text false s m ≡ a → state_after s m ≡ t → Stands more (BodyCut next) → continue_if next.waits ≡ []
     → Session s input a Cut t
 one_answered s t input more m next a first stays e kept stands none = record {

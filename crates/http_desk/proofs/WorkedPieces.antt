@@ -12,11 +12,8 @@ use Rattle.atom_csv.specs.Columns.{columns}
 use Rattle.atom_csv.specs.Values.{text_elements}
 use Rattle.catalogue_core.specs.ContainerContents.{is_open}
 use Rattle.catalogue_core.specs.Intake.{take}
-use Rattle.office_core.specs.State.{State}
-use Rattle.http_desk.specs.Messages.{Message}
-use Rattle.http_desk.specs.Session.{message_text, state_after}
-use Rattle.http_desk.specs.WorkedExamples.{filled_office, with_draft, fonds_list, not_found}
-use Rattle.http_desk.specs.WorkedSessions.{one_unit}
+use Rattle.http_desk.specs.Session.{state_after}
+use Rattle.http_desk.proofs.Common.{Message, State, filled_office, fonds_list, message_text, not_found, one_unit, with_draft}
 use Rattle.http_desk.proofs.WorkedHeads.{asks_for, orders_at}
 
 abbrev pub list_message : Message

@@ -1,11 +1,11 @@
 -- Lemmas on bodies.
 use Rattle.std.proofs.Common.{◌≡◌, Bool, true, false, Some, None, refl, sym}
-use Rattle.std.specs.Str.{IsUtf8, is_utf8}
+use Rattle.std.specs.Str.{is_utf8}
 use Rattle.std.proofs.lemmas.Str.{IsUtf8-from_is_utf8, is_utf8-from_IsUtf8}
 use Rattle.serde_json.specs.Data.{Data}
 use Rattle.serde_json.specs.Read.{read}
-use Rattle.isad_core.specs.Texts.{Bytes}
 use Rattle.http_messages.specs.Members.{value_of}
+use Rattle.http_messages.proofs.Common.{Bytes, IsUtf8}
 
 pub some_value : (body : Bytes) (d : Data) → IsUtf8 body → read body ≡ Some d → Some d ≡ value_of body
 some_value body d u e = let t = is_utf8-from_IsUtf8 body u in rw t (sym e)

@@ -1,3 +1,4 @@
+pub mod Common
 pub mod Scans
 pub mod Folds
 pub mod Numbers

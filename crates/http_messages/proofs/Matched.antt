@@ -1,11 +1,10 @@
 -- Which of a router's rows a path finds, where a parameter stands at the end of a row alone and no two rows take one
 -- path.
 use Rattle.std.proofs.Common.{◌≡◌, ◌<◌, ◌≤◌, ◌-◌, ◌==◌, ℕ, zero, suc, List, [], ◌∷◌, length, drop, get_or, Option, Some, None, Bool, true, false, cond, refl, ap, ◌∙◌, subst, arith, drop_of_length-le}
-use Rattle.std.specs.Prelude.{◌&&◌, ◌||◌, not, ltb}
-use Rattle.std.proofs.lemmas.Bool.Decides.{nat_tests}
 use Rattle.matchit.specs.Rows.{RowsOf, comes_before}
 use Rattle.matchit.specs.Order.{placed}
 use Rattle.matchit.specs.Seek.{own, step, or_else, seek, first, param_step, has_slash, segment, longest_from}
+use Rattle.http_messages.proofs.Common.{ltb, nat_tests, not, ◌&&◌, ◌||◌}
 use Rattle.http_messages.proofs.Bodies.{never_true}
 
 -- ---- the words
@@ -87,7 +86,8 @@ or_else_grouped (Some k) b c = refl
 step_shaped : {K : Type 0} (b : ℕ) (rs : RowsOf K) → b < 256 → all_shaped rs ≡ true → all_shaped (step b rs) ≡ true
 step_shaped b [] h s = refl
 step_shaped b (([], key) ∷ rs) h s = step_shaped b rs h s
-step_shaped {K} b ((x ∷ t, key) ∷ rs) h s = by (step_shaped b rs h (both_right (is_shaped (x ∷ t)) (all_shaped rs) s)) (x == b) refl
+step_shaped {K} b ((x ∷ t, key) ∷ rs) h s =
+    by (step_shaped b rs h (both_right (is_shaped (x ∷ t)) (all_shaped rs) s)) (x == b) refl
   where
     by : all_shaped (step b rs) ≡ true → (v : Bool) → (x == b) ≡ v → all_shaped (step b ((x ∷ t, key) ∷ rs)) ≡ true
     by more false e = rw e more
@@ -101,9 +101,11 @@ step_apart_from : {K : Type 0} (b : ℕ) (t : List ℕ) (rs : RowsOf K) → b < 
     → all_apart_from t (step b rs) ≡ true
 step_apart_from b t [] h s = refl
 step_apart_from b t (([], key) ∷ rs) h s = step_apart_from b t rs h s
-step_apart_from {K} b t ((y ∷ u, key) ∷ rs) h s = by (step_apart_from b t rs h (both_right (are_apart (b ∷ t) (y ∷ u)) (all_apart_from (b ∷ t) rs) s)) (y == b) refl
+step_apart_from {K} b t ((y ∷ u, key) ∷ rs) h s =
+    by (step_apart_from b t rs h (both_right (are_apart (b ∷ t) (y ∷ u)) (all_apart_from (b ∷ t) rs) s)) (y == b) refl
   where
-    by : all_apart_from t (step b rs) ≡ true → (v : Bool) → (y == b) ≡ v → all_apart_from t (step b ((y ∷ u, key) ∷ rs)) ≡ true
+    by : all_apart_from t (step b rs) ≡ true → (v : Bool) → (y == b) ≡ v
+        → all_apart_from t (step b ((y ∷ u, key) ∷ rs)) ≡ true
     by more false e = rw e more
     by more true e =
         let n : (b == 256) ≡ false = grind (arith, nat_tests) in
@@ -116,7 +118,8 @@ step_apart_from {K} b t ((y ∷ u, key) ∷ rs) h s = by (step_apart_from b t rs
 step_apart : {K : Type 0} (b : ℕ) (rs : RowsOf K) → b < 256 → all_apart rs ≡ true → all_apart (step b rs) ≡ true
 step_apart b [] h s = refl
 step_apart b (([], key) ∷ rs) h s = step_apart b rs h (both_right (all_apart_from [] rs) (all_apart rs) s)
-step_apart {K} b ((x ∷ t, key) ∷ rs) h s = by (step_apart b rs h (both_right (all_apart_from (x ∷ t) rs) (all_apart rs) s)) (x == b) refl
+step_apart {K} b ((x ∷ t, key) ∷ rs) h s =
+    by (step_apart b rs h (both_right (all_apart_from (x ∷ t) rs) (all_apart rs) s)) (x == b) refl
   where
     by : all_apart (step b rs) ≡ true → (v : Bool) → (x == b) ≡ v → all_apart (step b ((x ∷ t, key) ∷ rs)) ≡ true
     by more false e = rw e more
@@ -131,7 +134,8 @@ alone : {K : Type 0} (b x : ℕ) (t : List ℕ) (rs : RowsOf K) → (x == 256) �
     → step b rs ≡ []
 alone b x t [] e s = refl
 alone b x t (([], key) ∷ rs) e s = alone b x t rs e s
-alone b x t ((y ∷ u, key) ∷ rs) e s = absurd (never_true (rw e at (both_left (are_apart (x ∷ t) (y ∷ u)) (all_apart_from (x ∷ t) rs) s)))
+alone b x t ((y ∷ u, key) ∷ rs) e s =
+    absurd (never_true (rw e at (both_left (are_apart (x ∷ t) (y ∷ u)) (all_apart_from (x ∷ t) rs) s)))
 
 no_catch : {K : Type 0} (rs : RowsOf K) → all_shaped rs ≡ true → step 257 rs ≡ []
 no_catch [] s = refl
@@ -172,12 +176,15 @@ seek_on (suc k) rs [] = refl
 seek_on (suc k) rs (b ∷ p) = seek_on k rs p
 
 -- nothing follows a parameter
-longest_nothing : {K : Type 0} (seg : List ℕ) (rs : RowsOf K) → all_shaped rs ≡ true → longest_from seg [] (step 256 rs) ≡ []
+longest_nothing : {K : Type 0} (seg : List ℕ) (rs : RowsOf K) → all_shaped rs ≡ true
+    → longest_from seg [] (step 256 rs) ≡ []
 longest_nothing seg [] s = refl
 longest_nothing seg (([], key) ∷ rs) s = longest_nothing seg rs s
-longest_nothing {K} seg ((x ∷ t, key) ∷ rs) s = by (longest_nothing seg rs (both_right (is_shaped (x ∷ t)) (all_shaped rs) s)) (x == 256) refl
+longest_nothing {K} seg ((x ∷ t, key) ∷ rs) s =
+    by (longest_nothing seg rs (both_right (is_shaped (x ∷ t)) (all_shaped rs) s)) (x == 256) refl
   where
-    by : longest_from seg [] (step 256 rs) ≡ [] → (v : Bool) → (x == 256) ≡ v → longest_from seg [] (step 256 ((x ∷ t, key) ∷ rs)) ≡ []
+    by : longest_from seg [] (step 256 rs) ≡ [] → (v : Bool) → (x == 256) ≡ v
+        → longest_from seg [] (step 256 ((x ∷ t, key) ∷ rs)) ≡ []
     by more false e = rw e more
     by more true e =
         let one = both_left (is_shaped (x ∷ t)) (all_shaped rs) s in
@@ -220,21 +227,24 @@ step_picked {K} b p ((x ∷ t, key) ∷ rs) h s a =
     one : is_shaped (x ∷ t) ≡ true
     one = both_left (is_shaped (x ∷ t)) (all_shaped rs) s
 
-    by_byte : or_else (picked (step b rs) p) (cond (has_slash (b ∷ p)) None (own (step 256 rs))) ≡ picked rs (b ∷ p) → (v : Bool) → (x == b) ≡ v → (x == 256) ≡ false
+    by_byte : or_else (picked (step b rs) p) (cond (has_slash (b ∷ p)) None (own (step 256 rs))) ≡ picked rs (b ∷ p)
+        → (v : Bool) → (x == b) ≡ v → (x == 256) ≡ false
         → or_else (picked (step b ((x ∷ t, key) ∷ rs)) p) (cond (has_slash (b ∷ p)) None (own (step 256 ((x ∷ t, key) ∷ rs)))) ≡ picked ((x ∷ t, key) ∷ rs) (b ∷ p)
     by_byte more false e n = rw (e, n) more
     by_byte more true e n =
         rw (e, n) (or_else_grouped (cond (hits t p) (Some key) None) (picked (step b rs) p) (cond (has_slash (b ∷ p)) None (own (step 256 rs)))
         ∙ ap (or_else (cond (hits t p) (Some key) None)) more)
 
-    by_slash : or_else (picked (step b rs) p) (cond (has_slash (b ∷ p)) None (own (step 256 rs))) ≡ picked rs (b ∷ p) → (v : Bool) → has_slash (b ∷ p) ≡ v → (x == 256) ≡ true → (x == b) ≡ false → t ≡ []
+    by_slash : or_else (picked (step b rs) p) (cond (has_slash (b ∷ p)) None (own (step 256 rs))) ≡ picked rs (b ∷ p)
+        → (v : Bool) → has_slash (b ∷ p) ≡ v → (x == 256) ≡ true → (x == b) ≡ false → t ≡ []
         → or_else (picked (step b ((x ∷ t, key) ∷ rs)) p) (cond (has_slash (b ∷ p)) None (own (step 256 ((x ∷ t, key) ∷ rs)))) ≡ picked ((x ∷ t, key) ∷ rs) (b ∷ p)
     by_slash more true e n m none = rw (n, m, e) (rw e at more)
     by_slash more false e n m none =
         let nothing = alone b x t rs n (both_left (all_apart_from (x ∷ t) rs) (all_apart rs) a) in
         rw (n, m, e, none, nothing) refl
 
-    by_param : or_else (picked (step b rs) p) (cond (has_slash (b ∷ p)) None (own (step 256 rs))) ≡ picked rs (b ∷ p) → (v : Bool) → (x == 256) ≡ v
+    by_param : or_else (picked (step b rs) p) (cond (has_slash (b ∷ p)) None (own (step 256 rs))) ≡ picked rs (b ∷ p)
+        → (v : Bool) → (x == 256) ≡ v
         → or_else (picked (step b ((x ∷ t, key) ∷ rs)) p) (cond (has_slash (b ∷ p)) None (own (step 256 ((x ∷ t, key) ∷ rs)))) ≡ picked ((x ∷ t, key) ∷ rs) (b ∷ p)
     by_param more false n = by_byte more (x == b) refl n
     by_param more true n =
@@ -245,7 +255,8 @@ tail_bytes : (b : ℕ) (p : List ℕ) → AllBytes (b ∷ p) → AllBytes p
 tail_bytes b p h = λ k. h (suc k)
 
 -- a router finds the row that takes the path
-pub first_picked : {K : Type 0} (rs : RowsOf K) (p : List ℕ) → AllBytes p → all_shaped rs ≡ true → all_apart rs ≡ true → first rs p ≡ picked rs p
+pub first_picked : {K : Type 0} (rs : RowsOf K) (p : List ℕ) → AllBytes p → all_shaped rs ≡ true → all_apart rs ≡ true
+    → first rs p ≡ picked rs p
 unfolding seek
 first_picked rs [] h s a = own_picked rs
 first_picked {K} rs (b ∷ p) h s a =
@@ -264,7 +275,8 @@ excluded (x ∷ t) [] (b ∷ p) a h = refl
 excluded (x ∷ t) (y ∷ u) [] a h = absurd (never_true h)
 excluded (x ∷ t) (y ∷ u) (b ∷ p) a h = by_first (λ d g. excluded t u p d g) (x == 256) refl
   where
-    by_both : (are_apart t u ≡ true → hits t p ≡ true → hits u p ≡ false) → (v : Bool) → (y == b) ≡ v → (x == 256) ≡ false → (y == 256) ≡ false → hits (y ∷ u) (b ∷ p) ≡ false
+    by_both : (are_apart t u ≡ true → hits t p ≡ true → hits u p ≡ false) → (v : Bool) → (y == b) ≡ v
+        → (x == 256) ≡ false → (y == 256) ≡ false → hits (y ∷ u) (b ∷ p) ≡ false
     by_both deep false e n m = rw (m, e) refl
     by_both deep true e n m =
         let there : (x == b && hits t p) ≡ true = rw n at h in
@@ -273,15 +285,18 @@ excluded (x ∷ t) (y ∷ u) (b ∷ p) a h = by_first (λ d g. excluded t u p d 
         let deeper : are_apart t u ≡ true = rw (n, m, j) at a in
         rw (m, e) (deep deeper (both_right (x == b) (hits t p) there))
 
-    by_second : (are_apart t u ≡ true → hits t p ≡ true → hits u p ≡ false) → (v : Bool) → (y == 256) ≡ v → (x == 256) ≡ false → hits (y ∷ u) (b ∷ p) ≡ false
+    by_second : (are_apart t u ≡ true → hits t p ≡ true → hits u p ≡ false) → (v : Bool) → (y == 256) ≡ v
+        → (x == 256) ≡ false → hits (y ∷ u) (b ∷ p) ≡ false
     by_second deep true m n = absurd (never_true (rw (n, m) at a))
     by_second deep false m n = by_both deep (y == b) refl n m
 
-    by_first : (are_apart t u ≡ true → hits t p ≡ true → hits u p ≡ false) → (v : Bool) → (x == 256) ≡ v → hits (y ∷ u) (b ∷ p) ≡ false
+    by_first : (are_apart t u ≡ true → hits t p ≡ true → hits u p ≡ false) → (v : Bool) → (x == 256) ≡ v
+        → hits (y ∷ u) (b ∷ p) ≡ false
     by_first deep true n = absurd (never_true (rw n at a))
     by_first deep false n = by_second deep (y == 256) refl n
 
-pub none_picked : {K : Type 0} (t : List ℕ) (rs : RowsOf K) (p : List ℕ) → all_apart_from t rs ≡ true → hits t p ≡ true → picked rs p ≡ None
+pub none_picked : {K : Type 0} (t : List ℕ) (rs : RowsOf K) (p : List ℕ) → all_apart_from t rs ≡ true → hits t p ≡ true
+    → picked rs p ≡ None
 none_picked t [] p a h = refl
 none_picked t ((u, key) ∷ rs) p a h =
     let not_this = excluded t u p (both_left (are_apart t u) (all_apart_from t rs) a) h in
@@ -290,13 +305,16 @@ none_picked t ((u, key) ∷ rs) p a h =
 apart_placed : {K : Type 0} (t u : List ℕ) (key : K) (rs : RowsOf K) → are_apart t u ≡ true → all_apart_from t rs ≡ true
     → all_apart_from t (placed (u, key) rs) ≡ true
 apart_placed t u key [] one a = rw one refl
-apart_placed t u key ((v, other) ∷ rs) one a = by (apart_placed t u key rs one (both_right (are_apart t v) (all_apart_from t rs) a)) (comes_before u v) refl
+apart_placed t u key ((v, other) ∷ rs) one a =
+    by (apart_placed t u key rs one (both_right (are_apart t v) (all_apart_from t rs) a)) (comes_before u v) refl
   where
-    by : all_apart_from t (placed (u, key) rs) ≡ true → (b : Bool) → comes_before u v ≡ b → all_apart_from t (placed (u, key) ((v, other) ∷ rs)) ≡ true
+    by : all_apart_from t (placed (u, key) rs) ≡ true → (b : Bool) → comes_before u v ≡ b
+        → all_apart_from t (placed (u, key) ((v, other) ∷ rs)) ≡ true
     by more true e = rw (e, one) a
     by more false e = let this = both_left (are_apart t v) (all_apart_from t rs) a in rw (e, this) more
 
-apart_settled : {K : Type 0} (t : List ℕ) (rs : RowsOf K) → all_apart_from t rs ≡ true → all_apart_from t (settled rs) ≡ true
+apart_settled : {K : Type 0} (t : List ℕ) (rs : RowsOf K) → all_apart_from t rs ≡ true
+    → all_apart_from t (settled rs) ≡ true
 apart_settled t [] a = refl
 apart_settled t ((u, key) ∷ rs) a =
     apart_placed t u key (settled rs) (both_left (are_apart t u) (all_apart_from t rs) a) (apart_settled t rs (both_right (are_apart t u) (all_apart_from t rs) a))
@@ -304,7 +322,8 @@ apart_settled t ((u, key) ∷ rs) a =
 picked_placed : {K : Type 0} (t : List ℕ) (key : K) (rs : RowsOf K) (p : List ℕ) → all_apart_from t rs ≡ true
     → picked (placed (t, key) rs) p ≡ or_else (cond (hits t p) (Some key) None) (picked rs p)
 picked_placed t key [] p a = refl
-picked_placed {K} t key ((u, other) ∷ rs) p a = by_place (picked_placed t key rs p (both_right (are_apart t u) (all_apart_from t rs) a)) (comes_before t u) refl
+picked_placed {K} t key ((u, other) ∷ rs) p a =
+    by_place (picked_placed t key rs p (both_right (are_apart t u) (all_apart_from t rs) a)) (comes_before t u) refl
   where
     by_hit : (b : Bool) → hits t p ≡ b
         → or_else (cond (hits u p) (Some other) None) (or_else (cond (hits t p) (Some key) None) (picked rs p))
@@ -312,13 +331,15 @@ picked_placed {K} t key ((u, other) ∷ rs) p a = by_place (picked_placed t key 
     by_hit false h = rw h refl
     by_hit true h = let none = excluded t u p (both_left (are_apart t u) (all_apart_from t rs) a) h in rw (h, none) refl
 
-    by_place : picked (placed (t, key) rs) p ≡ or_else (cond (hits t p) (Some key) None) (picked rs p) → (b : Bool) → comes_before t u ≡ b
+    by_place : picked (placed (t, key) rs) p ≡ or_else (cond (hits t p) (Some key) None) (picked rs p) → (b : Bool)
+        → comes_before t u ≡ b
         → picked (placed (t, key) ((u, other) ∷ rs)) p ≡ or_else (cond (hits t p) (Some key) None) (picked ((u, other) ∷ rs) p)
     by_place more true e = rw e refl
     by_place more false e = rw e (ap (or_else (cond (hits u p) (Some other) None)) more ∙ by_hit (hits t p) refl)
 
 -- a router's order does not matter
-pub picked_settled : {K : Type 0} (rs : RowsOf K) (p : List ℕ) → all_apart rs ≡ true → picked (settled rs) p ≡ picked rs p
+pub picked_settled : {K : Type 0} (rs : RowsOf K) (p : List ℕ) → all_apart rs ≡ true
+    → picked (settled rs) p ≡ picked rs p
 picked_settled [] p a = refl
 picked_settled ((t, key) ∷ rs) p a =
     picked_placed t key (settled rs) p (apart_settled t rs (both_left (all_apart_from t rs) (all_apart rs) a))

@@ -1,8 +1,7 @@
 -- Lemmas on lists that commas part.
 use Rattle.std.proofs.Common.{◌≡◌, ℕ, List, [], ◌∷◌, ◌++◌, refl, sym, true, false, cond}
 use Rattle.std.specs.Prelude.{◌==◌}
-use Rattle.isad_core.specs.Texts.{Bytes}
-use Rattle.http_messages.specs.Heads.{list_items, onto_first}
+use Rattle.http_messages.proofs.Common.{Bytes, list_items, onto_first}
 
 -- the bytes go in front of the first item
 abbrev pub prepend : Bytes → List Bytes → List Bytes

@@ -1,20 +1,17 @@
 -- What a path leads to in the router of the table, and by the definitions.
 use Rattle.std.proofs.Common.{◌≡◌, ◌<◌, ◌≤◌, ◌+◌, ◌-◌, ◌==◌, ℕ, zero, suc, List, [], ◌∷◌, length, map, drop, get_or, Option, Some, None, Bool, true, false, cond, refl, sym, ap, ◌∙◌, subst, arith, lit<}
-use Rattle.std.specs.Prelude.{◌&&◌, ltb, leb}
-use Rattle.std.specs.List.{list_all, list_any}
-use Rattle.std.specs.Str.{IsUtf8, is_utf8, IsAscii}
+use Rattle.std.specs.Str.{is_utf8}
 use Rattle.std.proofs.lemmas.Str.{IsUtf8-from_ascii, IsUtf8-from_is_utf8, is_utf8-from_IsUtf8, IsUtf8-drop, IsCharBoundary-after_ascii}
 use Rattle.std.proofs.lemmas.List.{take_rest}
-use Rattle.std.proofs.lemmas.Bool.Decides.{nat_tests}
 use Rattle.matchit.specs.Rows.{RowsOf, param_token}
 use Rattle.matchit.specs.Seek.{first, has_slash}
 use Rattle.matchit.specs.Params.{walk, wild_from, wild_stop, part_of, AllText}
 use Rattle.matchit.specs.Router.{RouteOf}
 use Rattle.matchit.proofs.OnLiterals.{matchit_on_literals}
-use Rattle.isad_core.specs.Texts.{Bytes}
 use Rattle.http_messages.specs.declared.table.Leads.{Leads}
-use Rattle.http_messages.specs.Routes.{Route, table, first_route, route_of, or_else, parameter_in, leads_to}
+use Rattle.http_messages.specs.Routes.{or_else}
 use Rattle.http_messages.specs.Router.{rows_of_table, first_part}
+use Rattle.http_messages.proofs.Common.{Bytes, IsAscii, IsUtf8, Route, first_route, leads_to, leb, list_all, list_any, ltb, nat_tests, parameter_in, route_of, table, ◌&&◌}
 use Rattle.http_messages.proofs.Bodies.{never_true}
 use Rattle.http_messages.proofs.Matched.{hits, picked, settled, all_shaped, all_apart, all_apart_from, AllBytes, first_picked, picked_settled, none_picked, both_left, both_right}
 
@@ -83,7 +80,8 @@ same_slash : (bytes : Bytes) → list_any (λ b. b == 47) bytes ≡ has_slash by
 same_slash [] = refl
 same_slash (b ∷ bytes) = by (same_slash bytes) (b == 47) refl
   where
-    by : list_any (λ c. c == 47) bytes ≡ has_slash bytes → (v : Bool) → (b == 47) ≡ v → list_any (λ c. c == 47) (b ∷ bytes) ≡ has_slash (b ∷ bytes)
+    by : list_any (λ c. c == 47) bytes ≡ has_slash bytes → (v : Bool) → (b == 47) ≡ v
+        → list_any (λ c. c == 47) (b ∷ bytes) ≡ has_slash (b ∷ bytes)
     by more true e = rw e refl
     by more false e = rw e more
 
@@ -94,7 +92,8 @@ missed [] (b ∷ p) l h = refl
 missed (a ∷ t) [] l h = refl
 missed (a ∷ t) (b ∷ p) l h = by (λ g. missed t p (bytes_below a t l) g) (a == 123) refl
   where
-    by_byte : (hits (tokens t) p ≡ false → parameter_in t p ≡ None) → (v : Bool) → (a == b) ≡ v → (a == 123) ≡ false → parameter_in (a ∷ t) (b ∷ p) ≡ None
+    by_byte : (hits (tokens t) p ≡ false → parameter_in t p ≡ None) → (v : Bool) → (a == b) ≡ v → (a == 123) ≡ false
+        → parameter_in (a ∷ t) (b ∷ p) ≡ None
     by_byte deep false e f = rw (f, e) refl
     by_byte deep true e f =
         let n = no_token a (byte_below a t l) in
@@ -104,7 +103,8 @@ missed (a ∷ t) (b ∷ p) l h = by (λ g. missed t p (bytes_below a t l) g) (a 
     by_slash false e f = absurd (never_true (sym (rw (f, e) at h)))
     by_slash true e f = let any : list_any (λ c. c == 47) (b ∷ p) ≡ true = same_slash (b ∷ p) ∙ e in rw (f, any) refl
 
-    by : (hits (tokens t) p ≡ false → parameter_in t p ≡ None) → (v : Bool) → (a == 123) ≡ v → parameter_in (a ∷ t) (b ∷ p) ≡ None
+    by : (hits (tokens t) p ≡ false → parameter_in t p ≡ None) → (v : Bool) → (a == 123) ≡ v
+        → parameter_in (a ∷ t) (b ∷ p) ≡ None
     by deep true f = by_slash (has_slash (b ∷ p)) refl f
     by deep false f = by_byte deep (a == b) refl f
 
@@ -156,7 +156,8 @@ taken (a ∷ t) (b ∷ p) l h = by (λ g. taken t p (bytes_below a t l) g) (a ==
 pairs : (a b c d : ℕ) → a ≡ c → b ≡ d → ◌≡◌ {A = ℕ × ℕ} (a, b) (c, d)
 pairs a b c d e f = λ i. (e i, f i)
 
-begins : (t p : Bytes) (len k at : ℕ) → len ≡ at + length p → is_ascii t ≡ true → has_parameter t ≡ true → hits (tokens t) p ≡ true
+begins : (t p : Bytes) (len k at : ℕ) → len ≡ at + length p → is_ascii t ≡ true → has_parameter t ≡ true
+    → hits (tokens t) p ≡ true
     → wild_from (tokens t) len k at ≡ (k + front t, at + front t)
 begins [] p len k at n l q h = absurd (never_true q)
 begins (a ∷ t) [] len k at n l q h = by (a == 123) refl
@@ -164,7 +165,8 @@ begins (a ∷ t) [] len k at n l q h = by (a == 123) refl
     by : (v : Bool) → (a == 123) ≡ v → wild_from (tokens (a ∷ t)) len k at ≡ (k + front (a ∷ t), at + front (a ∷ t))
     by true f = absurd (never_true (rw f at h))
     by false f = absurd (never_true (rw f at h))
-begins (a ∷ t) (b ∷ p) len k at n l q h = by (λ m. begins t p len (k + 1) (at + 1) m (bytes_below a t l)) (a == 123) refl
+begins (a ∷ t) (b ∷ p) len k at n l q h =
+    by (λ m. begins t p len (k + 1) (at + 1) m (bytes_below a t l)) (a == 123) refl
   where
     by : (len ≡ at + 1 + length p → has_parameter t ≡ true → hits (tokens t) p ≡ true → wild_from (tokens t) len (k + 1) (at + 1) ≡ (k + 1 + front t, at + 1 + front t))
         → (v : Bool) → (a == 123) ≡ v → wild_from (tokens (a ∷ t)) len k at ≡ (k + front (a ∷ t), at + front (a ∷ t))
@@ -182,7 +184,8 @@ tokens_end : (t : Bytes) → has_parameter t ≡ true → length (tokens t) ≡ 
 tokens_end [] q = absurd (never_true q)
 tokens_end (a ∷ t) q = by (λ g. tokens_end t g) (a == 123) refl
   where
-    by : (has_parameter t ≡ true → length (tokens t) ≡ front t + 1) → (v : Bool) → (a == 123) ≡ v → length (tokens (a ∷ t)) ≡ front (a ∷ t) + 1
+    by : (has_parameter t ≡ true → length (tokens t) ≡ front t + 1) → (v : Bool) → (a == 123) ≡ v
+        → length (tokens (a ∷ t)) ≡ front (a ∷ t) + 1
     by deep true f = rw f refl
     by deep false f = let more = deep (rw f at q) in rw f (omega (arith, more))
 
@@ -213,7 +216,8 @@ ascii_all (b ∷ bytes) h (suc i) = ascii_all bytes (bytes_below b bytes h) i
 abbrev Says : RouteOf Leads → Bytes → Bytes → Type 0
 Says r p part = AllText (walk r.pattern r.text p r.names 0 0) × (first_part (walk r.pattern r.text p r.names 0 0) ≡ part)
 
-says : (t : Bytes) (to : Leads) (p : Bytes) → is_plain (t, to) ≡ true → IsUtf8 p → hits (tokens t) p ≡ true → Says (row (t, to)).1 p (drop (front t) p)
+says : (t : Bytes) (to : Leads) (p : Bytes) → is_plain (t, to) ≡ true → IsUtf8 p → hits (tokens t) p ≡ true
+    → Says (row (t, to)).1 p (drop (front t) p)
 says t to p l u h = by (has_parameter t) refl
   where
     ascii : is_ascii t ≡ true
@@ -228,7 +232,9 @@ says t to p l u h = by (has_parameter t) refl
     by : (v : Bool) → has_parameter t ≡ v → Says (row (t, to)).1 p (drop (front t) p)
     by false q = rw q (tt, sym (it.whole q))
     by true q =
-        let place : wild_from (tokens t) (length p) 0 0 ≡ (front t, front t) = begins t p (length p) 0 0 (omega arith) ascii q h ∙ pairs (0 + front t) (0 + front t) (front t) (front t) (omega arith) (omega arith) in
+        let place : wild_from (tokens t) (length p) 0 0 ≡ (front t, front t) =
+        begins t p (length p) 0 0 (omega arith) ascii q h
+        ∙ pairs (0 + front t) (0 + front t) (front t) (front t) (omega arith) (omega arith) in
         let stop = ends t p q in
         let part = part_taken t p it.within in
         rw (q, place, stop, part) ((name, it.text u, tt), refl)
@@ -244,10 +250,12 @@ or_nothing : (a : Option Route) → or_else a None ≡ a
 or_nothing None = refl
 or_nothing (Some route) = refl
 
-finds : (lines : List (Bytes × Leads)) (p : Bytes) → IsUtf8 p → list_all is_plain lines ≡ true → all_apart (map row lines) ≡ true
+finds : (lines : List (Bytes × Leads)) (p : Bytes) → IsUtf8 p → list_all is_plain lines ≡ true
+    → all_apart (map row lines) ≡ true
     → Finds p (picked (map row lines) p) (first_route lines p)
 finds [] p u l a = refl
-finds ((t, to) ∷ others) p u l a = by (finds others p u (both_right (is_plain (t, to)) (list_all is_plain others) l) (both_right apart (all_apart (map row others)) a)) (hits (tokens t) p) refl
+finds ((t, to) ∷ others) p u l a =
+    by (finds others p u (both_right (is_plain (t, to)) (list_all is_plain others) l) (both_right apart (all_apart (map row others)) a)) (hits (tokens t) p) refl
   where
     apart : Bool
     apart = all_apart_from (tokens t) (map row others)
@@ -262,7 +270,8 @@ finds ((t, to) ∷ others) p u l a = by (finds others p u (both_right (is_plain 
         → Finds p (picked (map row ((t, to) ∷ others)) p) (first_route ((t, to) ∷ others) p)
     by more false h = let none = missed t p ascii h in rw (h, none) more
     by more true h =
-        let rest : picked (map row others) p ≡ None = none_picked (tokens t) (map row others) p (both_left apart (all_apart (map row others)) a) h in
+        let rest : picked (map row others) p ≡ None =
+        none_picked (tokens t) (map row others) p (both_left apart (all_apart (map row others)) a) h in
         let none : None ≡ first_route others p = rw rest at more in
         let parameter = (taken t p ascii h).parameter in
         let said = says t to p plain u h in
@@ -275,13 +284,15 @@ table_finds p h u =
     let text = is_utf8-from_IsUtf8 p u in
     rw (same, text) (finds table p u table_plain rows_apart)
 
-pub leads_on : (held : RowsOf (RouteOf Leads)) (p q : Bytes) (r : RouteOf Leads) → AllBytes p → IsUtf8 p → held ≡ rows_of_table → first held p ≡ Some r → q ≡ p
+pub leads_on : (held : RowsOf (RouteOf Leads)) (p q : Bytes) (r : RouteOf Leads) → AllBytes p → IsUtf8 p
+    → held ≡ rows_of_table → first held p ≡ Some r → q ≡ p
     → AllText (walk r.pattern r.text q r.names 0 0) × (leads_to r.value (first_part (walk r.pattern r.text q r.names 0 0)) ≡ route_of p)
 leads_on held p q r h u t e f =
     subst (λ o. AllText (walk r.pattern r.text o r.names 0 0) × (leads_to r.value (first_part (walk r.pattern r.text o r.names 0 0)) ≡ route_of p)) (sym f)
     (subst (λ o. Finds p o (route_of p)) (ap (λ l. first l p) (sym t) ∙ e) (table_finds p h u))
 
-pub leads_nowhere : (held : RowsOf (RouteOf Leads)) (p : Bytes) → AllBytes p → IsUtf8 p → held ≡ rows_of_table → first held p ≡ None → None ≡ route_of p
+pub leads_nowhere : (held : RowsOf (RouteOf Leads)) (p : Bytes) → AllBytes p → IsUtf8 p → held ≡ rows_of_table
+    → first held p ≡ None → None ≡ route_of p
 leads_nowhere held p h u t e = subst (λ o. Finds p o (route_of p)) (ap (λ l. first l p) (sym t) ∙ e) (table_finds p h u)
 
 -- a path that is no text leads nowhere

@@ -6,7 +6,8 @@ use Rattle.http_messages.specs.declared.head_scan.HeadScanState.{HeadScanState}
 use Rattle.http_messages.specs.declared.head_scan.HeadScanState.TheVariants.{Lead}
 use Rattle.http_messages.specs.declared.head_scan.Scan.{Scan}
 use Rattle.http_messages.specs.declared.head_scan.Scan.TheVariants.{Whole, Open}
-use Rattle.http_messages.specs.HeadScan.{scan, scan_from, one_more, next_place, found_after}
+use Rattle.http_messages.specs.HeadScan.{scan}
+use Rattle.http_messages.proofs.Common.{found_after, next_place, one_more, scan_from}
 
 -- what is found after n bytes more
 abbrev pub later : ℕ → Scan → Scan
@@ -21,7 +22,8 @@ one_more_whole : (s : Scan) (n : ℕ) → one_more s ≡ Whole n → (k : ℕ) �
 one_more_whole (Whole k) n e = (k, refl, cc)
 one_more_whole (Open p) n e = absurd (cc)
 
-within_after : (o : Option HeadScanState) (more : HeadScanState → Scan) (len n : ℕ) → ((q : HeadScanState) (k : ℕ) → more q ≡ Whole k → k ≤ len)
+within_after : (o : Option HeadScanState) (more : HeadScanState → Scan) (len n : ℕ)
+    → ((q : HeadScanState) (k : ℕ) → more q ≡ Whole k → k ≤ len)
     → found_after o more ≡ Whole n → n ≤ suc len
 within_after None more len n h e = let one : n ≡ 1 = cc in omega arith
 within_after (Some q) more len n h e =
@@ -31,23 +33,27 @@ within_after (Some q) more len n h e =
 
 pub within_from : (p : HeadScanState) (bytes : List ℕ) (n : ℕ) → scan_from p bytes ≡ Whole n → n ≤ length bytes
 within_from p [] n e = absurd (cc)
-within_from p (b ∷ bytes) n e = within_after (next_place p b) (λ q. scan_from q bytes) (length bytes) n (λ q k f. within_from q bytes k f) e
+within_from p (b ∷ bytes) n e =
+    within_after (next_place p b) (λ q. scan_from q bytes) (length bytes) n (λ q k f. within_from q bytes k f) e
 
 -- a head lies within the bytes
 pub scan_within : (bytes : List ℕ) (n : ℕ) → scan bytes ≡ Whole n → n ≤ length bytes
 unfolding scan
 scan_within bytes n e = within_from Lead bytes n e
 
-more_after : (o : Option HeadScanState) (more longer : HeadScanState → Scan) (n : ℕ) → ((q : HeadScanState) (k : ℕ) → more q ≡ Whole k → longer q ≡ Whole k)
+more_after : (o : Option HeadScanState) (more longer : HeadScanState → Scan) (n : ℕ)
+    → ((q : HeadScanState) (k : ℕ) → more q ≡ Whole k → longer q ≡ Whole k)
     → found_after o more ≡ Whole n → found_after o longer ≡ Whole n
 more_after None more longer n h e = e
 more_after (Some q) more longer n h e =
     let (k, f, s) = one_more_whole (more q) n e in
     ap one_more (h q k f) ∙ ap Whole (sym s)
 
-more_from : (p : HeadScanState) (bytes rest : List ℕ) (n : ℕ) → scan_from p bytes ≡ Whole n → scan_from p (bytes ++ rest) ≡ Whole n
+more_from : (p : HeadScanState) (bytes rest : List ℕ) (n : ℕ) → scan_from p bytes ≡ Whole n
+    → scan_from p (bytes ++ rest) ≡ Whole n
 more_from p [] rest n e = absurd (cc)
-more_from p (b ∷ bytes) rest n e = more_after (next_place p b) (λ q. scan_from q bytes) (λ q. scan_from q (bytes ++ rest)) n (λ q k f. more_from q bytes rest k f) e
+more_from p (b ∷ bytes) rest n e =
+    more_after (next_place p b) (λ q. scan_from q bytes) (λ q. scan_from q (bytes ++ rest)) n (λ q k f. more_from q bytes rest k f) e
 
 -- what follows a head changes nothing
 pub scan_more : (bytes rest : List ℕ) (n : ℕ) → scan bytes ≡ Whole n → scan (bytes ++ rest) ≡ Whole n
@@ -117,7 +123,8 @@ take_front (suc n) [] ys = (take (suc n) ys, refl)
 take_front (suc n) (x ∷ xs) ys = let (more, e) = take_front n xs ys in (more, ap (λ l. x ∷ l) e)
 
 -- and so it is within a limit
-pub scan_take_more : (limit : ℕ) (bytes rest : List ℕ) (n : ℕ) → scan (take limit bytes) ≡ Whole n → scan (take limit (bytes ++ rest)) ≡ Whole n
+pub scan_take_more : (limit : ℕ) (bytes rest : List ℕ) (n : ℕ) → scan (take limit bytes) ≡ Whole n
+    → scan (take limit (bytes ++ rest)) ≡ Whole n
 scan_take_more limit bytes rest n e =
     let (more, f) = take_front limit bytes rest in
     ap scan f ∙ scan_more (take limit bytes) more n e
@@ -129,7 +136,8 @@ scan_take_within limit bytes n e =
     omega (arith, length-take limit bytes)
 
 -- an open head that isn't longer than the limit
-pub scan_take_open : (limit : ℕ) (items new : List ℕ) (p : HeadScanState) → new ≡ items → length items < limit → scan (take limit items) ≡ Open p → (length new < limit) × (scan new ≡ Open p)
+pub scan_take_open : (limit : ℕ) (items new : List ℕ) (p : HeadScanState) → new ≡ items → length items < limit
+    → scan (take limit items) ≡ Open p → (length new < limit) × (scan new ≡ Open p)
 scan_take_open limit items new p e h f =
     let short : length items ≤ limit = omega arith in
     (rw e h, ap scan (e ∙ sym (take_all limit items short)) ∙ f)

@@ -1,18 +1,21 @@
 -- Lemmas on verdicts.
 use Rattle.std.proofs.Common.{◌≡◌, ℕ, List, Bool, true, false, refl, sym}
 use Rattle.std.proofs.lemmas.Bool.{not-true}
-use Rattle.std.specs.Prelude.{◌==◌, ◌&&◌, ◌||◌, not, nat_lt, codes}
-use Rattle.std.specs.List.{list_any}
+use Rattle.std.specs.Prelude.{◌==◌}
 use Rattle.http_messages.specs.declared.status.Status.TheVariants.{NotImplemented}
-use Rattle.http_messages.specs.Heads.{Field, weigh, weigh_length, first_length, hosts, is_named, is_head, Refused}
+use Rattle.http_messages.proofs.Common.{Field, Refused, codes, first_length, hosts, is_head, is_named, list_any, nat_lt, not, weigh, weigh_length, ◌&&◌, ◌||◌}
 
 abbrev hosts_bad : ℕ → List Field → Bool
 hosts_bad minor pairs = nat_lt 1 (hosts pairs) || (minor == 1 && (hosts pairs == 0))
 
-pub weigh_coded : (m t : List ℕ) (minor : ℕ) (pairs : List Field) → true ≡ not (nat_lt 1 (hosts pairs) || (minor == 1 && (hosts pairs == 0))) → list_any (is_named (codes "transfer-encoding")) pairs ≡ true
+pub weigh_coded : (m t : List ℕ) (minor : ℕ) (pairs : List Field)
+    → true ≡ not (nat_lt 1 (hosts pairs) || (minor == 1 && (hosts pairs == 0)))
+    → list_any (is_named (codes "transfer-encoding")) pairs ≡ true
     → weigh m t minor pairs ≡ Refused NotImplemented (is_head m)
 weigh_coded m t minor pairs h e = let g = not-true (hosts_bad minor pairs) (sym h) in rw (g, e) refl
 
-pub weigh_on : (m t : List ℕ) (minor : ℕ) (pairs : List Field) → true ≡ not (nat_lt 1 (hosts pairs) || (minor == 1 && (hosts pairs == 0))) → list_any (is_named (codes "transfer-encoding")) pairs ≡ false
+pub weigh_on : (m t : List ℕ) (minor : ℕ) (pairs : List Field)
+    → true ≡ not (nat_lt 1 (hosts pairs) || (minor == 1 && (hosts pairs == 0)))
+    → list_any (is_named (codes "transfer-encoding")) pairs ≡ false
     → weigh m t minor pairs ≡ weigh_length m t minor pairs (first_length pairs)
 weigh_on m t minor pairs h e = let g = not-true (hosts_bad minor pairs) (sym h) in rw (g, e) refl

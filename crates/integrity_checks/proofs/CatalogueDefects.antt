@@ -1,19 +1,9 @@
 -- The first defect of the catalogue, part by part.
 use Rattle.std.proofs.Common.{◌≡◌, ℕ, Bool, true, false, cond, not, ◌&&◌, ◌||◌, length, Option, Some, None, refl, sym, ap, ◌∙◌}
-use Rattle.std.specs.List.{list_all}
-use Rattle.std.proofs.lemmas.Bool.{or_parts}
-use Rattle.sqlite.specs.Tree.{Trees}
-use Rattle.office_tables.specs.Versions.{Version, encoding}
-use Rattle.catalogue_core.specs.CatalogueCauses.{are_good_container_rows, is_good_housing, units_are_bad}
-use Rattle.office_tables.specs.Cells.{has_unread}
-use Rattle.office_tables.specs.CatalogueCells.{read_unit, read_container, read_housing}
 use Rattle.office_tables.specs.Schema as tables
-use Rattle.integrity_checks.specs.PlaceChecks.{places_are_defective}
-use Rattle.row_decoding.specs.TableRows.{catalogue_in, containers_in}
-use Rattle.integrity_checks.specs.CatalogueChecks.{units_are_defective, elements_are_defective, containers_are_defective, catalogue_defect}
-use Rattle.integrity_checks.specs.CatalogueJudgments.{good_containers_in, number_of_containers, good_housings_in, defect_of_contents}
 use Rattle.integrity_checks.specs.declared.catalogue_defect.CatalogueDefect.{CatalogueDefect}
 use Rattle.integrity_checks.specs.declared.catalogue_defect.CatalogueDefect.TheVariants.{Places, Units, Elements, Containers}
+use Rattle.integrity_checks.proofs.Common.{Trees, Version, are_good_container_rows, catalogue_defect, catalogue_in, containers_are_defective, containers_in, defect_of_contents, elements_are_defective, encoding, good_containers_in, good_housings_in, has_unread, is_good_housing, list_all, number_of_containers, or_parts, places_are_defective, read_container, read_housing, read_unit, units_are_bad, units_are_defective}
 
 was_good : (bad : Bool) → not bad ≡ true → bad ≡ false
 was_good true h = sym h
@@ -53,20 +43,24 @@ module _ (v : Version) (db : Trees) where
   pub counted : (n : ℕ) → number_of_containers db ≡ Some n → length (containers_in db) ≡ n
   counted n some = (numbered (good_containers_in db) (length (containers_in db)) n some).1
 
-  pub rest_of_containers : (n : ℕ) → number_of_containers db ≡ Some n → good_housings_in v db ≡ not (containers_are_defective v db)
-  rest_of_containers n some = sym (parted ∙ ap (λ b. b && good_housings_in v db) (numbered (good_containers_in db) (length (containers_in db)) n some).0)
+  pub rest_of_containers : (n : ℕ) → number_of_containers db ≡ Some n
+      → good_housings_in v db ≡ not (containers_are_defective v db)
+  rest_of_containers n some =
+      sym (parted ∙ ap (λ b. b && good_housings_in v db) (numbered (good_containers_in db) (length (containers_in db)) n some).0)
 
   -- ---- elements, and then containers
 
   pub bad_elements : not (elements_are_defective v db) ≡ false → Some Elements ≡ defect_of_contents v db
   bad_elements h = sym (ap (λ b. cond b (Some Elements) (cond (containers_are_defective v db) (Some Containers) None)) (was_bad (elements_are_defective v db) h))
 
-  pub bad_containment : not (elements_are_defective v db) ≡ true → not (containers_are_defective v db) ≡ false → Some Containers ≡ defect_of_contents v db
+  pub bad_containment : not (elements_are_defective v db) ≡ true → not (containers_are_defective v db) ≡ false
+      → Some Containers ≡ defect_of_contents v db
   bad_containment h k =
       sym (ap (λ b. cond b (Some Elements) (cond (containers_are_defective v db) (Some Containers) None)) (was_good (elements_are_defective v db) h)
       ∙ ap (λ b. cond b (Some Containers) None) (was_bad (containers_are_defective v db) k))
 
-  pub no_defect : not (elements_are_defective v db) ≡ true → not (containers_are_defective v db) ≡ true → None ≡ defect_of_contents v db
+  pub no_defect : not (elements_are_defective v db) ≡ true → not (containers_are_defective v db) ≡ true
+      → None ≡ defect_of_contents v db
   no_defect h k =
       sym (ap (λ b. cond b (Some Elements) (cond (containers_are_defective v db) (Some Containers) None)) (was_good (elements_are_defective v db) h)
       ∙ ap (λ b. cond b (Some Containers) None) (was_good (containers_are_defective v db) k))
@@ -78,10 +72,12 @@ module _ (v : Version) (db : Trees) where
     pub bad_places : places_are_defective (encoding v) db ≡ true → Some Places ≡ catalogue_defect v next db
     bad_places h = sym (ap (λ b. cond b (Some Places) after_places) h)
 
-    pub bad_units : places_are_defective (encoding v) db ≡ false → not (units_are_defective v next db) ≡ false → Some Units ≡ catalogue_defect v next db
+    pub bad_units : places_are_defective (encoding v) db ≡ false → not (units_are_defective v next db) ≡ false
+        → Some Units ≡ catalogue_defect v next db
     bad_units h k = sym (ap (λ b. cond b (Some Places) after_places) h ∙ ap (λ b. cond b (Some Units) (defect_of_contents v db)) (was_bad (units_are_defective v next db) k))
 
-    pub good_units : places_are_defective (encoding v) db ≡ false → not (units_are_defective v next db) ≡ true → defect_of_contents v db ≡ catalogue_defect v next db
+    pub good_units : places_are_defective (encoding v) db ≡ false → not (units_are_defective v next db) ≡ true
+        → defect_of_contents v db ≡ catalogue_defect v next db
     good_units h k = sym (ap (λ b. cond b (Some Places) after_places) h ∙ ap (λ b. cond b (Some Units) (defect_of_contents v db)) (was_good (units_are_defective v next db) k))
 
     pub units_are_read : not (units_are_defective v next db) ≡ true → has_unread read_unit (db tables.unit.tree) ≡ false

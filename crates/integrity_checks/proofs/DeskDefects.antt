@@ -1,20 +1,9 @@
 -- The first defect of the desk, part by part.
 use Rattle.std.proofs.Common.{◌≡◌, ℕ, List, length, Bool, true, false, cond, not, ◌&&◌, ◌||◌, nat_le, Some, None, refl, sym, ap, ◌∙◌}
-use Rattle.std.specs.List.{list_all}
-use Rattle.std.proofs.Math.Bool.{not-not, or-true}
-use Rattle.sqlite.specs.Tree.{Trees}
-use Rattle.isad_core.specs.Limits.{most_tickets}
-use Rattle.isad_core.specs.Words.{are_numbered_from}
-use Rattle.desk_core.specs.DeskCauses.{Around, is_good_reader, is_good_seat, is_good_permit}
-use Rattle.desk_core.specs.DeskRows.{ReaderRow}
-use Rattle.office_tables.specs.Cells.{has_unread}
-use Rattle.office_tables.specs.DeskCells.{read_reader, read_seat, read_permit}
+use Rattle.desk_core.specs.DeskCauses.{Around}
 use Rattle.office_tables.specs.Schema as tables
-use Rattle.row_decoding.specs.TableRows.{desk_in, readers_in}
-use Rattle.integrity_checks.specs.DeskChecks.{orders_are_defective, holdings_are_defective, runs_are_defective, defect_of_past, defect_of_orders, defect_of_desk}
-use Rattle.integrity_checks.specs.DeskJudgments.{good_seats_in, good_permits_in, good_holdings_in, good_runs_in, defect_beside_readers}
-use Rattle.integrity_checks.specs.ReaderRows.{number_registered}
 use Rattle.integrity_checks.specs.declared.desk_defect.DeskDefect.TheVariants.{Readers, Orders, Holdings, Runs}
+use Rattle.integrity_checks.proofs.Common.{ReaderRow, Trees, are_numbered_from, defect_beside_readers, defect_of_desk, defect_of_orders, defect_of_past, desk_in, good_holdings_in, good_permits_in, good_runs_in, good_seats_in, has_unread, holdings_are_defective, is_good_permit, is_good_reader, is_good_seat, list_all, most_tickets, not-not, number_registered, or-true, orders_are_defective, read_permit, read_reader, read_seat, readers_in, runs_are_defective}
 use Rattle.integrity_checks.proofs.Surroundings.{not_defective, all_read_well}
 
 pub was_good : (good bad : Bool) → good ≡ not bad → good ≡ true → bad ≡ false
@@ -37,14 +26,16 @@ cards false false true true = refl
 cards false false true false = refl
 cards false false false gp = refl
 
-good_readers : (ur n f r us up gs gp : Bool) → ur ≡ false → (n && (f && r)) ≡ true → ((ur || (us || up)) || not (n && (f && (r && (gs && gp))))) ≡ not ((not us && gs) && (not up && gp))
+good_readers : (ur n f r us up gs gp : Bool) → ur ≡ false → (n && (f && r)) ≡ true
+    → ((ur || (us || up)) || not (n && (f && (r && (gs && gp))))) ≡ not ((not us && gs) && (not up && gp))
 good_readers true n f r us up gs gp h k = absurd (cc)
 good_readers false false f r us up gs gp h k = absurd (cc)
 good_readers false true false r us up gs gp h k = absurd (cc)
 good_readers false true true false us up gs gp h k = absurd (cc)
 good_readers false true true true us up gs gp h k = cards us up gs gp
 
-unregistered : (ur n f r us up gs gp : Bool) → (ur || not (n && (f && r))) ≡ true → ((ur || (us || up)) || not (n && (f && (r && (gs && gp))))) ≡ true
+unregistered : (ur n f r us up gs gp : Bool) → (ur || not (n && (f && r))) ≡ true
+    → ((ur || (us || up)) || not (n && (f && (r && (gs && gp))))) ≡ true
 unregistered true n f r us up gs gp h = refl
 unregistered false false f r us up gs gp h = or-true (us || up)
 unregistered false true false r us up gs gp h = or-true (us || up)
@@ -86,7 +77,8 @@ module _ (a : Around) (db : Trees) where
   pub bad_permits : good_seats_in a db ≡ true → good_permits_in a db ≡ false → Some Readers ≡ defect_beside_readers a db
   bad_permits h k = sym (ap (λ b. cond (b && good_permits_in a db) (defect_of_orders a db) (Some Readers)) h ∙ ap (λ b. cond b (defect_of_orders a db) (Some Readers)) k)
 
-  pub good_cards : good_seats_in a db ≡ true → good_permits_in a db ≡ true → defect_of_orders a db ≡ defect_beside_readers a db
+  pub good_cards : good_seats_in a db ≡ true → good_permits_in a db ≡ true
+      → defect_of_orders a db ≡ defect_beside_readers a db
   good_cards h k = sym (ap (λ b. cond (b && good_permits_in a db) (defect_of_orders a db) (Some Readers)) h ∙ ap (λ b. cond b (defect_of_orders a db) (Some Readers)) k)
 
   -- ---- orders

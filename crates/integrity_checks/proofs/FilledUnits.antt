@@ -1,14 +1,6 @@
 -- The rows of each unit stand together where they come by their units: no place is above the number of the unit's rows.
 use Rattle.std.proofs.Common.{inl, inr, ◌≡◌, ℕ, suc, ◌+◌, ◌<◌, ◌≤◌, List, [], ◌∷◌, length, Bool, true, false, cond, ◌&&◌, nat_eq, nat_le, refl, sym, ap, ap₂, ◌∙◌, arith}
-use Rattle.std.specs.Cmp.{both_ways}
-use Rattle.std.specs.List.{list_all, AllByRecursion}
-use Rattle.std.proofs.lemmas.Bool.{and_parts, and_from, cases_lt, eq-eqb, eqb-true, eqb-false, ne_eqb, le-leb, leb-true, leb-false}
-use Rattle.std.proofs.Math.Bool.{and_assoc, and-true}
-use Rattle.sqlite_trees.proofs.ListLemmas.{all_weaker}
-use Rattle.tree_core.proofs.Lists.{eqb_comm}
-use Rattle.catalogue_core.specs.CatalogueRows.{HousingRow, housings_of}
-use Rattle.office_tables.proofs.ByNumber.{Up}
-use Rattle.integrity_checks.specs.HousingPlaces.{higher, are_filled}
+use Rattle.integrity_checks.proofs.Common.{AllByRecursion, HousingRow, Up, all_weaker, and-true, and_assoc, and_from, and_parts, are_filled, both_ways, cases_lt, eq-eqb, eqb-false, eqb-true, eqb_comm, higher, housings_of, le-leb, leb-false, leb-true, list_all, ne_eqb}
 use Rattle.integrity_checks.proofs.Tested.{all_same}
 
 abbrev pub unit_of : HousingRow → ℕ
@@ -28,10 +20,12 @@ higher_is a b n = at (nat_le a b) refl
         (λ k. let le = leb-true a n k in and_from (nat_le a n) (nat_le b n) k (le-leb b n (omega (arith, low, le))))
         (λ k. (and_parts (nat_le a n) (nat_le b n) k).0)
 
-one_of : (u : ℕ) (row : HousingRow) (rows : List HousingRow) → rows_of u (row ∷ rows) ≡ cond (nat_eq row.unit u) 1 0 + rows_of u rows
+one_of : (u : ℕ) (row : HousingRow) (rows : List HousingRow)
+    → rows_of u (row ∷ rows) ≡ cond (nat_eq row.unit u) 1 0 + rows_of u rows
 one_of u row rows = elim (nat_eq row.unit u) as (λ b. length (cond b (row ∷ housings_of u rows) (housings_of u rows)) ≡ cond b 1 0 + rows_of u rows) [ true ↦ omega arith | false ↦ omega arith ]
 
-none_of : (u : ℕ) (rows : List HousingRow) → AllByRecursion (λ (row : HousingRow). u < row.unit) rows → rows_of u rows ≡ 0
+none_of : (u : ℕ) (rows : List HousingRow) → AllByRecursion (λ (row : HousingRow). u < row.unit) rows
+    → rows_of u rows ≡ 0
 none_of u [] h = refl
 none_of u (row ∷ rows) h =
     let other : nat_eq row.unit u ≡ false = ne_eqb row.unit u (λ e. omega (arith, e, h.0)) in
@@ -48,13 +42,15 @@ one_higher : (b : Bool) (k n : ℕ) → cond b (suc k) 0 + n ≡ cond b k 0 + (c
 one_higher true k n = omega arith
 one_higher false k n = omega arith
 
-same_unit : (u k : ℕ) (row : HousingRow) (rows : List HousingRow) → row.unit ≡ u → (other : HousingRow) → fits u (suc k) rows other ≡ fits u k (row ∷ rows) other
+same_unit : (u k : ℕ) (row : HousingRow) (rows : List HousingRow) → row.unit ≡ u → (other : HousingRow)
+    → fits u (suc k) rows other ≡ fits u k (row ∷ rows) other
 same_unit u k row rows is other = ap (nat_le other.ord)
     (one_higher (nat_eq other.unit u) k (rows_of other.unit rows)
     ∙ ap (λ b. cond (nat_eq other.unit u) k 0 + (cond b 1 0 + rows_of other.unit rows)) (eqb_comm other.unit u ∙ ap (λ n. nat_eq n other.unit) (sym is))
     ∙ ap (λ n. cond (nat_eq other.unit u) k 0 + n) (sym (one_of other.unit row rows)))
 
-next_unit : (u k : ℕ) (row : HousingRow) (rows : List HousingRow) → u < row.unit → (other : HousingRow) → row.unit ≤ other.unit → fits row.unit 1 rows other ≡ fits u k (row ∷ rows) other
+next_unit : (u k : ℕ) (row : HousingRow) (rows : List HousingRow) → u < row.unit → (other : HousingRow)
+    → row.unit ≤ other.unit → fits row.unit 1 rows other ≡ fits u k (row ∷ rows) other
 next_unit u k row rows past other after =
     let not_it : nat_eq other.unit u ≡ false = ne_eqb other.unit u (λ e. omega (arith, e, past, after)) in
     ap (nat_le other.ord)
@@ -64,10 +60,12 @@ next_unit u k row rows past other after =
     none_more : (n : ℕ) → n ≡ 0 + n
     none_more n = omega arith
 
-filled_from : (u k m : ℕ) (rows : List HousingRow) → AllByRecursion (λ (row : HousingRow). u ≤ row.unit) rows → Up unit_of rows
+filled_from : (u k m : ℕ) (rows : List HousingRow) → AllByRecursion (λ (row : HousingRow). u ≤ row.unit) rows
+    → Up unit_of rows
     → are_filled u k m rows ≡ (nat_le m (k + rows_of u rows) && list_all (fits u k rows) rows)
 filled_from u k m [] low up = ap (nat_le m) (let same : k ≡ k + 0 = omega arith in same) ∙ sym (and-true (nat_le m (k + 0)))
-filled_from u k m (row ∷ rows) low up = at (filled_from u (suc k) (higher m row.ord) rows low.1 up.1) (filled_from row.unit 1 row.ord rows up.0 up.1) (nat_eq row.unit u) refl
+filled_from u k m (row ∷ rows) low up =
+    at (filled_from u (suc k) (higher m row.ord) rows low.1 up.1) (filled_from row.unit 1 row.ord rows up.0 up.1) (nat_eq row.unit u) refl
   where
     at : are_filled u (suc k) (higher m row.ord) rows ≡ (nat_le (higher m row.ord) (suc k + rows_of u rows) && list_all (fits u (suc k) rows) rows)
         → are_filled row.unit 1 row.ord rows ≡ (nat_le row.ord (1 + rows_of row.unit rows) && list_all (fits row.unit 1 rows) rows)
@@ -77,7 +75,9 @@ filled_from u k m (row ∷ rows) low up = at (filled_from u (suc k) (higher m ro
     at same next true h =
         let is = eqb-true row.unit u h in
         let all : suc k + rows_of u rows ≡ k + rows_of u (row ∷ rows) = let one = one_of u row rows ∙ ap (λ b. cond b 1 0 + rows_of u rows) h in omega (arith, one) in
-        let here : suc k + rows_of u rows ≡ cond (nat_eq row.unit u) k 0 + rows_of row.unit (row ∷ rows) = all ∙ ap (λ n. k + rows_of n (row ∷ rows)) (sym is) ∙ ap (λ b. cond b k 0 + rows_of row.unit (row ∷ rows)) (sym h) in
+        let here : suc k + rows_of u rows ≡ cond (nat_eq row.unit u) k 0 + rows_of row.unit (row ∷ rows) =
+        all ∙ ap (λ n. k + rows_of n (row ∷ rows)) (sym is)
+        ∙ ap (λ b. cond b k 0 + rows_of row.unit (row ∷ rows)) (sym h) in
         same
         ∙ ap₂ ◌&&◌ (higher_is m row.ord (suc k + rows_of u rows) ∙ ap₂ ◌&&◌ (ap (nat_le m) all) (ap (nat_le row.ord) here))
         (all_same (fits u (suc k) rows) (fits u k (row ∷ rows)) rows (all_weaker (λ (other : HousingRow). u ≤ other.unit) (λ other. fits u (suc k) rows other ≡ fits u k (row ∷ rows) other) (λ other _. same_unit u k row rows is other) rows low.1))
@@ -109,11 +109,13 @@ any_unit (row ∷ rows) = (omega arith, any_unit rows)
 none_before : (rows : List HousingRow) (row : HousingRow) → fits 0 0 rows row ≡ nat_le row.ord (rows_of row.unit rows)
 none_before rows row = ap (nat_le row.ord) (elim (nat_eq row.unit 0) as (λ b. cond b 0 0 + rows_of row.unit rows ≡ rows_of row.unit rows) [ true ↦ omega arith | false ↦ omega arith ])
 
-each_before : (all rows : List HousingRow) → AllByRecursion (λ row. fits 0 0 all row ≡ nat_le row.ord (rows_of row.unit all)) rows
+each_before : (all rows : List HousingRow)
+    → AllByRecursion (λ row. fits 0 0 all row ≡ nat_le row.ord (rows_of row.unit all)) rows
 each_before all [] = tt
 each_before all (row ∷ rows) = (none_before all row, each_before all rows)
 
-pub filled_judged : (rows : List HousingRow) → Up unit_of rows → are_filled 0 0 0 rows ≡ list_all (λ (row : HousingRow). nat_le row.ord (rows_of row.unit rows)) rows
+pub filled_judged : (rows : List HousingRow) → Up unit_of rows
+    → are_filled 0 0 0 rows ≡ list_all (λ (row : HousingRow). nat_le row.ord (rows_of row.unit rows)) rows
 filled_judged rows up =
     filled_from 0 0 0 rows (any_unit rows) up ∙ ap (λ b. b && list_all (fits 0 0 rows) rows) (le-leb 0 (0 + rows_of 0 rows) (omega arith))
     ∙ all_same (fits 0 0 rows) (λ (row : HousingRow). nat_le row.ord (rows_of row.unit rows)) rows (each_before rows rows)

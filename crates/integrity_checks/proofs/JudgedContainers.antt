@@ -1,46 +1,17 @@
 -- The containers are judged in the order of their numbers.
 use Rattle.std.proofs.Common.{length-append, inl, inr, ◌≡◌, ℕ, suc, pos, ◌+◌, List, [], ◌∷◌, ◌++◌, length, map, Bool, true, false, cond, not, ◌&&◌, ◌||◌, nat_eq, nat_le, Option, Some, None, is_none, filter_map, refl, sym, ap, ap₂, ◌∙◌, arith, codes}
-use Rattle.std.proofs.Math.Nat.{le_refl}
-use Rattle.std.specs.List.{list_all, cons_option}
-use Rattle.std.specs.Option.{option_map_or}
-use Rattle.std.specs.List.Sorted.{IsSorted, IsPermutation}
-use Rattle.std.proofs.lemmas.List.{length-map}
-use Rattle.std.proofs.lemmas.List.Sorted.{list_any-IsPermutation, length_permutation}
-use Rattle.std.proofs.lemmas.Bool.{cases_Bool}
-use Rattle.std.proofs.Math.Bool.{and_assoc, and-true, and-false}
-use Rattle.sqlite.specs.declared.types.Value.TheVariants.{Int}
-use Rattle.sqlite.specs.Collation.TheVariants.{Binary}
-use Rattle.sqlite.specs.Command.TheVariants.{Select}
 use Rattle.sqlite.specs.Listing.{understood}
-use Rattle.sqlite.specs.Order.{Row, column}
-use Rattle.sqlite.specs.Term.{Term, col}
-use Rattle.sqlite.specs.Tree.{Trees}
 use Rattle.sqlite_tied.specs.Compute.{everything}
-use Rattle.sqlite_value.specs.Keys.{ascending}
-use Rattle.sqlite_value.specs.declared.keys.Key.{Key}
 use Rattle.isad_core.specs.Texts.{is_blank_text}
-use Rattle.isad_core.specs.Words.{are_numbered_from}
-use Rattle.office_tables.specs.Versions.{Version}
-use Rattle.catalogue_core.specs.CatalogueCauses.{are_good_container_rows}
-use Rattle.catalogue_core.specs.CatalogueRows.{ContainerRow}
-use Rattle.office_tables.specs.Cells.{has_unread, number_in, text_in}
-use Rattle.office_tables.specs.CatalogueCells.{read_container}
-use Rattle.office_tables.specs.StatementMeaning.{Means}
 use Rattle.office_tables.specs.Schema as tables
-use Rattle.office_tables.proofs.ByNumber.{read_by_number, length_read, length_ordered}
-use Rattle.office_tables.proofs.CellTexts.{from_first}
-use Rattle.office_tables.proofs.Queries.{asking}
-use Rattle.row_decoding.specs.Readings.{by_rowid}
-use Rattle.row_decoding.specs.TableRows.{by, containers_in}
-use Rattle.integrity_checks.specs.ScanAnswers.{is_numbered, is_container_answer, are_container_answers}
-use Rattle.integrity_checks.specs.CatalogueJudgments.{good_containers_in, number_of_containers}
-use Rattle.row_decoding.proofs.Alike.{all_alike, alike_then, ordered_alike, read_alike}
-use Rattle.row_decoding.proofs.TableReads.{show}
-use Rattle.row_decoding.proofs.ToldCells.{is_number}
+use Rattle.row_decoding.specs.TableRows.{by}
+use Rattle.integrity_checks.specs.ScanAnswers.{is_numbered}
+use Rattle.integrity_checks.proofs.Common.{Binary, ContainerRow, Int, IsPermutation, IsSorted, Key, Means, Row, Select, Term, Trees, Version, alike_then, all_alike, and-false, and-true, and_assoc, are_container_answers, are_good_container_rows, are_numbered_from, ascending, asking, by_rowid, cases_Bool, col, column, cons_option, containers_in, from_first, good_containers_in, has_unread, is_container_answer, is_number, le_refl, length-map, length_ordered, length_permutation, length_read, list_all, list_any-IsPermutation, number_in, number_of_containers, option_map_or, ordered_alike, read_alike, read_by_number, read_container, show, text_in}
 
 -- ---- one row more
 
-one_more : (n : ℕ) (rows : List Row) (row : Row) → are_container_answers n (rows ++ row ∷ []) ≡ (are_container_answers n rows && is_container_answer (n + length rows) row)
+one_more : (n : ℕ) (rows : List Row) (row : Row)
+    → are_container_answers n (rows ++ row ∷ []) ≡ (are_container_answers n rows && is_container_answer (n + length rows) row)
 one_more n [] row = and-true (is_container_answer n row) ∙ ap (λ k. is_container_answer k row) (let same : n ≡ n + 0 = omega arith in same)
 one_more n (r ∷ rows) row =
     elim (is_container_answer n r) as (λ b. (b && are_container_answers (suc n) (rows ++ row ∷ [])) ≡ ((b && are_container_answers (suc n) rows) && is_container_answer (n + suc (length rows)) row)) [
@@ -48,16 +19,19 @@ one_more n (r ∷ rows) row =
       | false ↦ refl
     ]
 
-taken : (count : ℕ) (good answer : Bool) (rows : List Row) (row : Row) → count ≡ length rows → good ≡ are_container_answers 1 rows → answer ≡ is_container_answer (count + 1) row
+taken : (count : ℕ) (good answer : Bool) (rows : List Row) (row : Row) → count ≡ length rows
+    → good ≡ are_container_answers 1 rows → answer ≡ is_container_answer (count + 1) row
     → (count + 1 ≡ length (rows ++ row ∷ [])) × ((good && answer) ≡ are_container_answers 1 (rows ++ row ∷ []))
 taken count good answer rows row counted so_far is =
     (omega (arith, counted, length-append rows (row ∷ [])), ap₂ ◌&&◌ so_far (is ∙ ap (λ k. is_container_answer k row) (let same : count + 1 ≡ 1 + length rows = omega (arith, counted) in same)) ∙ sym (one_more 1 rows row))
 
-pub taken_bad : (count : ℕ) (good answer : Bool) (rows : List Row) (row : Row) → answer ≡ false → count ≡ length rows → good ≡ are_container_answers 1 rows → answer ≡ is_container_answer (count + 1) row
+pub taken_bad : (count : ℕ) (good answer : Bool) (rows : List Row) (row : Row) → answer ≡ false → count ≡ length rows
+    → good ≡ are_container_answers 1 rows → answer ≡ is_container_answer (count + 1) row
     → (count + 1 ≡ length (rows ++ row ∷ [])) × (false ≡ are_container_answers 1 (rows ++ row ∷ []))
 taken_bad count good answer rows row fails counted so_far is = let all = taken count good answer rows row counted so_far is in (all.0, sym (and-false good) ∙ ap (λ b. good && b) (sym fails) ∙ all.1)
 
-pub taken_good : (count : ℕ) (good answer : Bool) (rows : List Row) (row : Row) → answer ≡ true → count ≡ length rows → good ≡ are_container_answers 1 rows → answer ≡ is_container_answer (count + 1) row
+pub taken_good : (count : ℕ) (good answer : Bool) (rows : List Row) (row : Row) → answer ≡ true → count ≡ length rows
+    → good ≡ are_container_answers 1 rows → answer ≡ is_container_answer (count + 1) row
     → (count + 1 ≡ length (rows ++ row ∷ [])) × (good ≡ are_container_answers 1 (rows ++ row ∷ []))
 taken_good count good answer rows row passes counted so_far is = let all = taken count good answer rows row counted so_far is in (all.0, sym (and-true good) ∙ ap (λ b. good && b) (sym passes) ∙ all.1)
 
@@ -75,7 +49,8 @@ by_id = (col 1 0, ascending Binary) ∷ []
 abbrev pub containers_names : List (List ℕ)
 containers_names = codes "id" ∷ codes "name" ∷ codes "location" ∷ codes "kind" ∷ []
 
-pub containers_mean : (v : Version) → Means v containers_text 0 (Select (asking tables.container [] containers_terms by_id) containers_names)
+pub containers_mean : (v : Version)
+    → Means v containers_text 0 (Select (asking tables.container [] containers_terms by_id) containers_names)
 unfolding understood everything
 containers_mean v = record { is = refl; plain = (refl, refl); whole = (le_refl _, refl, refl); unlisted = refl }
 
@@ -114,7 +89,8 @@ answers_read n [] = refl
 answers_read n (y ∷ ys) = at (answers_read (suc n) ys) (read_container y)
   where
     at : are_container_answers (suc n) (map show_container ys) ≡ (not (has_unread read_container ys) && (are_numbered_from id_of (suc n) (filter_map read_container ys) && list_all named (filter_map read_container ys)))
-        → (o : Option ContainerRow) → (option_map_or (is_numbered n) o false && are_container_answers (suc n) (map show_container ys))
+        → (o : Option ContainerRow)
+        → (option_map_or (is_numbered n) o false && are_container_answers (suc n) (map show_container ys))
         ≡ (not (is_none o || has_unread read_container ys) && (are_numbered_from id_of n (cons_option o (filter_map read_container ys)) && list_all named (cons_option o (filter_map read_container ys))))
     at more None = refl
     at more (Some c) = ap (λ b. is_numbered n c && b) more
@@ -129,7 +105,9 @@ module _ (db : Trees) (ys rows : List Row) (count : ℕ) (good : Bool) (same : I
   unread = sym (list_any-IsPermutation (λ row. is_none (read_container row)) table ys same)
 
   all_told : good ≡ (not (has_unread read_container table) && (are_numbered_from id_of 1 (filter_map read_container ys) && list_all named (filter_map read_container ys)))
-  all_told = is ∙ ap (are_container_answers 1) shown ∙ answers_read 1 ys ∙ ap (λ u. not u && (are_numbered_from id_of 1 (filter_map read_container ys) && list_all named (filter_map read_container ys))) unread
+  all_told =
+      is ∙ ap (are_container_answers 1) shown ∙ answers_read 1 ys
+      ∙ ap (λ u. not u && (are_numbered_from id_of 1 (filter_map read_container ys) && list_all named (filter_map read_container ys))) unread
 
   same_named : list_all named (filter_map read_container ys) ≡ list_all named (containers_in db)
   same_named = sym (all_alike named (containers_in db) (filter_map read_container ys)

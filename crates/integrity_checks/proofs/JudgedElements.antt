@@ -1,33 +1,10 @@
 -- The elements are judged row by row.
 use Rattle.std.proofs.Common.{◌≡◌, ℕ, List, [], ◌∷◌, map, Bool, true, false, not, ◌&&◌, ◌||◌, nat_eq, Option, Some, None, filter_map, refl, sym, ap, ◌∙◌, codes}
-use Rattle.std.proofs.Math.Nat.{le_refl}
-use Rattle.std.specs.List.{list_all, AllByRecursion}
-use Rattle.std.specs.Option.{option_map_or}
-use Rattle.std.specs.List.Sorted.{IsPermutation}
-use Rattle.std.proofs.lemmas.List.Folds.{list_all-map}
-use Rattle.std.proofs.Math.Bool.{not-not}
-use Rattle.sqlite.specs.Command.TheVariants.{Select}
 use Rattle.sqlite.specs.Listing.{understood}
-use Rattle.sqlite.specs.Order.{Row}
-use Rattle.sqlite.specs.Term.{Term, col}
-use Rattle.sqlite.specs.Tree.{Trees}
 use Rattle.sqlite_tied.specs.Compute.{everything}
 use Rattle.isad_core.specs.Texts.{is_blank_text}
-use Rattle.isad_core.specs.Words.{is_between}
-use Rattle.office_tables.specs.Versions.{Version}
-use Rattle.desk_core.specs.Orders.{in_order}
-use Rattle.catalogue_core.specs.CatalogueCauses.{unit_numbers, is_good_element}
-use Rattle.catalogue_core.specs.CatalogueRows.{ElementRow}
-use Rattle.office_tables.specs.Cells.{has_unread}
-use Rattle.office_tables.specs.CatalogueCells.{read_unit, read_element}
-use Rattle.office_tables.specs.StatementMeaning.{Means}
 use Rattle.office_tables.specs.Schema as tables
-use Rattle.office_tables.proofs.Queries.{asking}
-use Rattle.row_decoding.specs.TableRows.{then_by, catalogue_in}
-use Rattle.integrity_checks.specs.ScanAnswers.{is_good_value, is_element_answer}
-use Rattle.integrity_checks.specs.CatalogueChecks.{elements_are_defective}
-use Rattle.row_decoding.proofs.Alike.{permuted, all_alike, ordered_alike}
-use Rattle.row_decoding.proofs.TableReads.{show}
+use Rattle.integrity_checks.proofs.Common.{AllByRecursion, ElementRow, IsPermutation, Means, Row, Select, Term, Trees, Version, all_alike, asking, catalogue_in, col, elements_are_defective, has_unread, in_order, is_between, is_element_answer, is_good_element, is_good_value, le_refl, list_all, list_all-map, not-not, option_map_or, ordered_alike, permuted, read_element, read_unit, show, then_by, unit_numbers}
 use Rattle.integrity_checks.proofs.Tested.{all_same, passes, judged}
 use Rattle.integrity_checks.proofs.UnitsThere.{HasUnit, element_has_unit}
 
@@ -42,7 +19,8 @@ elements_terms = col 1 1 ∷ col 1 2 ∷ col 1 3 ∷ []
 abbrev pub elements_names : List (List ℕ)
 elements_names = codes "unit" ∷ codes "k" ∷ codes "value" ∷ []
 
-pub elements_mean : (v : Version) → Means v elements_text 0 (Select (asking tables.element [] elements_terms []) elements_names)
+pub elements_mean : (v : Version)
+    → Means v elements_text 0 (Select (asking tables.element [] elements_terms []) elements_names)
 unfolding understood everything
 elements_mean v = record { is = refl; plain = (refl, refl); whole = (le_refl _, refl, refl); unlisted = refl }
 
@@ -64,11 +42,13 @@ module _ (v : Version) (db : Trees) (units_read : has_unread read_unit (db table
   same_test : (row : Row) → HasUnit v db row → passes read_element good row ≡ passes read_element is_good_value row
   same_test row held = at (read_element row) refl
     where
-      at : (o : Option ElementRow) → read_element row ≡ o → option_map_or good o false ≡ option_map_or is_good_value o false
+      at : (o : Option ElementRow) → read_element row ≡ o
+          → option_map_or good o false ≡ option_map_or is_good_value o false
       at None read = refl
       at (Some e) read = and_true (is_between 1 26 e.k) (not (nat_eq e.k 4)) (not (is_blank_text e.value)) _ (element_has_unit v db units_read row e read held)
 
-  same_tests : (rows : List Row) → AllByRecursion (HasUnit v db) rows → AllByRecursion (λ row. passes read_element good row ≡ passes read_element is_good_value row) rows
+  same_tests : (rows : List Row) → AllByRecursion (HasUnit v db) rows
+      → AllByRecursion (λ row. passes read_element good row ≡ passes read_element is_good_value row) rows
   same_tests [] h = tt
   same_tests (row ∷ rows) h = (same_test row h.0, same_tests rows h.1)
 
@@ -79,6 +59,7 @@ module _ (v : Version) (db : Trees) (units_read : has_unread read_unit (db table
       let by_key = then_by (λ (row : ElementRow). row.unit) (λ (row : ElementRow). row.k) in
       ap (list_all is_element_answer) shown
       ∙ list_all-map is_element_answer (show elements_terms) ys
-      ∙ sym (all_alike fits table ys (permuted table ys same)) ∙ sym (all_same (passes read_element good) fits table (same_tests table kept))
+      ∙ sym (all_alike fits table ys (permuted table ys same))
+      ∙ sym (all_same (passes read_element good) fits table (same_tests table kept))
       ∙ sym (not-not (list_all (passes read_element good) table)) ∙ ap not (sym (judged read_element good table))
       ∙ ap (λ b. not (has_unread read_element table || not b)) (sym (all_alike good (in_order by_key (filter_map read_element table)) (filter_map read_element table) (ordered_alike by_key (filter_map read_element table))))

@@ -1,45 +1,12 @@
 -- What lies in containers is judged in the order of the units.
 use Rattle.std.proofs.Common.{inl, inr, ◌≡◌, ℕ, suc, pos, ◌+◌, ◌<◌, List, [], ◌∷◌, ◌++◌, length, map, Bool, true, false, cond, not, ◌&&◌, ◌||◌, nat_eq, nat_le, Option, Some, None, is_none, filter_map, get_or, Ordering, Less, Equal, Greater, refl, sym, ap, ap₂, subst, ◌∙◌, arith, codes}
-use Rattle.std.proofs.Math.Nat.{le_refl}
-use Rattle.std.specs.List.{list_all, cons_option, AllByRecursion}
-use Rattle.std.specs.Option.{option_map_or}
-use Rattle.std.specs.Ordering.{is_lt, ordering_then}
-use Rattle.std.specs.List.Sorted.{IsSorted, IsPermutation}
-use Rattle.std.proofs.lemmas.Bool.{cases_Bool, eq-eqb, ne_eqb}
-use Rattle.std.proofs.lemmas.List.{append-nil, length-map, get_or-map}
+use Rattle.std.proofs.lemmas.List.{append-nil}
 use Rattle.std.proofs.lemmas.List.Elements.{filter_map-append}
-use Rattle.std.proofs.lemmas.List.Folds.{list_all-append, list_any-append}
-use Rattle.sqlite.specs.declared.types.Value.TheVariants.{Int, Null}
-use Rattle.sqlite.specs.Collation.TheVariants.{Binary}
-use Rattle.sqlite.specs.Command.TheVariants.{Select}
 use Rattle.sqlite.specs.Listing.{understood}
-use Rattle.sqlite.specs.Order.{Row, column}
 use Rattle.sqlite.specs.Query.{key_cmp}
-use Rattle.sqlite.specs.Term.{Term, col}
-use Rattle.sqlite.specs.Tree.{Trees}
 use Rattle.sqlite_tied.specs.Compute.{everything}
-use Rattle.sqlite_value.specs.Keys.{ascending}
-use Rattle.sqlite_value.specs.Order.{value_cmp}
-use Rattle.sqlite_value.specs.declared.keys.Key.{Key}
-use Rattle.sqlite_value.proofs.OrderLemmas.{then-Equal}
-use Rattle.isad_core.specs.Words.{is_between, stands}
-use Rattle.office_tables.specs.Versions.{Version}
-use Rattle.catalogue_core.specs.CatalogueCauses.{unit_numbers, is_good_housing}
-use Rattle.catalogue_core.specs.CatalogueRows.{HousingRow}
-use Rattle.office_tables.specs.Cells.{has_unread}
-use Rattle.office_tables.specs.CatalogueCells.{read_unit, read_housing}
-use Rattle.office_tables.specs.StatementMeaning.{Means}
 use Rattle.office_tables.specs.Schema as tables
-use Rattle.office_tables.proofs.ByNumber.{Up, up_read}
-use Rattle.office_tables.proofs.CellTexts.{from_first}
-use Rattle.office_tables.proofs.Queries.{asking}
-use Rattle.row_decoding.specs.Readings.{by_rowid}
-use Rattle.row_decoding.proofs.TableReads.{same_rows, show}
-use Rattle.row_decoding.specs.TableRows.{then_by, catalogue_in, containers_in}
-use Rattle.integrity_checks.specs.ScanAnswers.{is_placed, read_placed, said_placed}
-use Rattle.integrity_checks.specs.HousingPlaces.{higher, are_filled, AreHoused}
-use Rattle.integrity_checks.specs.CatalogueJudgments.{good_housings_in}
-use Rattle.row_decoding.proofs.Alike.{Alike, permuted, alike_then, all_alike, filter_alike, ordered_alike, read_alike}
+use Rattle.integrity_checks.proofs.Common.{Alike, AllByRecursion, AreHoused, Binary, HousingRow, Int, IsPermutation, IsSorted, Key, Means, Null, Row, Select, Term, Trees, Up, Version, alike_then, all_alike, are_filled, ascending, asking, by_rowid, cases_Bool, catalogue_in, col, column, cons_option, containers_in, eq-eqb, filter_alike, from_first, get_or-map, good_housings_in, has_unread, higher, is_between, is_good_housing, is_lt, is_placed, le_refl, length-map, list_all, list_all-append, list_any-append, ne_eqb, option_map_or, ordered_alike, ordering_then, permuted, read_alike, read_housing, read_placed, read_unit, said_placed, same_rows, show, stands, then-Equal, then_by, unit_numbers, up_read, value_cmp}
 use Rattle.integrity_checks.proofs.FilledUnits.{unit_of, rows_of, higher_is, filled_judged}
 use Rattle.integrity_checks.proofs.Tested.{all_same, said_shown, unread_shown, passes, judged, unread_tested, same_tested}
 use Rattle.integrity_checks.proofs.UnitsThere.{HasUnit, housing_unit, housing_has_unit}
@@ -82,8 +49,11 @@ module _ (rows : List Row) (row : Row) where
       it_more : filter_map said_placed (rows ++ row ∷ []) ≡ filter_map said_placed rows ++ it ∷ []
       it_more = said_more ∙ ap (λ o. filter_map said_placed rows ++ cons_option o []) is
 
-      then_it : (more : List HousingRow) → (not (has_unread said_placed (rows ++ row ∷ [])) && are_filled 0 0 0 (filter_map said_placed (rows ++ row ∷ []) ++ more)) ≡ (good && are_filled unit count highest (it ∷ more))
-      then_it more = ap₂ (λ b l. not b && are_filled 0 0 0 l) none_more (ap (λ l. l ++ more) it_more ∙ put_last (filter_map said_placed rows) it more) ∙ so_far.filled (it ∷ more)
+      then_it : (more : List HousingRow)
+          → (not (has_unread said_placed (rows ++ row ∷ [])) && are_filled 0 0 0 (filter_map said_placed (rows ++ row ∷ []) ++ more)) ≡ (good && are_filled unit count highest (it ∷ more))
+      then_it more =
+          ap₂ (λ b l. not b && are_filled 0 0 0 l) none_more (ap (λ l. l ++ more) it_more ∙ put_last (filter_map said_placed rows) it more)
+          ∙ so_far.filled (it ∷ more)
 
       then_contained : (n : ℕ) → nat_le last_now n ≡ list_all (within n) (filter_map said_placed (rows ++ row ∷ []))
       then_contained n =
@@ -93,16 +63,22 @@ module _ (rows : List Row) (row : Row) where
           and_true true = refl
           and_true false = refl
 
-      pub same_unit : it.unit ≡ unit → (highest_now : ℕ) → highest_now ≡ higher highest it.ord → AreHoused (rows ++ row ∷ []) good unit (count + 1) highest_now last_now
+      pub same_unit : it.unit ≡ unit → (highest_now : ℕ) → highest_now ≡ higher highest it.ord
+          → AreHoused (rows ++ row ∷ []) good unit (count + 1) highest_now last_now
       same_unit h highest_now highest_is = record {
-        filled = λ more. then_it more ∙ ap (λ b. good && cond b (are_filled unit (suc count) (higher highest it.ord) more) (nat_le highest count && are_filled it.unit 1 it.ord more)) (eq-eqb it.unit unit h)
+        filled =
+            λ more. then_it more
+            ∙ ap (λ b. good && cond b (are_filled unit (suc count) (higher highest it.ord) more) (nat_le highest count && are_filled it.unit 1 it.ord more)) (eq-eqb it.unit unit h)
             ∙ ap₂ (λ n m. good && are_filled unit n m more) (let one : suc count ≡ count + 1 = omega arith in one) (sym highest_is);
         contained = then_contained;
       }
 
-      next_unit : (it.unit ≡ unit → ⊥) → (good_now : Bool) → good_now ≡ (good && nat_le highest count) → AreHoused (rows ++ row ∷ []) good_now it.unit 1 it.ord last_now
+      next_unit : (it.unit ≡ unit → ⊥) → (good_now : Bool) → good_now ≡ (good && nat_le highest count)
+          → AreHoused (rows ++ row ∷ []) good_now it.unit 1 it.ord last_now
       next_unit h good_now now = record {
-        filled = λ more. then_it more ∙ ap (λ b. good && cond b (are_filled unit (suc count) (higher highest it.ord) more) (nat_le highest count && are_filled it.unit 1 it.ord more)) (ne_eqb it.unit unit h)
+        filled =
+            λ more. then_it more
+            ∙ ap (λ b. good && cond b (are_filled unit (suc count) (higher highest it.ord) more) (nat_le highest count && are_filled it.unit 1 it.ord more)) (ne_eqb it.unit unit h)
             ∙ regroup good (nat_le highest count) (are_filled it.unit 1 it.ord more) ∙ ap (λ b. b && are_filled it.unit 1 it.ord more) (sym now);
         contained = then_contained;
       }
@@ -111,14 +87,16 @@ module _ (rows : List Row) (row : Row) where
           regroup true b c = refl
           regroup false b c = refl
 
-      pub next_filled : (it.unit ≡ unit → ⊥) → nat_le highest count ≡ true → AreHoused (rows ++ row ∷ []) good it.unit 1 it.ord last_now
+      pub next_filled : (it.unit ≡ unit → ⊥) → nat_le highest count ≡ true
+          → AreHoused (rows ++ row ∷ []) good it.unit 1 it.ord last_now
       next_filled h full = next_unit h good (sym (ap (λ b. good && b) full ∙ only good))
         where
           only : (b : Bool) → (b && true) ≡ b
           only true = refl
           only false = refl
 
-      pub next_above : (it.unit ≡ unit → ⊥) → nat_le highest count ≡ false → AreHoused (rows ++ row ∷ []) false it.unit 1 it.ord last_now
+      pub next_above : (it.unit ≡ unit → ⊥) → nat_le highest count ≡ false
+          → AreHoused (rows ++ row ∷ []) false it.unit 1 it.ord last_now
       next_above h above = next_unit h false (sym (ap (λ b. good && b) above ∙ never good))
         where
           never : (b : Bool) → (b && false) ≡ false
@@ -139,7 +117,8 @@ by_unit_and_ord = (col 1 1, ascending Binary) ∷ (col 1 2, ascending Binary) �
 abbrev pub housings_names : List (List ℕ)
 housings_names = codes "unit" ∷ codes "ord" ∷ codes "container" ∷ []
 
-pub housings_mean : (v : Version) → Means v housings_text 0 (Select (asking tables.housing [] housings_terms by_unit_and_ord) housings_names)
+pub housings_mean : (v : Version)
+    → Means v housings_text 0 (Select (asking tables.housing [] housings_terms by_unit_and_ord) housings_names)
 unfolding understood everything
 housings_mean v = record { is = refl; plain = (refl, refl); whole = (le_refl _, refl, refl); unlisted = refl }
 
@@ -151,7 +130,8 @@ show_housing = show housings_terms
 abbrev pub by_unit : Row → Row → Ordering
 by_unit a b = ordering_then (value_cmp (column a 1) (column b 1)) (value_cmp (column a 2) (column b 2))
 
-pub compares : (a b : Row) → key_cmp 0 (ascending Binary ∷ ascending Binary ∷ []) (column a 1 ∷ column a 2 ∷ []) (column b 1 ∷ column b 2 ∷ []) ≡ by_unit a b
+pub compares : (a b : Row)
+    → key_cmp 0 (ascending Binary ∷ ascending Binary ∷ []) (column a 1 ∷ column a 2 ∷ []) (column b 1 ∷ column b 2 ∷ []) ≡ by_unit a b
 compares a b = ap (ordering_then (value_cmp (column a 1) (column b 1))) (then-Equal (value_cmp (column a 2) (column b 2)))
 
 not_less : (o p : Ordering) → is_lt (ordering_then o p) ≡ false → is_lt o ≡ false
@@ -201,10 +181,13 @@ split true false false there = refl
 split false below true there = refl
 split false below false there = refl
 
-all_split : (p c w : HousingRow → Bool) (good : HousingRow → Bool) (rows : List HousingRow) → ((row : HousingRow) → good row ≡ (p row && (c row && w row)))
+all_split : (p c w : HousingRow → Bool) (good : HousingRow → Bool) (rows : List HousingRow)
+    → ((row : HousingRow) → good row ≡ (p row && (c row && w row)))
     → list_all good rows ≡ (list_all p rows && (list_all c rows && list_all w rows))
 all_split p c w good [] is = refl
-all_split p c w good (row ∷ rows) is = ap₂ ◌&&◌ (is row) (all_split p c w good rows is) ∙ crossed (p row) (c row) (w row) (list_all p rows) (list_all c rows) (list_all w rows)
+all_split p c w good (row ∷ rows) is =
+    ap₂ ◌&&◌ (is row) (all_split p c w good rows is)
+    ∙ crossed (p row) (c row) (w row) (list_all p rows) (list_all c rows) (list_all w rows)
   where
     crossed : (a b c d e f : Bool) → ((a && (b && c)) && (d && (e && f))) ≡ ((a && d) && ((b && e) && (c && f)))
     crossed true true true d e f = refl
@@ -215,7 +198,8 @@ all_split p c w good (row ∷ rows) is = ap₂ ◌&&◌ (is row) (all_split p c 
     crossed true false c false e f = refl
     crossed false b c d e f = refl
 
-ends : (untold unread placed c w good filled last : Bool) → untold ≡ (unread || not placed) → (good && filled) ≡ (not untold && w) → last ≡ c
+ends : (untold unread placed c w good filled last : Bool) → untold ≡ (unread || not placed)
+    → (good && filled) ≡ (not untold && w) → last ≡ c
     → ((good && filled) && last) ≡ not (unread || not (placed && (c && w)))
 ends untold unread placed c w good filled last is kept fits =
     ap₂ ◌&&◌ (kept ∙ ap (λ b. not b && w) is) fits ∙ told unread placed
@@ -268,7 +252,8 @@ module _ (v : Version) (db : Trees) (units_read : has_unread read_unit (db table
           and_true (stands h.unit (unit_numbers (catalogue_in v db))) (is_between 1 (length (containers_in db)) h.container && is_between 1 (rows_of h.unit in_catalogue) h.ord) (housing_has_unit v db units_read row h read has)
           ∙ ap (λ n. is_between 1 n h.container && is_between 1 (rows_of h.unit in_catalogue) h.ord) as_many
 
-  same_tests : (rows : List Row) → AllByRecursion (HasUnit v db) rows → AllByRecursion (λ row. passes read_housing good_row row ≡ passes read_housing fits row) rows
+  same_tests : (rows : List Row) → AllByRecursion (HasUnit v db) rows
+      → AllByRecursion (λ row. passes read_housing good_row row ≡ passes read_housing fits row) rows
   same_tests [] h = tt
   same_tests (row ∷ rows) h = (same_test row h.0, same_tests rows h.1)
 
@@ -283,17 +268,21 @@ module _ (v : Version) (db : Trees) (units_read : has_unread read_unit (db table
   judged_so : good_housings_in v db ≡ not (has_unread read_housing ys || not (list_all is_placed housings && (list_all (within containers) housings && list_all lies_low housings)))
   judged_so =
       ap (λ b. not (has_unread read_housing table) && b) (all_alike good_row in_catalogue (filter_map read_housing table) (ordered_alike (then_by (λ (row : HousingRow). row.unit) (λ (row : HousingRow). row.ord)) (filter_map read_housing table)))
-      ∙ both (has_unread read_housing table) (list_all good_row (filter_map read_housing table)) ∙ ap not (judged read_housing good_row table)
+      ∙ both (has_unread read_housing table) (list_all good_row (filter_map read_housing table))
+      ∙ ap not (judged read_housing good_row table)
       ∙ ap (λ b. not (not b)) (all_same (passes read_housing good_row) (passes read_housing fits) table (same_tests table kept) ∙ all_alike (passes read_housing fits) table ys (permuted table ys same))
       ∙ ap not (sym (judged read_housing fits ys)) ∙ ap (λ b. not (has_unread read_housing ys || not b)) same_fits
 
   untold : has_unread said_placed rows ≡ (has_unread read_housing ys || not (list_all is_placed housings))
-  untold = ap (has_unread said_placed) shown ∙ unread_shown said_placed read_placed show_housing (λ _. refl) ys ∙ unread_tested read_housing is_placed (λ row. row) ys
+  untold =
+      ap (has_unread said_placed) shown ∙ unread_shown said_placed read_placed show_housing (λ _. refl) ys
+      ∙ unread_tested read_housing is_placed (λ row. row) ys
 
   told : has_unread said_placed rows ≡ false → said ≡ housings
   told none =
       ap (filter_map said_placed) shown ∙ said_shown said_placed read_placed show_housing (λ _. refl) ys
-      ∙ same_tested read_housing is_placed (λ row. row) ys (sym (ap (has_unread said_placed) shown ∙ unread_shown said_placed read_placed show_housing (λ _. refl) ys) ∙ none) ∙ sym (same_rows housings)
+      ∙ same_tested read_housing is_placed (λ row. row) ys (sym (ap (has_unread said_placed) shown ∙ unread_shown said_placed read_placed show_housing (λ _. refl) ys) ∙ none)
+      ∙ sym (same_rows housings)
 
   up : Up unit_of said
   up = subst (λ rs. Up unit_of (filter_map said_placed rs)) (sym shown) (up_read said_placed unit_of keyed (map show_housing ys) (sorted_shown ys sorted))

@@ -1,44 +1,16 @@
 -- The readers are judged in the order of their tickets.
 use Rattle.std.proofs.Common.{length-append, inl, inr, ◌≡◌, ℕ, suc, pos, ◌+◌, List, [], ◌∷◌, ◌++◌, length, map, Bool, true, false, cond, not, ◌&&◌, ◌||◌, nat_eq, nat_le, Option, Some, None, is_none, filter_map, refl, sym, ap, ap₂, ◌∙◌, arith, codes}
-use Rattle.std.proofs.Math.Nat.{le_refl}
-use Rattle.std.specs.List.{list_all, cons_option}
-use Rattle.std.specs.Option.{option_map_or}
-use Rattle.std.specs.List.Sorted.{IsSorted, IsPermutation}
-use Rattle.std.proofs.lemmas.List.{length-map}
-use Rattle.std.proofs.lemmas.List.Sorted.{list_any-IsPermutation, length_permutation}
-use Rattle.std.proofs.lemmas.Bool.{cases_Bool, or_parts}
-use Rattle.std.proofs.Math.Bool.{and-true, and-false}
-use Rattle.sqlite.specs.declared.types.Value.TheVariants.{Int}
-use Rattle.sqlite.specs.Order.{Row, column}
-use Rattle.sqlite.specs.Tree.{Trees}
-use Rattle.sqlite.specs.Term.{Term, col}
-use Rattle.sqlite.specs.Collation.TheVariants.{Binary}
-use Rattle.sqlite_value.specs.Keys.{ascending}
-use Rattle.sqlite_value.specs.declared.keys.Key.{Key}
-use Rattle.sqlite.specs.Command.TheVariants.{Select}
 use Rattle.sqlite.specs.Listing.{understood}
 use Rattle.sqlite_tied.specs.Compute.{everything}
-use Rattle.office_tables.specs.Versions.{Version}
-use Rattle.isad_core.specs.Words.{are_numbered_from}
-use Rattle.desk_core.specs.DeskCauses.{is_good_reader}
-use Rattle.desk_core.specs.DeskRows.{ReaderRow}
-use Rattle.desk_core.specs.Orders.{in_order}
-use Rattle.office_tables.specs.Cells.{has_unread, number_in, whole_in, text_in}
-use Rattle.office_tables.specs.DeskCells.{read_reader}
-use Rattle.office_tables.specs.StatementMeaning.{Means}
 use Rattle.office_tables.specs.Schema.{reader}
-use Rattle.office_tables.proofs.CellTexts.{from_first}
-use Rattle.office_tables.proofs.Queries.{asking}
-use Rattle.row_decoding.proofs.Alike.{all_as_any}
-use Rattle.row_decoding.proofs.ToldCells.{is_number}
-use Rattle.row_decoding.specs.TableRows.{readers_in}
-use Rattle.integrity_checks.specs.ReaderRows.{is_reader_with, is_reader_answer, are_reader_answers, are_registered_well, readers_are_defective, number_registered}
+use Rattle.office_tables.proofs.ByNumber.{by}
+use Rattle.integrity_checks.proofs.Common.{Binary, Int, IsPermutation, IsSorted, Key, Means, ReaderRow, Row, Select, Term, Trees, Version, all_as_any, and-false, and-true, any_ordered, any_read, are_numbered_from, are_reader_answers, are_registered_well, ascending, asking, by_key, cases_Bool, col, column, cons_option, from_first, has_unread, in_order, is_good_reader, is_number, is_reader_answer, is_reader_with, le_refl, length-map, length_ordered, length_permutation, length_read, list_all, list_any-IsPermutation, number_in, number_registered, option_map_or, or_parts, read_by_number, read_reader, readers_are_defective, readers_in, text_in, whole_in}
 use Rattle.integrity_checks.proofs.JudgedContainers.{mixed}
-use Rattle.office_tables.proofs.ByNumber.{by, by_key, read_by_number, any_read, any_ordered, length_read, length_ordered}
 
 -- ---- one row more
 
-pub one_more : (n : ℕ) (rows : List Row) (row : Row) → are_reader_answers n (rows ++ row ∷ []) ≡ (are_reader_answers n rows && is_reader_answer (n + length rows) row)
+pub one_more : (n : ℕ) (rows : List Row) (row : Row)
+    → are_reader_answers n (rows ++ row ∷ []) ≡ (are_reader_answers n rows && is_reader_answer (n + length rows) row)
 one_more n [] row = and-true (is_reader_answer n row) ∙ ap (λ k. is_reader_answer k row) (let same : n ≡ n + 0 = omega arith in same)
 one_more n (r ∷ rows) row =
     elim (is_reader_answer n r) as (λ b. (b && are_reader_answers (suc n) (rows ++ row ∷ [])) ≡ ((b && are_reader_answers (suc n) rows) && is_reader_answer (n + suc (length rows)) row)) [
@@ -46,16 +18,19 @@ one_more n (r ∷ rows) row =
       | false ↦ refl
     ]
 
-taken : (count : ℕ) (good answer : Bool) (rows : List Row) (row : Row) → count ≡ length rows → good ≡ are_reader_answers 1 rows → answer ≡ is_reader_answer (count + 1) row
+taken : (count : ℕ) (good answer : Bool) (rows : List Row) (row : Row) → count ≡ length rows
+    → good ≡ are_reader_answers 1 rows → answer ≡ is_reader_answer (count + 1) row
     → (count + 1 ≡ length (rows ++ row ∷ [])) × ((good && answer) ≡ are_reader_answers 1 (rows ++ row ∷ []))
 taken count good answer rows row counted so_far is =
     (omega (arith, counted, length-append rows (row ∷ [])), ap₂ ◌&&◌ so_far (is ∙ ap (λ k. is_reader_answer k row) (let same : count + 1 ≡ 1 + length rows = omega (arith, counted) in same)) ∙ sym (one_more 1 rows row))
 
-pub taken_bad : (count : ℕ) (good answer : Bool) (rows : List Row) (row : Row) → answer ≡ false → count ≡ length rows → good ≡ are_reader_answers 1 rows → answer ≡ is_reader_answer (count + 1) row
+pub taken_bad : (count : ℕ) (good answer : Bool) (rows : List Row) (row : Row) → answer ≡ false → count ≡ length rows
+    → good ≡ are_reader_answers 1 rows → answer ≡ is_reader_answer (count + 1) row
     → (count + 1 ≡ length (rows ++ row ∷ [])) × (false ≡ are_reader_answers 1 (rows ++ row ∷ []))
 taken_bad count good answer rows row fails counted so_far is = let all = taken count good answer rows row counted so_far is in (all.0, sym (and-false good) ∙ ap (λ b. good && b) (sym fails) ∙ all.1)
 
-pub taken_good : (count : ℕ) (good answer : Bool) (rows : List Row) (row : Row) → answer ≡ true → count ≡ length rows → good ≡ are_reader_answers 1 rows → answer ≡ is_reader_answer (count + 1) row
+pub taken_good : (count : ℕ) (good answer : Bool) (rows : List Row) (row : Row) → answer ≡ true → count ≡ length rows
+    → good ≡ are_reader_answers 1 rows → answer ≡ is_reader_answer (count + 1) row
     → (count + 1 ≡ length (rows ++ row ∷ [])) × (good ≡ are_reader_answers 1 (rows ++ row ∷ []))
 taken_good count good answer rows row passes counted so_far is = let all = taken count good answer rows row counted so_far is in (all.0, sym (and-true good) ∙ ap (λ b. good && b) (sym passes) ∙ all.1)
 
@@ -73,7 +48,8 @@ by_ticket = (col 1 0, ascending Binary) ∷ []
 abbrev pub all_readers_names : List (List ℕ)
 all_readers_names = codes "ticket" ∷ codes "until" ∷ codes "name" ∷ []
 
-pub all_readers_means : (v : Version) → Means v all_readers_text 0 (Select (asking reader [] all_readers_terms by_ticket) all_readers_names)
+pub all_readers_means : (v : Version)
+    → Means v all_readers_text 0 (Select (asking reader [] all_readers_terms by_ticket) all_readers_names)
 unfolding understood everything
 all_readers_means v = record { is = refl; plain = (refl, refl); whole = (le_refl _, refl, refl); unlisted = refl }
 
@@ -99,18 +75,22 @@ answers_read n [] = refl
 answers_read n (y ∷ ys) = at (answers_read (suc n) ys) (read_reader y)
   where
     at : are_reader_answers (suc n) (map shown_reader ys) ≡ (not (has_unread read_reader ys) && (are_numbered_from ticket_of (suc n) (filter_map read_reader ys) && list_all is_good_reader (filter_map read_reader ys)))
-        → (o : Option ReaderRow) → (option_map_or (is_reader_with n) o false && are_reader_answers (suc n) (map shown_reader ys))
+        → (o : Option ReaderRow)
+        → (option_map_or (is_reader_with n) o false && are_reader_answers (suc n) (map shown_reader ys))
         ≡ (not (is_none o || has_unread read_reader ys) && (are_numbered_from ticket_of n (cons_option o (filter_map read_reader ys)) && list_all is_good_reader (cons_option o (filter_map read_reader ys))))
     at more None = refl
     at more (Some c) = ap (λ b. is_reader_with n c && b) more
         ∙ mixed (nat_eq c.ticket n) (is_good_reader c) (not (has_unread read_reader ys)) (are_numbered_from ticket_of (suc n) (filter_map read_reader ys)) (list_all is_good_reader (filter_map read_reader ys))
 
-same_all : (table ys : List Row) → IsPermutation table ys → list_all is_good_reader (filter_map read_reader ys) ≡ list_all is_good_reader (in_order (by ticket_of) (filter_map read_reader table))
+same_all : (table ys : List Row) → IsPermutation table ys
+    → list_all is_good_reader (filter_map read_reader ys) ≡ list_all is_good_reader (in_order (by ticket_of) (filter_map read_reader table))
 same_all table ys same =
     let p = λ (c : ReaderRow). not (is_good_reader c) in
     all_as_any is_good_reader (filter_map read_reader ys) ∙ ap not (any_read read_reader p ys
-    ∙ sym (list_any-IsPermutation (λ row. option_map_or p (read_reader row) false) table ys same) ∙ sym (any_read read_reader p table)
-    ∙ sym (any_ordered ticket_of p (by ticket_of) (filter_map read_reader table))) ∙ sym (all_as_any is_good_reader (in_order (by ticket_of) (filter_map read_reader table)))
+    ∙ sym (list_any-IsPermutation (λ row. option_map_or p (read_reader row) false) table ys same)
+    ∙ sym (any_read read_reader p table)
+    ∙ sym (any_ordered ticket_of p (by ticket_of) (filter_map read_reader table)))
+    ∙ sym (all_as_any is_good_reader (in_order (by ticket_of) (filter_map read_reader table)))
 
 three : (a b c : Bool) → ((a && b) && c) ≡ (a && (c && b))
 three true true true = refl
@@ -119,11 +99,15 @@ three true false true = refl
 three true false false = refl
 three false b c = refl
 
-pub readers_judged : (db : Trees) (ys rows : List Row) (count : ℕ) (good : Bool) → IsPermutation (db 0) ys → IsSorted (by_key read_reader ticket_of keyed) ys → rows ≡ map shown_reader ys
-    → count ≡ length rows → good ≡ are_reader_answers 1 rows → not (good && nat_le count 1000000) ≡ readers_are_defective db
+pub readers_judged : (db : Trees) (ys rows : List Row) (count : ℕ) (good : Bool) → IsPermutation (db 0) ys
+    → IsSorted (by_key read_reader ticket_of keyed) ys → rows ≡ map shown_reader ys
+    → count ≡ length rows → good ≡ are_reader_answers 1 rows
+    → not (good && nat_le count 1000000) ≡ readers_are_defective db
 readers_judged db ys rows count good same sorted shown counted is = elim (cases_Bool (has_unread read_reader (db 0))) [
   | inl some ↦
-      let bad : good ≡ false = all_told ∙ ap (λ b. not b && (are_numbered_from ticket_of 1 (filter_map read_reader ys) && list_all is_good_reader (filter_map read_reader ys))) (unread ∙ some) in
+      let bad : good ≡ false =
+      all_told
+      ∙ ap (λ b. not b && (are_numbered_from ticket_of 1 (filter_map read_reader ys) && list_all is_good_reader (filter_map read_reader ys))) (unread ∙ some) in
       ap (λ b. not (b && nat_le count 1000000)) bad ∙ sym (ap (λ b. b || not (are_registered_well (readers_in db))) some)
   | inr none ↦
       let told : good ≡ (are_numbered_from ticket_of 1 (filter_map read_reader ys) && list_all is_good_reader (filter_map read_reader ys)) =
@@ -143,7 +127,8 @@ readers_judged db ys rows count good same sorted shown counted is = elim (cases_
     all_told = is ∙ ap (are_reader_answers 1) shown ∙ answers_read 1 ys
 
 -- as many are counted as there are, where all of them can be read
-counted_all : (db : Trees) (ys rows : List Row) (count : ℕ) → IsPermutation (db 0) ys → rows ≡ map shown_reader ys → count ≡ length rows → has_unread read_reader (db 0) ≡ false → count ≡ length (readers_in db)
+counted_all : (db : Trees) (ys rows : List Row) (count : ℕ) → IsPermutation (db 0) ys → rows ≡ map shown_reader ys
+    → count ≡ length rows → has_unread read_reader (db 0) ≡ false → count ≡ length (readers_in db)
 counted_all db ys rows count same shown counted none =
     counted ∙ ap length shown ∙ length-map ys shown_reader ∙ length_permutation (db 0) ys same ∙ sym (length_read read_reader (db 0) none) ∙ sym (length_ordered ticket_of (by ticket_of) (filter_map read_reader (db 0)))
 

@@ -1,37 +1,25 @@
 -- What is judged of the rows of a table holds of the table.
 use Rattle.std.proofs.Common.{◌≡◌, ℕ, pos, List, length, Bool, true, false, not, ◌&&◌, ◌||◌, Option, Some, None, filter_map, refl, ap, ap₂, ◌∙◌}
-use Rattle.std.specs.List.{list_all, count_by}
-use Rattle.sqlite.specs.declared.types.Value.TheVariants.{Int}
-use Rattle.sqlite.specs.Order.{Row, column}
-use Rattle.sqlite.specs.Tree.{Trees}
-use Rattle.isad_core.specs.Words.{are_numbered_from}
 use Rattle.desk_core.specs.DeskCauses as causes
-use Rattle.desk_core.specs.DeskCauses.{is_good_seat, is_good_permit, are_good_orders, are_good_holdings, are_good_runs, orders_are_bad}
-use Rattle.desk_core.specs.DeskRows.{Desk, ReaderRow, SeatRow, OrderRow, HoldingRow, RunRow, RunLineRow, PermitRow}
-use Rattle.desk_core.specs.Orders.{in_order}
-use Rattle.office_tables.specs.Cells.{has_unread, number_in, whole_in}
-use Rattle.office_tables.specs.DeskCells.{read_seat, read_order, read_holding, read_run, read_run_line, read_permit}
+use Rattle.desk_core.specs.DeskRows.{OrderRow}
 use Rattle.office_tables.specs.Schema as tables
-use Rattle.office_tables.proofs.ByNumber.{read_by_number}
-use Rattle.office_tables.proofs.CellTexts.{from_first}
 use Rattle.desk_core.specs.declared.consistency.context.Around.{Around}
-use Rattle.desk_core.specs.RowRecords.{Surrounds}
-use Rattle.row_decoding.specs.TableRows.{by, desk_in}
-use Rattle.integrity_checks.specs.DeskChecks.{orders_are_defective}
-use Rattle.integrity_checks.specs.DeskJudgments.{good_seats_in, good_permits_in, good_holdings_in, good_runs_in, AreOrdersOf}
-use Rattle.row_decoding.specs.Readings.{AreRead, by_rowid, in_any_order}
-use Rattle.row_decoding.proofs.Alike.{Alike, keyed_alike}
+use Rattle.row_decoding.specs.TableRows.{by}
+use Rattle.integrity_checks.proofs.Common.{Alike, AreOrdersOf, AreRead, Desk, HoldingRow, Int, PermitRow, ReaderRow, Row, RunLineRow, RunRow, SeatRow, Surrounds, Trees, are_good_holdings, are_good_orders, are_good_runs, are_numbered_from, by_rowid, column, count_by, desk_in, from_first, good_holdings_in, good_permits_in, good_runs_in, good_seats_in, has_unread, in_any_order, in_order, is_good_permit, is_good_seat, is_number, keyed_alike, list_all, number_in, orders_are_bad, orders_are_defective, read_by_number, read_holding, read_order, read_permit, read_run, read_run_line, read_seat, whole_in}
 use Rattle.integrity_checks.proofs.DesksAlike.{seats_alike, permits_alike, orders_alike, holdings_alike, runs_alike}
-use Rattle.row_decoding.proofs.ToldCells.{is_number}
 
 -- ---- what is read of a table
 
-pub alike_of : {X : Type 0} {comes : _} {read : Row → Option X} {table : List Row} {rows : List X} {all : Bool} (before : X → X → Bool) → AreRead comes read table rows all → Alike rows (in_order before (filter_map read table))
+pub alike_of : {X : Type 0} {comes : _} {read : Row → Option X} {table : List Row} {rows : List X} {all : Bool} (before : X → X → Bool)
+    → AreRead comes read table rows all → Alike rows (in_order before (filter_map read table))
 alike_of {read} {table} before it p = ap (count_by p) it.are ∙ keyed_alike read before table it.stored it.same p
 
-numbered_of : {X : Type 0} {read : Row → Option X} {table : List Row} {rows : List X} {all : Bool} (number : X → ℕ) → ((row : Row) (x : X) → read row ≡ Some x → column row 0 ≡ Int (pos (number x)))
-    → AreRead by_rowid read table rows all → has_unread read table ≡ false → are_numbered_from number 1 rows ≡ are_numbered_from number 1 (in_order (by number) (filter_map read table))
-numbered_of {read} {table} number keyed it none = ap (are_numbered_from number 1) it.are ∙ read_by_number read number keyed table it.stored it.same it.sorted none
+numbered_of : {X : Type 0} {read : Row → Option X} {table : List Row} {rows : List X} {all : Bool} (number : X → ℕ)
+    → ((row : Row) (x : X) → read row ≡ Some x → column row 0 ≡ Int (pos (number x)))
+    → AreRead by_rowid read table rows all → has_unread read table ≡ false
+    → are_numbered_from number 1 rows ≡ are_numbered_from number 1 (in_order (by number) (filter_map read table))
+numbered_of {read} {table} number keyed it none =
+    ap (are_numbered_from number 1) it.are ∙ read_by_number read number keyed table it.stored it.same it.sorted none
 
 abbrev id_of : OrderRow → ℕ
 id_of row = row.id
@@ -72,7 +60,8 @@ both true good whole is = refl
 both false good true is = is refl
 both false good false is = is refl
 
-both_of_two : (u v good whole : Bool) → (u ≡ false → v ≡ false → good ≡ whole) → ((not u && not v) && good) ≡ not ((u || v) || not whole)
+both_of_two : (u v good whole : Bool) → (u ≡ false → v ≡ false → good ≡ whole)
+    → ((not u && not v) && good) ≡ not ((u || v) || not whole)
 both_of_two true v good whole is = refl
 both_of_two false true good whole is = refl
 both_of_two false false good true is = is refl refl
@@ -99,20 +88,26 @@ module _ (s : Around) (a : causes.Around) (db : Trees) (held : Surrounds s a (de
     beside : Surrounds s a e
     beside = same_readers s a d e same held
 
-  pub seats_judged : (seats : List SeatRow) (are_read good : Bool) → AreRead in_any_order read_seat (db tables.seat.tree) seats are_read
-      → ((b : causes.Around) (e : Desk) → Surrounds s b e → e.seats ≡ seats → good ≡ list_all (is_good_seat b e) e.seats) → (are_read && good) ≡ good_seats_in a db
+  pub seats_judged : (seats : List SeatRow) (are_read good : Bool)
+      → AreRead in_any_order read_seat (db tables.seat.tree) seats are_read
+      → ((b : causes.Around) (e : Desk) → Surrounds s b e → e.seats ≡ seats → good ≡ list_all (is_good_seat b e) e.seats)
+      → (are_read && good) ≡ good_seats_in a db
   seats_judged seats are_read good it is =
       let e = record d { seats = seats } in
       ap₂ ◌&&◌ it.all (is a e (beside e refl) refl ∙ seats_alike a d seats (alike_of _ it))
 
-  pub permits_judged : (permits : List PermitRow) (are_read good : Bool) → AreRead in_any_order read_permit (db tables.permit.tree) permits are_read
-      → ((b : causes.Around) (e : Desk) → Surrounds s b e → e.permits ≡ permits → good ≡ list_all (is_good_permit b e) e.permits) → (are_read && good) ≡ good_permits_in a db
+  pub permits_judged : (permits : List PermitRow) (are_read good : Bool)
+      → AreRead in_any_order read_permit (db tables.permit.tree) permits are_read
+      → ((b : causes.Around) (e : Desk) → Surrounds s b e → e.permits ≡ permits → good ≡ list_all (is_good_permit b e) e.permits)
+      → (are_read && good) ≡ good_permits_in a db
   permits_judged permits are_read good it is =
       let e = record d { permits = permits } in
       ap₂ ◌&&◌ it.all (is a e (beside e refl) refl ∙ permits_alike a d permits (alike_of _ it))
 
-  pub orders_judged : (orders : List OrderRow) (are_read good : Bool) → AreRead by_rowid read_order (db tables.orders.tree) orders are_read
-      → ((b : causes.Around) (e : Desk) → Surrounds s b e → e.orders ≡ orders → good ≡ are_good_orders b e) → (are_read && good) ≡ not (orders_are_defective a db)
+  pub orders_judged : (orders : List OrderRow) (are_read good : Bool)
+      → AreRead by_rowid read_order (db tables.orders.tree) orders are_read
+      → ((b : causes.Around) (e : Desk) → Surrounds s b e → e.orders ≡ orders → good ≡ are_good_orders b e)
+      → (are_read && good) ≡ not (orders_are_defective a db)
   orders_judged orders are_read good it is =
       let e = record d { orders = orders } in
       ap (λ b. b && good) it.all ∙ both (has_unread read_order (db tables.orders.tree)) good (are_good_orders a d)
@@ -125,14 +120,18 @@ module _ (s : Around) (a : causes.Around) (db : Trees) (held : Surrounds s a (de
     still_fine : orders_are_bad a (record d { orders = orders }) ≡ false
     still_fine = ap not (orders_alike a d orders alike (numbered_of id_of order_keyed are (none_unread _ are.all))) ∙ fine
 
-    pub holdings_judged : (holdings : List HoldingRow) (are_read good : Bool) → AreRead in_any_order read_holding (db tables.holding.tree) holdings are_read
-        → ((b : causes.Around) (e : Desk) → Surrounds s b e → e.orders ≡ orders → e.holdings ≡ holdings → orders_are_bad b e ≡ false → good ≡ are_good_holdings b e) → (are_read && good) ≡ good_holdings_in a db
+    pub holdings_judged : (holdings : List HoldingRow) (are_read good : Bool)
+        → AreRead in_any_order read_holding (db tables.holding.tree) holdings are_read
+        → ((b : causes.Around) (e : Desk) → Surrounds s b e → e.orders ≡ orders → e.holdings ≡ holdings → orders_are_bad b e ≡ false → good ≡ are_good_holdings b e)
+        → (are_read && good) ≡ good_holdings_in a db
     holdings_judged holdings are_read good it is =
         let e = record d { orders = orders; holdings = holdings } in
         ap (λ b. b && good) it.all ∙ both (has_unread read_holding (db tables.holding.tree)) good (are_good_holdings a d)
         (λ none. is a e (beside e refl) refl refl still_fine ∙ holdings_alike a d orders alike holdings (alike_of _ it))
 
-    pub runs_judged : (runs : List RunRow) (lines : List RunLineRow) (are_read are_read_too good : Bool) → AreRead by_rowid read_run (db tables.run.tree) runs are_read → AreRead in_any_order read_run_line (db tables.run_line.tree) lines are_read_too
+    pub runs_judged : (runs : List RunRow) (lines : List RunLineRow) (are_read are_read_too good : Bool)
+        → AreRead by_rowid read_run (db tables.run.tree) runs are_read
+        → AreRead in_any_order read_run_line (db tables.run_line.tree) lines are_read_too
         → ((b : causes.Around) (e : Desk) → Surrounds s b e → e.orders ≡ orders → e.runs ≡ runs → e.run_lines ≡ lines → orders_are_bad b e ≡ false → good ≡ are_good_runs b e)
         → ((are_read && are_read_too) && good) ≡ good_runs_in a db
     runs_judged runs lines are_read are_read_too good it too is =

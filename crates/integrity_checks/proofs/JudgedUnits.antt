@@ -1,37 +1,10 @@
 -- The units are judged beside the places.
 use Rattle.std.proofs.Common.{◌≡◌, ℕ, List, [], ◌∷◌, length, map, Bool, true, false, not, ◌&&◌, ◌||◌, nat_eq, nat_le, nat_lt, is_none, filter_map, refl, sym, ap, ap₂, ◌∙◌, codes}
-use Rattle.std.proofs.Math.Nat.{le_refl}
-use Rattle.std.specs.List.{list_all}
-use Rattle.std.specs.List.Sorted.{IsPermutation}
-use Rattle.std.proofs.lemmas.List.{length-map}
-use Rattle.std.proofs.lemmas.List.Folds.{list_all-map}
-use Rattle.std.proofs.lemmas.List.Sorted.{list_any-IsPermutation, length_permutation}
-use Rattle.sqlite.specs.Command.TheVariants.{Select}
 use Rattle.sqlite.specs.Listing.{understood}
-use Rattle.sqlite.specs.Order.{Row}
-use Rattle.sqlite.specs.Term.{Term, col}
-use Rattle.sqlite.specs.Tree.{Trees}
 use Rattle.sqlite_tied.specs.Compute.{everything}
-use Rattle.isad_core.specs.Limits.{most_units, most_deep}
-use Rattle.isad_core.specs.Words.{stands}
-use Rattle.office_tables.specs.Versions.{Version, encoding}
-use Rattle.tree_core.proofs.Lists.{list_any-map}
-use Rattle.catalogue_core.specs.CatalogueCauses.{unit_numbers, place_numbers, all_stand_in}
-use Rattle.catalogue_core.specs.CatalogueRows.{UnitRow, places_said}
-use Rattle.catalogue_core.specs.Moves.{height}
-use Rattle.office_tables.specs.Cells.{has_unread}
-use Rattle.office_tables.specs.CatalogueCells.{read_unit}
-use Rattle.office_tables.specs.StatementMeaning.{Means}
 use Rattle.office_tables.specs.Schema as tables
-use Rattle.office_tables.proofs.Queries.{asking}
-use Rattle.row_decoding.specs.Readings.{AreGathered}
-use Rattle.row_decoding.proofs.TableReads.{same_rows, show}
-use Rattle.row_decoding.specs.TableRows.{by, places_in, catalogue_in}
-use Rattle.integrity_checks.specs.PlaceChecks.{AreUnitsPlaced}
-use Rattle.integrity_checks.specs.ScanAnswers.{is_described, read_described, said_described}
-use Rattle.integrity_checks.specs.CatalogueChecks.{units_are_defective}
-use Rattle.integrity_checks.specs.CatalogueJudgments.{are_good_numbers}
-use Rattle.row_decoding.proofs.Alike.{Alike, permuted, alike_then, alike_back, any_alike, all_alike, length_alike, ordered_alike, read_alike}
+use Rattle.row_decoding.specs.TableRows.{by}
+use Rattle.integrity_checks.proofs.Common.{Alike, AreGathered, AreUnitsPlaced, IsPermutation, Means, Row, Select, Term, Trees, UnitRow, Version, alike_back, alike_then, all_alike, all_stand_in, any_alike, are_good_numbers, asking, catalogue_in, col, encoding, has_unread, height, is_described, le_refl, length-map, length_alike, length_permutation, list_all, list_all-map, list_any-IsPermutation, list_any-map, most_deep, most_units, ordered_alike, permuted, place_numbers, places_in, places_said, read_alike, read_described, read_unit, said_described, same_rows, show, stands, unit_numbers, units_are_defective}
 use Rattle.integrity_checks.proofs.Tested.{said_shown, unread_shown, unread_tested, same_tested}
 
 -- ---- the text
@@ -57,7 +30,8 @@ show_unit = show units_terms
 abbrev id_of : UnitRow → ℕ
 id_of row = row.id
 
-all_both : {X : Type 0} (p q : X → Bool) (xs : List X) → list_all (λ x. p x && q x) xs ≡ (list_all p xs && list_all q xs)
+all_both : {X : Type 0} (p q : X → Bool) (xs : List X)
+    → list_all (λ x. p x && q x) xs ≡ (list_all p xs && list_all q xs)
 all_both p q [] = refl
 all_both p q (x ∷ xs) = ap (λ b. (p x && q x) && b) (all_both p q xs) ∙ crossed (p x) (q x) (list_all p xs) (list_all q xs)
   where
@@ -67,7 +41,8 @@ all_both p q (x ∷ xs) = ap (λ b. (p x && q x) && b) (all_both p q xs) ∙ cro
     crossed true false false d = refl
     crossed false b c d = refl
 
-judged_both : (unread described below rest good fine : Bool) → good ≡ not (unread || not described) → (unread ≡ false → described ≡ true → fine ≡ (below && rest))
+judged_both : (unread described below rest good fine : Bool) → good ≡ not (unread || not described)
+    → (unread ≡ false → described ≡ true → fine ≡ (below && rest))
     → (good && fine) ≡ not (unread || not ((below && described) && rest))
 judged_both true d l r good fine is fit = ap (λ b. b && fine) is
 judged_both false false true r good fine is fit = ap (λ b. b && fine) is
@@ -81,11 +56,13 @@ judged_both false true false r good fine is fit = ap₂ ◌&&◌ is (fit refl re
 
 -- ---- numbers in another order
 
-all_stand_alike : (xs sorted ys others : List ℕ) → IsPermutation xs sorted → IsPermutation ys others → all_stand_in sorted others ≡ all_stand_in xs ys
+all_stand_alike : (xs sorted ys others : List ℕ) → IsPermutation xs sorted → IsPermutation ys others
+    → all_stand_in sorted others ≡ all_stand_in xs ys
 all_stand_alike xs sorted ys others same alike =
     sym (λ i. list_all (λ n. list_any-IsPermutation (nat_eq n) xs sorted same i) others) ∙ sym (all_alike (λ n. stands n xs) ys others (permuted ys others alike))
 
-pub numbers_alike : (next deep : ℕ) (numbers units placed places : List ℕ) → IsPermutation numbers units → IsPermutation placed places
+pub numbers_alike : (next deep : ℕ) (numbers units placed places : List ℕ) → IsPermutation numbers units
+    → IsPermutation placed places
     → are_good_numbers next places deep units ≡ are_good_numbers next placed deep numbers
 numbers_alike next deep numbers units placed places same alike =
     ap₂ ◌&&◌ (sym (all_alike (λ n. nat_lt n next) numbers units (permuted numbers units same)))
@@ -123,10 +100,15 @@ module _ (v : Version) (next : ℕ) (db : Trees) (ys rows : List Row) (numbers :
         ∙ same_tested read_unit is_described id_of ys (sym (ap (has_unread said_described) shown ∙ unread_shown said_described read_described show_unit (λ _. refl) ys) ∙ all_read)
 
     below : list_all (λ n. nat_lt n next) numbers ≡ list_all (λ (row : UnitRow). nat_lt row.id next) in_catalogue
-    below = ap (list_all (λ n. nat_lt n next)) are_numbers ∙ list_all-map (λ n. nat_lt n next) id_of units ∙ all_alike (λ (row : UnitRow). nat_lt row.id next) units in_catalogue alike
+    below =
+        ap (list_all (λ n. nat_lt n next)) are_numbers ∙ list_all-map (λ n. nat_lt n next) id_of units
+        ∙ all_alike (λ (row : UnitRow). nat_lt row.id next) units in_catalogue alike
 
     stand : (n : ℕ) → stands n numbers ≡ stands n (unit_numbers (catalogue_in v db))
-    stand n = ap (stands n) are_numbers ∙ list_any-map (nat_eq n) id_of units ∙ any_alike (λ (row : UnitRow). nat_eq n row.id) units in_catalogue alike ∙ sym (list_any-map (nat_eq n) id_of in_catalogue)
+    stand n =
+        ap (stands n) are_numbers ∙ list_any-map (nat_eq n) id_of units
+        ∙ any_alike (λ (row : UnitRow). nat_eq n row.id) units in_catalogue alike
+        ∙ sym (list_any-map (nat_eq n) id_of in_catalogue)
 
     as_many : length numbers ≡ length in_catalogue
     as_many = ap length are_numbers ∙ length-map units id_of ∙ length_alike units in_catalogue alike
@@ -141,7 +123,8 @@ module _ (v : Version) (next : ℕ) (db : Trees) (ys rows : List Row) (numbers :
       all_placed : all_stand_in places numbers ≡ all_stand_in in_places (unit_numbers (catalogue_in v db))
       all_placed =
           (λ i. list_all (λ n. stand_placed n i) numbers) ∙ ap (list_all (λ n. stands n in_places)) are_numbers ∙ list_all-map (λ n. stands n in_places) id_of units
-          ∙ all_alike (λ (row : UnitRow). stands row.id in_places) units in_catalogue alike ∙ sym (list_all-map (λ n. stands n in_places) id_of in_catalogue)
+          ∙ all_alike (λ (row : UnitRow). stands row.id in_places) units in_catalogue alike
+          ∙ sym (list_all-map (λ n. stands n in_places) id_of in_catalogue)
 
       all_there : all_stand_in numbers places ≡ all_stand_in (unit_numbers (catalogue_in v db)) in_places
       all_there =
@@ -152,7 +135,9 @@ module _ (v : Version) (next : ℕ) (db : Trees) (ys rows : List Row) (numbers :
           && (nat_le (length in_catalogue) most_units && nat_le (height (places_said (places_in (encoding v) db))) most_deep))))
       fits = ap₂ ◌&&◌ below (ap₂ ◌&&◌ all_placed (ap₂ ◌&&◌ all_there (ap₂ ◌&&◌ (ap (λ n. nat_le n most_units) as_many) (ap (λ n. nat_le n most_deep) depth))))
 
-  pub units_judged : (places : List ℕ) (deep : ℕ) → AreUnitsPlaced (places_in (encoding v) db) places → deep ≡ height (places_said (places_in (encoding v) db)) → (fine : Bool) → fine ≡ are_good_numbers next places deep numbers
+  pub units_judged : (places : List ℕ) (deep : ℕ) → AreUnitsPlaced (places_in (encoding v) db) places
+      → deep ≡ height (places_said (places_in (encoding v) db)) → (fine : Bool)
+      → fine ≡ are_good_numbers next places deep numbers
       → (good && fine) ≡ not (units_are_defective v next db)
   units_judged places deep placed depth fine is =
       let rest = all_stand_in (place_numbers (places_in (encoding v) db)) (unit_numbers (catalogue_in v db)) && (all_stand_in (unit_numbers (catalogue_in v db)) (place_numbers (places_in (encoding v) db))

@@ -1,3 +1,4 @@
+pub mod Common
 pub mod ExaminationEnds
 pub mod DesksAlike
 pub mod JudgedReaders

@@ -1,30 +1,16 @@
 -- An element, and a container of a unit, has its unit, since the rows of an open connection keep the foreign keys of its tables.
 use Rattle.std.proofs.Common.{◌≡◌, ℕ, pos, List, [], ◌∷◌, map, Bool, true, false, ◌||◌, Option, Some, None, is_none, refl, sym, ap, ap₂, subst, ◌∙◌, filter_map, nat_eq, IsTrue}
-use Rattle.std.specs.List.{list_any, list_all, AllByRecursion, cons_option}
-use Rattle.std.specs.Option.{option_map_or}
-use Rattle.std.proofs.lemmas.Bool.{or_parts, and_parts, true≢false}
-use Rattle.sqlite.specs.declared.types.Value.TheVariants.{Int}
-use Rattle.sqlite.specs.Order.{Row, column}
-use Rattle.sqlite.specs.Tree.{Trees}
 use Rattle.sqlite.specs.Effect.{IsDatabase}
 use Rattle.sqlite.specs.State.{State, IsLive}
 use Rattle.sqlite_schema.specs.Names.{same_name}
 use Rattle.sqlite_schema.specs.Rules.{agree, has_null, has_parent}
 use Rattle.sqlite_schema.specs.declared.schema.Constraint.TheVariants.{ForeignKey}
-use Rattle.sqlite_value.specs.Keys.{joined, first_key, plain}
-use Rattle.office_tables.specs.Versions.{Version, First, Second}
-use Rattle.isad_core.specs.Words.{stands}
-use Rattle.catalogue_core.specs.CatalogueCauses.{unit_numbers}
-use Rattle.catalogue_core.specs.CatalogueRows.{UnitRow, ElementRow, HousingRow}
+use Rattle.sqlite_value.specs.Keys.{joined, first_key}
 use Rattle.office_tables.specs.Schema as tables
 use Rattle.office_tables.specs.Schema.{schema, to_unit}
-use Rattle.office_tables.specs.Cells.{number_in, text_in, flag_in, whole_in, or_null_in, has_unread}
-use Rattle.office_tables.specs.CatalogueCells.{read_unit, read_element, read_housing}
-use Rattle.office_tables.proofs.CellTexts.{from_first}
 use Rattle.office_tables.proofs.Tests.{only, same_number}
-use Rattle.row_decoding.specs.TableRows.{by, catalogue_in}
-use Rattle.row_decoding.proofs.Alike.{any_alike, ordered_alike}
-use Rattle.row_decoding.proofs.ToldCells.{is_number}
+use Rattle.row_decoding.specs.TableRows.{by}
+use Rattle.integrity_checks.proofs.Common.{AllByRecursion, ElementRow, First, HousingRow, Int, Row, Second, Trees, UnitRow, Version, and_parts, any_alike, catalogue_in, column, cons_option, flag_in, from_first, has_unread, is_number, list_all, list_any, number_in, option_map_or, or_null_in, or_parts, ordered_alike, plain, read_element, read_housing, read_unit, stands, text_in, true≢false, unit_numbers, whole_in}
 
 -- ---- what a row that is read has
 
@@ -58,7 +44,8 @@ housing_unit row h is =
 -- ---- the unit of a row
 
 -- the row of the unit has the number
-key_is : (parent row : Row) (n m : ℕ) → column parent 0 ≡ Int (pos m) → column row 1 ≡ Int (pos n) → agree plain (0 ∷ []) parent (1 ∷ []) row ≡ nat_eq n m
+key_is : (parent row : Row) (n m : ℕ) → column parent 0 ≡ Int (pos m) → column row 1 ≡ Int (pos n)
+    → agree plain (0 ∷ []) parent (1 ∷ []) row ≡ nat_eq n m
 unfolding first_key
 key_is parent row n m p r = rw (p, r) (only (same_number m n))
 
@@ -68,9 +55,11 @@ is_of n unit = nat_eq n unit.id
 found : (row : Row) (n : ℕ) → column row 1 ≡ Int (pos n) → (units : List Row) → has_unread read_unit units ≡ false
     → list_any (λ parent. agree plain (0 ∷ []) parent (1 ∷ []) row) units ≡ list_any (is_of n) (filter_map read_unit units)
 found row n is [] all = refl
-found row n is (parent ∷ units) all = at (found row n is units (or_parts _ _ all).1) (read_unit parent) refl (or_parts _ _ all).0
+found row n is (parent ∷ units) all =
+    at (found row n is units (or_parts _ _ all).1) (read_unit parent) refl (or_parts _ _ all).0
   where
-    at : list_any (λ parent. agree plain (0 ∷ []) parent (1 ∷ []) row) units ≡ list_any (is_of n) (filter_map read_unit units) → (o : Option UnitRow) → read_unit parent ≡ o → is_none o ≡ false
+    at : list_any (λ parent. agree plain (0 ∷ []) parent (1 ∷ []) row) units ≡ list_any (is_of n) (filter_map read_unit units)
+        → (o : Option UnitRow) → read_unit parent ≡ o → is_none o ≡ false
         → (agree plain (0 ∷ []) parent (1 ∷ []) row || list_any (λ parent. agree plain (0 ∷ []) parent (1 ∷ []) row) units) ≡ list_any (is_of n) (cons_option o (filter_map read_unit units))
     at more None read h = absurd (true≢false h)
     at more (Some u) read h = ap₂ ◌||◌ (key_is parent row n u.id (unit_key parent u read) is) more
@@ -95,7 +84,8 @@ not_null : (row : Row) (n : ℕ) → column row 1 ≡ Int (pos n) → has_null (
 not_null row n is = rw is refl
 
 module _ (v : Version) (db : Trees) (all : has_unread read_unit (db tables.unit.tree) ≡ false) where
-  has_unit : (row : Row) (n : ℕ) → column row 1 ≡ Int (pos n) → HasUnit v db row → stands n (unit_numbers (catalogue_in v db)) ≡ true
+  has_unit : (row : Row) (n : ℕ) → column row 1 ≡ Int (pos n) → HasUnit v db row
+      → stands n (unit_numbers (catalogue_in v db)) ≡ true
   has_unit row n is held =
       let parent = of_unit v db row held in
       let there : list_any (λ parent. agree plain (0 ∷ []) parent (1 ∷ []) row) (db tables.unit.tree) ≡ true =
@@ -104,10 +94,12 @@ module _ (v : Version) (db : Trees) (all : has_unread read_unit (db tables.unit.
       ∙ any_alike (is_of n) (catalogue_in v db).units (filter_map read_unit (db tables.unit.tree)) (ordered_alike (by (λ (row : UnitRow). row.id)) (filter_map read_unit (db tables.unit.tree)))
       ∙ sym (found row n is (db tables.unit.tree) all) ∙ there
 
-  pub element_has_unit : (row : Row) (e : ElementRow) → read_element row ≡ Some e → HasUnit v db row → stands e.unit (unit_numbers (catalogue_in v db)) ≡ true
+  pub element_has_unit : (row : Row) (e : ElementRow) → read_element row ≡ Some e → HasUnit v db row
+      → stands e.unit (unit_numbers (catalogue_in v db)) ≡ true
   element_has_unit row e read = has_unit row e.unit (element_unit row e read)
 
-  pub housing_has_unit : (row : Row) (h : HousingRow) → read_housing row ≡ Some h → HasUnit v db row → stands h.unit (unit_numbers (catalogue_in v db)) ≡ true
+  pub housing_has_unit : (row : Row) (h : HousingRow) → read_housing row ≡ Some h → HasUnit v db row
+      → stands h.unit (unit_numbers (catalogue_in v db)) ≡ true
   housing_has_unit row h read = has_unit row h.unit (housing_unit row h read)
 
 -- ---- the rules of an open connection
@@ -119,13 +111,15 @@ module _ (s : State) (v : Version) (has : s.now.schema ≡ schema v) (live : IsL
   pub elements_have_units : AllByRecursion (HasUnit v s.now.trees) (s.now.trees tables.element.tree)
   elements_have_units = kept v sound
     where
-      kept : (v : Version) → IsDatabase (record { schema = schema v; trees = s.now.trees }) → AllByRecursion (HasUnit v s.now.trees) (s.now.trees tables.element.tree)
+      kept : (v : Version) → IsDatabase (record { schema = schema v; trees = s.now.trees })
+          → AllByRecursion (HasUnit v s.now.trees) (s.now.trees tables.element.tree)
       kept First it = (it.obeys.rules ForeignKey).1.1.1.1.1.1.1.1.1.0
       kept Second it = (it.obeys.rules ForeignKey).1.1.1.1.1.1.1.1.1.0
 
   pub housings_have_units : AllByRecursion (HasUnit v s.now.trees) (s.now.trees tables.housing.tree)
   housings_have_units = kept v sound
     where
-      kept : (v : Version) → IsDatabase (record { schema = schema v; trees = s.now.trees }) → AllByRecursion (HasUnit v s.now.trees) (s.now.trees tables.housing.tree)
+      kept : (v : Version) → IsDatabase (record { schema = schema v; trees = s.now.trees })
+          → AllByRecursion (HasUnit v s.now.trees) (s.now.trees tables.housing.tree)
       kept First it = (it.obeys.rules ForeignKey).1.1.1.1.1.1.1.1.1.1.1.0
       kept Second it = (it.obeys.rules ForeignKey).1.1.1.1.1.1.1.1.1.1.1.0

@@ -1,14 +1,13 @@
 -- Containers that stand once, one more at a time.
 use Rattle.std.proofs.Common.{◌≡◌, ◌∙◌, ◌++◌, ◌∷◌, [], Bool, true, false, List, refl, sym, ap, ap₂, cond}
 use Rattle.std.specs.Prelude.{◌&&◌, ◌||◌, not, filter, if◌then◌else◌}
-use Rattle.std.specs.List.{list_any}
 use Rattle.std.specs.Str.{bytes_eq}
 use Rattle.std.proofs.lemmas.Slice.Eq.{bytes_eq-Decides}
 use Rattle.std.proofs.lemmas.List.Elements.{filter-append}
 use Rattle.std.proofs.lemmas.List.Folds.{list_any-append}
-use Rattle.isad_core.specs.Texts.{Bytes}
 use Rattle.isad_core.specs.Boxes.{distinct, is_same}
 use Rattle.isad_core.specs.declared.values.BoxKey.{BoxKey}
+use Rattle.isad_core.proofs.Common.{Bytes, list_any}
 
 bytes_eq_sym : (a b : Bytes) → bytes_eq a b ≡ bytes_eq b a
 bytes_eq_sym a b = go (bytes_eq a b) (bytes_eq b a) refl refl
@@ -38,7 +37,8 @@ or_comm false true = refl
 or_comm false false = refl
 
 -- a container that stood already adds nothing
-pub distinct_more : (bs : List BoxKey) (b : BoxKey) → distinct (bs ++ b ∷ []) ≡ distinct bs ++ (if list_any (is_same b) bs then [] else b ∷ [])
+pub distinct_more : (bs : List BoxKey) (b : BoxKey)
+    → distinct (bs ++ b ∷ []) ≡ distinct bs ++ (if list_any (is_same b) bs then [] else b ∷ [])
 distinct_more [] b = refl
 distinct_more (c ∷ bs) b =
     ap (λ ds. c ∷ filter (λ later. not (is_same c later)) ds) (distinct_more bs b)
@@ -53,7 +53,8 @@ distinct_more (c ∷ bs) b =
     go false false e = ap (λ (s : Bool). cond (not s) (b ∷ []) []) e
 
 -- what stood, with one more
-pub stood_more : (bs : List BoxKey) (b q : BoxKey) → list_any (is_same q) (bs ++ b ∷ []) ≡ (is_same b q || list_any (is_same q) bs)
+pub stood_more : (bs : List BoxKey) (b q : BoxKey)
+    → list_any (is_same q) (bs ++ b ∷ []) ≡ (is_same b q || list_any (is_same q) bs)
 stood_more bs b q =
     list_any-append (is_same q) bs (b ∷ [])
     ∙ (ap (λ s. list_any (is_same q) bs || s) (or_false (is_same q b) ∙ same_sym q b) ∙ or_comm (list_any (is_same q) bs) (is_same b q))

@@ -3,13 +3,13 @@ use Rattle.std.proofs.Common.{◌≡◌, ℕ, suc, ◌+◌, ◌-◌, ◌*◌, �
 use Rattle.std.proofs.lemmas.Bool.{cases_lt, le-ltb, lt-ltb}
 use Rattle.jiff_core.specs.Calendar.{IsCivilDate, days_from_civil}
 use Rattle.jiff_core.specs.March.{march_days}
-use Rattle.jiff_core.specs.Date.{epoch_day}
 use Rattle.jiff_core.specs.declared.civil.date.Date.{Date}
 use Rattle.jiff_core.proofs.SignedLemmas.{signed_arith}
 use Rattle.jiff_core.proofs.CalendarLemmas.{days_from_civil-day_count, days_in_month_bounds}
 use Rattle.jiff_core.proofs.MarchLemmas.{leap_day, leap_day-shift, march_days-suc, day_count-early, day_count-late, month_and_day, day_in_month, day_in_early_month}
 use Rattle.jiff_core.proofs.DateLemmas.{epoch_day_injective}
-use Rattle.isad_core.specs.Days.{IsDayNumber, date_of, days_after_first_march, march_year, day_of_march_year, march_month, day_of_month, date_in_march_year, YearMonthDay, day_of, day_text, date_text, digit, two_digits, is_day_number}
+use Rattle.isad_core.specs.Days.{day_text}
+use Rattle.isad_core.proofs.Common.{IsDayNumber, YearMonthDay, date_in_march_year, date_of, date_text, day_of, day_of_march_year, day_of_month, days_after_first_march, digit, epoch_day, is_day_number, march_month, march_year, two_digits}
 use Rattle.isad_core.proofs.DayLemmas.{is_civil-true, is_day_number-true}
 
 march_year_parts : (days : ℕ) → days < 7400000 → march_days (march_year days) + day_of_march_year days ≡ days
@@ -45,7 +45,8 @@ from_march year day number month fits low high e =
       number_is = omega (arith, signed_arith, days_from_civil-day_count, count, month_and_day day fits);
     })
 
-from_february : (year day : ℕ) (number : ℤ) → 12 < march_month day → day < 366 → day < 365 + leap_day (pos (suc year)) → 11899 ≤ year → year ≤ 19998
+from_february : (year day : ℕ) (number : ℤ) → 12 < march_month day → day < 366 → day < 365 + leap_day (pos (suc year))
+    → 11899 ≤ year → year ≤ 19998
     → number +ℤ pos 4371893 ≡ pos (march_days year + day) → HasNumber (date_in_march_year year day) number
 from_february year day number month fits within low high e =
     let same : nat_lt 12 (march_month day) ≡ true = lt-ltb 12 (march_month day) month in
@@ -61,7 +62,8 @@ from_february year day number month fits within low high e =
 
 -- a day of a year that begins in March, with the day number that it has
 in_march_year : (year day days : ℕ) (number : ℤ) → day < 366 → 11899 ≤ year → year ≤ 19999
-    → march_days year + day ≡ days → days < march_days (suc year) → number +ℤ pos 4371893 ≡ pos days → 4346326 ≤ days → days ≤ 7304789
+    → march_days year + day ≡ days → days < march_days (suc year) → number +ℤ pos 4371893 ≡ pos days → 4346326 ≤ days
+    → days ≤ 7304789
     → HasNumber (date_in_march_year year day) number
 in_march_year year day days number fits low high parts within after early late =
     elim (cases_lt 12 (march_month day)) [
@@ -109,7 +111,8 @@ two_digits-of n h =
     let same : n / 10 * 10 + n % 10 ≡ n = omega arith in
     rw (high, low, same) refl
 
-day_of-date_text : (d : YearMonthDay) (number : ℤ) → IsDayNumber number → HasNumber d number → day_of (date_text d) ≡ Some number
+day_of-date_text : (d : YearMonthDay) (number : ℤ) → IsDayNumber number → HasNumber d number
+    → day_of (date_text d) ≡ Some number
 day_of-date_text d number h has =
     let last : d.year ≤ 9999 = omega (arith, signed_arith, has.civil.0.1) in
     let short : d.month ≤ 12 = has.civil.1.1 in

@@ -1,13 +1,11 @@
 -- Dates of the calendar, as a test and as what the calendar crate knows of them.
 use Rattle.std.proofs.Common.{◌≡◌, ℕ, ◌≤◌, ◌&&◌, true, false, arith, pos, ℤ, refl, subst, Some, None, if◌then◌else◌}
 use Rattle.std.proofs.lemmas.Bool.{and_parts, and_from, leb-true, le-leb, false_from_ne_true}
-use Rattle.std.proofs.lemmas.Int.{ints}
 use Rattle.std.specs.Prelude.{nat_le}
 use Rattle.jiff_core.specs.Calendar.{IsCivilDate, days_in_month}
-use Rattle.jiff_core.specs.Date.{epoch_day}
 use Rattle.jiff_core.specs.declared.civil.date.Date.{Date}
 use Rattle.jiff_core.proofs.DateLemmas.{civil}
-use Rattle.isad_core.specs.Days.{IsDayNumber, is_civil, is_day_number, number_of_date}
+use Rattle.isad_core.proofs.Common.{IsDayNumber, epoch_day, ints, is_civil, is_day_number, number_of_date}
 
 pub is_civil-true : (year month day : ℕ) → IsCivilDate (pos year) month day → is_civil year month day ≡ true
 is_civil-true year month day h =
@@ -19,8 +17,10 @@ is_civil-true year month day h =
 
 pub civil_from : (year month day : ℕ) → year ≤ 9999 → is_civil year month day ≡ true → IsCivilDate (pos year) month day
 civil_from year month day late h =
-    let a : (nat_le 1 month ≡ true) × ((nat_le month 12 && (nat_le 1 day && nat_le day (days_in_month (pos year) month))) ≡ true) = and_parts _ _ h in
-    let b : (nat_le month 12 ≡ true) × ((nat_le 1 day && nat_le day (days_in_month (pos year) month)) ≡ true) = and_parts _ _ a.1 in
+    let a : (nat_le 1 month ≡ true) × ((nat_le month 12 && (nat_le 1 day && nat_le day (days_in_month (pos year) month))) ≡ true) =
+    and_parts _ _ h in
+    let b : (nat_le month 12 ≡ true) × ((nat_le 1 day && nat_le day (days_in_month (pos year) month)) ≡ true) =
+    and_parts _ _ a.1 in
     let d : (nat_le 1 day ≡ true) × (nat_le day (days_in_month (pos year) month) ≡ true) = and_parts _ _ b.1 in (
       (omega (arith, ints), omega (arith, ints)),
       (leb-true _ _ a.0, leb-true _ _ b.0),

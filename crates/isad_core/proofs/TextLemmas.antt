@@ -1,9 +1,9 @@
 -- What is printed has no line breaks.
 use Rattle.std.proofs.Common.{◌≡◌, ℕ, Bool, true, false, [], ◌∷◌, map, refl, if◌then◌else◌}
-use Rattle.std.specs.List.{list_any}
-use Rattle.isad_core.specs.Texts.{Bytes, is_line_break, byte_or_space}
+use Rattle.isad_core.proofs.Common.{Bytes, byte_or_space, is_line_break, list_any}
 
-a_space_or_itself : (b : ℕ) (breaks : Bool) → is_line_break b ≡ breaks → is_line_break (if breaks then 32 else b) ≡ false
+a_space_or_itself : (b : ℕ) (breaks : Bool) → is_line_break b ≡ breaks
+    → is_line_break (if breaks then 32 else b) ≡ false
 a_space_or_itself b true e = refl
 a_space_or_itself b false e = e
 

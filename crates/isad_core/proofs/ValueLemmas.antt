@@ -1,13 +1,12 @@
 -- One more element among those that a unit may have.
 use Rattle.std.proofs.Common.{◌≡◌, ℕ, ◌+◌, ◌<◌, ◌++◌, ◌∷◌, [], List, length, take, get_or, ap, refl, ◌∙◌, Option, Some, None}
-use Rattle.std.specs.List.{cons_option}
 use Rattle.std.specs.Option.{option_to_list}
 use Rattle.std.proofs.lemmas.List.{take_more}
 use Rattle.std.proofs.lemmas.List.Elements.{filter_map-append}
-use Rattle.isad_core.specs.Texts.{Bytes}
 use Rattle.isad_core.specs.declared.element.Element.{Element}
 use Rattle.isad_core.specs.declared.values.Values.{Values}
 use Rattle.isad_core.specs.Values.{line_of, lines_among}
+use Rattle.isad_core.proofs.Common.{Bytes, cons_option}
 
 one_line_of : {X : Type 0} → (o : Option X) → cons_option o [] ≡ option_to_list o
 one_line_of None = refl

@@ -1,21 +1,12 @@
 -- What DROP of the table of links leaves, and that only the store refuses it: no foreign key refers to the table, and
 -- what the others refer to stays.
 use Rattle.std.proofs.Common.{◌≡◌, ◌∙◌, inl, inr, ℕ, List, [], ◌∷◌, length, codes, Bool, true, false, ◌||◌, ◌&&◌, Ok, Err, Option, Some, None, refl, sym, ap, subst, subst₂, if◌then◌else◌}
-use Rattle.std.proofs.Math.Nat.{le_refl}
 use Rattle.std.specs.Bool.{MatchBool}
-use Rattle.std.specs.List.{AllByRecursion, list_all}
-use Rattle.sqlite.specs.Change.{KeepsRows}
-use Rattle.sqlite.specs.Command.{Command}
-use Rattle.sqlite.specs.Command.TheVariants.{DropTable}
 use Rattle.sqlite.specs.Does.{Does, Tally, Drops, Empties, Leaves, HoldWithout, is_acted_on}
-use Rattle.sqlite.specs.Edit.{edit_of}
-use Rattle.sqlite.specs.Effect.{Database, IsDatabase}
 use Rattle.sqlite.specs.Listing.{understood}
 use Rattle.sqlite.specs.Rows.{Task, Outcome, Gives, Edited}
 use Rattle.sqlite.specs.Rowids.TheVariants.{Given}
-use Rattle.sqlite.specs.State.{State, HasCleanDisk, Survives, Shows, Executes, CommitsBy, MayCommit, IsMisplaced, IsLive, Writes, mode_of}
-use Rattle.sqlite.specs.Table.{Table}
-use Rattle.sqlite.specs.Tree.{Trees}
+use Rattle.sqlite.specs.State.{CommitsBy}
 use Rattle.sqlite.specs.declared.error.Error.{Error}
 use Rattle.sqlite.specs.declared.run.Mode.{Mode}
 use Rattle.sqlite.proofs.Callers.{IsPlain, command_of, statement_of, runs_as}
@@ -27,21 +18,13 @@ use Rattle.sqlite_schema.specs.declared.schema.Constraint.TheVariants.{ForeignKe
 use Rattle.sqlite_schema.specs.declared.schema.Keys.TheVariants.{Enforced}
 use Rattle.sqlite_rules.specs.Calls.{ids_of}
 use Rattle.sqlite_tied.specs.Compute.{everything}
-use Rattle.sqlite_trees.proofs.ListLemmas.{all_weaker}
 use Rattle.sqlite_value.specs.Keys.{joined}
-use Rattle.office_tables.specs.Versions.{First}
-use Rattle.office_tables.specs.Creation.{Says, HasMade, catalogue_schema}
-use Rattle.office_tables.specs.Faults.{fault_of, HasCause, BlamesDisk}
-use Rattle.office_tables.specs.Schema.{schema, link, permit, element, housing, to_unit}
-use Rattle.office_tables.specs.Step.{Continues, IsAborted}
-use Rattle.office_tables.specs.declared.fault.StoreFault.{StoreFault}
 use Rattle.office_tables.specs.declared.fault.StoreFault.TheVariants as fault
-use Rattle.office_tables.proofs.Calls.{early, Knows, stopped}
-use Rattle.office_tables.proofs.Causes.{failed_cause}
 use Rattle.office_tables.proofs.Creations.{naming}
 use Rattle.office_tables.proofs.Errors.{stops}
 use Rattle.office_tables.proofs.Failures.{IsWhole, fails_as}
 use Rattle.office_tables.proofs.Steps.{went, same_value}
+use Rattle.nested_sets.proofs.Common.{AllByRecursion, BlamesDisk, Command, Continues, Database, DropTable, Executes, First, HasCause, HasCleanDisk, HasMade, IsAborted, IsDatabase, IsLive, IsMisplaced, KeepsRows, Knows, MayCommit, Says, Shows, State, StoreFault, Survives, Table, Trees, Writes, all_weaker, catalogue_schema, early, edit_of, element, failed_cause, fault_of, housing, le_refl, link, list_all, mode_of, permit, schema, stopped, to_unit}
 
 abbrev pub drop_text : List ℕ
 drop_text = codes "DROP TABLE link"
@@ -84,7 +67,9 @@ same_parent : (n : ℕ) → parent_key old_tables (to_unit n) ≡ parent_key lef
 unfolding joined same_name
 same_parent n = refl
 
-still_referred : (n : ℕ) (db : Trees) (t : ℕ) → AllByRecursion (λ row. list_all (has_parent old_tables db row) (to_unit n ∷ []) ≡ true) (db t) → AllByRecursion (λ row. list_all (has_parent left db row) (to_unit n ∷ []) ≡ true) (db t)
+still_referred : (n : ℕ) (db : Trees) (t : ℕ)
+    → AllByRecursion (λ row. list_all (has_parent old_tables db row) (to_unit n ∷ []) ≡ true) (db t)
+    → AllByRecursion (λ row. list_all (has_parent left db row) (to_unit n ∷ []) ≡ true) (db t)
 still_referred n db t =
     all_weaker (λ row. list_all (has_parent old_tables db row) (to_unit n ∷ []) ≡ true) (λ row. list_all (has_parent left db row) (to_unit n ∷ []) ≡ true)
     (λ row h. subst (λ key. ((has_null (n ∷ []) row || is_held db (n ∷ []) row key) && true) ≡ true) (same_parent n) h) (db t)
@@ -112,7 +97,8 @@ module _ (limit : Option ℕ) where
   none_goes : (db : Trees) (out : Outcome Trees) → Empties task db out → out ≡ Ok db
   none_goes db out h = subst (λ b. MatchBool b (Edited (schema First) Enforced db (edit_of db link (ids_of (db link.tree)) Given 0 []) out) (Gives db out)) unacted h
 
-  pub dropped : (db : Trees) (tally : Tally) (after : Database) → Drops task mode db (Ok (tally, after)) → (after.schema ≡ catalogue_schema) × KeepsRows left db after.trees
+  pub dropped : (db : Trees) (tally : Tally) (after : Database) → Drops task mode db (Ok (tally, after))
+      → (after.schema ≡ catalogue_schema) × KeepsRows left db after.trees
   dropped db tally after h =
       let emptied = went h in
       let uncounted = went emptied.2 in
@@ -133,14 +119,18 @@ module _ (limit : Option ℕ) where
   never_refused db refers e (inr (emptied, h, inr (now, k, inl (stop, tested, is)))) =
       let same : now ≡ db = same_value k ∙ same_value (none_goes db (Ok emptied) h) in
       tested.0 (subst (λ d. HoldWithout task d All) (sym same) (refers, refers_still db refers))
-  never_refused db refers e (inr (emptied, h, inr (now, k, inr (defect, tested, inl (stop, leaves, is))))) = no_stop stop now leaves
+  never_refused db refers e (inr (emptied, h, inr (now, k, inr (defect, tested, inl (stop, leaves, is))))) =
+      no_stop stop now leaves
   never_refused db refers e (inr (emptied, h, inr (now, k, inr (defect, tested, inr (after, leaves, is))))) = cc
 
 module _ (old new : State) (has : old.now.schema ≡ schema First) where
-  meant : (out : Outcome (Tally × Database)) → Does old.step_limit (mode_of old) [] old.now drop_text None drop_command out → Drops (task old.step_limit) (mode old.step_limit) old.now.trees out
+  meant : (out : Outcome (Tally × Database))
+      → Does old.step_limit (mode_of old) [] old.now drop_text None drop_command out
+      → Drops (task old.step_limit) (mode old.step_limit) old.now.trees out
   meant out h = subst (λ s. Does old.step_limit (mode_of old) [] (record old.now { schema = s }) drop_text None drop_command out) has h
 
-  pub drops : (count : ℕ) → Executes drop_text [] old new (Ok count) → HasMade left catalogue_schema old.now new.now × Shows old new new.now (if old.in_transaction then old.committed else new.now) old.in_transaction
+  pub drops : (count : ℕ) → Executes drop_text [] old new (Ok count)
+      → HasMade left catalogue_schema old.now new.now × Shows old new new.now (if old.in_transaction then old.committed else new.now) old.in_transaction
   drops count h =
       let w = subst (λ t. Writes old new None drop_command t [] count) drop_says.whole (runs_as drop_text [] old new (schema First) has drop_command drop_says.is drop_says.plain count h) in
       let it = dropped old.step_limit old.now.trees w.tally new.now (meant (Ok (w.tally, new.now)) w.changed) in
@@ -169,7 +159,8 @@ blames old new fault.Schema h = tt
 -- ---- what it leaves of the transaction
 
 module _ (old new : State) (known : HasCleanDisk old → Knows drop_text drop_command old) (survives : Survives old new (CommitsBy drop_text [] old)) where
-  commits_as : Knows drop_text drop_command old → (db : Trees) → CommitsBy drop_text [] old db → MayCommit old None drop_command (statement_of drop_text (understood old.now.schema drop_text)) [] db
+  commits_as : Knows drop_text drop_command old → (db : Trees) → CommitsBy drop_text [] old db
+      → MayCommit old None drop_command (statement_of drop_text (understood old.now.schema drop_text)) [] db
   unfolding CommitsBy
   commits_as it db h =
       let known = sym h.1.is in
@@ -192,7 +183,8 @@ module _ (old new : State) (known : HasCleanDisk old → Knows drop_text drop_co
   pub drop_cut : (e : Error) → (HasCleanDisk new → Executes drop_text [] old new (Err e)) → IsAborted old new
   drop_cut e runs = record { crash = crash; aborts = λ clean. stopped old new (known (early old new _ survives clean)).inside (stops drop_text [] old new e (runs clean)) }
 
-  pub drop_continues : (HasCleanDisk new → Shows old new new.now (if old.in_transaction then old.committed else new.now) old.in_transaction) → Continues old new
+  pub drop_continues : (HasCleanDisk new → Shows old new new.now (if old.in_transaction then old.committed else new.now) old.in_transaction)
+      → Continues old new
   drop_continues done = record {
     crash = crash;
     within = λ clean.

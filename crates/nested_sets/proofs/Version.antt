@@ -1,34 +1,12 @@
 -- The statement that writes the version: what its text means, what it leaves, and why it fails.
 use Rattle.std.proofs.Common.{◌≡◌, ℕ, pos, List, [], ◌∷◌, drop, codes, true, false, Result, OnOk, IfErr, refl}
-use Rattle.std.proofs.Math.Nat.{le_refl}
-use Rattle.sqlite.specs.declared.types.Value.TheVariants.{Null, Int}
-use Rattle.sqlite.specs.Order.{Row}
-use Rattle.sqlite.specs.Cast.{cast_row}
-use Rattle.sqlite.specs.Term.{Term, lit, col, op2}
-use Rattle.sqlite.specs.Collation.TheVariants.{Binary}
-use Rattle.sqlite.specs.Command.{Command}
-use Rattle.sqlite.specs.Command.TheVariants.{Update}
 use Rattle.sqlite.specs.Listing.{understood}
-use Rattle.sqlite.specs.State.{State, IsLive}
-use Rattle.sqlite_sql.specs.declared.ops.BinaryOp.TheVariants.{Compare}
-use Rattle.sqlite_sql.specs.declared.ops.CompareOp.TheVariants.{Eq}
 use Rattle.sqlite_tied.specs.Compute.{everything}
-use Rattle.office_tables.specs.Versions.{First, Second}
-use Rattle.office_tables.specs.ChangeStatement.{Ran}
-use Rattle.office_tables.specs.Faults.{IsUnlimited, HasCause}
-use Rattle.office_tables.specs.StatementMeaning.{Means}
-use Rattle.office_tables.specs.Schema.{schema, office}
-use Rattle.office_tables.specs.Step.{HasRows, OnlyTouches}
-use Rattle.office_tables.specs.declared.fault.StoreFault.{StoreFault}
-use Rattle.catalogue_statements.specs.Rows.{office_row}
 use Rattle.catalogue_statements.specs.declared.office.OfficeRow.{OfficeRow}
-use Rattle.nested_sets.specs.Migration.{VersionedRow, in_version_2, versioned_cells}
-use Rattle.office_tables.proofs.Casts.{cast_int, cast_null}
-use Rattle.office_tables.proofs.Queries.{choosing}
 use Rattle.office_tables.proofs.statements.LeafOf.{office_kept}
 use Rattle.office_tables.proofs.statements.OnlyOf.{update_only}
 use Rattle.office_tables.proofs.statements.UpdateOf.{update_leaves, update_faults}
-use Rattle.office_tables.proofs.Tests.{only, same_number}
+use Rattle.nested_sets.proofs.Common.{Binary, Command, Compare, Eq, First, HasCause, HasRows, Int, IsLive, IsUnlimited, Means, Null, OnlyTouches, Ran, Row, Second, State, StoreFault, Term, Update, VersionedRow, cast_int, cast_null, cast_row, choosing, col, in_version_2, le_refl, lit, office, office_row, only, op2, same_number, schema, versioned_cells}
 
 abbrev pub set_version_text : List ℕ
 set_version_text = codes "UPDATE office SET version = ?1 WHERE one = 1"

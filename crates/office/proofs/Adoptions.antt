@@ -2,35 +2,20 @@
 use Rattle.std.proofs.Common.{◌≡◌, ◌≤◌, ◌∙◌, ℕ, List, Ok, Err, None, IsTrue, inl, inr, arith, refl, sym, subst}
 use Rattle.std.proofs.lemmas.Bool.{both_ways, cases_Bool}
 use Rattle.sqlite_trees.specs.declared.store.Store as trees
-use Rattle.sqlite.specs.Effect.{Database}
-use Rattle.sqlite.specs.Held.{Held, state}
 use Rattle.sqlite.specs.State as store
 use Rattle.sqlite.specs.Order.{Row}
-use Rattle.sqlite.specs.State.{Executes, ExecutesIn, HasCleanDisk, IsLive, IsNotRun, Shows, Survives}
+use Rattle.sqlite.specs.State.{ExecutesIn}
 use Rattle.sqlite.specs.declared.error.Error.{Error}
-use Rattle.sqlite.specs.Tree.{Trees}
-use Rattle.sqlite.proofs.StateLemmas.{survives_then}
-use Rattle.tree_core.specs.Forest.{Forest}
-use Rattle.office_tables.specs.Versions.{Version, encoding}
 use Rattle.row_completeness.specs.WholePlaces.{RepresentsWhatItDescribes}
-use Rattle.adoption.specs.Verdicts.{IsVerdict}
 use Rattle.adoption.specs.declared.verdict.Verdict.{Verdict}
 use Rattle.adoption.specs.declared.verdict.Verdict.TheVariants as verdict
-use Rattle.office_core.specs.SoundOffice.{IsSoundOffice}
 use Rattle.adoption.specs.Tables.{RepresentsItsState, SoundTablesRepresentTheirState}
 use Rattle.adoption.specs.OrderedTables.{StandInOrder}
 use Rattle.adoption.proofs.catalogue.Shown.{catalogue_shown}
 use Rattle.adoption.proofs.tables.ShownTables.{sound_are_good, sound_state}
-use Rattle.office_tables.specs.Faults.{BlamesDisk, HasOuterCause}
 use Rattle.office_tables.specs.Transactions.{IsStopped}
-use Rattle.office_tables.specs.declared.fault.StoreFault.{StoreFault}
 use Rattle.office_tables.specs.declared.fault.StoreFault.TheVariants as cause
-use Rattle.office_tables.proofs.Calls.{early}
-use Rattle.office.specs.Adoption.{HasAdoptCause, IsAdopted, refusal_of, state_in}
-use Rattle.office.specs.IdleOffice.{IsAsBefore, IsIn}
-use Rattle.office.specs.Inspection.{ConfirmsOpen, Inspects}
-use Rattle.office.specs.NewOffice.{open_fault_of}
-use Rattle.refinement.specs.Representation.{RepresentsState}
+use Rattle.office.proofs.Common.{BlamesDisk, ConfirmsOpen, Database, Executes, Forest, HasAdoptCause, HasCleanDisk, HasOuterCause, Held, Inspects, IsAdopted, IsAsBefore, IsIn, IsLive, IsNotRun, IsSoundOffice, IsVerdict, RepresentsState, Shows, StoreFault, Survives, Trees, Version, early, encoding, open_fault_of, refusal_of, state, state_in, survives_then}
 
 -- no fault is told of a sound office's tables alone
 pub none_refused : (v : Verdict) → refusal_of v ≡ None → v ≡ verdict.Sound
@@ -42,8 +27,11 @@ none_refused verdict.OtherTables none = absurd cc
 none_refused (verdict.Unsound n) none = absurd cc
 
 -- tables without a cause represent the state that their rows describe
-pub sound_shown : (places : Trees → Forest ℕ → Type 0) (version : Version) → ((db : Trees) → RepresentsWhatItDescribes places (encoding version) db) → (db : Database) → SoundTablesRepresentTheirState places version db
-sound_shown places version shows db sound = sound_state places version db sound (catalogue_shown version db (sound_are_good version db sound) places shows)
+pub sound_shown : (places : Trees → Forest ℕ → Type 0) (version : Version)
+    → ((db : Trees) → RepresentsWhatItDescribes places (encoding version) db) → (db : Database)
+    → SoundTablesRepresentTheirState places version db
+sound_shown places version shows db sound =
+    sound_state places version db sound (catalogue_shown version db (sound_are_good version db sound) places shows)
 
 -- they were looked over, and no fault is told of them
 module _ {S : Type 0} {g : trees.Ghosts S} {before after : Held S} {version : Version} {told : Verdict} (looked : Inspects g before after version (Ok told)) (none : refusal_of told ≡ None) where
@@ -54,21 +42,25 @@ module _ {S : Type 0} {g : trees.Ghosts S} {before after : Held S} {version : Ve
   adopted clean = record { sound = are_sound clean; same = (looked.back clean).now }
 
   module _ (places : Trees → Forest ℕ → Type 0) (shows : (db : Trees) → RepresentsWhatItDescribes places (encoding version) db) (live : IsLive (state g before)) (clean : HasCleanDisk (state g after)) where
-    its_state : IsTrue (state g after).is_open → StandInOrder (state g before).now → RepresentsItsState places version (state g before).now
+    its_state : IsTrue (state g after).is_open → StandInOrder (state g before).now
+        → RepresentsItsState places version (state g before).now
     its_state opened ordered =
         sound_shown places version shows (state g before).now
         (record { schema_is = (are_sound clean).0.schema_is; live = (live ((looked.back clean).was_open opened)).0; ordered = ordered; causeless = (are_sound clean).1 ordered })
 
-    pub adopted_sound : IsTrue (state g after).is_open → StandInOrder (state g before).now → IsSoundOffice (state_in version (state g before).now.trees)
+    pub adopted_sound : IsTrue (state g after).is_open → StandInOrder (state g before).now
+        → IsSoundOffice (state_in version (state g before).now.trees)
     adopted_sound opened ordered = (its_state opened ordered).sound
 
-    pub adopted_shown : StandInOrder (state g before).now → IsIn places version (state_in version (state g before).now.trees) (state g after)
+    pub adopted_shown : StandInOrder (state g before).now
+        → IsIn places version (state_in version (state g before).now.trees) (state g after)
     adopted_shown ordered opened =
         subst (λ (db : Database). RepresentsState places version db (state_in version (state g before).now.trees)) (sym ((looked.back clean).now opened)) (its_state opened ordered).represents
 
 -- a fault of the store: the disk is blamed for its own failures only, and the tables are not blamed if they are in
 -- order
-pub store_cause : (version : Version) (old new : store.State) (f : StoreFault) → BlamesDisk old new f → (StandInOrder old.now → HasOuterCause old new f) → HasAdoptCause version old new (open_fault_of f)
+pub store_cause : (version : Version) (old new : store.State) (f : StoreFault) → BlamesDisk old new f
+    → (StandInOrder old.now → HasOuterCause old new f) → HasAdoptCause version old new (open_fault_of f)
 store_cause version old new cause.Memory blames why = tt
 store_cause version old new cause.Disk blames why = blames
 store_cause version old new cause.Schema blames why = λ ordered. absurd (why ordered)
@@ -80,7 +72,8 @@ outer_blames old new cause.Disk why = why
 outer_blames old new cause.Schema why = tt
 
 -- what was blamed inside the transaction is blamed of the whole call
-pub blames_outside : (before old new after : store.State) → before.faults ≤ old.faults → new.faults ≤ after.faults → IsTrue old.is_open → (f : StoreFault) → BlamesDisk old new f → BlamesDisk before after f
+pub blames_outside : (before old new after : store.State) → before.faults ≤ old.faults → new.faults ≤ after.faults
+    → IsTrue old.is_open → (f : StoreFault) → BlamesDisk old new f → BlamesDisk before after f
 blames_outside before old new after counts counts_after opened cause.Memory blames = tt
 blames_outside before old new after counts counts_after opened cause.Disk blames = elim blames [
   | inl more ↦ inl (omega arith)
@@ -91,11 +84,13 @@ blames_outside before old new after counts counts_after opened cause.Schema blam
 -- ---- a connection that is found open or not, after the tables were judged
 
 -- a text that could not be prepared is one that was not run
-pub not_prepared : (sql : List ℕ) (params : Row) (old new : store.State) (e : Error) → IsNotRun old new sql params e → Executes sql params old new (Err e)
+pub not_prepared : (sql : List ℕ) (params : Row) (old new : store.State) (e : Error) → IsNotRun old new sql params e
+    → Executes sql params old new (Err e)
 unfolding ExecutesIn
 not_prepared sql params old new e h = inl h
 
-pub still_before : (a b d : store.State) → IsAsBefore a b → Shows b d b.now b.committed b.in_transaction → IsAsBefore a d
+pub still_before : (a b d : store.State) → IsAsBefore a b → Shows b d b.now b.committed b.in_transaction
+    → IsAsBefore a d
 still_before a b d same it = record {
   was_open = λ opened. same.was_open it.was_open;
   now = λ opened. it.now_is ∙ same.now it.was_open;
@@ -103,7 +98,8 @@ still_before a b d same it = record {
   ended = it.mode ∙ same.ended;
 }
 
-pub stopped_before : (a b d : store.State) → IsAsBefore a b → (IsTrue b.is_open → b.now ≡ b.committed) → IsStopped b d → IsAsBefore a d
+pub stopped_before : (a b d : store.State) → IsAsBefore a b → (IsTrue b.is_open → b.now ≡ b.committed) → IsStopped b d
+    → IsAsBefore a d
 stopped_before a b d same settled (inl still) = still_before a b d same still.0
 stopped_before a b d same settled (inr back) = record {
   was_open = λ opened. same.was_open (back.was_open opened);
@@ -113,7 +109,8 @@ stopped_before a b d same settled (inr back) = record {
 }
 
 -- the cause of a fault after a call that committed nothing is one of both together
-pub caused_later : (a b d : store.State) → Survives a b (λ _. ⊥) → b.faults ≤ d.faults → HasCleanDisk b → (f : StoreFault) → HasOuterCause b d f → HasOuterCause a d f
+pub caused_later : (a b d : store.State) → Survives a b (λ _. ⊥) → b.faults ≤ d.faults → HasCleanDisk b
+    → (f : StoreFault) → HasOuterCause b d f → HasOuterCause a d f
 caused_later a b d crash counts clean cause.Memory why = tt
 caused_later a b d crash counts clean cause.Disk (inl more) = inl (omega (arith, more, crash.counts, counts))
 caused_later a b d crash counts clean cause.Disk (inr shut) = elim (cases_Bool a.is_open) [
@@ -126,7 +123,8 @@ caused_later a b d crash counts clean cause.Disk (inr shut) = elim (cases_Bool a
 caused_later a b d crash counts clean cause.Schema why = why
 
 apart : (a b d : store.State) → Survives a b (λ _. ⊥) → Survives b d (λ _. ⊥) → Survives a d (λ _. ⊥)
-apart a b d first second = survives_then a b d (λ _. ⊥) (λ _. ⊥) (λ _. ⊥) (λ _ db none. none) (λ _ db none. none) first second
+apart a b d first second =
+    survives_then a b d (λ _. ⊥) (λ _. ⊥) (λ _. ⊥) (λ _ db none. none) (λ _ db none. none) first second
 
 module _ {S X : Type 0} {g : trees.Ghosts S} {before mid after : Held S} {version : Version} {told : Verdict} (judged : Inspects g before mid version (Ok told)) where
   -- it is open
@@ -144,7 +142,9 @@ module _ {S X : Type 0} {g : trees.Ghosts S} {before mid after : Held S} {versio
       }
 
   -- it is shut, or there is no memory to see that
-  pub found_shut : {e : StoreFault} → (HasCleanDisk (state g mid) → IsTrue (state g mid).is_open → (state g mid).now ≡ (state g mid).committed) → ConfirmsOpen g mid after {X = X} (Err e) → Inspects g before after version (Err e)
+  pub found_shut : {e : StoreFault}
+      → (HasCleanDisk (state g mid) → IsTrue (state g mid).is_open → (state g mid).now ≡ (state g mid).committed)
+      → ConfirmsOpen g mid after {X = X} (Err e) → Inspects g before after version (Err e)
   found_shut {e} settled found =
       let a = state g before in
       let b = state g mid in

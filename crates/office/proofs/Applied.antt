@@ -1,48 +1,34 @@
 -- A command's transaction, from its begin to its end.
 use Rattle.std.proofs.Common.{rules, ◌≡◌, ℕ, true, IsTrue, Option, Some, None, Result, Ok, Err, OnOk, refl, sym, ap, subst, ◌∙◌}
-use Rattle.std.specs.Prelude.{IfErr, IfOk, IsOk, IsErr}
 use Rattle.std.proofs.lemmas.Result.{IfOk-weaker}
 use Rattle.sqlite_trees.specs.declared.store.Store as trees
-use Rattle.sqlite.specs.Effect.{Database}
-use Rattle.sqlite.specs.Held.{Held, state}
-use Rattle.sqlite.specs.State.{State, HasCleanDisk, Survives, Shows}
-use Rattle.sqlite.specs.Tree.{Trees}
-use Rattle.sqlite.proofs.StateLemmas.{survives_then}
-use Rattle.tree_core.specs.Forest.{Forest}
-use Rattle.office_tables.specs.Versions.{Version}
+use Rattle.sqlite.specs.State.{State}
 use Rattle.desk_core.specs.declared.refusal.Refusal.{Refusal}
 use Rattle.office_core.specs.Json.{reply_text}
 use Rattle.office_core.specs.Rules as machine
-use Rattle.office_core.specs.Rules.{step, refusal, decide, after, result_of}
-use Rattle.office_core.specs.SoundOffice.{IsSoundOffice}
 use Rattle.office_core.specs.State as office
-use Rattle.office_core.specs.declared.command.Command.{Command}
-use Rattle.office_core.specs.declared.machine.Reply.{Reply}
-use Rattle.office_tables.specs.Step.{GoesOn, Goes}
 use Rattle.office_tables.specs.Transactions.{Committed, IsEnded}
-use Rattle.office_tables.specs.declared.fault.StoreFault.{StoreFault}
 use Rattle.office_tables.specs.declared.fault.StoreFault.TheVariants as fault
-use Rattle.office_tables.proofs.Calls.{early}
 use Rattle.refinement.specs.CommandSteps.{CarriesOutStep}
-use Rattle.refinement.specs.Representation.{RepresentsState}
 use Rattle.refinement.proofs.Crashes.{went}
 use Rattle.refinement.proofs.Doings.{refused}
 use Rattle.office.specs.CallTransactions.{Applies, Replies}
-use Rattle.office.specs.OfficeCall.{MayFind, TakesStep}
-use Rattle.office.specs.IdleOffice.{IsAsBefore, IsAtRest, IsIn, IsOffice}
 use Rattle.office.specs.Transactions.{Settles}
+use Rattle.office.proofs.Common.{Command, Database, Forest, Goes, GoesOn, HasCleanDisk, Held, IfErr, IfOk, IsAsBefore, IsAtRest, IsErr, IsIn, IsOffice, IsOk, IsSoundOffice, MayFind, Reply, RepresentsState, Shows, StoreFault, Survives, TakesStep, Trees, Version, after, decide, early, refusal, result_of, state, step, survives_then}
 use Rattle.office.proofs.States.{found_committed, shown_begun}
 
 -- a step that is refused changes nothing
 pub refused_same : (s : office.State) (asked : Command) → IsErr (step s asked).1 → (step s asked).0 ≡ s
 refused_same s asked h = at (refusal s asked) h
   where
-    at : (why : Option Refusal) → IsErr (decide why s (after s asked) (result_of s asked)).1 → (decide why s (after s asked) (result_of s asked)).0 ≡ s
+    at : (why : Option Refusal) → IsErr (decide why s (after s asked) (result_of s asked)).1
+        → (decide why s (after s asked) (result_of s asked)).0 ≡ s
     at (Some why) h = refl
     at None h = absurd (cc)
 
 -- a command that is refused is its step, where nothing is done for it
-refused_at_once : (places : Trees → Forest ℕ → Type 0) (version : Version) (a : State) (s : office.State) (asked : Command) (why : Refusal) → refusal s asked ≡ Some why → IsIn places version s a
+refused_at_once : (places : Trees → Forest ℕ → Type 0) (version : Version) (a : State) (s : office.State) (asked : Command) (why : Refusal)
+    → refusal s asked ≡ Some why → IsIn places version s a
     → TakesStep places version s asked (Err why) a
 refused_at_once places version a s asked why is here =
     let one : step s asked ≡ (s, Err why) = refused s asked why is in
@@ -50,7 +36,9 @@ refused_at_once places version a s asked why is here =
 
 -- and the whole call then is that step
 module _ {S : Type 0} (g : trees.Ghosts S) (before : Held S) {places : Trees → Forest ℕ → Type 0} {version : Version} {asked : Command} {why : Refusal} {r : Result Reply StoreFault} where
-  pub refused_whole : IsOffice version (state g before) → ((s : office.State) → refusal s asked ≡ Some why) → IfOk r (λ reply. reply.done ≡ Err why) → IfOk r (λ reply. reply.json ≡ reply_text (Err why)) → IfErr r (λ e. e ≡ fault.Memory)
+  pub refused_whole : IsOffice version (state g before) → ((s : office.State) → refusal s asked ≡ Some why)
+      → IfOk r (λ reply. reply.done ≡ Err why) → IfOk r (λ reply. reply.json ≡ reply_text (Err why))
+      → IfErr r (λ e. e ≡ fault.Memory)
       → Applies places version g before before asked r
   refused_whole rest is same bytes full =
       let a = state g before in
@@ -69,7 +57,8 @@ module _ {S : Type 0} (g : trees.Ghosts S) (before : Held S) {places : Trees →
       }
 
 -- what was done was taken back: all is as it was before the transaction
-taken_back : (version : Version) (a b m z : State) → IsAtRest version a → Shows a b a.now a.committed true → GoesOn b m → IsEnded m z → IsAsBefore a z
+taken_back : (version : Version) (a b m z : State) → IsAtRest version a → Shows a b a.now a.committed true → GoesOn b m
+    → IsEnded m z → IsAsBefore a z
 taken_back version a b m z rest begun on ended =
     let back = ended.back (on.mode ∙ begun.mode) in
     record {
@@ -81,7 +70,8 @@ taken_back version a b m z rest begun on ended =
 
 -- a step that was committed, or taken back where it is a refusal
 module _ (places : Trees → Forest ℕ → Type 0) (version : Version) (a b m z : State) (s : office.State) (asked : Command) where
-  stepped : IsAtRest version a → Shows a b a.now a.committed true → IsIn places version s a → GoesOn b m → (reply : machine.Reply) → CarriesOutStep places version s asked reply m.now
+  stepped : IsAtRest version a → Shows a b a.now a.committed true → IsIn places version s a → GoesOn b m
+      → (reply : machine.Reply) → CarriesOutStep places version s asked reply m.now
       → (IsOk reply → Committed m z) → (IsErr reply → IsEnded m z) → TakesStep places version s asked reply z
   stepped rest begun is on (Ok done) does committed ended =
       (does.told, λ h. subst (λ (db : Database). RepresentsState places version db (step s asked).0) (sym (committed refl).now) (does.represents refl))
@@ -120,17 +110,20 @@ module _ {S : Type 0} (g : trees.Ghosts S) (before begun done after : Held S) wh
     was_open clean opened = (begins (clean_b clean)).was_open
 
     -- what a reply tells of the step
-    carried : (x : Reply) → outcome ≡ Ok x → HasCleanDisk z → (s : office.State) → IsSoundOffice s → IsIn places version s a → CarriesOutStep places version s asked x.done m.now
+    carried : (x : Reply) → outcome ≡ Ok x → HasCleanDisk z → (s : office.State) → IsSoundOffice s
+        → IsIn places version s a → CarriesOutStep places version s asked x.done m.now
     carried x same clean s sound is =
         subst (λ o. IfOk o (λ reply. CarriesOutStep places version s asked reply.done m.now)) same (does.steps (clean_m clean) s sound (shown_begun places version s a b (begins (clean_b clean)) is))
 
     went_on : (x : Reply) → outcome ≡ Ok x → HasCleanDisk z → GoesOn b m
     went_on x same clean = (subst (λ o. OnOk o (Goes b m)) same does.goes).on.within (clean_m clean)
 
-    takes : HasCleanDisk z → (s : office.State) → IsSoundOffice s → IsIn places version s a → IfOk r (λ reply. TakesStep places version s asked reply.done z)
+    takes : HasCleanDisk z → (s : office.State) → IsSoundOffice s → IsIn places version s a
+        → IfOk r (λ reply. TakesStep places version s asked reply.done z)
     takes clean s sound is = at r last.same (last.committed clean) (last.refused clean)
       where
-        at : (r : Result Reply StoreFault) → IfOk r (λ x. outcome ≡ Ok x) → IfOk r (λ x. IsOk x.done → Committed m z) → IfOk r (λ x. IsErr x.done → IsEnded m z) → IfOk r (λ x. TakesStep places version s asked x.done z)
+        at : (r : Result Reply StoreFault) → IfOk r (λ x. outcome ≡ Ok x) → IfOk r (λ x. IsOk x.done → Committed m z)
+            → IfOk r (λ x. IsErr x.done → IsEnded m z) → IfOk r (λ x. TakesStep places version s asked x.done z)
         at (Ok x) same committed ended =
             stepped places version a b m z s asked (rest.rests (early a b _ first (clean_b clean))) (begins (clean_b clean)) is (went_on x same clean) x.done (carried x same clean s sound is) committed ended
         at (Err e) same committed ended = tt

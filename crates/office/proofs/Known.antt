@@ -1,30 +1,23 @@
 -- A question that is asked once more is known of the office.
 use Rattle.std.proofs.Common.{ℕ, Ok, Err, Result, sym, subst, OnOk, OnErr}
-use Rattle.sqlite.specs.Effect.{Database}
 use Rattle.sqlite.specs.State as store
-use Rattle.sqlite.specs.State.{HasCleanDisk}
-use Rattle.sqlite.specs.Tree.{Trees}
-use Rattle.tree_core.specs.Forest.{Forest}
-use Rattle.office_tables.specs.Versions.{Version}
-use Rattle.office_core.specs.SoundOffice.{IsSoundOffice}
 use Rattle.office_core.specs.State.{State}
 use Rattle.office_core.specs.declared.query.Query.{Query}
 use Rattle.office_core.specs.declared.query.Answer.{Answer}
-use Rattle.office_tables.specs.Step.{IsAborted, LeavesUnchanged}
 use Rattle.office_tables.proofs.CallEnds.{excused_then}
-use Rattle.office_tables.proofs.Calls.{early, cut_then, looks_then, on_err_then, on_ok_then}
-use Rattle.office_tables.specs.declared.fault.StoreFault.{StoreFault}
 use Rattle.refinement.specs.QueryAnswers.{AnswersQuery}
-use Rattle.refinement.specs.Representation.{RepresentsState}
 use Rattle.public_queries.specs.InformedAnswers.{AnswersKnowing}
+use Rattle.office.proofs.Common.{Database, Forest, HasCleanDisk, IsAborted, IsSoundOffice, LeavesUnchanged, RepresentsState, StoreFault, Trees, Version, cut_then, early, looks_then, on_err_then, on_ok_then}
 
-looked_on : (a b : store.State) (r : Result Answer StoreFault) → OnOk r (LeavesUnchanged a b) → OnErr r (IsAborted a b) → store.Survives a b (λ _. ⊥)
+looked_on : (a b : store.State) (r : Result Answer StoreFault) → OnOk r (LeavesUnchanged a b) → OnErr r (IsAborted a b)
+    → store.Survives a b (λ _. ⊥)
 looked_on a b (Ok x) looks cut = looks.goes.on.crash
 looked_on a b (Err e) looks cut = cut.crash
 
 module _ {places : Trees → Forest ℕ → Type 0} {version : Version} where
   -- a question that is asked once more is known
-  pub answers_after : {known : State → Type 0} {asked : Query} {a b c : store.State} {r : Result Answer StoreFault} → LeavesUnchanged a b
+  pub answers_after : {known : State → Type 0} {asked : Query} {a b c : store.State} {r : Result Answer StoreFault}
+      → LeavesUnchanged a b
       → (HasCleanDisk b → (s : State) → IsSoundOffice s → RepresentsState places version a.now s → known s)
       → AnswersKnowing places version known asked b c r → AnswersQuery places version asked a c r
   answers_after {known} {asked} {a} {b} {c} {r} looked learns last =

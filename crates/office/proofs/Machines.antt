@@ -1,31 +1,21 @@
 -- The calls of an office over its tables are calls of the machine.
 use Rattle.std.proofs.Common.{◌≡◌, ℕ, Result, Ok, Err, OnErr, sym, ap, subst, ◌∙◌}
-use Rattle.std.specs.Prelude.{IfOk, IsOk}
 use Rattle.sqlite_trees.specs.declared.store.Store as store
-use Rattle.sqlite.specs.Effect.{Database}
-use Rattle.sqlite.specs.Held.{Held, state}
 use Rattle.sqlite.specs.State as sqlite
-use Rattle.sqlite.specs.Tree.{Trees}
-use Rattle.tree_core.specs.Forest.{Forest}
-use Rattle.office_tables.specs.Versions.{Version}
 use Rattle.office_core.specs.Json.{reply_text}
 use Rattle.office_core.specs.Queries.{answer}
-use Rattle.office_core.specs.Rules.{step}
 use Rattle.office_core.specs.Rules as rules
-use Rattle.office_core.specs.SoundOffice.{IsSoundOffice}
 use Rattle.office_core.specs.State.{State}
-use Rattle.office_core.specs.declared.command.Command.{Command}
-use Rattle.office_core.specs.declared.machine.Reply.{Reply}
 use Rattle.office_core.specs.declared.query.Answer.{Answer}
 use Rattle.office_core.specs.declared.query.Query.{Query}
-use Rattle.office.specs.OfficeCall.{TakesStep}
-use Rattle.office.specs.IdleOffice.{IsAsBefore, IsIn, is_clean, is_shown, is_still_open}
 use Rattle.office.specs.Runs.{IsCall, Replied, Answered, question_call, command_call}
-use Rattle.refinement.specs.Representation.{RepresentsState}
+use Rattle.office.proofs.Common.{Command, Database, Forest, Held, IfOk, IsAsBefore, IsIn, IsOk, IsSoundOffice, Reply, RepresentsState, TakesStep, Trees, Version, is_clean, is_shown, is_still_open, state, step}
 
 -- while nothing is changed, it is in the state that it was in
-pub in_as_before : (places : Trees → Forest ℕ → Type 0) (version : Version) (a b : sqlite.State) (s : State) → IsAsBefore a b → IsIn places version s a → IsIn places version s b
-in_as_before places version a b s same is opened = subst (λ (db : Database). RepresentsState places version db s) (sym (same.now opened)) (is (same.was_open opened))
+pub in_as_before : (places : Trees → Forest ℕ → Type 0) (version : Version) (a b : sqlite.State) (s : State)
+    → IsAsBefore a b → IsIn places version s a → IsIn places version s b
+in_as_before places version a b s same is opened =
+    subst (λ (db : Database). RepresentsState places version db s) (sym (same.now opened)) (is (same.was_open opened))
 
 module _ {S : Type 0} (g : store.Ghosts S) (places : Trees → Forest ℕ → Type 0) (version : Version) (old new : Held S) where
   abbrev shown : Held S → State → Type 0
@@ -36,10 +26,13 @@ module _ {S : Type 0} (g : store.Ghosts S) (places : Trees → Forest ℕ → Ty
 
   -- a command
   pub applied_call : {E : Type 0} (asked : Command) (r : Result Reply E) → (clean new → clean old)
-      → (clean new → is_still_open g new → is_still_open g old) → (clean new → IfOk r (λ reply. IsOk reply.done → is_still_open g new))
+      → (clean new → is_still_open g new → is_still_open g old)
+      → (clean new → IfOk r (λ reply. IsOk reply.done → is_still_open g new))
       → (clean new → (s : State) → IsSoundOffice s → IsIn places version s (state g old) → IfOk r (λ reply. TakesStep places version s asked reply.done (state g new)))
-      → ((s : State) → IsSoundOffice s → IsSoundOffice (step s asked).0) → (clean new → OnErr r (IsAsBefore (state g old) (state g new)))
-      → IfOk r (λ reply. reply.json ≡ reply_text reply.done) → IsCall shown clean (is_still_open g) old new (command_call asked r)
+      → ((s : State) → IsSoundOffice s → IsSoundOffice (step s asked).0)
+      → (clean new → OnErr r (IsAsBefore (state g old) (state g new)))
+      → IfOk r (λ reply. reply.json ≡ reply_text reply.done)
+      → IsCall shown clean (is_still_open g) old new (command_call asked r)
   applied_call asked (Ok reply) before was kept steps sound busy bytes = record {
     intact = before;
     was_open = was;
@@ -55,25 +48,30 @@ module _ {S : Type 0} (g : store.Ghosts S) (places : Trees → Forest ℕ → Ty
 
   pub step_told : {E : Type 0} (asked : Command) (r : Result Reply E)
       → (clean new → (s : State) → IsSoundOffice s → IsIn places version s (state g old) → IfOk r (λ reply. TakesStep places version s asked reply.done (state g new)))
-      → ((s : State) → IsSoundOffice s → IsSoundOffice (step s asked).0) → IfOk r (λ reply. reply.json ≡ reply_text reply.done)
+      → ((s : State) → IsSoundOffice s → IsSoundOffice (step s asked).0)
+      → IfOk r (λ reply. reply.json ≡ reply_text reply.done)
       → IfOk r (λ reply. clean new → (s : State) → shown old s → shown new (step s asked).0 × (reply.done ≡ (step s asked).1) × (reply.json ≡ reply_text (step s asked).1))
   step_told asked (Ok reply) steps sound bytes = λ at s is.
       let it = steps at s is.0 is.1 in
       ((sound s is.0, it.1), it.0, bytes ∙ ap (λ (r : rules.Reply). reply_text r) it.0)
   step_told asked (Err e) steps sound bytes = tt
 
-  pub kept_open : {E : Type 0} (r : Result Reply E) → (clean new → IfOk r (λ reply. IsOk reply.done → is_still_open g new)) → IfOk r (λ reply. clean new → IsOk reply.done → is_still_open g new)
+  pub kept_open : {E : Type 0} (r : Result Reply E)
+      → (clean new → IfOk r (λ reply. IsOk reply.done → is_still_open g new))
+      → IfOk r (λ reply. clean new → IsOk reply.done → is_still_open g new)
   kept_open (Ok reply) kept = kept
   kept_open (Err e) kept = tt
 
-  pub busy_same : {X E : Type 0} (r : Result X E) → (clean new → OnErr r (IsAsBefore (state g old) (state g new))) → OnErr r (clean new → (s : State) → shown old s → shown new s)
+  pub busy_same : {X E : Type 0} (r : Result X E) → (clean new → OnErr r (IsAsBefore (state g old) (state g new)))
+      → OnErr r (clean new → (s : State) → shown old s → shown new s)
   busy_same (Ok x) same = tt
   busy_same (Err e) same = λ at s is. (is.0, in_as_before places version (state g old) (state g new) s (same at) is.1)
 
   -- a question
   pub answered_call : {E : Type 0} (asked : Query) (r : Result Answer E) → (clean new → clean old)
       → (clean new → (s : State) → IsSoundOffice s → IsIn places version s (state g old) → IfOk r (λ told. told ≡ answer s asked))
-      → (clean new → IsAsBefore (state g old) (state g new)) → IsCall shown clean (is_still_open g) old new (question_call asked r)
+      → (clean new → IsAsBefore (state g old) (state g new))
+      → IsCall shown clean (is_still_open g) old new (question_call asked r)
   answered_call asked (Ok told) before answers same = record {
     intact = before;
     was_open = λ at. (same at).was_open;
@@ -89,10 +87,13 @@ module _ {S : Type 0} (g : store.Ghosts S) (places : Trees → Forest ℕ → Ty
 
   pub answer_told : {E : Type 0} (asked : Query) (r : Result Answer E)
       → (clean new → (s : State) → IsSoundOffice s → IsIn places version s (state g old) → IfOk r (λ told. told ≡ answer s asked))
-      → (clean new → IsAsBefore (state g old) (state g new)) → IfOk r (λ told. clean new → (s : State) → shown old s → shown new s × (told ≡ answer s asked))
-  answer_told asked (Ok told) answers same = λ at s is. ((is.0, in_as_before places version (state g old) (state g new) s (same at) is.1), answers at s is.0 is.1)
+      → (clean new → IsAsBefore (state g old) (state g new))
+      → IfOk r (λ told. clean new → (s : State) → shown old s → shown new s × (told ≡ answer s asked))
+  answer_told asked (Ok told) answers same =
+      λ at s is. ((is.0, in_as_before places version (state g old) (state g new) s (same at) is.1), answers at s is.0 is.1)
   answer_told asked (Err e) answers same = tt
 
-  pub busy_told : {X E : Type 0} (r : Result X E) → (clean new → IsAsBefore (state g old) (state g new)) → OnErr r (clean new → (s : State) → shown old s → shown new s)
+  pub busy_told : {X E : Type 0} (r : Result X E) → (clean new → IsAsBefore (state g old) (state g new))
+      → OnErr r (clean new → (s : State) → shown old s → shown new s)
   busy_told (Ok x) same = tt
   busy_told (Err e) same = λ at s is. (is.0, in_as_before places version (state g old) (state g new) s (same at) is.1)

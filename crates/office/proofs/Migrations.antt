@@ -1,29 +1,18 @@
 -- An office of version 1, judged and brought to version 2.
 use Rattle.std.proofs.Common.{◌≡◌, [], ◌∷◌, ◌≤◌, None, IsTrue, inl, inr, sym, arith, subst, ◌∙◌}
-use Rattle.sqlite.specs.Effect.{Database, IsDatabase}
 use Rattle.sqlite.specs.State.{State}
-use Rattle.office_tables.specs.Versions.{First, Second}
-use Rattle.catalogue_statements.specs.Representation.{RepresentsLinkRows}
-use Rattle.adoption.specs.Verdicts.{IsVerdict}
 use Rattle.adoption.specs.declared.verdict.Verdict.{Verdict}
 use Rattle.adoption.specs.declared.verdict.Verdict.TheVariants as verdict
 use Rattle.office_core.specs.State as office
-use Rattle.office_tables.specs.Faults.{BlamesDisk, HasOuterCause}
 use Rattle.office_tables.specs.Schema as tables
-use Rattle.office_tables.specs.Step.{OnlyTouches}
-use Rattle.office_tables.specs.declared.fault.StoreFault.{StoreFault}
 use Rattle.office_tables.specs.declared.fault.StoreFault.TheVariants as store
 use Rattle.row_completeness.proofs.KeptPlaces.{links_represent}
 use Rattle.adoption.specs.Tables.{RepresentsItsState}
 use Rattle.adoption.specs.OrderedTables.{StandInOrder}
-use Rattle.office.specs.Adoption.{HasAdoptCause, refusal_of, state_in}
-use Rattle.office.specs.Migration.{IsMigrated}
-use Rattle.office.specs.NewOffice.{open_fault_of}
 use Rattle.office.specs.declared.faults.OpenFault.{OpenFault}
 use Rattle.office.specs.declared.faults.OpenFault.TheVariants as fault
+use Rattle.office.proofs.Common.{BlamesDisk, Database, First, HasAdoptCause, HasOuterCause, IsDatabase, IsMigrated, IsVerdict, OnlyTouches, RepresentsLinkRows, RepresentsSpanRows, RepresentsState, Second, StoreFault, open_fault_of, refusal_of, state_in}
 use Rattle.office.proofs.Adoptions.{none_refused, sound_shown}
-use Rattle.refinement.specs.Representation.{RepresentsState}
-use Rattle.nested_sets.specs.Representation.{RepresentsSpanRows}
 
 -- tables that are judged to be a sound office's
 module _ (db : Database) (told : Verdict) (none : refusal_of told ≡ None) (is : IsVerdict First db told) where
@@ -36,7 +25,8 @@ module _ (db : Database) (told : Verdict) (none : refusal_of told ≡ None) (is 
     shows_its_state ordered =
         sound_shown RepresentsLinkRows First links_represent db (record { schema_is = judged_sound.0.schema_is; live = live; ordered = ordered; causeless = judged_sound.1 ordered })
 
-    pub migrated : (new : Database) → ((s : office.State) → RepresentsState RepresentsLinkRows First db s → RepresentsState RepresentsSpanRows Second new s)
+    pub migrated : (new : Database)
+        → ((s : office.State) → RepresentsState RepresentsLinkRows First db s → RepresentsState RepresentsSpanRows Second new s)
         → OnlyTouches (tables.office.tree ∷ tables.link.tree ∷ []) db new → IsMigrated db new
     migrated new brings only = record {
       judged = judged_sound;
@@ -48,7 +38,8 @@ module _ (db : Database) (told : Verdict) (none : refusal_of told ≡ None) (is 
 -- ---- why not
 
 -- a call that follows the judging blames the disk for its own failures only, and not the tables if they are ordered
-pub cause_of_call : (old mid new : State) (f : StoreFault) → BlamesDisk mid new f → (StandInOrder old.now → HasOuterCause mid new f) → old.faults ≤ mid.faults → mid.is_open ≡ old.is_open
+pub cause_of_call : (old mid new : State) (f : StoreFault) → BlamesDisk mid new f
+    → (StandInOrder old.now → HasOuterCause mid new f) → old.faults ≤ mid.faults → mid.is_open ≡ old.is_open
     → HasAdoptCause First old new (open_fault_of f)
 cause_of_call old mid new store.Memory blames why counts opened = tt
 cause_of_call old mid new store.Disk blames why counts opened = elim blames [
@@ -65,7 +56,8 @@ module _ (before old new after : State) (counts : before.faults ≤ old.faults) 
     | inl more ↦ inl (omega arith)
     | inr shut ↦ absurd cc
   ]
-  cause_outside fault.Schema why = λ ordered. subst (λ (db : Database). IsVerdict First db verdict.OtherTables) same (why (subst StandInOrder (sym same) ordered))
+  cause_outside fault.Schema why =
+      λ ordered. subst (λ (db : Database). IsVerdict First db verdict.OtherTables) same (why (subst StandInOrder (sym same) ordered))
   cause_outside fault.NoOffice why = subst (λ (db : Database). IsVerdict First db verdict.NoOffice) same why
   cause_outside fault.OldVersion why = subst (λ (db : Database). IsVerdict First db verdict.OldVersion) same why
   cause_outside fault.NewVersion why = subst (λ (db : Database). IsVerdict First db verdict.NewVersion) same why

@@ -2,18 +2,18 @@
 use Rattle.std.proofs.Common.{◌≡◌, [], IsTrue, ◌∙◌, arith}
 use Rattle.std.proofs.lemmas.List.Sorted.{IsPermutation-refl}
 use Rattle.sqlite.specs.Change.{KeepsRows}
-use Rattle.sqlite.specs.State.{State, HasCleanDisk}
-use Rattle.sqlite.specs.Tree.{Trees}
+use Rattle.sqlite.specs.State.{State}
 use Rattle.desk_store.specs.Representation.{RepresentsDesk}
 use Rattle.office_tables.specs.Creation.{IsMaking}
-use Rattle.office_tables.specs.Schema.{no_schema, desk_schema, desk_tables}
-use Rattle.office.specs.NewOffice.{new_desk}
+use Rattle.office.proofs.Common.{HasCleanDisk, Trees, desk_schema, desk_tables, new_desk, no_schema}
 
-pub making : (a : State) → (HasCleanDisk a → (a.now.schema ≡ no_schema) × IsTrue a.in_transaction) → IsMaking [] no_schema a.now a
+pub making : (a : State) → (HasCleanDisk a → (a.now.schema ≡ no_schema) × IsTrue a.in_transaction)
+    → IsMaking [] no_schema a.now a
 making a blank clean = let it = blank clean in (record { schema_is = it.0; kept = tt; empty = tt }, it.1)
 
 -- what was made empty and is kept shows a desk that has nothing
-pub shows_none : (a b : State) (new : Trees) → IsMaking [] desk_schema a.now b → HasCleanDisk b → KeepsRows desk_tables b.now.trees new → RepresentsDesk new new_desk
+pub shows_none : (a b : State) (new : Trees) → IsMaking [] desk_schema a.now b → HasCleanDisk b
+    → KeepsRows desk_tables b.now.trees new → RepresentsDesk new new_desk
 shows_none a b new made clean kept =
     let none = (made clean).0.empty in
     record {

@@ -2,7 +2,6 @@
 
 ghost use Rattle.std.specs.Prelude.{◌≡◌};
 ghost use Rattle.sqlite.specs.Held.{state};
-ghost use Rattle.isad_core.specs.Limits.{IsNumber};
 ghost use Rattle.office_tables.specs.Schema.{no_schema};
 ghost use Rattle.office.specs.NewOffice.{AwaitsTables, Founds, MakesTables};
 ghost use Rattle.office.specs.Transactions.{IsBetweenTransactions};
@@ -20,7 +19,6 @@ fn make_tables<P: Places, S: Alter>(
     row: &OfficeRow,
 ) -> Result<(), StoreFault>
     requires blank { AwaitsTables (state S.Store conn.old) }
-    requires small { IsNumber row.now.next_unit }
     ensures { MakesTables P.represents P.version S.Store conn.old conn.new row.now result }
 {
     create_desk(conn)?;
@@ -35,7 +33,6 @@ pub(crate) fn found<P: Places, S: Alter>(
 ) -> Result<(), StoreFault>
     requires blank { (state S.Store conn.old).now.schema ≡ no_schema }
     requires between { IsBetweenTransactions (state S.Store conn.old) }
-    requires small { IsNumber row.now.next_unit }
     ensures { Founds P.represents P.version S.Store conn.old conn.new row.now result }
 {
     // Outside a transaction a connection that is open shows what was committed.

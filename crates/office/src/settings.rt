@@ -9,6 +9,7 @@ ghost use Rattle.refinement.specs.Representation.{office_of};
 
 use catalogue_statements::OfficeRow;
 use isad_core::{Day, Text, limits};
+use office_tables::Number;
 use std::alloc::{AllocError, Global};
 use std::marker::Model;
 
@@ -178,7 +179,7 @@ impl Settings {
             hands: self.hands,
             run_size: self.run,
             day: self.day,
-            next_unit: 1,
+            next_unit: Number::from(1),
         }
     }
 }

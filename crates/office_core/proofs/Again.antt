@@ -1,27 +1,13 @@
 -- An accepted import that is done again changes nothing.
 use Rattle.std.proofs.Common.{◌≡◌, ℕ, List, [], ◌∷◌, length, Some, None, Ok, Err, refl, sym, ap, ◌∙◌, subst}
-use Rattle.std.specs.Prelude.{count_by}
-use Rattle.isad_core.specs.Texts.{Bytes}
-use Rattle.atom_csv.specs.FileContents.{file_of}
-use Rattle.atom_csv.specs.declared.file.File.{File}
-use Rattle.atom_csv.specs.declared.file.Row.{Row}
-use Rattle.desk_core.specs.Refusals.{Check, when, unless, first_that_holds}
-use Rattle.desk_core.specs.declared.refusal.Refusal.TheVariants.{BadName, Full}
-use Rattle.catalogue_core.specs.CatalogueMerge.{merged_boxes, merge}
 use Rattle.office_core.specs.declared.command.Command.TheVariants as command
 use Rattle.office_core.specs.declared.done.Done.{Done}
 use Rattle.office_core.specs.declared.done.Done.TheVariants as done
-use Rattle.office_core.specs.declared.done.Remark.{Remark}
-use Rattle.office_core.specs.State.{State}
-use Rattle.catalogue_core.specs.Intake.{Intake, Taken, take, take_rows, with_file, is_full, is_same, is_new}
-use Rattle.office_core.specs.ImportReply.{bad_file, too_much, remarks, told_of}
-use Rattle.office_core.specs.Rules.{Reply, intake_of, imported, gate, decide, step}
-use Rattle.catalogue_core.specs.Sources.{is_source}
-use Rattle.office_core.specs.Laws.{ImportsAgain}
-use Rattle.office_core.proofs.Steps.{step_at}
+use Rattle.catalogue_core.specs.Intake.{take}
+use Rattle.office_core.specs.ImportReply.{told_of}
 use Rattle.catalogue_core.proofs.FileRows.{AreApartRows, apart_rows}
-use Rattle.catalogue_core.proofs.Imported.{IsTaken, taken_is}
-use Rattle.catalogue_core.proofs.ImportedAgain.{count_all, boxes_again, HasTaken, has_taken, merge_again, rows_same, none_new, none_changed}
+use Rattle.office_core.proofs.Common.{BadName, Bytes, Check, File, Full, HasTaken, ImportsAgain, Intake, IsTaken, Remark, Reply, Row, State, Taken, bad_file, boxes_again, count_all, count_by, decide, file_of, first_that_holds, gate, has_taken, imported, intake_of, is_full, is_new, is_same, is_source, merge, merge_again, merged_boxes, none_changed, none_new, remarks, rows_same, step, take_rows, taken_is, too_much, unless, when, with_file}
+use Rattle.office_core.proofs.Steps.{step_at}
 
 -- ---- the step, done again
 
@@ -30,7 +16,8 @@ abbrev stepped : State → Bytes → Taken → State × Reply
 stepped t source r =
     decide (first_that_holds (unless (is_source source) BadName ∷ bad_file r ∷ too_much r ∷ gate (imported t r) ∷ [])) t (imported t r) (told_of t.catalogue.forest source r)
 
-none_holds : (t new : State) (d : Done) (a b c : Check) → a ≡ None → b ≡ None → c ≡ None → decide (first_that_holds (a ∷ None ∷ b ∷ c ∷ [])) t new d ≡ (new, Ok d)
+none_holds : (t new : State) (d : Done) (a b c : Check) → a ≡ None → b ≡ None → c ≡ None
+    → decide (first_that_holds (a ∷ None ∷ b ∷ c ∷ [])) t new d ≡ (new, Ok d)
 none_holds t new d (Some why) b c ea eb ec = absurd (cc)
 none_holds t new d None (Some why) c ea eb ec = absurd (cc)
 none_holds t new d None None (Some why) ea eb ec = absurd (cc)
@@ -78,7 +65,9 @@ module _ (s : State) (source file : Bytes) (intake : Intake) (e : intake_of s so
       ∙ (ap (λ n. done.Import 0 n marks (count_by (is_same f source) intake.file.rows) intake.file.translations) (none_new source intake.file.rows f after_it)
       ∙ ap (λ n. done.Import 0 0 marks n intake.file.translations) (count_all (is_same f source) intake.file.rows (rows_same source intake.file.rows f apart after_it)))
 
-  step_again : unless (is_source source) BadName ≡ None → when (is_full intake.catalogue) Full ≡ None → gate (imported s (Ok intake)) ≡ None → DoneAgain (imported s (Ok intake)) source file (remarks intake.catalogue.forest source intake.file.rows) intake.file.translations
+  step_again : unless (is_source source) BadName ≡ None → when (is_full intake.catalogue) Full ≡ None
+      → gate (imported s (Ok intake)) ≡ None
+      → DoneAgain (imported s (Ok intake)) source file (remarks intake.catalogue.forest source intake.file.rows) intake.file.translations
   step_again a b c =
       let t = imported s (Ok intake) in (
         intake.file,
@@ -91,10 +80,15 @@ module _ (s : State) (source file : Bytes) (intake : Intake) (e : intake_of s so
 same_reply : (a b : Done) → done_reply a ≡ done_reply b → a ≡ b
 same_reply a b e = cc
 
-same_marks : (c n s t c' n' s' t' : ℕ) (m m' : List Remark) → done.Import c n m s t ≡ done.Import c' n' m' s' t' → (m ≡ m') × (t ≡ t')
+same_marks : (c n s t c' n' s' t' : ℕ) (m m' : List Remark) → done.Import c n m s t ≡ done.Import c' n' m' s' t'
+    → (m ≡ m') × (t ≡ t')
 same_marks c n s t c' n' s' t' m m' e = (cc, cc)
 
-accepted : (s : State) (source file : Bytes) (r : Taken) → intake_of s source file ≡ r → unless (is_source source) BadName ≡ None → bad_file r ≡ None → too_much r ≡ None → gate (imported s r) ≡ None → (changed new : ℕ) (marks : List Remark) (same translations : ℕ) → done_reply (told_of s.catalogue.forest source r) ≡ done_reply (done.Import changed new marks same translations) → DoneAgain (imported s r) source file marks translations
+accepted : (s : State) (source file : Bytes) (r : Taken) → intake_of s source file ≡ r
+    → unless (is_source source) BadName ≡ None → bad_file r ≡ None → too_much r ≡ None → gate (imported s r) ≡ None
+    → (changed new : ℕ) (marks : List Remark) (same translations : ℕ)
+    → done_reply (told_of s.catalogue.forest source r) ≡ done_reply (done.Import changed new marks same translations)
+    → DoneAgain (imported s r) source file marks translations
 accepted s source file (Err fault) e a b c d changed new marks same translations t = absurd (cc)
 accepted s source file (Ok intake) e a b c d changed new marks same translations t =
     let x = same_marks _ _ _ _ changed new same translations _ marks (same_reply _ _ t) in

@@ -1,22 +1,9 @@
 -- Units that come have new numbers.
 use Rattle.std.proofs.Common.{◌≡◌, ℕ, true, cond, List, [], ◌∷◌, Option, Some, None, Ok, Err, refl, sym, ◌∙◌, subst, inl}
-use Rattle.isad_core.specs.Texts.{Bytes}
-use Rattle.tree_core.specs.Forest.{nodes}
 use Rattle.desk_core.specs.declared.reader.Place.{Place}
-use Rattle.desk_core.specs.declared.reader.Place.TheVariants.{Shelf, Desk, Out}
-use Rattle.catalogue_core.specs.Units.{Unit, has_id}
-use Rattle.catalogue_core.specs.CatalogueMerge.{numbered_from, merged_forest}
-use Rattle.catalogue_core.specs.Statuses.{is_chosen, chosen}
-use Rattle.office_core.specs.declared.command.Command.{Command}
 use Rattle.office_core.specs.declared.command.Command.TheVariants as command
-use Rattle.office_core.specs.State.{State, container_of}
-use Rattle.catalogue_core.specs.UnitLookup.{has_unit}
-use Rattle.catalogue_core.specs.Intake.{Taken}
-use Rattle.office_core.specs.Rules.{intake_of, imported, after, step, cancelled, issued, returned}
-use Rattle.office_core.specs.GivenNumbers.{ComesNew}
+use Rattle.office_core.proofs.Common.{Bytes, ComesNew, Command, Desk, OldOrNew, Out, Shelf, State, Taken, Unit, after, cancelled, chosen, closure_id, container_of, each_units, has_cut, has_id, has_moved, has_unit, imported, intake_of, is_chosen, issued, merged_forest, merged_units, new_rows, nodes, numbered_from, of_number, returned, status_id, step, taken_is}
 use Rattle.office_core.proofs.Steps.{step_at}
-use Rattle.catalogue_core.proofs.Imported.{new_rows, taken_is}
-use Rattle.catalogue_core.proofs.UnitsAfter.{of_number, OldOrNew, merged_units, each_units, status_id, closure_id, has_cut, has_moved}
 
 imported_units : (s : State) (source file : Bytes) (t : Taken) → intake_of s source file ≡ t → ComesNew s (imported s t)
 imported_units s source file (Err fault) e u h = inl h
@@ -42,8 +29,10 @@ returned_units s c (Out o) u h = inl h
 
 pub new_after : (s : State) (asked : Command) → ComesNew s (after s asked)
 new_after s (command.Import source file) = imported_units s source file (intake_of s source file) refl
-new_after s (command.SetStatus u draft whole) = λ v h. inl (sym (each_units (λ (unit : Unit). cond (is_chosen (chosen whole u s.catalogue) unit) (record unit { draft = draft }) unit) s.catalogue.forest v (λ unit. status_id (is_chosen (chosen whole u s.catalogue) unit) draft unit)) ∙ h)
-new_after s (command.SetClosure u until) = λ v h. inl (sym (each_units (λ (unit : Unit). cond (has_id u unit) (record unit { until = until }) unit) s.catalogue.forest v (λ unit. closure_id (has_id u unit) until unit)) ∙ h)
+new_after s (command.SetStatus u draft whole) =
+    λ v h. inl (sym (each_units (λ (unit : Unit). cond (is_chosen (chosen whole u s.catalogue) unit) (record unit { draft = draft }) unit) s.catalogue.forest v (λ unit. status_id (is_chosen (chosen whole u s.catalogue) unit) draft unit)) ∙ h)
+new_after s (command.SetClosure u until) =
+    λ v h. inl (sym (each_units (λ (unit : Unit). cond (has_id u unit) (record unit { until = until }) unit) s.catalogue.forest v (λ unit. closure_id (has_id u unit) until unit)) ∙ h)
 new_after s (command.Move u parent) = λ v h. inl (has_moved (has_id v) u parent s.catalogue.forest h)
 new_after s (command.Remove u) = λ v h. inl (has_cut (has_id v) (has_id u) s.catalogue.forest h)
 new_after s (command.Cancel o) = cancelled_units s o (container_of s o)

@@ -1,11 +1,6 @@
 -- Counting among the first numbers.
 use Rattle.std.proofs.Common.{◌≡◌, ◌≢◌, ℕ, zero, suc, ◌+◌, ◌-◌, ◌<◌, ◌≤◌, Bool, true, false, cond, ◌||◌, List, [], ◌∷◌, Some, None, refl, sym, ◌∙◌, subst, inl, inr, arith}
-use Rattle.std.specs.Prelude.{count_by, is_some}
-use Rattle.std.specs.List.{list_any}
-use Rattle.std.proofs.lemmas.List.Sums.{sum_by_push}
-use Rattle.std.proofs.lemmas.List.Folds.{list_any-append}
-use Rattle.std.proofs.lemmas.Bool.{cases_eq, cases_lt, cases_Bool, false≢true, or_parts}
-use Rattle.office_core.specs.Words.{nth, numbers_to, first_that}
+use Rattle.office_core.proofs.Common.{cases_Bool, cases_eq, cases_lt, count_by, false≢true, first_that, is_some, list_any, list_any-append, nth, numbers_to, or_parts, sum_by_push}
 
 abbrev pub count_to : (ℕ → Bool) → ℕ → ℕ
 count_to f n = count_by f (numbers_to n)
@@ -40,7 +35,8 @@ count_le f g (suc n) h =
     let e = cond_le (f (suc n)) (g (suc n)) (h (suc n) (omega arith)) in
     omega (arith, a, b, r, e)
 
-pub count_one_more : (f g : ℕ → Bool) (c n : ℕ) → ((k : ℕ) → k ≢ c → f k ≡ true → g k ≡ true) → count_to f n ≤ suc (count_to g n)
+pub count_one_more : (f g : ℕ → Bool) (c n : ℕ) → ((k : ℕ) → k ≢ c → f k ≡ true → g k ≡ true)
+    → count_to f n ≤ suc (count_to g n)
 count_one_more f g c zero h = omega arith
 count_one_more f g c (suc n) h =
     let a = count_push f n in
@@ -64,7 +60,8 @@ count_further f n (suc m) h =
       | inr past ↦
           let a = count_push f m in
           let r = count_further f n m h in
-          let z : f (suc m) ≡ false = elim (cases_Bool (f (suc m))) [ inl e ↦ absurd (let l = h (suc m) e in omega (arith, l, past)) | inr e ↦ e ] in
+          let z : f (suc m) ≡ false =
+          elim (cases_Bool (f (suc m))) [ inl e ↦ absurd (let l = h (suc m) e in omega (arith, l, past)) | inr e ↦ e ] in
           let e = counts_none (f (suc m)) z in
           omega (arith, a, r, e)
     ]
@@ -104,7 +101,8 @@ pub none_that : (p : ℕ → Bool) (ns : List ℕ) → first_that p ns ≡ None 
 none_that p [] h = refl
 none_that p (n ∷ ns) h = at (p n) (none_that p ns) h
   where
-    at : (b : Bool) → (first_that p ns ≡ None → list_any p ns ≡ false) → cond b (Some n) (first_that p ns) ≡ None → (b || list_any p ns) ≡ false
+    at : (b : Bool) → (first_that p ns ≡ None → list_any p ns ≡ false) → cond b (Some n) (first_that p ns) ≡ None
+        → (b || list_any p ns) ≡ false
     at true r e = absurd (cc)
     at false r e = r e
 

@@ -1,21 +1,11 @@
 -- What only grows: tickets, containers, orders and the day.
 use Rattle.std.proofs.Common.{◌≡◌, ◌≢◌, ℕ, zero, suc, true, List, [], ◌∷◌, ◌++◌, length, Option, Some, None, Ok, Err, refl, sym, ◌∙◌, subst, arith}
-use Rattle.std.specs.Prelude.{ℤ, int_lt, ◌≤ℤ◌, is_some}
-use Rattle.std.proofs.lemmas.Int.{ints}
-use Rattle.isad_core.specs.Texts.{Bytes}
-use Rattle.isad_core.specs.Boxes.{distinct}
-use Rattle.std.proofs.lemmas.Bool.{false≢true}
-use Rattle.office_core.specs.Words.{nth}
-use Rattle.desk_core.specs.declared.reader.Place.TheVariants.{Shelf, Desk, Out}
+use Rattle.std.specs.Prelude.{ℤ}
 use Rattle.desk_core.specs.declared.reader.Place.{Place}
-use Rattle.office_core.specs.State.{State, Reader, Order, is_ticket, is_container, container_of}
-use Rattle.office_core.specs.declared.command.Command.{Command}
 use Rattle.office_core.specs.declared.command.Command.TheVariants as command
-use Rattle.catalogue_core.specs.Intake.{Taken}
-use Rattle.office_core.specs.Rules.{checks, after, renewed, cancelled, issued, returned, imported, intake_of}
+use Rattle.office_core.proofs.Common.{Bytes, Command, Desk, Order, Out, Reader, Shelf, State, Taken, after, boxes_after, cancelled, checks, container_of, distinct, false≢true, imported, int_lt, intake_of, ints, is_container, is_some, is_ticket, issued, new_boxes, nth, renewed, returned, ◌≤ℤ◌}
 use Rattle.office_core.proofs.Words.{numbered_within, numbered-push}
 use Rattle.office_core.proofs.Steps.{held_so, Passes}
-use Rattle.catalogue_core.proofs.Imported.{new_boxes, boxes_after}
 
 pub some_is : {X : Type 0} (o : Option X) (x : X) → o ≡ Some x → is_some o ≡ true
 some_is None x e = absurd (cc)
@@ -33,7 +23,8 @@ some_kept [] ys (suc n) e = absurd (false≢true e)
 some_kept (x ∷ xs) ys (suc zero) e = refl
 some_kept (x ∷ xs) ys (suc (suc n)) e = some_kept xs ys (suc n) e
 
-pub some-renewed : (until : ℤ) (rs : List Reader) (t n : ℕ) → is_some (nth rs n) ≡ true → is_some (nth (renewed until rs t) n) ≡ true
+pub some-renewed : (until : ℤ) (rs : List Reader) (t n : ℕ) → is_some (nth rs n) ≡ true
+    → is_some (nth (renewed until rs t) n) ≡ true
 some-renewed until rs zero n e = e
 some-renewed until [] (suc t) n e = e
 some-renewed until (r ∷ rs) (suc zero) zero e = e
@@ -62,7 +53,8 @@ no_later_than a b c h k = omega (arith, ints)
 pub after_today : (d e : ℤ) → int_lt d e ≡ true → d ≤ℤ e
 after_today d e h = grind (arith, ints)
 
-same_lists : (s t : State) → t.settings ≡ s.settings → t.day ≡ s.day → t.readers ≡ s.readers → t.catalogue.containers ≡ s.catalogue.containers → t.orders ≡ s.orders → Extends s t
+same_lists : (s t : State) → t.settings ≡ s.settings → t.day ≡ s.day → t.readers ≡ s.readers
+    → t.catalogue.containers ≡ s.catalogue.containers → t.orders ≡ s.orders → Extends s t
 same_lists s t es ed er eb eo =
     record {
       settings = es;
@@ -85,7 +77,8 @@ returned_extends s c Shelf = same_lists s s refl refl refl refl refl
 returned_extends s c Desk = same_lists s s refl refl refl refl refl
 returned_extends s c (Out o) = same_lists s (returned s c (Out o)) refl refl refl refl refl
 
-pub imported_extends : (s : State) (source file : Bytes) (t : Taken) → intake_of s source file ≡ t → distinct s.catalogue.containers ≡ s.catalogue.containers → Extends s (imported s t)
+pub imported_extends : (s : State) (source file : Bytes) (t : Taken) → intake_of s source file ≡ t
+    → distinct s.catalogue.containers ≡ s.catalogue.containers → Extends s (imported s t)
 imported_extends s source file (Err fault) e b = same_lists s s refl refl refl refl refl
 imported_extends s source file (Ok intake) e b =
     let x = boxes_after s.catalogue source file intake e b in
@@ -97,7 +90,8 @@ imported_extends s source file (Ok intake) e b =
       orders = λ o order h. h;
     }
 
-pub extends_after : (s : State) (asked : Command) → distinct s.catalogue.containers ≡ s.catalogue.containers → Passes (checks s asked) → Extends s (after s asked)
+pub extends_after : (s : State) (asked : Command) → distinct s.catalogue.containers ≡ s.catalogue.containers
+    → Passes (checks s asked) → Extends s (after s asked)
 extends_after s (command.OpenDay day) b ok = record { settings = refl; day = after_today s.day day (held_so (int_lt s.day day) _ ok.0); tickets = λ n h. h; containers = λ n h. h; orders = λ o order h. h }
 extends_after s (command.Register name until) b ok = record { settings = refl; day = same_day s.day; tickets = λ n. some_kept s.readers _ n; containers = λ n h. h; orders = λ o order h. h }
 extends_after s (command.Renew t until) b ok = record { settings = refl; day = same_day s.day; tickets = λ n. some-renewed until s.readers t n; containers = λ n h. h; orders = λ o order h. h }
@@ -109,10 +103,13 @@ extends_after s command.Run b ok = same_lists s (after s command.Run) refl refl 
 extends_after s command.Reshelve b ok = same_lists s (after s command.Reshelve) refl refl refl refl refl
 extends_after s (command.Issue c t) b ok = issued_extends s c (s.queue c)
 extends_after s (command.Return c) b ok = returned_extends s c (s.place c)
-extends_after s (command.Permit t u until) b ok = same_lists s (after s (command.Permit t u until)) refl refl refl refl refl
+extends_after s (command.Permit t u until) b ok =
+    same_lists s (after s (command.Permit t u until)) refl refl refl refl refl
 extends_after s (command.Revoke t u) b ok = same_lists s (after s (command.Revoke t u)) refl refl refl refl refl
 extends_after s (command.Import source file) b ok = imported_extends s source file (intake_of s source file) refl b
-extends_after s (command.SetStatus u draft whole) b ok = same_lists s (after s (command.SetStatus u draft whole)) refl refl refl refl refl
-extends_after s (command.SetClosure u until) b ok = same_lists s (after s (command.SetClosure u until)) refl refl refl refl refl
+extends_after s (command.SetStatus u draft whole) b ok =
+    same_lists s (after s (command.SetStatus u draft whole)) refl refl refl refl refl
+extends_after s (command.SetClosure u until) b ok =
+    same_lists s (after s (command.SetClosure u until)) refl refl refl refl refl
 extends_after s (command.Move u parent) b ok = same_lists s (after s (command.Move u parent)) refl refl refl refl refl
 extends_after s (command.Remove u) b ok = same_lists s (after s (command.Remove u)) refl refl refl refl refl

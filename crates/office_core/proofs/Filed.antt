@@ -1,18 +1,11 @@
 -- Each order stays in exactly one of its container's queue, its container's place and the past.
 use Rattle.std.proofs.Common.{◌≡◌, ◌≢◌, ℕ, zero, suc, ◌<◌, ◌≤◌, Bool, true, false, cond, ◌&&◌, ◌||◌, List, [], ◌∷◌, ◌++◌, length, Option, Some, None, Ok, Err, refl, sym, ap, ◌∙◌, subst, inl, inr, arith}
 use Rattle.std.proofs.Math.Path.{fun_ext}
-use Rattle.std.specs.Prelude.{nat_eq, is_some, option_map, filter, filter_map, take}
-use Rattle.std.specs.List.{list_any, AllByRecursion, cons_option}
-use Rattle.std.proofs.lemmas.Bool.{eqb-true, cases_eq, false≢true, and_parts, or_cases, or_right}
-use Rattle.office_core.specs.Words.{nth, numbers_to, some_and, stands, without, first, is_empty}
-use Rattle.desk_core.specs.declared.reader.Place.TheVariants.{Shelf, Desk, Out}
+use Rattle.std.specs.Prelude.{take}
 use Rattle.desk_core.specs.declared.reader.Place.{Place}
-use Rattle.office_core.specs.State.{State, Order, Line, Run, End, Done, Cancelled, container_of, order_out, is_shelf, is_desk, waits, is_due, orders_of_run, line_for, is_line_before, next_run, brings, is_idle, idle, containers, opens}
-use Rattle.office_core.specs.declared.command.Command.{Command}
+use Rattle.office_core.specs.State.{Done}
 use Rattle.office_core.specs.declared.command.Command.TheVariants as command
-use Rattle.office_core.specs.Rules.{checks, after, ordered, cancelled, fetched, reshelved, issued, returned, imported, intake_of}
-use Rattle.catalogue_core.specs.Intake.{Taken}
-use Rattle.office_core.specs.SoundDesk.{ExactlyOne, IsFiled, is_out_for, IsAscending, AreFiled}
+use Rattle.office_core.proofs.Common.{AllByRecursion, AreFiled, Cancelled, Command, Desk, End, ExactlyOne, IsAscending, IsFiled, Line, Order, Out, Run, Shelf, State, Taken, after, and_parts, brings, cancelled, cases_eq, checks, cons_option, container_of, containers, eqb-true, false≢true, fetched, filter, filter_map, first, idle, imported, intake_of, is_desk, is_due, is_empty, is_idle, is_line_before, is_out_for, is_shelf, is_some, issued, line_for, list_any, nat_eq, next_run, nth, numbers_to, opens, option_map, or_cases, or_right, order_out, ordered, orders_of_run, reshelved, returned, some_and, stands, waits, without}
 use Rattle.office_core.proofs.Words.{same_number, other_number, put_here, put_there, put_each, stands-push, stands-without_other, stands-without_same, below_none, ascending-without, ascending-push, all_from_stands, numbered_within, numbered-push, numbered-push_last, numbered_past}
 use Rattle.office_core.proofs.LineOrder.{any-in_order}
 use Rattle.office_core.proofs.Steps.{held_so, Passes}
@@ -56,7 +49,8 @@ pub record IsPast (container : Option ℕ) (w h : ℕ → Bool) (past : Option E
 none_but : (w : ℕ → Bool) (c : ℕ) → w c ≡ false → ((k : ℕ) → k ≢ c → w k ≡ false) → (k : ℕ) → w k ≡ false
 none_but w c here there k = elim (cases_eq k c) [ inl e ↦ subst (λ m. w m ≡ false) (sym e) here | inr h ↦ there k h ]
 
-pub waiting : (container : Option ℕ) (w h : ℕ → Bool) (past : Option End) (c : ℕ) → IsFiled container w h past → w c ≡ true → IsWaitingFor container w h past c
+pub waiting : (container : Option ℕ) (w h : ℕ → Bool) (past : Option End) (c : ℕ) → IsFiled container w h past
+    → w c ≡ true → IsWaitingFor container w h past c
 waiting None w h past c f e = absurd (false≢true (sym (f.0 c) ∙ e))
 waiting (Some k) w h past c f e =
     elim (cases_eq c k) [
@@ -66,7 +60,8 @@ waiting (Some k) w h past c f e =
       | inr ne ↦ absurd (false≢true (sym (f.1 c ne) ∙ e))
     ]
 
-pub out_with : (container : Option ℕ) (w h : ℕ → Bool) (past : Option End) (c : ℕ) → IsFiled container w h past → h c ≡ true → IsOutWith container w h past c
+pub out_with : (container : Option ℕ) (w h : ℕ → Bool) (past : Option End) (c : ℕ) → IsFiled container w h past
+    → h c ≡ true → IsOutWith container w h past c
 out_with None w h past c f e = absurd (false≢true (sym (f.1 c) ∙ e))
 out_with (Some k) w h past c f e =
     elim (cases_eq c k) [
@@ -76,26 +71,36 @@ out_with (Some k) w h past c f e =
       | inr ne ↦ absurd (false≢true (sym (f.2 c ne) ∙ e))
     ]
 
-pub no_order : (container : Option ℕ) (w h : ℕ → Bool) (past : Option End) → container ≡ None → IsFiled container w h past → IsFiled None w h past
+pub no_order : (container : Option ℕ) (w h : ℕ → Bool) (past : Option End) → container ≡ None
+    → IsFiled container w h past → IsFiled None w h past
 no_order container w h past e f = subst (λ k. IsFiled k w h past) e f
 
 one_waiting : (a b : Bool) (p : Option End) → a ≡ true → b ≡ false → p ≡ None → ExactlyOne a b (is_some p)
-one_waiting a b p ea eb ep = subst (λ x. ExactlyOne x b (is_some p)) (sym ea) (subst (λ x. ExactlyOne true x (is_some p)) (sym eb) (subst (λ x. ExactlyOne true false (is_some x)) (sym ep) tt))
+one_waiting a b p ea eb ep =
+    subst (λ x. ExactlyOne x b (is_some p)) (sym ea) (subst (λ x. ExactlyOne true x (is_some p)) (sym eb) (subst (λ x. ExactlyOne true false (is_some x)) (sym ep) tt))
 
 one_out : (a b : Bool) (p : Option End) → a ≡ false → b ≡ true → p ≡ None → ExactlyOne a b (is_some p)
-one_out a b p ea eb ep = subst (λ x. ExactlyOne x b (is_some p)) (sym ea) (subst (λ x. ExactlyOne false x (is_some p)) (sym eb) (subst (λ x. ExactlyOne false true (is_some x)) (sym ep) tt))
+one_out a b p ea eb ep =
+    subst (λ x. ExactlyOne x b (is_some p)) (sym ea) (subst (λ x. ExactlyOne false x (is_some p)) (sym eb) (subst (λ x. ExactlyOne false true (is_some x)) (sym ep) tt))
 
 one_past : (a b : Bool) (p : Option End) (how : End) → a ≡ false → b ≡ false → p ≡ Some how → ExactlyOne a b (is_some p)
-one_past a b p how ea eb ep = subst (λ x. ExactlyOne x b (is_some p)) (sym ea) (subst (λ x. ExactlyOne false x (is_some p)) (sym eb) (subst (λ x. ExactlyOne false false (is_some x)) (sym ep) tt))
+one_past a b p how ea eb ep =
+    subst (λ x. ExactlyOne x b (is_some p)) (sym ea) (subst (λ x. ExactlyOne false x (is_some p)) (sym eb) (subst (λ x. ExactlyOne false false (is_some x)) (sym ep) tt))
 
-pub filed_waiting : (container : Option ℕ) (w h : ℕ → Bool) (past : Option End) (c : ℕ) → IsWaitingFor container w h past c → IsFiled container w h past
-filed_waiting container w h past c x = subst (λ k. IsFiled k w h past) (sym x.for_it) (one_waiting (w c) (h c) past x.in_queue (x.in_no_place c) x.not_past, x.in_no_other, λ k ne. x.in_no_place k)
+pub filed_waiting : (container : Option ℕ) (w h : ℕ → Bool) (past : Option End) (c : ℕ)
+    → IsWaitingFor container w h past c → IsFiled container w h past
+filed_waiting container w h past c x =
+    subst (λ k. IsFiled k w h past) (sym x.for_it) (one_waiting (w c) (h c) past x.in_queue (x.in_no_place c) x.not_past, x.in_no_other, λ k ne. x.in_no_place k)
 
-pub filed_out : (container : Option ℕ) (w h : ℕ → Bool) (past : Option End) (c : ℕ) → IsOutWith container w h past c → IsFiled container w h past
-filed_out container w h past c x = subst (λ k. IsFiled k w h past) (sym x.for_it) (one_out (w c) (h c) past (x.in_no_queue c) x.in_place x.not_past, (λ k ne. x.in_no_queue k), x.in_no_other)
+pub filed_out : (container : Option ℕ) (w h : ℕ → Bool) (past : Option End) (c : ℕ) → IsOutWith container w h past c
+    → IsFiled container w h past
+filed_out container w h past c x =
+    subst (λ k. IsFiled k w h past) (sym x.for_it) (one_out (w c) (h c) past (x.in_no_queue c) x.in_place x.not_past, (λ k ne. x.in_no_queue k), x.in_no_other)
 
-pub filed_past : (container : Option ℕ) (w h : ℕ → Bool) (past : Option End) (c : ℕ) (how : End) → IsPast container w h past c how → IsFiled container w h past
-filed_past container w h past c how x = subst (λ k. IsFiled k w h past) (sym x.for_it) (one_past (w c) (h c) past how (x.in_no_queue c) (x.in_no_place c) x.is_past, (λ k ne. x.in_no_queue k), (λ k ne. x.in_no_place k))
+pub filed_past : (container : Option ℕ) (w h : ℕ → Bool) (past : Option End) (c : ℕ) (how : End)
+    → IsPast container w h past c how → IsFiled container w h past
+filed_past container w h past c how x =
+    subst (λ k. IsFiled k w h past) (sym x.for_it) (one_past (w c) (h c) past how (x.in_no_queue c) (x.in_no_place c) x.is_past, (λ k ne. x.in_no_queue k), (λ k ne. x.in_no_place k))
 
 -- One order moves
 
@@ -106,13 +111,16 @@ pub record OnlyMoves (s t : State) (o : ℕ) : Type 0 where
   pub places : (p : ℕ) → p ≢ o → (c : ℕ) → is_out_for p (t.place c) ≡ is_out_for p (s.place c)
   pub past : (p : ℕ) → p ≢ o → t.past p ≡ s.past p
 
-filed_same : (k k' : Option ℕ) (w w' h h' : ℕ → Bool) (p p' : Option End) → k' ≡ k → ((c : ℕ) → w' c ≡ w c) → ((c : ℕ) → h' c ≡ h c) → p' ≡ p → IsFiled k w h p → IsFiled k' w' h' p'
+filed_same : (k k' : Option ℕ) (w w' h h' : ℕ → Bool) (p p' : Option End) → k' ≡ k → ((c : ℕ) → w' c ≡ w c)
+    → ((c : ℕ) → h' c ≡ h c) → p' ≡ p → IsFiled k w h p → IsFiled k' w' h' p'
 filed_same k k' w w' h h' p p' ek ew eh ep f =
     let fw : w ≡ w' = fun_ext (λ c. sym (ew c)) in
     let fh : h ≡ h' = fun_ext (λ c. sym (eh c)) in
     subst (λ x. IsFiled x w' h' p') (sym ek) (subst (λ x. IsFiled k w' h' x) (sym ep) (subst (λ x. IsFiled k w' x p) fh (subst (λ x. IsFiled k x h p) fw f)))
 
-pub moved : (s t : State) (o : ℕ) → OnlyMoves s t o → IsFiled (container_of t o) (λ c. stands o (t.queue c)) (λ c. is_out_for o (t.place c)) (t.past o) → ((c : ℕ) → IsAscending (t.queue c)) → AreFiled s → AreFiled t
+pub moved : (s t : State) (o : ℕ) → OnlyMoves s t o
+    → IsFiled (container_of t o) (λ c. stands o (t.queue c)) (λ c. is_out_for o (t.place c)) (t.past o)
+    → ((c : ℕ) → IsAscending (t.queue c)) → AreFiled s → AreFiled t
 moved s t o m here asc f =
     record {
       each = λ p. elim (cases_eq p o) [
@@ -143,7 +151,8 @@ is_cancelled s o c f e w =
       is_past = put_here s.past o (Some Cancelled);
     }
 
-cancel_filed : (s : State) (o : ℕ) (k : Option ℕ) → container_of s o ≡ k → some_and (λ c. stands o (s.queue c)) k ≡ true → AreFiled s → AreFiled (cancelled s o k)
+cancel_filed : (s : State) (o : ℕ) (k : Option ℕ) → container_of s o ≡ k → some_and (λ c. stands o (s.queue c)) k ≡ true
+    → AreFiled s → AreFiled (cancelled s o k)
 cancel_filed s o None e w f = f
 cancel_filed s o (Some c) e w f =
     let t = cancelled s o (Some c) in
@@ -152,7 +161,8 @@ cancel_filed s o (Some c) e w f =
 
 -- Order
 
-container-push : (s : State) (order : Order) (p : ℕ) → p ≢ suc (length s.orders) → option_map (λ r. r.container) (nth (s.orders ++ order ∷ []) p) ≡ container_of s p
+container-push : (s : State) (order : Order) (p : ℕ) → p ≢ suc (length s.orders)
+    → option_map (λ r. r.container) (nth (s.orders ++ order ∷ []) p) ≡ container_of s p
 container-push s order p ne = ap (option_map (λ r. r.container)) (numbered-push s.orders order p ne)
 
 pub next_is_none : (s : State) → container_of s (suc (length s.orders)) ≡ None
@@ -211,7 +221,8 @@ not_out_at_desk Shelf o e = refl
 not_out_at_desk Desk o e = refl
 not_out_at_desk (Out k) o e = absurd (false≢true e)
 
-pub only_issues : (s : State) (c o : ℕ) (os : List ℕ) → s.queue c ≡ o ∷ os → is_desk (s.place c) ≡ true → OnlyMoves s (issued s c (o ∷ os)) o
+pub only_issues : (s : State) (c o : ℕ) (os : List ℕ) → s.queue c ≡ o ∷ os → is_desk (s.place c) ≡ true
+    → OnlyMoves s (issued s c (o ∷ os)) o
 only_issues s c o os e d =
     record {
       orders = λ p ne. refl;
@@ -233,7 +244,8 @@ is_issued s c o os e f =
       not_past = x.not_past;
     }
 
-issue_filed : (s : State) (c : ℕ) (q : List ℕ) → s.queue c ≡ q → is_desk (s.place c) ≡ true → AreFiled s → AreFiled (issued s c q)
+issue_filed : (s : State) (c : ℕ) (q : List ℕ) → s.queue c ≡ q → is_desk (s.place c) ≡ true → AreFiled s
+    → AreFiled (issued s c q)
 issue_filed s c [] e d f = f
 issue_filed s c (o ∷ os) e d f =
     let t = issued s c (o ∷ os) in
@@ -270,7 +282,8 @@ return_filed s c (Out o) e f =
 
 -- Run and Reshelve: nothing that is out goes, and nothing goes out
 
-filter_at : (test : ℕ → Bool) (n m : ℕ) (rest : List ℕ) (b : Bool) → test m ≡ b → (stands n rest ≡ true → test n ≡ true) → stands n (cond b (m ∷ rest) rest) ≡ true → test n ≡ true
+filter_at : (test : ℕ → Bool) (n m : ℕ) (rest : List ℕ) (b : Bool) → test m ≡ b → (stands n rest ≡ true → test n ≡ true)
+    → stands n (cond b (m ∷ rest) rest) ≡ true → test n ≡ true
 filter_at test n m rest true h ih k =
     elim (or_cases (nat_eq n m) (stands n rest) k) [ inl same ↦ subst (λ i. test i ≡ true) (sym (eqb-true n m same)) h | inr r ↦ ih r ]
 filter_at test n m rest false h ih k = ih k
@@ -279,7 +292,8 @@ pub stands-filter : (test : ℕ → Bool) (n : ℕ) (ns : List ℕ) → stands n
 stands-filter test n [] e = absurd (false≢true e)
 stands-filter test n (m ∷ ms) e = filter_at test n m (filter test ms) (test m) refl (stands-filter test n ms) e
 
-all_passing : (test : ℕ → Bool) (m : ℕ) (rest : List ℕ) (b : Bool) → test m ≡ b → AllByRecursion (λ n. test n ≡ true) rest → AllByRecursion (λ n. test n ≡ true) (cond b (m ∷ rest) rest)
+all_passing : (test : ℕ → Bool) (m : ℕ) (rest : List ℕ) (b : Bool) → test m ≡ b
+    → AllByRecursion (λ n. test n ≡ true) rest → AllByRecursion (λ n. test n ≡ true) (cond b (m ∷ rest) rest)
 all_passing test m rest true e h = (e, h)
 all_passing test m rest false e h = h
 
@@ -295,7 +309,11 @@ all_taken P (suc k) (n ∷ ns) h = (h.0, all_taken P k ns h.1)
 pub picked_due : (s : State) → AllByRecursion (λ o. is_due s o ≡ true) (orders_of_run s)
 picked_due s = all_taken (λ o. is_due s o ≡ true) s.settings.run_size (filter (is_due s) (numbers_to (length s.orders))) (all_filtered (is_due s) (numbers_to (length s.orders)))
 
-shelf_at : (s : State) (c o : ℕ) (r : Option Order) (rest : List Line) → some_and (λ order. some_and (nat_eq o) (first (s.queue order.container)) && (is_shelf (s.place order.container) && opens s order.ticket order.container)) r ≡ true → (list_any (λ line. nat_eq line.container c) rest ≡ true → is_shelf (s.place c) ≡ true) → list_any (λ line. nat_eq line.container c) (cons_option (option_map (λ order. record { container = order.container; order = o; ticket = order.ticket }) r) rest) ≡ true → is_shelf (s.place c) ≡ true
+shelf_at : (s : State) (c o : ℕ) (r : Option Order) (rest : List Line)
+    → some_and (λ order. some_and (nat_eq o) (first (s.queue order.container)) && (is_shelf (s.place order.container) && opens s order.ticket order.container)) r ≡ true
+    → (list_any (λ line. nat_eq line.container c) rest ≡ true → is_shelf (s.place c) ≡ true)
+    → list_any (λ line. nat_eq line.container c) (cons_option (option_map (λ order. record { container = order.container; order = o; ticket = order.ticket }) r) rest) ≡ true
+    → is_shelf (s.place c) ≡ true
 shelf_at s c o None rest due ih e = absurd (false≢true due)
 shelf_at s c o (Some order) rest due ih e =
     elim (or_cases (nat_eq order.container c) (list_any (λ line. nat_eq line.container c) rest) e) [
@@ -305,11 +323,14 @@ shelf_at s c o (Some order) rest due ih e =
       | inr r ↦ ih r
     ]
 
-brings_from_shelf : (s : State) (c : ℕ) (os : List ℕ) → AllByRecursion (λ o. is_due s o ≡ true) os → list_any (λ line. nat_eq line.container c) (filter_map (line_for s) os) ≡ true → is_shelf (s.place c) ≡ true
+brings_from_shelf : (s : State) (c : ℕ) (os : List ℕ) → AllByRecursion (λ o. is_due s o ≡ true) os
+    → list_any (λ line. nat_eq line.container c) (filter_map (line_for s) os) ≡ true → is_shelf (s.place c) ≡ true
 brings_from_shelf s c [] h e = absurd (false≢true e)
-brings_from_shelf s c (o ∷ os) h e = shelf_at s c o (nth s.orders o) (filter_map (line_for s) os) h.0 (brings_from_shelf s c os h.1) e
+brings_from_shelf s c (o ∷ os) h e =
+    shelf_at s c o (nth s.orders o) (filter_map (line_for s) os) h.0 (brings_from_shelf s c os h.1) e
 
-in_house : (b : Bool) (p q : Place) → order_out q ≡ None → (b ≡ true → order_out p ≡ None) → order_out (cond b q p) ≡ order_out p
+in_house : (b : Bool) (p q : Place) → order_out q ≡ None → (b ≡ true → order_out p ≡ None)
+    → order_out (cond b q p) ≡ order_out p
 in_house true p q e h = e ∙ sym (h refl)
 in_house false p q e h = refl
 
@@ -332,7 +353,8 @@ reshelved_out s c =
     (λ b. desk_in_house (s.place c) (and_parts (is_desk (s.place c)) (is_empty (s.queue c)) (stands-filter (is_idle s) c (containers s) b)).0)
 
 -- places change, and nothing that is out
-same_out : (s : State) (place : ℕ → Place) (runs : List Run) → ((c : ℕ) → order_out (place c) ≡ order_out (s.place c)) → AreFiled s → AreFiled (record s { place = place; runs = runs })
+same_out : (s : State) (place : ℕ → Place) (runs : List Run) → ((c : ℕ) → order_out (place c) ≡ order_out (s.place c))
+    → AreFiled s → AreFiled (record s { place = place; runs = runs })
 same_out s place runs e f =
     record {
       each = λ o. filed_same (container_of s o) (container_of s o) (λ c. stands o (s.queue c)) (λ c. stands o (s.queue c)) (λ c. is_out_for o (s.place c)) (λ c. is_out_for o (place c)) (s.past o) (s.past o) refl (λ c. refl) (λ c. ap (some_and (nat_eq o)) (e c)) refl (f.each o);

@@ -1,18 +1,10 @@
 -- The limits are those of the rules, and what is full is refused.
 use Rattle.std.proofs.Common.{◌≡◌, ℕ, ◌+◌, ◌≤◌, Bool, true, false, not, ◌&&◌, [], ◌∷◌, length, Some, None, refl, ◌∙◌}
-use Rattle.std.specs.Prelude.{nat_lt, nat_le}
-use Rattle.std.proofs.lemmas.Bool.{and_parts, leb-true, le-leb, lt-ltb, le-ltb, lt-leb, or_right}
+use Rattle.std.specs.Prelude.{nat_lt}
 use Rattle.isad_core.specs.Days.{day_text}
-use Rattle.isad_core.specs.Limits.{most_units, most_unit_numbers, most_containers, most_seats, most_daily, most_hands, most_run_size, most_tickets, most_permits, most_orders, most_runs}
-use Rattle.tree_core.specs.Forest.{size}
-use Rattle.catalogue_core.specs.UnitLookup.{has_unit}
-use Rattle.catalogue_core.specs.Sources.{is_between}
 use Rattle.desk_core.specs.Names.{is_name}
-use Rattle.desk_core.specs.Refusals.{when, unless, first_that_holds}
-use Rattle.desk_core.specs.declared.refusal.Refusal.TheVariants.{UnknownUnit, UnknownTicket, TicketExpired, NotAvailable, AlreadyOrdered, DailyLimit, Full, NothingToMove, BadName}
-use Rattle.office_core.specs.Words.{is_empty}
-use Rattle.office_core.specs.State.{State, is_ticket, is_expired, opens, has_ordered, orders_placed, orders_of_run, has_permit}
 use Rattle.office_core.specs.Fullness.{HasItsLimits, HasItsSettings, IsFullExactly, RefusesTickets, RefusesRuns, RefusesOrders, RefusesPermits, MayOrder, RefusesWhereFull}
+use Rattle.office_core.proofs.Common.{AlreadyOrdered, BadName, DailyLimit, Full, NotAvailable, NothingToMove, State, TicketExpired, UnknownTicket, UnknownUnit, and_parts, first_that_holds, has_ordered, has_permit, has_unit, is_between, is_empty, is_expired, is_ticket, le-leb, le-ltb, leb-true, lt-leb, lt-ltb, most_containers, most_daily, most_hands, most_orders, most_permits, most_run_size, most_runs, most_seats, most_tickets, most_unit_numbers, most_units, nat_le, opens, or_right, orders_of_run, orders_placed, size, unless, when}
 
 pub its_limits : HasItsLimits
 unfolding day_text
@@ -88,7 +80,8 @@ runs s =
       nothing = λ h. idle (is_empty (orders_of_run s)) (nat_le most_runs (length s.runs)) h;
     }
 
-ordering : (k e a o d f : Bool) → k ≡ true → e ≡ false → a ≡ true → o ≡ false → first_that_holds (unless k UnknownTicket ∷ when e TicketExpired ∷ unless a NotAvailable ∷ when o AlreadyOrdered ∷ when d DailyLimit ∷ when f Full ∷ []) ≡ first_that_holds (when d DailyLimit ∷ when f Full ∷ [])
+ordering : (k e a o d f : Bool) → k ≡ true → e ≡ false → a ≡ true → o ≡ false
+    → first_that_holds (unless k UnknownTicket ∷ when e TicketExpired ∷ unless a NotAvailable ∷ when o AlreadyOrdered ∷ when d DailyLimit ∷ when f Full ∷ []) ≡ first_that_holds (when d DailyLimit ∷ when f Full ∷ [])
 ordering k e a o d f hk he ha ho = rw (hk, he, ha, ho) refl
 
 limited : (d f : Bool) → d ≡ true → first_that_holds (when d DailyLimit ∷ when f Full ∷ []) ≡ Some DailyLimit
@@ -107,13 +100,16 @@ orders s t c m =
       day = λ l. at ∙ limited daily all (le-leb s.settings.daily (orders_placed s t s.day) l);
     }
 
-permitting : (k u h f : Bool) → k ≡ true → u ≡ true → h ≡ false → first_that_holds (unless k UnknownTicket ∷ unless u UnknownUnit ∷ when (not h && f) Full ∷ []) ≡ when f Full
+permitting : (k u h f : Bool) → k ≡ true → u ≡ true → h ≡ false
+    → first_that_holds (unless k UnknownTicket ∷ unless u UnknownUnit ∷ when (not h && f) Full ∷ []) ≡ when f Full
 permitting k u h f ek eu eh = rw (ek, eu, eh) (last_told f)
 
-prolonging : (k u h f : Bool) → k ≡ true → u ≡ true → h ≡ true → first_that_holds (unless k UnknownTicket ∷ unless u UnknownUnit ∷ when (not h && f) Full ∷ []) ≡ None
+prolonging : (k u h f : Bool) → k ≡ true → u ≡ true → h ≡ true
+    → first_that_holds (unless k UnknownTicket ∷ unless u UnknownUnit ∷ when (not h && f) Full ∷ []) ≡ None
 prolonging k u h f ek eu eh = rw (ek, eu, eh) refl
 
-unknown_unit : (k u h f : Bool) → k ≡ true → u ≡ false → first_that_holds (unless k UnknownTicket ∷ unless u UnknownUnit ∷ when (not h && f) Full ∷ []) ≡ Some UnknownUnit
+unknown_unit : (k u h f : Bool) → k ≡ true → u ≡ false
+    → first_that_holds (unless k UnknownTicket ∷ unless u UnknownUnit ∷ when (not h && f) Full ∷ []) ≡ Some UnknownUnit
 unknown_unit k u h f ek eu = rw (ek, eu) refl
 
 permits : (s : State) (t : ℕ) → is_ticket s t ≡ true → RefusesPermits s t

@@ -1,32 +1,12 @@
 -- An accepted import brings as many units as its reply counts as new.
 use Rattle.std.proofs.Common.{◌≡◌, ℕ, ◌+◌, ◌<◌, ◌≤◌, true, List, [], ◌++◌, length, None, Ok, Err, refl, sym, ap, ◌∙◌, subst, arith, map, length-append}
-use Rattle.std.specs.Prelude.{count_by}
-use Rattle.std.proofs.lemmas.List.{length-map}
-use Rattle.std.proofs.lemmas.List.Sorted.{length_permutation}
-use Rattle.std.proofs.lemmas.List.Sums.{length-filter}
-use Rattle.isad_core.specs.Texts.{Bytes}
-use Rattle.atom_csv.specs.declared.file.Row.{Row}
-use Rattle.tree_core.specs.Forest.{nodes, size}
-use Rattle.catalogue_core.specs.Units.{Unit}
-use Rattle.catalogue_core.specs.CatalogueMerge.{Catalogue, New, numbered_from, new_unit, revised, merged_forest}
 use Rattle.catalogue_core.proofs.NodeLemmas.{length-nodes}
 use Rattle.office_core.specs.declared.command.Command.TheVariants as command
 use Rattle.office_core.specs.declared.done.Done.{Done}
 use Rattle.office_core.specs.declared.done.Done.TheVariants as done
-use Rattle.office_core.specs.declared.done.Remark.{Remark}
-use Rattle.office_core.specs.State.{State}
-use Rattle.catalogue_core.specs.UnitLookup.{has_unit}
-use Rattle.catalogue_core.specs.Intake.{Intake, Taken, is_new}
-use Rattle.office_core.specs.ImportReply.{told_of, bad_file}
-use Rattle.office_core.specs.Rules.{Reply, intake_of, imported}
-use Rattle.catalogue_core.specs.GoodCatalogues.{AreGoodUnits}
-use Rattle.office_core.specs.Soundness.{IsSound}
-use Rattle.office_core.specs.ImportLaws.{ImportsBringTheNew}
-use Rattle.catalogue_core.proofs.DistinctLists.{all_so}
+use Rattle.office_core.specs.ImportReply.{told_of}
+use Rattle.office_core.proofs.Common.{AreGoodUnits, Bytes, Catalogue, ImportsBringTheNew, Intake, IsSound, New, Remark, Reply, Row, State, Taken, Unit, all_so, bad_file, count_by, has_unit, imported, intake_of, is_new, length-filter, length-map, length-numbered, length_permutation, merged_forest, merged_nodes, new_rows, new_unit, nodes, numbered_from, revised, size, still_there, taken_is}
 use Rattle.office_core.proofs.Steps.{step_at}
-use Rattle.catalogue_core.proofs.Imported.{new_rows, taken_is}
-use Rattle.catalogue_core.proofs.UnitsAfter.{length-numbered}
-use Rattle.catalogue_core.proofs.MergedNodes.{merged_nodes, still_there}
 
 abbrev done_reply : Done → Reply
 done_reply d = Ok d
@@ -35,7 +15,9 @@ done_reply d = Ok d
 abbrev HasMore : State → ℕ → State → Type 0
 HasMore s new t = ((u : ℕ) → has_unit s.catalogue.forest u ≡ true → has_unit t.catalogue.forest u ≡ true) × (size t.catalogue.forest ≡ size s.catalogue.forest + new) × (t.catalogue.next ≡ s.catalogue.next + new)
 
-merged_size : (source : Bytes) (rows : List Row) (n : ℕ) (news : List Row) (s : State) → AreGoodUnits s.catalogue → n ≡ s.catalogue.next → size (merged_forest source rows (numbered_from s.catalogue.forest source n [] news) s.catalogue.forest) ≡ size s.catalogue.forest + length news
+merged_size : (source : Bytes) (rows : List Row) (n : ℕ) (news : List Row) (s : State) → AreGoodUnits s.catalogue
+    → n ≡ s.catalogue.next
+    → size (merged_forest source rows (numbered_from s.catalogue.forest source n [] news) s.catalogue.forest) ≡ size s.catalogue.forest + length news
 merged_size source rows n news s g e =
     let new : List New = numbered_from s.catalogue.forest source n [] news in
     let old : List Unit = map (revised source rows) (nodes s.catalogue.forest) in
@@ -50,12 +32,15 @@ merged_size source rows n news s g e =
     let i = length-nodes s.catalogue.forest in
     omega (arith, a, b, c, d, f, h, i)
 
-taken_more : (s : State) (source file : Bytes) (intake : Intake) → intake_of s source file ≡ Ok intake → AreGoodUnits s.catalogue → HasMore s (count_by (is_new s.catalogue.forest source) intake.file.rows) (imported s (Ok intake))
+taken_more : (s : State) (source file : Bytes) (intake : Intake) → intake_of s source file ≡ Ok intake
+    → AreGoodUnits s.catalogue
+    → HasMore s (count_by (is_new s.catalogue.forest source) intake.file.rows) (imported s (Ok intake))
 taken_more s source file intake e g =
     let it = taken_is s.catalogue source file intake e in
     let rows = intake.file.rows in
     let news = new_rows s.catalogue source rows in
-    let many : length news ≡ count_by (is_new s.catalogue.forest source) rows = length-filter (is_new s.catalogue.forest source) rows in
+    let many : length news ≡ count_by (is_new s.catalogue.forest source) rows =
+    length-filter (is_new s.catalogue.forest source) rows in
     let size_is = merged_size source rows s.catalogue.next news s g refl in
     let forest_is = ap (λ c. size c.forest) it.is in
     let next_is = ap (λ c. c.next) it.is in
@@ -69,7 +54,10 @@ same_reply a b e = cc
 same_new : (c n s t c' n' s' t' : ℕ) (m m' : List Remark) → done.Import c n m s t ≡ done.Import c' n' m' s' t' → n ≡ n'
 same_new c n s t c' n' s' t' m m' e = cc
 
-accepted : (s : State) (source file : Bytes) (r : Taken) → intake_of s source file ≡ r → bad_file r ≡ None → AreGoodUnits s.catalogue → (changed new : ℕ) (marks : List Remark) (same translations : ℕ) → done_reply (told_of s.catalogue.forest source r) ≡ done_reply (done.Import changed new marks same translations) → HasMore s new (imported s r)
+accepted : (s : State) (source file : Bytes) (r : Taken) → intake_of s source file ≡ r → bad_file r ≡ None
+    → AreGoodUnits s.catalogue → (changed new : ℕ) (marks : List Remark) (same translations : ℕ)
+    → done_reply (told_of s.catalogue.forest source r) ≡ done_reply (done.Import changed new marks same translations)
+    → HasMore s new (imported s r)
 accepted s source file (Err fault) e a g changed new marks same translations t = absurd (cc)
 accepted s source file (Ok intake) e a g changed new marks same translations t =
     subst (λ n. HasMore s n (imported s (Ok intake))) (same_new _ _ _ _ changed new same translations _ marks (same_reply _ _ t)) (taken_more s source file intake e g)

@@ -1,46 +1,22 @@
 -- An accepted import keeps the catalogue's own lines of soundness.
 use Rattle.std.proofs.Common.{◌≡◌, ◌+◌, ◌<◌, ◌≤◌, true, false, not, ◌||◌, List, [], ◌++◌, length, None, Ok, Err, refl, sym, ap, subst, arith}
 use Rattle.std.specs.Prelude.{nat_lt}
-use Rattle.std.specs.List.{flat_map, AllByRecursion}
-use Rattle.std.proofs.lemmas.Bool.{or_parts, ltb-false}
-use Rattle.isad_core.specs.Texts.{Bytes, is_blank_text}
-use Rattle.isad_core.specs.declared.values.BoxKey.{BoxKey}
-use Rattle.atom_csv.specs.declared.file.Row.{Row}
-use Rattle.tree_core.specs.Forest.{Forest, nodes, size}
-use Rattle.desk_core.specs.Refusals.{when}
-use Rattle.desk_core.specs.declared.refusal.Refusal.TheVariants.{Full}
-use Rattle.catalogue_core.specs.Units.{Unit}
-use Rattle.catalogue_core.specs.CatalogueMerge.{Catalogue, New, numbered_from, new_unit, revised, merged_forest, merged_boxes, is_known}
 use Rattle.office_core.specs.declared.command.Command.TheVariants as command
-use Rattle.office_core.specs.State.{State}
-use Rattle.catalogue_core.specs.UnitLookup.{has_unit}
-use Rattle.catalogue_core.specs.Intake.{Intake, Taken, is_full}
-use Rattle.office_core.specs.ImportReply.{too_much}
-use Rattle.isad_core.specs.Limits.{most_units, most_unit_numbers, most_containers}
-use Rattle.catalogue_core.specs.Sources.{is_source}
-use Rattle.office_core.specs.Rules.{intake_of, imported, checks, after}
-use Rattle.catalogue_core.specs.GoodCatalogues.{AreGoodUnits, AreGoodContainers, IsGoodUnit}
-use Rattle.office_core.specs.Soundness.{ArePermitsOfUnits, IsSound}
-use Rattle.office_core.specs.ImportLaws.{HasGoodCatalogue, ImportsKeepTheCatalogue}
-use Rattle.office_core.proofs.Steps.{Passes, held_so, held_not, step_at}
-use Rattle.catalogue_core.proofs.EachOf.{all_and, all_append, all_distinct, all_filtered}
-use Rattle.catalogue_core.proofs.DistinctLists.{all_so}
 use Rattle.catalogue_core.specs.GoodRows.{IsGoodRow}
 use Rattle.catalogue_core.proofs.GoodRows.{good_rows}
 use Rattle.catalogue_core.proofs.FileRows.{apart_rows}
-use Rattle.catalogue_core.proofs.Imported.{new_rows, IsTaken, taken_is}
 use Rattle.catalogue_core.proofs.Rooted.{revised_id}
-use Rattle.catalogue_core.proofs.ImportedAgain.{all_merged, numbered_rows}
-use Rattle.catalogue_core.proofs.UnitsAfter.{ids_between}
-use Rattle.catalogue_core.proofs.MergedNodes.{still_there}
 use Rattle.catalogue_core.proofs.ImportedValues.{AreGoodValues, all_told, good_revised, good_new}
 use Rattle.catalogue_core.proofs.ImportedNumbers.{distinct_numbers, distinct_pairs}
 use Rattle.catalogue_core.proofs.ImportedDepth.{merged_depth}
 use Rattle.catalogue_core.proofs.NamedBoxes.{named_from, named_all, named_told}
+use Rattle.office_core.proofs.Common.{AllByRecursion, AreGoodContainers, AreGoodUnits, ArePermitsOfUnits, BoxKey, Bytes, Catalogue, Forest, Full, HasGoodCatalogue, ImportsKeepTheCatalogue, Intake, IsGoodUnit, IsSound, IsTaken, New, Row, State, Taken, Unit, after, all_and, all_append, all_distinct, all_filtered, all_merged, all_so, checks, flat_map, has_unit, ids_between, imported, intake_of, is_blank_text, is_full, is_known, is_source, ltb-false, merged_boxes, merged_forest, most_containers, most_unit_numbers, most_units, new_rows, new_unit, nodes, numbered_from, numbered_rows, or_parts, revised, size, still_there, taken_is, too_much, when}
+use Rattle.office_core.proofs.Steps.{Passes, held_so, held_not, step_at}
 
 -- ---- what the refusals leave
 
-room : (c : Catalogue) → when (is_full c) Full ≡ None → (size c.forest ≤ most_units) × (c.next ≤ most_unit_numbers + 1) × (length c.containers ≤ most_containers)
+room : (c : Catalogue) → when (is_full c) Full ≡ None
+    → (size c.forest ≤ most_units) × (c.next ≤ most_unit_numbers + 1) × (length c.containers ≤ most_containers)
 room c h =
     let a = or_parts (nat_lt most_units (size c.forest)) (nat_lt (most_unit_numbers + 1) c.next || nat_lt most_containers (length c.containers)) (held_not (is_full c) Full h) in
     let b = or_parts (nat_lt (most_unit_numbers + 1) c.next) (nat_lt most_containers (length c.containers)) a.1 in
@@ -129,12 +105,16 @@ module _ (s : State) (source file : Bytes) (intake : Intake) (e : intake_of s so
   sound_import : HasGoodCatalogue (imported s (Ok intake))
   sound_import = subst HasGoodCatalogue (sym is_after) (record { units = good_units; containers = good_containers; permits = permits_there })
 
-at_taken : (s : State) (source file : Bytes) (t : Taken) → intake_of s source file ≡ t → IsSound s → is_source source ≡ true → too_much t ≡ None → HasGoodCatalogue (imported s t)
+at_taken : (s : State) (source file : Bytes) (t : Taken) → intake_of s source file ≡ t → IsSound s
+    → is_source source ≡ true → too_much t ≡ None → HasGoodCatalogue (imported s t)
 at_taken s source file (Ok intake) e g named fits = sound_import s source file intake e g named fits
-at_taken s source file (Err fault) e g named fits = record { units = g.units; containers = g.containers; permits = g.permits }
+at_taken s source file (Err fault) e g named fits =
+    record { units = g.units; containers = g.containers; permits = g.permits }
 
-pub import_keeps_units : (s : State) (source file : Bytes) → IsSound s → Passes (checks s (command.Import source file)) → HasGoodCatalogue (after s (command.Import source file))
-import_keeps_units s source file g ok = at_taken s source file (intake_of s source file) refl g (held_so (is_source source) _ ok.0) ok.1.1.0
+pub import_keeps_units : (s : State) (source file : Bytes) → IsSound s → Passes (checks s (command.Import source file))
+    → HasGoodCatalogue (after s (command.Import source file))
+import_keeps_units s source file g ok =
+    at_taken s source file (intake_of s source file) refl g (held_so (is_source source) _ ok.0) ok.1.1.0
 
 pub imports_keep : (s : State) → IsSound s → ImportsKeepTheCatalogue s
 imports_keep s g source file =

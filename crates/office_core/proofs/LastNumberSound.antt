@@ -2,23 +2,15 @@
 use Rattle.std.proofs.Common.{◌≡◌, ℕ, ◌+◌, ◌<◌, ◌≤◌, [], ◌∷◌, refl, arith}
 use Rattle.std.specs.Str.{is_utf8, chars}
 use Rattle.std.proofs.Math.Utf8.{encode}
-use Rattle.std.proofs.lemmas.Int.{ints}
 use Rattle.csv.specs.Reading.{records_from, strip_bom}
 use Rattle.csv.specs.Machine.{next_record}
 use Rattle.atom_csv.specs.Columns.{columns}
 use Rattle.atom_csv.specs.Values.{text_elements}
-use Rattle.tree_core.specs.Forest.{nodes}
 use Rattle.catalogue_core.specs.ContainerContents.{is_open}
-use Rattle.catalogue_core.specs.Units.{Unit}
-use Rattle.catalogue_core.proofs.DistinctLists.{all_so}
 use Rattle.office_core.specs.declared.command.Command.TheVariants as command
-use Rattle.office_core.specs.State.{State}
-use Rattle.isad_core.specs.Limits.{most_unit_numbers}
 use Rattle.catalogue_core.specs.Intake.{take}
-use Rattle.office_core.specs.Rules.{state_after}
-use Rattle.office_core.specs.SoundDesk.{IsGoodLine, IsSoundDesk}
-use Rattle.office_core.specs.Soundness.{IsSound}
 use Rattle.office_core.specs.WorkedExamples.{office, import, ann, boxes, march_1, with_next, one_number_left}
+use Rattle.office_core.proofs.Common.{IsGoodLine, IsSound, IsSoundDesk, State, Unit, all_so, ints, most_unit_numbers, nodes, state_after}
 use Rattle.office_core.proofs.Starts.{starts_sound}
 use Rattle.office_core.proofs.StaysSound.{always_sound}
 

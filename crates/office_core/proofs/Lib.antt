@@ -1,3 +1,4 @@
+pub mod Common
 pub mod Orders
 pub mod Counts
 pub mod Steps

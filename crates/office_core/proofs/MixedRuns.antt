@@ -2,9 +2,7 @@
 use Rattle.std.proofs.Common.{◌≡◌, List, [], ◌∷◌, ◌++◌, refl, ap, ◌∙◌}
 use Rattle.office_core.specs.declared.query.Query.{Query}
 use Rattle.office_core.specs.MixedRuns.{Asked, ToDo, ToTell, Answered, state_after_all, all_told, commands_of, next_state, replies_of, told_of}
-use Rattle.office_core.specs.Queries.{answer}
-use Rattle.office_core.specs.Rules.{replies, state_after, step}
-use Rattle.office_core.specs.State.{State}
+use Rattle.office_core.proofs.Common.{State, answer, replies, state_after, step}
 
 pub only_commands : (s : State) (asked : List Asked) → state_after_all s asked ≡ state_after s (commands_of asked)
 only_commands s [] = refl
@@ -16,11 +14,13 @@ same_replies s [] = refl
 same_replies s (ToDo command ∷ later) = ap (λ l. (step s command).1 ∷ l) (same_replies (step s command).0 later)
 same_replies s (ToTell query ∷ later) = same_replies s later
 
-told_then : (s : State) (before later : List Asked) → all_told s (before ++ later) ≡ all_told s before ++ all_told (state_after_all s before) later
+told_then : (s : State) (before later : List Asked)
+    → all_told s (before ++ later) ≡ all_told s before ++ all_told (state_after_all s before) later
 told_then s [] later = refl
 told_then s (asked ∷ before) later = ap (λ l. told_of s asked ∷ l) (told_then (next_state s asked) before later)
 
-pub answered_then : (s : State) (before later : List Asked) (query : Query) → all_told s (before ++ ToTell query ∷ later) ≡ all_told s before ++ Answered (answer (state_after s (commands_of before)) query) ∷ all_told (state_after s (commands_of before)) later
+pub answered_then : (s : State) (before later : List Asked) (query : Query)
+    → all_told s (before ++ ToTell query ∷ later) ≡ all_told s before ++ Answered (answer (state_after s (commands_of before)) query) ∷ all_told (state_after s (commands_of before)) later
 answered_then s before later query =
     told_then s before (ToTell query ∷ later)
     ∙ ap (λ t. all_told s before ++ Answered (answer t query) ∷ all_told t later) (only_commands s before)

@@ -1,28 +1,8 @@
 -- New rows get the next unit numbers in the order of the file.
 use Rattle.std.proofs.Common.{◌≡◌, ℕ, suc, ◌+◌, ◌<◌, ◌≤◌, Bool, true, ◌&&◌, List, [], ◌∷◌, ◌++◌, None, Ok, Err, refl, sym, ◌∙◌, subst, arith, map}
-use Rattle.std.specs.Prelude.{option_and_then}
-use Rattle.std.specs.List.{list_any}
-use Rattle.std.proofs.lemmas.Bool.{eq-eqb, or_left, or_right}
-use Rattle.std.proofs.lemmas.List.Folds.{list_any-append}
-use Rattle.std.proofs.lemmas.List.Sorted.{list_any-IsPermutation}
-use Rattle.isad_core.specs.Texts.{Bytes}
-use Rattle.atom_csv.specs.FileContents.{file_of}
-use Rattle.atom_csv.specs.declared.file.File.{File}
-use Rattle.atom_csv.specs.declared.file.Row.{Row}
-use Rattle.tree_core.specs.Forest.{Forest, nodes, has}
-use Rattle.catalogue_core.specs.Units.{Unit, has_id, is_from}
-use Rattle.catalogue_core.specs.CatalogueMerge.{Catalogue, New, number_of, numbered_from, new_unit, revised, merged_forest}
-use Rattle.catalogue_core.specs.Intake.{Taken}
-use Rattle.catalogue_core.proofs.DistinctLists.{all_so}
-use Rattle.catalogue_core.proofs.Imported.{new_rows, taken_is}
-use Rattle.catalogue_core.proofs.ImportedAgain.{same_text}
-use Rattle.catalogue_core.proofs.MergedNodes.{merged_nodes}
+use Rattle.catalogue_core.specs.CatalogueMerge.{number_of}
 use Rattle.office_core.specs.declared.command.Command.TheVariants as command
-use Rattle.office_core.specs.ImportReply.{bad_file}
-use Rattle.office_core.specs.GivenNumbers.{AreNumberedUnits, NumbersRows}
-use Rattle.office_core.specs.Rules.{imported, intake_of}
-use Rattle.office_core.specs.Soundness.{IsSound}
-use Rattle.office_core.specs.State.{State}
+use Rattle.office_core.proofs.Common.{AreNumberedUnits, Bytes, Catalogue, File, Forest, IsSound, New, NumbersRows, Row, State, Taken, Unit, all_so, bad_file, eq-eqb, file_of, has, has_id, imported, intake_of, is_from, list_any, list_any-IsPermutation, list_any-append, merged_forest, merged_nodes, new_rows, new_unit, nodes, numbered_from, option_and_then, or_left, or_right, revised, same_text, taken_is}
 use Rattle.office_core.proofs.Steps.{step_at}
 
 -- a unit with this number, from this source, with this number there
@@ -58,7 +38,8 @@ merged_rows s source rows g =
 same_file : (a b : File) (r : _) → file_of r ≡ Ok a → file_of r ≡ Ok b → a ≡ b
 same_file a b r e f = let k : Ok a ≡ Ok b = sym e ∙ f in cc
 
-imported_rows : (s : State) (source file : Bytes) (t : Taken) → intake_of s source file ≡ t → bad_file t ≡ None → IsSound s → (read : File) → file_of file ≡ Ok read
+imported_rows : (s : State) (source file : Bytes) (t : Taken) → intake_of s source file ≡ t → bad_file t ≡ None
+    → IsSound s → (read : File) → file_of file ≡ Ok read
     → AreNumberedUnits (imported s t).catalogue.forest source s.catalogue.next (new_rows s.catalogue source read.rows)
 imported_rows s source file (Err fault) e b g read f = absurd (cc)
 imported_rows s source file (Ok intake) e b g read f =

@@ -1,20 +1,9 @@
 -- Numbers are given in order, from 1 on.
 use Rattle.std.proofs.Common.{◌≡◌, ℕ, zero, suc, ◌+◌, ◌-◌, ◌≤◌, List, [], ◌∷◌, ◌++◌, length, Option, Some, None, Ok, Err, refl, sym, ap, ◌∙◌, subst, arith, length-append}
-use Rattle.std.specs.Prelude.{option_to_list}
-use Rattle.desk_core.specs.declared.reader.Place.TheVariants.{Shelf, Desk, Out}
 use Rattle.desk_core.specs.declared.reader.Place.{Place}
-use Rattle.office_core.specs.State.{State, container_of}
-use Rattle.office_core.specs.declared.command.Command.{Command}
 use Rattle.office_core.specs.declared.command.Command.TheVariants as command
-use Rattle.office_core.specs.Rules.{after, result_of, step, state_after, cancelled, issued, returned, imported, intake_of}
-use Rattle.isad_core.specs.Texts.{Bytes}
-use Rattle.isad_core.specs.Boxes.{distinct}
-use Rattle.desk_core.specs.declared.refusal.Refusal.{Refusal}
-use Rattle.catalogue_core.specs.Intake.{Taken}
-use Rattle.office_core.specs.Laws.{numbers_from}
-use Rattle.office_core.specs.GivenNumbers.{Kind, Tickets, Orders, Runs, Containers, Units, next_number, ticket_given, order_given, run_given, given_numbers, all_given, GivenInOrder, StartsAtOne}
+use Rattle.office_core.proofs.Common.{Bytes, Command, Containers, Desk, GivenInOrder, Kind, Orders, Out, Refusal, Runs, Shelf, StartsAtOne, State, Taken, Tickets, Units, after, all_given, boxes_after, cancelled, container_of, distinct, given_numbers, imported, intake_of, issued, new_boxes, next_after, next_number, numbers_from, option_to_list, order_given, result_of, returned, run_given, state_after, step, ticket_given}
 use Rattle.office_core.proofs.Steps.{step_at}
-use Rattle.catalogue_core.proofs.Imported.{new_boxes, boxes_after, next_after}
 use Rattle.office_core.proofs.Boxes.{step_apart}
 use Rattle.office_core.proofs.Readers.{length-renewed}
 
@@ -81,7 +70,9 @@ returned_same s c Shelf = none_changed s
 returned_same s c Desk = none_changed s
 returned_same s c (Out o) = record { readers = refl; orders = refl; runs = refl; boxes = refl; units = refl }
 
-imported_lists : (s : State) (source file : Bytes) (t : Taken) → intake_of s source file ≡ t → distinct s.catalogue.containers ≡ s.catalogue.containers → (length (imported s t).readers ≡ length s.readers) × (length (imported s t).orders ≡ length s.orders) × (length (imported s t).runs ≡ length s.runs) × (length s.catalogue.containers ≤ length (imported s t).catalogue.containers) × (s.catalogue.next ≤ (imported s t).catalogue.next)
+imported_lists : (s : State) (source file : Bytes) (t : Taken) → intake_of s source file ≡ t
+    → distinct s.catalogue.containers ≡ s.catalogue.containers
+    → (length (imported s t).readers ≡ length s.readers) × (length (imported s t).orders ≡ length s.orders) × (length (imported s t).runs ≡ length s.runs) × (length s.catalogue.containers ≤ length (imported s t).catalogue.containers) × (s.catalogue.next ≤ (imported s t).catalogue.next)
 imported_lists s source file (Err fault) e b = (refl, refl, refl, omega arith, omega arith)
 imported_lists s source file (Ok intake) e b =
     let x = ap length (boxes_after s.catalogue source file intake e b) in
@@ -97,7 +88,8 @@ record Grows (s t : State) : Type 0 where
 grows_same : (s t : State) → SameCounts s t → Grows s t
 grows_same s t h = let b = h.boxes in let u = h.units in record { boxes = omega (arith, b); units = omega (arith, u) }
 
-grows_after : (s : State) (asked : Command) → distinct s.catalogue.containers ≡ s.catalogue.containers → Grows s (after s asked)
+grows_after : (s : State) (asked : Command) → distinct s.catalogue.containers ≡ s.catalogue.containers
+    → Grows s (after s asked)
 grows_after s (command.OpenDay day) b = record { boxes = omega arith; units = omega arith }
 grows_after s (command.Register name until) b = record { boxes = omega arith; units = omega arith }
 grows_after s (command.Renew t until) b = record { boxes = omega arith; units = omega arith }
@@ -123,9 +115,11 @@ same_between = none_between
 counts_between : (n m : ℕ) → m ≡ n → Fill (suc n) (suc m) []
 counts_between n m e = none_between (suc n) (suc m) (ap suc e)
 
-tickets_after : (s : State) (asked : Command) → distinct s.catalogue.containers ≡ s.catalogue.containers → Fill (suc (length s.readers)) (suc (length (after s asked).readers)) (option_to_list (ticket_given asked (Ok (result_of s asked))))
+tickets_after : (s : State) (asked : Command) → distinct s.catalogue.containers ≡ s.catalogue.containers
+    → Fill (suc (length s.readers)) (suc (length (after s asked).readers)) (option_to_list (ticket_given asked (Ok (result_of s asked))))
 tickets_after s (command.OpenDay day) b = same_between _ _ refl
-tickets_after s (command.Register name until) b = fill_at _ _ _ _ (ap suc (sym (one_more s.readers _))) (next_one (suc (length s.readers)))
+tickets_after s (command.Register name until) b =
+    fill_at _ _ _ _ (ap suc (sym (one_more s.readers _))) (next_one (suc (length s.readers)))
 tickets_after s (command.Renew t until) b = counts_between _ _ (length-renewed until s.readers t)
 tickets_after s (command.TakeSeat t) b = same_between _ _ refl
 tickets_after s (command.LeaveSeat t) b = same_between _ _ refl
@@ -137,19 +131,22 @@ tickets_after s (command.Issue c t) b = counts_between _ _ (issued_same s c (s.q
 tickets_after s (command.Return c) b = counts_between _ _ (returned_same s c (s.place c)).readers
 tickets_after s (command.Permit t u until) b = same_between _ _ refl
 tickets_after s (command.Revoke t u) b = same_between _ _ refl
-tickets_after s (command.Import source file) b = counts_between _ _ (imported_lists s source file (intake_of s source file) refl b).0
+tickets_after s (command.Import source file) b =
+    counts_between _ _ (imported_lists s source file (intake_of s source file) refl b).0
 tickets_after s (command.SetStatus u draft whole) b = same_between _ _ refl
 tickets_after s (command.SetClosure u until) b = same_between _ _ refl
 tickets_after s (command.Move u parent) b = same_between _ _ refl
 tickets_after s (command.Remove u) b = same_between _ _ refl
 
-orders_after : (s : State) (asked : Command) → distinct s.catalogue.containers ≡ s.catalogue.containers → Fill (suc (length s.orders)) (suc (length (after s asked).orders)) (option_to_list (order_given asked (Ok (result_of s asked))))
+orders_after : (s : State) (asked : Command) → distinct s.catalogue.containers ≡ s.catalogue.containers
+    → Fill (suc (length s.orders)) (suc (length (after s asked).orders)) (option_to_list (order_given asked (Ok (result_of s asked))))
 orders_after s (command.OpenDay day) b = same_between _ _ refl
 orders_after s (command.Register name until) b = same_between _ _ refl
 orders_after s (command.Renew t until) b = same_between _ _ refl
 orders_after s (command.TakeSeat t) b = same_between _ _ refl
 orders_after s (command.LeaveSeat t) b = same_between _ _ refl
-orders_after s (command.Order t c) b = fill_at _ _ _ _ (ap suc (sym (one_more s.orders _))) (next_one (suc (length s.orders)))
+orders_after s (command.Order t c) b =
+    fill_at _ _ _ _ (ap suc (sym (one_more s.orders _))) (next_one (suc (length s.orders)))
 orders_after s (command.Cancel o) b = counts_between _ _ (cancelled_same s o (container_of s o)).orders
 orders_after s command.Run b = same_between _ _ refl
 orders_after s command.Reshelve b = same_between _ _ refl
@@ -157,13 +154,15 @@ orders_after s (command.Issue c t) b = counts_between _ _ (issued_same s c (s.qu
 orders_after s (command.Return c) b = counts_between _ _ (returned_same s c (s.place c)).orders
 orders_after s (command.Permit t u until) b = same_between _ _ refl
 orders_after s (command.Revoke t u) b = same_between _ _ refl
-orders_after s (command.Import source file) b = counts_between _ _ (imported_lists s source file (intake_of s source file) refl b).1
+orders_after s (command.Import source file) b =
+    counts_between _ _ (imported_lists s source file (intake_of s source file) refl b).1
 orders_after s (command.SetStatus u draft whole) b = same_between _ _ refl
 orders_after s (command.SetClosure u until) b = same_between _ _ refl
 orders_after s (command.Move u parent) b = same_between _ _ refl
 orders_after s (command.Remove u) b = same_between _ _ refl
 
-runs_after : (s : State) (asked : Command) → distinct s.catalogue.containers ≡ s.catalogue.containers → Fill (suc (length s.runs)) (suc (length (after s asked).runs)) (option_to_list (run_given asked (Ok (result_of s asked))))
+runs_after : (s : State) (asked : Command) → distinct s.catalogue.containers ≡ s.catalogue.containers
+    → Fill (suc (length s.runs)) (suc (length (after s asked).runs)) (option_to_list (run_given asked (Ok (result_of s asked))))
 runs_after s (command.OpenDay day) b = same_between _ _ refl
 runs_after s (command.Register name until) b = same_between _ _ refl
 runs_after s (command.Renew t until) b = same_between _ _ refl
@@ -177,7 +176,8 @@ runs_after s (command.Issue c t) b = counts_between _ _ (issued_same s c (s.queu
 runs_after s (command.Return c) b = counts_between _ _ (returned_same s c (s.place c)).runs
 runs_after s (command.Permit t u until) b = same_between _ _ refl
 runs_after s (command.Revoke t u) b = same_between _ _ refl
-runs_after s (command.Import source file) b = counts_between _ _ (imported_lists s source file (intake_of s source file) refl b).2
+runs_after s (command.Import source file) b =
+    counts_between _ _ (imported_lists s source file (intake_of s source file) refl b).2
 runs_after s (command.SetStatus u draft whole) b = same_between _ _ refl
 runs_after s (command.SetClosure u until) b = same_between _ _ refl
 runs_after s (command.Move u parent) b = same_between _ _ refl
@@ -199,7 +199,8 @@ none_refused_r _ why = refl
 refused_between : (n : ℕ) (o : Option ℕ) → o ≡ None → Fill n n (option_to_list o)
 refused_between n o e = subst (λ x. Fill n n (option_to_list x)) (sym e) (same_between n n refl)
 
-step_grows : (s : State) (asked : Command) → distinct s.catalogue.containers ≡ s.catalogue.containers → Grows s (step s asked).0
+step_grows : (s : State) (asked : Command) → distinct s.catalogue.containers ≡ s.catalogue.containers
+    → Grows s (step s asked).0
 step_grows s asked b = step_at (λ t reply. Grows s t) s asked (λ why. record { boxes = omega arith; units = omega arith }) (λ ok. grows_after s asked b)
 
 range_between : (m n : ℕ) → m ≤ n → Fill m n (numbers_from m (n - m))
@@ -208,20 +209,29 @@ range_between m n h = record { are = refl; no_lower = h }
 range_between_suc : (m n : ℕ) → m ≤ n → Fill (suc m) (suc n) (numbers_from (suc m) (n - m))
 range_between_suc m n h = let e : n - m ≡ suc n - suc m = omega arith in record { are = ap (numbers_from (suc m)) e; no_lower = omega (arith, h) }
 
-step_between : (kind : Kind) (s : State) (asked : Command) → distinct s.catalogue.containers ≡ s.catalogue.containers → Fill (next_number kind s) (next_number kind (step s asked).0) (given_numbers kind s asked)
-step_between Tickets s asked b = step_at (λ t reply. Fill (suc (length s.readers)) (suc (length t.readers)) (option_to_list (ticket_given asked reply))) s asked (λ why. refused_between (suc (length s.readers)) _ (none_refused_t asked why)) (λ ok. tickets_after s asked b)
-step_between Orders s asked b = step_at (λ t reply. Fill (suc (length s.orders)) (suc (length t.orders)) (option_to_list (order_given asked reply))) s asked (λ why. refused_between (suc (length s.orders)) _ (none_refused_o asked why)) (λ ok. orders_after s asked b)
-step_between Runs s asked b = step_at (λ t reply. Fill (suc (length s.runs)) (suc (length t.runs)) (option_to_list (run_given asked reply))) s asked (λ why. refused_between (suc (length s.runs)) _ (none_refused_r asked why)) (λ ok. runs_after s asked b)
-step_between Containers s asked b = range_between_suc (length s.catalogue.containers) (length (step s asked).0.catalogue.containers) (step_grows s asked b).boxes
-step_between Units s asked b = range_between s.catalogue.next (step s asked).0.catalogue.next (step_grows s asked b).units
+step_between : (kind : Kind) (s : State) (asked : Command) → distinct s.catalogue.containers ≡ s.catalogue.containers
+    → Fill (next_number kind s) (next_number kind (step s asked).0) (given_numbers kind s asked)
+step_between Tickets s asked b =
+    step_at (λ t reply. Fill (suc (length s.readers)) (suc (length t.readers)) (option_to_list (ticket_given asked reply))) s asked (λ why. refused_between (suc (length s.readers)) _ (none_refused_t asked why)) (λ ok. tickets_after s asked b)
+step_between Orders s asked b =
+    step_at (λ t reply. Fill (suc (length s.orders)) (suc (length t.orders)) (option_to_list (order_given asked reply))) s asked (λ why. refused_between (suc (length s.orders)) _ (none_refused_o asked why)) (λ ok. orders_after s asked b)
+step_between Runs s asked b =
+    step_at (λ t reply. Fill (suc (length s.runs)) (suc (length t.runs)) (option_to_list (run_given asked reply))) s asked (λ why. refused_between (suc (length s.runs)) _ (none_refused_r asked why)) (λ ok. runs_after s asked b)
+step_between Containers s asked b =
+    range_between_suc (length s.catalogue.containers) (length (step s asked).0.catalogue.containers) (step_grows s asked b).boxes
+step_between Units s asked b =
+    range_between s.catalogue.next (step s asked).0.catalogue.next (step_grows s asked b).units
 
-all_between : (kind : Kind) (s : State) (later : List Command) → distinct s.catalogue.containers ≡ s.catalogue.containers → Fill (next_number kind s) (next_number kind (state_after s later)) (all_given kind s later)
+all_between : (kind : Kind) (s : State) (later : List Command)
+    → distinct s.catalogue.containers ≡ s.catalogue.containers
+    → Fill (next_number kind s) (next_number kind (state_after s later)) (all_given kind s later)
 all_between kind s [] b = none_between (next_number kind s) (next_number kind s) refl
 all_between kind s (asked ∷ later) b =
     fill_further (next_number kind s) (next_number kind (step s asked).0) (next_number kind (state_after s (asked ∷ later))) (given_numbers kind s asked) (all_given kind (step s asked).0 later)
     (step_between kind s asked b) (all_between kind (step s asked).0 later (step_apart s asked b))
 
-pub given_in_order : (kind : Kind) (s : State) (later : List Command) → distinct s.catalogue.containers ≡ s.catalogue.containers → GivenInOrder kind s later
+pub given_in_order : (kind : Kind) (s : State) (later : List Command)
+    → distinct s.catalogue.containers ≡ s.catalogue.containers → GivenInOrder kind s later
 given_in_order kind s later b = (all_between kind s later b).are
 
 pub starts_at_one : (kind : Kind) → StartsAtOne kind

@@ -1,29 +1,8 @@
 -- What numbers are given to.
 use Rattle.std.proofs.Common.{◌≡◌, ℕ, ◌+◌, ◌<◌, ◌≤◌, true, List, [], ◌∷◌, ◌++◌, length, Option, Some, None, Ok, Err, refl, sym, ◌∙◌, subst, inl, inr, arith, map}
-use Rattle.std.specs.Prelude.{nat_eq}
-use Rattle.std.specs.List.{list_any}
-use Rattle.std.proofs.lemmas.Bool.{eq-eqb, or_left, or_right, cases_eq}
-use Rattle.std.proofs.lemmas.List.Folds.{list_any-append}
-use Rattle.std.proofs.lemmas.List.Sorted.{list_any-IsPermutation}
-use Rattle.isad_core.specs.Texts.{Bytes}
-use Rattle.atom_csv.specs.declared.file.Row.{Row}
-use Rattle.tree_core.specs.Forest.{nodes}
-use Rattle.desk_core.specs.declared.refusal.Refusal.{Refusal}
 use Rattle.desk_core.specs.declared.reader.Place.{Place}
-use Rattle.desk_core.specs.declared.reader.Place.TheVariants.{Shelf, Desk, Out}
-use Rattle.catalogue_core.specs.Units.{Unit, has_id}
-use Rattle.catalogue_core.specs.CatalogueMerge.{Catalogue, New, numbered_from, new_unit, revised, merged_forest}
-use Rattle.catalogue_core.specs.UnitLookup.{has_unit}
-use Rattle.catalogue_core.specs.Intake.{Taken}
-use Rattle.catalogue_core.proofs.DistinctLists.{all_so}
-use Rattle.catalogue_core.proofs.Imported.{new_rows, taken_is}
-use Rattle.catalogue_core.proofs.MergedNodes.{AreNumberedFrom, numbered_are, merged_nodes}
-use Rattle.office_core.specs.declared.command.Command.{Command}
 use Rattle.office_core.specs.declared.command.Command.TheVariants as command
-use Rattle.office_core.specs.State.{State, container_of}
-use Rattle.office_core.specs.Soundness.{IsSound}
-use Rattle.office_core.specs.Rules.{after, result_of, step, cancelled, issued, returned, imported, intake_of}
-use Rattle.office_core.specs.GivenNumbers.{NamesWhatCame, EachIsUnits}
+use Rattle.office_core.proofs.Common.{AreNumberedFrom, Bytes, Catalogue, Command, Desk, EachIsUnits, IsSound, NamesWhatCame, New, Out, Refusal, Row, Shelf, State, Taken, Unit, after, all_so, cancelled, cases_eq, container_of, eq-eqb, has_id, has_unit, imported, intake_of, issued, list_any, list_any-IsPermutation, list_any-append, merged_forest, merged_nodes, nat_eq, new_rows, new_unit, nodes, numbered_are, numbered_from, or_left, or_right, result_of, returned, revised, step, taken_is}
 use Rattle.office_core.proofs.Steps.{step_at}
 use Rattle.office_core.proofs.Words.{numbered-push_last}
 
@@ -42,7 +21,8 @@ told_names s command.Run = numbered-push_last s.runs _
 told_names s _ = tt
 
 pub names_what_came : (s : State) (asked : Command) → NamesWhatCame s (step s asked).0 asked (step s asked).1
-names_what_came s asked = step_at (λ t reply. NamesWhatCame s t asked reply) s asked (λ why. refused_names s s asked why) (λ ok. told_names s asked)
+names_what_came s asked =
+    step_at (λ t reply. NamesWhatCame s t asked reply) s asked (λ why. refused_names s s asked why) (λ ok. told_names s asked)
 
 -- ---- the numbers that units get
 
@@ -50,7 +30,8 @@ none_new : (s t : State) → t.catalogue.next ≡ s.catalogue.next → EachIsUni
 none_new s t e u l h = absurd (omega (arith, e, l, h))
 
 -- one of the new units has it
-has_new : (source : Bytes) (n : ℕ) (new : List New) (u : ℕ) → AreNumberedFrom n new → n ≤ u → u < n + length new → list_any (has_id u) (map (new_unit source) new) ≡ true
+has_new : (source : Bytes) (n : ℕ) (new : List New) (u : ℕ) → AreNumberedFrom n new → n ≤ u → u < n + length new
+    → list_any (has_id u) (map (new_unit source) new) ≡ true
 has_new source n [] u a l h = absurd (omega (arith, l, h))
 has_new source n (x ∷ new) u a l h =
     elim (cases_eq u n) [
@@ -68,7 +49,8 @@ merged_has s source rows g u l h =
     ∙ (list_any-append (has_id u) old (map (new_unit source) new)
     ∙ or_right (list_any (has_id u) old) (list_any (has_id u) (map (new_unit source) new)) (has_new source s.catalogue.next new u (numbered_are s.catalogue.forest source s.catalogue.next [] news) l h))
 
-imported_each : (s : State) (source file : Bytes) (t : Taken) → intake_of s source file ≡ t → IsSound s → EachIsUnits s (imported s t)
+imported_each : (s : State) (source file : Bytes) (t : Taken) → intake_of s source file ≡ t → IsSound s
+    → EachIsUnits s (imported s t)
 imported_each s source file (Err fault) e g = none_new s s refl
 imported_each s source file (Ok intake) e g =
     subst (λ (c : Catalogue). (u : ℕ) → s.catalogue.next ≤ u → u < c.next → has_unit c.forest u ≡ true) (sym (taken_is s.catalogue source file intake e).is) (merged_has s source intake.file.rows g)
@@ -94,4 +76,5 @@ each_after s (command.Return c) g = none_new s (after s (command.Return c)) (ret
 each_after s asked g = λ u l h. absurd (omega (arith, l, h))
 
 pub each_is_units : (s : State) (asked : Command) → IsSound s → EachIsUnits s (step s asked).0
-each_is_units s asked g = step_at (λ t reply. EachIsUnits s t) s asked (λ why. none_new s s refl) (λ ok. each_after s asked g)
+each_is_units s asked g =
+    step_at (λ t reply. EachIsUnits s t) s asked (λ why. none_new s s refl) (λ ok. each_after s asked g)

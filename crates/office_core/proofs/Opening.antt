@@ -1,25 +1,22 @@
 -- A permit closes nothing: the one fact on the catalogue that the desk needs.
 use Rattle.std.proofs.Common.{◌≡◌, ℕ, Bool, true, false, not, cond, ◌&&◌, ◌||◌, List, [], ◌∷◌, refl, subst, arith}
-use Rattle.std.specs.Prelude.{ℤ, int_lt, int_le, nat_eq, nat_lt}
-use Rattle.std.specs.List.{list_any, list_all}
-use Rattle.std.proofs.lemmas.Bool.{eqb-true, false≢true, and_parts, or_right}
-use Rattle.std.proofs.lemmas.Int.{ints}
-use Rattle.isad_core.specs.declared.values.BoxKey.{BoxKey}
-use Rattle.tree_core.specs.Forest.{Forest}
-use Rattle.catalogue_core.specs.Units.{Unit, is_closed}
-use Rattle.catalogue_core.specs.ContainerContents.{contents, is_withheld_from, is_some_there, is_open}
-use Rattle.office_core.specs.State.{Permit, is_permitted, granted}
+use Rattle.std.specs.Prelude.{ℤ, nat_lt}
+use Rattle.catalogue_core.specs.ContainerContents.{is_open}
+use Rattle.office_core.proofs.Common.{BoxKey, Forest, Permit, Unit, and_parts, contents, eqb-true, false≢true, granted, int_le, int_lt, ints, is_closed, is_permitted, is_some_there, is_withheld_from, list_all, list_any, nat_eq, or_right}
 
-any_weaker : {X : Type 0} (p q : X → Bool) → ((x : X) → p x ≡ true → q x ≡ true) → (xs : List X) → list_any p xs ≡ true → list_any q xs ≡ true
+any_weaker : {X : Type 0} (p q : X → Bool) → ((x : X) → p x ≡ true → q x ≡ true) → (xs : List X) → list_any p xs ≡ true
+    → list_any q xs ≡ true
 any_weaker p q f [] h = h
 any_weaker p q f (x ∷ xs) h = at (p x) (q x) (f x) (any_weaker p q f xs) h
   where
-    at : (a b : Bool) → (a ≡ true → b ≡ true) → (list_any p xs ≡ true → list_any q xs ≡ true) → (a || list_any p xs) ≡ true → (b || list_any q xs) ≡ true
+    at : (a b : Bool) → (a ≡ true → b ≡ true) → (list_any p xs ≡ true → list_any q xs ≡ true)
+        → (a || list_any p xs) ≡ true → (b || list_any q xs) ≡ true
     at a true g r k = refl
     at true false g r k = absurd (false≢true (g refl))
     at false false g r k = r k
 
-all_weaker : {X : Type 0} (p q : X → Bool) → ((x : X) → p x ≡ true → q x ≡ true) → (xs : List X) → list_all p xs ≡ true → list_all q xs ≡ true
+all_weaker : {X : Type 0} (p q : X → Bool) → ((x : X) → p x ≡ true → q x ≡ true) → (xs : List X) → list_all p xs ≡ true
+    → list_all q xs ≡ true
 all_weaker p q f [] h = h
 all_weaker p q f (x ∷ xs) h =
     let k = and_parts (p x) (list_all p xs) h in
@@ -29,7 +26,8 @@ all_weaker p q f (x ∷ xs) h =
     both true b g r = r
     both false b g r = absurd (false≢true g)
 
-seen_at : (draft closed a b : Bool) → (a ≡ true → b ≡ true) → not (draft || (closed && not a)) ≡ true → not (draft || (closed && not b)) ≡ true
+seen_at : (draft closed a b : Bool) → (a ≡ true → b ≡ true) → not (draft || (closed && not a)) ≡ true
+    → not (draft || (closed && not b)) ≡ true
 seen_at true closed a b f h = h
 seen_at false false a b f h = refl
 seen_at false true true true f h = refl
@@ -40,7 +38,8 @@ opens_at : (some a b : Bool) → (a ≡ true → b ≡ true) → (some && a) ≡
 opens_at true a b f h = f h
 opens_at false a b f h = h
 
-pub open_more : (f : Forest Unit) (box : BoxKey) (day : ℤ) (old new : ℕ → Bool) → ((u : ℕ) → old u ≡ true → new u ≡ true) → is_open f box old day ≡ true → is_open f box new day ≡ true
+pub open_more : (f : Forest Unit) (box : BoxKey) (day : ℤ) (old new : ℕ → Bool)
+    → ((u : ℕ) → old u ≡ true → new u ≡ true) → is_open f box old day ≡ true → is_open f box new day ≡ true
 unfolding is_open
 open_more f box day old new more h =
     opens_at (is_some_there (contents f box)) (list_all (λ path. not (is_withheld_from old day path)) (contents f box)) (list_all (λ path. not (is_withheld_from new day path)) (contents f box))
@@ -66,17 +65,27 @@ later_day : (today u v : ℤ) (b : Bool) → int_lt u v ≡ b → int_le today u
 later_day today u v true e h = before_later today u v e h
 later_day today u v false e h = h
 
-granted_at : (today : ℤ) (u : ℕ) (until : ℤ) (p : Permit) (ps : List Permit) (v : ℕ) (same before : Bool) → nat_eq p.unit u ≡ same → (is_permitted today ps v ≡ true → is_permitted today (granted u until ps) v ≡ true) → is_permitted today (p ∷ ps) v ≡ true → is_permitted today (cond same (record { unit = u; until = cond (int_lt p.until until) until p.until } ∷ ps) (cond before (record { unit = u; until = until } ∷ (p ∷ ps)) (p ∷ granted u until ps))) v ≡ true
+granted_at : (today : ℤ) (u : ℕ) (until : ℤ) (p : Permit) (ps : List Permit) (v : ℕ) (same before : Bool)
+    → nat_eq p.unit u ≡ same → (is_permitted today ps v ≡ true → is_permitted today (granted u until ps) v ≡ true)
+    → is_permitted today (p ∷ ps) v ≡ true
+    → is_permitted today (cond same (record { unit = u; until = cond (int_lt p.until until) until p.until } ∷ ps) (cond before (record { unit = u; until = until } ∷ (p ∷ ps)) (p ∷ granted u until ps))) v ≡ true
 granted_at today u until p ps v true before e ih h =
     or_both (nat_eq p.unit v && int_le today p.until) (is_permitted today ps v) (nat_eq u v && int_le today (cond (int_lt p.until until) until p.until)) (is_permitted today ps v)
     (λ k. subst (λ w. (nat_eq w v && int_le today (cond (int_lt p.until until) until p.until)) ≡ true) (eqb-true p.unit u e) (and_second (nat_eq p.unit v) (int_le today p.until) (int_le today (cond (int_lt p.until until) until p.until)) (later_day today p.until until (int_lt p.until until) refl) k))
     (λ k. k) h
-granted_at today u until p ps v false true e ih h = or_right (nat_eq u v && int_le today until) (is_permitted today (p ∷ ps) v) h
-granted_at today u until p ps v false false e ih h = or_both (nat_eq p.unit v && int_le today p.until) (is_permitted today ps v) (nat_eq p.unit v && int_le today p.until) (is_permitted today (granted u until ps) v) (λ k. k) ih h
+granted_at today u until p ps v false true e ih h =
+    or_right (nat_eq u v && int_le today until) (is_permitted today (p ∷ ps) v) h
+granted_at today u until p ps v false false e ih h =
+    or_both (nat_eq p.unit v && int_le today p.until) (is_permitted today ps v) (nat_eq p.unit v && int_le today p.until) (is_permitted today (granted u until ps) v) (λ k. k) ih h
 
-granted_more : (today : ℤ) (u : ℕ) (until : ℤ) (ps : List Permit) → (v : ℕ) → is_permitted today ps v ≡ true → is_permitted today (granted u until ps) v ≡ true
+granted_more : (today : ℤ) (u : ℕ) (until : ℤ) (ps : List Permit) → (v : ℕ) → is_permitted today ps v ≡ true
+    → is_permitted today (granted u until ps) v ≡ true
 granted_more today u until [] v h = absurd (false≢true h)
-granted_more today u until (p ∷ ps) v h = granted_at today u until p ps v (nat_eq p.unit u) (nat_lt u p.unit) refl (granted_more today u until ps v) h
+granted_more today u until (p ∷ ps) v h =
+    granted_at today u until p ps v (nat_eq p.unit u) (nat_lt u p.unit) refl (granted_more today u until ps v) h
 
-pub granted_opens : (f : Forest Unit) (box : BoxKey) (today : ℤ) (u : ℕ) (until : ℤ) (ps : List Permit) → is_open f box (is_permitted today ps) today ≡ true → is_open f box (is_permitted today (granted u until ps)) today ≡ true
-granted_opens f box today u until ps h = open_more f box today (is_permitted today ps) (is_permitted today (granted u until ps)) (granted_more today u until ps) h
+pub granted_opens : (f : Forest Unit) (box : BoxKey) (today : ℤ) (u : ℕ) (until : ℤ) (ps : List Permit)
+    → is_open f box (is_permitted today ps) today ≡ true
+    → is_open f box (is_permitted today (granted u until ps)) today ≡ true
+granted_opens f box today u until ps h =
+    open_more f box today (is_permitted today ps) (is_permitted today (granted u until ps)) (granted_more today u until ps) h

@@ -1,20 +1,11 @@
 -- The laws on orders.
 use Rattle.std.proofs.Common.{◌≡◌, ℕ, suc, ◌<◌, ◌≤◌, Bool, true, false, cond, ◌||◌, List, [], ◌∷◌, length, Option, Some, None, Ok, Err, refl, sym, ap, ◌∙◌, subst, inl, inr, arith}
 use Rattle.std.proofs.Math.Path.{fun_ext}
-use Rattle.std.specs.Prelude.{nat_eq, option_map, unwrap_or}
-use Rattle.std.specs.List.{AllByRecursion}
-use Rattle.std.proofs.lemmas.Bool.{eqb-true, cases_eq, false≢true, or_cases}
-use Rattle.office_core.specs.Words.{some_and, stands, first}
-use Rattle.desk_core.specs.declared.reader.Place.TheVariants.{Shelf, Desk, Out}
 use Rattle.desk_core.specs.declared.reader.Place.{Place}
-use Rattle.office_core.specs.State.{State, End, Done, Cancelled, container_of, order_out, is_desk, is_by, waits}
-use Rattle.office_core.specs.declared.command.Command.{Command}
+use Rattle.office_core.specs.State.{Done}
 use Rattle.office_core.specs.declared.command.Command.TheVariants as command
-use Rattle.office_core.specs.Rules.{Reply, checks, after, step, ordered, cancelled, fetched, reshelved, issued, returned, imported, intake_of}
 use Rattle.office_core.specs.declared.done.Done.TheVariants as done
-use Rattle.catalogue_core.specs.Intake.{Taken}
-use Rattle.office_core.specs.SoundDesk.{is_out_for, IsAscending, AreFiled}
-use Rattle.office_core.specs.Laws.{Standing, Waiting, WithItsReader, Ended, stands_as, standing, OutApart, Goes, GoesOn, IsFirstWaiting, IssuesTheFirst}
+use Rattle.office_core.proofs.Common.{AllByRecursion, AreFiled, Cancelled, Command, Desk, End, Ended, Goes, GoesOn, IsAscending, IsFirstWaiting, IssuesTheFirst, Out, OutApart, Reply, Shelf, Standing, State, Taken, Waiting, WithItsReader, after, cancelled, cases_eq, checks, container_of, eqb-true, false≢true, fetched, first, imported, intake_of, is_by, is_desk, is_out_for, issued, nat_eq, option_map, or_cases, order_out, ordered, reshelved, returned, some_and, standing, stands, stands_as, step, unwrap_or, waits}
 use Rattle.office_core.proofs.Words.{same_number}
 use Rattle.office_core.proofs.Steps.{held_so, Passes, step_at}
 use Rattle.office_core.proofs.Filed.{IsOutWith, IsPast, OnlyMoves, waiting, out_with, next_is_none, only_cancels, is_cancelled, only_orders, is_ordered, only_issues, is_issued, only_returns, is_returned, fetched_out, reshelved_out}
@@ -22,36 +13,45 @@ use Rattle.office_core.proofs.Orders.{out_is}
 
 -- What an order's standing says
 
-at_waiting : (w h : Bool) (p : Option End) → cond w (Some Waiting) (cond h (Some WithItsReader) (option_map Ended p)) ≡ Some Waiting → w ≡ true
+at_waiting : (w h : Bool) (p : Option End)
+    → cond w (Some Waiting) (cond h (Some WithItsReader) (option_map Ended p)) ≡ Some Waiting → w ≡ true
 at_waiting true h p e = refl
 at_waiting false true p e = absurd (cc)
 at_waiting false false None e = absurd (cc)
 at_waiting false false (Some x) e = absurd (cc)
 
-at_out : (w h : Bool) (p : Option End) → cond w (Some Waiting) (cond h (Some WithItsReader) (option_map Ended p)) ≡ Some WithItsReader → h ≡ true
+at_out : (w h : Bool) (p : Option End)
+    → cond w (Some Waiting) (cond h (Some WithItsReader) (option_map Ended p)) ≡ Some WithItsReader → h ≡ true
 at_out true h p e = absurd (cc)
 at_out false true p e = refl
 at_out false false None e = absurd (cc)
 at_out false false (Some x) e = absurd (cc)
 
-pub waiting_stands : (k : Option ℕ) (w h : ℕ → Bool) (p : Option End) → stands_as k w h p ≡ Some Waiting → (c : ℕ) × (k ≡ Some c) × (w c ≡ true)
+pub waiting_stands : (k : Option ℕ) (w h : ℕ → Bool) (p : Option End) → stands_as k w h p ≡ Some Waiting
+    → (c : ℕ) × (k ≡ Some c) × (w c ≡ true)
 waiting_stands None w h p e = absurd (cc)
 waiting_stands (Some c) w h p e = (c, refl, at_waiting (w c) (h c) p e)
 
-pub out_stands : (k : Option ℕ) (w h : ℕ → Bool) (p : Option End) → stands_as k w h p ≡ Some WithItsReader → (c : ℕ) × (k ≡ Some c) × (h c ≡ true)
+pub out_stands : (k : Option ℕ) (w h : ℕ → Bool) (p : Option End) → stands_as k w h p ≡ Some WithItsReader
+    → (c : ℕ) × (k ≡ Some c) × (h c ≡ true)
 out_stands None w h p e = absurd (cc)
 out_stands (Some c) w h p e = (c, refl, at_out (w c) (h c) p e)
 
-pub stands_waiting : (k : Option ℕ) (w h : ℕ → Bool) (p : Option End) (c : ℕ) → k ≡ Some c → w c ≡ true → stands_as k w h p ≡ Some Waiting
-stands_waiting k w h p c e x = ap (λ k. stands_as k w h p) e ∙ ap (λ b. cond b (Some Waiting) (cond (h c) (Some WithItsReader) (option_map Ended p))) x
+pub stands_waiting : (k : Option ℕ) (w h : ℕ → Bool) (p : Option End) (c : ℕ) → k ≡ Some c → w c ≡ true
+    → stands_as k w h p ≡ Some Waiting
+stands_waiting k w h p c e x =
+    ap (λ k. stands_as k w h p) e
+    ∙ ap (λ b. cond b (Some Waiting) (cond (h c) (Some WithItsReader) (option_map Ended p))) x
 
-pub stands_out : (k : Option ℕ) (w h : ℕ → Bool) (p : Option End) (c : ℕ) → IsOutWith k w h p c → stands_as k w h p ≡ Some WithItsReader
+pub stands_out : (k : Option ℕ) (w h : ℕ → Bool) (p : Option End) (c : ℕ) → IsOutWith k w h p c
+    → stands_as k w h p ≡ Some WithItsReader
 stands_out k w h p c x =
     ap (λ k. stands_as k w h p) x.for_it
     ∙ ap (λ b. cond b (Some Waiting) (cond (h c) (Some WithItsReader) (option_map Ended p))) (x.in_no_queue c)
     ∙ ap (λ b. cond b (Some WithItsReader) (option_map Ended p)) x.in_place
 
-pub stands_past : (k : Option ℕ) (w h : ℕ → Bool) (p : Option End) (c : ℕ) (how : End) → IsPast k w h p c how → stands_as k w h p ≡ Some (Ended how)
+pub stands_past : (k : Option ℕ) (w h : ℕ → Bool) (p : Option End) (c : ℕ) (how : End) → IsPast k w h p c how
+    → stands_as k w h p ≡ Some (Ended how)
 stands_past k w h p c how x =
     ap (λ k. stands_as k w h p) x.for_it
     ∙ ap (λ b. cond b (Some Waiting) (cond (h c) (Some WithItsReader) (option_map Ended p))) (x.in_no_queue c)
@@ -74,14 +74,18 @@ out_apart s o p ne eo ep same =
 
 -- (3)
 
-pub goes_same : (s t : State) (o : ℕ) → container_of t o ≡ container_of s o → ((c : ℕ) → stands o (t.queue c) ≡ stands o (s.queue c)) → ((c : ℕ) → is_out_for o (t.place c) ≡ is_out_for o (s.place c)) → t.past o ≡ s.past o → standing t o ≡ standing s o
+pub goes_same : (s t : State) (o : ℕ) → container_of t o ≡ container_of s o
+    → ((c : ℕ) → stands o (t.queue c) ≡ stands o (s.queue c))
+    → ((c : ℕ) → is_out_for o (t.place c) ≡ is_out_for o (s.place c)) → t.past o ≡ s.past o
+    → standing t o ≡ standing s o
 goes_same s t o ek ew eh ep =
     ap (λ k. stands_as k (λ c. stands o (t.queue c)) (λ c. is_out_for o (t.place c)) (t.past o)) ek
     ∙ ap (λ w. stands_as (container_of s o) w (λ c. is_out_for o (t.place c)) (t.past o)) (fun_ext ew)
     ∙ ap (λ h. stands_as (container_of s o) (λ c. stands o (s.queue c)) h (t.past o)) (fun_ext eh)
     ∙ ap (λ p. stands_as (container_of s o) (λ c. stands o (s.queue c)) (λ c. is_out_for o (s.place c)) p) ep
 
-goes_at : (s t : State) (o : ℕ) (a b : Option Standing) → OnlyMoves s t o → standing s o ≡ a → standing t o ≡ b → Goes a b → GoesOn s t
+goes_at : (s t : State) (o : ℕ) (a b : Option Standing) → OnlyMoves s t o → standing s o ≡ a → standing t o ≡ b
+    → Goes a b → GoesOn s t
 goes_at s t o a b m ea eb g p =
     elim (cases_eq p o) [
       | inl e ↦ inr (subst (λ q. Goes (standing s q) (standing t q)) (sym e) (subst (λ x. Goes x (standing t o)) (sym ea) (subst (λ x. Goes a x) (sym eb) g)))
@@ -100,7 +104,8 @@ order_goes s t c f =
     (ap (λ k. stands_as k (λ c. stands n (s.queue c)) (λ c. is_out_for n (s.place c)) (s.past n)) (next_is_none s))
     (stands_waiting (container_of u n) (λ k. stands n (u.queue k)) (λ k. is_out_for n (u.place k)) (u.past n) c x.for_it x.in_queue) tt
 
-cancel_goes : (s : State) (o : ℕ) (k : Option ℕ) → container_of s o ≡ k → some_and (λ c. stands o (s.queue c)) k ≡ true → AreFiled s → GoesOn s (cancelled s o k)
+cancel_goes : (s : State) (o : ℕ) (k : Option ℕ) → container_of s o ≡ k → some_and (λ c. stands o (s.queue c)) k ≡ true
+    → AreFiled s → GoesOn s (cancelled s o k)
 cancel_goes s o None e w f = stays s s (λ p. refl)
 cancel_goes s o (Some c) e w f =
     let t = cancelled s o (Some c) in
@@ -111,7 +116,8 @@ cancel_goes s o (Some c) e w f =
 head_waits : (s : State) (c o : ℕ) (os : List ℕ) → s.queue c ≡ o ∷ os → stands o (s.queue c) ≡ true
 head_waits s c o os e = ap (stands o) e ∙ ap (λ b. b || stands o os) (same_number o)
 
-issue_goes : (s : State) (c : ℕ) (q : List ℕ) → s.queue c ≡ q → is_desk (s.place c) ≡ true → AreFiled s → GoesOn s (issued s c q)
+issue_goes : (s : State) (c : ℕ) (q : List ℕ) → s.queue c ≡ q → is_desk (s.place c) ≡ true → AreFiled s
+    → GoesOn s (issued s c q)
 issue_goes s c [] e d f = stays s s (λ p. refl)
 issue_goes s c (o ∷ os) e d f =
     let t = issued s c (o ∷ os) in
@@ -131,8 +137,10 @@ return_goes s c (Out o) e f =
     (stands_out (container_of s o) (λ k. stands o (s.queue k)) (λ k. is_out_for o (s.place k)) (s.past o) c x)
     (stands_past (container_of t o) (λ k. stands o (t.queue k)) (λ k. is_out_for o (t.place k)) (t.past o) c Done (is_returned s c o e f)) tt
 
-places_go : (s t : State) → ((o : ℕ) → container_of t o ≡ container_of s o) → ((c : ℕ) → t.queue c ≡ s.queue c) → ((c : ℕ) → order_out (t.place c) ≡ order_out (s.place c)) → ((o : ℕ) → t.past o ≡ s.past o) → GoesOn s t
-places_go s t ek eq eh ep = stays s t (λ o. goes_same s t o (ek o) (λ c. ap (stands o) (eq c)) (λ c. ap (some_and (nat_eq o)) (eh c)) (ep o))
+places_go : (s t : State) → ((o : ℕ) → container_of t o ≡ container_of s o) → ((c : ℕ) → t.queue c ≡ s.queue c)
+    → ((c : ℕ) → order_out (t.place c) ≡ order_out (s.place c)) → ((o : ℕ) → t.past o ≡ s.past o) → GoesOn s t
+places_go s t ek eq eh ep =
+    stays s t (λ o. goes_same s t o (ek o) (λ c. ap (stands o) (eq c)) (λ c. ap (some_and (nat_eq o)) (eh c)) (ep o))
 
 imported_goes : (s : State) (t : Taken) → GoesOn s (imported s t)
 imported_goes s (Err fault) = stays s s (λ o. refl)
@@ -195,7 +203,9 @@ first_is_least s c o os e f =
 abbrev reply_of : ℕ → Reply
 reply_of o = Ok (done.Issue o)
 
-issue_first : (s : State) (c t o : ℕ) (q : List ℕ) → s.queue c ≡ q → is_desk (s.place c) ≡ true → some_and (is_by s t) (first q) ≡ true → AreFiled s → Ok (done.Issue (unwrap_or (first q) 0)) ≡ reply_of o → IsFirstWaiting s c o × (is_by s t o ≡ true) × (standing (issued s c q) o ≡ Some WithItsReader)
+issue_first : (s : State) (c t o : ℕ) (q : List ℕ) → s.queue c ≡ q → is_desk (s.place c) ≡ true
+    → some_and (is_by s t) (first q) ≡ true → AreFiled s → Ok (done.Issue (unwrap_or (first q) 0)) ≡ reply_of o
+    → IsFirstWaiting s c o × (is_by s t o ≡ true) × (standing (issued s c q) o ≡ Some WithItsReader)
 issue_first s c t o [] e d b f r = absurd (false≢true b)
 issue_first s c t o (p ∷ os) e d b f r =
     let same : p ≡ o = cc in

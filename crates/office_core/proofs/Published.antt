@@ -1,23 +1,11 @@
 -- What the public is shown is printed from published units alone.
 use Rattle.std.proofs.Common.{◌≡◌, ℕ, Bool, true, false, cond, List, [], ◌∷◌, ◌++◌, Option, Some, None, refl, sym, ap, ◌∙◌, subst, inl, inr, ◌⊎◌}
 use Rattle.std.specs.Prelude.{map}
-use Rattle.std.specs.List.{AllByRecursion}
-use Rattle.std.proofs.lemmas.Bool.{cases_Bool, eqb-true}
-use Rattle.std.proofs.lemmas.List.{map-append}
-use Rattle.isad_core.specs.Texts.{Bytes}
 use Rattle.isad_core.specs.PrintedDescriptions.{aid as aid_text, page as page_text}
 use Rattle.isad_core.specs.declared.display.Page.{Page}
 use Rattle.isad_core.specs.declared.display.Shown.{Shown}
-use Rattle.desk_core.specs.declared.refusal.Refusal.TheVariants.{UnknownUnit}
-use Rattle.tree_core.specs.Forest.{Forest, Empty, Node, has, path, tree}
 use Rattle.catalogue_core.specs.Aids.{identifier_of, shown_unit, shown_below}
-use Rattle.catalogue_core.specs.ContainerContents.{paths}
-use Rattle.catalogue_core.specs.Pages.{Press, number_of, is_numbered, before_last, above_last, side_by_side, aid_units, page_at, page_of}
-use Rattle.catalogue_core.specs.PublishedUnits.{IsPublished, identifiers}
-use Rattle.catalogue_core.specs.PublicForest.{PublicUnit, Told, Stub}
-use Rattle.catalogue_core.specs.Units.{is_closed}
-use Rattle.catalogue_core.proofs.DistinctLists.{all_so}
-use Rattle.catalogue_core.proofs.EachOf.{all_append}
+use Rattle.catalogue_core.specs.Pages.{number_of}
 use Rattle.catalogue_core.proofs.PagesAlike.{path_alike}
 use Rattle.catalogue_core.proofs.PageUnits.{page_told, there_where_shown}
 use Rattle.catalogue_core.proofs.PublicPaths.{known_of, stand, nowhere}
@@ -25,10 +13,7 @@ use Rattle.catalogue_core.proofs.PublishedUnits.{published_below, before_last-pu
 use Rattle.catalogue_core.proofs.ShownUnits.{ShowsIn, ShowsOne, low_of, all_beside, Place, place, shown_first, shown_lower, shown_beside}
 use Rattle.office_core.specs.declared.query.Answer.TheVariants.{Text, Unknown}
 use Rattle.office_core.specs.declared.query.Query.TheVariants as query
-use Rattle.office_core.specs.State.{State}
-use Rattle.office_core.specs.Queries.{answer, page_answer, press, public_forest}
-use Rattle.office_core.specs.Secrecy.{ShowsPublished, ShowsNumbered, ShowsBranch, PageShowsPublished, ShowsOnlyPublished, is_text, ShowsAllPublished}
-use Rattle.std.proofs.lemmas.Option.{same_Some}
+use Rattle.office_core.proofs.Common.{AllByRecursion, Bytes, Empty, Forest, IsPublished, Node, PageShowsPublished, Press, PublicUnit, ShowsAllPublished, ShowsBranch, ShowsNumbered, ShowsOnlyPublished, ShowsPublished, State, Stub, Told, UnknownUnit, above_last, aid_units, all_append, all_so, answer, before_last, cases_Bool, eqb-true, has, identifiers, is_closed, is_numbered, is_text, map-append, page_answer, page_at, page_of, path, paths, press, public_forest, same_Some, side_by_side, tree}
 
 same_text : (a b : Bytes) → Text a ≡ Text b → a ≡ b
 same_text a b e = cc
@@ -54,7 +39,8 @@ place_of : (s : State) (u : ℕ) → has (is_numbered u) (public_forest s) ≡ t
 place_of s u h = place s.day (is_numbered u) [] s.catalogue.forest refl refl h
 
 -- the unit with this number, with any number of units above it in what is printed
-first_shown : (s : State) (u : ℕ) (p : PlaceOf s u) → ShowsNumbered s (u, shown_unit (press s).at s.catalogue.containers (identifiers p.above ++ identifier_of (known_of s.day p.unit) ∷ []) 0 (known_of s.day p.unit))
+first_shown : (s : State) (u : ℕ) (p : PlaceOf s u)
+    → ShowsNumbered s (u, shown_unit (press s).at s.catalogue.containers (identifiers p.above ++ identifier_of (known_of s.day p.unit) ∷ []) 0 (known_of s.day p.unit))
 first_shown s u p =
     let n : number_of (known_of s.day p.unit) ≡ u = sym (eqb-true u (number_of (known_of s.day p.unit)) p.passes) in
     subst (λ k. ShowsNumbered s (k, shown_unit (press s).at s.catalogue.containers (identifiers p.above ++ identifier_of (known_of s.day p.unit) ∷ []) 0 (known_of s.day p.unit))) n
@@ -62,10 +48,12 @@ first_shown s u p =
 
 -- ---- a finding aid
 
-aid_shown : (s : State) (u : ℕ) → has (is_numbered u) (public_forest s) ≡ true → ShowsBranch s u (aid_units (press s) u (public_forest s))
+aid_shown : (s : State) (u : ℕ) → has (is_numbered u) (public_forest s) ≡ true
+    → ShowsBranch s u (aid_units (press s) u (public_forest s))
 aid_shown s u h =
     let p = place_of s u h in
-    let ids : above_last (path (is_numbered u) (public_forest s)) ≡ identifiers p.above = ap (map identifier_of) (ap before_last p.ends ∙ before_last-push p.way (known_of s.day p.unit)) ∙ p.codes in
+    let ids : above_last (path (is_numbered u) (public_forest s)) ≡ identifiers p.above =
+    ap (map identifier_of) (ap before_last p.ends ∙ before_last-push p.way (known_of s.day p.unit)) ∙ p.codes in
     subst (λ above. ShowsBranch s u (shown_below (press s).at s.catalogue.containers above 0 (tree (is_numbered u) (public_forest s)))) (sym ids)
     (subst (λ f. ShowsBranch s u (shown_below (press s).at s.catalogue.containers (identifiers p.above) 0 f)) (sym p.alone) (
       first_shown s u p,
@@ -74,7 +62,8 @@ aid_shown s u h =
           (shown_lower (press s).at s.catalogue.containers s.day (is_numbered u) s.catalogue.forest p 1)) tt,
     ))
 
-aid_at : (s : State) (u : ℕ) (b : Bool) → has (is_numbered u) (public_forest s) ≡ b → (text : Bytes) → cond b (Text (aid_text (aid_units (press s) u (public_forest s)))) (Unknown UnknownUnit) ≡ Text text
+aid_at : (s : State) (u : ℕ) (b : Bool) → has (is_numbered u) (public_forest s) ≡ b → (text : Bytes)
+    → cond b (Text (aid_text (aid_units (press s) u (public_forest s)))) (Unknown UnknownUnit) ≡ Text text
     → (units : List Shown) × (text ≡ aid_text units) × ShowsBranch s u units
 aid_at s u true h text e = (aid_units (press s) u (public_forest s), sym (same_text _ text e), aid_shown s u h)
 aid_at s u false h text e = absurd (cc)
@@ -82,12 +71,14 @@ aid_at s u false h text e = absurd (cc)
 -- ---- a page
 
 -- the head of a page, and the units below it
-page_parts : (at : Press) (way : List PublicUnit) (unit : PublicUnit) (low : Forest PublicUnit) (shown : Page) → page_at at way (Node unit low Empty) ≡ Some shown
+page_parts : (at : Press) (way : List PublicUnit) (unit : PublicUnit) (low : Forest PublicUnit) (shown : Page)
+    → page_at at way (Node unit low Empty) ≡ Some shown
     → (shown.head ≡ shown_unit at.at at.containers (map identifier_of way) 0 unit) × ((shown.below ≡ []) ⊎ (shown.below ≡ side_by_side at (map identifier_of way) low))
 page_parts at way (Stub id identifier level until) low shown e = let k = same_Some _ shown e in (ap (λ (p : Page). p.head) (sym k), inl (ap (λ (p : Page). p.below) (sym k)))
 page_parts at way (Told id values) low shown e = let k = same_Some _ shown e in (ap (λ (p : Page). p.head) (sym k), inr (ap (λ (p : Page). p.below) (sym k)))
 
-page_shown : (s : State) (u : ℕ) (shown : Page) → page_of (press s) u (public_forest s) ≡ Some shown → PageShowsPublished s u shown
+page_shown : (s : State) (u : ℕ) (shown : Page) → page_of (press s) u (public_forest s) ≡ Some shown
+    → PageShowsPublished s u shown
 page_shown s u shown e =
     let p = place_of s u (there_where_shown (press s) u (public_forest s) shown e) in
     let way = path (is_numbered u) (public_forest s) in
@@ -104,14 +95,19 @@ page_shown s u shown e =
       below = below p way ids parts.1;
     }
   where
-    below : (p : PlaceOf s u) (way : List PublicUnit) → map identifier_of way ≡ identifiers p.above ++ identifier_of (known_of s.day p.unit) ∷ [] → (shown.below ≡ []) ⊎ (shown.below ≡ side_by_side (press s) (map identifier_of way) (low_of s.day p.children (is_closed s.day p.unit))) → AllByRecursion (ShowsNumbered s) shown.below
+    below : (p : PlaceOf s u) (way : List PublicUnit)
+        → map identifier_of way ≡ identifiers p.above ++ identifier_of (known_of s.day p.unit) ∷ []
+        → (shown.below ≡ []) ⊎ (shown.below ≡ side_by_side (press s) (map identifier_of way) (low_of s.day p.children (is_closed s.day p.unit)))
+        → AllByRecursion (ShowsNumbered s) shown.below
     below p way ids (inl none) = subst (AllByRecursion (ShowsNumbered s)) (sym none) tt
     below p way ids (inr some) =
         subst (AllByRecursion (ShowsNumbered s)) (sym (some ∙ ap (λ l. side_by_side (press s) l (low_of s.day p.children (is_closed s.day p.unit))) ids))
         (all_so (One s) (ShowsNumbered s) (shows_one s) (side_by_side (press s) (identifiers p.above ++ identifier_of (known_of s.day p.unit) ∷ []) (low_of s.day p.children (is_closed s.day p.unit)))
         (shown_beside (press s).at s.catalogue.containers s.day (is_numbered u) s.catalogue.forest p))
 
-page_answered : (s : State) (u : ℕ) (found : Option Page) → page_of (press s) u (public_forest s) ≡ found → (text : Bytes) → page_answer found ≡ Text text → (shown : Page) × (text ≡ page_text shown) × PageShowsPublished s u shown
+page_answered : (s : State) (u : ℕ) (found : Option Page) → page_of (press s) u (public_forest s) ≡ found
+    → (text : Bytes) → page_answer found ≡ Text text
+    → (shown : Page) × (text ≡ page_text shown) × PageShowsPublished s u shown
 page_answered s u None h text e = absurd (cc)
 page_answered s u (Some shown) h text e = (shown, sym (same_text _ text e), page_shown s u shown h)
 
@@ -133,7 +129,8 @@ aid_there : (b : Bool) (text : Bytes) → is_text (cond b (Text text) (Unknown U
 aid_there true text = refl
 aid_there false text = refl
 
-page_made : (at : Press) (way : List PublicUnit) (unit : PublicUnit) (low : Forest PublicUnit) → is_text (page_answer (page_at at way (Node unit low Empty))) ≡ true
+page_made : (at : Press) (way : List PublicUnit) (unit : PublicUnit) (low : Forest PublicUnit)
+    → is_text (page_answer (page_at at way (Node unit low Empty))) ≡ true
 page_made at way (Stub id identifier level until) low = refl
 page_made at way (Told id values) low = refl
 

@@ -1,19 +1,8 @@
 -- An office that keeps nothing but what is published answers the public alike.
 use Rattle.std.proofs.Common.{◌≡◌, ℤ, Bool, true, false, cond, Option, Some, None, refl, sym, ap, ap₂, ◌∙◌}
-use Rattle.std.specs.List.{flat_map}
-use Rattle.std.proofs.lemmas.Bool.{false≢true}
-use Rattle.isad_core.specs.declared.values.BoxKey.{BoxKey}
-use Rattle.tree_core.specs.Forest.{Forest, Empty, Node, nodes, each}
 use Rattle.tree_core.specs.Visibility.{public}
-use Rattle.catalogue_core.specs.CatalogueMerge.{box_number}
-use Rattle.catalogue_core.specs.PublicForest.{public_unit, public_of, stub_of}
-use Rattle.catalogue_core.specs.PublishedUnits.{boxes_told}
-use Rattle.catalogue_core.specs.Units.{Unit, is_later, is_closed}
-use Rattle.catalogue_core.proofs.EachOf.{all_true}
 use Rattle.catalogue_core.proofs.PublicPaths.{drafts, known_of, known_where}
-use Rattle.office_core.specs.State.{State}
-use Rattle.office_core.specs.Queries.{public_forest}
-use Rattle.office_core.specs.Secrecy.{AnswersAlike, published_unit, published_forest, published_part}
+use Rattle.office_core.proofs.Common.{AnswersAlike, BoxKey, Empty, Forest, Node, State, Unit, all_true, box_number, boxes_told, each, false≢true, flat_map, is_closed, is_later, nodes, public_forest, public_of, public_unit, published_forest, published_part, published_unit, stub_of}
 use Rattle.office_core.proofs.NoLeak.{answers_alike}
 
 module _ (day : ℤ) where
@@ -52,7 +41,9 @@ module _ (day : ℤ) where
       low true e = refl
       low false e = e
 
-      at : (draft : Bool) → u.draft ≡ draft → (closed : Bool) → is_closed day u ≡ closed → public_of day (published_forest day c) ≡ public_of day c → public_of day (published_forest day o) ≡ public_of day o
+      at : (draft : Bool) → u.draft ≡ draft → (closed : Bool) → is_closed day u ≡ closed
+          → public_of day (published_forest day c) ≡ public_of day c
+          → public_of day (published_forest day o) ≡ public_of day o
           → public_of day (kept_where u c o draft closed) ≡ known_where day u c o draft closed
       at true d closed e below beside = beside
       at false d closed e below beside =

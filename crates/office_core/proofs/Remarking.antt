@@ -1,36 +1,22 @@
 -- A remark is told exactly where its sentence holds.
 use Rattle.std.proofs.Common.{◌≡◌, ℕ, ◌<◌, Bool, true, false, not, ◌&&◌, ◌||◌, List, [], ◌∷◌, Option, Some, None, Ok, Err, refl, sym, ap, ◌∙◌, subst, inl, inr}
-use Rattle.std.specs.Prelude.{is_some}
-use Rattle.std.proofs.lemmas.Bool.{false≢true, ltb-true, lt-ltb}
-use Rattle.isad_core.specs.Texts.{Bytes, is_blank_text}
 use Rattle.isad_core.specs.Levels.{rank_of}
 use Rattle.isad_core.specs.Values.{text_of}
 use Rattle.isad_core.specs.declared.element.Element.TheVariants.{ReferenceCode, Title, Dates, Extent, Creator}
 use Rattle.isad_core.specs.declared.values.Values.{Values}
-use Rattle.atom_csv.specs.FileContents.{file_of}
-use Rattle.atom_csv.specs.declared.file.File.{File}
-use Rattle.atom_csv.specs.declared.file.Row.{Row}
-use Rattle.tree_core.specs.Forest.{Forest}
-use Rattle.catalogue_core.specs.Intake.{Taken}
-use Rattle.catalogue_core.specs.Pages.{before_last}
-use Rattle.catalogue_core.specs.PublishedUnits.{last_of}
-use Rattle.catalogue_core.specs.Units.{Unit}
-use Rattle.catalogue_core.proofs.Imported.{taken_is}
 use Rattle.office_core.specs.declared.command.Command.TheVariants as command
 use Rattle.office_core.specs.declared.done.Done.{Done}
 use Rattle.office_core.specs.declared.done.Done.TheVariants as done
-use Rattle.office_core.specs.declared.done.Remark.{Remark}
 use Rattle.office_core.specs.declared.done.Remark.TheVariants.{LevelTooHigh, LacksEssential}
-use Rattle.office_core.specs.ImportReply.{bad_file, is_level_above, lacks_essential, remark_if, remark_on, remarks, told_of}
-use Rattle.office_core.specs.State.{State}
-use Rattle.office_core.specs.Rules.{Reply, intake_of, imported}
+use Rattle.office_core.specs.ImportReply.{told_of}
 use Rattle.office_core.specs.Remarks.{way_of, BelongsAbove, HasEssentials, IsPoorTop, IsToldOf, AreToldOf, RemarksOnRows}
+use Rattle.office_core.proofs.Common.{Bytes, File, Forest, Remark, Reply, Row, State, Taken, Unit, bad_file, before_last, false≢true, file_of, imported, intake_of, is_blank_text, is_level_above, is_some, lacks_essential, last_of, lt-ltb, ltb-true, remark_if, remark_on, remarks, same_Some, taken_is}
 use Rattle.office_core.proofs.Steps.{step_at}
-use Rattle.std.proofs.lemmas.Option.{same_Some}
 
 -- ---- the six elements
 
-lacks_not : (l c t a d x : Bool) → (l || not (c && (t && (a && (d && (x && true)))))) ≡ true → l ≡ false → c ≡ true → t ≡ true → a ≡ true → d ≡ true → x ≡ true → ⊥
+lacks_not : (l c t a d x : Bool) → (l || not (c && (t && (a && (d && (x && true)))))) ≡ true → l ≡ false → c ≡ true
+    → t ≡ true → a ≡ true → d ≡ true → x ≡ true → ⊥
 lacks_not true c t a d x e hl hc ht ha hd hx = false≢true (sym hl)
 lacks_not false false t a d x e hl hc ht ha hd hx = false≢true hc
 lacks_not false true false a d x e hl hc ht ha hd hx = false≢true ht
@@ -39,7 +25,8 @@ lacks_not false true true true false x e hl hc ht ha hd hx = false≢true hd
 lacks_not false true true true true false e hl hc ht ha hd hx = false≢true hx
 lacks_not false true true true true true e hl hc ht ha hd hx = false≢true e
 
-has_all : (l c t a d x : Bool) → (l || not (c && (t && (a && (d && (x && true)))))) ≡ false → (l ≡ false) × (c ≡ true) × (t ≡ true) × (a ≡ true) × (d ≡ true) × (x ≡ true)
+has_all : (l c t a d x : Bool) → (l || not (c && (t && (a && (d && (x && true)))))) ≡ false
+    → (l ≡ false) × (c ≡ true) × (t ≡ true) × (a ≡ true) × (d ≡ true) × (x ≡ true)
 has_all true c t a d x e = absurd (false≢true (sym e))
 has_all false false t a d x e = absurd (false≢true (sym e))
 has_all false true false a d x e = absurd (false≢true (sym e))
@@ -60,12 +47,14 @@ rich values e =
 
 -- ---- levels
 
-ranks : (a b : Option ℕ) → is_level_above a b ≡ true → (rank : ℕ) × (above : ℕ) × (a ≡ Some rank) × (b ≡ Some above) × (rank < above)
+ranks : (a b : Option ℕ) → is_level_above a b ≡ true
+    → (rank : ℕ) × (above : ℕ) × (a ≡ Some rank) × (b ≡ Some above) × (rank < above)
 ranks (Some rank) (Some above) e = (rank, above, refl, refl, ltb-true rank above e)
 ranks (Some rank) None e = absurd (false≢true e)
 ranks None b e = absurd (false≢true e)
 
-not_above : (a b : Option ℕ) (rank above : ℕ) → is_level_above a b ≡ false → a ≡ Some rank → b ≡ Some above → rank < above → ⊥
+not_above : (a b : Option ℕ) (rank above : ℕ) → is_level_above a b ≡ false → a ≡ Some rank → b ≡ Some above
+    → rank < above → ⊥
 not_above a b rank above e ha hb l =
     false≢true (sym e ∙ (ap (λ o. is_level_above o b) ha ∙ (ap (is_level_above (Some rank)) hb ∙ lt-ltb rank above l)))
 
@@ -77,7 +66,8 @@ record LastTwo (way : List Unit) : Type 0 where
   parent : Unit
   is_last : last_of way ≡ Some unit
   is_above : last_of (before_last way) ≡ Some parent
-  told : (row : ℕ) → remark_on row way ≡ remark_if (is_level_above (rank_of unit.values.level) (rank_of parent.values.level)) (LevelTooHigh row)
+  told : (row : ℕ)
+      → remark_on row way ≡ remark_if (is_level_above (rank_of unit.values.level) (rank_of parent.values.level)) (LevelTooHigh row)
 
 last_two : (first second : Unit) (way : List Unit) → LastTwo (first ∷ second ∷ way)
 last_two first second [] = record { unit = second; parent = first; is_last = refl; is_above = refl; told = λ row. refl }
@@ -85,7 +75,8 @@ last_two first second (third ∷ way) =
     let it = last_two second third way in
     record { unit = it.unit; parent = it.parent; is_last = it.is_last; is_above = it.is_above; told = it.told }
 
-two_told : (first second : Unit) (way : List Unit) (row : ℕ) → IsToldOf (first ∷ second ∷ way) row (remark_on row (first ∷ second ∷ way))
+two_told : (first second : Unit) (way : List Unit) (row : ℕ)
+    → IsToldOf (first ∷ second ∷ way) row (remark_on row (first ∷ second ∷ way))
 two_told first second way row =
     let it = last_two first second way in
     subst (IsToldOf (first ∷ second ∷ way) row) (sym (it.told row)) (at it (is_level_above (rank_of it.unit.values.level) (rank_of it.parent.values.level)) refl)
@@ -93,7 +84,9 @@ two_told first second way row =
     no_top : IsPoorTop (first ∷ second ∷ way) → ⊥
     no_top p = let e = p.is in absurd (cc)
 
-    at : (it : LastTwo (first ∷ second ∷ way)) (b : Bool) → is_level_above (rank_of it.unit.values.level) (rank_of it.parent.values.level) ≡ b → IsToldOf (first ∷ second ∷ way) row (remark_if b (LevelTooHigh row))
+    at : (it : LastTwo (first ∷ second ∷ way)) (b : Bool)
+        → is_level_above (rank_of it.unit.values.level) (rank_of it.parent.values.level) ≡ b
+        → IsToldOf (first ∷ second ∷ way) row (remark_if b (LevelTooHigh row))
     at it true e =
         let k = ranks (rank_of it.unit.values.level) (rank_of it.parent.values.level) e in
         inl (refl, record { unit = it.unit; parent = it.parent; is_last = it.is_last; is_above = it.is_above; rank = k.0; rank_above = k.1; level = k.2; level_above = k.3; smaller = k.4 }, no_top)
@@ -128,7 +121,8 @@ row_told (first ∷ second ∷ way) row = two_told first second way row
 
 rows_told : (f : Forest Unit) (source : Bytes) (rows : List Row) → AreToldOf f source rows (remarks f source rows)
 rows_told f source [] = refl
-rows_told f source (row ∷ rows) = (remark_on row.row (way_of f source row), remarks f source rows, refl, row_told (way_of f source row) row.row, rows_told f source rows)
+rows_told f source (row ∷ rows) =
+    (remark_on row.row (way_of f source row), remarks f source rows, refl, row_told (way_of f source row) row.row, rows_told f source rows)
 
 abbrev done_reply : Done → Reply
 done_reply d = Ok d
@@ -136,10 +130,15 @@ done_reply d = Ok d
 same_reply : (a b : Done) → done_reply a ≡ done_reply b → a ≡ b
 same_reply a b e = cc
 
-same_marks : (c n s t c' n' s' t' : ℕ) (m m' : List Remark) → done.Import c n m s t ≡ done.Import c' n' m' s' t' → m ≡ m'
+same_marks : (c n s t c' n' s' t' : ℕ) (m m' : List Remark) → done.Import c n m s t ≡ done.Import c' n' m' s' t'
+    → m ≡ m'
 same_marks c n s t c' n' s' t' m m' e = cc
 
-accepted : (s : State) (source file : Bytes) (r : Taken) → intake_of s source file ≡ r → (changed new : ℕ) (marks : List Remark) (same translations : ℕ) → done_reply (told_of s.catalogue.forest source r) ≡ done_reply (done.Import changed new marks same translations) → ((fault : ℕ × ℕ) → r ≡ Err fault → ⊥) → (read : File) × (file_of file ≡ Ok read) × AreToldOf (imported s r).catalogue.forest source read.rows marks
+accepted : (s : State) (source file : Bytes) (r : Taken) → intake_of s source file ≡ r
+    → (changed new : ℕ) (marks : List Remark) (same translations : ℕ)
+    → done_reply (told_of s.catalogue.forest source r) ≡ done_reply (done.Import changed new marks same translations)
+    → ((fault : ℕ × ℕ) → r ≡ Err fault → ⊥)
+    → (read : File) × (file_of file ≡ Ok read) × AreToldOf (imported s r).catalogue.forest source read.rows marks
 accepted s source file (Err fault) e changed new marks same translations t ok = absurd (ok fault refl)
 accepted s source file (Ok intake) e changed new marks same translations t ok =
     let x = same_marks _ _ _ _ changed new same translations _ marks (same_reply _ _ t) in

@@ -1,20 +1,8 @@
 -- The runs stay good.
 use Rattle.std.proofs.Common.{◌≡◌, ◌≢◌, ℕ, zero, suc, ◌<◌, ◌≤◌, Bool, true, false, cond, ◌&&◌, List, [], ◌∷◌, ◌++◌, length, take, Option, Some, None, Ok, Err, refl, sym, ap, ◌∙◌, subst, inl, inr, arith, length-append, length-take}
-use Rattle.std.specs.Prelude.{nat_le, nat_eq, option_map, filter, filter_map}
-use Rattle.std.specs.List.{AllByRecursion, cons_option}
-use Rattle.std.proofs.lemmas.Bool.{eqb-true, leb-false, cases_eq, false≢true, and_parts}
-use Rattle.office_core.specs.Words.{nth, numbers_to, some_and, first, is_empty}
-use Rattle.desk_core.specs.declared.reader.Place.TheVariants.{Shelf, Desk, Out}
 use Rattle.desk_core.specs.declared.reader.Place.{Place}
-use Rattle.office_core.specs.State.{State, Order, Line, Run, container_of, is_shelf, opens, is_due, orders_of_run, line_for, is_line_before, next_run}
-use Rattle.office_core.specs.declared.command.Command.{Command}
 use Rattle.office_core.specs.declared.command.Command.TheVariants as command
-use Rattle.isad_core.specs.Limits.{most_runs}
-use Rattle.office_core.specs.Rules.{checks, after, fetched, cancelled, issued, returned, imported, intake_of}
-use Rattle.isad_core.specs.Boxes.{distinct}
-use Rattle.catalogue_core.proofs.DistinctLists.{all_so}
-use Rattle.catalogue_core.specs.Intake.{Taken}
-use Rattle.office_core.specs.SoundDesk.{IsAscending, IsGoodLine, IsGoodRun, AreGoodRuns}
+use Rattle.office_core.proofs.Common.{AllByRecursion, AreGoodRuns, Command, Desk, IsAscending, IsGoodLine, IsGoodRun, Line, Order, Out, Run, Shelf, State, Taken, after, all_so, and_parts, cancelled, cases_eq, checks, cons_option, container_of, distinct, eqb-true, false≢true, fetched, filter, filter_map, first, imported, intake_of, is_due, is_empty, is_line_before, is_shelf, issued, leb-false, line_for, most_runs, nat_eq, nat_le, next_run, nth, numbers_to, opens, option_map, orders_of_run, returned, some_and}
 use Rattle.office_core.proofs.LineOrder.{AreApart, all-in_order, length-in_order, by_container-in_order}
 use Rattle.office_core.proofs.Words.{same_number, all-push, ascending-push, numbered-push, numbered-push_last, ascending_at}
 use Rattle.office_core.proofs.Steps.{held_not, Passes}
@@ -32,7 +20,8 @@ ascending_to : (n : ℕ) → IsAscending (numbers_to n)
 ascending_to zero = tt
 ascending_to (suc n) = ascending-push (numbers_to n) (suc n) (ascending_to n) (all_to n)
 
-all_filter_at : (P : ℕ → Type 0) (m : ℕ) (ms : List ℕ) (b : Bool) → P m → AllByRecursion P ms → AllByRecursion P (cond b (m ∷ ms) ms)
+all_filter_at : (P : ℕ → Type 0) (m : ℕ) (ms : List ℕ) (b : Bool) → P m → AllByRecursion P ms
+    → AllByRecursion P (cond b (m ∷ ms) ms)
 all_filter_at P m ms true p h = (p, h)
 all_filter_at P m ms false p h = h
 
@@ -42,7 +31,8 @@ all_filter P test (m ∷ ms) h = all_filter_at P m (filter test ms) (test m) h.0
 
 ascending_filter : (test : ℕ → Bool) (ms : List ℕ) → IsAscending ms → IsAscending (filter test ms)
 ascending_filter test [] h = tt
-ascending_filter test (m ∷ ms) h = ascending_at m (filter test ms) (test m) (all_filter (λ k. m < k) test ms h.0) (ascending_filter test ms h.1)
+ascending_filter test (m ∷ ms) h =
+    ascending_at m (filter test ms) (test m) (all_filter (λ k. m < k) test ms h.0) (ascending_filter test ms h.1)
 
 ascending_take : (k : ℕ) (ms : List ℕ) → IsAscending ms → IsAscending (take k ms)
 ascending_take zero ms h = tt
@@ -58,25 +48,33 @@ record IsDue (s : State) (o : ℕ) (order : Order) : Type 0 where
   there : nth s.orders o ≡ Some order
   head : some_and (nat_eq o) (first (s.queue order.container)) ≡ true
 
-due_at : (s : State) (o : ℕ) (r : Option Order) → nth s.orders o ≡ r → some_and (λ order. some_and (nat_eq o) (first (s.queue order.container)) && (is_shelf (s.place order.container) && opens s order.ticket order.container)) r ≡ true → (order : Order) × IsDue s o order
+due_at : (s : State) (o : ℕ) (r : Option Order) → nth s.orders o ≡ r
+    → some_and (λ order. some_and (nat_eq o) (first (s.queue order.container)) && (is_shelf (s.place order.container) && opens s order.ticket order.container)) r ≡ true
+    → (order : Order) × IsDue s o order
 due_at s o None e h = absurd (false≢true h)
-due_at s o (Some order) e h = (order, record { there = e; head = (and_parts (some_and (nat_eq o) (first (s.queue order.container))) (is_shelf (s.place order.container) && opens s order.ticket order.container) h).0 })
+due_at s o (Some order) e h =
+    (order, record { there = e; head = (and_parts (some_and (nat_eq o) (first (s.queue order.container))) (is_shelf (s.place order.container) && opens s order.ticket order.container) h).0 })
 
 due : (s : State) (o : ℕ) → is_due s o ≡ true → (order : Order) × IsDue s o order
 due s o h = due_at s o (nth s.orders o) refl h
 
 -- the lines of orders that are due, one by one
-lines_cons : (P : List Line → Type 0) (s : State) (o : ℕ) (order : Order) (rest : List Line) → nth s.orders o ≡ Some order → P (record { container = order.container; order = o; ticket = order.ticket } ∷ rest) → P (cons_option (line_for s o) rest)
-lines_cons P s o order rest e p = subst (λ r. P (cons_option (option_map (λ order. record { container = order.container; order = o; ticket = order.ticket }) r) rest)) (sym e) p
+lines_cons : (P : List Line → Type 0) (s : State) (o : ℕ) (order : Order) (rest : List Line)
+    → nth s.orders o ≡ Some order → P (record { container = order.container; order = o; ticket = order.ticket } ∷ rest)
+    → P (cons_option (line_for s o) rest)
+lines_cons P s o order rest e p =
+    subst (λ r. P (cons_option (option_map (λ order. record { container = order.container; order = o; ticket = order.ticket }) r) rest)) (sym e) p
 
-good_lines : (s : State) (os : List ℕ) → AllByRecursion (λ o. is_due s o ≡ true) os → AllByRecursion (IsGoodLine s) (filter_map (line_for s) os)
+good_lines : (s : State) (os : List ℕ) → AllByRecursion (λ o. is_due s o ≡ true) os
+    → AllByRecursion (IsGoodLine s) (filter_map (line_for s) os)
 good_lines s [] h = tt
 good_lines s (o ∷ os) h =
     let d = due s o h.0 in
     lines_cons (AllByRecursion (IsGoodLine s)) s o d.0 (filter_map (line_for s) os) d.1.there
     (record { order = ap (option_map (λ r. r.container)) d.1.there; ticket = ap (some_and (λ r. nat_eq r.ticket d.0.ticket)) d.1.there ∙ same_number d.0.ticket }, good_lines s os h.1)
 
-count_lines : (s : State) (os : List ℕ) → AllByRecursion (λ o. is_due s o ≡ true) os → length (filter_map (line_for s) os) ≡ length os
+count_lines : (s : State) (os : List ℕ) → AllByRecursion (λ o. is_due s o ≡ true) os
+    → length (filter_map (line_for s) os) ≡ length os
 count_lines s [] h = refl
 count_lines s (o ∷ os) h =
     let d = due s o h.0 in
@@ -86,7 +84,9 @@ one_head : (x : Option ℕ) (o p : ℕ) → some_and (nat_eq o) x ≡ true → s
 one_head None o p a b = absurd (false≢true a)
 one_head (Some n) o p a b = eqb-true o n a ∙ sym (eqb-true p n b)
 
-apart_from : (s : State) (o : ℕ) (order : Order) (ps : List ℕ) → IsDue s o order → AllByRecursion (λ p. is_due s p ≡ true) ps → AllByRecursion (λ p. o < p) ps → AllByRecursion (λ other. order.container ≢ other.container) (filter_map (line_for s) ps)
+apart_from : (s : State) (o : ℕ) (order : Order) (ps : List ℕ) → IsDue s o order
+    → AllByRecursion (λ p. is_due s p ≡ true) ps → AllByRecursion (λ p. o < p) ps
+    → AllByRecursion (λ other. order.container ≢ other.container) (filter_map (line_for s) ps)
 apart_from s o order [] d h l = tt
 apart_from s o order (p ∷ ps) d h l =
     let q = due s p h.0 in
@@ -94,7 +94,8 @@ apart_from s o order (p ∷ ps) d h l =
     lines_cons (AllByRecursion (λ other. order.container ≢ other.container)) s p q.0 (filter_map (line_for s) ps) q.1.there
     ((λ same. let e = one_head (first (s.queue q.0.container)) o p (subst (λ c. some_and (nat_eq o) (first (s.queue c)) ≡ true) same d.head) q.1.head in omega (arith, e, less)), apart_from s o order ps d h.1 l.1)
 
-apart_lines : (s : State) (os : List ℕ) → AllByRecursion (λ o. is_due s o ≡ true) os → IsAscending os → AreApart (filter_map (line_for s) os)
+apart_lines : (s : State) (os : List ℕ) → AllByRecursion (λ o. is_due s o ≡ true) os → IsAscending os
+    → AreApart (filter_map (line_for s) os)
 apart_lines s [] h a = tt
 apart_lines s (o ∷ os) h a =
     let d = due s o h.0 in
@@ -146,13 +147,16 @@ run_good s some =
       lines = all_so (IsGoodLine s) (IsGoodLine (fetched s)) (λ l h. record { order = h.order; ticket = h.ticket }) (next_run s).lines (all-in_order is_line_before (IsGoodLine s) lines (good_lines s (orders_of_run s) all));
     }
 
-fetched_runs : (s : State) → Extends s (fetched s) → is_empty (orders_of_run s) ≡ false → length s.runs < most_runs → AreGoodRuns s → AreGoodRuns (fetched s)
+fetched_runs : (s : State) → Extends s (fetched s) → is_empty (orders_of_run s) ≡ false → length s.runs < most_runs
+    → AreGoodRuns s → AreGoodRuns (fetched s)
 fetched_runs s e some l g =
     let more = length-append s.runs (next_run s ∷ []) in
     record {
       each = λ n run h. elim (cases_eq n (suc (length s.runs))) [
         | inl same ↦
-            let k : Some (next_run s) ≡ Some run = sym (subst (λ m. nth (s.runs ++ next_run s ∷ []) m ≡ Some (next_run s)) (sym same) (numbered-push_last s.runs (next_run s))) ∙ h in
+            let k : Some (next_run s) ≡ Some run =
+            sym (subst (λ m. nth (s.runs ++ next_run s ∷ []) m ≡ Some (next_run s)) (sym same) (numbered-push_last s.runs (next_run s)))
+            ∙ h in
             let it : next_run s ≡ run = cc in
             subst (IsGoodRun (fetched s)) it (run_good s some)
         | inr ne ↦ good_run s (fetched s) run e (g.each n run (sym (numbered-push s.runs (next_run s) n ne) ∙ h))
@@ -177,22 +181,41 @@ imported_runs : (s : State) (t : Taken) → (imported s t).runs ≡ s.runs
 imported_runs s (Err fault) = refl
 imported_runs s (Ok intake) = refl
 
-pub runs_after : (s : State) (asked : Command) → distinct s.catalogue.containers ≡ s.catalogue.containers → AreGoodRuns s → Passes (checks s asked) → AreGoodRuns (after s asked)
-runs_after s (command.OpenDay day) b g ok = runs_same s (after s (command.OpenDay day)) (extends_after s (command.OpenDay day) b ok) refl g
-runs_after s (command.Register name until) b g ok = runs_same s (after s (command.Register name until)) (extends_after s (command.Register name until) b ok) refl g
-runs_after s (command.Renew t until) b g ok = runs_same s (after s (command.Renew t until)) (extends_after s (command.Renew t until) b ok) refl g
-runs_after s (command.TakeSeat t) b g ok = runs_same s (after s (command.TakeSeat t)) (extends_after s (command.TakeSeat t) b ok) refl g
-runs_after s (command.LeaveSeat t) b g ok = runs_same s (after s (command.LeaveSeat t)) (extends_after s (command.LeaveSeat t) b ok) refl g
-runs_after s (command.Order t c) b g ok = runs_same s (after s (command.Order t c)) (extends_after s (command.Order t c) b ok) refl g
-runs_after s (command.Cancel o) b g ok = runs_same s (after s (command.Cancel o)) (extends_after s (command.Cancel o) b ok) (cancelled_runs s o (container_of s o)) g
-runs_after s command.Run b g ok = fetched_runs s (extends_after s command.Run b ok) (held_not (is_empty (orders_of_run s)) _ ok.0) (leb-false most_runs (length s.runs) (held_not (nat_le most_runs (length s.runs)) _ ok.1.0)) g
-runs_after s command.Reshelve b g ok = runs_same s (after s command.Reshelve) (extends_after s command.Reshelve b ok) refl g
-runs_after s (command.Issue c t) b g ok = runs_same s (after s (command.Issue c t)) (extends_after s (command.Issue c t) b ok) (issued_runs s c (s.queue c)) g
-runs_after s (command.Return c) b g ok = runs_same s (after s (command.Return c)) (extends_after s (command.Return c) b ok) (returned_runs s c (s.place c)) g
-runs_after s (command.Permit t u until) b g ok = runs_same s (after s (command.Permit t u until)) (extends_after s (command.Permit t u until) b ok) refl g
-runs_after s (command.Revoke t u) b g ok = runs_same s (after s (command.Revoke t u)) (extends_after s (command.Revoke t u) b ok) refl g
-runs_after s (command.Import source file) b g ok = runs_same s (after s (command.Import source file)) (extends_after s (command.Import source file) b ok) (imported_runs s (intake_of s source file)) g
-runs_after s (command.SetStatus u draft whole) b g ok = runs_same s (after s (command.SetStatus u draft whole)) (extends_after s (command.SetStatus u draft whole) b ok) refl g
-runs_after s (command.SetClosure u until) b g ok = runs_same s (after s (command.SetClosure u until)) (extends_after s (command.SetClosure u until) b ok) refl g
-runs_after s (command.Move u parent) b g ok = runs_same s (after s (command.Move u parent)) (extends_after s (command.Move u parent) b ok) refl g
-runs_after s (command.Remove u) b g ok = runs_same s (after s (command.Remove u)) (extends_after s (command.Remove u) b ok) refl g
+pub runs_after : (s : State) (asked : Command) → distinct s.catalogue.containers ≡ s.catalogue.containers
+    → AreGoodRuns s → Passes (checks s asked) → AreGoodRuns (after s asked)
+runs_after s (command.OpenDay day) b g ok =
+    runs_same s (after s (command.OpenDay day)) (extends_after s (command.OpenDay day) b ok) refl g
+runs_after s (command.Register name until) b g ok =
+    runs_same s (after s (command.Register name until)) (extends_after s (command.Register name until) b ok) refl g
+runs_after s (command.Renew t until) b g ok =
+    runs_same s (after s (command.Renew t until)) (extends_after s (command.Renew t until) b ok) refl g
+runs_after s (command.TakeSeat t) b g ok =
+    runs_same s (after s (command.TakeSeat t)) (extends_after s (command.TakeSeat t) b ok) refl g
+runs_after s (command.LeaveSeat t) b g ok =
+    runs_same s (after s (command.LeaveSeat t)) (extends_after s (command.LeaveSeat t) b ok) refl g
+runs_after s (command.Order t c) b g ok =
+    runs_same s (after s (command.Order t c)) (extends_after s (command.Order t c) b ok) refl g
+runs_after s (command.Cancel o) b g ok =
+    runs_same s (after s (command.Cancel o)) (extends_after s (command.Cancel o) b ok) (cancelled_runs s o (container_of s o)) g
+runs_after s command.Run b g ok =
+    fetched_runs s (extends_after s command.Run b ok) (held_not (is_empty (orders_of_run s)) _ ok.0) (leb-false most_runs (length s.runs) (held_not (nat_le most_runs (length s.runs)) _ ok.1.0)) g
+runs_after s command.Reshelve b g ok =
+    runs_same s (after s command.Reshelve) (extends_after s command.Reshelve b ok) refl g
+runs_after s (command.Issue c t) b g ok =
+    runs_same s (after s (command.Issue c t)) (extends_after s (command.Issue c t) b ok) (issued_runs s c (s.queue c)) g
+runs_after s (command.Return c) b g ok =
+    runs_same s (after s (command.Return c)) (extends_after s (command.Return c) b ok) (returned_runs s c (s.place c)) g
+runs_after s (command.Permit t u until) b g ok =
+    runs_same s (after s (command.Permit t u until)) (extends_after s (command.Permit t u until) b ok) refl g
+runs_after s (command.Revoke t u) b g ok =
+    runs_same s (after s (command.Revoke t u)) (extends_after s (command.Revoke t u) b ok) refl g
+runs_after s (command.Import source file) b g ok =
+    runs_same s (after s (command.Import source file)) (extends_after s (command.Import source file) b ok) (imported_runs s (intake_of s source file)) g
+runs_after s (command.SetStatus u draft whole) b g ok =
+    runs_same s (after s (command.SetStatus u draft whole)) (extends_after s (command.SetStatus u draft whole) b ok) refl g
+runs_after s (command.SetClosure u until) b g ok =
+    runs_same s (after s (command.SetClosure u until)) (extends_after s (command.SetClosure u until) b ok) refl g
+runs_after s (command.Move u parent) b g ok =
+    runs_same s (after s (command.Move u parent)) (extends_after s (command.Move u parent) b ok) refl g
+runs_after s (command.Remove u) b g ok =
+    runs_same s (after s (command.Remove u)) (extends_after s (command.Remove u) b ok) refl g

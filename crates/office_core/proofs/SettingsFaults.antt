@@ -1,8 +1,7 @@
 -- The first setting that is wrong is none exactly where all settings are good.
 use Rattle.std.proofs.Common.{◌≡◌, Bool, true, false, List, [], ◌∷◌, None, refl}
-use Rattle.office_core.specs.Soundness.{AreGoodSettings}
 use Rattle.office_core.specs.SettingsFaults.{WrongSetting, first_failed, settings_tests, wrong_setting}
-use Rattle.office_core.specs.State.{Settings}
+use Rattle.office_core.proofs.Common.{AreGoodSettings, Settings}
 
 AllPass : List (Bool × WrongSetting) → Type 0
 AllPass [] = Unit {0}
@@ -28,4 +27,5 @@ good_without_fault settings e =
 
 pub no_fault_of_good : (settings : Settings) → AreGoodSettings settings → wrong_setting settings ≡ None
 unfolding AllPass
-no_fault_of_good settings g = none_fails (settings_tests settings) (g.country, (g.repo, (g.seats, (g.daily, (g.hands, (g.run_size, tt))))))
+no_fault_of_good settings g =
+    none_fails (settings_tests settings) (g.country, (g.repo, (g.seats, (g.daily, (g.hands, (g.run_size, tt))))))

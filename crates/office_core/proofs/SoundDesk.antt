@@ -1,14 +1,7 @@
 -- The desk stays sound.
 use Rattle.std.proofs.Common.{◌≡◌, ℕ, zero, suc, false, List, [], Some, None, refl, sym, ◌∙◌, arith}
-use Rattle.std.specs.Prelude.{ℤ, option_map}
-use Rattle.std.proofs.lemmas.List.{length-replicate}
-use Rattle.std.proofs.lemmas.Bool.{false≢true}
-use Rattle.office_core.specs.declared.command.Command.{Command}
-use Rattle.office_core.specs.Words.{nth}
-use Rattle.office_core.specs.State.{Settings, State, Order, start}
-use Rattle.office_core.specs.Rules.{checks, after, state_after}
-use Rattle.office_core.specs.SoundDesk.{IsFiled, AreFiled, IsSoundDesk}
-use Rattle.office_core.specs.Laws.{OpenToHolders}
+use Rattle.std.specs.Prelude.{ℤ}
+use Rattle.office_core.proofs.Common.{AreFiled, Command, IsFiled, IsSoundDesk, OpenToHolders, Order, Settings, State, after, checks, false≢true, length-replicate, nth, option_map, start, state_after}
 use Rattle.office_core.proofs.Steps.{Passes, run_keeps}
 use Rattle.office_core.proofs.Boxes.{apart_after}
 use Rattle.office_core.proofs.Filed.{filed_after}

@@ -2,10 +2,7 @@
 use Rattle.std.proofs.Common.{refl, arith}
 use Rattle.std.specs.Prelude.{ℤ}
 use Rattle.std.specs.List.{IsDistinct}
-use Rattle.isad_core.specs.Days.{IsDayNumber}
-use Rattle.office_core.specs.State.{Settings, start}
-use Rattle.office_core.specs.Soundness.{AreGoodSettings, IsSound}
-use Rattle.catalogue_core.specs.GoodCatalogues.{AreGoodUnits}
+use Rattle.office_core.proofs.Common.{AreGoodSettings, AreGoodUnits, IsDayNumber, IsSound, Settings, start}
 use Rattle.office_core.proofs.SoundDesk.{desk_start}
 
 no_units : (settings : Settings) (day : ℤ) → AreGoodUnits (start settings day).catalogue
@@ -21,7 +18,8 @@ no_units settings day =
       depth = omega arith;
     }
 
-pub starts_sound : (settings : Settings) (day : ℤ) → AreGoodSettings settings → IsDayNumber day → IsSound (start settings day)
+pub starts_sound : (settings : Settings) (day : ℤ) → AreGoodSettings settings → IsDayNumber day
+    → IsSound (start settings day)
 starts_sound settings day g d =
     record {
       settings = g;

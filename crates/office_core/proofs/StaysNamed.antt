@@ -1,33 +1,10 @@
 -- What a number names, it goes on to name.
 use Rattle.std.proofs.Common.{◌≡◌, ℕ, zero, suc, ◌+◌, ◌<◌, ◌≤◌, Bool, true, false, ◌&&◌, List, [], ◌∷◌, ◌++◌, Option, Some, None, Ok, Err, refl, sym, ap, ◌∙◌, subst, inl, inr, arith}
-use Rattle.std.specs.Prelude.{ℤ, cond, find, length, map, option_map, unwrap_or}
-use Rattle.std.specs.List.{list_any, AllByRecursion}
-use Rattle.std.specs.Str.{bytes_eq}
-use Rattle.std.proofs.lemmas.Bool.{false≢true, eqb-true, eq-eqb, or_cases, or_left, or_right, and_parts}
-use Rattle.std.proofs.lemmas.List.{map-append}
-use Rattle.isad_core.specs.Texts.{Bytes}
-use Rattle.isad_core.specs.Boxes.{distinct}
-use Rattle.atom_csv.specs.declared.file.Row.{Row}
-use Rattle.tree_core.specs.Forest.{Forest, nodes, each, has}
+use Rattle.std.specs.Prelude.{ℤ, cond, length, map}
 use Rattle.desk_core.specs.declared.reader.Place.{Place}
-use Rattle.desk_core.specs.declared.reader.Place.TheVariants.{Shelf, Desk, Out}
-use Rattle.catalogue_core.specs.Units.{Unit, has_id, is_from}
-use Rattle.catalogue_core.specs.CatalogueMerge.{Catalogue, New, numbered_from, new_unit, revised, merged_forest, has_legacy}
-use Rattle.catalogue_core.specs.Statuses.{chosen}
-use Rattle.catalogue_core.specs.Intake.{Taken}
-use Rattle.catalogue_core.proofs.ImportedAgain.{same_text, one_text, all_merged, all_each}
-use Rattle.catalogue_core.proofs.Imported.{new_rows, new_boxes, boxes_after, next_after, taken_is}
-use Rattle.catalogue_core.proofs.DistinctLists.{all_so}
-use Rattle.catalogue_core.proofs.EachAfter.{all_cut, all_moved}
 use Rattle.catalogue_core.proofs.GoodChanges.{KeepsUnits}
-use Rattle.catalogue_core.proofs.KeptUnits.{status_keeps, closure_keeps}
-use Rattle.catalogue_core.proofs.UnitsAfter.{ids_between}
-use Rattle.office_core.specs.declared.command.Command.{Command}
 use Rattle.office_core.specs.declared.command.Command.TheVariants as command
-use Rattle.office_core.specs.Words.{nth}
-use Rattle.office_core.specs.State.{State, Reader, container_of}
-use Rattle.office_core.specs.Rules.{after, step, state_after, renewed, cancelled, issued, returned, imported, intake_of}
-use Rattle.office_core.specs.GivenNumbers.{NamesStay, names, is_there, IsThatUnit, StaysNamed}
+use Rattle.office_core.proofs.Common.{AllByRecursion, Bytes, Catalogue, Command, Desk, Forest, IsThatUnit, NamesStay, New, Out, Reader, Row, Shelf, State, StaysNamed, Taken, Unit, after, all_cut, all_each, all_merged, all_moved, all_so, and_parts, boxes_after, bytes_eq, cancelled, chosen, closure_keeps, container_of, distinct, each, eq-eqb, eqb-true, false≢true, find, has, has_id, has_legacy, ids_between, imported, intake_of, is_from, is_there, issued, list_any, map-append, merged_forest, names, new_boxes, new_rows, new_unit, next_after, nodes, nth, numbered_from, one_text, option_map, or_cases, or_left, or_right, renewed, returned, revised, same_text, state_after, status_keeps, step, taken_is, unwrap_or}
 use Rattle.office_core.proofs.Boxes.{step_apart}
 use Rattle.office_core.proofs.Steps.{step_at}
 
@@ -49,7 +26,8 @@ names_renewed until (r ∷ rs) (suc zero) = refl
 names_renewed until (r ∷ rs) (suc (suc t)) = ap (λ l. r.name ∷ l) (names_renewed until rs (suc t))
 
 names_more : (rs : List Reader) (new : Reader) → NamesStay (map name rs) (map name (rs ++ new ∷ []))
-names_more rs new n x h = subst (λ l. nth l n ≡ Some x) (sym (map-append name rs (new ∷ []))) (kept_behind (map name rs) (new.name ∷ []) n x h)
+names_more rs new n x h =
+    subst (λ l. nth l n ≡ Some x) (sym (map-append name rs (new ∷ []))) (kept_behind (map name rs) (new.name ∷ []) n x h)
 
 -- ---- units
 
@@ -60,45 +38,54 @@ itself : (unit : Unit) → is_unit unit unit ≡ true
 itself unit = rw (eq-eqb unit.id unit.id refl, same_text unit.source, same_text unit.legacy) refl
 
 -- units that are in the list, told one by one
-each_itself : (us all : List Unit) → ((p : Unit → Bool) → list_any p us ≡ true → list_any p all ≡ true) → AllByRecursion (λ unit. list_any (is_unit unit) all ≡ true) us
+each_itself : (us all : List Unit) → ((p : Unit → Bool) → list_any p us ≡ true → list_any p all ≡ true)
+    → AllByRecursion (λ unit. list_any (is_unit unit) all ≡ true) us
 each_itself [] all f = tt
-each_itself (u ∷ us) all f = (f (is_unit u) (or_left (is_unit u u) (list_any (is_unit u) us) (itself u)), each_itself us all (λ p h. f p (or_right (p u) (list_any p us) h)))
+each_itself (u ∷ us) all f =
+    (f (is_unit u) (or_left (is_unit u u) (list_any (is_unit u) us) (itself u)), each_itself us all (λ p h. f p (or_right (p u) (list_any p us) h)))
 
-there_already : (s : State) → AllByRecursion (λ unit. is_there s.catalogue.forest unit ≡ true) (nodes s.catalogue.forest)
+there_already : (s : State)
+    → AllByRecursion (λ unit. is_there s.catalogue.forest unit ≡ true) (nodes s.catalogue.forest)
 there_already s = each_itself (nodes s.catalogue.forest) (nodes s.catalogue.forest) (λ p h. h)
 
 units_stay : (s : State) → AllByRecursion (IsThatUnit s) (nodes s.catalogue.forest)
 units_stay s = all_so (λ unit. is_there s.catalogue.forest unit ≡ true) (IsThatUnit s) (λ unit h l. h) (nodes s.catalogue.forest) (there_already s)
 
 -- a unit that was there, of which number, source and number there are kept
-kept_there : (f : Forest Unit) (old new : Unit) → new.id ≡ old.id → new.source ≡ old.source → new.legacy ≡ old.legacy → is_there f old ≡ true → is_there f new ≡ true
+kept_there : (f : Forest Unit) (old new : Unit) → new.id ≡ old.id → new.source ≡ old.source → new.legacy ≡ old.legacy
+    → is_there f old ≡ true → is_there f new ≡ true
 kept_there f old new i s l h =
     subst (λ n. has (λ (other : Unit). has_id n other && is_from new.source new.legacy other) f ≡ true) (sym i)
     (subst (λ t. has (λ (other : Unit). has_id old.id other && is_from t new.legacy other) f ≡ true) (sym s)
     (subst (λ t. has (λ (other : Unit). has_id old.id other && is_from old.source t other) f ≡ true) (sym l) h))
 
-each_stay : (s : State) (g : Unit → Unit) → KeepsUnits g → AllByRecursion (IsThatUnit s) (nodes (each g s.catalogue.forest))
+each_stay : (s : State) (g : Unit → Unit) → KeepsUnits g
+    → AllByRecursion (IsThatUnit s) (nodes (each g s.catalogue.forest))
 each_stay s g k =
     all_each (IsThatUnit s) g s.catalogue.forest
     (all_so (λ unit. is_there s.catalogue.forest unit ≡ true) (λ unit. IsThatUnit s (g unit)) (λ unit h l. kept_there s.catalogue.forest unit (g unit) (k.id unit) (k.source unit) (k.legacy unit) h) (nodes s.catalogue.forest) (there_already s))
 
-revised_keeps : (source : Bytes) (rows : List Row) (u : Unit) → ((revised source rows u).id ≡ u.id) × ((revised source rows u).source ≡ u.source) × ((revised source rows u).legacy ≡ u.legacy)
+revised_keeps : (source : Bytes) (rows : List Row) (u : Unit)
+    → ((revised source rows u).id ≡ u.id) × ((revised source rows u).source ≡ u.source) × ((revised source rows u).legacy ≡ u.legacy)
 revised_keeps source rows u = at (bytes_eq u.source source)
   where
     at : (b : Bool) → let r = cond b (record u { values = unwrap_or (option_map (λ row. row.values) (find (has_legacy u.legacy) rows)) u.values }) u in (r.id ≡ u.id) × (r.source ≡ u.source) × (r.legacy ≡ u.legacy)
     at true = (refl, refl, refl)
     at false = (refl, refl, refl)
 
-merged_stay : (s : State) (source : Bytes) (rows : List Row) → AllByRecursion (IsThatUnit s) (nodes (merged_forest source rows (numbered_from s.catalogue.forest source s.catalogue.next [] (new_rows s.catalogue source rows)) s.catalogue.forest))
+merged_stay : (s : State) (source : Bytes) (rows : List Row)
+    → AllByRecursion (IsThatUnit s) (nodes (merged_forest source rows (numbered_from s.catalogue.forest source s.catalogue.next [] (new_rows s.catalogue source rows)) s.catalogue.forest))
 merged_stay s source rows =
-    let new : List New = numbered_from s.catalogue.forest source s.catalogue.next [] (new_rows s.catalogue source rows) in
+    let new : List New =
+    numbered_from s.catalogue.forest source s.catalogue.next [] (new_rows s.catalogue source rows) in
     all_merged (IsThatUnit s) source rows new s.catalogue.forest
     (all_so (λ x. (s.catalogue.next ≤ x.id) × (x.id < s.catalogue.next + length new)) (λ x. IsThatUnit s (new_unit source x)) (λ x h l. absurd (let a = h.0 in omega (arith, a, l))) new (ids_between s.catalogue.forest source s.catalogue.next [] (new_rows s.catalogue source rows)))
     (all_so (λ unit. is_there s.catalogue.forest unit ≡ true) (λ unit. IsThatUnit s (revised source rows unit)) (λ unit h l. let k = revised_keeps source rows unit in kept_there s.catalogue.forest unit (revised source rows unit) k.0 k.1 k.2 h) (nodes s.catalogue.forest) (there_already s))
 
 -- ---- one command
 
-same_named : (s t : State) → t.readers ≡ s.readers → t.orders ≡ s.orders → t.runs ≡ s.runs → t.catalogue ≡ s.catalogue → StaysNamed s t
+same_named : (s t : State) → t.readers ≡ s.readers → t.orders ≡ s.orders → t.runs ≡ s.runs → t.catalogue ≡ s.catalogue
+    → StaysNamed s t
 same_named s t er eo en ec =
     record {
       containers = λ c box. subst (λ (k : Catalogue). nth s.catalogue.containers c ≡ Some box → nth k.containers c ≡ Some box) (sym ec) (λ h. h);
@@ -112,7 +99,8 @@ same_named s t er eo en ec =
 pub itself_named : (s : State) → StaysNamed s s
 itself_named s = same_named s s refl refl refl refl
 
-forest_named : (s : State) (f : Forest Unit) → AllByRecursion (IsThatUnit s) (nodes f) → StaysNamed s (record s { catalogue = record s.catalogue { forest = f } })
+forest_named : (s : State) (f : Forest Unit) → AllByRecursion (IsThatUnit s) (nodes f)
+    → StaysNamed s (record s { catalogue = record s.catalogue { forest = f } })
 forest_named s f u = record { containers = λ c box h. h; orders = λ o order h. h; runs = λ n run h. h; readers = λ r name h. h; units = u; next = omega arith }
 
 cancelled_named : (s : State) (o : ℕ) (k : Option ℕ) → StaysNamed s (cancelled s o k)
@@ -128,7 +116,8 @@ returned_named s c Shelf = itself_named s
 returned_named s c Desk = itself_named s
 returned_named s c (Out o) = same_named s (returned s c (Out o)) refl refl refl refl
 
-imported_named : (s : State) (source file : Bytes) (t : Taken) → intake_of s source file ≡ t → distinct s.catalogue.containers ≡ s.catalogue.containers → StaysNamed s (imported s t)
+imported_named : (s : State) (source file : Bytes) (t : Taken) → intake_of s source file ≡ t
+    → distinct s.catalogue.containers ≡ s.catalogue.containers → StaysNamed s (imported s t)
 imported_named s source file (Err fault) e b = itself_named s
 imported_named s source file (Ok intake) e b =
     let boxes = boxes_after s.catalogue source file intake e b in
@@ -141,11 +130,14 @@ imported_named s source file (Ok intake) e b =
       next = next_after s.catalogue source file intake e;
     }
 
-named_after : (s : State) (asked : Command) → distinct s.catalogue.containers ≡ s.catalogue.containers → StaysNamed s (after s asked)
+named_after : (s : State) (asked : Command) → distinct s.catalogue.containers ≡ s.catalogue.containers
+    → StaysNamed s (after s asked)
 named_after s (command.Import source file) b = imported_named s source file (intake_of s source file) refl b
-named_after s (command.SetStatus u draft whole) b = forest_named s _ (each_stay s _ (status_keeps (chosen whole u s.catalogue) draft))
+named_after s (command.SetStatus u draft whole) b =
+    forest_named s _ (each_stay s _ (status_keeps (chosen whole u s.catalogue) draft))
 named_after s (command.SetClosure u until) b = forest_named s _ (each_stay s _ (closure_keeps until u))
-named_after s (command.Move u parent) b = forest_named s _ (all_moved (IsThatUnit s) u parent s.catalogue.forest (units_stay s))
+named_after s (command.Move u parent) b =
+    forest_named s _ (all_moved (IsThatUnit s) u parent s.catalogue.forest (units_stay s))
 named_after s (command.Remove u) b =
     record {
       containers = λ c box h. h;
@@ -201,13 +193,16 @@ named_after s command.Reshelve b = same_named s (after s command.Reshelve) refl 
 named_after s (command.Permit t u until) b = same_named s (after s (command.Permit t u until)) refl refl refl refl
 named_after s (command.Revoke t u) b = same_named s (after s (command.Revoke t u)) refl refl refl refl
 
-step_named : (s : State) (asked : Command) → distinct s.catalogue.containers ≡ s.catalogue.containers → StaysNamed s (step s asked).0
+step_named : (s : State) (asked : Command) → distinct s.catalogue.containers ≡ s.catalogue.containers
+    → StaysNamed s (step s asked).0
 step_named s asked b = step_at (λ t reply. StaysNamed s t) s asked (λ why. itself_named s) (λ ok. named_after s asked b)
 
 -- ---- one command after another
 
 -- a unit of the last state is that of the first
-was_there : (s t : State) (unit : Unit) → s.catalogue.next ≤ t.catalogue.next → unit.id < s.catalogue.next → (us : List Unit) → AllByRecursion (IsThatUnit s) us → list_any (is_unit unit) us ≡ true → is_there s.catalogue.forest unit ≡ true
+was_there : (s t : State) (unit : Unit) → s.catalogue.next ≤ t.catalogue.next → unit.id < s.catalogue.next
+    → (us : List Unit) → AllByRecursion (IsThatUnit s) us → list_any (is_unit unit) us ≡ true
+    → is_there s.catalogue.forest unit ≡ true
 was_there s t unit n l [] a h = absurd (false≢true h)
 was_there s t unit n l (u ∷ us) a h =
     elim (or_cases (is_unit unit u) (list_any (is_unit unit) us) h) [
@@ -232,7 +227,8 @@ named_further s t v x y =
       next = omega (arith, n, m);
     }
 
-pub stays_named : (s : State) (later : List Command) → distinct s.catalogue.containers ≡ s.catalogue.containers → StaysNamed s (state_after s later)
+pub stays_named : (s : State) (later : List Command) → distinct s.catalogue.containers ≡ s.catalogue.containers
+    → StaysNamed s (state_after s later)
 stays_named s [] b = itself_named s
 stays_named s (asked ∷ later) b =
     named_further s (step s asked).0 (state_after s (asked ∷ later)) (step_named s asked b) (stays_named (step s asked).0 later (step_apart s asked b))

@@ -1,39 +1,21 @@
 -- A sound state stays sound.
 use Rattle.std.proofs.Common.{◌≡◌, ℕ, true, not, List, [], ◌∷◌, Option, Some, None, refl, sym, ap, ◌∙◌, subst}
-use Rattle.std.specs.Prelude.{ℤ, nat_eq, nat_lt}
-use Rattle.std.specs.List.{AllByRecursion}
-use Rattle.std.proofs.lemmas.Bool.{ltb-false}
-use Rattle.std.proofs.lemmas.List.Sorted.{list_any-IsPermutation}
-use Rattle.tree_core.specs.Forest.{nodes, each, has_place, cut, move_last}
+use Rattle.std.specs.Prelude.{ℤ, nat_lt}
 use Rattle.desk_core.specs.declared.reader.Place.{Place}
-use Rattle.desk_core.specs.declared.reader.Place.TheVariants.{Shelf, Desk, Out}
-use Rattle.catalogue_core.specs.Units.{Unit, has_id}
-use Rattle.catalogue_core.specs.Statuses.{chosen}
-use Rattle.office_core.specs.declared.command.Command.{Command}
 use Rattle.office_core.specs.declared.command.Command.TheVariants as command
-use Rattle.office_core.specs.Words.{update_at}
-use Rattle.office_core.specs.State.{State, Permit, container_of, granted, revoked}
-use Rattle.catalogue_core.specs.UnitLookup.{has_unit}
-use Rattle.isad_core.specs.Limits.{most_deep}
-use Rattle.catalogue_core.specs.Moves.{depth_after, is_into_itself}
-use Rattle.office_core.specs.Rules.{checks, after, removed, cancelled, issued, returned, state_after}
-use Rattle.office_core.specs.Soundness.{AreGoodSettings, ArePermitsOfUnits, IsSound, NamesDays}
-use Rattle.catalogue_core.specs.GoodCatalogues.{AreGoodUnits, AreGoodContainers}
-use Rattle.office_core.specs.ImportLaws.{HasGoodCatalogue}
+use Rattle.catalogue_core.proofs.GoodChanges.{KeepsUnits, each_good, cut_good, CanMove, move_same, move_good}
+use Rattle.office_core.proofs.Common.{AllByRecursion, AreGoodContainers, AreGoodSettings, AreGoodUnits, ArePermitsOfUnits, Command, Desk, HasGoodCatalogue, IsSound, NamesDays, Out, Permit, Shelf, State, Unit, after, all_filtered, all_so, cancelled, checks, chosen, closure_keeps, container_of, cut, depth_after, each, each_units, granted, has_id, has_place, has_unit, is_into_itself, issued, list_any-IsPermutation, ltb-false, most_deep, move_last, nat_eq, nodes, removed, returned, revoked, same_containers, state_after, status_keeps, update_at}
 use Rattle.office_core.proofs.Steps.{Passes, held_so, held_not, run_keeps_if}
 use Rattle.office_core.proofs.Extends.{extends_after}
-use Rattle.catalogue_core.proofs.EachOf.{all_filtered}
-use Rattle.catalogue_core.proofs.UnitsAfter.{each_units}
-use Rattle.catalogue_core.proofs.DistinctLists.{all_so}
 use Rattle.office_core.proofs.Days.{days_after}
 use Rattle.office_core.proofs.Readers.{all_granted, all_passing}
 use Rattle.office_core.proofs.Words.{put_each}
 use Rattle.office_core.proofs.SoundDesk.{desk_after}
 use Rattle.office_core.proofs.ImportedUnits.{import_keeps_units}
-use Rattle.catalogue_core.proofs.GoodChanges.{KeepsUnits, each_good, cut_good, CanMove, move_same, move_good}
-use Rattle.catalogue_core.proofs.KeptUnits.{same_containers, status_keeps, closure_keeps}
 
-permits_there : (s t : State) → t.permits ≡ s.permits → ((v : ℕ) → has_unit s.catalogue.forest v ≡ true → has_unit t.catalogue.forest v ≡ true) → ArePermitsOfUnits s → ArePermitsOfUnits t
+permits_there : (s t : State) → t.permits ≡ s.permits
+    → ((v : ℕ) → has_unit s.catalogue.forest v ≡ true → has_unit t.catalogue.forest v ≡ true) → ArePermitsOfUnits s
+    → ArePermitsOfUnits t
 permits_there s t e f g n =
     all_so (λ permit. has_unit s.catalogue.forest permit.unit ≡ true) (λ permit. has_unit t.catalogue.forest permit.unit ≡ true) (λ permit. f permit.unit) (t.permits n)
     (subst (λ permits. AllByRecursion (λ permit. has_unit s.catalogue.forest permit.unit ≡ true) (permits n)) (sym e) (g n))
@@ -59,7 +41,8 @@ returned_good s c Shelf g = g
 returned_good s c Desk g = g
 returned_good s c (Out o) g = good_same s (returned s c (Out o)) refl refl g
 
-changed_good : (s : State) (g : Unit → Unit) → KeepsUnits g → HasGoodCatalogue s → HasGoodCatalogue (record s { catalogue = record s.catalogue { forest = each g s.catalogue.forest } })
+changed_good : (s : State) (g : Unit → Unit) → KeepsUnits g → HasGoodCatalogue s
+    → HasGoodCatalogue (record s { catalogue = record s.catalogue { forest = each g s.catalogue.forest } })
 changed_good s g k h =
     record {
       units = each_good s.catalogue g k h.units;
@@ -84,7 +67,8 @@ can_move s u p ok =
       deep = ltb-false most_deep (depth_after u p s.catalogue.forest) (held_not (nat_lt most_deep (depth_after u p s.catalogue.forest)) _ ok.1.1.1.0);
     }
 
-moved_good : (s : State) (u : ℕ) (p : Option ℕ) → CanMove s.catalogue u p → HasGoodCatalogue s → HasGoodCatalogue (after s (command.Move u p))
+moved_good : (s : State) (u : ℕ) (p : Option ℕ) → CanMove s.catalogue u p → HasGoodCatalogue s
+    → HasGoodCatalogue (after s (command.Move u p))
 moved_good s u p m h =
     let f = move_last has_id u p s.catalogue.forest in
     record {
@@ -95,7 +79,8 @@ moved_good s u p m h =
 
 -- ---- permits
 
-permits_good : (s : State) (permits : ℕ → List Permit) → ArePermitsOfUnits (record s { permits = permits }) → HasGoodCatalogue s → HasGoodCatalogue (record s { permits = permits })
+permits_good : (s : State) (permits : ℕ → List Permit) → ArePermitsOfUnits (record s { permits = permits })
+    → HasGoodCatalogue s → HasGoodCatalogue (record s { permits = permits })
 permits_good s permits p g =
     record {
       units = g.units;
@@ -103,7 +88,8 @@ permits_good s permits p g =
       permits = p;
     }
 
-granted_good : (s : State) (t u : ℕ) (until : ℤ) → has_unit s.catalogue.forest u ≡ true → HasGoodCatalogue s → HasGoodCatalogue (after s (command.Permit t u until))
+granted_good : (s : State) (t u : ℕ) (until : ℤ) → has_unit s.catalogue.forest u ≡ true → HasGoodCatalogue s
+    → HasGoodCatalogue (after s (command.Permit t u until))
 granted_good s t u until there g =
     permits_good s (update_at s.permits t (granted u until (s.permits t)))
     (put_each (λ v ps. AllByRecursion (λ permit. has_unit s.catalogue.forest permit.unit ≡ true) ps) s.permits t (granted u until (s.permits t)) (all_granted (λ v. has_unit s.catalogue.forest v ≡ true) u until (s.permits t) there (g.permits t)) (λ v ne. g.permits v)) g
@@ -120,25 +106,30 @@ its_catalogue s g = record { units = g.units; containers = g.containers; permits
 
 catalogue_after : (s : State) (asked : Command) → IsSound s → Passes (checks s asked) → HasGoodCatalogue (after s asked)
 catalogue_after s (command.OpenDay day) g ok = good_same s (after s (command.OpenDay day)) refl refl (its_catalogue s g)
-catalogue_after s (command.Register name until) g ok = good_same s (after s (command.Register name until)) refl refl (its_catalogue s g)
-catalogue_after s (command.Renew t until) g ok = good_same s (after s (command.Renew t until)) refl refl (its_catalogue s g)
+catalogue_after s (command.Register name until) g ok =
+    good_same s (after s (command.Register name until)) refl refl (its_catalogue s g)
+catalogue_after s (command.Renew t until) g ok =
+    good_same s (after s (command.Renew t until)) refl refl (its_catalogue s g)
 catalogue_after s (command.TakeSeat t) g ok = good_same s (after s (command.TakeSeat t)) refl refl (its_catalogue s g)
 catalogue_after s (command.LeaveSeat t) g ok = good_same s (after s (command.LeaveSeat t)) refl refl (its_catalogue s g)
 catalogue_after s (command.Order t c) g ok = good_same s (after s (command.Order t c)) refl refl (its_catalogue s g)
 catalogue_after s command.Run g ok = good_same s (after s command.Run) refl refl (its_catalogue s g)
 catalogue_after s command.Reshelve g ok = good_same s (after s command.Reshelve) refl refl (its_catalogue s g)
 catalogue_after s (command.Import source file) g ok = import_keeps_units s source file g ok
-catalogue_after s (command.SetStatus u draft whole) g ok = changed_good s _ (status_keeps (chosen whole u s.catalogue) draft) (its_catalogue s g)
+catalogue_after s (command.SetStatus u draft whole) g ok =
+    changed_good s _ (status_keeps (chosen whole u s.catalogue) draft) (its_catalogue s g)
 catalogue_after s (command.SetClosure u until) g ok = changed_good s _ (closure_keeps until u) (its_catalogue s g)
 catalogue_after s (command.Move u parent) g ok = moved_good s u parent (can_move s u parent ok) (its_catalogue s g)
 catalogue_after s (command.Remove u) g ok = removed_good s u (its_catalogue s g)
 catalogue_after s (command.Cancel o) g ok = cancelled_good s o (container_of s o) (its_catalogue s g)
 catalogue_after s (command.Issue c t) g ok = issued_good s c (s.queue c) (its_catalogue s g)
 catalogue_after s (command.Return c) g ok = returned_good s c (s.place c) (its_catalogue s g)
-catalogue_after s (command.Permit t u until) g ok = granted_good s t u until (held_so (has_unit s.catalogue.forest u) _ ok.1.0) (its_catalogue s g)
+catalogue_after s (command.Permit t u until) g ok =
+    granted_good s t u until (held_so (has_unit s.catalogue.forest u) _ ok.1.0) (its_catalogue s g)
 catalogue_after s (command.Revoke t u) g ok = revoked_good s t u (its_catalogue s g)
 
-pub sound_after : (s : State) (asked : Command) → IsSound s → NamesDays asked → Passes (checks s asked) → IsSound (after s asked)
+pub sound_after : (s : State) (asked : Command) → IsSound s → NamesDays asked → Passes (checks s asked)
+    → IsSound (after s asked)
 sound_after s asked g d ok =
     let k = catalogue_after s asked g ok in
     record {
@@ -150,5 +141,6 @@ sound_after s asked g d ok =
       desk = desk_after s asked g.desk ok;
     }
 
-pub always_sound : (s : State) (later : List Command) → AllByRecursion NamesDays later → IsSound s → IsSound (state_after s later)
+pub always_sound : (s : State) (later : List Command) → AllByRecursion NamesDays later → IsSound s
+    → IsSound (state_after s later)
 always_sound = run_keeps_if IsSound NamesDays sound_after

@@ -1,13 +1,6 @@
 -- What each accepted command keeps, a run of commands keeps.
 use Rattle.std.proofs.Common.{Bool, ◌≡◌, ℕ, true, false, List, [], ◌∷◌, Option, Some, None, Ok, Err, refl}
-use Rattle.std.specs.Prelude.{is_some, option_map}
-use Rattle.std.specs.List.{AllByRecursion}
-use Rattle.desk_core.specs.declared.refusal.Refusal.TheVariants.{WithReader}
-use Rattle.desk_core.specs.Refusals.{Check, when, unless, first_that_holds}
-use Rattle.desk_core.specs.declared.refusal.Refusal.{Refusal}
-use Rattle.office_core.specs.declared.command.Command.{Command}
-use Rattle.office_core.specs.State.{State}
-use Rattle.office_core.specs.Rules.{gate, lowest_withheld, Reply, checks, after, result_of, decide, refusal, step, state_after}
+use Rattle.office_core.proofs.Common.{AllByRecursion, Check, Command, Refusal, Reply, State, WithReader, after, checks, decide, first_that_holds, gate, is_some, lowest_withheld, option_map, refusal, result_of, state_after, step, unless, when}
 
 -- no check holds
 abbrev pub Passes : List Check → Type 0
@@ -36,20 +29,26 @@ passes_gate s h = at (lowest_withheld s) h
     at (Some c) e = absurd (cc)
 
 -- what holds of the old state, and of the new one where no check holds, holds after the step
-pub step_at : (P : State → Reply → Type 0) (s : State) (asked : Command) → ((why : Refusal) → P s (Err why)) → (Passes (checks s asked) → P (after s asked) (Ok (result_of s asked))) → P (step s asked).0 (step s asked).1
+pub step_at : (P : State → Reply → Type 0) (s : State) (asked : Command) → ((why : Refusal) → P s (Err why))
+    → (Passes (checks s asked) → P (after s asked) (Ok (result_of s asked))) → P (step s asked).0 (step s asked).1
 step_at P s asked old new = at (refusal s asked) (λ e. new (passes (checks s asked) e))
   where
-    at : (r : Option Refusal) → (r ≡ None → P (after s asked) (Ok (result_of s asked))) → P (decide r s (after s asked) (result_of s asked)).0 (decide r s (after s asked) (result_of s asked)).1
+    at : (r : Option Refusal) → (r ≡ None → P (after s asked) (Ok (result_of s asked)))
+        → P (decide r s (after s asked) (result_of s asked)).0 (decide r s (after s asked) (result_of s asked)).1
     at None h = h refl
     at (Some why) h = old why
 
-pub run_keeps : (P : State → Type 0) → ((s : State) (asked : Command) → P s → Passes (checks s asked) → P (after s asked)) → (s : State) (later : List Command) → P s → P (state_after s later)
+pub run_keeps : (P : State → Type 0)
+    → ((s : State) (asked : Command) → P s → Passes (checks s asked) → P (after s asked))
+    → (s : State) (later : List Command) → P s → P (state_after s later)
 run_keeps P keeps s [] p = p
 run_keeps P keeps s (asked ∷ later) p =
     run_keeps P keeps (step s asked).0 later (step_at (λ t reply. P t) s asked (λ why. p) (λ ok. keeps s asked p ok))
 
 -- the same, of commands of one kind
-pub run_keeps_if : (P : State → Type 0) (Q : Command → Type 0) → ((s : State) (asked : Command) → P s → Q asked → Passes (checks s asked) → P (after s asked)) → (s : State) (later : List Command) → AllByRecursion Q later → P s → P (state_after s later)
+pub run_keeps_if : (P : State → Type 0) (Q : Command → Type 0)
+    → ((s : State) (asked : Command) → P s → Q asked → Passes (checks s asked) → P (after s asked))
+    → (s : State) (later : List Command) → AllByRecursion Q later → P s → P (state_after s later)
 run_keeps_if P Q keeps s [] q p = p
 run_keeps_if P Q keeps s (asked ∷ later) q p =
     run_keeps_if P Q keeps (step s asked).0 later q.1 (step_at (λ t reply. P t) s asked (λ why. p) (λ ok. keeps s asked p q.0 ok))

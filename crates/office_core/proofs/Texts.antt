@@ -1,28 +1,13 @@
 -- The texts that an office keeps stay UTF-8.
 use Rattle.std.proofs.Common.{◌≡◌, ℕ, zero, suc, true, List, [], ◌∷◌, Option, Some, None, Ok, Err, refl, sym, subst, arith}
-use Rattle.std.specs.Prelude.{ℤ, nat_eq, length, IsUtf8}
-use Rattle.std.specs.List.{AllByRecursion, list_all}
-use Rattle.std.proofs.lemmas.Bool.{and_parts}
-use Rattle.isad_core.specs.Texts.{Bytes}
-use Rattle.isad_core.specs.Days.{IsDayNumber}
+use Rattle.std.specs.Prelude.{ℤ, length}
 use Rattle.desk_core.specs.declared.reader.Place.{Place}
-use Rattle.desk_core.specs.declared.reader.Place.TheVariants.{Shelf, Desk, Out}
-use Rattle.catalogue_core.specs.Units.{has_id}
-use Rattle.catalogue_core.specs.Sources.{is_between, is_source}
-use Rattle.catalogue_core.specs.Statuses.{chosen}
-use Rattle.catalogue_core.specs.Intake.{Taken}
 use Rattle.catalogue_core.specs.LegibleCatalogues.{HasLegibleTexts, IsLegibleCatalogue}
 use Rattle.catalogue_core.proofs.AsciiTexts.{ascii_legible, between_low, source_legible}
-use Rattle.catalogue_core.proofs.EachAfter.{all_cut, all_moved}
-use Rattle.catalogue_core.proofs.EachOf.{all_append}
-use Rattle.catalogue_core.proofs.KeptUnits.{status_keeps, closure_keeps}
 use Rattle.catalogue_core.proofs.LegibleMerges.{each_legible, taken_legible}
-use Rattle.office_core.specs.declared.command.Command.{Command}
 use Rattle.office_core.specs.declared.command.Command.TheVariants as command
-use Rattle.office_core.specs.State.{Reader, Settings, State, container_of, start}
-use Rattle.office_core.specs.Rules.{after, cancelled, checks, imported, issued, renewed, returned, state_after, intake_of}
-use Rattle.office_core.specs.Soundness.{AreGoodSettings, NamesDays, is_country, is_repository}
 use Rattle.office_core.specs.SoundOffice.{AreTexts, IsSoundOffice, NamesTexts}
+use Rattle.office_core.proofs.Common.{AllByRecursion, AreGoodSettings, Bytes, Command, Desk, IsDayNumber, IsUtf8, NamesDays, Out, Reader, Settings, Shelf, State, Taken, after, all_append, all_cut, all_moved, and_parts, cancelled, checks, chosen, closure_keeps, container_of, has_id, imported, intake_of, is_between, is_country, is_repository, is_source, issued, list_all, nat_eq, renewed, returned, start, state_after, status_keeps}
 use Rattle.office_core.proofs.Steps.{Passes, held_so, run_keeps_if}
 use Rattle.office_core.proofs.StaysSound.{sound_after}
 use Rattle.office_core.proofs.Starts.{starts_sound}
@@ -45,13 +30,16 @@ starts_legible settings day g = record {
   readers = tt;
 }
 
-pub starts_sound_office : (settings : Settings) (day : ℤ) → AreGoodSettings settings → IsDayNumber day → IsSoundOffice (start settings day)
-starts_sound_office settings day g d = record { sound = starts_sound settings day g d; texts = starts_legible settings day g }
+pub starts_sound_office : (settings : Settings) (day : ℤ) → AreGoodSettings settings → IsDayNumber day
+    → IsSoundOffice (start settings day)
+starts_sound_office settings day g d =
+    record { sound = starts_sound settings day g d; texts = starts_legible settings day g }
 
 -- ---- each command
 
 -- the parts of the state that have texts
-same_texts : (s t : State) → t.settings ≡ s.settings → t.catalogue ≡ s.catalogue → t.readers ≡ s.readers → AreTexts s → AreTexts t
+same_texts : (s t : State) → t.settings ≡ s.settings → t.catalogue ≡ s.catalogue → t.readers ≡ s.readers → AreTexts s
+    → AreTexts t
 same_texts s t e c r h = record {
   country = subst (λ (settings : Settings). IsUtf8 settings.country) (sym e) h.country;
   repo = subst (λ (settings : Settings). IsUtf8 settings.repo) (sym e) h.repo;
@@ -59,7 +47,8 @@ same_texts s t e c r h = record {
   readers = subst (AllByRecursion (λ (reader : Reader). IsUtf8 reader.name)) (sym r) h.readers;
 }
 
-other_catalogue : (s t : State) → t.settings ≡ s.settings → t.readers ≡ s.readers → IsLegibleCatalogue t.catalogue → AreTexts s → AreTexts t
+other_catalogue : (s t : State) → t.settings ≡ s.settings → t.readers ≡ s.readers → IsLegibleCatalogue t.catalogue
+    → AreTexts s → AreTexts t
 other_catalogue s t e r c h = record {
   country = subst (λ (settings : Settings). IsUtf8 settings.country) (sym e) h.country;
   repo = subst (λ (settings : Settings). IsUtf8 settings.repo) (sym e) h.repo;
@@ -67,12 +56,14 @@ other_catalogue s t e r c h = record {
   readers = subst (AllByRecursion (λ (reader : Reader). IsUtf8 reader.name)) (sym r) h.readers;
 }
 
-imported_texts : (s : State) (source file : Bytes) (t : Taken) → intake_of s source file ≡ t → is_source source ≡ true → AreTexts s → AreTexts (imported s t)
+imported_texts : (s : State) (source file : Bytes) (t : Taken) → intake_of s source file ≡ t → is_source source ≡ true
+    → AreTexts s → AreTexts (imported s t)
 imported_texts s source file (Err fault) e named h = h
 imported_texts s source file (Ok intake) e named h =
     other_catalogue s (imported s (Ok intake)) refl refl (taken_legible s.catalogue source file intake e (source_legible source named) h.catalogue) h
 
-reader_names : (until : ℤ) (rs : List Reader) (t : ℕ) → AllByRecursion (λ (r : Reader). IsUtf8 r.name) rs → AllByRecursion (λ (r : Reader). IsUtf8 r.name) (renewed until rs t)
+reader_names : (until : ℤ) (rs : List Reader) (t : ℕ) → AllByRecursion (λ (r : Reader). IsUtf8 r.name) rs
+    → AllByRecursion (λ (r : Reader). IsUtf8 r.name) (renewed until rs t)
 reader_names until rs zero h = h
 reader_names until [] (suc t) h = h
 reader_names until (r ∷ rs) (suc zero) h = h
@@ -91,19 +82,26 @@ returned_texts s c Shelf h = h
 returned_texts s c Desk h = h
 returned_texts s c (Out o) h = same_texts s (returned s c (Out o)) refl refl refl h
 
-texts_after : (s : State) (asked : Command) → AreTexts s → NamesTexts asked → Passes (checks s asked) → AreTexts (after s asked)
+texts_after : (s : State) (asked : Command) → AreTexts s → NamesTexts asked → Passes (checks s asked)
+    → AreTexts (after s asked)
 texts_after s (command.Register name until) h n ok = record {
   country = h.country;
   repo = h.repo;
   catalogue = h.catalogue;
   readers = all_append (λ (r : Reader). IsUtf8 r.name) s.readers (record { name = name; until = until } ∷ []) h.readers (n, tt);
 }
-texts_after s (command.Renew t until) h n ok = record { country = h.country; repo = h.repo; catalogue = h.catalogue; readers = reader_names until s.readers t h.readers }
-texts_after s (command.Import source file) h n ok = imported_texts s source file (intake_of s source file) refl (held_so (is_source source) _ ok.0) h
-texts_after s (command.SetStatus u draft whole) h n ok = other_catalogue s (after s (command.SetStatus u draft whole)) refl refl (each_legible s.catalogue _ (status_keeps (chosen whole u s.catalogue) draft) h.catalogue) h
-texts_after s (command.SetClosure u until) h n ok = other_catalogue s (after s (command.SetClosure u until)) refl refl (each_legible s.catalogue _ (closure_keeps until u) h.catalogue) h
-texts_after s (command.Move u parent) h n ok = other_catalogue s (after s (command.Move u parent)) refl refl (record { units = all_moved HasLegibleTexts u parent s.catalogue.forest h.catalogue.units; containers = h.catalogue.containers }) h
-texts_after s (command.Remove u) h n ok = other_catalogue s (after s (command.Remove u)) refl refl (record { units = all_cut HasLegibleTexts (has_id u) s.catalogue.forest h.catalogue.units; containers = h.catalogue.containers }) h
+texts_after s (command.Renew t until) h n ok =
+    record { country = h.country; repo = h.repo; catalogue = h.catalogue; readers = reader_names until s.readers t h.readers }
+texts_after s (command.Import source file) h n ok =
+    imported_texts s source file (intake_of s source file) refl (held_so (is_source source) _ ok.0) h
+texts_after s (command.SetStatus u draft whole) h n ok =
+    other_catalogue s (after s (command.SetStatus u draft whole)) refl refl (each_legible s.catalogue _ (status_keeps (chosen whole u s.catalogue) draft) h.catalogue) h
+texts_after s (command.SetClosure u until) h n ok =
+    other_catalogue s (after s (command.SetClosure u until)) refl refl (each_legible s.catalogue _ (closure_keeps until u) h.catalogue) h
+texts_after s (command.Move u parent) h n ok =
+    other_catalogue s (after s (command.Move u parent)) refl refl (record { units = all_moved HasLegibleTexts u parent s.catalogue.forest h.catalogue.units; containers = h.catalogue.containers }) h
+texts_after s (command.Remove u) h n ok =
+    other_catalogue s (after s (command.Remove u)) refl refl (record { units = all_cut HasLegibleTexts (has_id u) s.catalogue.forest h.catalogue.units; containers = h.catalogue.containers }) h
 texts_after s (command.OpenDay day) h n ok = same_texts s (after s (command.OpenDay day)) refl refl refl h
 texts_after s (command.TakeSeat t) h n ok = same_texts s (after s (command.TakeSeat t)) refl refl refl h
 texts_after s (command.LeaveSeat t) h n ok = same_texts s (after s (command.LeaveSeat t)) refl refl refl h
@@ -118,14 +116,17 @@ texts_after s (command.Revoke t u) h n ok = same_texts s (after s (command.Revok
 
 -- ---- every list of commands
 
-pub always_texts : (s : State) (later : List Command) → AllByRecursion NamesTexts later → AreTexts s → AreTexts (state_after s later)
+pub always_texts : (s : State) (later : List Command) → AllByRecursion NamesTexts later → AreTexts s
+    → AreTexts (state_after s later)
 always_texts = run_keeps_if AreTexts NamesTexts texts_after
 
-both : (later : List Command) → AllByRecursion NamesDays later → AllByRecursion NamesTexts later → AllByRecursion (λ asked. NamesDays asked × NamesTexts asked) later
+both : (later : List Command) → AllByRecursion NamesDays later → AllByRecursion NamesTexts later
+    → AllByRecursion (λ asked. NamesDays asked × NamesTexts asked) later
 both [] d n = tt
 both (asked ∷ later) d n = ((d.0, n.0), both later d.1 n.1)
 
-pub always_sound_office : (s : State) (later : List Command) → AllByRecursion NamesDays later → AllByRecursion NamesTexts later → IsSoundOffice s → IsSoundOffice (state_after s later)
+pub always_sound_office : (s : State) (later : List Command) → AllByRecursion NamesDays later
+    → AllByRecursion NamesTexts later → IsSoundOffice s → IsSoundOffice (state_after s later)
 always_sound_office s later d n =
     run_keeps_if IsSoundOffice (λ asked. NamesDays asked × NamesTexts asked)
     (λ s asked g names ok. record { sound = sound_after s asked g.sound names.0 ok; texts = texts_after s asked g.texts names.1 ok }) s later (both later d n)

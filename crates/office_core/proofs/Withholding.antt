@@ -1,34 +1,17 @@
 -- A change is refused for a reader exactly where it would withhold what is out.
 use Rattle.std.proofs.Common.{◌≡◌, ℕ, zero, suc, ◌≤◌, Bool, true, false, not, cond, List, [], ◌∷◌, ◌++◌, length, Option, Some, None, Ok, Err, refl, sym, ap, ◌∙◌, subst, inl, inr, ◌⊎◌, arith}
-use Rattle.std.specs.Prelude.{option_map, nat_lt}
-use Rattle.std.specs.List.{AllByRecursion}
-use Rattle.std.proofs.lemmas.Bool.{cases_lt, false≢true, le-ltb}
-use Rattle.isad_core.specs.Limits.{most_deep}
-use Rattle.tree_core.specs.Forest.{has_place}
-use Rattle.desk_core.specs.Refusals.{Check, when, unless, first_that_holds}
-use Rattle.desk_core.specs.declared.refusal.Refusal.{Refusal}
+use Rattle.std.specs.Prelude.{nat_lt}
 use Rattle.desk_core.specs.declared.refusal.Refusal.TheVariants as refusal
-use Rattle.desk_core.specs.declared.refusal.Refusal.TheVariants.{WithReader}
-use Rattle.catalogue_core.specs.UnitLookup.{has_unit}
-use Rattle.catalogue_core.specs.Intake.{Intake, Taken, is_full}
-use Rattle.catalogue_core.specs.Moves.{is_into_itself, depth_after}
-use Rattle.catalogue_core.specs.Sources.{is_source}
-use Rattle.catalogue_core.specs.Units.{has_id}
-use Rattle.office_core.specs.declared.command.Command.{Command}
 use Rattle.office_core.specs.declared.command.Command.TheVariants as command
 use Rattle.office_core.specs.declared.done.Done.{Done}
-use Rattle.office_core.specs.Words.{nth, numbers_to, first_that, some_and}
-use Rattle.office_core.specs.State.{Order, State, is_ticket, is_container, order_out, opens, has_permit}
-use Rattle.office_core.specs.ImportReply.{bad_file, too_much}
-use Rattle.office_core.specs.Rules.{is_kept_from_holder, lowest_withheld, gate, imported, intake_of, after, checks, result_of, decide, refusal as refusal_of}
-use Rattle.office_core.specs.SoundDesk.{IsSoundDesk}
+use Rattle.office_core.specs.Rules.{refusal as refusal_of}
 use Rattle.office_core.specs.AccessRestrictions.{WouldBeWithheld, IsLowestWithheld, may_withhold, AsksForReaders, AsksForNone, MayBeDone, AsksForReadersAlone}
+use Rattle.office_core.proofs.Common.{AllByRecursion, Check, Command, Intake, IsSoundDesk, Order, Refusal, State, Taken, WithReader, after, bad_file, cases_lt, checks, decide, depth_after, false≢true, first_that, first_that_holds, gate, has_id, has_permit, has_place, has_unit, imported, intake_of, is_container, is_full, is_into_itself, is_kept_from_holder, is_source, is_ticket, le-ltb, lowest_withheld, most_deep, nth, numbers_to, opens, option_map, order_out, result_of, same_Some, some_and, too_much, unless, when}
 use Rattle.office_core.proofs.Counts.{none_to, none_that, numbered_from_one}
 use Rattle.office_core.proofs.Extends.{imported_extends}
 use Rattle.office_core.proofs.Places.{out_known, places_after}
 use Rattle.office_core.proofs.Steps.{passes}
 use Rattle.office_core.proofs.Words.{numbered_within}
-use Rattle.std.proofs.lemmas.Option.{same_Some}
 
 -- ---- which check tells it
 
@@ -61,7 +44,8 @@ too_much_other : (r : Taken) (c : ℕ) → Other c (too_much r)
 too_much_other (Ok intake) c = when_other _ refusal.Full c refl
 too_much_other (Err fault) c = none_other c
 
-told_by_last : (c : ℕ) (cs : List Check) (g : Check) → AllByRecursion (Other c) cs → first_that_holds (cs ++ g ∷ []) ≡ Some (WithReader c) → g ≡ Some (WithReader c)
+told_by_last : (c : ℕ) (cs : List Check) (g : Check) → AllByRecursion (Other c) cs
+    → first_that_holds (cs ++ g ∷ []) ≡ Some (WithReader c) → g ≡ Some (WithReader c)
 told_by_last c [] None h e = absurd (cc)
 told_by_last c [] (Some why) h e = e
 told_by_last c (None ∷ cs) g h e = told_by_last c cs g h.1 e
@@ -85,7 +69,8 @@ kept_so None c e = absurd (cc)
 kept_so (Some d) c e = cc
 
 -- where a command that may withhold is refused for a reader, the gate keeps that container
-gate_keeps : (s : State) (asked : Command) (c : ℕ) → may_withhold asked ≡ true → refusal_of s asked ≡ Some (WithReader c) → lowest_withheld (after s asked) ≡ Some c
+gate_keeps : (s : State) (asked : Command) (c : ℕ) → may_withhold asked ≡ true
+    → refusal_of s asked ≡ Some (WithReader c) → lowest_withheld (after s asked) ≡ Some c
 gate_keeps s (command.Import source file) c m e =
     let name : Bool = is_source source in
     kept_so _ c (told_by_last c (unless name refusal.BadName ∷ bad_file (intake_of s source file) ∷ too_much (intake_of s source file) ∷ []) (gate (after s (command.Import source file)))
@@ -127,11 +112,15 @@ gate_keeps s (command.Permit t u until) c m e = absurd (false≢true m)
 
 -- ---- the lowest that passes
 
-first_of : (p : ℕ → Bool) (xs ys : List ℕ) (c : ℕ) → first_that p (xs ++ ys) ≡ Some c → (first_that p xs ≡ Some c) ⊎ ((first_that p xs ≡ None) × (first_that p ys ≡ Some c))
+first_of : (p : ℕ → Bool) (xs ys : List ℕ) (c : ℕ) → first_that p (xs ++ ys) ≡ Some c
+    → (first_that p xs ≡ Some c) ⊎ ((first_that p xs ≡ None) × (first_that p ys ≡ Some c))
 first_of p [] ys c e = inr (refl, e)
 first_of p (x ∷ xs) ys c e = at (p x) (first_of p xs ys c) e
   where
-    at : (b : Bool) → (first_that p (xs ++ ys) ≡ Some c → (first_that p xs ≡ Some c) ⊎ ((first_that p xs ≡ None) × (first_that p ys ≡ Some c))) → cond b (Some x) (first_that p (xs ++ ys)) ≡ Some c → (cond b (Some x) (first_that p xs) ≡ Some c) ⊎ ((cond b (Some x) (first_that p xs) ≡ None) × (first_that p ys ≡ Some c))
+    at : (b : Bool)
+        → (first_that p (xs ++ ys) ≡ Some c → (first_that p xs ≡ Some c) ⊎ ((first_that p xs ≡ None) × (first_that p ys ≡ Some c)))
+        → cond b (Some x) (first_that p (xs ++ ys)) ≡ Some c
+        → (cond b (Some x) (first_that p xs) ≡ Some c) ⊎ ((cond b (Some x) (first_that p xs) ≡ None) × (first_that p ys ≡ Some c))
     at true rest k = inl k
     at false rest k = rest k
 
@@ -142,7 +131,8 @@ only_one p n c e = at (p n) refl e
     at true h k = (same_Some n c k, h)
     at false h k = absurd (cc)
 
-lowest_of : (p : ℕ → Bool) (n c : ℕ) → first_that p (numbers_to n) ≡ Some c → (p c ≡ true) × ((d : ℕ) → 1 ≤ d → d ≤ n → p d ≡ true → c ≤ d)
+lowest_of : (p : ℕ → Bool) (n c : ℕ) → first_that p (numbers_to n) ≡ Some c
+    → (p c ≡ true) × ((d : ℕ) → 1 ≤ d → d ≤ n → p d ≡ true → c ≤ d)
 lowest_of p zero c e = absurd (cc)
 lowest_of p (suc n) c e = elim (first_of p (numbers_to n) (suc n ∷ []) c e) [
   | inl h ↦ let it = lowest_of p n c h in (it.0, λ d l u k. at it.1 h d l u k)
@@ -164,7 +154,8 @@ lowest_of p (suc n) c e = elim (first_of p (numbers_to n) (suc n ∷ []) c e) [
       | inr h ↦ let r = (only_one p (suc m) k h.1).0 in omega (arith, r)
     ]
 
-    at : ((d : ℕ) → 1 ≤ d → d ≤ n → p d ≡ true → c ≤ d) → first_that p (numbers_to n) ≡ Some c → (d : ℕ) → 1 ≤ d → d ≤ suc n → p d ≡ true → c ≤ d
+    at : ((d : ℕ) → 1 ≤ d → d ≤ n → p d ≡ true → c ≤ d) → first_that p (numbers_to n) ≡ Some c → (d : ℕ) → 1 ≤ d
+        → d ≤ suc n → p d ≡ true → c ≤ d
     at low h d l u k = elim (cases_lt d (suc n)) [
       | inl less ↦ low d l (omega (arith, less)) k
       | inr more ↦ let r = within n c h in omega (arith, r, more)
@@ -173,7 +164,8 @@ lowest_of p (suc n) c e = elim (first_of p (numbers_to n) (suc n ∷ []) c e) [
 -- ---- what is kept from its holder would be withheld
 
 module _ (s t : State) (places : t.place ≡ s.place) (orders : t.orders ≡ s.orders) where
-  held_with : (c o : ℕ) (r : Option Order) → order_out (s.place c) ≡ Some o → nth t.orders o ≡ r → some_and (λ (order : Order). not (opens t order.ticket c)) r ≡ true → WouldBeWithheld s t c
+  held_with : (c o : ℕ) (r : Option Order) → order_out (s.place c) ≡ Some o → nth t.orders o ≡ r
+      → some_and (λ (order : Order). not (opens t order.ticket c)) r ≡ true → WouldBeWithheld s t c
   held_with c o None out n h = absurd (false≢true h)
   held_with c o (Some order) out n h =
       record { number = o; order = order; out = out; placed = ap (λ l. nth l o) (sym orders) ∙ n; shut = not_so (opens t order.ticket c) h }
@@ -182,7 +174,9 @@ module _ (s t : State) (places : t.place ≡ s.place) (orders : t.orders ≡ s.o
       not_so true e = absurd (false≢true e)
       not_so false e = refl
 
-  kept_would : (c : ℕ) (x : Option ℕ) → order_out (t.place c) ≡ x → some_and (λ o. some_and (λ (order : Order). not (opens t order.ticket c)) (nth t.orders o)) x ≡ true → WouldBeWithheld s t c
+  kept_would : (c : ℕ) (x : Option ℕ) → order_out (t.place c) ≡ x
+      → some_and (λ o. some_and (λ (order : Order). not (opens t order.ticket c)) (nth t.orders o)) x ≡ true
+      → WouldBeWithheld s t c
   kept_would c None e h = absurd (false≢true h)
   kept_would c (Some o) e h = held_with c o (nth t.orders o) (ap (λ place. order_out (place c)) (sym places) ∙ e) refl h
 
@@ -192,7 +186,8 @@ module _ (s t : State) (places : t.place ≡ s.place) (orders : t.orders ≡ s.o
       ∙ ap (some_and (λ (order : Order). not (opens t order.ticket c))) (ap (λ l. nth l w.number) orders ∙ w.placed)
       ∙ ap not w.shut
 
-  lowest_would : ((c : ℕ) → is_container s c ≡ true → is_container t c ≡ true) → IsSoundDesk s → (c : ℕ) → lowest_withheld t ≡ Some c → IsLowestWithheld s t c
+  lowest_would : ((c : ℕ) → is_container s c ≡ true → is_container t c ≡ true) → IsSoundDesk s → (c : ℕ)
+      → lowest_withheld t ≡ Some c → IsLowestWithheld s t c
   lowest_would known g c e =
       let it = lowest_of (is_kept_from_holder t) (length t.catalogue.containers) c e in
       record {
@@ -250,8 +245,10 @@ same_orders s (command.Issue k t) m = absurd (false≢true m)
 same_orders s (command.Return k) m = absurd (false≢true m)
 same_orders s (command.Permit t u until) m = absurd (false≢true m)
 
-still_known : (s : State) (asked : Command) → may_withhold asked ≡ true → IsSoundDesk s → (c : ℕ) → is_container s c ≡ true → is_container (after s asked) c ≡ true
-still_known s (command.Import source file) m g c h = (imported_extends s source file (intake_of s source file) refl g.boxes).containers c h
+still_known : (s : State) (asked : Command) → may_withhold asked ≡ true → IsSoundDesk s → (c : ℕ)
+    → is_container s c ≡ true → is_container (after s asked) c ≡ true
+still_known s (command.Import source file) m g c h =
+    (imported_extends s source file (intake_of s source file) refl g.boxes).containers c h
 still_known s (command.SetStatus u draft whole) m g c h = h
 still_known s (command.SetClosure u until) m g c h = h
 still_known s (command.Move u parent) m g c h = h
@@ -272,18 +269,22 @@ still_known s (command.Permit t u until) m g c h = absurd (false≢true m)
 
 -- ---- the law
 
-nothing_withheld : (s : State) (asked : Command) → may_withhold asked ≡ true → IsSoundDesk s → refusal_of s asked ≡ None → (c : ℕ) → WouldBeWithheld s (after s asked) c → ⊥
+nothing_withheld : (s : State) (asked : Command) → may_withhold asked ≡ true → IsSoundDesk s → refusal_of s asked ≡ None
+    → (c : ℕ) → WouldBeWithheld s (after s asked) c → ⊥
 nothing_withheld s asked m g r c w =
     let p = places_after s asked g.boxes g.filed g.orders g.places (passes (checks s asked) r) in
-    let out : order_out ((after s asked).place c) ≡ Some w.number = ap (λ place. order_out (place c)) (same_place s asked m) ∙ w.out in
-    let placed : nth (after s asked).orders w.number ≡ Some w.order = ap (λ l. nth l w.number) (same_orders s asked m) ∙ w.placed in
+    let out : order_out ((after s asked).place c) ≡ Some w.number =
+    ap (λ place. order_out (place c)) (same_place s asked m) ∙ w.out in
+    let placed : nth (after s asked).orders w.number ≡ Some w.order =
+    ap (λ l. nth l w.number) (same_orders s asked m) ∙ w.placed in
     false≢true (sym w.shut ∙ (p.holders c w.number w.order out placed).may_see)
 
 after_accepted : (r : Option Refusal) (s t : State) (d : Done) → r ≡ None → (decide r s t d).0 ≡ t
 after_accepted None s t d e = refl
 after_accepted (Some why) s t d e = absurd (cc)
 
-pub asks_for_readers : (s : State) (asked : Command) → IsSoundDesk s → may_withhold asked ≡ true → AsksForReaders s asked
+pub asks_for_readers : (s : State) (asked : Command) → IsSoundDesk s → may_withhold asked ≡ true
+    → AsksForReaders s asked
 asks_for_readers s asked g m =
     record {
       refused = λ c e. lowest_would s (after s asked) (same_place s asked m) (same_orders s asked m) (still_known s asked m g) g c
@@ -409,7 +410,8 @@ module _ (s : State) (asked : Command) (sound : IsSoundDesk s) (m : may_withhold
 decided_by : (r q : Option Refusal) (s t : State) (d : Done) → r ≡ q → decide r s t d ≡ decide q s t d
 decided_by r q s t d e = ap (λ x. decide x s t d) e
 
-pub asks_for_readers_alone : (s : State) (asked : Command) → IsSoundDesk s → MayBeDone s asked → AsksForReadersAlone s asked
+pub asks_for_readers_alone : (s : State) (asked : Command) → IsSoundDesk s → MayBeDone s asked
+    → AsksForReadersAlone s asked
 asks_for_readers_alone s asked g h =
     let m = may_withhold_so s asked h in
     record {
@@ -419,19 +421,32 @@ asks_for_readers_alone s asked g h =
           (gate_alone s asked h ∙ ap (option_map WithReader) (none_kept s asked g m none));
     }
 
-other_refusals : (s : State) (asked : Command) (c : ℕ) → may_withhold asked ≡ false → refusal_of s asked ≡ Some (WithReader c) → ⊥
-other_refusals s (command.OpenDay day) c m e = told_by_none c (checks s (command.OpenDay day)) (unless_other _ refusal.DayNotLater c refl, (when_other _ refusal.StillIssued c refl, tt)) e
-other_refusals s (command.Register name until) c m e = told_by_none c (checks s (command.Register name until)) (unless_other _ refusal.BadName c refl, (when_other _ refusal.Full c refl, tt)) e
-other_refusals s (command.Renew t until) c m e = told_by_none c (checks s (command.Renew t until)) (unless_other _ refusal.UnknownTicket c refl, tt) e
-other_refusals s (command.TakeSeat t) c m e = told_by_none c (checks s (command.TakeSeat t)) (unless_other _ refusal.UnknownTicket c refl, (when_other _ refusal.TicketExpired c refl, (when_other _ refusal.AlreadySeated c refl, (when_other _ refusal.NoSeatFree c refl, tt)))) e
-other_refusals s (command.LeaveSeat t) c m e = told_by_none c (checks s (command.LeaveSeat t)) (unless_other _ refusal.UnknownTicket c refl, (unless_other _ refusal.NotSeated c refl, (when_other _ refusal.HoldsContainers c refl, tt))) e
-other_refusals s (command.Order t k) c m e = told_by_none c (checks s (command.Order t k)) (unless_other _ refusal.UnknownTicket c refl, (when_other _ refusal.TicketExpired c refl, (unless_other _ refusal.NotAvailable c refl, (when_other _ refusal.AlreadyOrdered c refl, (when_other _ refusal.DailyLimit c refl, (when_other _ refusal.Full c refl, tt)))))) e
-other_refusals s (command.Cancel o) c m e = told_by_none c (checks s (command.Cancel o)) (unless_other _ refusal.UnknownOrder c refl, (unless_other _ refusal.OrderNotWaiting c refl, tt)) e
-other_refusals s command.Run c m e = told_by_none c (checks s command.Run) (when_other _ refusal.NothingToMove c refl, (when_other _ refusal.Full c refl, tt)) e
-other_refusals s command.Reshelve c m e = told_by_none c (checks s command.Reshelve) (when_other _ refusal.NothingToMove c refl, tt) e
-other_refusals s (command.Issue k t) c m e = told_by_none c (checks s (command.Issue k t)) (unless_other _ refusal.UnknownContainer c refl, (unless_other _ refusal.NotAtDesk c refl, (unless_other _ refusal.NotFirst c refl, (when_other _ refusal.TicketExpired c refl, (unless_other _ refusal.NotSeated c refl, (when_other _ refusal.HandsFull c refl, (unless_other _ refusal.NotAvailable c refl, tt))))))) e
-other_refusals s (command.Return k) c m e = told_by_none c (checks s (command.Return k)) (unless_other _ refusal.UnknownContainer c refl, (unless_other _ refusal.NotIssued c refl, tt)) e
-other_refusals s (command.Permit t u until) c m e = told_by_none c (checks s (command.Permit t u until)) (unless_other _ refusal.UnknownTicket c refl, (unless_other _ refusal.UnknownUnit c refl, (when_other _ refusal.Full c refl, tt))) e
+other_refusals : (s : State) (asked : Command) (c : ℕ) → may_withhold asked ≡ false
+    → refusal_of s asked ≡ Some (WithReader c) → ⊥
+other_refusals s (command.OpenDay day) c m e =
+    told_by_none c (checks s (command.OpenDay day)) (unless_other _ refusal.DayNotLater c refl, (when_other _ refusal.StillIssued c refl, tt)) e
+other_refusals s (command.Register name until) c m e =
+    told_by_none c (checks s (command.Register name until)) (unless_other _ refusal.BadName c refl, (when_other _ refusal.Full c refl, tt)) e
+other_refusals s (command.Renew t until) c m e =
+    told_by_none c (checks s (command.Renew t until)) (unless_other _ refusal.UnknownTicket c refl, tt) e
+other_refusals s (command.TakeSeat t) c m e =
+    told_by_none c (checks s (command.TakeSeat t)) (unless_other _ refusal.UnknownTicket c refl, (when_other _ refusal.TicketExpired c refl, (when_other _ refusal.AlreadySeated c refl, (when_other _ refusal.NoSeatFree c refl, tt)))) e
+other_refusals s (command.LeaveSeat t) c m e =
+    told_by_none c (checks s (command.LeaveSeat t)) (unless_other _ refusal.UnknownTicket c refl, (unless_other _ refusal.NotSeated c refl, (when_other _ refusal.HoldsContainers c refl, tt))) e
+other_refusals s (command.Order t k) c m e =
+    told_by_none c (checks s (command.Order t k)) (unless_other _ refusal.UnknownTicket c refl, (when_other _ refusal.TicketExpired c refl, (unless_other _ refusal.NotAvailable c refl, (when_other _ refusal.AlreadyOrdered c refl, (when_other _ refusal.DailyLimit c refl, (when_other _ refusal.Full c refl, tt)))))) e
+other_refusals s (command.Cancel o) c m e =
+    told_by_none c (checks s (command.Cancel o)) (unless_other _ refusal.UnknownOrder c refl, (unless_other _ refusal.OrderNotWaiting c refl, tt)) e
+other_refusals s command.Run c m e =
+    told_by_none c (checks s command.Run) (when_other _ refusal.NothingToMove c refl, (when_other _ refusal.Full c refl, tt)) e
+other_refusals s command.Reshelve c m e =
+    told_by_none c (checks s command.Reshelve) (when_other _ refusal.NothingToMove c refl, tt) e
+other_refusals s (command.Issue k t) c m e =
+    told_by_none c (checks s (command.Issue k t)) (unless_other _ refusal.UnknownContainer c refl, (unless_other _ refusal.NotAtDesk c refl, (unless_other _ refusal.NotFirst c refl, (when_other _ refusal.TicketExpired c refl, (unless_other _ refusal.NotSeated c refl, (when_other _ refusal.HandsFull c refl, (unless_other _ refusal.NotAvailable c refl, tt))))))) e
+other_refusals s (command.Return k) c m e =
+    told_by_none c (checks s (command.Return k)) (unless_other _ refusal.UnknownContainer c refl, (unless_other _ refusal.NotIssued c refl, tt)) e
+other_refusals s (command.Permit t u until) c m e =
+    told_by_none c (checks s (command.Permit t u until)) (unless_other _ refusal.UnknownTicket c refl, (unless_other _ refusal.UnknownUnit c refl, (when_other _ refusal.Full c refl, tt))) e
 other_refusals s (command.Import source file) c m e = absurd (false≢true (sym m))
 other_refusals s (command.SetStatus u draft whole) c m e = absurd (false≢true (sym m))
 other_refusals s (command.SetClosure u until) c m e = absurd (false≢true (sym m))
@@ -440,4 +455,5 @@ other_refusals s (command.Remove u) c m e = absurd (false≢true (sym m))
 other_refusals s (command.Revoke t u) c m e = absurd (false≢true (sym m))
 
 pub asks_for_none : (s : State) (asked : Command) → may_withhold asked ≡ false → AsksForNone s asked
-asks_for_none s asked m c e = other_refusals s asked c m (refused_so (refusal_of s asked) s (after s asked) (result_of s asked) (WithReader c) e)
+asks_for_none s asked m c e =
+    other_refusals s asked c m (refused_so (refusal_of s asked) s (after s asked) (result_of s asked) (WithReader c) e)

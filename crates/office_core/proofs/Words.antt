@@ -1,11 +1,7 @@
 -- Lemmas on the words of the rules.
 use Rattle.std.proofs.Common.{◌≡◌, ◌≢◌, ℕ, zero, suc, ◌<◌, ◌≤◌, Bool, true, false, not, cond, ◌||◌, List, [], ◌∷◌, ◌++◌, length, Some, None, refl, sym, ap, ◌∙◌, subst, inl, inr, arith}
-use Rattle.std.specs.Prelude.{nat_eq, is_some}
-use Rattle.std.specs.List.{AllByRecursion}
-use Rattle.std.proofs.lemmas.Bool.{eqb-true, ne_eqb, eq-eqb, cases_eq, false≢true, or_right}
-use Rattle.office_core.specs.Words.{nth, update_at, stands, without}
-use Rattle.office_core.specs.SoundDesk.{IsAscending}
 use Rattle.std.proofs.Math.Bool.{or-false}
+use Rattle.office_core.proofs.Common.{AllByRecursion, IsAscending, cases_eq, eq-eqb, eqb-true, false≢true, is_some, nat_eq, ne_eqb, nth, or_right, stands, update_at, without}
 
 pub same_number : (n : ℕ) → nat_eq n n ≡ true
 same_number n = eq-eqb n n refl
@@ -20,7 +16,8 @@ pub put_there : {X : Type 0} (f : ℕ → X) (n : ℕ) (x : X) (m : ℕ) → m �
 put_there f n x m h = ap (λ b. cond b x (f m)) (other_number n m (λ e. h (sym e)))
 
 -- what holds at n with the new value and elsewhere with the old one
-pub put_each : {X : Type 0} (P : ℕ → X → Type 0) (f : ℕ → X) (n : ℕ) (x : X) → P n x → ((m : ℕ) → m ≢ n → P m (f m)) → (m : ℕ) → P m (update_at f n x m)
+pub put_each : {X : Type 0} (P : ℕ → X → Type 0) (f : ℕ → X) (n : ℕ) (x : X) → P n x → ((m : ℕ) → m ≢ n → P m (f m))
+    → (m : ℕ) → P m (update_at f n x m)
 put_each P f n x here there m =
     elim (cases_eq m n) [
       | inl e ↦ subst (λ k. P k (update_at f n x k)) (sym e) (subst (P n) (sym (put_here f n x)) here)
@@ -35,15 +32,19 @@ pub stands-push : (o n : ℕ) (ns : List ℕ) → stands o (ns ++ n ∷ []) ≡ 
 stands-push o n [] = or-false (nat_eq o n)
 stands-push o n (m ∷ ms) = ap (λ b. nat_eq o m || b) (stands-push o n ms) ∙ sym (or_assoc (nat_eq o m) (stands o ms) (nat_eq o n))
 
-kept_or_not : (o n m : ℕ) (rest : List ℕ) (b : Bool) → nat_eq n m ≡ b → o ≢ n → stands o rest ≡ stands o (without n rest) → (nat_eq o m || stands o rest) ≡ stands o (cond (not b) (m ∷ without n rest) (without n rest))
+kept_or_not : (o n m : ℕ) (rest : List ℕ) (b : Bool) → nat_eq n m ≡ b → o ≢ n
+    → stands o rest ≡ stands o (without n rest)
+    → (nat_eq o m || stands o rest) ≡ stands o (cond (not b) (m ∷ without n rest) (without n rest))
 kept_or_not o n m rest true e h ih = ap (λ b. b || stands o rest) (other_number o m (λ k. h (k ∙ sym (eqb-true n m e)))) ∙ ih
 kept_or_not o n m rest false e h ih = ap (λ b. nat_eq o m || b) ih
 
 pub stands-without_other : (o n : ℕ) (ns : List ℕ) → o ≢ n → stands o (without n ns) ≡ stands o ns
 stands-without_other o n [] h = refl
-stands-without_other o n (m ∷ ms) h = sym (kept_or_not o n m ms (nat_eq n m) refl h (sym (stands-without_other o n ms h)))
+stands-without_other o n (m ∷ ms) h =
+    sym (kept_or_not o n m ms (nat_eq n m) refl h (sym (stands-without_other o n ms h)))
 
-gone_or_not : (n m : ℕ) (rest : List ℕ) (b : Bool) → nat_eq n m ≡ b → stands n rest ≡ false → stands n (cond (not b) (m ∷ rest) rest) ≡ false
+gone_or_not : (n m : ℕ) (rest : List ℕ) (b : Bool) → nat_eq n m ≡ b → stands n rest ≡ false
+    → stands n (cond (not b) (m ∷ rest) rest) ≡ false
 gone_or_not n m rest true e ih = ih
 gone_or_not n m rest false e ih = ap (λ b. b || stands n rest) e ∙ ih
 
@@ -57,7 +58,8 @@ pub below_none : (n : ℕ) (ms : List ℕ) → AllByRecursion (λ m. n < m) ms �
 below_none n [] h = refl
 below_none n (m ∷ ms) h = ap (λ b. b || stands n ms) (other_number n m (λ e. omega (arith, h.0, e))) ∙ below_none n ms h.1
 
-all_without_at : (P : ℕ → Type 0) (n m : ℕ) (ms : List ℕ) (b : Bool) → P m → AllByRecursion P ms → AllByRecursion P (cond b (m ∷ ms) ms)
+all_without_at : (P : ℕ → Type 0) (n m : ℕ) (ms : List ℕ) (b : Bool) → P m → AllByRecursion P ms
+    → AllByRecursion P (cond b (m ∷ ms) ms)
 all_without_at P n m ms true p h = (p, h)
 all_without_at P n m ms false p h = h
 
@@ -65,19 +67,22 @@ pub all_without : (P : ℕ → Type 0) (n : ℕ) (ms : List ℕ) → AllByRecurs
 all_without P n [] h = tt
 all_without P n (m ∷ ms) h = all_without_at P n m (without n ms) (not (nat_eq n m)) h.0 (all_without P n ms h.1)
 
-pub ascending_at : (m : ℕ) (ms : List ℕ) (b : Bool) → AllByRecursion (λ k. m < k) ms → IsAscending ms → IsAscending (cond b (m ∷ ms) ms)
+pub ascending_at : (m : ℕ) (ms : List ℕ) (b : Bool) → AllByRecursion (λ k. m < k) ms → IsAscending ms
+    → IsAscending (cond b (m ∷ ms) ms)
 ascending_at m ms true h a = (h, a)
 ascending_at m ms false h a = a
 
 pub ascending-without : (n : ℕ) (ms : List ℕ) → IsAscending ms → IsAscending (without n ms)
 ascending-without n [] h = tt
-ascending-without n (m ∷ ms) h = ascending_at m (without n ms) (not (nat_eq n m)) (all_without (λ k. m < k) n ms h.0) (ascending-without n ms h.1)
+ascending-without n (m ∷ ms) h =
+    ascending_at m (without n ms) (not (nat_eq n m)) (all_without (λ k. m < k) n ms h.0) (ascending-without n ms h.1)
 
 pub all-push : (P : ℕ → Type 0) (ms : List ℕ) (n : ℕ) → AllByRecursion P ms → P n → AllByRecursion P (ms ++ n ∷ [])
 all-push P [] n h p = (p, tt)
 all-push P (m ∷ ms) n h p = (h.0, all-push P ms n h.1 p)
 
-pub ascending-push : (ms : List ℕ) (n : ℕ) → IsAscending ms → AllByRecursion (λ m. m < n) ms → IsAscending (ms ++ n ∷ [])
+pub ascending-push : (ms : List ℕ) (n : ℕ) → IsAscending ms → AllByRecursion (λ m. m < n) ms
+    → IsAscending (ms ++ n ∷ [])
 ascending-push [] n a h = (tt, tt)
 ascending-push (m ∷ ms) n a h = (all-push (λ k. m < k) ms n a.0 h.0, ascending-push ms n a.1 h.1)
 

@@ -1,23 +1,14 @@
 -- How a call of one step or several ends, by how its steps ended.
-use Rattle.std.proofs.Common.{◌≡◌, inl, ℕ, List, Ok, Err, Result, sym, ap, subst, IfErr, OnErr, OnOk, refl}
-use Rattle.std.specs.Prelude.{IsErr, IsErrAnd}
+use Rattle.std.proofs.Common.{◌≡◌, ℕ, List, Ok, Err, Result, sym, ap, subst, IfErr, OnErr, OnOk, refl}
 use Rattle.sqlite_trees.specs.declared.store.Store as store
-use Rattle.sqlite.specs.Effect.{Database}
-use Rattle.sqlite.specs.Held.{Held, state}
-use Rattle.sqlite.specs.State.{State, HasCleanDisk}
 use Rattle.office_tables.specs.Calls.{Updates, Answers}
-use Rattle.office_tables.specs.Faults.{IsUnlimited, HasCause, FaultsHaveCause, BlamesDisk}
-use Rattle.office_tables.specs.Step.{Continues, IsAborted, Goes, LeavesUnchanged, OnlyTouches, Spares, IsSame}
-use Rattle.office_tables.specs.declared.fault.StoreFault.{StoreFault}
-use Rattle.office_tables.specs.declared.fault.StoreFault.TheVariants as fault
+use Rattle.office_tables.specs.Faults.{HasCause}
+use Rattle.office_tables.proofs.Common.{BlamesDisk, Continues, Database, FaultsHaveCause, Goes, HasCleanDisk, Held, IsAborted, IsErr, IsErrAnd, IsSame, IsUnlimited, Leaves, LeavesMaking, LeavesOr, LeavesUnchanged, OnlyTouches, Reads, Spares, State, StoreFault, state}
 use Rattle.office_tables.proofs.Causes.{still_unlimited}
 use Rattle.office_tables.proofs.LaterCauses.{last_cause, next_cause}
-use Rattle.office_tables.specs.ChangeStatement.{Leaves, LeavesOr}
 use Rattle.office_tables.proofs.Sparing.{untouched_last, looked_spares, touched_spares}
-use Rattle.office_tables.specs.Creation.{LeavesMaking}
-use Rattle.office_tables.proofs.Calls.{early, continues_then, cut_after, cut_then, on_err_then, on_ok_then, goes_then}
+use Rattle.office_tables.proofs.Calls.{early, continues_then, cut_then, on_err_then, on_ok_then, goes_then}
 use Rattle.office_tables.proofs.WriteCauses.{disk_then, last_disk}
-use Rattle.office_tables.specs.Query.{Reads}
 
 -- ---- a fault that is handed on, on tables that show a model
 
@@ -27,8 +18,10 @@ same_fault (Ok x) e h k = absurd (cc)
 same_fault (Err f) e h k = ap Err k
 
 -- its last step fails, after others that succeeded
-pub excused_then : {X : Type 0} (a b c : State) → Continues a b → (r : Result X StoreFault) → OnErr r (IsAborted b c) → (HasCleanDisk b → FaultsHaveCause b c r) → FaultsHaveCause a c r
-excused_then a b c on r cut why clean free = last_cause a b c on r cut clean (λ before. why before clean (still_unlimited a b on free))
+pub excused_then : {X : Type 0} (a b c : State) → Continues a b → (r : Result X StoreFault) → OnErr r (IsAborted b c)
+    → (HasCleanDisk b → FaultsHaveCause b c r) → FaultsHaveCause a c r
+excused_then a b c on r cut why clean free =
+    last_cause a b c on r cut clean (λ before. why before clean (still_unlimited a b on free))
 
 module _ {S X Stays Model : Type 0} (g : store.Ghosts S) (represents : Database → Stays → Model → Type 0) (kept : Model → Type 0) (may : Model → Type 0) (before after : Held S) (r : Result X StoreFault) where
   abbrev old : State
@@ -39,13 +32,15 @@ module _ {S X Stays Model : Type 0} (g : store.Ghosts S) (represents : Database 
 
   -- it ends with a fault
   pub tells_not : (answer : Stays → Model → X → Type 0) (e : StoreFault) → r ≡ Err e → IsAborted old new
-      → ((s : Stays) (m : Model) → represents old.now s m → may m → kept m → HasCleanDisk new → IsUnlimited old → HasCause old new e) → Answers g represents kept before after r may answer
+      → ((s : Stays) (m : Model) → represents old.now s m → may m → kept m → HasCleanDisk new → IsUnlimited old → HasCause old new e)
+      → Answers g represents kept before after r may answer
   tells_not answer e is cut why =
       subst (λ (r : Result X StoreFault). Answers g represents kept before after r may answer) (sym is)
       (record { answers = λ clean s m shown. tt; looks = tt; aborts = cut; faults = λ s m shown may kept clean free. why s m shown may kept clean free })
 
   pub makes_not : (made : Model → Model) (touched : List ℕ) (e : StoreFault) → r ≡ Err e → IsAborted old new
-      → ((s : Stays) (m : Model) → represents old.now s m → may m → kept m → HasCleanDisk new → IsUnlimited old → HasCause old new e) → Updates g represents kept before after r may made touched
+      → ((s : Stays) (m : Model) → represents old.now s m → may m → kept m → HasCleanDisk new → IsUnlimited old → HasCause old new e)
+      → Updates g represents kept before after r may made touched
   makes_not made touched e is cut why =
       subst (λ (r : Result X StoreFault). Updates g represents kept before after r may made touched) (sym is)
       (record { represents_updated = λ clean s m shown may. tt; only = λ clean. tt; goes = tt; aborts = cut; faults = λ s m shown may kept clean free. why s m shown may kept clean free })
@@ -53,19 +48,20 @@ module _ {S X Stays Model : Type 0} (g : store.Ghosts S) (represents : Database 
 -- ---- a call of several steps that writes
 
 -- all of them succeeded
-pub left_well : {X : Type 0} (touched : List ℕ) (a b : State) → Goes a b → {x : X} → LeavesOr (OnlyTouches touched) a b (Ok x)
+pub left_well : {X : Type 0} (touched : List ℕ) (a b : State) → Goes a b → {x : X}
+    → LeavesOr (OnlyTouches touched) a b (Ok x)
 left_well touched a b went = record { crash = went.on.crash; goes = went; aborts = tt; spares = λ clean. tt }
 
--- the rows are not ours
-pub left_known : {X : Type 0} (touched : List ℕ) (a b : State) → Goes a b → (HasCleanDisk b → OnlyTouches touched a.now b.now) → LeavesOr {X = X} (OnlyTouches touched) a b (Err fault.Schema)
-left_known touched a b went only = record { crash = went.on.crash; goes = tt; aborts = cut_after a b went.on; spares = λ clean. record { disk = tt; rows = inl (only clean) } }
-
 -- it ends with a fault
-pub left_by : {X : Type 0} (touched : List ℕ) (a b : State) (r : Result X StoreFault) (e : StoreFault) → r ≡ Err e → IsAborted a b → (HasCleanDisk b → Spares (OnlyTouches touched) a b e) → LeavesOr (OnlyTouches touched) a b r
-left_by {X} touched a b r e is cut spares = subst (LeavesOr {X = X} (OnlyTouches touched) a b) (sym is) (record { crash = cut.crash; goes = tt; aborts = cut; spares = spares })
+pub left_by : {X : Type 0} (touched : List ℕ) (a b : State) (r : Result X StoreFault) (e : StoreFault) → r ≡ Err e
+    → IsAborted a b → (HasCleanDisk b → Spares (OnlyTouches touched) a b e) → LeavesOr (OnlyTouches touched) a b r
+left_by {X} touched a b r e is cut spares =
+    subst (LeavesOr {X = X} (OnlyTouches touched) a b) (sym is) (record { crash = cut.crash; goes = tt; aborts = cut; spares = spares })
 
 -- one of them failed
-pub left_fault : {X : Type 0} (touched : List ℕ) (a b c : State) → Goes a b → (HasCleanDisk b → OnlyTouches touched a.now b.now) → (r : Result X StoreFault) (e : StoreFault) → r ≡ Err e → IsAborted b c → (HasCleanDisk c → Spares (OnlyTouches touched) b c e)
+pub left_fault : {X : Type 0} (touched : List ℕ) (a b c : State) → Goes a b
+    → (HasCleanDisk b → OnlyTouches touched a.now b.now) → (r : Result X StoreFault) (e : StoreFault) → r ≡ Err e
+    → IsAborted b c → (HasCleanDisk c → Spares (OnlyTouches touched) b c e)
     → LeavesOr (OnlyTouches touched) a c r
 left_fault {X} touched a b c went only r e is aborted spares =
     let cut = cut_then a b c went.on aborted in
@@ -75,17 +71,23 @@ left_fault {X} touched a b c went only r e is aborted spares =
 -- ---- a call that makes tables
 
 -- it ends with a fault
-pub making_not : {X : Type 0} (a b : State) (r : Result X StoreFault) (e : StoreFault) → r ≡ Err e → IsAborted a b → (HasCleanDisk b → BlamesDisk a b e) → (HasCleanDisk b → IsUnlimited a → HasCause a b e) → LeavesMaking a b r
-making_not {X} a b r e is cut blames why = subst (LeavesMaking {X = X} a b) (sym is) (record { goes = tt; aborts = cut; disk = blames; faults = why })
+pub making_not : {X : Type 0} (a b : State) (r : Result X StoreFault) (e : StoreFault) → r ≡ Err e → IsAborted a b
+    → (HasCleanDisk b → BlamesDisk a b e) → (HasCleanDisk b → IsUnlimited a → HasCause a b e) → LeavesMaking a b r
+making_not {X} a b r e is cut blames why =
+    subst (LeavesMaking {X = X} a b) (sym is) (record { goes = tt; aborts = cut; disk = blames; faults = why })
 
 -- after steps that succeeded
-pub making_then : {X : Type 0} (a b c : State) → Continues a b → (r : Result X StoreFault) (e : StoreFault) → r ≡ Err e → IsAborted b c → (HasCleanDisk c → BlamesDisk b c e) → (HasCleanDisk c → IsUnlimited b → HasCause b c e) → LeavesMaking a c r
+pub making_then : {X : Type 0} (a b c : State) → Continues a b → (r : Result X StoreFault) (e : StoreFault) → r ≡ Err e
+    → IsAborted b c → (HasCleanDisk c → BlamesDisk b c e) → (HasCleanDisk c → IsUnlimited b → HasCause b c e)
+    → LeavesMaking a c r
 making_then a b c on r e is cut blames why =
     making_not a c r e is (cut_then a b c on cut) (λ clean. disk_then a b c on (early b c _ cut.crash clean) e (blames clean))
     (λ clean free. next_cause a b c on cut clean e (λ _. why clean (still_unlimited a b on free)))
 
 -- its last step, whose result is the call's
-pub making_last : {X : Type 0} (a b c : State) → Continues a b → (r : Result X StoreFault) → OnOk r (Continues b c) → OnErr r (IsAborted b c) → (HasCleanDisk c → IfErr r (BlamesDisk b c)) → (HasCleanDisk b → FaultsHaveCause b c r) → LeavesMaking a c r
+pub making_last : {X : Type 0} (a b c : State) → Continues a b → (r : Result X StoreFault) → OnOk r (Continues b c)
+    → OnErr r (IsAborted b c) → (HasCleanDisk c → IfErr r (BlamesDisk b c)) → (HasCleanDisk b → FaultsHaveCause b c r)
+    → LeavesMaking a c r
 making_last a b c on r goes cut blames why = record {
   goes = on_ok_then r (Continues b c) (Continues a c) (continues_then a b c on) goes;
   aborts = on_err_then r (IsAborted b c) (IsAborted a c) (cut_then a b c on) cut;
@@ -100,23 +102,32 @@ pub read_well : {X : Type 0} (a b : State) → LeavesUnchanged a b → {x : X} �
 read_well a b looked = record { crash = looked.goes.on.crash; looks = looked; aborts = tt; spares = λ clean. tt }
 
 -- it ends with a fault
-pub read_not : {X : Type 0} (a b : State) (r : Result X StoreFault) (e : StoreFault) → r ≡ Err e → IsAborted a b → (HasCleanDisk b → Spares IsSame a b e) → Reads a b r
-read_not a b r e is cut spares = subst (Reads a b) (sym is) (record { crash = cut.crash; looks = tt; aborts = cut; spares = spares })
+pub read_not : {X : Type 0} (a b : State) (r : Result X StoreFault) (e : StoreFault) → r ≡ Err e → IsAborted a b
+    → (HasCleanDisk b → Spares IsSame a b e) → Reads a b r
+read_not a b r e is cut spares =
+    subst (Reads a b) (sym is) (record { crash = cut.crash; looks = tt; aborts = cut; spares = spares })
 
 -- after a look
-pub read_cut : {X : Type 0} (a b c : State) (r : Result X StoreFault) (e : StoreFault) → r ≡ Err e → LeavesUnchanged a b → IsAborted b c → (HasCleanDisk c → Spares IsSame b c e) → Reads a c r
-read_cut a b c r e is looked cut spares = read_not a c r e is (cut_then a b c looked.goes.on cut) (λ clean. looked_spares a b c looked (early b c _ cut.crash clean) e (spares clean))
+pub read_cut : {X : Type 0} (a b c : State) (r : Result X StoreFault) (e : StoreFault) → r ≡ Err e → LeavesUnchanged a b
+    → IsAborted b c → (HasCleanDisk c → Spares IsSame b c e) → Reads a c r
+read_cut a b c r e is looked cut spares =
+    read_not a c r e is (cut_then a b c looked.goes.on cut) (λ clean. looked_spares a b c looked (early b c _ cut.crash clean) e (spares clean))
 
 -- ---- a call that writes
 
 -- its last step leaves the transaction so, after others that went well
-pub leaves_last : {X : Type 0} (touched : List ℕ) (a b c : State) (r : Result X StoreFault) → Goes a b → (HasCleanDisk b → OnlyTouches touched a.now b.now) → LeavesOr (OnlyTouches touched) b c r → LeavesOr (OnlyTouches touched) a c r
+pub leaves_last : {X : Type 0} (touched : List ℕ) (a b c : State) (r : Result X StoreFault) → Goes a b
+    → (HasCleanDisk b → OnlyTouches touched a.now b.now) → LeavesOr (OnlyTouches touched) b c r
+    → LeavesOr (OnlyTouches touched) a c r
 leaves_last touched a b c (Ok x) went only last = left_well touched a c (goes_then a b c went last.goes)
-leaves_last touched a b c (Err e) went only last = left_fault touched a b c went only (Err e) e refl last.aborts last.spares
+leaves_last touched a b c (Err e) went only last =
+    left_fault touched a b c went only (Err e) e refl last.aborts last.spares
 
 -- a statement touches no table where it fails
-pub leaves_part : {X : Type 0} (touched : List ℕ) (a b : State) (r : Result X StoreFault) → Leaves a b r → LeavesOr (OnlyTouches touched) a b r
-leaves_part touched a b r it = record { crash = it.crash; goes = it.goes; aborts = it.aborts; spares = λ clean. untouched_last touched a b r (it.spares clean) }
+pub leaves_part : {X : Type 0} (touched : List ℕ) (a b : State) (r : Result X StoreFault) → Leaves a b r
+    → LeavesOr (OnlyTouches touched) a b r
+leaves_part touched a b r it =
+    record { crash = it.crash; goes = it.goes; aborts = it.aborts; spares = λ clean. untouched_last touched a b r (it.spares clean) }
 
 -- ---- a call on tables that show a model, of which a later step fails
 
@@ -134,11 +145,17 @@ module _ {S X Stays Model : Type 0} (g : store.Ghosts S) (represents : Database 
   abbrev Why : StoreFault → Type 0
   Why e = (s : Stays) (m : Model) → represents a.now s m → may m → kept m → HasCleanDisk b → HasCleanDisk c → IsUnlimited b → HasCause b c e
 
-  then_caused : (e : StoreFault) → Continues a b → IsAborted b c → Why e → (s : Stays) (m : Model) → represents a.now s m → may m → kept m → HasCleanDisk c → IsUnlimited a → HasCause a c e
-  then_caused e on cut why s m shown allowed within clean free = next_cause a b c on cut clean e (λ cleaner. why s m shown allowed within cleaner clean (still_unlimited a b on free))
+  then_caused : (e : StoreFault) → Continues a b → IsAborted b c → Why e → (s : Stays) (m : Model)
+      → represents a.now s m → may m → kept m → HasCleanDisk c → IsUnlimited a → HasCause a c e
+  then_caused e on cut why s m shown allowed within clean free =
+      next_cause a b c on cut clean e (λ cleaner. why s m shown allowed within cleaner clean (still_unlimited a b on free))
 
-  pub tells_cut : (answer : Stays → Model → X → Type 0) (e : StoreFault) → r ≡ Err e → LeavesUnchanged a b → IsAborted b c → Why e → Answers g represents kept before after r may answer
-  tells_cut answer e is looked cut why = tells_not g represents kept may before after r answer e is (cut_then a b c looked.goes.on cut) (then_caused e looked.goes.on cut why)
+  pub tells_cut : (answer : Stays → Model → X → Type 0) (e : StoreFault) → r ≡ Err e → LeavesUnchanged a b
+      → IsAborted b c → Why e → Answers g represents kept before after r may answer
+  tells_cut answer e is looked cut why =
+      tells_not g represents kept may before after r answer e is (cut_then a b c looked.goes.on cut) (then_caused e looked.goes.on cut why)
 
-  pub makes_cut : (made : Model → Model) (touched : List ℕ) (e : StoreFault) → r ≡ Err e → Continues a b → IsAborted b c → Why e → Updates g represents kept before after r may made touched
-  makes_cut made touched e is on cut why = makes_not g represents kept may before after r made touched e is (cut_then a b c on cut) (then_caused e on cut why)
+  pub makes_cut : (made : Model → Model) (touched : List ℕ) (e : StoreFault) → r ≡ Err e → Continues a b → IsAborted b c
+      → Why e → Updates g represents kept before after r may made touched
+  makes_cut made touched e is on cut why =
+      makes_not g represents kept may before after r made touched e is (cut_then a b c on cut) (then_caused e on cut why)

@@ -1,19 +1,10 @@
 -- What one statement leaves of the caller's transaction, for a text whose meaning is known.
 use Rattle.std.proofs.Common.{◌≡◌, ◌⊎◌, inl, inr, ℕ, List, Bool, true, false, IsTrue, Ok, Err, Result, OnOk, OnErr, None, refl, sym, ap, arith, subst, subst₂, ◌∙◌, append-nil, if◌then◌else◌}
-use Rattle.sqlite.specs.Order.{Row}
-use Rattle.sqlite.specs.Schema.{Schema}
-use Rattle.sqlite.specs.Tree.{Trees}
-use Rattle.sqlite.specs.Command.{Command}
-use Rattle.sqlite.specs.Command.TheVariants.{Insert, Update, Delete, CreateTable, CreateIndex}
-use Rattle.sqlite.specs.declared.error.Error.{Error}
+use Rattle.sqlite.specs.Command.TheVariants.{Delete}
 use Rattle.sqlite.specs.Listing.{understood}
-use Rattle.sqlite.specs.State.{State, HasCleanDisk, IsUnchanged, Survives, Shown, Shows, Executes, FailsToQuery, CommitsBy, MayCommit, CommitsShowing}
-use Rattle.sqlite.proofs.Callers.{IsPlain, command_of, statement_of, never_commits}
-use Rattle.sqlite.proofs.StateLemmas.{survives_weaker, survives_then}
+use Rattle.sqlite.specs.State.{Shown, FailsToQuery, CommitsBy}
 use Rattle.office_tables.specs.Versions.{Version}
-use Rattle.office_tables.specs.Schema.{schema}
-use Rattle.office_tables.specs.Step.{InTransaction, InOffice, GoesOn, IsBack, Continues, Goes, IsAborted, LeavesUnchanged}
-use Rattle.office_tables.specs.Transactions.{IsStopped}
+use Rattle.office_tables.proofs.Common.{Command, CommitsShowing, Continues, CreateIndex, CreateTable, Error, Executes, Goes, GoesOn, HasCleanDisk, InOffice, InTransaction, Insert, IsAborted, IsBack, IsPlain, IsStopped, IsUnchanged, LeavesUnchanged, MayCommit, Row, Schema, Shows, State, Survives, Trees, Update, command_of, never_commits, schema, statement_of, survives_then, survives_weaker}
 use Rattle.office_tables.proofs.Errors.{stops, fails, keeps}
 
 pub early : (old new : State) (P : Trees → Type 0) → Survives old new P → HasCleanDisk new → HasCleanDisk old
@@ -60,7 +51,8 @@ pub cut_after : (a b : State) → Continues a b → IsAborted a b
 cut_after a b p = record { crash = p.crash; aborts = λ clean. inl (p.within clean) }
 
 pub still : (version : Version) (a b : State) → InTransaction version a → Goes a b → InTransaction version b
-still version a b inside p clean = (p.schema clean ∙ (inside (early a b _ p.on.crash clean)).0, (p.on.within clean).mode ∙ (inside (early a b _ p.on.crash clean)).1)
+still version a b inside p clean =
+    (p.schema clean ∙ (inside (early a b _ p.on.crash clean)).0, (p.on.within clean).mode ∙ (inside (early a b _ p.on.crash clean)).1)
 
 pub looks_then : (a b c : State) → LeavesUnchanged a b → LeavesUnchanged b c → LeavesUnchanged a c
 looks_then a b c p q = record { goes = goes_then a b c p.goes q.goes; same = λ clean. q.same clean ∙ p.same (early b c _ q.goes.on.crash clean) }
@@ -91,9 +83,11 @@ unchanged_on a b inside same =
 
 pub stopped : (a b : State) → IsTrue a.in_transaction → IsStopped a b → GoesOn a b ⊎ IsBack a b
 stopped a b inside (inl same) = inl (unchanged_on a b inside same)
-stopped a b inside (inr back) = inr (record { was_open = back.was_open; now = λ h. (back.undone h).0; committed = λ h. (back.undone h).1; ended = back.autocommit })
+stopped a b inside (inr back) =
+    inr (record { was_open = back.was_open; now = λ h. (back.undone h).0; committed = λ h. (back.undone h).1; ended = back.autocommit })
 
-shown_on : (a b : State) → IsTrue a.in_transaction → Shows a b b.now (if a.in_transaction then a.committed else b.now) a.in_transaction → GoesOn a b
+shown_on : (a b : State) → IsTrue a.in_transaction
+    → Shows a b b.now (if a.in_transaction then a.committed else b.now) a.in_transaction → GoesOn a b
 shown_on a b inside it = record {
   opened = both_open a b it.was_open it.is_open;
   committed = it.committed_is ∙ ap (λ k. if k then a.committed else b.now) inside;
@@ -106,14 +100,18 @@ pub record Knows (sql : List ℕ) (command : Command) (old : State) : Type 0 whe
   pub plain : IsPlain (understood old.now.schema sql)
   pub inside : IsTrue old.in_transaction
 
-pub known_in : (schema : Schema) (sql : List ℕ) (command : Command) (old : State) → old.now.schema ≡ schema → IsTrue old.in_transaction → command_of (understood schema sql) ≡ command → IsPlain (understood schema sql) → Knows sql command old
+pub known_in : (schema : Schema) (sql : List ℕ) (command : Command) (old : State) → old.now.schema ≡ schema
+    → IsTrue old.in_transaction → command_of (understood schema sql) ≡ command → IsPlain (understood schema sql)
+    → Knows sql command old
 known_in schema sql command old has inside is plain = record {
   is = ap (λ s. command_of (understood s sql)) has ∙ is;
   plain = subst (λ s. IsPlain (understood s sql)) (sym has) plain;
   inside = inside;
 }
 
-pub in_office : (sql : List ℕ) (command : Command) (old : State) → InOffice old → ((v : Version) → command_of (understood (schema v) sql) ≡ command) → ((v : Version) → IsPlain (understood (schema v) sql))
+pub in_office : (sql : List ℕ) (command : Command) (old : State) → InOffice old
+    → ((v : Version) → command_of (understood (schema v) sql) ≡ command)
+    → ((v : Version) → IsPlain (understood (schema v) sql))
     → HasCleanDisk old → Knows sql command old
 in_office sql command old office is plain clean = let it = office clean in known_in (schema it.0) sql command old it.1 it.2 (is it.0) (plain it.0)
 
@@ -121,14 +119,16 @@ pub office_of : (v : Version) (a : State) → InTransaction v a → InOffice a
 office_of v a inside clean = (v, (inside clean).0, (inside clean).1)
 
 module _ (sql : List ℕ) (params : Row) (old new : State) (command : Command) (writes : is_write command ≡ true) (known : HasCleanDisk old → Knows sql command old) where
-  commits_as : Knows sql command old → (db : Trees) → CommitsBy sql params old db → MayCommit old None command (statement_of sql (understood old.now.schema sql)) params db
+  commits_as : Knows sql command old → (db : Trees) → CommitsBy sql params old db
+      → MayCommit old None command (statement_of sql (understood old.now.schema sql)) params db
   unfolding CommitsBy
   commits_as it db h =
       let known = sym h.1.is in
       let bare = subst IsPlain (sym known) it.plain in
       subst₂ (λ k t. MayCommit old None k t params db) (ap command_of known ∙ it.is) (ap (statement_of sql) known) (rw (bare.0, bare.1, append-nil params) at h.2)
 
-  alone : (k : Command) (text : List ℕ) (db : Trees) → is_write k ≡ true → MayCommit old None k text params db → old.in_transaction ≡ false
+  alone : (k : Command) (text : List ℕ) (db : Trees) → is_write k ≡ true → MayCommit old None k text params db
+      → old.in_transaction ≡ false
   alone k text db row (inl end) = elim end.0 [ inl e ↦ absurd (let h = sym row ∙ ap is_write e in cc) | inr e ↦ absurd (let h = sym row ∙ ap is_write e.2 in cc) ]
   alone k text db row (inr write) = write.0
 
@@ -139,11 +139,14 @@ module _ (sql : List ℕ) (params : Row) (old new : State) (command : Command) (
   write_crash s = survives_weaker old new (CommitsBy sql params old) (λ _. ⊥)
       (λ clean db h. let it = known (early old new _ s clean) in never it.inside (alone command _ db writes (commits_as it db h))) s
 
-  pub write_cut : (e : Error) → (HasCleanDisk new → Executes sql params old new (Err e)) → Survives old new (CommitsBy sql params old) → IsAborted old new
+  pub write_cut : (e : Error) → (HasCleanDisk new → Executes sql params old new (Err e))
+      → Survives old new (CommitsBy sql params old) → IsAborted old new
   write_cut e runs s = record { crash = write_crash s; aborts = λ clean. stopped old new (known (early old new _ s clean)).inside (stops sql params old new e (runs clean)) }
 
-  pub write_continues : (HasCleanDisk new → Shows old new new.now (if old.in_transaction then old.committed else new.now) old.in_transaction) → Survives old new (CommitsBy sql params old) → Continues old new
-  write_continues done s = record { crash = write_crash s; within = λ clean. shown_on old new (known (early old new _ s clean)).inside (done clean) }
+  pub write_continues : (HasCleanDisk new → Shows old new new.now (if old.in_transaction then old.committed else new.now) old.in_transaction)
+      → Survives old new (CommitsBy sql params old) → Continues old new
+  write_continues done s =
+      record { crash = write_crash s; within = λ clean. shown_on old new (known (early old new _ s clean)).inside (done clean) }
 
 -- ---- queries
 
@@ -151,10 +154,12 @@ module _ (sql : List ℕ) (params : Row) (old new : State) (command : Command) (
   read_crash : Survives old new (CommitsShowing sql params old) → Survives old new (λ _. ⊥)
   read_crash s = survives_weaker old new _ _ (λ clean db h. never_commits sql params old db (known (early old new _ s clean)).plain h) s
 
-  pub read_cut : (e : Error) → (HasCleanDisk new → FailsToQuery sql params old new e) → Survives old new (CommitsShowing sql params old) → IsAborted old new
+  pub read_cut : (e : Error) → (HasCleanDisk new → FailsToQuery sql params old new e)
+      → Survives old new (CommitsShowing sql params old) → IsAborted old new
   read_cut e runs s = record { crash = read_crash s; aborts = λ clean. stopped old new (known (early old new _ s clean)).inside (fails sql params old new e (runs clean)) }
 
-  pub read_looks : (rows : List Row) → (HasCleanDisk new → Shown sql params old new rows) → Survives old new (CommitsShowing sql params old) → LeavesUnchanged old new
+  pub read_looks : (rows : List Row) → (HasCleanDisk new → Shown sql params old new rows)
+      → Survives old new (CommitsShowing sql params old) → LeavesUnchanged old new
   read_looks rows shown s =
       let same = λ (clean : HasCleanDisk new). keeps sql params old new rows (known (early old new _ s clean)).plain (shown clean) in
       record {
@@ -180,7 +185,8 @@ on_err_then (Err e) P Q f p = f p
 
 -- ---- a statement of an office
 
-pub write_went : (sql : List ℕ) (params : Row) (old new : State) (command : Command) (writes : is_write command ≡ true) → (HasCleanDisk old → Knows sql command old)
+pub write_went : (sql : List ℕ) (params : Row) (old new : State) (command : Command) (writes : is_write command ≡ true)
+    → (HasCleanDisk old → Knows sql command old)
     → (HasCleanDisk new → (v : Version) × (old.now.schema ≡ schema v) × (new.now.schema ≡ schema v) × Shows old new new.now (if old.in_transaction then old.committed else new.now) old.in_transaction)
     → Survives old new (CommitsBy sql params old) → Goes old new
 write_went sql params old new command writes known done s = record {

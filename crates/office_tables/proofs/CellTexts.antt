@@ -1,17 +1,14 @@
 -- What cells say, and that the texts which they say are UTF-8.
 use Rattle.std.proofs.Common.{◌≡◌, true, false, Bool, List, [], ◌∷◌, None, Some, Option, filter_map, cond, refl, ap, subst, IsUtf8, inl, inr}
-use Rattle.std.specs.List.{AllByRecursion, cons_option}
 use Rattle.std.specs.Str.{is_utf8}
-use Rattle.std.proofs.lemmas.Bool.{cases_Bool}
 use Rattle.std.proofs.lemmas.Str.{IsUtf8-from_is_utf8, is_utf8-from_IsUtf8}
-use Rattle.sqlite.specs.declared.types.Value.{Value}
-use Rattle.sqlite.specs.declared.types.Value.TheVariants.{Null, Int, Real, Text, Blob}
-use Rattle.sqlite.specs.Order.{Row}
 use Rattle.isad_core.specs.Texts.{Bytes}
 use Rattle.office_tables.specs.Cells.{text_in, from}
+use Rattle.office_tables.proofs.Common.{AllByRecursion, Blob, Int, Null, Real, Row, Text, Value, cases_Bool, cons_option}
 
 -- what is made of a cell is made of what it says
-pub from_first : {X Y : Type 0} (said : Option X) (make : X → Option Y) (y : Y) → from said make ≡ Some y → (x : X) × (said ≡ Some x) × (make x ≡ Some y)
+pub from_first : {X Y : Type 0} (said : Option X) (make : X → Option Y) (y : Y) → from said make ≡ Some y
+    → (x : X) × (said ≡ Some x) × (make x ≡ Some y)
 from_first None make y h = absurd cc
 from_first (Some x) make y h = (x, refl, h)
 
@@ -36,10 +33,12 @@ is_text (Text t) u h = utf8_if t u (is_utf8 t) refl h
 is_text (Blob b) u h = absurd cc
 
 -- what holds of each row that is read holds of all of them
-pub all_read : {X : Type 0} (read : Row → Option X) (P : X → Type 0) → ((row : Row) (x : X) → read row ≡ Some x → P x) → (rows : List Row) → AllByRecursion P (filter_map read rows)
+pub all_read : {X : Type 0} (read : Row → Option X) (P : X → Type 0) → ((row : Row) (x : X) → read row ≡ Some x → P x)
+    → (rows : List Row) → AllByRecursion P (filter_map read rows)
 all_read {X} read P each [] = tt
 all_read {X} read P each (row ∷ rows) = at (all_read read P each rows) (read row) refl
   where
-    at : AllByRecursion P (filter_map read rows) → (o : Option X) → read row ≡ o → AllByRecursion P (cons_option o (filter_map read rows))
+    at : AllByRecursion P (filter_map read rows) → (o : Option X) → read row ≡ o
+        → AllByRecursion P (cons_option o (filter_map read rows))
     at more None is = more
     at more (Some x) is = (each row x is, more)

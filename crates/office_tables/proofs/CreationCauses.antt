@@ -1,32 +1,16 @@
 -- Why a definition fails: none that is understood, and whose names are free, is refused.
 use Rattle.std.proofs.Common.{◌≡◌, ◌⊎◌, inl, inr, ℕ, List, [], length, slice_get, Bool, true, false, Ok, Err, Result, Some, None, IsUtf8, refl, sym, ap, subst, ◌∙◌, arith}
-use Rattle.std.specs.List.{AllByRecursion}
-use Rattle.std.proofs.lemmas.Bool.{ltb-true}
 use Rattle.std.proofs.lemmas.Str.{IsUtf8-from_is_utf8}
-use Rattle.sqlite.specs.Table.{Table}
-use Rattle.sqlite.specs.Schema.{Schema}
-use Rattle.sqlite.specs.Command.TheVariants.{CreateTable, CreateIndex}
 use Rattle.sqlite.specs.Change.{created, indexed, is_used}
-use Rattle.sqlite.specs.declared.error.Error.{Error}
-use Rattle.sqlite.specs.declared.run.Mode.{Mode}
-use Rattle.sqlite.specs.Does.{MakesTable, MakesSequence, MakesIndex, Defines, Does, no_rows, lacks_sequence}
-use Rattle.sqlite.specs.Effect.{Database, IsDatabase, IsNoText}
 use Rattle.sqlite.specs.Listing.{understood}
-use Rattle.sqlite.specs.Rows.{Part, Gives, Then}
-use Rattle.sqlite.proofs.Callers.{IsPlain}
-use Rattle.sqlite.specs.State.{State, Executes, IsLive, mode_of}
 use Rattle.sqlite_catalog.specs.Calls.{IsBadName, RefusesTable, RefusesIndex}
 use Rattle.sqlite_catalog.specs.declared.error.Refusal.{Refusal}
 use Rattle.sqlite_catalog.specs.declared.error.Refusal.TheVariants.{Invalid, NameTaken, BadName, TooBig, BadKey, BadText, Violates}
 use Rattle.sqlite_catalog.proofs.StepLemmas.{empty_unique}
-use Rattle.sqlite_resolve.specs.declared.compiled.Compiled.{Compiled}
 use Rattle.sqlite_resolve.specs.declared.error.CompileError.{CompileError}
-use Rattle.sqlite_rules.proofs.ListLemmas.{all_has, test_has, some_from}
-use Rattle.sqlite_schema.specs.Rules.{Keeps}
-use Rattle.sqlite_schema.specs.declared.schema.Constraint.TheVariants.{Unique}
-use Rattle.office_tables.specs.Creation.{IsFreeName, DefinesTable, DefinesIndex, HasMade}
-use Rattle.office_tables.specs.Faults.{fault_of, HasCause}
+use Rattle.office_tables.specs.Faults.{HasCause}
 use Rattle.office_tables.specs.Text.{IsAlone}
+use Rattle.office_tables.proofs.Common.{AllByRecursion, Compiled, CreateIndex, CreateTable, Database, Defines, DefinesIndex, DefinesTable, Does, Error, Executes, Gives, HasMade, IsDatabase, IsFreeName, IsLive, IsNoText, IsPlain, Keeps, MakesIndex, MakesSequence, MakesTable, Mode, Part, Schema, State, Table, Then, Unique, all_has, fault_of, lacks_sequence, ltb-true, mode_of, no_rows, some_from, test_has}
 use Rattle.office_tables.proofs.Causes.{failed_cause}
 use Rattle.office_tables.proofs.Failures.{IsWhole, fails_as}
 use Rattle.office_tables.proofs.Steps.{same_value}
@@ -47,7 +31,8 @@ whole_of text (Ok c) plain alone = (omega (arith, alone.0), sym (ap length alone
 whole_of text (Err e) plain alone = alone
 
 -- a part that did not stop at its first step stopped later
-stopped : {A B : Type 0} (First : Part A) (Next : A → Part B) (e : Error) → Then First Next (Err (Some e)) → First (Err (Some e)) ⊎ ((a : A) × First (Ok a) × Next a (Err (Some e)))
+stopped : {A B : Type 0} (First : Part A) (Next : A → Part B) (e : Error) → Then First Next (Err (Some e))
+    → First (Err (Some e)) ⊎ ((a : A) × First (Ok a) × Next a (Err (Some e)))
 stopped First Next e (inl (stop, h, is)) = inl (subst (λ s. First (Err s)) (let same : stop ≡ Some e = cc in same) h)
 stopped First Next e (inr on) = inr on
 
@@ -82,23 +67,28 @@ module _ (there : List Table) (before after : Schema) (text : List ℕ) (utf8 : 
 
     makes_table : (db : Database) → db.schema ≡ before → (e : Error) → MakesTable text db (Err (Some e)) → ⊥
     makes_table db has e (inl none) = no_text e none
-    makes_table db has e (inr refused) = accepts_table refused.0 (subst (λ s. RefusesTable s text refused.0) has refused.1)
+    makes_table db has e (inr refused) =
+        accepts_table refused.0 (subst (λ s. RefusesTable s text refused.0) has refused.1)
 
-    makes_sequence : (db made : Database) → db.schema ≡ before → MakesTable text db (Ok made) → (e : Error) → MakesSequence made (Err (Some e)) → ⊥
+    makes_sequence : (db made : Database) → db.schema ≡ before → MakesTable text db (Ok made) → (e : Error)
+        → MakesSequence made (Err (Some e)) → ⊥
     makes_sequence db made has it e h =
-        let is : made.schema ≡ created before defines.table = it.is ∙ ap (λ s. created s it.table) has ∙ ap (created before) (found defines.defined it.defined) in
+        let is : made.schema ≡ created before defines.table =
+        it.is ∙ ap (λ s. created s it.table) has ∙ ap (created before) (found defines.defined it.defined) in
         let plain : lacks_sequence made.schema ≡ false = ap lacks_sequence is ∙ defines.uncounted in
         let none = rw plain at h in
         cc
 
-    defines_table : (mode : Mode) (db : Database) → db.schema ≡ before → (e : Error) → Defines mode (Then (MakesTable text db) MakesSequence) (Err (Some e)) → ⊥
+    defines_table : (mode : Mode) (db : Database) → db.schema ≡ before → (e : Error)
+        → Defines mode (Then (MakesTable text db) MakesSequence) (Err (Some e)) → ⊥
     defines_table mode db has e h = elim (stopped (Then (MakesTable text db) MakesSequence) (λ made. Gives (no_rows mode.in_doubt, made)) e h) [
       | inl made ↦ elim (stopped (MakesTable text db) MakesSequence e made) [ inl refused ↦ makes_table db has e refused | inr late ↦ makes_sequence db late.0 has late.1 e late.2 ]
       | inr done ↦ let k = done.2 in cc
     ]
 
     -- a table that is understood is made, or the store failed
-    pub table_cause : (old new : State) → old.now.schema ≡ before → (e : Error) → Executes text [] old new (Err e) → HasCause old new (fault_of e)
+    pub table_cause : (old new : State) → old.now.schema ≡ before → (e : Error) → Executes text [] old new (Err e)
+        → HasCause old new (fault_of e)
     table_cause old new has e h =
         elim (fails_as text [] old new before has CreateTable defines.says.is defines.says.plain (whole_of text (understood before text) defines.says.plain defines.says.alone) refl e h) [
           | inl refused ↦ elim refused.why [
@@ -130,20 +120,24 @@ module _ (there : List Table) (before after : Schema) (text : List ℕ) (utf8 : 
 
     makes_index : (e : Error) → MakesIndex text db defines.table (Err (Some e)) → ⊥
     makes_index e (inl none) = no_text e none
-    makes_index e (inr refused) = accepts_index refused.0 (subst (λ s. RefusesIndex s db.trees defines.table text refused.0) has refused.1)
+    makes_index e (inr refused) =
+        accepts_index refused.0 (subst (λ s. RefusesIndex s db.trees defines.table text refused.0) has refused.1)
 
     defines_index : (mode : Mode) → (e : Error) → Defines mode (MakesIndex text db defines.table) (Err (Some e)) → ⊥
     defines_index mode e h = elim (stopped (MakesIndex text db defines.table) (λ made. Gives (no_rows mode.in_doubt, made)) e h) [ inl refused ↦ makes_index e refused | inr done ↦ let k = done.2 in cc ]
 
   -- an index that is understood, on a table that has no rows yet, is made, or the store failed
-  pub index_cause : (defines : DefinesIndex there before text after) (start : Database) (old new : State) → IsLive old → HasMade there before start old.now → (e : Error) → Executes text [] old new (Err e) → HasCause old new (fault_of e)
+  pub index_cause : (defines : DefinesIndex there before text after) (start : Database) (old new : State) → IsLive old
+      → HasMade there before start old.now → (e : Error) → Executes text [] old new (Err e)
+      → HasCause old new (fault_of e)
   index_cause defines start old new live made e h =
       let has = made.schema_is in
       elim (fails_as text [] old new before has (CreateIndex defines.at) defines.says.is defines.says.plain (whole_of text (understood before text) defines.says.plain defines.says.alone) refl e h) [
         | inl refused ↦ elim refused.why [
           | inl wrong ↦ absurd (never_misplaced old (CreateIndex defines.at) e refl wrong)
           | inr does ↦
-              let placed : slice_get old.now.schema.tables defines.at ≡ Some defines.table = ap (λ (s : Schema). slice_get s.tables defines.at) has ∙ defines.place in
+              let placed : slice_get old.now.schema.tables defines.at ≡ Some defines.table =
+              ap (λ (s : Schema). slice_get s.tables defines.at) has ∙ defines.place in
               let it = subst (λ t. Does old.step_limit (mode_of old) [] old.now t None (CreateIndex defines.at) (Err (Some e))) defines.says.whole does.1 in
               let empty = all_has (λ (t : Table). old.now.trees t.tree ≡ []) defines.more defines.table (subst (λ ts. AllByRecursion (λ (t : Table). old.now.trees t.tree ≡ []) ts) defines.rest made.empty) defines.among in
               absurd (defines_index defines old.now has (live refused.same.0.was_open).0 empty (mode_of old) e (rw placed at it))

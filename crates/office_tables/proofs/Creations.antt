@@ -1,25 +1,16 @@
 -- What the definitions of the tables make.
 use Rattle.std.proofs.Common.{◌≡◌, ℕ, List, [], ◌∷◌, codes, slice_get, ◌++◌, drop, length, false, cond, Some, None, Ok, inl, inr, refl, sym, ap, subst, ◌∙◌}
-use Rattle.std.specs.List.{AllByRecursion}
 use Rattle.std.specs.Str.{chars, is_utf8}
 use lib.Ieee.{is_nan, lt}
 use lib.Utf8.{encode}
 use Rattle.sqlite_value.specs.Order.{value_cmp}
-use Rattle.sqlite.specs.Tree.{Trees}
-use Rattle.sqlite.specs.Table.{Table}
-use Rattle.sqlite.specs.Schema.{Schema}
-use Rattle.sqlite.specs.Command.TheVariants.{CreateTable, CreateIndex}
 use Rattle.sqlite.specs.Change.{created, indexed, next_tree, KeepsRows}
-use Rattle.sqlite.specs.Does.{Tally, lacks_sequence}
-use Rattle.sqlite.specs.Effect.{Database}
 use Rattle.sqlite.specs.Listing.{understood}
-use Rattle.sqlite.specs.State.{State, Writes, Executes, Shows}
-use Rattle.sqlite.proofs.Callers.{runs_as}
+use Rattle.sqlite.specs.State.{Writes}
 use Rattle.sqlite_tied.specs.Compute.{everything}
 use Rattle.sqlite_trees.specs.Sound.{same_name, begins, is_free_name, fits_kind}
-use Rattle.office_tables.specs.Creation.{DefinesTable, DefinesIndex, HasMade}
 use Rattle.office_tables.specs.Versions.{First}
-use Rattle.office_tables.specs.Schema.{desk_schema, desk_tables, schema, office, unit, element, container, housing, link, index}
+use Rattle.office_tables.proofs.Common.{AllByRecursion, CreateIndex, CreateTable, Database, DefinesIndex, DefinesTable, Executes, HasMade, Schema, Shows, State, Table, Tally, Trees, container, desk_schema, desk_tables, element, housing, index, lacks_sequence, link, office, runs_as, schema, unit}
 use Rattle.office_tables.proofs.Steps.{went, same_value}
 
 -- all that unfolds when a name and the text that defines it are judged
@@ -101,21 +92,25 @@ link_indexed = record { at = 12; table = link; index = index (codes "link_by_par
 
 -- ---- what a definition makes
 
-kept_desk : (old mid new : Trees) (desk more : List Table) → KeepsRows desk old mid → KeepsRows (desk ++ more) mid new → KeepsRows desk old new
+kept_desk : (old mid new : Trees) (desk more : List Table) → KeepsRows desk old mid → KeepsRows (desk ++ more) mid new
+    → KeepsRows desk old new
 kept_desk old mid new [] more a b = tt
 kept_desk old mid new (t ∷ desk) more a b = (b.0 ∙ a.0, kept_desk old mid new desk more a.1 b.1)
 
-kept_more : (mid new : Trees) (desk more : List Table) → AllByRecursion (λ t. mid t.tree ≡ []) more → KeepsRows (desk ++ more) mid new → AllByRecursion (λ t. new t.tree ≡ []) more
+kept_more : (mid new : Trees) (desk more : List Table) → AllByRecursion (λ t. mid t.tree ≡ []) more
+    → KeepsRows (desk ++ more) mid new → AllByRecursion (λ t. new t.tree ≡ []) more
 kept_more mid new [] [] e b = tt
 kept_more mid new [] (t ∷ more) e b = (b.0 ∙ e.0, kept_more mid new [] more e.1 b.1)
 kept_more mid new (t ∷ desk) more e b = kept_more mid new desk more e b.1
 
-one_more : (new : Trees) (more : List Table) (t : Table) → AllByRecursion (λ t. new t.tree ≡ []) more → new t.tree ≡ [] → AllByRecursion (λ t. new t.tree ≡ []) (more ++ t ∷ [])
+one_more : (new : Trees) (more : List Table) (t : Table) → AllByRecursion (λ t. new t.tree ≡ []) more → new t.tree ≡ []
+    → AllByRecursion (λ t. new t.tree ≡ []) (more ++ t ∷ [])
 one_more new [] t e h = (h, tt)
 one_more new (u ∷ more) t e h = (e.0, one_more new more t e.1 h)
 
 module _ (there : List Table) (before after : Schema) (text : List ℕ) (start : Database) (old new : State) (count : ℕ) (made : HasMade there before start old.now) (h : Executes text [] old new (Ok count)) where
-  pub creates : DefinesTable there before text after → HasMade there after start new.now × Shows old new new.now (cond old.in_transaction old.committed new.now) old.in_transaction
+  pub creates : DefinesTable there before text after
+      → HasMade there after start new.now × Shows old new new.now (cond old.in_transaction old.committed new.now) old.in_transaction
   creates defines =
       let has = made.schema_is in
       let w = subst (λ t. Writes old new None CreateTable t [] count) defines.says.whole (runs_as text [] old new before has CreateTable defines.says.is defines.says.plain count h) in
@@ -123,12 +118,16 @@ module _ (there : List Table) (before after : Schema) (text : List ℕ) (start :
       let first = went all.1 in
       let it = first.1 in
       let both : Ok it.table ≡ Ok defines.table = sym it.defined ∙ defines.defined in
-      let is : first.0.schema ≡ created before defines.table = it.is ∙ ap (λ s. created s it.table) has ∙ ap (created before) (same_value both) in
+      let is : first.0.schema ≡ created before defines.table =
+      it.is ∙ ap (λ s. created s it.table) has ∙ ap (created before) (same_value both) in
       let plain : lacks_sequence first.0.schema ≡ false = ap lacks_sequence is ∙ defines.uncounted in
-      let now : new.now ≡ first.0 = ap (λ (p : Tally × Database). p.1) (same_value all.2) ∙ same_value (rw plain at first.2) in
+      let now : new.now ≡ first.0 =
+      ap (λ (p : Tally × Database). p.1) (same_value all.2) ∙ same_value (rw plain at first.2) in
       let trees : new.now.trees ≡ first.0.trees = ap (λ (d : Database). d.trees) now in
-      let kept : KeepsRows before.tables old.now.trees new.now.trees = subst (λ d. KeepsRows before.tables old.now.trees d) (sym trees) (subst (λ (s : Schema). KeepsRows s.tables old.now.trees first.0.trees) has it.others) in
-      let fresh : new.now.trees (next_tree before) ≡ [] = ap (λ (d : Trees). d (next_tree before)) trees ∙ subst (λ s. first.0.trees (next_tree s) ≡ []) has it.empty in
+      let kept : KeepsRows before.tables old.now.trees new.now.trees =
+      subst (λ d. KeepsRows before.tables old.now.trees d) (sym trees) (subst (λ (s : Schema). KeepsRows s.tables old.now.trees first.0.trees) has it.others) in
+      let fresh : new.now.trees (next_tree before) ≡ [] =
+      ap (λ (d : Trees). d (next_tree before)) trees ∙ subst (λ s. first.0.trees (next_tree s) ≡ []) has it.empty in
       let kept' = subst (λ ts. KeepsRows ts old.now.trees new.now.trees) defines.first kept in
       let empty' = subst (λ ts. AllByRecursion (λ t. old.now.trees t.tree ≡ []) ts) defines.rest made.empty in
       let done : HasMade there after start new.now = record {
@@ -139,15 +138,18 @@ module _ (there : List Table) (before after : Schema) (text : List ℕ) (start :
       } in
       (done, w.shown)
 
-  pub indexes : DefinesIndex there before text after → HasMade there after start new.now × Shows old new new.now (cond old.in_transaction old.committed new.now) old.in_transaction
+  pub indexes : DefinesIndex there before text after
+      → HasMade there after start new.now × Shows old new new.now (cond old.in_transaction old.committed new.now) old.in_transaction
   indexes defines =
       let has = made.schema_is in
       let w = subst (λ t. Writes old new None (CreateIndex defines.at) t [] count) defines.says.whole (runs_as text [] old new before has (CreateIndex defines.at) defines.says.is defines.says.plain count h) in
-      let placed : slice_get old.now.schema.tables defines.at ≡ Some defines.table = ap (λ (s : Schema). slice_get s.tables defines.at) has ∙ defines.place in
+      let placed : slice_get old.now.schema.tables defines.at ≡ Some defines.table =
+      ap (λ (s : Schema). slice_get s.tables defines.at) has ∙ defines.place in
       let all = went (rw placed at w.changed) in
       let it = all.1 in
       let both : Ok it.index ≡ Ok defines.index = sym it.defined ∙ defines.defined in
-      let is : all.0.schema ≡ indexed before defines.table defines.index = it.is ∙ ap (λ s. indexed s defines.table it.index) has ∙ ap (indexed before defines.table) (same_value both) in
+      let is : all.0.schema ≡ indexed before defines.table defines.index =
+      it.is ∙ ap (λ s. indexed s defines.table it.index) has ∙ ap (indexed before defines.table) (same_value both) in
       let now : new.now ≡ all.0 = ap (λ (p : Tally × Database). p.1) (same_value all.2) in
       let kept = subst (λ (d : Database). KeepsRows before.tables old.now.trees d.trees) (sym now) (subst (λ (s : Schema). KeepsRows s.tables old.now.trees all.0.trees) has it.rows) in
       let kept' = subst (λ ts. KeepsRows ts old.now.trees new.now.trees) defines.first kept in

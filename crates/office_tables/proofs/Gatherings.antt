@@ -1,23 +1,13 @@
 -- What a query whose rows are taken one by one does, told of the state before it.
 use Rattle.std.proofs.Common.{[], ◌≡◌, ◌⊎◌, inl, inr, ℕ, List, true, false, IsTrue, Result, Ok, Err, IfOk, IfErr, sym, ap, subst, ◌∙◌, arith}
-use Rattle.sqlite.specs.Order.{Row}
-use Rattle.sqlite.specs.Effect.{Database, RefusesToRead}
-use Rattle.sqlite.specs.Listing.{understood, reads_listing, IsSourceOf}
-use Rattle.sqlite.specs.Clock.{timed}
-use Rattle.sqlite.specs.declared.error.Error.{Error}
-use Rattle.sqlite_trees.specs.declared.error.StoreError.{StoreError}
-use Rattle.sqlite_trees.specs.declared.error.StoreError.TheVariants.{OutOfMemory, Io, Corrupt, Full, Broken, Unstorable}
-use Rattle.sqlite_resolve.specs.declared.compiled.Compiled.{Compiled}
-use Rattle.office_tables.specs.declared.fault.StoreFault.{StoreFault}
-use Rattle.office_tables.specs.Faults.{fault_of}
+use Rattle.sqlite.specs.Listing.{understood}
+use Rattle.sqlite_trees.specs.declared.error.StoreError.TheVariants.{OutOfMemory}
 use Rattle.office_tables.specs.Faults as cause
-use Rattle.office_tables.specs.Query.{IsOurQuery, Reads, Gathers, StopsShort}
-use Rattle.office_tables.specs.Step.{GoesOn, IsBack, LeavesUnchanged, IsAborted, Spares, IsSame}
+use Rattle.sqlite.specs.State.{IsNotRun, Shown, FailsToQuery, HasCause}
+use Rattle.office_tables.proofs.Common.{Broken, Compiled, Corrupt, Database, Error, Fails, FailsToShow, Full, Gathers, GoesOn, HasCleanDisk, Io, IsAborted, IsBack, IsNoStatement, IsOurQuery, IsPlain, IsRolledBack, IsSame, IsSourceOf, IsStatement, IsUnchanged, LeavesUnchanged, Reads, RefusesToRead, Row, ShowsRows, Spares, State, StopsShort, StoreError, StoreFault, Survives, Unstorable, fault_of, reads_listing, timed, unchanged_then}
 use Rattle.office_tables.proofs.Errors.{fails, keeps}
 use Rattle.office_tables.proofs.Calls.{early, unchanged_on, stopped}
 use Rattle.office_tables.proofs.Sparing.{query_spares}
-use Rattle.sqlite.specs.State.{State, HasCleanDisk, Survives, IsUnchanged, IsRolledBack, IsStatement, IsNoStatement, IsNotRun, Shown, ShowsRows, FailsToQuery, FailsToShow, Fails, HasCause}
-use Rattle.sqlite.proofs.Callers.{IsPlain, unchanged_then}
 
 module _ (sql : List ℕ) (params : Row) (a b c : State) (plain : IsPlain (understood a.now.schema sql)) (same : IsUnchanged a b) where
   plain_then : IsPlain (understood b.now.schema sql)
@@ -75,7 +65,8 @@ module _ (sql : List ℕ) (params : Row) (a b c : State) (plain : IsPlain (under
 
 -- ---- what a query of ours leaves whose rows are taken one by one
 
-pub our_plain : (sql : List ℕ) (old : State) → IsOurQuery sql old → HasCleanDisk old → IsPlain (understood old.now.schema sql)
+pub our_plain : (sql : List ℕ) (old : State) → IsOurQuery sql old → HasCleanDisk old
+    → IsPlain (understood old.now.schema sql)
 our_plain sql old ours clean = let it = ours.here clean in subst (λ s. IsPlain (understood s sql)) (sym it.1) it.3.plain
 
 module _ (sql : List ℕ) (old new : State) (ours : IsOurQuery sql old) (crash : Survives old new (λ _. ⊥)) where
@@ -100,18 +91,24 @@ module _ (sql : List ℕ) (old new : State) (ours : IsOurQuery sql old) (crash :
 
   short_spares : (e : StoreFault) → HasCleanDisk new → StopsShort sql [] old new e → Spares IsSame old new e
   short_spares e clean (inl h) = subst (Spares IsSame old new) (sym h.0) (record { disk = tt; rows = inl h.1.0.now_is })
-  short_spares e clean (inr h) = subst (Spares IsSame old new) (sym h.1) (query_spares sql [] old new (our_plain sql old ours (early old new _ crash clean)) h.0 h.2)
+  short_spares e clean (inr h) =
+      subst (Spares IsSame old new) (sym h.1) (query_spares sql [] old new (our_plain sql old ours (early old new _ crash clean)) h.0 h.2)
 
-  pub gathered_reads : {G : Type 0} (Holds : List Row → G → Type 0) (r : Result G StoreFault) → (HasCleanDisk new → IfOk r (Gathers Holds sql [] old new)) → (HasCleanDisk new → IfErr r (StopsShort sql [] old new)) → Reads old new r
+  pub gathered_reads : {G : Type 0} (Holds : List Row → G → Type 0) (r : Result G StoreFault)
+      → (HasCleanDisk new → IfOk r (Gathers Holds sql [] old new))
+      → (HasCleanDisk new → IfErr r (StopsShort sql [] old new)) → Reads old new r
   gathered_reads Holds (Ok all) gathers stops = record {
     crash = crash;
     looks = looked (λ clean. keeps sql [] old new (gathers clean).rows (our_plain sql old ours (early old new _ crash clean)) (gathers clean).shown);
     aborts = tt;
     spares = λ clean. tt;
   }
-  gathered_reads Holds (Err e) gathers stops = record { crash = crash; looks = tt; aborts = short e stops; spares = λ clean. short_spares e clean (stops clean) }
+  gathered_reads Holds (Err e) gathers stops =
+      record { crash = crash; looks = tt; aborts = short e stops; spares = λ clean. short_spares e clean (stops clean) }
 
 -- why it stopped, where the query is refused for such a cause alone
-pub stop_cause : (sql : List ℕ) (old new : State) (e : StoreFault) → ((why : Error) → FailsToQuery sql [] old new why → cause.HasCause old new (fault_of why)) → StopsShort sql [] old new e → cause.HasCause old new e
+pub stop_cause : (sql : List ℕ) (old new : State) (e : StoreFault)
+    → ((why : Error) → FailsToQuery sql [] old new why → cause.HasCause old new (fault_of why))
+    → StopsShort sql [] old new e → cause.HasCause old new e
 stop_cause sql old new e why (inl h) = subst (cause.HasCause old new) (sym h.0) tt
 stop_cause sql old new e why (inr h) = subst (cause.HasCause old new) (sym h.1) (why h.0 h.2)

@@ -1,44 +1,18 @@
 -- Why the INSERT of one row fails, where its table takes the row: for want of memory, or of the disk.
 use Rattle.std.proofs.Common.{◌≡◌, ◌≢◌, ◌⊎◌, inl, inr, IsSome, ℕ, ◌/◌, List, [], ◌∷◌, length, slice_get, Bool, true, false, not, ◌&&◌, ◌||◌, eqb, Err, Option, Some, None, refl, sym, ap, subst, ◌∙◌, true≢false}
-use Rattle.std.proofs.lemmas.Bool.{both_ways, not-true, and_parts, and_from, or_cases, or_left, or_right, not_from_false, false_from_ne_true, cases_eq, eq-eqb, ne_eqb}
+use Rattle.std.proofs.lemmas.Bool.{both_ways, eq-eqb}
 use Rattle.std.proofs.lemmas.Cmp.{tied_itself}
-use Rattle.std.specs.List.{list_any, list_all}
-use Rattle.std.specs.Ordering.{is_ne}
-use Rattle.sqlite.specs.declared.types.Value.{Value}
-use Rattle.sqlite.specs.Order.{Row}
-use Rattle.sqlite.specs.Table.{Table}
-use Rattle.sqlite.specs.Schema.{Schema}
-use Rattle.sqlite.specs.Term.{Term}
 use Rattle.sqlite.specs.Source.TheVariants.{Values}
-use Rattle.sqlite.specs.Command.TheVariants.{Insert}
-use Rattle.sqlite.specs.Tree.{Trees, rowid, put_row, IsAscending}
-use Rattle.sqlite.specs.Edit.{edit_of, is_taken, are_fresh, put_all, IsRefused}
-use Rattle.sqlite.specs.Rowids.TheVariants.{Chosen}
-use Rattle.sqlite.specs.Effect.{RefusesSource, value_rows, edit_error}
 use Rattle.sqlite.specs.Listing.{understood}
-use Rattle.sqlite.specs.State.{State, IsLive, Executes, mode_of}
-use Rattle.sqlite.specs.declared.error.Error.{Error}
-use Rattle.sqlite.proofs.Callers.{IsPlain, command_of, statement_of}
 use Rattle.sqlite_rules.specs.Keys.{are_unique}
-use Rattle.sqlite_rules.specs.Lists.{Has}
 use Rattle.sqlite_rules.specs.declared.error.Refusal.{Refusal}
-use Rattle.sqlite_rules.specs.declared.error.Refusal.TheVariants.{Violates, Mismatch, NoRowid, BadReference, TooDeep}
-use Rattle.sqlite_rules.proofs.ListLemmas.{all_from, all_has, test_has, test_from, some_has, some_from, has_got}
-use Rattle.sqlite_rules.proofs.RuleLemmas.{Turns, origin, unique_kept, parent_is_table, refers_at, refers_from}
-use Rattle.sqlite_rules.proofs.TableLemmas.{int_is, put_has, put_all_keeps, put_all_adds}
-use Rattle.sqlite_schema.specs.Rules.{ParentKey, agree, clashes, differ, guards, parent_key, is_held, has_parent, is_key_of, passes, Refers, Obeys}
-use Rattle.sqlite_schema.specs.declared.schema.Among.TheVariants.{All}
-use Rattle.sqlite_schema.specs.declared.schema.Constraint.TheVariants.{Datatype, NotNull, Check, PrimaryKey, Unique, ForeignKey}
+use Rattle.sqlite_rules.specs.declared.error.Refusal.TheVariants.{Violates}
 use Rattle.sqlite_schema.specs.declared.schema.Index.{Index}
-use Rattle.sqlite_schema.specs.declared.schema.Keys.TheVariants.{Enforced}
-use Rattle.sqlite_schema.specs.declared.schema.Reference.{Reference}
 use Rattle.sqlite_sql.specs.Ops.{binary}
 use Rattle.sqlite_trees.specs.Tree.{with_tree}
-use Rattle.sqlite_trees.specs.View.{is_int}
-use Rattle.sqlite_value.proofs.OrderLemmas.{value_cmp_total}
-use Rattle.office_tables.specs.Faults.{fault_of, IsUnlimited, HasCause}
+use Rattle.office_tables.specs.Faults.{HasCause}
 use Rattle.office_tables.specs.Versions.{Version, First, Second}
-use Rattle.office_tables.specs.Schema.{schema}
+use Rattle.office_tables.proofs.Common.{All, BadReference, Check, Chosen, Datatype, Enforced, Error, Executes, ForeignKey, Has, Insert, IsAscending, IsLive, IsPlain, IsRefused, IsUnlimited, Mismatch, NoRowid, NotNull, Obeys, ParentKey, PrimaryKey, Reference, Refers, RefusesSource, Row, Schema, State, Table, Term, TooDeep, Trees, Turns, Unique, Value, agree, all_from, all_has, and_from, and_parts, are_fresh, cases_eq, clashes, command_of, differ, edit_error, edit_of, false_from_ne_true, fault_of, guards, has_got, has_parent, int_is, is_held, is_int, is_key_of, is_ne, is_taken, list_all, list_any, mode_of, ne_eqb, not-true, not_from_false, or_cases, or_left, or_right, origin, parent_is_table, parent_key, passes, put_all, put_all_adds, put_all_keeps, put_has, put_row, refers_at, refers_from, rowid, schema, some_from, some_has, statement_of, test_from, test_has, unique_kept, value_cmp_total, value_rows}
 use Rattle.office_tables.proofs.Causes.{failed_cause}
 use Rattle.office_tables.proofs.Failures.{IsWhole, fails_as}
 use Rattle.office_tables.proofs.NumberedKeys.{is_numbered, never_clashes}
@@ -107,7 +81,8 @@ module _ (schema : Schema) (apart : IsAscending (λ (a b : Table). a.tree ≡ b.
     split = λ r h. inl h;
   }
 
-  no_clash : (i : Index) → Has schema.indexes i → guards i table ≡ true → clashes i.order i.columns (after table.tree) row ≡ true → ⊥
+  no_clash : (i : Index) → Has schema.indexes i → guards i table ≡ true
+      → clashes i.order i.columns (after table.tree) row ≡ true → ⊥
   no_clash i known on clash = elim (or_cases _ _ (test_has _ schema.indexes i welcome.alone known)) [
     | inl numbered ↦ never_clashes i (after table.tree) row numbered clash
     | inr lone ↦
@@ -130,14 +105,16 @@ module _ (schema : Schema) (apart : IsAscending (λ (a b : Table). a.tree ≡ b.
     | inr other ↦ subst (λ l. Has l x) (sym (others t known other)) h
   ]
 
-  held_still : (r : Row) (ref : Reference) (key : Option ParentKey) → parent_key schema.tables ref ≡ key → is_held db ref.columns r key ≡ true → is_held after ref.columns r key ≡ true
+  held_still : (r : Row) (ref : Reference) (key : Option ParentKey) → parent_key schema.tables ref ≡ key
+      → is_held db ref.columns r key ≡ true → is_held after ref.columns r key ≡ true
   held_still r ref None is h = h
   held_still r ref (Some key) is h =
       let parent = some_has _ (db key.0) h in
       let t = parent_is_table schema.tables ref key is in
       some_from _ (after key.0) parent.0 (subst (λ n. Has (after n) parent.0) t.2 (kept t.0 t.1 parent.0 (subst (λ n. Has (db n) parent.0) (sym t.2) parent.1))) parent.2
 
-  still : (r : Row) (ref : Reference) → has_parent schema.tables db r ref ≡ true → has_parent schema.tables after r ref ≡ true
+  still : (r : Row) (ref : Reference) → has_parent schema.tables db r ref ≡ true
+      → has_parent schema.tables after r ref ≡ true
   still r ref h = elim (or_cases _ _ h) [
     | inl null ↦ or_left _ _ null
     | inr held ↦ or_right _ _ (held_still r ref (parent_key schema.tables ref) refl held)
@@ -170,7 +147,8 @@ module _ (schema : Schema) (apart : IsAscending (λ (a b : Table). a.tree ≡ b.
   unfolding put
   put_apart t known other = rw (ne_eqb t.tree any.tree other) refl
 
-  one_refused : (why : Refusal) → IsRefused schema Enforced db (record { table = plain any; gone = []; news = row ∷ [] }) why → why ≡ NoRowid
+  one_refused : (why : Refusal)
+      → IsRefused schema Enforced db (record { table = plain any; gone = []; news = row ∷ [] }) why → why ≡ NoRowid
   unfolding put
   one_refused (Violates Datatype) h = absurd (both_ways _ h (and_from _ _ welcome.typed refl))
   one_refused (Violates NotNull) h = absurd (both_ways _ h (and_from _ _ welcome.present refl))
@@ -185,22 +163,28 @@ module _ (schema : Schema) (apart : IsAscending (λ (a b : Table). a.tree ≡ b.
   one_refused BadReference h = absurd (both_ways _ h (and_from _ _ welcome.referred refl))
   one_refused TooDeep h = absurd h
 
-  not_refused : (news : List Row) → news ≡ row ∷ [] → (why : Refusal) → IsRefused schema Enforced db (record { table = plain any; gone = []; news = news }) why → why ≡ NoRowid
-  not_refused news are why h = one_refused why (subst (λ news. IsRefused schema Enforced db (record { table = plain any; gone = []; news = news }) why) are h)
+  not_refused : (news : List Row) → news ≡ row ∷ [] → (why : Refusal)
+      → IsRefused schema Enforced db (record { table = plain any; gone = []; news = news }) why → why ≡ NoRowid
+  not_refused news are why h =
+      one_refused why (subst (λ news. IsRefused schema Enforced db (record { table = plain any; gone = []; news = news }) why) are h)
 
 module _ (v : Version) (at : ℕ) (any : Table) (is : slice_get (schema v).tables at ≡ Some (plain any)) (sql : List ℕ) (params : Row) (old new : State) (has : old.now.schema ≡ schema v)
     (terms : List Term) (width : ℕ) (is_command : command_of (understood (schema v) sql) ≡ Insert at (Values terms width)) (bare : IsPlain (understood (schema v) sql))
     (whole : IsWhole (length sql) (length params) (understood (schema v) sql)) (live : IsLive old) (free : IsUnlimited old) (accepted : (e : Error) → RefusesSource None (record { schema = schema v; trees = old.now.trees }) params (Values terms width) e → ⊥)
     (row : Row) (news : (edit_of old.now.trees (plain any) [] Chosen 0 (value_rows params width (length terms / width) terms)).news ≡ row ∷ []) (welcome : IsWelcome (schema v) old.now.trees (plain any) row) where
-  refused_cause : Obeys (schema v) old.now.trees → (e : Error) → IsInsertRefusal old.step_limit (mode_of old) params (schema v) (plain any) (Values terms width) old.now.trees e → HasCause old new (fault_of e)
-  refused_cause obeys e (by_source refused) = absurd (accepted e (subst (λ limit. RefusesSource limit (record { schema = schema v; trees = old.now.trees }) params (Values terms width) e) free refused))
+  refused_cause : Obeys (schema v) old.now.trees → (e : Error)
+      → IsInsertRefusal old.step_limit (mode_of old) params (schema v) (plain any) (Values terms width) old.now.trees e
+      → HasCause old new (fault_of e)
+  refused_cause obeys e (by_source refused) =
+      absurd (accepted e (subst (λ limit. RefusesSource limit (record { schema = schema v; trees = old.now.trees }) params (Values terms width) e) free refused))
   refused_cause obeys e (by_rule rows given why h names) =
       let news_are = subst (λ rows. (edit_of old.now.trees (plain any) [] Chosen 0 rows).news ≡ row ∷ []) (sym given.1) news in
       let no_number = not_refused (schema v) (tables_apart v) at any is old.now.trees obeys row welcome _ news_are why h in
       subst (λ e. HasCause old new (fault_of e)) (sym (names ∙ ap edit_error no_number)) tt
   refused_cause obeys e (by_key rows after given applies stray names) =
       let news_are = subst (λ rows. (edit_of old.now.trees (plain any) [] Chosen 0 rows).news ≡ row ∷ []) (sym given.1) news in
-      let put : after any.tree ≡ put_row row (old.now.trees any.tree) = applies.rows ∙ ap (λ news. put_all (old.now.trees any.tree) news) news_are in
+      let put : after any.tree ≡ put_row row (old.now.trees any.tree) =
+      applies.rows ∙ ap (λ news. put_all (old.now.trees any.tree) news) news_are in
       absurd (stray (refers (schema v) (tables_apart v) (plain any) (has_got (schema v).tables at (plain any) is) old.now.trees after row welcome put (λ t known. all_has (λ (t : Table). t.tree ≢ any.tree → after t.tree ≡ old.now.trees t.tree) (schema v).tables t applies.tables known) (obeys.rules ForeignKey)))
 
   -- an INSERT of a row that its table takes fails for want of memory or of the disk

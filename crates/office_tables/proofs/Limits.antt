@@ -1,20 +1,12 @@
 -- What a query on one table answers that stops after some rows.
 use Rattle.std.proofs.Common.{◌≡◌, ℕ, pos, List, [], ◌∷◌, filter, map, take, Bool, Ordering, refl, ap, ◌∙◌}
-use Rattle.std.specs.List.{list_all}
-use Rattle.std.proofs.lemmas.List.{take-map}
-use Rattle.std.specs.List.Sorted.{IsSorted, IsPermutation}
-use Rattle.sqlite_value.specs.declared.keys.Key.{Key}
-use Rattle.sqlite.specs.declared.types.Value.TheVariants.{Int}
-use Rattle.sqlite.specs.Order.{Row}
-use Rattle.sqlite.specs.Tree.{Trees}
-use Rattle.sqlite.specs.Term.{Term, lit, eval_all, holds}
-use Rattle.sqlite.specs.Query.{Query, Join, inner, end, IsAnswer, Output, key_cmp}
-use Rattle.sqlite.specs.Program.{overlay}
+use Rattle.office_tables.proofs.Common.{Int, IsAnswer, IsPermutation, IsSorted, Join, Key, Output, Query, Row, Term, Trees, end, eval_all, holds, inner, key_cmp, list_all, lit, overlay, take-map}
 use Rattle.office_tables.proofs.Queries.{plain_query, answers}
 
 -- SELECT project FROM from WHERE filter ORDER BY order LIMIT count
 abbrev pub limited_query : Join → List Term → List Term → List (Term × Key) → ℕ → Query
-limited_query from filter project order count = record (plain_query from filter project order) { limit = lit (Int (pos count)) }
+limited_query from filter project order count =
+    record (plain_query from filter project order) { limit = lit (Int (pos count)) }
 
 module _ (t : ℕ) (where_terms project : List Term) (order : List (Term × Key)) (db : Trees) (params : Row) {A : Type 0} (row : A → Row) (xs : List A) (keep : A → Bool) (show key : A → Row) (cmp : A → A → Ordering)
     (stored : db t ≡ map row xs)
@@ -23,7 +15,8 @@ module _ (t : ℕ) (where_terms project : List Term) (order : List (Term × Key)
     (keyed : (x : A) → eval_all (map (λ k. k.0) order) (params ∷ row x ∷ []) ≡ key x)
     (compares : (x y : A) → key_cmp 0 (map (λ k. k.1) order) (key x) (key y) ≡ cmp x y) where
   -- the first records of an order that ORDER BY allows
-  pub first_answers : (count : ℕ) (rows : List Row) → IsAnswer (limited_query (inner t end) where_terms project order count) (overlay db []) params rows
+  pub first_answers : (count : ℕ) (rows : List Row)
+      → IsAnswer (limited_query (inner t end) where_terms project order count) (overlay db []) params rows
       → (ys : List A) × IsPermutation (filter keep xs) ys × IsSorted cmp ys × (rows ≡ map show (take count ys))
   first_answers count rows a =
       let all : IsAnswer (plain_query (inner t end) where_terms project order) (overlay db []) params (map (λ (o : Output). o.1) a.ordered) =

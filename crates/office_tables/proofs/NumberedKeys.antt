@@ -1,23 +1,12 @@
 -- A UNIQUE that holds the number of the row never refuses one: two rows that agree in it have one number.
 use Rattle.std.proofs.Common.{◌≡◌, ℕ, inl, inr, Bool, true, false, cond, ◌&&◌, ◌||◌, ◌==◌, not, List, [], ◌∷◌, filter, Some, Less, Equal, Greater, Ordering, refl, subst, ap}
-use Rattle.std.proofs.lemmas.Bool.{eqb-true, and_parts, or_cases, not_from_false, false_from_ne_true}
-use Rattle.std.specs.List.{list_any}
-use Rattle.std.specs.Ordering.{is_eq, is_ne}
-use Rattle.sqlite.specs.Order.{Row, column}
-use Rattle.sqlite.specs.Schema.{Schema}
-use Rattle.sqlite.specs.Tree.{Trees, rowid}
-use Rattle.sqlite.specs.declared.types.Value.{Value}
-use Rattle.sqlite.specs.declared.types.Value.TheVariants.{Null}
-use Rattle.sqlite.specs.Collation.TheVariants.{Binary}
-use Rattle.sqlite_rules.proofs.ListLemmas.{some_has, test_has, test_from, has_kept, has_filtered}
-use Rattle.sqlite_rules.proofs.RuleLemmas.{keeps_at, keeps_from}
-use Rattle.sqlite_schema.specs.Rules.{agree, equal, differ, clashes, guards, Keeps}
-use Rattle.sqlite_schema.specs.declared.schema.Constraint.TheVariants.{Unique}
+use Rattle.std.proofs.lemmas.Bool.{eqb-true}
 use Rattle.sqlite_schema.specs.declared.schema.Index.{Index}
 use Rattle.sqlite_sql.specs.Ops.{binary, is_true, is_null, from_truth}
 use Rattle.sqlite_value.specs.Keys.{first_key, plain}
 use Rattle.sqlite_value.specs.Order.{value_cmp}
 use Rattle.sqlite_value.specs.declared.keys.Order.{Order}
+use Rattle.office_tables.proofs.Common.{Binary, Keeps, Null, Row, Schema, Trees, Unique, Value, agree, and_parts, clashes, column, differ, equal, false_from_ne_true, guards, has_filtered, has_kept, is_eq, is_ne, keeps_at, keeps_from, list_any, not_from_false, or_cases, rowid, some_has, test_from, test_has}
 
 -- the number of the row, in the order of numbers, is among what the index keeps
 abbrev pub is_numbered : Index → Bool
@@ -27,7 +16,8 @@ is_numbered i = (i.order.digits == 0) && list_any (λ p. p == 0) i.columns
 abbrev pub firm : Schema → Schema
 firm schema = record schema { indexes = filter (λ i. not (is_numbered i)) schema.indexes }
 
-same_and_apart : (null : Bool) (o : Ordering) → is_true (cond null Null (from_truth (Some (is_eq o)))) ≡ true → is_true (cond null Null (from_truth (Some (is_ne o)))) ≡ true → ⊥
+same_and_apart : (null : Bool) (o : Ordering) → is_true (cond null Null (from_truth (Some (is_eq o)))) ≡ true
+    → is_true (cond null Null (from_truth (Some (is_ne o)))) ≡ true → ⊥
 same_and_apart true o h k = absurd (cc)
 same_and_apart false Less h k = absurd (cc)
 same_and_apart false Equal h k = absurd (cc)
@@ -37,7 +27,8 @@ not_both : (a b : Value) → equal Binary a b ≡ true → differ a b ≡ true �
 unfolding binary
 not_both a b h k = same_and_apart (is_null a || is_null b) (value_cmp a b) h k
 
-same_number : (places : List ℕ) (a b : Row) → list_any (λ p. p == 0) places ≡ true → agree plain places a places b ≡ true → equal Binary (column a 0) (column b 0) ≡ true
+same_number : (places : List ℕ) (a b : Row) → list_any (λ p. p == 0) places ≡ true
+    → agree plain places a places b ≡ true → equal Binary (column a 0) (column b 0) ≡ true
 unfolding first_key
 same_number [] a b h k = absurd (cc)
 same_number (p ∷ places) a b h k =
@@ -51,7 +42,8 @@ plain_from : (o : Order) → (o.digits == 0) ≡ true → o ≡ plain
 plain_from o h = ap (λ n. let order : Order = record { digits = n } in order) (eqb-true o.digits 0 h)
 
 -- no row has the values of another one
-pub never_clashes : (i : Index) (rows : List Row) (row : Row) → is_numbered i ≡ true → clashes i.order i.columns rows row ≡ true → ⊥
+pub never_clashes : (i : Index) (rows : List Row) (row : Row) → is_numbered i ≡ true
+    → clashes i.order i.columns rows row ≡ true → ⊥
 never_clashes i rows row numbered clash =
     let is = and_parts _ _ numbered in
     let other = some_has _ rows clash in

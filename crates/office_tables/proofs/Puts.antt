@@ -1,19 +1,8 @@
 -- Rows that are put among others.
 use Rattle.std.proofs.Common.{◌≡◌, ◌≢◌, inl, inr, ℕ, zero, suc, ◌≤◌, ◌<◌, ℤ, pos, List, [], ◌∷◌, map, length, get_or, Bool, true, false, not, ◌&&◌, ◌||◌, Ordering, Less, Equal, Greater, refl, sym, ap, subst, ◌∙◌, arith}
-use Rattle.std.specs.Ordering.{int_cmp, match_ordering, is_eq}
-use Rattle.std.specs.List.{AllByRecursion}
-use Rattle.std.specs.List.Sorted.{IsPermutation, IsNonDecreasingBy}
-use Rattle.std.proofs.lemmas.List.Sorted.{IsPermutation-refl, IsPermutation-trans, IsPermutation-cons, IsPermutation-swap, IsNonDecreasingBy-short}
-use Rattle.sqlite.specs.declared.types.Value.TheVariants.{Int}
-use Rattle.sqlite.specs.Order.{Row, value_cmp}
-use Rattle.sqlite.specs.Tree.{rowid, put_row, IsTable}
-use Rattle.sqlite.specs.Edit.{is_taken}
-use Rattle.sqlite_rules.specs.Lists.{Has}
-use Rattle.sqlite_rules.proofs.ListLemmas.{all_has}
-use Rattle.sqlite_trees.proofs.ListLemmas.{ascending_from_map, ascending_weaker}
+use Rattle.sqlite.specs.Order.{value_cmp}
 use Rattle.sqlite_trees.proofs.TreeLemmas.{IsTable-put_row}
-use Rattle.office_tables.specs.Order.{Rises}
-use Rattle.office_tables.specs.OrderedInsertion.{put_by}
+use Rattle.office_tables.proofs.Common.{AllByRecursion, Has, Int, IsNonDecreasingBy, IsNonDecreasingBy-short, IsPermutation, IsPermutation-cons, IsPermutation-refl, IsPermutation-swap, IsPermutation-trans, IsTable, Rises, Row, all_has, ascending_from_map, ascending_weaker, int_cmp, is_eq, is_taken, match_ordering, put_by, put_row, rowid}
 use Rattle.office_tables.proofs.Rows.{by_key, compared, table_rises}
 use Rattle.office_tables.proofs.numbered.Counted.{less_below}
 
@@ -28,9 +17,11 @@ module _ {A : Type 0} (row : A → Row) (key : A → ℤ) (keyed : (x : A) → r
         | Greater ↦ refl
       ]
 
-  pub put_rises : (new : A) (xs : List A) → Rises (by_key row key keyed) xs → Rises (by_key row key keyed) (put_by key new xs)
+  pub put_rises : (new : A) (xs : List A) → Rises (by_key row key keyed) xs
+      → Rises (by_key row key keyed) (put_by key new xs)
   put_rises new xs up =
-      let table : IsTable (map row (put_by key new xs)) = subst IsTable (put_rows new xs) (IsTable-put_row (row new) (map row xs) (table_rises row key keyed xs up)) in
+      let table : IsTable (map row (put_by key new xs)) =
+      subst IsTable (put_rows new xs) (IsTable-put_row (row new) (map row xs) (table_rises row key keyed xs up)) in
       ascending_weaker (λ a b. value_cmp (rowid (row a)) (rowid (row b)) ≡ Less) (λ a b. int_cmp (key a) (key b) ≡ Less) (λ a b h. sym (compared row key keyed a b) ∙ h) (put_by key new xs)
       (ascending_from_map (λ a b. value_cmp (rowid a) (rowid b) ≡ Less) row (put_by key new xs) table)
 
@@ -44,19 +35,23 @@ free Equal rest h = absurd (let e : true ≡ false = h in cc)
 free Greater rest h = ((λ e. let k : is_eq Greater ≡ is_eq Equal = ap is_eq e in let f : false ≡ true = k in cc), h)
 
 module _ {A : Type 0} (row : A → Row) (key : A → ℤ) (keyed : (x : A) → rowid (row x) ≡ Int (key x)) where
-  pub fresh_key : (new : A) (xs : List A) → is_taken (map row xs) (row new) ≡ false → AllByRecursion (λ x. int_cmp (key x) (key new) ≢ Equal) xs
+  pub fresh_key : (new : A) (xs : List A) → is_taken (map row xs) (row new) ≡ false
+      → AllByRecursion (λ x. int_cmp (key x) (key new) ≢ Equal) xs
   fresh_key new [] h = tt
   fresh_key new (x ∷ xs) h =
-      let k : (is_eq (int_cmp (key x) (key new)) || is_taken (map row xs) (row new)) ≡ false = ap (λ o. is_eq o || is_taken (map row xs) (row new)) (sym (compared row key keyed x new)) ∙ h in
+      let k : (is_eq (int_cmp (key x) (key new)) || is_taken (map row xs) (row new)) ≡ false =
+      ap (λ o. is_eq o || is_taken (map row xs) (row new)) (sym (compared row key keyed x new)) ∙ h in
       let both = free (int_cmp (key x) (key new)) (is_taken (map row xs) (row new)) k in
       (both.0, fresh_key new xs both.1)
 
 -- a record with a new key is one more
-pub put_more : {A : Type 0} (key : A → ℤ) (new : A) (xs : List A) → AllByRecursion (λ x. int_cmp (key x) (key new) ≢ Equal) xs → IsPermutation (new ∷ xs) (put_by key new xs)
+pub put_more : {A : Type 0} (key : A → ℤ) (new : A) (xs : List A)
+    → AllByRecursion (λ x. int_cmp (key x) (key new) ≢ Equal) xs → IsPermutation (new ∷ xs) (put_by key new xs)
 put_more key new [] fresh = IsPermutation-refl (new ∷ [])
 put_more key new (x ∷ xs) fresh = at (put_more key new xs fresh.1) (int_cmp (key x) (key new)) fresh.0
   where
-    at : IsPermutation (new ∷ xs) (put_by key new xs) → (o : Ordering) → o ≢ Equal → IsPermutation (new ∷ x ∷ xs) (match_ordering o (x ∷ put_by key new xs) (new ∷ xs) (new ∷ x ∷ xs))
+    at : IsPermutation (new ∷ xs) (put_by key new xs) → (o : Ordering) → o ≢ Equal
+        → IsPermutation (new ∷ x ∷ xs) (match_ordering o (x ∷ put_by key new xs) (new ∷ xs) (new ∷ x ∷ xs))
     at rest Less h =
         IsPermutation-trans (new ∷ x ∷ xs) (x ∷ new ∷ xs) (x ∷ put_by key new xs) (IsPermutation-swap (new ∷ x ∷ xs) (x ∷ new ∷ xs) 0 1 (omega arith) (omega arith) refl) (IsPermutation-cons x (new ∷ xs) (put_by key new xs) rest)
     at rest Equal h = absurd (h refl)
@@ -71,7 +66,8 @@ has_at (x ∷ xs) zero d low = inl refl
 has_at (x ∷ xs) (suc k) d low = inr (has_at xs k d (omega (arith, low)))
 
 module _ {A : Type 0} (number : A → ℕ) where
-  step : (x : A) (xs : List A) → AllByRecursion (λ y. int_cmp (pos (number x)) (pos (number y)) ≡ Less) xs → IsNonDecreasingBy number xs
+  step : (x : A) (xs : List A) → AllByRecursion (λ y. int_cmp (pos (number x)) (pos (number y)) ≡ Less) xs
+      → IsNonDecreasingBy number xs
       → (i j : ℕ) (d : A) → i ≤ j → j < suc (length xs) → number (get_or (x ∷ xs) i d) ≤ number (get_or (x ∷ xs) j d)
   step x xs low rest zero zero d le lt = omega arith
   step x xs low rest zero (suc j) d le lt =
@@ -80,6 +76,7 @@ module _ {A : Type 0} (number : A → ℕ) where
   step x xs low rest (suc i) (suc j) d le lt = rest i j d (omega (arith, le)) (omega (arith, lt))
 
   -- numbers that rise do not fall
-  pub not_falling : (xs : List A) → Rises (λ a b. int_cmp (pos (number a)) (pos (number b))) xs → IsNonDecreasingBy number xs
+  pub not_falling : (xs : List A) → Rises (λ a b. int_cmp (pos (number a)) (pos (number b))) xs
+      → IsNonDecreasingBy number xs
   not_falling [] up = IsNonDecreasingBy-short number [] (omega arith)
   not_falling (x ∷ xs) up = step x xs up.0 (not_falling xs up.1)

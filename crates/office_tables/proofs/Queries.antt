@@ -1,19 +1,6 @@
 -- What a query on one table answers, for typed records.
 use Rattle.std.proofs.Common.{◌≡◌, ℕ, ◌+◌, pos, negsuc, List, [], ◌∷◌, ◌++◌, filter, map, flat_map, get_or, Bool, true, false, cond, None, unwrap_or, Ordering, Equal, refl, sym, ap, subst, ◌∙◌, arith, nat_le}
-use Rattle.std.specs.Ordering.{is_lt}
-use Rattle.std.specs.List.{list_all}
-use Rattle.std.specs.List.Sorted.{IsSorted, IsPermutation}
-use Rattle.std.proofs.lemmas.List.{get_or-map, length-map}
-use Rattle.sqlite_value.specs.declared.keys.Key.{Key}
-use Rattle.sqlite.specs.declared.types.Value.TheVariants.{Int}
-use Rattle.sqlite.specs.Order.{Row}
-use Rattle.sqlite.specs.Table.{Table}
-use Rattle.sqlite.specs.Tree.{Trees}
-use Rattle.sqlite.specs.Term.{Term, lit, Env, eval_all, holds}
-use Rattle.sqlite.specs.Query.{Query, Join, inner, end, IsAnswer, output, output_cmp, Output, matches, key_cmp}
-use Rattle.sqlite.specs.Program.{overlay}
-use Rattle.sqlite_schema.specs.declared.program.Program.{Program}
-use Rattle.sqlite_trees.proofs.ListLemmas.{map-map, filter-map, filter_same, all_of, pull_back}
+use Rattle.office_tables.proofs.Common.{Env, Int, IsAnswer, IsPermutation, IsSorted, Join, Key, Output, Program, Query, Row, Table, Term, Trees, all_of, end, eval_all, filter-map, filter_same, get_or-map, holds, inner, is_lt, key_cmp, length-map, list_all, lit, map-map, matches, output, output_cmp, overlay, pull_back}
 
 -- SELECT project FROM from WHERE filter ORDER BY order
 abbrev pub plain_query : Join → List Term → List Term → List (Term × Key) → Query
@@ -22,7 +9,8 @@ plain_query from filter project order =
 
 -- a program that finds the rows of one table: what a SELECT tells
 abbrev pub asking : Table → List Term → List Term → List (Term × Key) → Program
-asking table where_terms project order = record { lets = []; body = plain_query (inner table.tree end) where_terms project order }
+asking table where_terms project order =
+    record { lets = []; body = plain_query (inner table.tree end) where_terms project order }
 
 -- and what an UPDATE or a DELETE does, in whatever order
 abbrev pub choosing : Table → List Term → List Term → Program
@@ -31,7 +19,8 @@ choosing table where_terms project = asking table where_terms project []
 pub overlay_none : (db : Trees) (t : ℕ) → overlay db [] t ≡ db t
 overlay_none db t = elim (nat_le 2147483648 t) as (λ b. unwrap_or (cond b None None) (db t) ≡ db t) [ true ↦ refl | false ↦ refl ]
 
-pub each_match : (p : Row → Bool) (f : Row → Env) (rows : List Row) → flat_map (λ r. cond (p r) (f r ∷ []) []) rows ≡ map f (filter p rows)
+pub each_match : (p : Row → Bool) (f : Row → Env) (rows : List Row)
+    → flat_map (λ r. cond (p r) (f r ∷ []) []) rows ≡ map f (filter p rows)
 each_match p f [] = refl
 each_match p f (r ∷ rows) = elim (p r) as (λ b. cond b (f r ∷ []) [] ++ flat_map (λ r. cond (p r) (f r ∷ []) []) rows ≡ map f (cond b (r ∷ filter p rows) (filter p rows))) [
   | true ↦ ap (λ l. f r ∷ l) (each_match p f rows)
@@ -63,7 +52,8 @@ module _ (t : ℕ) (where_terms project : List Term) (order : List (Term × Key)
         ∙ map-map (λ r. params ∷ r ∷ []) row (filter keep xs)
 
     -- the answer shows the records that are kept, in an order that ORDER BY allows
-    pub answers : (rows : List Row) → IsAnswer q (overlay db []) params rows → (ys : List A) × IsPermutation (filter keep xs) ys × IsSorted cmp ys × (rows ≡ map show ys)
+    pub answers : (rows : List Row) → IsAnswer q (overlay db []) params rows
+        → (ys : List A) × IsPermutation (filter keep xs) ys × IsSorted cmp ys × (rows ≡ map show ys)
     unfolding out
     answers rows a =
         let staged : a.staged ≡ map (λ x. params ∷ row x ∷ []) (filter keep xs) = a.grouped ∙ found in
@@ -79,9 +69,12 @@ module _ (t : ℕ) (where_terms project : List Term) (order : List (Term × Key)
         (ys, back.1, sorted, a.shown ∙ ap (λ (os : List Output). map (λ o. o.1) os) back.2 ∙ map-map (λ (o : Output). o.1) out ys)
 
 -- the records that are kept, in whatever order they are found
-pub chosen : {A : Type 0} (t : ℕ) (where_terms project : List Term) (db : Trees) (params : Row) (row source : A → Row) (xs : List A) (keep : A → Bool) → db t ≡ map row xs
-    → ((x : A) → list_all (holds (params ∷ row x ∷ [])) where_terms ≡ keep x) → ((x : A) → eval_all project (params ∷ row x ∷ []) ≡ source x)
-    → (rows : List Row) → IsAnswer (plain_query (inner t end) where_terms project []) (overlay db []) params rows → (ys : List A) × IsPermutation (filter keep xs) ys × (rows ≡ map source ys)
+pub chosen : {A : Type 0} (t : ℕ) (where_terms project : List Term) (db : Trees) (params : Row) (row source : A → Row) (xs : List A) (keep : A → Bool)
+    → db t ≡ map row xs
+    → ((x : A) → list_all (holds (params ∷ row x ∷ [])) where_terms ≡ keep x)
+    → ((x : A) → eval_all project (params ∷ row x ∷ []) ≡ source x)
+    → (rows : List Row) → IsAnswer (plain_query (inner t end) where_terms project []) (overlay db []) params rows
+    → (ys : List A) × IsPermutation (filter keep xs) ys × (rows ≡ map source ys)
 chosen t where_terms project db params row source xs keep stored keeps represents rows answer =
     let got = answers t where_terms project [] db params row xs keep source (λ _. []) (λ _ _. Equal) stored keeps represents (λ _. refl) (λ _ _. refl) rows answer in
     (got.0, got.1, got.3)

@@ -1,21 +1,11 @@
 -- What a statement that changes rows leaves.
 use Rattle.std.proofs.Common.{◌≡◌, ℕ, List, true, false, Option, Some, None, Ok, Err, Result, IfErr, OnOk, refl, sym, ap, subst, slice_get}
-use Rattle.sqlite.specs.Order.{Row}
-use Rattle.sqlite.specs.Table.{Table}
-use Rattle.sqlite.specs.Command.{Command}
-use Rattle.sqlite.specs.Command.TheVariants.{Insert, Update, Delete}
-use Rattle.sqlite.specs.declared.error.Error.{Error}
-use Rattle.sqlite.specs.declared.run.Mode.{Mode}
-use Rattle.sqlite.specs.Effect.{Database}
-use Rattle.sqlite.specs.Does.{Tally, Does, AtPlace, OnRows}
+use Rattle.sqlite.specs.Command.TheVariants.{Delete}
 use Rattle.sqlite.specs.Listing.{understood}
-use Rattle.sqlite.specs.State.{State, HasCleanDisk, Survives, Executes, CommitsBy, Runs, Writes, mode_of}
-use Rattle.sqlite.proofs.Callers.{runs_as, statement_of}
-use Rattle.office_tables.specs.ChangeStatement.{IsOurs, changes_rows, Ran}
-use Rattle.office_tables.specs.Faults.{fault_of, HasCause, BlamesDisk}
-use Rattle.office_tables.specs.Schema.{schema}
-use Rattle.office_tables.specs.Step.{Goes, IsAborted, Spares, IsSame}
-use Rattle.office_tables.specs.declared.fault.StoreFault.{StoreFault}
+use Rattle.sqlite.specs.State.{CommitsBy, Writes}
+use Rattle.office_tables.specs.ChangeStatement.{changes_rows}
+use Rattle.office_tables.specs.Faults.{HasCause}
+use Rattle.office_tables.proofs.Common.{AtPlace, BlamesDisk, Command, Database, Does, Error, Executes, Goes, HasCleanDisk, Insert, IsAborted, IsOurs, IsSame, Mode, OnRows, Ran, Row, Runs, Spares, State, StoreFault, Survives, Table, Tally, Update, fault_of, mode_of, runs_as, schema, statement_of}
 use Rattle.office_tables.proofs.Calls.{early, Knows, known_in, is_write, write_cut, write_continues}
 use Rattle.office_tables.proofs.Steps.{went, same_value}
 use Rattle.office_tables.proofs.WriteCauses.{write_disk}
@@ -30,14 +20,20 @@ at_rows limit mode params before after tally command (Some t) h =
     let done = went h in
     ap (λ (d : Database). d.schema) (ap (λ (p : Tally × Database). p.1) (same_value (went (went done.2).2).2))
 
-keeps_schema : (limit : Option ℕ) (mode : Mode) (params : Row) (before after : Database) (text : List ℕ) (tally : Tally) (command : Command) → changes_rows command ≡ true
+keeps_schema : (limit : Option ℕ) (mode : Mode) (params : Row) (before after : Database) (text : List ℕ) (tally : Tally) (command : Command)
+    → changes_rows command ≡ true
     → Does limit mode params before text None command (Ok (tally, after)) → after.schema ≡ before.schema
-keeps_schema limit mode params before after text tally (Insert at from) is h = at_rows limit mode params before after tally (Insert at from) (slice_get before.schema.tables at) h
-keeps_schema limit mode params before after text tally (Update at q) is h = at_rows limit mode params before after tally (Update at q) (slice_get before.schema.tables at) h
-keeps_schema limit mode params before after text tally (Delete at q) is h = at_rows limit mode params before after tally (Delete at q) (slice_get before.schema.tables at) h
+keeps_schema limit mode params before after text tally (Insert at from) is h =
+    at_rows limit mode params before after tally (Insert at from) (slice_get before.schema.tables at) h
+keeps_schema limit mode params before after text tally (Update at q) is h =
+    at_rows limit mode params before after tally (Update at q) (slice_get before.schema.tables at) h
+keeps_schema limit mode params before after text tally (Delete at q) is h =
+    at_rows limit mode params before after tally (Delete at q) (slice_get before.schema.tables at) h
 keeps_schema limit mode params before after text tally _ is h = absurd (let e : false ≡ true = is in cc)
 
-as_write : (old new : State) (command : Command) (text : List ℕ) (params : Row) (count : ℕ) → changes_rows command ≡ true → Runs old new None command text params count → Writes old new None command text params count
+as_write : (old new : State) (command : Command) (text : List ℕ) (params : Row) (count : ℕ)
+    → changes_rows command ≡ true → Runs old new None command text params count
+    → Writes old new None command text params count
 as_write old new (Insert at from) text params count is h = h
 as_write old new (Update at q) text params count is h = h
 as_write old new (Delete at q) text params count is h = h
@@ -65,18 +61,23 @@ module _ (sql : List ℕ) (params : Row) (old new : State) (ours : IsOurs sql ol
   pub was_cut : (e : Error) → (HasCleanDisk new → Executes sql params old new (Err e)) → IsAborted old new
   was_cut e runs = write_cut sql params old new ours.command (is_one ours.command ours.changes) known e runs survives
 
-  pub blames : (e : Error) → (HasCleanDisk new → Executes sql params old new (Err e)) → HasCleanDisk new → BlamesDisk old new (fault_of e)
+  pub blames : (e : Error) → (HasCleanDisk new → Executes sql params old new (Err e)) → HasCleanDisk new
+      → BlamesDisk old new (fault_of e)
   blames e runs clean = write_disk sql params old new ours.command (is_one ours.command ours.changes) (known (early old new _ survives clean)) e (runs clean)
 
-  pub statement_spares : (e : Error) → (HasCleanDisk new → Executes sql params old new (Err e)) → HasCleanDisk new → Spares IsSame old new (fault_of e)
-  statement_spares e runs clean = spares_stopped old new (fault_of e) (blames e runs clean) (stops sql params old new e (runs clean))
+  pub statement_spares : (e : Error) → (HasCleanDisk new → Executes sql params old new (Err e)) → HasCleanDisk new
+      → Spares IsSame old new (fault_of e)
+  statement_spares e runs clean =
+      spares_stopped old new (fault_of e) (blames e runs clean) (stops sql params old new e (runs clean))
 
 -- ---- what callers cite
 
-pub ran_well : (sql : List ℕ) (params : Row) (old new : State) (r : Result Unit StoreFault) (P : Type 0) → Ran sql params old new r → ((count : ℕ) → Executes sql params old new (Ok count) → P) → OnOk r P
+pub ran_well : (sql : List ℕ) (params : Row) (old new : State) (r : Result Unit StoreFault) (P : Type 0)
+    → Ran sql params old new r → ((count : ℕ) → Executes sql params old new (Ok count) → P) → OnOk r P
 ran_well sql params old new (Ok done) P ran h = h ran.0 ran.1
 ran_well sql params old new (Err fault) P ran h = tt
 
-pub ran_badly : (sql : List ℕ) (params : Row) (old new : State) (r : Result Unit StoreFault) → Ran sql params old new r → ((e : Error) → Executes sql params old new (Err e) → HasCause old new (fault_of e)) → IfErr r (HasCause old new)
+pub ran_badly : (sql : List ℕ) (params : Row) (old new : State) (r : Result Unit StoreFault) → Ran sql params old new r
+    → ((e : Error) → Executes sql params old new (Err e) → HasCause old new (fault_of e)) → IfErr r (HasCause old new)
 ran_badly sql params old new (Ok done) ran h = tt
 ran_badly sql params old new (Err fault) ran h = subst (HasCause old new) (sym ran.1) (h ran.0 ran.2)

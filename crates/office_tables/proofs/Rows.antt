@@ -1,23 +1,10 @@
 -- Rows of typed records: what takes some out, and what puts them back changed.
 use Rattle.std.proofs.Common.{◌≡◌, inl, inr, ℤ, List, [], ◌∷◌, map, filter, Bool, true, false, not, ◌&&◌, if◌then◌else◌, cond, Ordering, Less, Equal, Greater, refl, sym, ap, ap₂, subst, ◌∙◌}
-use Rattle.std.specs.Cmp.{IsTotalOrder, on_total, int_cmp_total, tied_itself, tied_back, both_ways}
-use Rattle.std.specs.Ordering.{int_cmp, is_eq}
-use Rattle.std.specs.List.{list_any}
-use Rattle.std.specs.List.Sorted.{IsPermutation}
-use Rattle.std.proofs.lemmas.List.Sorted.{IsPermutation-sym}
-use Rattle.std.proofs.lemmas.Bool.{cases_Bool}
-use Rattle.sqlite.specs.declared.types.Value.TheVariants.{Int}
-use Rattle.sqlite.specs.Order.{Row, value_cmp}
-use Rattle.sqlite.specs.Tree.{rowid, has_rowid, put_row, without_rowid, IsTable}
-use Rattle.sqlite.specs.Edit.{without_all, put_all, are_fresh}
-use Rattle.sqlite_value.proofs.OrderLemmas.{value_cmp-Int, value_cmp_total}
-use Rattle.sqlite_rules.specs.Lists.{Has}
-use Rattle.sqlite_rules.proofs.ListLemmas.{all_has, all_from, some_has, some_from, has_filtered, has_kept}
-use Rattle.sqlite_rules.proofs.TableLemmas.{put_all_has, put_all_keeps, put_all_adds}
-use Rattle.sqlite_trees.proofs.ListLemmas.{filter-map, filter_same, filter_all, all_of, all-permutation, ascending-filter, ascending-map, ascending_weaker}
+use Rattle.std.specs.Cmp.{tied_itself, both_ways}
+use Rattle.sqlite.specs.Order.{value_cmp}
 use Rattle.sqlite_trees.proofs.TreeLemmas.{IsTable-put_row, not_true}
 use Rattle.catalogue_core.proofs.Imported.{or_not}
-use Rattle.office_tables.specs.Order.{Rises}
+use Rattle.office_tables.proofs.Common.{Has, Int, IsPermutation, IsPermutation-sym, IsTable, IsTotalOrder, Rises, Row, all-permutation, all_from, all_has, all_of, are_fresh, ascending-filter, ascending-map, ascending_weaker, cases_Bool, filter-map, filter_all, filter_same, has_filtered, has_kept, has_rowid, int_cmp, int_cmp_total, is_eq, list_any, on_total, put_all, put_all_adds, put_all_has, put_all_keeps, put_row, rowid, some_from, some_has, tied_back, value_cmp-Int, value_cmp_total, without_all, without_rowid}
 use Rattle.office_tables.proofs.Sorted.{same_rising}
 
 pub has_map : {A B : Type 0} (f : A → B) (xs : List A) (x : A) → Has xs x → Has (map f xs) (f x)
@@ -46,7 +33,8 @@ same_test p q e xs = filter_same p q xs (all_of (λ x. p x ≡ q x) e xs)
 pub kept_all : {A : Type 0} (xs : List A) → filter (λ _. true) xs ≡ xs
 kept_all xs = filter_all (λ _. true) xs (all_of (λ _. true ≡ true) (λ _. refl) xs)
 
-pub without_all_is : (ids : List ℤ) (rows : List Row) → without_all rows ids ≡ filter (λ r. not (list_any (λ id. has_rowid id r) ids)) rows
+pub without_all_is : (ids : List ℤ) (rows : List Row)
+    → without_all rows ids ≡ filter (λ r. not (list_any (λ id. has_rowid id r) ids)) rows
 without_all_is [] rows = sym (kept_all rows)
 without_all_is (id ∷ ids) rows =
     without_all_is ids (without_rowid id rows)
@@ -81,7 +69,8 @@ module _ {A : Type 0} (row : A → Row) (key : A → ℤ) (keyed : (x : A) → r
   pub tests : (id : ℤ) (x : A) → has_rowid id (row x) ≡ is_eq (int_cmp (key x) id)
   tests id x = ap (λ v. is_eq (value_cmp v (Int id))) (keyed x) ∙ ap is_eq (value_cmp-Int (key x) id)
 
-  pub same_key : (xs : List A) (x y : A) → Rises by_key xs → Has xs x → Has xs y → int_cmp (key x) (key y) ≡ Equal → x ≡ y
+  pub same_key : (xs : List A) (x y : A) → Rises by_key xs → Has xs x → Has xs y → int_cmp (key x) (key y) ≡ Equal
+      → x ≡ y
   same_key [] x y up hx hy e = absurd hx
   same_key (z ∷ zs) x y up (inl p) (inl q) e = p ∙ sym q
   same_key (z ∷ zs) x y up (inl p) (inr h) e = absurd (let k : Less ≡ Equal = sym (all_has (λ w. by_key z w ≡ Less) zs y up.0 h) ∙ ap (λ w. by_key w y) (sym p) ∙ e in cc)
@@ -104,7 +93,8 @@ module _ {A : Type 0} (row : A → Row) (key : A → ℤ) (keyed : (x : A) → r
             let some = some_has (λ id. has_rowid id (row x)) (map key ys) h in
             let from = map_has key ys some.0 some.1 in
             let y = chosen from.0 from.1 in
-            let tied : int_cmp (key x) (key from.0) ≡ Equal = eq_from _ (ap (λ id. is_eq (int_cmp (key x) id)) (sym from.2) ∙ sym (tests some.0 x) ∙ some.2) in
+            let tied : int_cmp (key x) (key from.0) ≡ Equal =
+            eq_from _ (ap (λ id. is_eq (int_cmp (key x) id)) (sym from.2) ∙ sym (tests some.0 x) ∙ some.2) in
             ap keep (same_key xs x from.0 up has y.0 tied) ∙ y.1
 
         back : keep x ≡ true → list_any (λ id. has_rowid id (row x)) (map key ys) ≡ true
@@ -164,12 +154,14 @@ module _ {A : Type 0} (row : A → Row) (key : A → ℤ) (keyed : (x : A) → r
           elim (cases_Bool (keep x)) [
             | inl is_kept ↦ subst (Has (put_all left news)) (ap row (sym (is_changed x is_kept)) ∙ sym is) (put_all_adds news left (row (change x)) fresh (has_map (λ x. row (change x)) ys x (kept x inner.1 is_kept)))
             | inr not_kept ↦
-                let rest : Has left (row x) = subst (λ l. Has l (row x)) (sym removed) (has_map row (filter (λ x. not (keep x)) xs) x (has_kept (λ x. not (keep x)) xs x inner.1 (ap not not_kept))) in
+                let rest : Has left (row x) =
+                subst (λ l. Has l (row x)) (sym removed) (has_map row (filter (λ x. not (keep x)) xs) x (has_kept (λ x. not (keep x)) xs x inner.1 (ap not not_kept))) in
                 subst (Has (put_all left news)) (ap row (sym (is_same x not_kept)) ∙ sym is) (put_all_keeps news left (row x) fresh rest)
           ]
 
       pub replaced : are_fresh left news ≡ true → put_all left news ≡ map row (map changed xs)
       replaced fresh =
-          let low : IsTable left = subst IsTable (sym removed) (table_rises (filter (λ x. not (keep x)) xs) (ascending-filter _ (λ x. not (keep x)) xs up)) in
+          let low : IsTable left =
+          subst IsTable (sym removed) (table_rises (filter (λ x. not (keep x)) xs) (ascending-filter _ (λ x. not (keep x)) xs up)) in
           same_rising (λ a b. value_cmp (rowid a) (rowid b)) (on_total rowid value_cmp_total) (put_all left news) (map row (map changed xs))
           (IsTable-put_all news left low) (table_rises (map changed xs) rises_still) there (back fresh)

@@ -1,14 +1,7 @@
 -- A list that strictly rises is the only order of its elements that is sorted.
 use Rattle.std.proofs.Common.{◌≡◌, inl, inr, suc, ◌+◌, ◌≤◌, List, [], ◌∷◌, length, filter, get_or, Bool, true, false, cond, Ordering, Less, Equal, Greater, refl, sym, ap, subst, ◌∙◌, arith}
-use Rattle.std.specs.Ordering.{is_lt, is_eq, ordering_reverse}
-use Rattle.std.specs.Cmp.{IsTotalOrder, tied_itself}
-use Rattle.std.specs.List.{AllByRecursion}
-use Rattle.std.specs.List.Sorted.{IsSorted, IsPermutation}
-use Rattle.std.proofs.lemmas.List.Sorted.{length_permutation, IsPermutation-sym, ranks_by}
-use Rattle.office_tables.specs.Order.{Rises}
-use Rattle.sqlite_rules.specs.Lists.{Has}
-use Rattle.sqlite_rules.proofs.ListLemmas.{all_has, all_from}
-use Rattle.sqlite_trees.proofs.ListLemmas.{all_weaker, all_both, all-permutation, IsPermutation-filter, filter_none}
+use Rattle.std.specs.Cmp.{tied_itself}
+use Rattle.office_tables.proofs.Common.{AllByRecursion, Has, IsPermutation, IsPermutation-filter, IsPermutation-sym, IsSorted, IsTotalOrder, Rises, all-permutation, all_both, all_from, all_has, all_weaker, filter_none, is_eq, is_lt, length_permutation, ordering_reverse, ranks_by}
 
 module _ {X : Type 0} (cmp : X → X → Ordering) (total : IsTotalOrder cmp) where
   sorted_tail : (y : X) (ys : List X) → IsSorted cmp (y ∷ ys) → IsSorted cmp ys
@@ -40,13 +33,15 @@ module _ {X : Type 0} (cmp : X → X → Ordering) (total : IsTotalOrder cmp) wh
   less_from Equal h k = absurd (cc)
   less_from Greater h k = absurd (cc)
 
-  pub fewer : (v y : X) (ys : List X) → length (filter (λ z. is_eq (cmp v z)) (y ∷ ys)) ≤ 1 → length (filter (λ z. is_eq (cmp v z)) ys) ≤ 1
+  pub fewer : (v y : X) (ys : List X) → length (filter (λ z. is_eq (cmp v z)) (y ∷ ys)) ≤ 1
+      → length (filter (λ z. is_eq (cmp v z)) ys) ≤ 1
   fewer v y ys = elim (is_eq (cmp v y)) as (λ b. length (cond b (y ∷ filter (λ z. is_eq (cmp v z)) ys) (filter (λ z. is_eq (cmp v z)) ys)) ≤ 1 → length (filter (λ z. is_eq (cmp v z)) ys) ≤ 1) [
     | true ↦ λ h. omega (arith, h)
     | false ↦ λ h. h
   ]
 
-  pub none_like : (y : X) (ys : List X) → length (filter (λ z. is_eq (cmp y z)) (y ∷ ys)) ≤ 1 → length (filter (λ z. is_eq (cmp y z)) ys) ≡ 0
+  pub none_like : (y : X) (ys : List X) → length (filter (λ z. is_eq (cmp y z)) (y ∷ ys)) ≤ 1
+      → length (filter (λ z. is_eq (cmp y z)) ys) ≡ 0
   none_like y ys h = let k = rw (tied_itself total y) at h in omega (arith, k)
 
   rises : (ys : List X) → IsSorted cmp ys → ((v : X) → length (filter (λ z. is_eq (cmp v z)) ys) ≤ 1) → Rises cmp ys
@@ -63,18 +58,22 @@ module _ {X : Type 0} (cmp : X → X → Ordering) (total : IsTotalOrder cmp) wh
   not_both : (x y : X) → cmp x y ≡ Less → cmp y x ≡ Less → ⊥
   not_both x y h k = not_below_itself x (total.trans x y x h k)
 
-  rest : (x : X) (xs ys : List X) → Rises cmp (x ∷ xs) → ((z : X) → Has (x ∷ xs) z → Has (x ∷ ys) z) → (z : X) → Has xs z → Has ys z
+  rest : (x : X) (xs ys : List X) → Rises cmp (x ∷ xs) → ((z : X) → Has (x ∷ xs) z → Has (x ∷ ys) z) → (z : X)
+      → Has xs z → Has ys z
   rest x xs ys up all z has = elim (all z (inr has)) [
     | inl same ↦ absurd (not_below_itself x (subst (λ w. cmp x w ≡ Less) same (all_has (λ w. cmp x w ≡ Less) xs z up.0 has)))
     | inr later ↦ later
   ]
 
-  same_heads : (x y : X) (xs ys : List X) → Rises cmp (x ∷ xs) → Rises cmp (y ∷ ys) → Has (y ∷ ys) x → Has (x ∷ xs) y → x ≡ y
+  same_heads : (x y : X) (xs ys : List X) → Rises cmp (x ∷ xs) → Rises cmp (y ∷ ys) → Has (y ∷ ys) x → Has (x ∷ xs) y
+      → x ≡ y
   same_heads x y xs ys up up' (inl e) h = e
   same_heads x y xs ys up up' (inr k) (inl e) = sym e
-  same_heads x y xs ys up up' (inr k) (inr h) = absurd (not_both x y (all_has (λ w. cmp x w ≡ Less) xs y up.0 h) (all_has (λ w. cmp y w ≡ Less) ys x up'.0 k))
+  same_heads x y xs ys up up' (inr k) (inr h) =
+      absurd (not_both x y (all_has (λ w. cmp x w ≡ Less) xs y up.0 h) (all_has (λ w. cmp y w ≡ Less) ys x up'.0 k))
 
-  pub same_rising : (xs ys : List X) → Rises cmp xs → Rises cmp ys → ((z : X) → Has xs z → Has ys z) → ((z : X) → Has ys z → Has xs z) → xs ≡ ys
+  pub same_rising : (xs ys : List X) → Rises cmp xs → Rises cmp ys → ((z : X) → Has xs z → Has ys z)
+      → ((z : X) → Has ys z → Has xs z) → xs ≡ ys
   same_rising [] [] up up' there back = refl
   same_rising [] (y ∷ ys) up up' there back = absurd (back y (inl refl))
   same_rising (x ∷ xs) [] up up' there back = absurd (there x (inl refl))

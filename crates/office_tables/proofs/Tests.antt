@@ -1,22 +1,15 @@
 -- What the conditions of the statements test.
 use Rattle.std.proofs.Common.{◌≡◌, ℕ, ℤ, List, [], ◌∷◌, Bool, true, false, ◌&&◌, Option, Some, None, refl, ap, ap₂, ◌∙◌, pos, nat_eq, arith}
-use Rattle.std.specs.Ordering.{is_eq, int_cmp, ordering_then}
-use Rattle.std.specs.Cmp.{both_ways, tied_itself, int_cmp_total}
-use Rattle.std.specs.Str.{bytes_eq}
+use Rattle.std.specs.Cmp.{both_ways, tied_itself}
 use Rattle.std.specs.FinMap.{int_cmp-IsAntisymmetric}
-use Rattle.office_tables.proofs.Rows.{eq_from}
-use Rattle.std.proofs.lemmas.Bool.Decides.{nat_tests}
 use Rattle.std.proofs.lemmas.Map.Text.{is_eq-slice_cmp}
-use Rattle.sqlite.specs.Query.{key_cmp}
-use Rattle.sqlite_value.specs.Keys.{ascending}
-use Rattle.sqlite_value.proofs.OrderLemmas.{then-Equal, value_cmp-Int, value_cmp-Text, value_cmp-Null, value_cmp-apart}
-use Rattle.sqlite.specs.declared.types.Value.TheVariants.{Null, Int, Text}
-use Rattle.sqlite.specs.Collation.TheVariants.{Binary}
 use Rattle.sqlite.specs.Ops.{binary, is_true, from_truth}
 use Rattle.sqlite.specs.Values.{or_null}
 use Rattle.sqlite_sql.specs.declared.ops.BinaryOp.TheVariants.{Compare, Is}
 use Rattle.sqlite_sql.specs.declared.ops.CompareOp.TheVariants.{Eq}
 use Rattle.office_tables.specs.Tests.{same_int, same_text, same_maybe}
+use Rattle.office_tables.proofs.Common.{Binary, Int, Null, Text, ascending, bytes_eq, int_cmp, int_cmp_total, is_eq, key_cmp, nat_tests, ordering_then, then-Equal, value_cmp-Int, value_cmp-Null, value_cmp-Text, value_cmp-apart}
+use Rattle.office_tables.proofs.Rows.{eq_from}
 
 pub flag : (b : Bool) → is_true (from_truth (Some b)) ≡ b
 flag true = refl
@@ -66,5 +59,6 @@ same_bytes a b = eq_texts a b ∙ is_eq-slice_cmp a b
 pub by_one_int : (a b : ℤ) → key_cmp 0 (ascending Binary ∷ []) (Int a ∷ []) (Int b ∷ []) ≡ int_cmp a b
 by_one_int a b = then-Equal _ ∙ value_cmp-Int a b
 
-pub by_two_ints : (a b c d : ℤ) → key_cmp 0 (ascending Binary ∷ ascending Binary ∷ []) (Int a ∷ Int c ∷ []) (Int b ∷ Int d ∷ []) ≡ ordering_then (int_cmp a b) (int_cmp c d)
+pub by_two_ints : (a b c d : ℤ)
+    → key_cmp 0 (ascending Binary ∷ ascending Binary ∷ []) (Int a ∷ Int c ∷ []) (Int b ∷ Int d ∷ []) ≡ ordering_then (int_cmp a b) (int_cmp c d)
 by_two_ints a b c d = ap₂ ordering_then (value_cmp-Int a b) (then-Equal _ ∙ value_cmp-Int c d)

@@ -1,47 +1,17 @@
 -- Why an UPDATE fails that leaves each row at its number and each key as it is, where the disk is clean and no limit is set.
 use Rattle.std.proofs.Common.{◌≡◌, ◌≢◌, inl, inr, ℕ, ℤ, ◌≤◌, List, [], ◌∷◌, length, map, filter, drop, slice_get, if◌then◌else◌, Bool, true, false, not, ◌&&◌, ◌||◌, ◌==◌, ltb, Err, Option, Some, None, Equal, refl, sym, ap, ap₂, subst, ◌∙◌, nat_lt, arith}
-use Rattle.std.proofs.lemmas.Bool.{eqb-true, eq-eqb, ltb-true, and_parts, and_from, or_left, or_right, or_cases, false_from_ne_true}
-use Rattle.std.specs.List.{AllByRecursion, list_all}
-use Rattle.std.specs.List.Sorted.{IsPermutation}
-use Rattle.std.proofs.lemmas.List.Sorted.{length_permutation}
-use Rattle.std.specs.Ordering.{int_cmp, is_eq}
-use Rattle.sqlite.specs.declared.types.Value.TheVariants.{Int}
-use Rattle.sqlite.specs.Order.{Row, column, value_cmp}
-use Rattle.sqlite.specs.Table.{Table}
-use Rattle.sqlite.specs.Schema.{Schema}
-use Rattle.sqlite.specs.Tree.{Trees, rowid, put_row, with_tree, IsAscending}
-use Rattle.sqlite.specs.Cast.{cast_row}
-use Rattle.sqlite.specs.Edit.{Edit, id_in, edit_of, edited, left_by, taken_by, are_fresh, Applies, IsRefused}
-use Rattle.sqlite.specs.Rowids.TheVariants.{Given}
-use Rattle.sqlite.specs.Command.TheVariants.{Update}
-use Rattle.sqlite.specs.declared.error.Error.{Error}
-use Rattle.sqlite.specs.declared.run.Mode.{Mode}
-use Rattle.sqlite.specs.Effect.{Database, Answers, RefusesQuery, edit_error}
-use Rattle.sqlite.specs.Does.{Does, AtPlace, OnRows, due}
-use Rattle.sqlite.specs.Rows.{Queried, Written}
+use Rattle.std.proofs.lemmas.Bool.{eqb-true, eq-eqb}
+use Rattle.sqlite.specs.Order.{value_cmp}
+use Rattle.sqlite.specs.Tree.{with_tree}
+use Rattle.sqlite.specs.Effect.{Answers}
 use Rattle.sqlite.specs.Listing.{understood}
-use Rattle.sqlite.specs.State.{State, IsLive, Executes, mode_of}
-use Rattle.sqlite.proofs.Callers.{IsPlain, command_of, statement_of, one_step}
-use Rattle.sqlite_rules.specs.Action.{works}
-use Rattle.sqlite_rules.specs.Calls.{ids_of}
 use Rattle.sqlite_rules.specs.InPlace.{AgreeAt, Twins, AreTwins}
-use Rattle.sqlite_rules.specs.Lists.{Has}
 use Rattle.sqlite_rules.specs.Steps.{is_typed, is_present}
 use Rattle.sqlite_rules.specs.declared.error.Refusal.{Refusal}
-use Rattle.sqlite_rules.specs.declared.error.Refusal.TheVariants.{Violates, Mismatch, NoRowid, BadReference, TooDeep}
-use Rattle.sqlite_rules.proofs.ListLemmas.{all_has, all_from, test_has, test_from, some_has, has_got, has_filtered}
+use Rattle.sqlite_rules.specs.declared.error.Refusal.TheVariants.{Violates}
 use Rattle.sqlite_rules.proofs.PlaceLemmas.{null_same, unique_stays, held_stays, twin_of}
-use Rattle.sqlite_rules.proofs.RuleLemmas.{refers_at, refers_from}
-use Rattle.sqlite_rules.proofs.TableLemmas.{put_has}
-use Rattle.sqlite_schema.specs.declared.program.Program.{Program}
-use Rattle.sqlite_schema.specs.declared.schema.Among.TheVariants.{All}
-use Rattle.sqlite_schema.specs.declared.schema.Constraint.TheVariants.{Datatype, NotNull, Check, PrimaryKey, Unique, ForeignKey}
-use Rattle.sqlite_schema.specs.declared.schema.Keys.TheVariants.{Enforced}
-use Rattle.sqlite_trees.proofs.ListLemmas.{IsPermutation-filter, ascending-filter}
-use Rattle.sqlite_trees.specs.View.{is_int}
-use Rattle.sqlite_schema.specs.Rules.{guards, references_fit, passes_checks, Keeps, Obeys, Refers}
-use Rattle.office_tables.specs.Faults.{fault_of, IsUnlimited, HasCause}
-use Rattle.office_tables.specs.Order.{Rises}
+use Rattle.office_tables.specs.Faults.{HasCause}
+use Rattle.office_tables.proofs.Common.{All, AllByRecursion, Applies, AtPlace, BadReference, Check, Database, Datatype, Does, Edit, Enforced, Error, Executes, ForeignKey, Given, Has, Int, IsAscending, IsLive, IsPermutation, IsPermutation-filter, IsPlain, IsRefused, IsUnlimited, Keeps, Mismatch, Mode, NoRowid, NotNull, Obeys, OnRows, PrimaryKey, Program, Queried, Refers, RefusesQuery, Rises, Row, Schema, State, Table, TooDeep, Trees, Unique, Update, Written, all_from, all_has, and_from, and_parts, are_fresh, ascending-filter, cast_row, column, command_of, due, edit_error, edit_of, edited, false_from_ne_true, fault_of, guards, has_filtered, has_got, id_in, ids_of, int_cmp, is_eq, is_int, left_by, length_permutation, list_all, ltb-true, mode_of, one_step, or_cases, or_left, or_right, passes_checks, put_has, put_row, references_fit, refers_at, refers_from, rowid, some_has, statement_of, taken_by, test_from, test_has, works}
 use Rattle.office_tables.proofs.Causes.{failed_cause}
 use Rattle.office_tables.proofs.NumberedKeys.{firm, firm_unique, unique_from_firm}
 use Rattle.office_tables.proofs.Failures.{IsWhole, fails_as}
@@ -55,12 +25,15 @@ use Rattle.office_tables.proofs.Updates.{left_is, put_are, changes_rows}
 
 pub data IsUpdateRefusal (limit : Option ℕ) (mode : Mode) (params : Row) (schema : Schema) (table : Table) (q : Program) (db : Trees) (e : Error) : Type 0 where
   -- the values do not type, or the limit on steps is reached
-  by_query : RefusesQuery limit (record { schema = schema; trees = db }) q params e → IsUpdateRefusal limit mode params schema table q db e
+  by_query : RefusesQuery limit (record { schema = schema; trees = db }) q params e
+      → IsUpdateRefusal limit mode params schema table q db e
   -- a rule of the table
-  by_rule : (rows : List Row) → Answers (record { schema = schema; trees = db }) q params rows → (why : Refusal) → IsRefused schema mode.keys db (edit_of db table (ids_of rows) Given 1 rows) why → e ≡ edit_error why
+  by_rule : (rows : List Row) → Answers (record { schema = schema; trees = db }) q params rows → (why : Refusal)
+      → IsRefused schema mode.keys db (edit_of db table (ids_of rows) Given 1 rows) why → e ≡ edit_error why
       → IsUpdateRefusal limit mode params schema table q db e
   -- a foreign key, once the rows are changed
-  by_parent : (rows : List Row) → Answers (record { schema = schema; trees = db }) q params rows → (after : Trees) → Applies schema mode.keys db (edit_of db table (ids_of rows) Given 1 rows) after
+  by_parent : (rows : List Row) → Answers (record { schema = schema; trees = db }) q params rows → (after : Trees)
+      → Applies schema mode.keys db (edit_of db table (ids_of rows) Given 1 rows) after
       → (Refers (due mode) schema after → ⊥) → IsUpdateRefusal limit mode params schema table q db e
 
 -- no action of a foreign key is set off, whatever rows are changed
@@ -69,14 +42,18 @@ IsIdle schema mode table db =
     (rows : List Row) → works schema mode.keys 0 table.tree (taken_by db (edit_of db table (ids_of rows) Given 1 rows)) (edit_of db table (ids_of rows) Given 1 rows).news ≡ []
 
 module _ (schema : Schema) (at : ℕ) (any : Table) (is : slice_get schema.tables at ≡ Some (plain any)) where
-  pub update_refused : (limit : Option ℕ) (mode : Mode) (params : Row) (text : List ℕ) (q : Program) (before : Database) (e : Error) → before.schema ≡ schema → IsIdle schema mode (plain any) before.trees
-      → Does limit mode params before text None (Update at q) (Err (Some e)) → IsUpdateRefusal limit mode params schema (plain any) q before.trees e
+  pub update_refused : (limit : Option ℕ) (mode : Mode) (params : Row) (text : List ℕ) (q : Program) (before : Database) (e : Error)
+      → before.schema ≡ schema → IsIdle schema mode (plain any) before.trees
+      → Does limit mode params before text None (Update at q) (Err (Some e))
+      → IsUpdateRefusal limit mode params schema (plain any) q before.trees e
   update_refused limit mode params text q before e has idle h =
       let does = subst (λ s. Does limit mode params (record before { schema = s }) text None (Update at q) (Err (Some e))) has h in
       let on = subst (λ o. AtPlace (λ t. OnRows (record { limit = limit; keys = mode.keys; schema = schema; table = t; params = params }) mode None (Update at q) before.trees) o (Err (Some e))) is does in
       go on
     where
-      queried : (stop : Option Error) → Queried limit (record { schema = schema; trees = before.trees }) q params (Err stop) → stop ≡ Some e → IsUpdateRefusal limit mode params schema (plain any) q before.trees e
+      queried : (stop : Option Error)
+          → Queried limit (record { schema = schema; trees = before.trees }) q params (Err stop) → stop ≡ Some e
+          → IsUpdateRefusal limit mode params schema (plain any) q before.trees e
       queried None h f = absurd h
       queried (Some x) h f = let same : x ≡ e = cc in by_query (rw same at h)
 
@@ -100,8 +77,10 @@ module _ (schema : Schema) (at : ℕ) (any : Table) (is : slice_get schema.table
 
 -- the rows that the query answers break no rule, and leave no row without its parent
 pub record Accepts (schema : Schema) (table : Table) (db : Trees) (rows : List Row) : Type 0 where
-  pub rules : (why : Refusal) → IsRefused schema Enforced db (edit_of db table (ids_of rows) Given 1 rows) why → why ≡ NoRowid
-  pub keys : (after : Trees) → Applies schema Enforced db (edit_of db table (ids_of rows) Given 1 rows) after → Refers All schema after
+  pub rules : (why : Refusal) → IsRefused schema Enforced db (edit_of db table (ids_of rows) Given 1 rows) why
+      → why ≡ NoRowid
+  pub keys : (after : Trees) → Applies schema Enforced db (edit_of db table (ids_of rows) Given 1 rows) after
+      → Refers All schema after
 
 module _ (sql : List ℕ) (params : Row) (old new : State) (schema : Schema) (has : old.now.schema ≡ schema) (at : ℕ) (any : Table) (there : slice_get schema.tables at ≡ Some (plain any)) (q : Program)
     (is : command_of (understood schema sql) ≡ Update at q) (bare : IsPlain (understood schema sql)) (whole : IsWhole (length sql) (length params) (understood schema sql)) where
@@ -114,7 +93,8 @@ module _ (sql : List ℕ) (params : Row) (old new : State) (schema : Schema) (ha
     | inl refused ↦ elim refused.why [
       | inl misplaced ↦ absurd (never_misplaced old (Update at q) e refl misplaced)
       | inr does ↦
-          let obeys : Obeys schema old.now.trees = subst (λ s. Obeys s old.now.trees) has (live refused.same.0.was_open).0.obeys in
+          let obeys : Obeys schema old.now.trees =
+          subst (λ s. Obeys s old.now.trees) has (live refused.same.0.was_open).0.obeys in
           why obeys (update_refused schema at any there old.step_limit (mode_of old) params (statement_of sql (understood schema sql)) q old.now e has idle does.1)
     ]
   ]
@@ -122,10 +102,14 @@ module _ (sql : List ℕ) (params : Row) (old new : State) (schema : Schema) (ha
       ruled : (r : Refusal) → r ≡ NoRowid → e ≡ edit_error r → HasCause old new (fault_of e)
       ruled r is named = subst (λ x. HasCause old new (fault_of x)) (sym (named ∙ ap edit_error is)) tt
 
-      why : Obeys schema old.now.trees → IsUpdateRefusal old.step_limit (mode_of old) params schema (plain any) q old.now.trees e → HasCause old new (fault_of e)
-      why obeys (by_query refused) = absurd (typed e (subst (λ limit. RefusesQuery limit (record { schema = schema; trees = old.now.trees }) q params e) free refused))
+      why : Obeys schema old.now.trees
+          → IsUpdateRefusal old.step_limit (mode_of old) params schema (plain any) q old.now.trees e
+          → HasCause old new (fault_of e)
+      why obeys (by_query refused) =
+          absurd (typed e (subst (λ limit. RefusesQuery limit (record { schema = schema; trees = old.now.trees }) q params e) free refused))
       why obeys (by_rule rows given r refused named) = ruled r ((accepts obeys rows given).rules r refused) named
-      why obeys (by_parent rows given after applied strays) = absurd (strays ((accepts obeys rows given).keys after applied))
+      why obeys (by_parent rows given after applied strays) =
+          absurd (strays ((accepts obeys rows given).keys after applied))
 
 -- ---- what an update in place keeps
 
@@ -158,10 +142,13 @@ module _ (kept : ℕ → Bool) (schema : Schema) (at : ℕ) (table : Table) (it 
   listed : Has schema.tables table
   listed = has_got schema.tables at table it.listed
 
-  kept_at : (a b : Row) → ((p : ℕ) → kept p ≡ true → column a p ≡ column b p) → (places : List ℕ) → list_all kept places ≡ true → AgreeAt places a b
-  kept_at a b same places all = all_from (λ p. column a p ≡ column b p) places (λ p h. same p (test_has kept places p all h))
+  kept_at : (a b : Row) → ((p : ℕ) → kept p ≡ true → column a p ≡ column b p) → (places : List ℕ)
+      → list_all kept places ≡ true → AgreeAt places a b
+  kept_at a b same places all =
+      all_from (λ p. column a p ≡ column b p) places (λ p h. same p (test_has kept places p all h))
 
-  twins : (a b : Row) → rowid a ≡ rowid b → ((p : ℕ) → kept p ≡ true → column a p ≡ column b p) → Twins (firm schema) table a b
+  twins : (a b : Row) → rowid a ≡ rowid b → ((p : ℕ) → kept p ≡ true → column a p ≡ column b p)
+      → Twins (firm schema) table a b
   twins a b id same =
       let parts = and_parts _ _ it.spared in
       record {
@@ -188,7 +175,8 @@ module _ (kept : ℕ → Bool) (schema : Schema) (at : ℕ) (table : Table) (it 
       | false ↦ twins (row x) (row x) refl (λ _ _. refl)
     ]
 
-    are_twins : (old new : Trees) → old table.tree ≡ map row xs → new table.tree ≡ map row (map changed xs) → AreTwins (firm schema) table old new
+    are_twins : (old new : Trees) → old table.tree ≡ map row xs → new table.tree ≡ map row (map changed xs)
+        → AreTwins (firm schema) table old new
     are_twins old new was now = record {
       before = λ r h.
           let outer = map_has row (map changed xs) r (subst (λ l. Has l r) now h) in
@@ -197,12 +185,14 @@ module _ (kept : ℕ → Bool) (schema : Schema) (at : ℕ) (table : Table) (it 
           (row inner.0, subst (λ l. Has l (row inner.0)) (sym was) (has_map row xs inner.0 inner.1), subst (Twins (firm schema) table (row inner.0)) is (twin inner.0));
       after = λ o h.
           let from = map_has row xs o (subst (λ l. Has l o) was h) in
-          let there : Has (new table.tree) (row (changed from.0)) = subst (λ l. Has l (row (changed from.0))) (sym now) (has_map row (map changed xs) (changed from.0) (has_map changed xs from.0 from.1)) in
+          let there : Has (new table.tree) (row (changed from.0)) =
+          subst (λ l. Has l (row (changed from.0))) (sym now) (has_map row (map changed xs) (changed from.0) (has_map changed xs from.0 from.1)) in
           (row (changed from.0), there, subst (λ o. Twins (firm schema) table o (row (changed from.0))) (sym from.2) (twin from.0));
       keys = (and_parts _ _ (and_parts _ _ it.fits).1).1;
     }
 
-    unique_kept : (db : Trees) → db table.tree ≡ map row xs → Keeps Unique schema db → Keeps Unique schema (with_tree db table.tree (map row (map changed xs)))
+    unique_kept : (db : Trees) → db table.tree ≡ map row xs → Keeps Unique schema db
+        → Keeps Unique schema (with_tree db table.tree (map row (map changed xs)))
     unique_kept db was keeps =
         let new = with_tree db table.tree (map row (map changed xs)) in
         unique_from_firm schema new (unique_stays (firm schema) db new table listed (apart_from schema.tables it.apart) (λ t _ other. elsewhere t.tree other) (are_twins db new was here) (firm_unique schema db keeps))
@@ -214,7 +204,8 @@ module _ (kept : ℕ → Bool) (schema : Schema) (at : ℕ) (table : Table) (it 
         elsewhere tree other = let none = false_from_ne_true (tree == table.tree) (λ h. other (eqb-true tree table.tree h)) in rw none refl
 
     -- each row that had its parents has them still
-    refers_kept : (old new : Trees) → old table.tree ≡ map row xs → new table.tree ≡ map row (map changed xs) → AllByRecursion (λ t. t.tree ≢ table.tree → new t.tree ≡ old t.tree) schema.tables
+    refers_kept : (old new : Trees) → old table.tree ≡ map row xs → new table.tree ≡ map row (map changed xs)
+        → AllByRecursion (λ t. t.tree ≢ table.tree → new t.tree ≡ old t.tree) schema.tables
         → Refers All schema old → Refers All schema new
     refers_kept old new was now others refers =
         let apart = apart_from schema.tables it.apart in
@@ -234,20 +225,26 @@ module _ (kept : ℕ → Bool) (schema : Schema) (at : ℕ) (table : Table) (it 
           let found = λ (z : A). is_eq (int_cmp (key v) (key z)) in
           rw (length_permutation _ _ (IsPermutation-filter found (filter keep xs) ys perm)) (once (by_key row key keyed) (by_key_total row key keyed) v (filter keep xs) (ascending-filter _ keep xs up))
 
-      tied : (a y : A) → is_eq (value_cmp (rowid (row a)) (rowid (row (change y)))) ≡ true → int_cmp (key a) (key y) ≡ Equal
+      tied : (a y : A) → is_eq (value_cmp (rowid (row a)) (rowid (row (change y)))) ≡ true
+          → int_cmp (key a) (key y) ≡ Equal
       tied a y h = eq_from _ (ap is_eq (sym (compared row key keyed a (change y) ∙ ap (int_cmp (key a)) (same_id y))) ∙ h)
 
-      fresh_from : (zs : List A) → ((v : A) → length (filter (λ z. is_eq (int_cmp (key v) (key z))) zs) ≤ 1) → (rows : List Row)
-          → ((z : A) (r : Row) → Has zs z → Has rows r → is_eq (value_cmp (rowid r) (rowid (row (change z)))) ≡ true → ⊥) → are_fresh rows (map (λ x. row (change x)) zs) ≡ true
+      fresh_from : (zs : List A) → ((v : A) → length (filter (λ z. is_eq (int_cmp (key v) (key z))) zs) ≤ 1)
+          → (rows : List Row)
+          → ((z : A) (r : Row) → Has zs z → Has rows r → is_eq (value_cmp (rowid r) (rowid (row (change z)))) ≡ true → ⊥)
+          → are_fresh rows (map (λ x. row (change x)) zs) ≡ true
       fresh_from [] once_each rows apart = refl
       fresh_from (z ∷ zs) once_each rows apart =
           let n = row (change z) in
           and_from _ _ (ap not (false_from_ne_true _ (λ taken. let r = some_has (λ r. is_eq (value_cmp (rowid r) (rowid n))) rows taken in apart z r.0 (inl refl) r.1 r.2)))
           (fresh_from zs (λ v. fewer (by_key row key keyed) (by_key_total row key keyed) v z zs (once_each v)) (put_row n rows) (λ w r h there tie. elim (put_has n rows r there) [
             | inl e ↦
-                let same : int_cmp (key z) (key w) ≡ Equal = ap (λ k. int_cmp k (key w)) (sym (same_id z)) ∙ tied (change z) w (subst (λ r. is_eq (value_cmp (rowid r) (rowid (row (change w)))) ≡ true) e tie) in
+                let same : int_cmp (key z) (key w) ≡ Equal =
+                ap (λ k. int_cmp k (key w)) (sym (same_id z))
+                ∙ tied (change z) w (subst (λ r. is_eq (value_cmp (rowid r) (rowid (row (change w)))) ≡ true) e tie) in
                 let none = none_from (by_key row key keyed) (by_key_total row key keyed) (λ w. is_eq (int_cmp (key z) (key w))) zs (none_like (by_key row key keyed) (by_key_total row key keyed) z zs (once_each z)) in
-                let clash : true ≡ false = sym (ap is_eq same) ∙ all_has (λ w. is_eq (int_cmp (key z) (key w)) ≡ false) zs w none h in
+                let clash : true ≡ false =
+                sym (ap is_eq same) ∙ all_has (λ w. is_eq (int_cmp (key z) (key w)) ≡ false) zs w none h in
                 cc
             | inr old ↦ apart w r (inr h) old tie
           ]))
@@ -258,7 +255,8 @@ module _ (kept : ℕ → Bool) (schema : Schema) (at : ℕ) (table : Table) (it 
           let from = map_has row (filter (λ x. not (keep x)) xs) r there in
           let x = has_filtered (λ x. not (keep x)) xs from.0 from.1 in
           let y = has_filtered keep xs z (had (filter keep xs) ys perm z h) in
-          let same : from.0 ≡ z = same_key row key keyed xs from.0 z up x.0 y.0 (tied from.0 z (subst (λ r. is_eq (value_cmp (rowid r) (rowid (row (change z)))) ≡ true) from.2 tie)) in
+          let same : from.0 ≡ z =
+          same_key row key keyed xs from.0 z up x.0 y.0 (tied from.0 z (subst (λ r. is_eq (value_cmp (rowid r) (rowid (row (change z)))) ≡ true) from.2 tie)) in
           let clash : false ≡ true = sym (ap not (ap keep same ∙ y.1)) ∙ x.1 in
           cc)
 
@@ -292,7 +290,8 @@ module _ (kept : ℕ → Bool) (schema : Schema) (at : ℕ) (table : Table) (it 
             rules (Violates NotNull) h = absurd (clash (all_new (is_present table) present) h)
             rules (Violates Check) h = absurd (clash (all_new (passes_checks table) checked) h)
             rules (Violates PrimaryKey) h = absurd (clash free h)
-            rules (Violates Unique) h = absurd (h (subst (λ l. Keeps Unique schema (with_tree db table.tree l)) (sym now) (unique_kept db stored (obeys.rules Unique))))
+            rules (Violates Unique) h =
+                absurd (h (subst (λ l. Keeps Unique schema (with_tree db table.tree l)) (sym now) (unique_kept db stored (obeys.rules Unique))))
             rules (Violates ForeignKey) h = absurd h
             rules Mismatch h = absurd (clash (all_new (λ r. is_int (rowid r)) (λ x. ap is_int (keyed (change x)))) h)
             rules NoRowid h = refl

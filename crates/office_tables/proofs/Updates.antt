@@ -1,19 +1,6 @@
 -- What UPDATE and DELETE leave of a table of typed records.
 use Rattle.std.proofs.Common.{◌≡◌, ℤ, List, [], ◌∷◌, map, filter, drop, Bool, true, not, if◌then◌else◌, refl, sym, ap, ap₂, ◌∙◌}
-use Rattle.std.specs.List.{AllByRecursion}
-use Rattle.std.specs.List.Sorted.{IsPermutation}
-use Rattle.sqlite.specs.declared.types.Value.TheVariants.{Int}
-use Rattle.sqlite.specs.Order.{Row}
-use Rattle.sqlite.specs.Table.{Table}
-use Rattle.sqlite.specs.Tree.{Trees, rowid}
-use Rattle.sqlite.specs.Cast.{cast_row}
-use Rattle.sqlite.specs.Edit.{id_in, edit_of, edited, left_by, numbered, without_all, put_all, are_fresh}
-use Rattle.sqlite.specs.Rowids.TheVariants.{Given}
-use Rattle.sqlite_rules.specs.Calls.{ids_of}
-use Rattle.sqlite_rules.specs.Lists.{Has}
-use Rattle.sqlite_rules.proofs.ListLemmas.{all_from}
-use Rattle.sqlite_trees.proofs.ListLemmas.{map-map}
-use Rattle.office_tables.specs.Order.{Rises}
+use Rattle.office_tables.proofs.Common.{AllByRecursion, Given, Has, Int, IsPermutation, Rises, Row, Table, Trees, all_from, are_fresh, cast_row, edit_of, edited, id_in, ids_of, left_by, map-map, numbered, put_all, rowid, without_all}
 use Rattle.office_tables.proofs.Rows.{by_key, removed, replaced}
 
 pub given_as : (news rows : List Row) → numbered Given rows news ≡ news

@@ -1,44 +1,17 @@
 -- That no write which is refused blames the disk.
 use Rattle.std.proofs.Common.{◌≡◌, ◌⊎◌, inl, inr, ℕ, List, Bool, true, false, Ok, Err, Result, Option, Some, None, IfErr, OnErr, ℤ, [], slice_get, fold, if◌then◌else◌, refl, sym, ap, subst, subst₂, ◌∙◌}
-use Rattle.std.proofs.lemmas.Bool.{cases_Bool}
 use Rattle.std.specs.Bool.{MatchBool}
-use Rattle.std.specs.Ordering.{is_lt, int_cmp}
-use Rattle.sqlite.specs.Order.{Row}
-use Rattle.sqlite.specs.Schema.{Schema}
-use Rattle.sqlite.specs.Table.{Table}
-use Rattle.sqlite.specs.Tree.{Trees}
-use Rattle.sqlite.specs.Source.{Source}
 use Rattle.sqlite.specs.Source.TheVariants as source
-use Rattle.sqlite.specs.Command.{Command}
-use Rattle.sqlite.specs.Command.TheVariants.{Insert, Update, Delete, CreateTable, CreateIndex}
-use Rattle.sqlite.specs.Edit.{Edit, edit_of}
-use Rattle.sqlite.specs.Rowids.TheVariants.{Given}
-use Rattle.sqlite_rules.specs.Calls.{ids_of}
-use Rattle.sqlite.specs.declared.error.Error.TheVariants.{SqliteFailure, ExecuteReturnedResults}
-use Rattle.sqlite.specs.declared.error.ErrorCode.TheVariants.{ConstraintViolation}
-use Rattle.sqlite_schema.specs.declared.schema.Constraint.TheVariants.{ForeignKey}
-use Rattle.sqlite.specs.declared.error.Error.{Error}
-use Rattle.sqlite_schema.specs.declared.schema.Keys.{Keys}
-use Rattle.sqlite_schema.specs.declared.program.Program.{Program}
+use Rattle.sqlite.specs.Command.TheVariants.{Delete}
 use Rattle.sqlite_rules.specs.declared.error.Refusal.{Refusal}
-use Rattle.sqlite_rules.specs.declared.error.Refusal.TheVariants.{Violates, Mismatch, NoRowid, BadReference, TooDeep}
+use Rattle.sqlite_rules.specs.declared.error.Refusal.TheVariants.{Violates}
 use Rattle.sqlite_catalog.specs.declared.error.Refusal as alter
 use Rattle.sqlite_catalog.specs.declared.error.Refusal.TheVariants as why
-use Rattle.sqlite_resolve.specs.declared.compiled.Compiled.{Compiled}
-use Rattle.sqlite_trees.specs.declared.error.StoreError.{StoreError}
-use Rattle.sqlite_trees.specs.declared.error.StoreError.TheVariants.{OutOfMemory, Io, Corrupt, Full, Broken, Unstorable}
-use Rattle.sqlite.specs.Clock.{timed}
-use Rattle.sqlite.specs.Effect.{Database, edit_error, alter_error, IsNoText, RefusesToAlter}
-use Rattle.sqlite.specs.Rows.{Part, Then, stamped, rowids_for, count_of, higher, Gives, Queried, Sourced, Edited, Counter, Counts, CounterIn, CountsIn, Task, Written, sequence}
-use Rattle.sqlite.specs.Does.{Does, AtPlace, OnRows, WritesRows, Concludes, Defines, MakesTable, MakesSequence, MakesIndex, lacks_sequence, sequence_text}
-use Rattle.sqlite.specs.declared.run.Mode.{Mode}
-use Rattle.sqlite.specs.State.{State, HasCleanDisk, shows_rows, ExecutesIn, Executes, IsNotRun, IsNoStatement, IsMisplaced, RunsCommand, Fails, store_error, text_of, mode_of}
+use Rattle.sqlite_trees.specs.declared.error.StoreError.TheVariants.{OutOfMemory}
+use Rattle.sqlite.specs.State.{ExecutesIn, IsNotRun}
 use Rattle.sqlite.specs.State as state
-use Rattle.sqlite.proofs.Callers.{IsPlain, command_of}
-use Rattle.office_tables.specs.Faults.{fault_of, BlamesDisk}
-use Rattle.office_tables.specs.Step.{Continues, IsAborted}
-use Rattle.office_tables.specs.declared.fault.StoreFault.{StoreFault}
 use Rattle.office_tables.specs.declared.fault.StoreFault.TheVariants as fault
+use Rattle.office_tables.proofs.Common.{AtPlace, BadReference, BlamesDisk, Broken, Command, Compiled, Concludes, ConstraintViolation, Continues, Corrupt, Counter, CounterIn, Counts, CountsIn, CreateIndex, CreateTable, Database, Defines, Does, Edit, Edited, Error, ExecuteReturnedResults, Executes, Fails, ForeignKey, Full, Given, Gives, HasCleanDisk, Insert, Io, IsAborted, IsMisplaced, IsNoStatement, IsNoText, IsPlain, Keys, MakesIndex, MakesSequence, MakesTable, Mismatch, Mode, NoRowid, OnRows, Part, Program, Queried, RefusesToAlter, Row, RunsCommand, Schema, Source, Sourced, SqliteFailure, State, StoreError, StoreFault, Table, Task, Then, TooDeep, Trees, Unstorable, Update, WritesRows, Written, alter_error, cases_Bool, command_of, count_of, edit_error, edit_of, fault_of, higher, ids_of, int_cmp, is_lt, lacks_sequence, mode_of, rowids_for, sequence, sequence_text, shows_rows, stamped, store_error, text_of, timed}
 use Rattle.office_tables.proofs.Calls.{early, Knows, is_write}
 use Rattle.office_tables.proofs.Causes.{cause_then}
 
@@ -58,11 +31,13 @@ by e x is h = ap (λ e. is_disk (fault_of e)) is ∙ h
 given : {A : Type 0} (a : A) → Blames (Gives a)
 given a e h = absurd (cc)
 
-refused : {A : Type 0} (x e : Error) → is_disk (fault_of x) ≡ false → ◌≡◌ {A = Result A (Option Error)} (Err (Some e)) (Err (Some x)) → is_disk (fault_of e) ≡ false
+refused : {A : Type 0} (x e : Error) → is_disk (fault_of x) ≡ false
+    → ◌≡◌ {A = Result A (Option Error)} (Err (Some e)) (Err (Some x)) → is_disk (fault_of e) ≡ false
 refused x e h is = by e x (cc) h
 
 -- the part stopped there with this error
-at_stop : {A : Type 0} {e : Error} {stop : Option Error} → ◌≡◌ {A = Result A (Option Error)} (Err (Some e)) (Err stop) → stop ≡ Some e
+at_stop : {A : Type 0} {e : Error} {stop : Option Error} → ◌≡◌ {A = Result A (Option Error)} (Err (Some e)) (Err stop)
+    → stop ≡ Some e
 at_stop is = cc
 
 either : {A : Type 0} (b : Bool) (P Q : Part A) → Blames P → Blames Q → Blames (λ out. MatchBool b (P out) (Q out))
@@ -100,7 +75,8 @@ module _ (task : Task) where
   counter : (db : Trees) → Blames (Counter task db)
   counter db = either task.table.is_counted (CounterIn task db (sequence task.schema)) (Gives None) (counter_in db (sequence task.schema)) (given None)
 
-  counts_in : (db : Trees) (n : Option Row) (top : ℤ) (counters : Option Table) → Blames (CountsIn task db n top counters)
+  counts_in : (db : Trees) (n : Option Row) (top : ℤ) (counters : Option Table)
+      → Blames (CountsIn task db n top counters)
   counts_in db n top None e h = refused _ e refl h
   counts_in db n top (Some t) e h = edits _ _ _ _ e h
 
@@ -117,8 +93,10 @@ module _ (task : Task) where
   inserts at from db e (inl (stop, h, is)) =
       let all : Database = record { schema = task.schema; trees = db } in
       sourced task.limit all (stamped task.table task.params) from e (subst (λ s. Sourced task.limit all (stamped task.table task.params) from (Err s)) (at_stop is) h)
-  inserts at from db e (inr (rows, r, inl (stop, h, is))) = counter db e (subst (λ s. Counter task db (Err s)) (at_stop is) h)
-  inserts at from db e (inr (rows, r, inr (n, c, inl (stop, h, is)))) = edits _ _ _ _ e (subst (λ s. Edited task.schema task.keys db (edit_of db task.table [] (rowids_for task.table (count_of n)) 0 rows) (Err s)) (at_stop is) h)
+  inserts at from db e (inr (rows, r, inl (stop, h, is))) =
+      counter db e (subst (λ s. Counter task db (Err s)) (at_stop is) h)
+  inserts at from db e (inr (rows, r, inr (n, c, inl (stop, h, is)))) =
+      edits _ _ _ _ e (subst (λ s. Edited task.schema task.keys db (edit_of db task.table [] (rowids_for task.table (count_of n)) 0 rows) (Err s)) (at_stop is) h)
   inserts at from db e (inr (rows, r, inr (n, c, inr (mid, w, inl (stop, h, is))))) =
       let top = fold higher (count_of n) (edit_of db task.table [] (rowids_for task.table (count_of n)) 0 rows).news in
       counts mid n top e (subst (λ s. Counts task mid n top (Err s)) (at_stop is) h)
@@ -128,18 +106,22 @@ module _ (task : Task) where
   updates at q db e (inl (stop, h, is)) =
       let all : Database = record { schema = task.schema; trees = db } in
       queried task.limit all q task.params e (subst (λ s. Queried task.limit all q task.params (Err s)) (at_stop is) h)
-  updates at q db e (inr (rows, r, inl (stop, h, is))) = edits _ _ _ _ e (subst (λ s. Edited task.schema task.keys db (edit_of db task.table (ids_of rows) Given 1 rows) (Err s)) (at_stop is) h)
+  updates at q db e (inr (rows, r, inl (stop, h, is))) =
+      edits _ _ _ _ e (subst (λ s. Edited task.schema task.keys db (edit_of db task.table (ids_of rows) Given 1 rows) (Err s)) (at_stop is) h)
   updates at q db e (inr (rows, r, inr (next, w, last))) = absurd (cc)
 
   deletes : (at : ℕ) (q : Program) (db : Trees) → Blames (WritesRows task db (Delete at q))
   deletes at q db e (inl (stop, h, is)) =
       let all : Database = record { schema = task.schema; trees = db } in
       queried task.limit all q task.params e (subst (λ s. Queried task.limit all q task.params (Err s)) (at_stop is) h)
-  deletes at q db e (inr (rows, r, inl (stop, h, is))) = edits _ _ _ _ e (subst (λ s. Edited task.schema task.keys db (edit_of db task.table (ids_of rows) Given 0 []) (Err s)) (at_stop is) h)
+  deletes at q db e (inr (rows, r, inl (stop, h, is))) =
+      edits _ _ _ _ e (subst (λ s. Edited task.schema task.keys db (edit_of db task.table (ids_of rows) Given 0 []) (Err s)) (at_stop is) h)
   deletes at q db e (inr (rows, r, inr (next, w, last))) = absurd (cc)
 
-  on_rows : (mode : Mode) (command : Command) (db : Trees) → Blames (WritesRows task db command) → Blames (OnRows task mode None command db)
-  on_rows mode command db writes e (inl (stop, h, is)) = writes e (subst (λ s. WritesRows task db command (Err s)) (at_stop is) h)
+  on_rows : (mode : Mode) (command : Command) (db : Trees) → Blames (WritesRows task db command)
+      → Blames (OnRows task mode None command db)
+  on_rows mode command db writes e (inl (stop, h, is)) =
+      writes e (subst (λ s. WritesRows task db command (Err s)) (at_stop is) h)
   on_rows mode command db writes e (inr (w, h, rest)) = concludes mode w e rest
 
 -- ---- definitions
@@ -153,7 +135,8 @@ alter_blames why.BadText = refl
 alter_blames why.TooBig = refl
 alter_blames (why.Violates rule) = refl
 
-alters : (text : List ℕ) (P : alter.Refusal → Type 0) (e : Error) → IsNoText text e ⊎ RefusesToAlter P e → is_disk (fault_of e) ≡ false
+alters : (text : List ℕ) (P : alter.Refusal → Type 0) (e : Error) → IsNoText text e ⊎ RefusesToAlter P e
+    → is_disk (fault_of e) ≡ false
 alters text P e (inl h) = by e _ h.1 refl
 alters text P e (inr h) = by e (alter_error h.0) h.2 (alter_blames h.0)
 
@@ -161,15 +144,22 @@ sequences : (db : Database) → Blames (MakesSequence db)
 sequences db = either (lacks_sequence db.schema) (MakesTable sequence_text db) (Gives db) (λ e h. alters sequence_text _ e h) (given db)
 
 tables : (mode : Mode) (text : List ℕ) (db : Database) → Blames (Defines mode (Then (MakesTable text db) MakesSequence))
-tables mode text db e (inl (stop, inl (halt, h, was), is)) = alters text _ e (subst (λ s. MakesTable text db (Err s)) (at_stop (was_is was is)) h)
+tables mode text db e (inl (stop, inl (halt, h, was), is)) =
+    alters text _ e (subst (λ s. MakesTable text db (Err s)) (at_stop (was_is was is)) h)
   where
-    was_is : {A B : Type 0} {e : Error} {stop halt : Option Error} → ◌≡◌ {A = Result A (Option Error)} (Err stop) (Err halt) → ◌≡◌ {A = Result B (Option Error)} (Err (Some e)) (Err stop) → ◌≡◌ {A = Result B (Option Error)} (Err (Some e)) (Err halt)
+    was_is : {A B : Type 0} {e : Error} {stop halt : Option Error}
+        → ◌≡◌ {A = Result A (Option Error)} (Err stop) (Err halt)
+        → ◌≡◌ {A = Result B (Option Error)} (Err (Some e)) (Err stop)
+        → ◌≡◌ {A = Result B (Option Error)} (Err (Some e)) (Err halt)
     was_is was is = cc
-tables mode text db e (inl (stop, inr (made, t, h), is)) = sequences made e (subst (λ s. MakesSequence made (Err s)) (at_stop is) h)
+tables mode text db e (inl (stop, inr (made, t, h), is)) =
+    sequences made e (subst (λ s. MakesSequence made (Err s)) (at_stop is) h)
 tables mode text db e (inr (after, m, last)) = absurd (cc)
 
-indexes : (mode : Mode) (text : List ℕ) (db : Database) (table : Table) → Blames (Defines mode (MakesIndex text db table))
-indexes mode text db table e (inl (stop, h, is)) = alters text _ e (subst (λ s. MakesIndex text db table (Err s)) (at_stop is) h)
+indexes : (mode : Mode) (text : List ℕ) (db : Database) (table : Table)
+    → Blames (Defines mode (MakesIndex text db table))
+indexes mode text db table e (inl (stop, h, is)) =
+    alters text _ e (subst (λ s. MakesIndex text db table (Err s)) (at_stop is) h)
 indexes mode text db table e (inr (after, m, last)) = absurd (cc)
 
 -- ---- statements
@@ -209,7 +199,8 @@ module _ (old new : State) where
   fair fault.Disk is = absurd (let clash : true ≡ false = is in cc)
   fair fault.Schema is = tt
 
-  fair_store : (too_big : Type 0) (cause : StoreError) → state.HasCause old new too_big cause → BlamesDisk old new (fault_of (store_error cause))
+  fair_store : (too_big : Type 0) (cause : StoreError) → state.HasCause old new too_big cause
+      → BlamesDisk old new (fault_of (store_error cause))
   fair_store too_big OutOfMemory h = tt
   fair_store too_big Io h = inl h
   fair_store too_big Corrupt h = inl h
@@ -218,9 +209,11 @@ module _ (old new : State) where
   fair_store too_big Unstorable h = tt
 
   pub fair_failure : (too_big : Type 0) (e : Error) → Fails old new too_big e → BlamesDisk old new (fault_of e)
-  fair_failure too_big e failed = subst (λ e. BlamesDisk old new (fault_of e)) (sym failed.1) (fair_store too_big failed.0 failed.2)
+  fair_failure too_big e failed =
+      subst (λ e. BlamesDisk old new (fault_of e)) (sym failed.1) (fair_store too_big failed.0 failed.2)
 
-pub no_statement : (s : State) (sql : List ℕ) (params : Row) (e : Error) → IsNoStatement s sql params e → is_disk (fault_of e) ≡ false
+pub no_statement : (s : State) (sql : List ℕ) (params : Row) (e : Error) → IsNoStatement s sql params e
+    → is_disk (fault_of e) ≡ false
 no_statement s sql params e (inl h) = by e _ h.2 refl
 no_statement s sql params e (inr (c, u, inl h)) = by e _ h.1 refl
 no_statement s sql params e (inr (c, u, inr (inl h))) = by e _ h.1 refl
@@ -231,7 +224,8 @@ misplaced s command e (inl h) = by e _ h.0 refl
 misplaced s command e (inr h) = by e _ h.0 refl
 
 module _ (sql : List ℕ) (params : Row) (old new : State) (command : Command) (writes : is_write command ≡ true) (known : Knows sql command old) where
-  ran : (c : Compiled) (full : Row) → c.command ≡ command → c.returning ≡ None → (e : Error) → RunsCommand old new sql c full (Err e) → BlamesDisk old new (fault_of e)
+  ran : (c : Compiled) (full : Row) → c.command ≡ command → c.returning ≡ None → (e : Error)
+      → RunsCommand old new sql c full (Err e) → BlamesDisk old new (fault_of e)
   ran c full is none e (inl (inl h, same)) = fair old new (fault_of e) (misplaced old c.command e h)
   ran c full is none e (inl (inr h, same)) =
       let text = text_of sql c in
@@ -252,12 +246,14 @@ module _ (sql : List ℕ) (params : Row) (old new : State) (command : Command) (
       ]
 
 -- a later step's fault is the whole call's
-pub disk_then : (a b c : State) → Continues a b → HasCleanDisk b → (e : StoreFault) → BlamesDisk b c e → BlamesDisk a c e
+pub disk_then : (a b c : State) → Continues a b → HasCleanDisk b → (e : StoreFault) → BlamesDisk b c e
+    → BlamesDisk a c e
 disk_then a b c p clean fault.Memory h = tt
 disk_then a b c p clean fault.Disk h = cause_then a b c p clean fault.Disk h
 disk_then a b c p clean fault.Schema h = tt
 
 -- the fault of the last step, whose result is the call's
-pub last_disk : {X : Type 0} (a b c : State) → Continues a b → (r : Result X StoreFault) → OnErr r (IsAborted b c) → HasCleanDisk c → IfErr r (BlamesDisk b c) → IfErr r (BlamesDisk a c)
+pub last_disk : {X : Type 0} (a b c : State) → Continues a b → (r : Result X StoreFault) → OnErr r (IsAborted b c)
+    → HasCleanDisk c → IfErr r (BlamesDisk b c) → IfErr r (BlamesDisk a c)
 last_disk a b c p (Ok x) cut clean h = tt
 last_disk a b c p (Err e) cut clean h = disk_then a b c p (early b c _ cut.crash clean) e h

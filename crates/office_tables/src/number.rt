@@ -1,11 +1,12 @@
 //! Numbers that a table can keep.
 
-ghost use Rattle.std.specs.Prelude.{◌≡◌, ◌^◌, ◌≤◌, pos, Some, None, option_map, IfSome};
+ghost use Rattle.std.specs.Prelude.{◌≡◌, ◌^◌, ◌≤◌, pos, Some, None, option_map, IfSome, IfOk, IfErr};
 ghost use Rattle.sqlite.specs.Value.{owned};
 ghost use Rattle.sqlite.specs.Values.{or_null};
 ghost use Rattle.sqlite.specs.declared.types.Value.TheVariants.{Int};
 ghost use Rattle.isad_core.specs.Limits.{IsNumber};
 
+use crate::fault::StoreFault;
 use sqlite::types::{FromSql, FromSqlError, ValueRef};
 use std::alloc::Global;
 use std::marker::Model;
@@ -55,6 +56,18 @@ impl Number {
         ensures { owned result ≡ Int (pos self) }
     {
         ValueRef::Int(self.value as i64)
+    }
+}
+
+/// The number of something that sound tables have. Fails with `StoreFault::Schema` if it is 2^63 or greater.
+pub fn known_number(n: u64) -> Result<Number, StoreFault>
+    ensures same { IfOk result (λ number. number ≡ n) }
+    ensures great { IfErr result (λ _. 2 ^ 63 ≤ n) }
+    ensures fair { IfErr result (λ e. e ≡ StoreFault.Schema) }
+{
+    match Number::of(n) {
+        Some(number) => Ok(number),
+        None => Err(StoreFault::Schema),
     }
 }
 

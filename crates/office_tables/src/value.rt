@@ -1,6 +1,6 @@
 //! Parameters of statements, as SQL has them.
 
-ghost use Rattle.std.specs.Prelude.{◌≡◌, pos, option_map, IfSome};
+ghost use Rattle.std.specs.Prelude.{◌≡◌, pos};
 ghost use Rattle.sqlite.specs.Value.{owned};
 ghost use Rattle.sqlite.specs.Values.{or_null};
 ghost use Rattle.sqlite.specs.declared.types.Value.TheVariants.{Int, Text as words_cell};
@@ -18,16 +18,6 @@ pub fn number<'a>(n: u64) -> ValueRef<'a>
     ensures { owned result ≡ Int (pos n) }
 {
     ValueRef::Int(n as i64)
-}
-
-pub fn number_or_null<'a>(n: Option<u64>) -> ValueRef<'a>
-    requires { IfSome n IsNumber }
-    ensures { owned result ≡ or_null Int (option_map pos n) }
-{
-    match n {
-        Some(n) => ValueRef::Int(n as i64),
-        None => ValueRef::Null,
-    }
 }
 
 pub fn truth<'a>(b: bool) -> ValueRef<'a>

@@ -1,25 +1,14 @@
 -- What a store that is closed leaves in its files.
 use Rattle.std.proofs.Common.{◌≡◌, ◌∙◌, ap, inl, inr, subst, sym, arith, IsTrue}
-use Rattle.std.proofs.lemmas.Bool.{both_ways, cases_Bool}
 use Rattle.sqlite.specs.Closing.{IsCopied}
-use Rattle.sqlite.specs.Effect.{Database}
-use Rattle.sqlite.specs.Files.{IsClosed, file_state}
-use Rattle.sqlite.specs.Held.{Held}
-use Rattle.sqlite.specs.Recovery.{Image}
-use Rattle.sqlite.specs.Start.{FindsIn}
-use Rattle.sqlite.specs.State.{HasCleanDisk, Opens, Survives}
-use Rattle.sqlite_disk.specs.declared.Disk.{Ghosts}
-use Rattle.sqlite_disk.specs.declared.Files.{Files}
 use Rattle.sqlite_pool.proofs.StateLemmas.{clean_is}
 use Rattle.sqlite_store.specs.FileStore as store
 use Rattle.sqlite_store.specs.Laws.{settled_at}
-use Rattle.sqlite_store.specs.declared.store.FileStore.{FileStore}
 use Rattle.sqlite_trees.proofs.Doubt.{no_doubt}
 use Rattle.sqlite_trees.specs.View.{IsClean}
 use Rattle.sqlite_wal.proofs.LogLemmas.{SeenMayStay}
 use Rattle.sqlite_wal.specs.Reads.{AreClean}
-use Rattle.office_tables.proofs.Calls.{early}
-use Rattle.program.specs.ClosedFiles.{ACheckChangesNothing, AreAsFound, AreInTheFile, HasLeft, HaveCleanDisk, Hold}
+use Rattle.program.proofs.Common.{ACheckChangesNothing, AreAsFound, AreInTheFile, Database, FileStore, Files, FindsIn, Ghosts, HasCleanDisk, HasLeft, HaveCleanDisk, Held, Hold, Image, IsClosed, Opens, Survives, both_ways, cases_Bool, early, file_state}
 use Rattle.program.proofs.StoreLemmas.{held_in}
 
 module _ {D : Type 0} {g : Ghosts D} (conn : Held (FileStore D g)) (files : Files D)
@@ -30,13 +19,15 @@ module _ {D : Type 0} {g : Ghosts D} (conn : Held (FileStore D g)) (files : File
     clean = λ honest. (copied honest).was_clean;
     settled = settled;
     hold = λ honest opened.
-        let there : AreInTheFile g files (file_state conn).committed.trees = record { now = (copied honest).seen; later = (copied honest).left } in
+        let there : AreInTheFile g files (file_state conn).committed.trees =
+        record { now = (copied honest).seen; later = (copied honest).left } in
         inl (subst (λ (db : Database). AreInTheFile g files db.trees) (sym (settled (copied honest).was_clean opened)) there);
     shut = λ honest is_shut. absurd (both_ways _ is_shut (copied honest).was_open);
   }
 
   -- the log was not brought over
-  pub left_over : SeenMayStay g → (last : FileStore D g) → (files.log, files.db) ≡ store.files last → IsClosed conn last → HasLeft conn files
+  pub left_over : SeenMayStay g → (last : FileStore D g) → (files.log, files.db) ≡ store.files last → IsClosed conn last
+      → HasLeft conn files
   left_over stays last same closed =
       let sure : (HaveCleanDisk g files → IsClean (store.view last)) =
       λ honest. no_doubt _ (clean_is last.pool ∙ subst (λ (p : D × D). AreClean g p.0 p.1) same honest) in
@@ -53,8 +44,10 @@ module _ {D : Type 0} {g : Ghosts D} (conn : Held (FileStore D g)) (files : File
       }
 
 -- what was opened and closed without a commit is as it was found
-pub as_found : {D : Type 0} {g : Ghosts D} (image : Image) (found last : Held (FileStore D g)) (files : Files D) → SeenMayStay g
-    → (HasCleanDisk (file_state found) → Opens (file_state found)) → (HasCleanDisk (file_state found) → FindsIn image (file_state found))
+pub as_found : {D : Type 0} {g : Ghosts D} (image : Image) (found last : Held (FileStore D g)) (files : Files D)
+    → SeenMayStay g
+    → (HasCleanDisk (file_state found) → Opens (file_state found))
+    → (HasCleanDisk (file_state found) → FindsIn image (file_state found))
     → Survives (file_state found) (file_state last) (λ _. ⊥)
     → (HasCleanDisk (file_state last) → IsTrue (file_state last).is_open → (file_state last).now ≡ (file_state found).now)
     → HasLeft last files → AreAsFound g image files
@@ -83,5 +76,6 @@ changes_nothing g image judged files was honest tables holds =
     subst (Hold g files) (held.holds tables holds) hold
 
 -- an office is seen as its connection
-pub seen_as : {D : Type 0} {g : Ghosts D} (conn office : Held (FileStore D g)) (files : Files D) → conn ≡ office → HasLeft conn files → HasLeft office files
+pub seen_as : {D : Type 0} {g : Ghosts D} (conn office : Held (FileStore D g)) (files : Files D) → conn ≡ office
+    → HasLeft conn files → HasLeft office files
 seen_as {D} {g} conn office files same left = subst (λ (h : Held (FileStore D g)). HasLeft h files) same left

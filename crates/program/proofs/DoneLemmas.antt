@@ -1,16 +1,9 @@
 -- What the files hold once a command is done.
 use Rattle.std.proofs.Common.{IsTrue, [], ◌∷◌, inl, inr, refl}
-use Rattle.sqlite.specs.Files.{file_state}
-use Rattle.sqlite.specs.Recovery.{Image}
-use Rattle.sqlite_disk.specs.declared.Disk.{Ghosts}
-use Rattle.office_tables.proofs.Calls.{early}
+use Rattle.http_desk.specs.BusyMessages.{WasBusyWith}
+use Rattle.program.proofs.Common.{AreTablesAfter, Ghosts, HoldState, Image, WereBusyWith, WhatWasBroughtOverIsHeld, WhatWasMadeIsHeld, WhatWasNotMadeIsLeft, WhatWasSaidIsHeld, WhatWasServedIsHeld, WhatWasTakenInIsHeld, early, file_state}
 use Rattle.program.proofs.CrashLemmas.{found_such, left_only, open_so}
 use Rattle.program.proofs.HeadlineLemmas.{held_so}
-use Rattle.program.specs.ClosedFiles.{HoldState}
-use Rattle.http_desk.specs.BusyMessages.{WasBusyWith}
-use Rattle.program.specs.Connections.{WereBusyWith}
-use Rattle.program.specs.KeptOffices.{AreTablesAfter}
-use Rattle.program.specs.Stores.{WhatWasBroughtOverIsHeld, WhatWasMadeIsHeld, WhatWasNotMadeIsLeft, WhatWasSaidIsHeld, WhatWasServedIsHeld, WhatWasTakenInIsHeld}
 
 module _ {D : Type 0} (g : Ghosts D) (image : Image) where
   pub made : WhatWasMadeIsHeld g image

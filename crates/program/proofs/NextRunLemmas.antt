@@ -2,37 +2,20 @@
 use Rattle.std.proofs.Common.{◌≡◌, ◌∙◌, ◌++◌, List, [], ◌∷◌, ap, inl, inr, refl, subst, subst₂, sym}
 use Rattle.std.proofs.Math.Logic.{∥∥₁_elim}
 use Rattle.sqlite.specs.Closing.{HoldsAlone, IsCopied}
-use Rattle.sqlite.specs.Effect.{Database}
-use Rattle.sqlite.specs.Files.{HoldsDatabase, file_state}
-use Rattle.sqlite.specs.Held.{Held}
-use Rattle.sqlite.specs.Recovery.{Image}
 use Rattle.sqlite.specs.State as store
-use Rattle.sqlite.specs.Tree.{Trees}
-use Rattle.sqlite_disk.specs.declared.Disk.{Ghosts}
-use Rattle.sqlite_disk.specs.declared.Files.{Files}
-use Rattle.sqlite_store.specs.declared.store.FileStore.{FileStore}
 use Rattle.sqlite_trees.specs.Props.{Trees-set}
-use Rattle.office_tables.specs.Versions.{Second}
-use Rattle.nested_sets.specs.Representation.{RepresentsSpanRows}
-use Rattle.office.specs.IdleOffice.{IsIn}
 use Rattle.office.proofs.NewOffices.{founded_sound}
 use Rattle.office_core.proofs.Texts.{always_sound_office}
-use Rattle.office_core.specs.Rules.{state_after, step}
-use Rattle.office_core.specs.SoundOffice.{IsSoundOffice}
 use Rattle.office_core.specs.State.{State}
-use Rattle.office_core.specs.declared.command.Command.{Command}
 use Rattle.office_core.specs.declared.command.Command.TheVariants.{Import}
-use Rattle.office_tables.proofs.Calls.{early}
-use Rattle.refinement.specs.Representation.{RepresentsState}
 use Rattle.http_desk.proofs.Meanings.{runs_the_machine}
-use Rattle.program.proofs.HeadlineLemmas.{shows}
-use Rattle.program.specs.ClosedFiles.{HasLeft}
-use Rattle.program.specs.Connections.{AreSessions, Connection}
 use Rattle.program.specs.NextRuns.{BeginsAsBroughtOver, BeginsAsFound, BeginsAsMade, ConnectionsBring, FailsToMigrate, GoesOn, IsAfter, IsBusy, IsFoundNext, Judges, Run, RunBrings, Serves, TakesIn, Talks, closed_by}
-use Rattle.program.specs.OpenedFiles.{AreHeld, IsFound}
+use Rattle.program.proofs.Common.{AreHeld, AreSessions, Command, Connection, Database, FileStore, Files, Ghosts, HasLeft, Held, HoldsDatabase, Image, IsFound, IsIn, IsSoundOffice, RepresentsSpanRows, RepresentsState, Second, Trees, early, file_state, state_after, step}
+use Rattle.program.proofs.HeadlineLemmas.{shows}
 
 -- more commands after some are all of them
-after_more : (start : State) (commands more : List Command) → state_after (state_after start commands) more ≡ state_after start (commands ++ more)
+after_more : (start : State) (commands more : List Command)
+    → state_after (state_after start commands) more ≡ state_after start (commands ++ more)
 after_more start [] more = refl
 after_more start (asked ∷ commands) more = after_more (step start asked).0 commands more
 
@@ -43,7 +26,8 @@ one_database : (image : Image) (a b : Trees) → AreHeld image a → ∥ HoldsDa
 one_database image a b held holds = ∥∥₁_elim holds (Trees-set a b) (λ there. held.holds b there)
 
 -- so the office that a run finds is in the state that the runs before it led to
-finds : (image : Image) (at : store.State) (s : State) → IsFound image at → IsAfter image s [] → IsIn RepresentsSpanRows Second s at
+finds : (image : Image) (at : store.State) (s : State) → IsFound image at → IsAfter image s []
+    → IsIn RepresentsSpanRows Second s at
 finds image at s found was opened =
     let same = one_database image found.found.trees was.tables found.held was.holds in
     let there : RepresentsState RepresentsSpanRows Second found.found s =
@@ -62,11 +46,13 @@ module _ {D : Type 0} {g : Ghosts D} (conn : Held (FileStore D g)) (files : File
       subst (λ (db : Database). ∥ HoldsDatabase next db.trees ∥₁) (sym (left.settled copied.was_clean copied.was_open)) there.both
 
   -- the next run finds the office in the state that the connection showed
-  holds_next : (s : State) → RepresentsState RepresentsSpanRows Second (file_state conn).now s → IsSoundOffice s → IsAfter next s []
+  holds_next : (s : State) → RepresentsState RepresentsSpanRows Second (file_state conn).now s → IsSoundOffice s
+      → IsAfter next s []
   holds_next s is sound = record { tables = (file_state conn).now.trees; holds = is_next; represents = shows (file_state conn).now s is; sound = sound }
 
   -- or as it was, where the connection has the tables that were found
-  stays_next : (image : Image) (s : State) (at : Database) → AreHeld image at.trees → (file_state conn).now ≡ at → IsAfter image s [] → IsAfter next s []
+  stays_next : (image : Image) (s : State) (at : Database) → AreHeld image at.trees → (file_state conn).now ≡ at
+      → IsAfter image s [] → IsAfter next s []
   stays_next image s at held same was = record {
     tables = was.tables;
     holds = subst (λ t. ∥ HoldsDatabase next t ∥₁) (ap (λ (db : Database). db.trees) same ∙ one_database image at.trees was.tables held was.holds) is_next;
@@ -76,7 +62,8 @@ module _ {D : Type 0} {g : Ghosts D} (conn : Held (FileStore D g)) (files : File
 
 -- ---- the commands of a run
 
-bring_all : (s t : State) (connections : List Connection) → AreSessions connections s t → (commands : List Command) × ConnectionsBring s connections commands t × (t ≡ state_after s commands)
+bring_all : (s t : State) (connections : List Connection) → AreSessions connections s t
+    → (commands : List Command) × ConnectionsBring s connections commands t × (t ≡ state_after s commands)
 bring_all s t [] same = ([], (refl, sym same), sym same)
 bring_all s t (it ∷ earlier) (mid, before, session) =
     let (first, bring, leaves) = bring_all s mid earlier before in
@@ -85,7 +72,8 @@ bring_all s t (it ∷ earlier) (mid, before, session) =
 
 module _ {D : Type 0} (g : Ghosts D) (image : Image) where
   -- a run from the state in which it finds the office
-  goes : (files : Files D) (next : Image) (s : State) → IsAfter image s [] → (run : Run g image files) → IsCopied (closed_by run) files → IsFoundNext g files next
+  goes : (files : Files D) (next : Image) (s : State) → IsAfter image s [] → (run : Run g image files)
+      → IsCopied (closed_by run) files → IsFoundNext g files next
       → (more : List Command) × (t : State) × RunBrings s run more t × (t ≡ state_after s more) × IsAfter next t []
   goes files next s was (TakesIn source reply it) copied found =
       let clean = copied.was_clean in
@@ -122,7 +110,8 @@ module _ {D : Type 0} (g : Ghosts D) (image : Image) where
 
   pub goes_on : GoesOn g image
   goes_on start commands was files run copied next found =
-      let here : IsAfter image (state_after start commands) [] = record { tables = was.tables; holds = was.holds; represents = was.represents; sound = was.sound } in
+      let here : IsAfter image (state_after start commands) [] =
+      record { tables = was.tables; holds = was.holds; represents = was.represents; sound = was.sound } in
       let (more, t, bring, leaves, there) = goes files next (state_after start commands) here run copied found in
       let all : t ≡ state_after start (commands ++ more) = leaves ∙ after_more start commands more in
       let is_next : IsAfter next (state_after start (commands ++ more)) [] = subst (λ x. IsAfter next x []) all there in
@@ -141,4 +130,5 @@ module _ {D : Type 0} (g : Ghosts D) (image : Image) where
 
 -- a store that holds an office in a sound state
 pub as_found : (image : Image) (s : State) → BeginsAsFound image s
-as_found image s (tables, holds, represents) sound = record { tables = tables; holds = ∣ holds ∣₁; represents = represents; sound = sound }
+as_found image s (tables, holds, represents) sound =
+    record { tables = tables; holds = ∣ holds ∣₁; represents = represents; sound = sound }

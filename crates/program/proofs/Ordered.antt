@@ -1,14 +1,9 @@
 -- The rows of each table stand in order: a store that was opened keeps each tree by the shape that its own list says.
 use Rattle.std.proofs.Common.{ℕ, true, List, [], ◌∷◌, subst, sym, inl, inr}
 use Rattle.std.proofs.Math.Logic.{∥∥₁_elim}
-use Rattle.std.specs.List.{AllByRecursion, AllZip}
-use Rattle.sqlite.specs.Files.{AreFoundIn}
-use Rattle.sqlite.specs.Recovery.{Image}
-use Rattle.sqlite.specs.Start.{FindsIn}
-use Rattle.sqlite.specs.State.{State, Opens, IsLive}
+use Rattle.sqlite.specs.State.{State}
 use Rattle.sqlite.specs.Schema.{Schema}
 use Rattle.sqlite.specs.Table.{Table}
-use Rattle.sqlite.specs.Tree.{Trees}
 use Rattle.sqlite_catalog.proofs.LayoutLemmas.{table_shape}
 use Rattle.sqlite_catalog.specs.Listing.{Lists, IsTableRow}
 use Rattle.sqlite_pages.specs.PageMap.{PageMap}
@@ -22,12 +17,14 @@ use Rattle.sqlite_trees.specs.Props.{IsOrdered-prop}
 use Rattle.sqlite_trees.specs.View.{IsShaped, IsOrdered}
 use Rattle.sqlite_trees.specs.declared.store.Shape.{Shape}
 use Rattle.program.specs.Rows.{StandsInOrder, StandInOrder}
+use Rattle.program.proofs.Common.{AllByRecursion, AllZip, AreFoundIn, FindsIn, Image, IsLive, Opens, Trees}
 
 abbrev AreOrdered : Trees → List Table → Type 0
 AreOrdered trees tables = AllByRecursion (λ (table : Table). StandsInOrder (trees table.tree)) tables
 
 -- the list says of each table that its tree is one of rows
-by_shapes : (shapes : ℕ → Shape) (reals : ℕ → ℕ) (trees : Trees) (schema : Schema) → IsListed (trees catalog_tree) shapes reals → IsOrdered shapes trees
+by_shapes : (shapes : ℕ → Shape) (reals : ℕ → ℕ) (trees : Trees) (schema : Schema)
+    → IsListed (trees catalog_tree) shapes reals → IsOrdered shapes trees
     → Lists (trees catalog_tree) schema → AreOrdered trees schema.tables
 by_shapes shapes reals trees schema listed ordered lists =
     let rising = subst (λ s. IsShaped s (trees catalog_tree)) listed.itself.0 (ordered catalog_tree) in
@@ -47,7 +44,8 @@ in_nothing : (trees : Trees) (tables : List Table) → AllZip IsTableRow [] tabl
 in_nothing trees [] rows = tt
 in_nothing trees (table ∷ tables) rows = absurd rows
 
-found : (image : Image) (trees : Trees) (schema : Schema) → AreFoundIn image trees → Lists (trees catalog_tree) schema → AreOrdered trees schema.tables
+found : (image : Image) (trees : Trees) (schema : Schema) → AreFoundIn image trees → Lists (trees catalog_tree) schema
+    → AreOrdered trees schema.tables
 found image trees schema (inl it) lists =
     subst (λ t. AreOrdered t schema.tables) (sym it.5) (in_file it.0 it.2 it.1 schema it.4 (subst (λ t. Lists (t catalog_tree) schema) it.5 lists))
 found image trees schema (inr none) lists = in_nothing trees schema.tables (let listed = rw none.1.1 at lists in listed.listed.tables)

@@ -1,12 +1,10 @@
 -- Connections that were served, one after the other.
 use Rattle.std.proofs.Common.{◌≡◌, ◌∙◌, ◌||◌, ◌⊎◌, ◌+◌, ◌≤◌, ◌++◌, ℕ, Bool, true, false, inl, inr, List, [], ◌∷◌, Option, ap, refl, sym, subst, arith}
 use Rattle.office_core.specs.State.{State}
-use Rattle.office_core.specs.declared.command.Command.{Command}
-use Rattle.std.specs.List.{AllByRecursion}
 use Rattle.http_desk.specs.BusyMessages.{WasBusyWith}
-use Rattle.http_desk.specs.Exchanges.{Keeps, Through}
 use Rattle.http_desk.proofs.Openings.{session_open}
-use Rattle.program.specs.Connections.{AreSessions, Connection, History, IsHeard, Serves, SessionsLeaveOpen, StaysFoundOrAny, WereBusyWith, after_failing, after_one}
+use Rattle.program.specs.Connections.{Serves}
+use Rattle.program.proofs.Common.{AllByRecursion, AreSessions, Command, Connection, History, IsHeard, Keeps, SessionsLeaveOpen, StaysFoundOrAny, Through, WereBusyWith, after_failing, after_one}
 
 -- what has not failed before has failed where this call did
 pub failed_so : (new fault old : Bool) → new ≡ (fault || old) → old ≡ false → new ≡ fault
@@ -17,44 +15,48 @@ failed_so new false old is none = is ∙ none
 pub calls_of : (now before most : ℕ) → now ≤ before + most → before ≡ 0 → now ≤ most
 calls_of now before most within none = omega (arith, within, none)
 
-all_weaker : (P Q : Command → Type 0) → ((command : Command) → P command → Q command) → (commands : List Command) → AllByRecursion P commands → AllByRecursion Q commands
+all_weaker : (P Q : Command → Type 0) → ((command : Command) → P command → Q command) → (commands : List Command)
+    → AllByRecursion P commands → AllByRecursion Q commands
 all_weaker P Q so [] all = tt
 all_weaker P Q so (first ∷ others) all = (so first all.0, all_weaker P Q so others all.1)
 
 -- after so many connections, one more
 pub and_one : {M : Type 0} (represents : M → State → Type 0) (is_intact is_open : M → Type 0) (recovers : M → List Command → State → Type 0) (n : ℕ) (told told_mid told_after : Option History) (first mid last : M)
     → Serves represents is_intact is_open recovers n told told_mid first mid true → (is_intact last → is_intact mid)
-    → (it : Connection) → IsHeard it → told_after ≡ after_one told_mid it → Through represents is_intact mid last (λ s t. Keeps (is_open mid) (is_open last) (recovers mid) (recovers last) s it.input it.output it.end t)
+    → (it : Connection) → IsHeard it → told_after ≡ after_one told_mid it
+    → Through represents is_intact mid last (λ s t. Keeps (is_open mid) (is_open last) (recovers mid) (recovers last) s it.input it.output it.end t)
     → Serves represents is_intact is_open recovers (n + 1) told told_after first last true
-and_one represents is_intact is_open recovers n told told_mid told_after first mid last so_far back it heard answers through = record {
-  connections = it ∷ so_far.connections;
-  heard = (heard, so_far.heard);
-  answers = answers ∙ ap (λ h. after_one h it) so_far.answers;
-  few = let all = so_far.whole refl in omega arith;
-  whole = λ _. let all = so_far.whole refl in omega arith;
-  sessions = λ intact s shown.
-      let (between, there, before) = so_far.sessions (back intact) s shown in
-      let (t, then, talked) = through intact between there in (
-        t,
-        then,
-        (
-          (between, before.0, talked.0),
-          (λ h. talked.1 (session_open _ (is_open mid) before.1 between t it.input it.output it.end talked.0 h)),
-          λ asked found.
-              let (more, busy, finds) = before.2 asked found in
-              let Busy = λ (command : Command). WereBusyWith so_far.connections s between before.0 command ⊎ WasBusyWith talked.0 command in
-              let still = all_weaker (WereBusyWith so_far.connections s between before.0) Busy (λ command was. inl was) more busy in
-              elim (talked.2 (more ++ asked) finds) [
-                | inl same ↦ (more, still, same)
-                | inr (command, was, after) ↦ (command ∷ more, (inr was, still), after)
-              ],
-        ),
-      );
-}
+and_one represents is_intact is_open recovers n told told_mid told_after first mid last so_far back it heard answers through =
+    record {
+      connections = it ∷ so_far.connections;
+      heard = (heard, so_far.heard);
+      answers = answers ∙ ap (λ h. after_one h it) so_far.answers;
+      few = let all = so_far.whole refl in omega arith;
+      whole = λ _. let all = so_far.whole refl in omega arith;
+      sessions = λ intact s shown.
+          let (between, there, before) = so_far.sessions (back intact) s shown in
+          let (t, then, talked) = through intact between there in (
+            t,
+            then,
+            (
+              (between, before.0, talked.0),
+              (λ h. talked.1 (session_open _ (is_open mid) before.1 between t it.input it.output it.end talked.0 h)),
+              λ asked found.
+                  let (more, busy, finds) = before.2 asked found in
+                  let Busy = λ (command : Command). WereBusyWith so_far.connections s between before.0 command ⊎ WasBusyWith talked.0 command in
+                  let still = all_weaker (WereBusyWith so_far.connections s between before.0) Busy (λ command was. inl was) more busy in
+                  elim (talked.2 (more ++ asked) finds) [
+                    | inl same ↦ (more, still, same)
+                    | inr (command, was, after) ↦ (command ∷ more, (inr was, still), after)
+                  ],
+            ),
+          );
+    }
 
 -- after so many connections, none could be taken
 pub and_none : {M : Type 0} (represents : M → State → Type 0) (is_intact is_open : M → Type 0) (recovers : M → List Command → State → Type 0) (n most : ℕ) (told told_mid told_after : Option History) (first mid last : M)
-    → Serves represents is_intact is_open recovers n told told_mid first mid true → n ≤ most → told_after ≡ after_failing told_mid → last ≡ mid
+    → Serves represents is_intact is_open recovers n told told_mid first mid true → n ≤ most
+    → told_after ≡ after_failing told_mid → last ≡ mid
     → Serves represents is_intact is_open recovers most told told_after first last false
 and_none {M} represents is_intact is_open recovers n most told told_mid told_after first mid last so_far within answers same =
     let few = so_far.few in
@@ -97,6 +99,7 @@ unserved represents is_intact is_open recovers told office = record {
 
 -- what was known of the port before
 pub known_as : {M : Type 0} (represents : M → State → Type 0) (is_intact is_open : M → Type 0) (recovers : M → List Command → State → Type 0) (most : ℕ) (told told_mid told_after : Option History) (old new : M) (all : Bool)
-    → told_mid ≡ told → Serves represents is_intact is_open recovers most told_mid told_after old new all → Serves represents is_intact is_open recovers most told told_after old new all
+    → told_mid ≡ told → Serves represents is_intact is_open recovers most told_mid told_after old new all
+    → Serves represents is_intact is_open recovers most told told_after old new all
 known_as represents is_intact is_open recovers most told told_mid told_after old new all same it =
     subst (λ h. Serves represents is_intact is_open recovers most h told_after old new all) same it

@@ -1,18 +1,14 @@
 -- Calls that read, and what they tell for what calls them.
 use Rattle.std.proofs.Common.{Result, Ok, Err, OnErr, OnOk, subst, sym}
-use Rattle.sqlite.specs.Effect.{Database}
-use Rattle.sqlite.specs.Held.{Held, state}
-use Rattle.sqlite.specs.State.{HasCleanDisk, State, Survives}
+use Rattle.sqlite.specs.State.{State}
 use Rattle.sqlite_trees.specs.declared.store.Store as store
 use Rattle.office_tables.specs.Calls.{Answers}
-use Rattle.office_tables.specs.Step.{IsAborted, LeavesUnchanged}
-use Rattle.office_tables.proofs.CallEnds.{excused_then}
-use Rattle.office_tables.proofs.Calls.{cut_then, early, looks_then, on_err_then, on_ok_then}
-use Rattle.office_tables.specs.declared.fault.StoreFault.{StoreFault}
 use Rattle.refinement.proofs.Passing.{if_ok_then}
+use Rattle.public_queries.proofs.Common.{Database, HasCleanDisk, Held, IsAborted, LeavesUnchanged, StoreFault, Survives, cut_then, early, excused_then, looks_then, on_err_then, on_ok_then, state}
 
 module _ {S X Stays Model : Type 0} (g : store.Ghosts S) (represents : Database → Stays → Model → Type 0) (kept : Model → Type 0) (before after : Held S) (r : Result X StoreFault) where
-  pub tells_as : (may more : Model → Type 0) (told answer : Stays → Model → X → Type 0) → ((m : Model) → more m → may m) → ((s : Stays) (m : Model) (x : X) → told s m x → answer s m x)
+  pub tells_as : (may more : Model → Type 0) (told answer : Stays → Model → X → Type 0) → ((m : Model) → more m → may m)
+      → ((s : Stays) (m : Model) (x : X) → told s m x → answer s m x)
       → Answers g represents kept before after r may told → Answers g represents kept before after r more answer
   tells_as may more told answer allows means it = record {
     answers = λ clean s m shown. if_ok_then r (told s m) (answer s m) (means s m) (it.answers clean s m shown);
@@ -32,7 +28,8 @@ module _ {S X Stays Model : Type 0} (g : store.Ghosts S) (represents : Database 
   abbrev c : State
   c = state g after
 
-  looked_crash : {E : Type 0} (r : Result X E) → OnOk r (LeavesUnchanged b c) → OnErr r (IsAborted b c) → Survives b c (λ _. ⊥)
+  looked_crash : {E : Type 0} (r : Result X E) → OnOk r (LeavesUnchanged b c) → OnErr r (IsAborted b c)
+      → Survives b c (λ _. ⊥)
   looked_crash (Ok x) looks cut = looks.goes.on.crash
   looked_crash (Err e) looks cut = cut.crash
 

@@ -1,32 +1,21 @@
 -- The units of a finding aid, as they are read one by one.
 use Rattle.std.proofs.Common.{◌≡◌, ℕ, ◌+◌, ◌≤◌, Bool, true, false, cond, List, [], ◌∷◌, length, Option, Some, None, refl, sym, ap, subst, ◌∙◌, arith, map}
-use Rattle.std.specs.Prelude.{ℤ, find, nat_eq}
-use Rattle.std.specs.List.{AllByRecursion, IsDistinct}
-use Rattle.std.proofs.lemmas.Bool.{false≢true}
+use Rattle.std.specs.Prelude.{find, nat_eq}
+use Rattle.std.specs.List.{IsDistinct}
 use Rattle.isad_core.specs.Limits.{most_units}
-use Rattle.isad_core.specs.Values.{identifier, own_lines, title}
-use Rattle.isad_core.specs.declared.display.Body.TheVariants.{Full}
-use Rattle.isad_core.specs.declared.values.BoxKey.{BoxKey}
-use Rattle.tree_core.specs.Forest.{Forest, Empty, Node, HasDistinctIds, nodes, each, size, tree, has, walk}
-use Rattle.tree_core.proofs.EachLemmas.{nodes-each, size-each}
 use Rattle.tree_core.specs.declared.marks.Mark.{Mark}
-use Rattle.catalogue_core.specs.Aids.{numbered_boxes}
-use Rattle.catalogue_core.specs.Bounds.{IsKept}
 use Rattle.catalogue_core.specs.UnitMarks.{AreWalkMarks, mark_of, without_number}
-use Rattle.catalogue_core.specs.CatalogueMerge.{Catalogue, box_number}
-use Rattle.catalogue_core.specs.PublicForest.{Told, public_unit, stub_of}
-use Rattle.catalogue_core.specs.Units.{Unit, has_id, is_closed, is_later}
 use Rattle.catalogue_core.proofs.DistinctLists.{all_so}
 use Rattle.catalogue_core.proofs.EachAfter.{all_tree}
 use Rattle.catalogue_core.proofs.EachOf.{all_append, all_split}
 use Rattle.catalogue_core.proofs.NodeLemmas.{length-nodes}
-use Rattle.catalogue_store.specs.declared.unit_values.UnitValues.{UnitValues}
+use Rattle.public_queries.proofs.Common.{AllByRecursion, BoxKey, Catalogue, Empty, Forest, Full, HasDistinctIds, IsKept, IsOf, Node, Told, Unit, UnitValues, Walked, box_number, each, false≢true, has, has_id, identifier, is_closed, is_later, nodes, nodes-each, numbered_boxes, own_lines, public_unit, public_units, seen_of, seen_values, size, size-each, stub_of, title, tree, walk, with_numbers, ℤ}
 use Rattle.public_queries.proofs.FoundUnits.{found_each}
-use Rattle.public_queries.specs.FindingAids.{IsOf, Walked, public_units, seen_of, seen_values, with_numbers}
 
 -- ---- what is read of one unit
 
-names_numbered : (number : BoxKey → ℕ) (boxes : List BoxKey) → with_numbers (map number boxes) boxes ≡ numbered_boxes number boxes
+names_numbered : (number : BoxKey → ℕ) (boxes : List BoxKey)
+    → with_numbers (map number boxes) boxes ≡ numbered_boxes number boxes
 names_numbered number [] = refl
 names_numbered number (box ∷ boxes) = ap (λ l. (number box, box.name) ∷ l) (names_numbered number boxes)
 
@@ -34,7 +23,8 @@ names_numbered number (box ∷ boxes) = ap (λ l. (number box, box.name) ∷ l) 
 abbrev pub values_read : List BoxKey → Unit → UnitValues
 values_read containers u = record { values = u.values; containers = map (box_number containers) u.values.boxes }
 
-pub seen_read : (containers : List BoxKey) (u : Unit) → seen_values (values_read containers u) ≡ seen_of containers (Told u.id u.values)
+pub seen_read : (containers : List BoxKey) (u : Unit)
+    → seen_values (values_read containers u) ≡ seen_of containers (Told u.id u.values)
 seen_read containers u =
     ap (λ boxes. record { identifier = identifier u.values; level = u.values.level; title = title u.values; body = Full (own_lines u.values) boxes })
     (names_numbered (box_number containers) u.values.boxes)
@@ -48,7 +38,8 @@ closed_until day u h = at u.until h
     at (Some end) h = (end, refl)
 
 -- what the public sees of a unit that is a stub, and of one that is none
-pub seen_stub : (containers : List BoxKey) (u : Unit) (until : ℤ) → u.until ≡ Some until → seen_of containers (public_unit (u, true)) ≡ seen_of containers (stub_of u (Some until))
+pub seen_stub : (containers : List BoxKey) (u : Unit) (until : ℤ) → u.until ≡ Some until
+    → seen_of containers (public_unit (u, true)) ≡ seen_of containers (stub_of u (Some until))
 seen_stub containers u until e = ap (λ o. seen_of containers (stub_of u o)) e
 
 -- ---- how many they are
@@ -57,12 +48,14 @@ tree_small : {A : Type 0} (is : A → Bool) (f : Forest A) → size (tree is f) 
 tree_small is Empty = omega arith
 tree_small is (Node a c o) = at (is a) (has is c) (tree_small is c) (tree_small is o)
   where
-    at : (b d : Bool) → size (tree is c) ≤ size c → size (tree is o) ≤ size o → size (cond b (Node a c Empty) (cond d (tree is c) (tree is o))) ≤ 1 + (size c + size o)
+    at : (b d : Bool) → size (tree is c) ≤ size c → size (tree is o) ≤ size o
+        → size (cond b (Node a c Empty) (cond d (tree is c) (tree is o))) ≤ 1 + (size c + size o)
     at true d x y = omega arith
     at false true x y = omega (arith, x)
     at false false x y = omega (arith, y)
 
-pub few_marks : (c : Catalogue) (is : Unit → Bool) (marks : List Mark) → IsKept c → AreWalkMarks (tree is c.forest) marks → length marks ≤ most_units
+pub few_marks : (c : Catalogue) (is : Unit → Bool) (marks : List Mark) → IsKept c
+    → AreWalkMarks (tree is c.forest) marks → length marks ≤ most_units
 few_marks c is marks kept it =
     let few = kept.places.few in
     let ids = size-each (λ (u : Unit). u.id) c.forest in
@@ -83,23 +76,27 @@ module _ (P : Unit → Type 0) (day : ℤ) where
       let parts = all_split P (nodes c) (nodes o) h.1 in
       at u.draft (is_closed day u) refl (all_public c parts.0) (all_public o parts.1)
     where
-      below : (b : Bool) → AllByRecursion OfSeen (nodes (public_units day c)) → AllByRecursion OfSeen (nodes (cond b Empty (public_units day c)))
+      below : (b : Bool) → AllByRecursion OfSeen (nodes (public_units day c))
+          → AllByRecursion OfSeen (nodes (cond b Empty (public_units day c)))
       below true x = tt
       below false x = x
 
-      at : (draft closed : Bool) → closed ≡ is_closed day u → AllByRecursion OfSeen (nodes (public_units day c)) → AllByRecursion OfSeen (nodes (public_units day o))
+      at : (draft closed : Bool) → closed ≡ is_closed day u → AllByRecursion OfSeen (nodes (public_units day c))
+          → AllByRecursion OfSeen (nodes (public_units day o))
           → AllByRecursion OfSeen (nodes (cond draft (public_units day o) (Node (u, closed) (cond closed Empty (public_units day c)) (public_units day o))))
       at true closed e x y = y
       at false closed e x y = ((h.0, e), all_append OfSeen (nodes (cond closed Empty (public_units day c))) (nodes (public_units day o)) (below closed x) y)
 
-all_walked : {A : Type 0} (P : A → Type 0) (d : ℕ) (f : Forest A) → AllByRecursion P (nodes f) → AllByRecursion (λ (x : A × ℕ). P x.0) (walk d f)
+all_walked : {A : Type 0} (P : A → Type 0) (d : ℕ) (f : Forest A) → AllByRecursion P (nodes f)
+    → AllByRecursion (λ (x : A × ℕ). P x.0) (walk d f)
 all_walked P d Empty h = tt
 all_walked {A} P d (Node a c o) h =
     let parts = all_split P (nodes c) (nodes o) h.1 in
     (h.0, all_append (λ (x : A × ℕ). P x.0) (walk (1 + d) c) (walk d o) (all_walked P (1 + d) c parts.0) (all_walked P d o parts.1))
 
 -- the units of an aid are the catalogue's
-pub rows_of : (day : ℤ) (c : Catalogue) (is : Unit → Bool) → HasDistinctIds (each (λ (u : Unit). u.id) c.forest) → AllByRecursion (IsOf day c) (walk 0 (public_units day (tree is c.forest)))
+pub rows_of : (day : ℤ) (c : Catalogue) (is : Unit → Bool) → HasDistinctIds (each (λ (u : Unit). u.id) c.forest)
+    → AllByRecursion (IsOf day c) (walk 0 (public_units day (tree is c.forest)))
 rows_of day c is apart =
     let found = found_each (nodes c.forest) (subst (IsDistinct nat_eq) (nodes-each (λ (u : Unit). u.id) c.forest) apart) in
     let own = all_tree IsThere is c.forest found in

@@ -1,14 +1,7 @@
 -- The codes of the units of a path, one unit further.
 use Rattle.std.proofs.Common.{◌≡◌, List, [], ◌∷◌, ◌++◌, sym, ap, ◌∙◌, append_assoc, append-nil}
-use Rattle.std.specs.Prelude.{map, reverse}
-use Rattle.std.proofs.lemmas.List.{reverse-append}
-use Rattle.isad_core.specs.Texts.{Bytes}
-use Rattle.isad_core.specs.Codes.{code_of}
-use Rattle.isad_core.specs.Values.{identifier}
-use Rattle.catalogue_store.specs.declared.unit_values.UnitValues.{UnitValues}
-use Rattle.catalogue_core.specs.Aids.{Repository}
-use Rattle.public_queries.specs.PathValues.{coded_way}
-use Rattle.public_queries.specs.declared.path_values.OnPath.{OnPath}
+use Rattle.std.specs.Prelude.{map}
+use Rattle.public_queries.proofs.Common.{Bytes, OnPath, Repository, UnitValues, code_of, coded_way, identifier, reverse, reverse-append}
 
 pub coded_way-push : (at : Repository) (above : List Bytes) (higher : List OnPath) (us : List UnitValues) (u : UnitValues)
     → coded_way at above higher (us ++ u ∷ []) ≡ record { code = code_of at.country at.repo ((above ++ map (λ (v : UnitValues). identifier v.values) us) ++ identifier u.values ∷ []); unit = u } ∷ coded_way at above higher us
@@ -18,7 +11,9 @@ coded_way-push at above higher (v ∷ us) u =
     coded_way-push at (above ++ identifier v.values ∷ []) (record { code = code_of at.country at.repo (above ++ identifier v.values ∷ []); unit = v } ∷ higher) us u
     ∙ ap (λ l. record { code = code_of at.country at.repo (l ++ identifier u.values ∷ []); unit = u } ∷ coded_way at above higher (v ∷ us)) (append_assoc above (identifier v.values ∷ []) (map (λ (v : UnitValues). identifier v.values) us))
 
-pub coded_more : (at : Repository) (units : List OnPath) (us : List UnitValues) (u : UnitValues) (code : Bytes) → reverse units ≡ coded_way at [] [] us → code ≡ code_of at.country at.repo (map (λ (v : UnitValues). identifier v.values) us ++ identifier u.values ∷ [])
+pub coded_more : (at : Repository) (units : List OnPath) (us : List UnitValues) (u : UnitValues) (code : Bytes)
+    → reverse units ≡ coded_way at [] [] us
+    → code ≡ code_of at.country at.repo (map (λ (v : UnitValues). identifier v.values) us ++ identifier u.values ∷ [])
     → reverse (units ++ record { code = code; unit = u } ∷ []) ≡ coded_way at [] [] (us ++ u ∷ [])
 coded_more at units us u code e is =
     let x : OnPath = record { code = code; unit = u } in

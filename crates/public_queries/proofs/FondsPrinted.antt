@@ -2,20 +2,14 @@
 use Rattle.std.proofs.Common.{◌≡◌, ℕ, [], ◌∷◌, ◌++◌, ap}
 use Rattle.std.specs.Prelude.{map}
 use Rattle.std.specs.Fmt.{decimal}
-use Rattle.isad_core.specs.PrintedDescriptions.{line, head_line}
-use Rattle.isad_core.specs.declared.display.Shown.{Shown}
-use Rattle.office_core.specs.Queries.{answer, press}
 use Rattle.office_core.specs.State.{State}
 use Rattle.office_core.specs.declared.query.Query.TheVariants as query
-use Rattle.catalogue_core.specs.Pages.{tops_text}
-use Rattle.office_core.specs.declared.query.Answer.TheVariants.{Text}
-use Rattle.catalogue_store.specs.Heads.{head_of}
-use Rattle.tree_core.specs.Tops.{tops}
-use Rattle.public_queries.specs.HeadLines.{all_bare}
+use Rattle.public_queries.proofs.Common.{Shown, Text, all_bare, answer, head_line, head_of, line, press, tops, tops_text}
 use Rattle.public_queries.proofs.HeadsPrinted.{same_beside}
 
 -- the list of the tops, printed from their heads
-pub fonds_printed : (s : State) → answer s query.Fonds ≡ Text (tops_text (all_bare (press s).at [] s.day (map head_of (tops s.catalogue.forest))))
+pub fonds_printed : (s : State)
+    → answer s query.Fonds ≡ Text (tops_text (all_bare (press s).at [] s.day (map head_of (tops s.catalogue.forest))))
 fonds_printed s =
     ap Text
     (same_beside s.day (λ (top : ℕ × Shown). line (decimal top.0 ++ 32 ∷ head_line top.1)) (λ n a b e. ap (λ l. line (decimal n ++ 32 ∷ l)) e) (press s) [] s.catalogue.forest)

@@ -1,36 +1,34 @@
 -- Units that are found by their numbers, and heads of such units.
 use Rattle.std.proofs.Common.{◌≡◌, ℕ, zero, suc, ◌+◌, ◌<◌, ◌^◌, Bool, true, false, cond, List, [], ◌∷◌, ◌++◌, length, take, get_or, Some, refl, sym, ap, subst, ◌∙◌, arith, nat_eq, eq-eqb, inl, inr}
 use Rattle.std.specs.Prelude.{map}
-use Rattle.std.specs.List.{AllByRecursion, IsDistinct, find}
-use Rattle.std.proofs.lemmas.Bool.{cases_lt, false≢true}
-use Rattle.std.proofs.lemmas.List.{length-map}
-use Rattle.tree_core.specs.Forest.{Forest, Empty, Node, nodes, has, path}
+use Rattle.std.specs.List.{IsDistinct, find}
 use Rattle.tree_core.proofs.Lists.{eqb_comm}
-use Rattle.catalogue_core.specs.Bounds.{IsKept}
-use Rattle.catalogue_core.specs.CatalogueMerge.{Catalogue}
-use Rattle.catalogue_core.specs.Units.{Unit, has_id}
 use Rattle.catalogue_core.proofs.EachOf.{all_split, some_found}
-use Rattle.catalogue_store.proofs.UnitsThere.{no_unit}
-use Rattle.catalogue_store.specs.Heads.{head_of}
-use Rattle.catalogue_store.specs.declared.heads.Head.{Head}
+use Rattle.public_queries.proofs.Common.{AllByRecursion, Catalogue, Empty, Forest, Head, IsKept, Node, Unit, cases_lt, false≢true, has, has_id, head_of, length-map, no_unit, nodes, path}
 
-pub path_all : (P : Unit → Type 0) (is : Unit → Bool) (f : Forest Unit) → AllByRecursion P (nodes f) → AllByRecursion P (path is f)
+pub path_all : (P : Unit → Type 0) (is : Unit → Bool) (f : Forest Unit) → AllByRecursion P (nodes f)
+    → AllByRecursion P (path is f)
 path_all P is Empty h = tt
 path_all P is (Node a c o) h =
     let r = all_split P (nodes c) (nodes o) h.1 in
     at (is a) (has is c) (path_all P is c r.0) (path_all P is o r.1)
   where
-    at : (b d : Bool) → AllByRecursion P (path is c) → AllByRecursion P (path is o) → AllByRecursion P (cond b (a ∷ []) (cond d (a ∷ path is c) (path is o)))
+    at : (b d : Bool) → AllByRecursion P (path is c) → AllByRecursion P (path is o)
+        → AllByRecursion P (cond b (a ∷ []) (cond d (a ∷ path is c) (path is o)))
     at true d x y = (h.0, tt)
     at false true x y = (h.0, x)
     at false false x y = y
 
-found_later : (y : Unit) (ys zs : List Unit) → AllByRecursion (λ n. nat_eq y.id n ≡ false) (map (λ (u : Unit). u.id) zs) → AllByRecursion (λ (z : Unit). find (has_id z.id) ys ≡ Some z) zs → AllByRecursion (λ (z : Unit). find (has_id z.id) (y ∷ ys) ≡ Some z) zs
+found_later : (y : Unit) (ys zs : List Unit) → AllByRecursion (λ n. nat_eq y.id n ≡ false) (map (λ (u : Unit). u.id) zs)
+    → AllByRecursion (λ (z : Unit). find (has_id z.id) ys ≡ Some z) zs
+    → AllByRecursion (λ (z : Unit). find (has_id z.id) (y ∷ ys) ≡ Some z) zs
 found_later y ys [] h k = tt
-found_later y ys (z ∷ zs) h k = (ap (λ b. cond b (Some y) (find (has_id z.id) ys)) (eqb_comm z.id y.id ∙ h.0) ∙ k.0, found_later y ys zs h.1 k.1)
+found_later y ys (z ∷ zs) h k =
+    (ap (λ b. cond b (Some y) (find (has_id z.id) ys)) (eqb_comm z.id y.id ∙ h.0) ∙ k.0, found_later y ys zs h.1 k.1)
 
 -- where no two have one number, each is found by its own
-pub found_each : (xs : List Unit) → IsDistinct nat_eq (map (λ (u : Unit). u.id) xs) → AllByRecursion (λ (x : Unit). find (has_id x.id) xs ≡ Some x) xs
+pub found_each : (xs : List Unit) → IsDistinct nat_eq (map (λ (u : Unit). u.id) xs)
+    → AllByRecursion (λ (x : Unit). find (has_id x.id) xs ≡ Some x) xs
 unfolding IsDistinct
 found_each [] d = tt
 found_each (y ∷ ys) d = (ap (λ b. cond b (Some y) (find (has_id y.id) ys)) (eq-eqb y.id y.id refl), found_later y ys ys d.0 (found_each ys d.1))
@@ -48,12 +46,15 @@ pub record HeadAt (f : Forest Unit) (us : List Unit) (i : ℕ) (head : Head) : T
   pub found : find (has_id head.id) (nodes f) ≡ Some unit
   pub next : take (i + 1) us ≡ take i us ++ unit ∷ []
 
-pub head_at : (f : Forest Unit) (us : List Unit) (heads : List Head) (i : ℕ) (d : Head) → AllByRecursion (λ (u : Unit). find (has_id u.id) (nodes f) ≡ Some u) us → heads ≡ map head_of us → i < length heads → HeadAt f us i (get_or heads i d)
+pub head_at : (f : Forest Unit) (us : List Unit) (heads : List Head) (i : ℕ) (d : Head)
+    → AllByRecursion (λ (u : Unit). find (has_id u.id) (nodes f) ≡ Some u) us → heads ≡ map head_of us
+    → i < length heads → HeadAt f us i (get_or heads i d)
 head_at f us heads i d found are within =
     subst (λ (head : Head). HeadAt f us i head) (ap (λ (l : List Head). get_or l i d) (sym are))
     (at us i found (let long : length heads ≡ length us = ap length are ∙ length-map us head_of in omega (arith, long, within)))
   where
-    at : (us : List Unit) (i : ℕ) → AllByRecursion (λ (u : Unit). find (has_id u.id) (nodes f) ≡ Some u) us → i < length us → HeadAt f us i (get_or (map head_of us) i d)
+    at : (us : List Unit) (i : ℕ) → AllByRecursion (λ (u : Unit). find (has_id u.id) (nodes f) ≡ Some u) us
+        → i < length us → HeadAt f us i (get_or (map head_of us) i d)
     at [] i found h = absurd (omega (arith, h))
     at (u ∷ us) zero found h = record { unit = u; found = found.0; next = refl }
     at (u ∷ us) (suc i) found h =

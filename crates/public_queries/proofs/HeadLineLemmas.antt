@@ -1,12 +1,9 @@
 -- Which units are shown, and their head lines.
 use Rattle.std.proofs.Common.{◌≡◌, Bool, true, false, not, ◌&&◌, cond, List, [], ◌∷◌, ◌++◌, Some, None, refl, ap, ◌∙◌}
-use Rattle.std.specs.Prelude.{ℤ}
-use Rattle.isad_core.specs.Texts.{Bytes}
-use Rattle.catalogue_core.specs.Aids.{Repository}
-use Rattle.public_queries.specs.HeadLines.{shows_last, is_open_on, are_open, head_alone, bare_below}
-use Rattle.catalogue_store.specs.declared.heads.Head.{Head}
+use Rattle.public_queries.proofs.Common.{Bytes, Head, Repository, are_open, bare_below, head_alone, is_open_on, shows_last, ℤ}
 
-pub shows_last-push : (day : ℤ) (above : List Head) (last : Head) → shows_last day (above ++ last ∷ []) ≡ (are_open day above && not last.draft)
+pub shows_last-push : (day : ℤ) (above : List Head) (last : Head)
+    → shows_last day (above ++ last ∷ []) ≡ (are_open day above && not last.draft)
 shows_last-push day [] last = refl
 shows_last-push day (head ∷ []) last = at (is_open_on day head)
   where
@@ -21,8 +18,12 @@ shows_last-push day (head ∷ next ∷ above) last =
     at true b = refl
     at false b = refl
 
-pub bare_draft : (at : Repository) (ids : List Bytes) (day : ℤ) (head : Head) → head.draft ≡ true → bare_below at ids day head ≡ None
-bare_draft at ids day head e = ap (λ b. cond b None (Some (head.id, head_alone at (ids ++ head.identifier ∷ []) day head))) e
+pub bare_draft : (at : Repository) (ids : List Bytes) (day : ℤ) (head : Head) → head.draft ≡ true
+    → bare_below at ids day head ≡ None
+bare_draft at ids day head e =
+    ap (λ b. cond b None (Some (head.id, head_alone at (ids ++ head.identifier ∷ []) day head))) e
 
-pub bare_public : (at : Repository) (ids : List Bytes) (day : ℤ) (head : Head) → head.draft ≡ false → bare_below at ids day head ≡ Some (head.id, head_alone at (ids ++ head.identifier ∷ []) day head)
-bare_public at ids day head e = ap (λ b. cond b None (Some (head.id, head_alone at (ids ++ head.identifier ∷ []) day head))) e
+pub bare_public : (at : Repository) (ids : List Bytes) (day : ℤ) (head : Head) → head.draft ≡ false
+    → bare_below at ids day head ≡ Some (head.id, head_alone at (ids ++ head.identifier ∷ []) day head)
+bare_public at ids day head e =
+    ap (λ b. cond b None (Some (head.id, head_alone at (ids ++ head.identifier ∷ []) day head))) e

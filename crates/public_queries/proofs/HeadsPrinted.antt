@@ -1,23 +1,7 @@
 -- Units of which the head line alone is printed: their heads tell as much as what the public may know of them.
 use Rattle.std.proofs.Common.{◌≡◌, ℕ, Bool, true, false, cond, List, [], ◌∷◌, ◌++◌, Option, Some, None, refl, sym, ap, ap₂, ◌∙◌}
-use Rattle.std.specs.Prelude.{ℤ, map, int_lt}
-use Rattle.std.specs.List.{flat_map, cons_option}
-use Rattle.isad_core.specs.Texts.{Bytes}
-use Rattle.isad_core.specs.Codes.{code_of}
-use Rattle.isad_core.specs.Values.{identifier}
-use Rattle.isad_core.specs.PrintedDescriptions.{head_line}
-use Rattle.isad_core.specs.declared.display.Body.TheVariants.{Full, Closed}
-use Rattle.isad_core.specs.declared.display.Shown.{Shown}
-use Rattle.isad_core.specs.declared.values.BoxKey.{BoxKey}
-use Rattle.tree_core.specs.Forest.{Forest, Empty, Node}
-use Rattle.catalogue_core.specs.Units.{Unit, is_closed, is_later}
-use Rattle.catalogue_core.specs.PublicForest.{Told, public_of, stub_of}
-use Rattle.catalogue_core.specs.Aids.{Repository, identifier_of, shown_unit}
-use Rattle.catalogue_core.specs.Pages.{Press, side_by_side, number_of}
-use Rattle.catalogue_store.specs.Heads.{head_of}
-use Rattle.tree_core.specs.Tops.{tops}
-use Rattle.public_queries.specs.HeadLines.{head_alone, bare_body, all_bare, ids_of}
-use Rattle.catalogue_core.proofs.PublicPaths.{known_of, number_known}
+use Rattle.std.specs.Prelude.{map}
+use Rattle.public_queries.proofs.Common.{BoxKey, Bytes, Closed, Empty, Forest, Full, Node, Press, Repository, Shown, Told, Unit, all_bare, bare_body, code_of, cons_option, flat_map, head_alone, head_line, head_of, identifier, identifier_of, ids_of, int_lt, is_closed, is_later, known_of, number_known, number_of, public_of, shown_unit, side_by_side, stub_of, tops, ℤ}
 use Rattle.public_queries.proofs.Standing.{public_draft, public_node}
 use Rattle.public_queries.proofs.HeadLineLemmas.{bare_draft, bare_public}
 
@@ -25,7 +9,8 @@ module _ (day : ℤ) where
   pub known_id : (a : Unit) → identifier_of (known_of day a) ≡ identifier a.values
   known_id a = at (is_closed day a) a.until
     where
-      at : (b : Bool) (until : Option ℤ) → identifier_of (cond b (stub_of a until) (Told a.id a.values)) ≡ identifier a.values
+      at : (b : Bool) (until : Option ℤ)
+          → identifier_of (cond b (stub_of a until) (Told a.id a.values)) ≡ identifier a.values
       at true None = refl
       at true (Some d) = refl
       at false until = refl
@@ -35,29 +20,34 @@ module _ (day : ℤ) where
   known_ids (a ∷ w) = ap₂ ◌∷◌ (known_id a) (known_ids w)
 
   -- a head line needs no more than the head
-  pub same_head : (at : Repository) (boxes : List BoxKey) (ids : List Bytes) (a : Unit) → head_line (shown_unit at boxes ids 0 (known_of day a)) ≡ head_line (head_alone at ids day (head_of a))
+  pub same_head : (at : Repository) (boxes : List BoxKey) (ids : List Bytes) (a : Unit)
+      → head_line (shown_unit at boxes ids 0 (known_of day a)) ≡ head_line (head_alone at ids day (head_of a))
   same_head at boxes ids a = by a.until
     where
-      by : (until : Option ℤ) → head_line (shown_unit at boxes ids 0 (cond (is_later day until) (stub_of a until) (Told a.id a.values)))
+      by : (until : Option ℤ)
+          → head_line (shown_unit at boxes ids 0 (cond (is_later day until) (stub_of a until) (Told a.id a.values)))
           ≡ head_line (record { depth = 0; code = code_of at.country at.repo ids; level = a.values.level; title = (head_of a).title; body = bare_body day until })
       by None = refl
       by (Some d) = on (int_lt day d)
         where
-          on : (b : Bool) → head_line (shown_unit at boxes ids 0 (cond b (stub_of a (Some d)) (Told a.id a.values))) ≡ head_line (record { depth = 0; code = code_of at.country at.repo ids; level = a.values.level; title = (head_of a).title; body = cond b (Closed d) (Full [] []) })
+          on : (b : Bool)
+              → head_line (shown_unit at boxes ids 0 (cond b (stub_of a (Some d)) (Told a.id a.values))) ≡ head_line (record { depth = 0; code = code_of at.country at.repo ids; level = a.values.level; title = (head_of a).title; body = cond b (Closed d) (Full [] []) })
           on true = refl
           on false = refl
 
   -- ---- units side by side, of which the head line alone is printed
 
   module _ (print : ℕ × Shown → Bytes) (alike : (n : ℕ) (a b : Shown) → head_line a ≡ head_line b → print (n, a) ≡ print (n, b)) (press : Press) (above : List Bytes) where
-    pub same_beside : (f : Forest Unit) → flat_map print (side_by_side press above (public_of day f)) ≡ flat_map print (all_bare press.at above day (map head_of (tops f)))
+    pub same_beside : (f : Forest Unit)
+        → flat_map print (side_by_side press above (public_of day f)) ≡ flat_map print (all_bare press.at above day (map head_of (tops f)))
     same_beside Empty = refl
     same_beside (Node a c o) = at a.draft refl (same_beside o)
       where
         rest : List (ℕ × Shown)
         rest = all_bare press.at above day (map head_of (tops o))
 
-        at : (b : Bool) → a.draft ≡ b → flat_map print (side_by_side press above (public_of day o)) ≡ flat_map print rest
+        at : (b : Bool) → a.draft ≡ b
+            → flat_map print (side_by_side press above (public_of day o)) ≡ flat_map print rest
             → flat_map print (side_by_side press above (public_of day (Node a c o))) ≡ flat_map print (all_bare press.at above day (map head_of (tops (Node a c o))))
         at true e more =
             ap (λ f. flat_map print (side_by_side press above f)) (public_draft day a c o e) ∙ more

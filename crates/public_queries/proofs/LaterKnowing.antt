@@ -1,24 +1,17 @@
 -- A question is answered by a last step, for which more is known after what was read.
 use Rattle.std.proofs.Common.{ℕ, Result}
 use Rattle.sqlite.specs.State as store
-use Rattle.sqlite.specs.State.{HasCleanDisk}
 use Rattle.sqlite.specs.Tree.{Trees}
-use Rattle.tree_core.specs.Forest.{Forest}
 use Rattle.office_tables.specs.Versions.{Version}
-use Rattle.office_core.specs.SoundOffice.{IsSoundOffice}
 use Rattle.office_core.specs.State.{State}
 use Rattle.office_core.specs.declared.query.Query.{Query}
 use Rattle.office_core.specs.declared.query.Answer.{Answer}
-use Rattle.office_tables.specs.Step.{IsAborted, LeavesUnchanged}
-use Rattle.office_tables.proofs.CallEnds.{excused_then}
-use Rattle.office_tables.proofs.Calls.{cut_then, early, looks_then, on_err_then, on_ok_then}
-use Rattle.office_tables.specs.declared.fault.StoreFault.{StoreFault}
-use Rattle.refinement.specs.Representation.{RepresentsState}
-use Rattle.refinement.proofs.Answerings.{still_shown}
 use Rattle.refinement.proofs.Tellings.{looked_crash}
 use Rattle.public_queries.specs.InformedAnswers.{AnswersKnowing}
+use Rattle.public_queries.proofs.Common.{Forest, HasCleanDisk, IsAborted, IsSoundOffice, LeavesUnchanged, RepresentsState, StoreFault, cut_then, early, excused_then, looks_then, on_err_then, on_ok_then, still_shown}
 
-pub knows_then : (places : Trees → Forest ℕ → Type 0) (version : Version) (known later : State → Type 0) (asked : Query) (a b c : store.State) (r : Result Answer StoreFault) → LeavesUnchanged a b
+pub knows_then : (places : Trees → Forest ℕ → Type 0) (version : Version) (known later : State → Type 0) (asked : Query) (a b c : store.State) (r : Result Answer StoreFault)
+    → LeavesUnchanged a b
     → (HasCleanDisk b → (s : State) → IsSoundOffice s → known s → RepresentsState places version a.now s → later s)
     → AnswersKnowing places version later asked b c r → AnswersKnowing places version known asked a c r
 knows_then places version known later asked a b c r looked means last =

@@ -1,3 +1,4 @@
+pub mod Common
 pub mod MoreItems
 pub mod HeadLineLemmas
 pub mod CodedWays

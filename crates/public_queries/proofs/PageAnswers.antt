@@ -1,34 +1,10 @@
 -- What the tables of a sound office tell of a page.
 use Rattle.std.proofs.Common.{◌≡◌, ℕ, ◌≤◌, ◌^◌, true, false, List, [], ◌∷◌, ◌++◌, Some, sym, ap, subst, ◌∙◌, nat_eq}
 use Rattle.std.specs.Prelude.{map}
-use Rattle.std.specs.List.{AllByRecursion, IsDistinct, find}
-use Rattle.isad_core.specs.Texts.{Bytes}
-use Rattle.tree_core.specs.Forest.{nodes, each, path, HasDistinctIds}
-use Rattle.tree_core.proofs.EachLemmas.{nodes-each}
-use Rattle.catalogue_core.specs.Units.{Unit, has_id}
+use Rattle.std.specs.List.{IsDistinct, find}
 use Rattle.office_core.specs.State.{State}
-use Rattle.office_core.specs.SoundOffice.{IsSoundOffice}
-use Rattle.office_core.specs.Queries.{answer}
 use Rattle.office_core.specs.declared.query.Query.TheVariants as query
-use Rattle.office_core.specs.declared.query.Answer.TheVariants.{Text, Unknown}
-use Rattle.desk_core.specs.declared.refusal.Refusal.TheVariants.{UnknownUnit}
-use Rattle.office_core.specs.Queries.{press}
-use Rattle.catalogue_store.specs.Heads.{head_of}
-use Rattle.std.proofs.lemmas.List.{map-append}
-use Rattle.isad_core.specs.PrintedDescriptions.{page}
-use Rattle.isad_core.specs.declared.display.Shown.{Shown}
-use Rattle.catalogue_core.specs.Units.{is_closed, is_later}
-use Rattle.catalogue_store.specs.declared.unit_values.UnitValues.{UnitValues}
-use Rattle.tree_core.specs.Tops.{tops, part_below}
-use Rattle.public_queries.specs.PathValues.{unit_values}
-use Rattle.public_queries.specs.HeadLines.{shows_last, head_alone, all_bare, repository_of, ids_of}
-use Rattle.public_queries.specs.PathValues.{coded_way}
-use Rattle.public_queries.specs.PageLines.{closed_page, told_page}
-use Rattle.refinement.specs.Representation.{office_of}
-use Rattle.catalogue_store.specs.declared.heads.Head.{Head}
-use Rattle.catalogue_statements.specs.declared.office.OfficeRow.{OfficeRow}
-use Rattle.catalogue_store.proofs.UnitsThere.{no_unit}
-use Rattle.office_core.proofs.KeptOffices.{office_kept}
+use Rattle.public_queries.proofs.Common.{AllByRecursion, Bytes, HasDistinctIds, Head, IsSoundOffice, OfficeRow, Shown, Text, Unit, UnitValues, Unknown, UnknownUnit, all_bare, answer, closed_page, coded_way, each, has_id, head_alone, head_of, ids_of, is_closed, is_later, map-append, no_unit, nodes, nodes-each, office_kept, office_of, page, part_below, path, press, repository_of, shows_last, told_page, tops, unit_values}
 use Rattle.public_queries.proofs.FoundUnits.{path_all, found_each}
 use Rattle.public_queries.proofs.Standing.{shown_in, nowhere, Stands, stands}
 use Rattle.public_queries.proofs.PagePrinted.{page_hidden, page_closed, page_told, is_there, last_same}
@@ -37,7 +13,8 @@ module _ (s : State) (sound : IsSoundOffice s) where
   pub distinct : HasDistinctIds (each (λ (unit : Unit). unit.id) s.catalogue.forest)
   distinct = subst (IsDistinct nat_eq) (sym (nodes-each (λ (unit : Unit). unit.id) s.catalogue.forest)) sound.sound.units.ids
 
-  pub path_found : (u : ℕ) → AllByRecursion (λ (x : Unit). find (has_id x.id) (nodes s.catalogue.forest) ≡ Some x) (path (has_id u) s.catalogue.forest)
+  pub path_found : (u : ℕ)
+      → AllByRecursion (λ (x : Unit). find (has_id x.id) (nodes s.catalogue.forest) ≡ Some x) (path (has_id u) s.catalogue.forest)
   path_found u = path_all _ (has_id u) s.catalogue.forest (found_each (nodes s.catalogue.forest) sound.sound.units.ids)
 
   -- a number that a table cannot keep is no unit's
@@ -46,7 +23,9 @@ module _ (s : State) (sound : IsSoundOffice s) where
       let none = sym (no_unit s.catalogue u large (office_kept s sound)) in
       sym (page_hidden (press s) s.day u s.catalogue.forest distinct (ap (λ l. shows_last s.day (map head_of l)) (nowhere (has_id u) s.catalogue.forest none).0))
 
-  pub judged : (u : ℕ) (row : OfficeRow) (way : List Head) → row ≡ office_of s → way ≡ map head_of (path (has_id u) s.catalogue.forest) → shown_in s.day u s.catalogue.forest ≡ shows_last row.day way
+  pub judged : (u : ℕ) (row : OfficeRow) (way : List Head) → row ≡ office_of s
+      → way ≡ map head_of (path (has_id u) s.catalogue.forest)
+      → shown_in s.day u s.catalogue.forest ≡ shows_last row.day way
   judged u row way e k = ap (shows_last s.day) (sym k) ∙ ap (λ (o : OfficeRow). shows_last o.day way) (sym e)
 
   pub hidden : (u : ℕ) → shown_in s.day u s.catalogue.forest ≡ false → Unknown UnknownUnit ≡ answer s (query.Page u)
@@ -66,18 +45,25 @@ module _ (s : State) (sound : IsSoundOffice s) where
     closes : is_later row.day last.until ≡ is_closed s.day it.node
     closes = ap (λ (o : OfficeRow). is_later o.day last.until) row_is ∙ ap (λ (h : Head). is_later s.day h.until) last_is
 
-    head_is : (ids : List Bytes) → ids ≡ ids_of way → head_alone (repository_of row) ids row.day last ≡ head_alone (press s).at (ids_of (map head_of (path (has_id u) s.catalogue.forest))) s.day (head_of it.node)
+    head_is : (ids : List Bytes) → ids ≡ ids_of way
+        → head_alone (repository_of row) ids row.day last ≡ head_alone (press s).at (ids_of (map head_of (path (has_id u) s.catalogue.forest))) s.day (head_of it.node)
     head_is ids e =
         ap (λ (o : OfficeRow). head_alone (repository_of o) ids o.day last) row_is ∙ ap (λ l. head_alone (repository_of (office_of s)) l s.day last) (e ∙ ap ids_of way_is)
         ∙ ap (λ h. head_alone (repository_of (office_of s)) (ids_of (map head_of (path (has_id u) s.catalogue.forest))) s.day h) last_is
 
-    pub answers_closed : (ids : List Bytes) (head : Shown) (text : Bytes) → ids ≡ ids_of way → head ≡ head_alone (repository_of row) ids row.day last → is_later row.day last.until ≡ true → text ≡ page (closed_page head) → Text text ≡ answer s (query.Page u)
+    pub answers_closed : (ids : List Bytes) (head : Shown) (text : Bytes) → ids ≡ ids_of way
+        → head ≡ head_alone (repository_of row) ids row.day last → is_later row.day last.until ≡ true
+        → text ≡ page (closed_page head) → Text text ≡ answer s (query.Page u)
     answers_closed ids head text e h c is =
         ap Text (is ∙ ap (λ x. page (closed_page x)) (h ∙ head_is ids e)) ∙ sym (page_closed (press s) s.day u s.catalogue.forest distinct it shown (sym closes ∙ c))
 
-    pub answers_told : (ids : List Bytes) (head : Shown) (units : List UnitValues) (heads : List Head) (text : Bytes) → ids ≡ ids_of way → head ≡ head_alone (repository_of row) ids row.day last → is_later row.day last.until ≡ false
-        → units ≡ map (unit_values s.catalogue.containers) (path (has_id u) s.catalogue.forest) → heads ≡ map head_of (tops (part_below has_id (Some u) s.catalogue.forest))
-        → text ≡ page (told_page head (coded_way (repository_of row) [] [] units) (all_bare (repository_of row) ids row.day heads)) → Text text ≡ answer s (query.Page u)
+    pub answers_told : (ids : List Bytes) (head : Shown) (units : List UnitValues) (heads : List Head) (text : Bytes)
+        → ids ≡ ids_of way → head ≡ head_alone (repository_of row) ids row.day last
+        → is_later row.day last.until ≡ false
+        → units ≡ map (unit_values s.catalogue.containers) (path (has_id u) s.catalogue.forest)
+        → heads ≡ map head_of (tops (part_below has_id (Some u) s.catalogue.forest))
+        → text ≡ page (told_page head (coded_way (repository_of row) [] [] units) (all_bare (repository_of row) ids row.day heads))
+        → Text text ≡ answer s (query.Page u)
     answers_told ids head units heads text e h c us hs is =
         let way_ids = ids_of (map head_of (path (has_id u) s.catalogue.forest)) in
         let H = head_alone (press s).at way_ids s.day (head_of it.node) in

@@ -1,18 +1,16 @@
 -- The containers on a page.
 use Rattle.std.proofs.Common.{◌≡◌, ℕ, ◌+◌, ◌<◌, List, [], ◌∷◌, length, drop, get_or, Option, Some, refl, ap, ◌∙◌, arith}
-use Rattle.isad_core.specs.Texts.{Bytes}
-use Rattle.isad_core.specs.declared.values.BoxKey.{BoxKey}
-use Rattle.catalogue_core.specs.Pages.{PageBox}
-use Rattle.public_queries.specs.PageLines.{box_lines, lines_or, nearest_lines}
-use Rattle.public_queries.specs.declared.path_values.OnPath.{OnPath}
+use Rattle.public_queries.proofs.Common.{BoxKey, Bytes, OnPath, PageBox, box_lines, lines_or, nearest_lines}
 use Rattle.public_queries.proofs.MoreItems.{left_at}
 
 -- where a unit has containers, they are the lines
-pub own_lines_first : (from : Option Bytes) (numbers : List ℕ) (boxes : List BoxKey) (further : List PageBox) → 0 < length boxes → lines_or from numbers boxes further ≡ box_lines from numbers boxes
+pub own_lines_first : (from : Option Bytes) (numbers : List ℕ) (boxes : List BoxKey) (further : List PageBox)
+    → 0 < length boxes → lines_or from numbers boxes further ≡ box_lines from numbers boxes
 own_lines_first from numbers [] further h = absurd (omega (arith, h))
 own_lines_first from numbers (box ∷ boxes) further h = refl
 
-pub nearest_here : (units : List OnPath) (i : ℕ) (unit : OnPath) → unit ≡ get_or units i unit → i < length units → 0 < length unit.unit.values.boxes
+pub nearest_here : (units : List OnPath) (i : ℕ) (unit : OnPath) → unit ≡ get_or units i unit → i < length units
+    → 0 < length unit.unit.values.boxes
     → nearest_lines (drop i units) ≡ box_lines (Some unit.code) unit.unit.containers unit.unit.values.boxes
 nearest_here units i unit is within h =
     ap nearest_lines (left_at units i unit is within)

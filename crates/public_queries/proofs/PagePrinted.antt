@@ -1,35 +1,9 @@
 -- The page of a unit, printed from what was read, is that of what the public may know.
 use Rattle.std.proofs.Common.{◌≡◌, ℕ, Bool, true, false, not, ◌&&◌, cond, List, [], ◌∷◌, ◌++◌, Option, Some, None, refl, sym, ap, subst, ◌∙◌}
-use Rattle.std.specs.Prelude.{ℤ, map, filter_map, codes, reverse}
-use Rattle.std.specs.List.{flat_map, AllByRecursion}
+use Rattle.std.specs.Prelude.{map}
 use Rattle.std.specs.Fmt.{decimal}
-use Rattle.std.proofs.lemmas.Bool.{false≢true}
-use Rattle.isad_core.specs.Texts.{Bytes}
-use Rattle.isad_core.specs.Codes.{code_of}
-use Rattle.isad_core.specs.Values.{identifier, line_elements}
-use Rattle.isad_core.specs.PrintedDescriptions.{page, line, indent, head_line, unit_below, found_element, found_container}
 use Rattle.isad_core.specs.declared.display.Page.{Page}
-use Rattle.isad_core.specs.declared.display.Shown.{Shown}
-use Rattle.isad_core.specs.declared.values.BoxKey.{BoxKey}
-use Rattle.std.proofs.lemmas.List.{map-append, reverse-append}
-use Rattle.tree_core.specs.Forest.{Forest, Empty, Node, each, has, path, tree, HasDistinctIds}
-use Rattle.catalogue_core.specs.CatalogueMerge.{box_number}
-use Rattle.catalogue_core.specs.Units.{Unit, has_id, is_closed, is_later}
-use Rattle.catalogue_core.specs.PublicForest.{PublicUnit, Told, public_of, stub_of}
-use Rattle.catalogue_core.specs.Aids.{Repository, identifier_of, shown_unit}
-use Rattle.catalogue_core.specs.Pages.{Press, PageBox, side_by_side, coded_below, with_codes, page_line, page_boxes, boxes_or, nearest_boxes, boxes_on_page, page_at, page_of, is_numbered}
-use Rattle.office_core.specs.Queries.{page_answer}
-use Rattle.office_core.specs.declared.query.Answer.TheVariants.{Text, Unknown}
-use Rattle.desk_core.specs.declared.refusal.Refusal.TheVariants.{UnknownUnit}
-use Rattle.catalogue_store.specs.Heads.{head_of}
-use Rattle.tree_core.specs.Tops.{tops, part_below, below_first}
-use Rattle.public_queries.specs.HeadLines.{head_alone, all_bare, ids_of, shows_last, are_open}
-use Rattle.public_queries.specs.PathValues.{coded_way, coded_of}
-use Rattle.public_queries.specs.PageLines.{box_lines, lines_or, nearest_lines, housed_lines, closed_page, told_page}
-use Rattle.public_queries.specs.PathValues.{unit_values}
-use Rattle.catalogue_store.specs.declared.heads.Head.{Head}
-use Rattle.public_queries.specs.declared.path_values.OnPath.{OnPath}
-use Rattle.catalogue_core.proofs.PublicPaths.{known_of}
+use Rattle.public_queries.proofs.Common.{AllByRecursion, BoxKey, Bytes, Empty, Forest, HasDistinctIds, Head, Node, OnPath, PageBox, Press, PublicUnit, Repository, Shown, Text, Told, Unit, Unknown, UnknownUnit, all_bare, are_open, below_first, box_lines, box_number, boxes_on_page, boxes_or, closed_page, code_of, coded_below, coded_of, coded_way, codes, each, false≢true, filter_map, flat_map, found_container, found_element, has, has_id, head_alone, head_line, head_of, housed_lines, identifier, identifier_of, ids_of, indent, is_closed, is_later, is_numbered, known_of, line, line_elements, lines_or, map-append, nearest_boxes, nearest_lines, page, page_answer, page_at, page_boxes, page_line, page_of, part_below, path, public_of, reverse, reverse-append, shown_unit, shows_last, side_by_side, stub_of, told_page, tops, tree, unit_below, unit_values, with_codes, ℤ}
 use Rattle.public_queries.proofs.Standing.{seen_below, public_node, Stands, nowhere, seen, shown_in}
 use Rattle.public_queries.proofs.HeadsPrinted.{known_ids, same_head, same_beside}
 use Rattle.public_queries.proofs.HeadLineLemmas.{shows_last-push}
@@ -53,31 +27,43 @@ module _ (day : ℤ) where
 -- ---- containers
 
 abbrev AreNumbered : List BoxKey → List OnPath → Type 0
-AreNumbered boxes units = AllByRecursion (λ (x : OnPath). x.unit.containers ≡ map (box_number boxes) x.unit.values.boxes) units
+AreNumbered boxes units =
+    AllByRecursion (λ (x : OnPath). x.unit.containers ≡ map (box_number boxes) x.unit.values.boxes) units
 
-numbered_lines : (press : Press) (from : Option Bytes) (bs : List BoxKey) → page_boxes press from bs ≡ box_lines from (map (box_number press.containers) bs) bs
+numbered_lines : (press : Press) (from : Option Bytes) (bs : List BoxKey)
+    → page_boxes press from bs ≡ box_lines from (map (box_number press.containers) bs) bs
 numbered_lines press from [] = refl
-numbered_lines press from (b ∷ bs) = ap (λ l. (box_number press.containers b, b.name, from) ∷ l) (numbered_lines press from bs)
+numbered_lines press from (b ∷ bs) =
+    ap (λ l. (box_number press.containers b, b.name, from) ∷ l) (numbered_lines press from bs)
 
-same_lines : (press : Press) (from : Option Bytes) (bs : List BoxKey) (ns : List ℕ) (f g : List PageBox) → ns ≡ map (box_number press.containers) bs → f ≡ g → boxes_or press from bs f ≡ lines_or from ns bs g
+same_lines : (press : Press) (from : Option Bytes) (bs : List BoxKey) (ns : List ℕ) (f g : List PageBox)
+    → ns ≡ map (box_number press.containers) bs → f ≡ g → boxes_or press from bs f ≡ lines_or from ns bs g
 same_lines press from [] ns f g e same = same
-same_lines press from (b ∷ bs) ns f g e same = numbered_lines press from (b ∷ bs) ∙ ap (λ l. box_lines from l (b ∷ bs)) (sym e)
+same_lines press from (b ∷ bs) ns f g e same =
+    numbered_lines press from (b ∷ bs) ∙ ap (λ l. box_lines from l (b ∷ bs)) (sym e)
 
-same_nearest : (press : Press) (units : List OnPath) → AreNumbered press.containers units → nearest_boxes press (map coded_of units) ≡ nearest_lines units
+same_nearest : (press : Press) (units : List OnPath) → AreNumbered press.containers units
+    → nearest_boxes press (map coded_of units) ≡ nearest_lines units
 same_nearest press [] h = refl
-same_nearest press (x ∷ units) h = same_lines press (Some x.code) x.unit.values.boxes x.unit.containers _ _ h.0 (same_nearest press units h.1)
+same_nearest press (x ∷ units) h =
+    same_lines press (Some x.code) x.unit.values.boxes x.unit.containers _ _ h.0 (same_nearest press units h.1)
 
-pub same_housed : (press : Press) (units : List OnPath) → AreNumbered press.containers units → boxes_on_page press (map coded_of units) ≡ housed_lines units
+pub same_housed : (press : Press) (units : List OnPath) → AreNumbered press.containers units
+    → boxes_on_page press (map coded_of units) ≡ housed_lines units
 same_housed press [] h = refl
-same_housed press (x ∷ units) h = same_lines press None x.unit.values.boxes x.unit.containers _ _ h.0 (same_nearest press units h.1)
+same_housed press (x ∷ units) h =
+    same_lines press None x.unit.values.boxes x.unit.containers _ _ h.0 (same_nearest press units h.1)
 
-pub are_numbered : (at : Repository) (boxes : List BoxKey) (above : List Bytes) (higher : List OnPath) (w : List Unit) → AreNumbered boxes higher → AreNumbered boxes (coded_way at above higher (map (unit_values boxes) w))
+pub are_numbered : (at : Repository) (boxes : List BoxKey) (above : List Bytes) (higher : List OnPath) (w : List Unit)
+    → AreNumbered boxes higher → AreNumbered boxes (coded_way at above higher (map (unit_values boxes) w))
 are_numbered at boxes above higher [] h = h
-are_numbered at boxes above higher (a ∷ w) h = are_numbered at boxes (above ++ identifier a.values ∷ []) (record { code = code_of at.country at.repo (above ++ identifier a.values ∷ []); unit = unit_values boxes a } ∷ higher) w (refl, h)
+are_numbered at boxes above higher (a ∷ w) h =
+    are_numbered at boxes (above ++ identifier a.values ∷ []) (record { code = code_of at.country at.repo (above ++ identifier a.values ∷ []); unit = unit_values boxes a } ∷ higher) w (refl, h)
 
 -- ---- pages
 
-printed_alike : (p q : Page) → head_line p.head ≡ head_line q.head → p.lines ≡ q.lines → p.boxes ≡ q.boxes → flat_map unit_below p.below ≡ flat_map unit_below q.below → page p ≡ page q
+printed_alike : (p q : Page) → head_line p.head ≡ head_line q.head → p.lines ≡ q.lines → p.boxes ≡ q.boxes
+    → flat_map unit_below p.below ≡ flat_map unit_below q.below → page p ≡ page q
 printed_alike p q a b e d =
     ap (λ l. line l ++ flat_map found_element p.lines ++ flat_map found_container p.boxes ++ flat_map unit_below p.below) a
     ∙ ap (λ l. line (head_line q.head) ++ flat_map found_element l ++ flat_map found_container p.boxes ++ flat_map unit_below p.below) b
@@ -108,10 +94,12 @@ module _ (press : Press) (day : ℤ) (u : ℕ) (f : Forest Unit) (distinct : Has
   pub page_hidden : shown_in day u f ≡ false → page_answer (page_of press u (public_of day f)) ≡ Unknown UnknownUnit
   page_hidden e =
       let it = seen day u f distinct in
-      let none : tree (is_numbered u) (public_of day f) ≡ Empty = it.tree_is ∙ ap (λ b. cond b (public_of day (tree (has_id u) f)) Empty) e in
+      let none : tree (is_numbered u) (public_of day f) ≡ Empty =
+      it.tree_is ∙ ap (λ b. cond b (public_of day (tree (has_id u) f)) Empty) e in
       ap (λ t. page_answer (page_at press (path (is_numbered u) (public_of day f)) t)) none
 
-  page_found : shown_in day u f ≡ true → page_of press u (public_of day f) ≡ page_at press (map (known_of day) (path (has_id u) f)) (public_of day (tree (has_id u) f))
+  page_found : shown_in day u f ≡ true
+      → page_of press u (public_of day f) ≡ page_at press (map (known_of day) (path (has_id u) f)) (public_of day (tree (has_id u) f))
   page_found e =
       let it = seen day u f distinct in
       ap (λ t. page_at press (path (is_numbered u) (public_of day f)) t) (it.tree_is ∙ ap (λ b. cond b (public_of day (tree (has_id u) f)) Empty) e)
@@ -175,8 +163,10 @@ module _ (press : Press) (day : ℤ) (u : ℕ) (f : Forest Unit) (distinct : Has
     page_told c =
         let way = path (has_id u) f in
         let units = coded_way press.at [] [] (map (unit_values press.containers) way) in
-        let opened : AreOpen day way = subst (AreOpen day) (sym it.way) (open_push it.above it.node (are_open_units it.above parts_shown.0) c) in
-        let same : with_codes press (map (known_of day) way) ≡ map coded_of units = same_coded day press [] [] way opened in
+        let opened : AreOpen day way =
+        subst (AreOpen day) (sym it.way) (open_push it.above it.node (are_open_units it.above parts_shown.0) c) in
+        let same : with_codes press (map (known_of day) way) ≡ map coded_of units =
+        same_coded day press [] [] way opened in
         let lower : side_by_side press (map identifier_of (map (known_of day) way)) (seen_below day (is_closed day it.node) it.children) ≡ side_by_side press (ids_of (map head_of way)) (public_of day it.children) =
         ap (λ l. side_by_side press l (seen_below day (is_closed day it.node) it.children)) (known_ids day way) ∙ ap (λ b. side_by_side press (ids_of (map head_of way)) (seen_below day b it.children)) c
         in

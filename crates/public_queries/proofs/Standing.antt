@@ -1,19 +1,10 @@
 -- The public part of a forest, cut first, and the paths of the whole: where a unit stands.
 use Rattle.std.proofs.Common.{◌≡◌, ℕ, Bool, true, false, not, ◌&&◌, ◌||◌, cond, List, [], ◌∷◌, ◌++◌, refl, sym, ap, subst, ◌∙◌, nat_eq}
-use Rattle.std.specs.Prelude.{ℤ, map}
-use Rattle.std.specs.List.{list_any}
+use Rattle.std.specs.Prelude.{map}
 use Rattle.std.proofs.lemmas.List.Folds.{list_any-append}
-use Rattle.std.proofs.lemmas.Bool.{false≢true, eqb-true}
-use Rattle.tree_core.specs.Forest.{Forest, Empty, Node, nodes, each, has, path, tree, HasDistinctIds}
 use Rattle.tree_core.specs.Visibility.{public}
-use Rattle.tree_core.proofs.EachLemmas.{has-each}
 use Rattle.tree_core.proofs.LinkPaths.{Parts, parts}
-use Rattle.catalogue_core.specs.Units.{Unit, has_id, is_closed}
-use Rattle.catalogue_core.specs.PublicForest.{PublicUnit, public_unit, public_of}
-use Rattle.catalogue_core.specs.Pages.{is_numbered}
-use Rattle.catalogue_core.proofs.PublicPaths.{known_of, number_known}
-use Rattle.catalogue_store.specs.Heads.{head_of}
-use Rattle.public_queries.specs.HeadLines.{shows_last, is_open_on}
+use Rattle.public_queries.proofs.Common.{Empty, Forest, HasDistinctIds, Node, PublicUnit, Unit, each, eqb-true, false≢true, has, has-each, has_id, head_of, is_closed, is_numbered, is_open_on, known_of, list_any, nodes, number_known, path, public_of, public_unit, shows_last, tree, ℤ}
 
 -- ---- what is found in a forest with a first node
 
@@ -51,7 +42,8 @@ module _ {A : Type 0} (is : A → Bool) where
     tree_is = ap (λ b. cond b (Node a c Empty) (cond (has is c) (tree is c) (tree is o))) e;
   }
 
-  finds_below : (a : A) (c o : Forest A) (there : Bool) (way : List A) (part : Forest A) → is a ≡ false → Finds c there way part → has is o ≡ false → Finds (Node a c o) there (a ∷ way) part
+  finds_below : (a : A) (c o : Forest A) (there : Bool) (way : List A) (part : Forest A) → is a ≡ false
+      → Finds c there way part → has is o ≡ false → Finds (Node a c o) there (a ∷ way) part
   finds_below a c o false way part e it none =
       finds_none (Node a c o) (a ∷ way) part (has_node a c o ∙ ap (λ b. b || (has is c || has is o)) e ∙ ap (λ b. b || has is o) it.has_is ∙ none)
   finds_below a c o true way part e it none = record {
@@ -60,7 +52,8 @@ module _ {A : Type 0} (is : A → Bool) where
     tree_is = ap (λ b. cond b (Node a c Empty) (cond (has is c) (tree is c) (tree is o))) e ∙ ap (λ b. cond b (tree is c) (tree is o)) it.has_is ∙ it.tree_is;
   }
 
-  finds_beside : (a : A) (c o : Forest A) (there : Bool) (way : List A) (part : Forest A) → is a ≡ false → has is c ≡ false → Finds o there way part → Finds (Node a c o) there way part
+  finds_beside : (a : A) (c o : Forest A) (there : Bool) (way : List A) (part : Forest A) → is a ≡ false
+      → has is c ≡ false → Finds o there way part → Finds (Node a c o) there way part
   finds_beside a c o there way part e none it = record {
     has_is = has_node a c o ∙ ap (λ b. b || (has is c || has is o)) e ∙ ap (λ b. b || has is o) none ∙ it.has_is;
     path_is = ap (λ b. cond b (a ∷ []) (cond (has is c) (a ∷ path is c) (path is o))) e ∙ ap (λ b. cond b (a ∷ path is c) (path is o)) none ∙ it.path_is;
@@ -80,7 +73,8 @@ module _ {A : Type 0} (is : A → Bool) where
   stands Empty e = absurd (false≢true e)
   stands (Node a c o) e = at (is a) refl (stands c) (stands o)
     where
-      on : (b : Bool) → is a ≡ false → has is c ≡ b → (has is c ≡ true → Stands c) → (has is o ≡ true → Stands o) → Stands (Node a c o)
+      on : (b : Bool) → is a ≡ false → has is c ≡ b → (has is c ≡ true → Stands c) → (has is o ≡ true → Stands o)
+          → Stands (Node a c o)
       on true n h in_c in_o =
           let it = in_c h in
           record {
@@ -124,12 +118,14 @@ module _ (day : ℤ) where
   abbrev pub seen_below : Bool → Forest Unit → Forest PublicUnit
   seen_below closed c = cond closed Empty (public_of day c)
 
-  pub public_node : (a : Unit) (c o : Forest Unit) → a.draft ≡ false → public_of day (Node a c o) ≡ Node (known_of day a) (seen_below (is_closed day a) c) (public_of day o)
+  pub public_node : (a : Unit) (c o : Forest Unit) → a.draft ≡ false
+      → public_of day (Node a c o) ≡ Node (known_of day a) (seen_below (is_closed day a) c) (public_of day o)
   public_node a c o e =
       ap (λ b. each public_unit (cond b (public (λ (u : Unit). u.draft) (is_closed day) o) (Node (a, is_closed day a) (cond (is_closed day a) Empty (public (λ (u : Unit). u.draft) (is_closed day) c)) (public (λ (u : Unit). u.draft) (is_closed day) o)))) e
       ∙ at (is_closed day a)
     where
-      at : (b : Bool) → each public_unit (Node (a, is_closed day a) (cond b Empty (public (λ (u : Unit). u.draft) (is_closed day) c)) (public (λ (u : Unit). u.draft) (is_closed day) o)) ≡ Node (known_of day a) (seen_below b c) (public_of day o)
+      at : (b : Bool)
+          → each public_unit (Node (a, is_closed day a) (cond b Empty (public (λ (u : Unit). u.draft) (is_closed day) c)) (public (λ (u : Unit). u.draft) (is_closed day) o)) ≡ Node (known_of day a) (seen_below b c) (public_of day o)
       at true = refl
       at false = refl
 
@@ -144,11 +140,14 @@ module _ (day : ℤ) where
         n : (has_id u a ≡ false) × (has (has_id u) c ≡ false) × (has (has_id u) o ≡ false)
         n = none_of (has_id u) (has_id u a) (has (has_id u) c) (has (has_id u) o) (sym (has_node (has_id u) a c o) ∙ e)
 
-        below : (b : Bool) → (has (has_id u) c ≡ false → has (is_numbered u) (public_of day c) ≡ false) → has (is_numbered u) (seen_below b c) ≡ false
+        below : (b : Bool) → (has (has_id u) c ≡ false → has (is_numbered u) (public_of day c) ≡ false)
+            → has (is_numbered u) (seen_below b c) ≡ false
         below true in_c = refl
         below false in_c = in_c n.1
 
-        at : (b : Bool) → a.draft ≡ b → (k : Bool) → is_closed day a ≡ k → (has (has_id u) c ≡ false → has (is_numbered u) (public_of day c) ≡ false) → (has (has_id u) o ≡ false → has (is_numbered u) (public_of day o) ≡ false)
+        at : (b : Bool) → a.draft ≡ b → (k : Bool) → is_closed day a ≡ k
+            → (has (has_id u) c ≡ false → has (is_numbered u) (public_of day c) ≡ false)
+            → (has (has_id u) o ≡ false → has (is_numbered u) (public_of day o) ≡ false)
             → has (is_numbered u) (public_of day (Node a c o)) ≡ false
         at true d k h in_c in_o = ap (has (is_numbered u)) (public_draft a c o d) ∙ in_o n.2
         at false d k h in_c in_o =
@@ -172,16 +171,21 @@ module _ (day : ℤ) where
         p = parts a.id (each (λ (unit : Unit). unit.id) c) (each (λ (unit : Unit). unit.id) o) d
 
         -- the whole node's, where its path and its tree are known
-        told_as : (way : List Unit) (part : Forest Unit) → path (has_id u) (Node a c o) ≡ way → tree (has_id u) (Node a c o) ≡ part
-            → Finds (is_numbered u) (public_of day (Node a c o)) (shows_last day (map head_of way)) (map (known_of day) way) (public_of day part) → Seen (Node a c o) (public_of day (Node a c o))
+        told_as : (way : List Unit) (part : Forest Unit) → path (has_id u) (Node a c o) ≡ way
+            → tree (has_id u) (Node a c o) ≡ part
+            → Finds (is_numbered u) (public_of day (Node a c o)) (shows_last day (map head_of way)) (map (known_of day) way) (public_of day part)
+            → Seen (Node a c o) (public_of day (Node a c o))
         told_as way part e k it =
             subst (λ t. Finds (is_numbered u) (public_of day (Node a c o)) (shown_in (Node a c o)) (map (known_of day) (path (has_id u) (Node a c o))) (public_of day t)) (sym k)
             (subst (λ w. Finds (is_numbered u) (public_of day (Node a c o)) (shows_last day (map head_of w)) (map (known_of day) w) (public_of day part)) (sym e) it)
 
-        cut : (g : Forest PublicUnit) → public_of day (Node a c o) ≡ g → (b : Bool) (way : List PublicUnit) (part : Forest PublicUnit) → Finds (is_numbered u) g b way part → Finds (is_numbered u) (public_of day (Node a c o)) b way part
+        cut : (g : Forest PublicUnit) → public_of day (Node a c o) ≡ g
+            → (b : Bool) (way : List PublicUnit) (part : Forest PublicUnit) → Finds (is_numbered u) g b way part
+            → Finds (is_numbered u) (public_of day (Node a c o)) b way part
         cut g e b way part it = subst (λ h. Finds (is_numbered u) h b way part) (sym e) it
 
-        here : (b : Bool) → a.draft ≡ b → nat_eq u a.id ≡ true → has (has_id u) o ≡ false → Finds (is_numbered u) (public_of day (Node a c o)) (not b) (known_of day a ∷ []) (public_of day (Node a c Empty))
+        here : (b : Bool) → a.draft ≡ b → nat_eq u a.id ≡ true → has (has_id u) o ≡ false
+            → Finds (is_numbered u) (public_of day (Node a c o)) (not b) (known_of day a ∷ []) (public_of day (Node a c Empty))
         here true e h none = cut (public_of day o) (public_draft a c o e) false _ _ (finds_none (is_numbered u) (public_of day o) _ _ (absent o none))
         here false e h none =
             cut _ (public_node a c o e) true _ _
@@ -189,9 +193,12 @@ module _ (day : ℤ) where
             (finds_here (is_numbered u) (known_of day a) (seen_below (is_closed day a) c) (public_of day o) (is_told a ∙ h)))
 
         -- it stands below the first
-        under : (b : Bool) → a.draft ≡ b → (k : Bool) → is_closed day a ≡ k → (s : Bool) (way : List PublicUnit) (part : Forest PublicUnit) → nat_eq u a.id ≡ false → has (has_id u) o ≡ false → Finds (is_numbered u) (public_of day c) s way part
+        under : (b : Bool) → a.draft ≡ b → (k : Bool) → is_closed day a ≡ k
+            → (s : Bool) (way : List PublicUnit) (part : Forest PublicUnit) → nat_eq u a.id ≡ false
+            → has (has_id u) o ≡ false → Finds (is_numbered u) (public_of day c) s way part
             → Finds (is_numbered u) (public_of day (Node a c o)) ((not b && not k) && s) (known_of day a ∷ way) part
-        under true e k h s way part n none it = cut (public_of day o) (public_draft a c o e) false _ _ (finds_none (is_numbered u) (public_of day o) _ _ (absent o none))
+        under true e k h s way part n none it =
+            cut (public_of day o) (public_draft a c o e) false _ _ (finds_none (is_numbered u) (public_of day o) _ _ (absent o none))
         under false e true h s way part n none it =
             cut _ (public_node a c o e ∙ ap (λ q. Node (known_of day a) (seen_below q c) (public_of day o)) h) false _ _
             (finds_none (is_numbered u) (Node (known_of day a) Empty (public_of day o)) _ _ (ap (λ q. q || has (is_numbered u) (public_of day o)) (is_told a ∙ n) ∙ absent o none))
@@ -199,7 +206,9 @@ module _ (day : ℤ) where
             cut _ (public_node a c o e ∙ ap (λ q. Node (known_of day a) (seen_below q c) (public_of day o)) h) s _ _
             (finds_below (is_numbered u) (known_of day a) (public_of day c) (public_of day o) s way part (is_told a ∙ n) it (absent o none))
 
-        aside : (b : Bool) → a.draft ≡ b → (s : Bool) (way : List PublicUnit) (part : Forest PublicUnit) → nat_eq u a.id ≡ false → has (has_id u) c ≡ false → Finds (is_numbered u) (public_of day o) s way part → Finds (is_numbered u) (public_of day (Node a c o)) s way part
+        aside : (b : Bool) → a.draft ≡ b → (s : Bool) (way : List PublicUnit) (part : Forest PublicUnit)
+            → nat_eq u a.id ≡ false → has (has_id u) c ≡ false → Finds (is_numbered u) (public_of day o) s way part
+            → Finds (is_numbered u) (public_of day (Node a c o)) s way part
         aside true e s way part n none it = cut (public_of day o) (public_draft a c o e) s way part it
         aside false e s way part n none it =
             cut _ (public_node a c o e) s way part (finds_beside (is_numbered u) (known_of day a) (seen_below (is_closed day a) c) (public_of day o) s way part (is_told a ∙ n) (below (is_closed day a)) it)
@@ -208,14 +217,18 @@ module _ (day : ℤ) where
             below true = refl
             below false = absent c none
 
-        longer : (way : List Unit) → (above : List Unit) (node : Unit) → way ≡ above ++ node ∷ [] → shows_last day (head_of a ∷ map head_of way) ≡ (is_open_on day (head_of a) && shows_last day (map head_of way))
+        longer : (way : List Unit) → (above : List Unit) (node : Unit) → way ≡ above ++ node ∷ []
+            → shows_last day (head_of a ∷ map head_of way) ≡ (is_open_on day (head_of a) && shows_last day (map head_of way))
         longer [] [] node e = absurd (cc)
         longer [] (x ∷ above) node e = absurd (cc)
         longer (x ∷ way) above node e = refl
 
-        on : (b : Bool) → has_id u a ≡ false → has (has_id u) c ≡ b → Seen c (public_of day c) → Seen o (public_of day o) → Seen (Node a c o) (public_of day (Node a c o))
+        on : (b : Bool) → has_id u a ≡ false → has (has_id u) c ≡ b → Seen c (public_of day c)
+            → Seen o (public_of day o) → Seen (Node a c o) (public_of day (Node a c o))
         on true n h in_c in_o =
-            let none : has (has_id u) o ≡ false = sym (has-each (nat_eq u) (λ (unit : Unit). unit.id) o) ∙ p.apart u (has-each (nat_eq u) (λ (unit : Unit). unit.id) c ∙ h) in
+            let none : has (has_id u) o ≡ false =
+            sym (has-each (nat_eq u) (λ (unit : Unit). unit.id) o)
+            ∙ p.apart u (has-each (nat_eq u) (λ (unit : Unit). unit.id) c ∙ h) in
             let it = stands (has_id u) c h in
             told_as (a ∷ path (has_id u) c) (tree (has_id u) c)
             (ap (λ b. cond b (a ∷ []) (cond (has (has_id u) c) (a ∷ path (has_id u) c) (path (has_id u) o))) n ∙ ap (λ b. cond b (a ∷ path (has_id u) c) (path (has_id u) o)) h)
@@ -231,10 +244,12 @@ module _ (day : ℤ) where
         not_beside : nat_eq u a.id ≡ true → has (has_id u) o ≡ false
         not_beside h = by_number (sym (has-each (nat_eq u) (λ (unit : Unit). unit.id) o)) h
           where
-            by_number : has (has_id u) o ≡ has (nat_eq u) (each (λ (unit : Unit). unit.id) o) → nat_eq u a.id ≡ true → has (has_id u) o ≡ false
+            by_number : has (has_id u) o ≡ has (nat_eq u) (each (λ (unit : Unit). unit.id) o) → nat_eq u a.id ≡ true
+                → has (has_id u) o ≡ false
             by_number e h = e ∙ subst (λ n. has (nat_eq n) (each (λ (unit : Unit). unit.id) o) ≡ false) (sym (eqb-true u a.id h)) p.not_beside
 
-        at : (b : Bool) → has_id u a ≡ b → Seen c (public_of day c) → Seen o (public_of day o) → Seen (Node a c o) (public_of day (Node a c o))
+        at : (b : Bool) → has_id u a ≡ b → Seen c (public_of day c) → Seen o (public_of day o)
+            → Seen (Node a c o) (public_of day (Node a c o))
         at true h in_c in_o =
             told_as (a ∷ []) (Node a c Empty)
             (ap (λ b. cond b (a ∷ []) (cond (has (has_id u) c) (a ∷ path (has_id u) c) (path (has_id u) o))) h)

@@ -1,7 +1,6 @@
 //! The finding aid of a unit, printed as it is read.
 
 ghost use Rattle.std.specs.Prelude.{◌≡◌, ◌++◌, ◌∷◌, [], ⊤, List, length, map, OnOk, IfOk};
-ghost use Rattle.isad_core.specs.Limits.{IsNumber};
 ghost use Rattle.isad_core.specs.PrintedDescriptions.{aid as printed, unit_lines};
 ghost use Rattle.tree_core.specs.Forest.{HasDistinctIds, each, tree, walk};
 ghost use Rattle.catalogue_core.specs.Bounds.{IsKept};
@@ -22,8 +21,7 @@ use crate::visible_unit::{Seen, seen_unit};
 use catalogue_store::{OfficeRow, Places, branch_marks, path_heads};
 use isad_core::{Day, List, Shown, Text, aid_text, join_code};
 use office_core::{Answer, Refusal};
-use office_tables::value::NO_NUMBER;
-use office_tables::{StoreFault, Tables};
+use office_tables::{Number, StoreFault, Tables};
 use sqlite::Alter;
 use std::alloc::{AllocError, Global};
 use tree_core::{Kept, prune};
@@ -35,10 +33,9 @@ const MOST_MARKS: usize = 1 << 30;
 fn kept_of<P: Places, S: Alter>(
     alloc: Global,
     tables: &mut Tables<P, S>,
-    unit: u64,
+    unit: Number,
     today: Day,
 ) -> Result<Vec<Kept>, StoreFault>
-    requires small { IsNumber unit }
     ensures answers { Answers S.Store (Represents P.represents P.version) IsKept tables.old tables.new result (λ _. ⊤)
         (λ _ c kept. kept.items ≡ map kept_row (walk 0 (public_units today (tree (has_id unit) c.forest)))) }
 {
@@ -108,10 +105,9 @@ fn branch_text<P: Places, S: Alter>(
     alloc: Global,
     tables: &mut Tables<P, S>,
     known: &OfficeRow,
-    unit: u64,
+    unit: Number,
     above: Vec<Text>,
 ) -> Result<List<u8>, StoreFault>
-    requires small { IsNumber unit }
     ensures answers { Answers S.Store (Represents P.represents P.version) IsKept tables.old tables.new result
         (λ c. IsTellable c × HasDistinctIds (each (λ u. u.id) c.forest))
         (λ _ c text. IsTellable c → HasDistinctIds (each (λ u. u.id) c.forest)
@@ -133,14 +129,14 @@ pub fn aid<P: Places, S: Alter>(
     ensures { RespondsKnowing P.represents P.version S.Store (λ s. known.now ≡ office_of s) (query.Aid unit)
         tables.old tables.new result }
 {
-    if unit >= NO_NUMBER {
+    let Some(number) = Number::of(unit) else {
         return Ok(Answer::Unknown(Refusal::UnknownUnit));
-    }
-    let way = path_heads(alloc, tables, unit)?;
+    };
+    let way = path_heads(alloc, tables, number)?;
     if !shows_last(&way, known.day) {
         return Ok(Answer::Unknown(Refusal::UnknownUnit));
     }
     let above = identifiers_above(alloc, &way)?;
-    let text = branch_text(alloc, tables, known, unit, above)?;
+    let text = branch_text(alloc, tables, known, number, above)?;
     Ok(Answer::Text(text))
 }

@@ -69,7 +69,7 @@ pub(crate) fn bare_units(
     let mut below = List::new(alloc);
     for head in heads {
         if !head.draft {
-            below.push((head.id, bare_in(alloc, known, ids, head)?))?;
+            below.push((head.id.get(), bare_in(alloc, known, ids, head)?))?;
         }
     }
     Ok(below)

@@ -89,7 +89,7 @@ fn boxes_of(
         .iter()
         .zip(unit.values.boxes.as_slice())
     {
-        boxes.push((*number, housed.name.clone()?, code_or_none(from)?))?;
+        boxes.push((number.get(), housed.name.clone()?, code_or_none(from)?))?;
     }
     Ok(boxes)
 }

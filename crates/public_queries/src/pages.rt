@@ -1,7 +1,6 @@
 //! The page of a unit.
 
 ghost use Rattle.std.specs.Prelude.{◌≡◌, [], find, map, Some, IfOk};
-ghost use Rattle.isad_core.specs.Limits.{IsNumber};
 ghost use Rattle.isad_core.specs.PrintedDescriptions.{page as printed};
 ghost use Rattle.tree_core.specs.Forest.{nodes};
 ghost use Rattle.catalogue_core.specs.Bounds.{IsKept};
@@ -23,8 +22,7 @@ use crate::path_values::with_codes;
 use catalogue_store::{Head, OfficeRow, Places, UnitValues, heads_below, path_heads, values};
 use isad_core::{List, Shown, Text};
 use office_core::{Answer, Refusal};
-use office_tables::value::NO_NUMBER;
-use office_tables::{StoreFault, Tables};
+use office_tables::{Number, StoreFault, Tables};
 use refinement::is_closed;
 use sqlite::Alter;
 use std::alloc::{AllocError, Global};
@@ -33,16 +31,13 @@ use std::alloc::{AllocError, Global};
 fn values_there<P: Places, S: Alter>(
     alloc: Global,
     tables: &mut Tables<P, S>,
-    unit: u64,
+    unit: Number,
 ) -> Result<UnitValues, StoreFault>
     ensures answers { Answers S.Store (Represents P.represents P.version) IsKept tables.old tables.new result
         (λ c. IsTellable c × (u : Described) × (find (has_id unit) (nodes c.forest) ≡ Some u))
         (λ _ c told. IsTellable c → (u : Described) → find (has_id unit) (nodes c.forest) ≡ Some u
         → told ≡ unit_values c.containers u) }
 {
-    if unit >= NO_NUMBER {
-        return Err(StoreFault::Schema);
-    }
     let Some(told) = values(alloc, tables, unit)? else {
         return Err(StoreFault::Schema);
     };
@@ -90,10 +85,9 @@ fn shown_page<P: Places, S: Alter>(
     alloc: Global,
     tables: &mut Tables<P, S>,
     known: &OfficeRow,
-    unit: u64,
+    unit: Number,
     way: &[Head],
 ) -> Result<Answer, StoreFault>
-    requires small { IsNumber unit }
     ensures { RespondsKnowing P.represents P.version S.Store (RepresentsUnit known.now unit way.now) (query.Page unit)
         tables.old tables.new result }
 {
@@ -123,12 +117,12 @@ pub fn page<P: Places, S: Alter>(
     ensures { RespondsKnowing P.represents P.version S.Store (λ s. known.now ≡ office_of s) (query.Page unit)
         tables.old tables.new result }
 {
-    if unit >= NO_NUMBER {
+    let Some(number) = Number::of(unit) else {
         return Ok(Answer::Unknown(Refusal::UnknownUnit));
-    }
-    let way = path_heads(alloc, tables, unit)?;
+    };
+    let way = path_heads(alloc, tables, number)?;
     if !shows_last(way.as_slice(), known.day) {
         return Ok(Answer::Unknown(Refusal::UnknownUnit));
     }
-    shown_page(alloc, tables, known, unit, way.as_slice())
+    shown_page(alloc, tables, known, number, way.as_slice())
 }

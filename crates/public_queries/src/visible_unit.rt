@@ -1,7 +1,6 @@
 //! What the public sees of one unit: its own description, or only a stub if it is closed.
 
 ghost use Rattle.std.specs.Prelude.{◌≡◌, ℤ, find, IfOk, Some};
-ghost use Rattle.isad_core.specs.Limits.{IsNumber};
 ghost use Rattle.isad_core.specs.Values.{identifier};
 ghost use Rattle.tree_core.specs.Forest.{nodes};
 ghost use Rattle.catalogue_core.specs.Bounds.{IsKept};
@@ -15,8 +14,7 @@ ghost use Rattle.public_queries.specs.KnownPaths.{IsTellable};
 use crate::path_values::text_or_empty;
 use catalogue_store::{Places, UnitValues, find_head, values};
 use isad_core::{Body, BoxKey, Day, Element, List, Text};
-use office_tables::value::NO_NUMBER;
-use office_tables::{StoreFault, Tables};
+use office_tables::{Number, StoreFault, Tables, known_number};
 use sqlite::Alter;
 use std::alloc::{AllocError, Global};
 use tree_core::Kept;
@@ -34,14 +32,14 @@ pub struct Seen {
 /// The names of these containers, each with its number.
 fn with_numbers(
     alloc: Global,
-    numbers: &[u64],
+    numbers: &[Number],
     boxes: &[BoxKey],
 ) -> Result<List<(u64, Text)>, AllocError>
     ensures { IfOk result (λ numbered. numbered ≡ with_numbers numbers.now boxes.now) }
 {
     let mut numbered = List::new(alloc);
     for (number, housed) in numbers.iter().zip(boxes) {
-        numbered.push((*number, housed.name.clone()?))?;
+        numbered.push((number.get(), housed.name.clone()?))?;
     }
     Ok(numbered)
 }
@@ -66,9 +64,8 @@ fn seen_values(alloc: Global, unit: &UnitValues) -> Result<Seen, AllocError>
 fn seen_open<P: Places, S: Alter>(
     alloc: Global,
     tables: &mut Tables<P, S>,
-    unit: u64,
+    unit: Number,
 ) -> Result<Seen, StoreFault>
-    requires small { IsNumber unit }
     ensures answers { Answers S.Store (Represents P.represents P.version) IsKept tables.old tables.new result
         (λ c. IsTellable c × (u : Described) × (find (has_id unit) (nodes c.forest) ≡ Some u))
         (λ _ c seen. IsTellable c → (u : Described) → find (has_id unit) (nodes c.forest) ≡ Some u
@@ -84,9 +81,8 @@ fn seen_open<P: Places, S: Alter>(
 fn seen_closed<P: Places, S: Alter>(
     alloc: Global,
     tables: &mut Tables<P, S>,
-    unit: u64,
+    unit: Number,
 ) -> Result<Seen, StoreFault>
-    requires small { IsNumber unit }
     ensures answers { Answers S.Store (Represents P.represents P.version) IsKept tables.old tables.new result
         (λ c. (u : Described) × (until : ℤ) × (find (has_id unit) (nodes c.forest) ≡ Some u) × (u.until ≡ Some until))
         (λ _ c seen. (u : Described) (until : ℤ) → find (has_id unit) (nodes c.forest) ≡ Some u → u.until ≡ Some until
@@ -118,12 +114,10 @@ pub(crate) fn seen_unit<P: Places, S: Alter>(
         (λ _ c seen. IsTellable c → (row : Walked) → IsOf today c row → unit ≡ kept_row row
         → seen ≡ seen_of c.containers (public_unit row.0)) }
 {
-    if unit.id >= NO_NUMBER {
-        return Err(StoreFault::Schema);
-    }
+    let number = known_number(unit.id)?;
     if unit.stub {
-        seen_closed(alloc, tables, unit.id)
+        seen_closed(alloc, tables, number)
     } else {
-        seen_open(alloc, tables, unit.id)
+        seen_open(alloc, tables, number)
     }
 }

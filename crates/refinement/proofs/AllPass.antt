@@ -1,20 +1,21 @@
 -- Numbers that are looked at one by one.
 use Rattle.std.proofs.Common.{◌≡◌, ◌∙◌, ℕ, zero, suc, ◌+◌, ◌<◌, ◌≤◌, Bool, true, false, List, [], ◌∷◌, length, map, take, get_or, refl, sym, ap, subst, arith}
-use Rattle.std.proofs.lemmas.List.{get_or-map, length-map}
-use Rattle.tree_core.specs.declared.rows.Span.{Span}
 use Rattle.std.specs.Prelude.{◌&&◌}
-use Rattle.std.specs.List.{list_all}
+use Rattle.refinement.proofs.Common.{Span, get_or-map, length-map, list_all}
 
 -- ---- one more of those that pass
 
-all_more : (p : ℕ → Bool) (xs : List ℕ) (i : ℕ) → i < length xs → list_all p (take i xs) ≡ true → p (get_or xs i 0) ≡ true → list_all p (take (i + 1) xs) ≡ true
+all_more : (p : ℕ → Bool) (xs : List ℕ) (i : ℕ) → i < length xs → list_all p (take i xs) ≡ true
+    → p (get_or xs i 0) ≡ true → list_all p (take (i + 1) xs) ≡ true
 all_more p [] i low so here = absurd (omega (arith, low))
 all_more p (x ∷ xs) zero low so here = rw here refl
 all_more p (x ∷ xs) (suc i) low so here =
     let e : suc (i + 1) ≡ suc i + 1 = omega arith in
     subst (λ n. list_all p (take n (x ∷ xs)) ≡ true) e (at (p x) so (λ rest. all_more p xs i (omega (arith, low)) rest here))
   where
-    at : (b : Bool) → (b && list_all p (take i xs)) ≡ true → (list_all p (take i xs) ≡ true → list_all p (take (i + 1) xs) ≡ true) → (b && list_all p (take (i + 1) xs)) ≡ true
+    at : (b : Bool) → (b && list_all p (take i xs)) ≡ true
+        → (list_all p (take i xs) ≡ true → list_all p (take (i + 1) xs) ≡ true)
+        → (b && list_all p (take (i + 1) xs)) ≡ true
     at true so more = more so
     at false so more = absurd (cc)
 
@@ -32,7 +33,8 @@ all_of p [] i high so = refl
 all_of p (x ∷ xs) zero high so = absurd (omega (arith, high))
 all_of p (x ∷ xs) (suc i) high so = at (p x) so (all_of p xs i (omega (arith, high)))
   where
-    at : (b : Bool) → (b && list_all p (take i xs)) ≡ true → (list_all p (take i xs) ≡ true → true ≡ list_all p xs) → true ≡ (b && list_all p xs)
+    at : (b : Bool) → (b && list_all p (take i xs)) ≡ true → (list_all p (take i xs) ≡ true → true ≡ list_all p xs)
+        → true ≡ (b && list_all p xs)
     at true so rest = rest so
     at false so rest = absurd (cc)
 
@@ -46,7 +48,8 @@ module _ (p : ℕ → Bool) (rows : List Span) (i : ℕ) (d : Span) (low : i < l
   at = here ∙ ap p (sym (get_or-map (λ (row : Span). row.id) rows i d 0 low))
 
   pub more_clean : answer ≡ true → list_all p (take i ids) ≡ true → list_all p (take (i + 1) ids) ≡ true
-  more_clean held so_far = all_more p ids i (omega (arith, low, length-map rows (λ (row : Span). row.id))) so_far (sym at ∙ held)
+  more_clean held so_far =
+      all_more p ids i (omega (arith, low, length-map rows (λ (row : Span). row.id))) so_far (sym at ∙ held)
 
   pub not_clean : answer ≡ false → false ≡ list_all p ids
   not_clean fails = not_all p ids i (omega (arith, low, length-map rows (λ (row : Span). row.id))) (sym at ∙ fails)

@@ -1,24 +1,13 @@
 -- What lies in a container is the same without a branch, where its unit does not lie there, and none of its units names the
 -- container.
 use Rattle.std.proofs.Common.{◌≡◌, ℕ, ℤ, Bool, true, false, cond, not, ◌&&◌, List, [], ◌∷◌, ◌++◌, append_assoc, filter, nat_eq, Option, Some, None, refl, sym, ap, ap₂, ◌∙◌}
-use Rattle.std.specs.Prelude.{◌||◌, option_to_list}
-use Rattle.std.specs.List.{last_or, list_any, list_all, AllByRecursion}
-use Rattle.std.proofs.Math.Path.{fun_ext}
-use Rattle.std.proofs.lemmas.Bool.{and_parts, eqb-true}
+use Rattle.std.specs.Prelude.{◌||◌}
 use Rattle.std.proofs.lemmas.List.{append-nil}
-use Rattle.std.proofs.lemmas.List.Elements.{filter-append}
-use Rattle.std.proofs.lemmas.List.Folds.{list_any-append}
-use Rattle.isad_core.specs.declared.values.BoxKey.{BoxKey}
 use Rattle.isad_core.specs.Boxes.{is_same as is_same_box}
-use Rattle.tree_core.specs.Forest.{Forest, Empty, Node, nodes, each, has, path, tree, branch, cut, HasDistinctIds}
-use Rattle.tree_core.proofs.EachLemmas.{cut-each, has-each}
-use Rattle.tree_core.proofs.LinkPaths.{parts}
 use Rattle.tree_core.proofs.MarkWalks.{list_all-append}
 use Rattle.tree_core.proofs.SpanShifts.{cut_none}
-use Rattle.catalogue_core.specs.ContainerContents.{own_or, housed_below, containers_of, paths_below, is_withheld_from, is_some_there, is_open}
-use Rattle.catalogue_core.specs.Units.{Unit, has_id}
-use Rattle.std.proofs.Math.Bool.{or-false}
-use Rattle.refinement.specs.Gate.{names_some, near}
+use Rattle.catalogue_core.specs.ContainerContents.{is_open}
+use Rattle.refinement.proofs.Common.{AllByRecursion, BoxKey, Empty, Forest, HasDistinctIds, Node, Unit, and_parts, branch, containers_of, cut, cut-each, each, eqb-true, filter-append, fun_ext, has, has-each, has_id, housed_below, is_some_there, is_withheld_from, last_or, list_all, list_any, list_any-append, names_some, near, nodes, option_to_list, or-false, own_or, parts, path, paths_below, tree}
 
 -- ---- truths
 
@@ -26,13 +15,15 @@ pub neither : (a b : Bool) → (a || b) ≡ false → (a ≡ false) × (b ≡ fa
 neither true b e = absurd (cc)
 neither false b e = (refl, e)
 
-none_in : {X : Type 0} (p : X → Bool) (xs ys : List X) → list_any p (xs ++ ys) ≡ false → (list_any p xs ≡ false) × (list_any p ys ≡ false)
+none_in : {X : Type 0} (p : X → Bool) (xs ys : List X) → list_any p (xs ++ ys) ≡ false
+    → (list_any p xs ≡ false) × (list_any p ys ≡ false)
 none_in p xs ys e = neither (list_any p xs) (list_any p ys) (sym (list_any-append p xs ys) ∙ e)
 
 abbrev id_of : Unit → ℕ
 id_of unit = unit.id
 
-housed_more : (above : List BoxKey) (A : List Unit) (u : Unit) → housed_below above (A ++ u ∷ []) ≡ own_or u.values.boxes (housed_below above A)
+housed_more : (above : List BoxKey) (A : List Unit) (u : Unit)
+    → housed_below above (A ++ u ∷ []) ≡ own_or u.values.boxes (housed_below above A)
 housed_more above [] u = refl
 housed_more above (x ∷ A) u = housed_more (own_or x.values.boxes above) A u
 
@@ -58,7 +49,8 @@ module _ (box : BoxKey) where
       by_boxes (b ∷ boxes) e = e
 
   -- a unit lies where the nearest that names some names the container
-  pub by_nearest : (found : Option Unit) (above : List BoxKey) → in_it above ≡ list_any names_box (option_to_list found) → (way : List Unit)
+  pub by_nearest : (found : Option Unit) (above : List BoxKey) → in_it above ≡ list_any names_box (option_to_list found)
+      → (way : List Unit)
       → in_it (housed_below above way) ≡ list_any names_box (option_to_list (last_or found (filter names_some way)))
   by_nearest found above so [] = so
   by_nearest found above so (unit ∷ way) = at unit.values.boxes refl (λ found above so. by_nearest found above so way)
@@ -69,10 +61,12 @@ module _ (box : BoxKey) where
       at [] is further = further found above so
       at (b ∷ boxes) is further = further (Some unit) (b ∷ boxes) (sym (ap in_it is) ∙ sym (or-false (names_box unit)))
 
-  parted : (A : List Unit) (a : Unit) (c o : Forest Unit) → lying A (Node a c o) ≡ cond (lies (A ++ a ∷ [])) ((A ++ a ∷ []) ∷ (lying (A ++ a ∷ []) c ++ lying A o)) (lying (A ++ a ∷ []) c ++ lying A o)
+  parted : (A : List Unit) (a : Unit) (c o : Forest Unit)
+      → lying A (Node a c o) ≡ cond (lies (A ++ a ∷ [])) ((A ++ a ∷ []) ∷ (lying (A ++ a ∷ []) c ++ lying A o)) (lying (A ++ a ∷ []) c ++ lying A o)
   parted A a c o = ap (λ l. cond (lies (A ++ a ∷ [])) ((A ++ a ∷ []) ∷ l) l) (filter-append lies (paths_below (A ++ a ∷ []) c) (paths_below A o))
 
-  nothing_below : (A : List Unit) (f : Forest Unit) → lies A ≡ false → list_any names_box (nodes f) ≡ false → lying A f ≡ []
+  nothing_below : (A : List Unit) (f : Forest Unit) → lies A ≡ false → list_any names_box (nodes f) ≡ false
+      → lying A f ≡ []
   nothing_below A Empty above none = refl
   nothing_below A (Node a c o) above none =
       let one = neither (names_box a) (list_any names_box (nodes c ++ nodes o)) none in
@@ -90,7 +84,8 @@ module _ (box : BoxKey) where
     has_by_id f = has-each (nat_eq u) id_of f
 
     -- the place of the unit: here, below, or beside
-    at_node : (A : List Unit) (a : Unit) (c o : Forest Unit) (is below : Bool) → nat_eq u a.id ≡ is → has (has_id u) c ≡ below → HasDistinctIds (each id_of (Node a c o))
+    at_node : (A : List Unit) (a : Unit) (c o : Forest Unit) (is below : Bool) → nat_eq u a.id ≡ is
+        → has (has_id u) c ≡ below → HasDistinctIds (each id_of (Node a c o))
         → lies (A ++ cond is (a ∷ []) (cond below (a ∷ path (has_id u) c) (path (has_id u) o))) ≡ false
         → list_any names_box (nodes (cond is (Node a c Empty) (cond below (tree (has_id u) c) (tree (has_id u) o)))) ≡ false
         → ((B : List Unit) → HasDistinctIds (each id_of c) → lies (B ++ path (has_id u) c) ≡ false → list_any names_box (branch (has_id u) c) ≡ false → lying B c ≡ lying B (gone c))
@@ -99,8 +94,10 @@ module _ (box : BoxKey) where
     at_node A a c o true below here inside d shut none in_c in_o =
         let p = parts a.id (each id_of c) (each id_of o) d in
         let one = neither (names_box a) (list_any names_box (nodes c ++ [])) none in
-        let quiet : list_any names_box (nodes c) ≡ false = ap (list_any names_box) (sym (append-nil (nodes c))) ∙ one.1 in
-        let absent : has (has_id u) o ≡ false = sym (has_by_id o) ∙ ap (λ n. has (nat_eq n) (each id_of o)) (eqb-true u a.id here) ∙ p.not_beside in
+        let quiet : list_any names_box (nodes c) ≡ false =
+        ap (list_any names_box) (sym (append-nil (nodes c))) ∙ one.1 in
+        let absent : has (has_id u) o ≡ false =
+        sym (has_by_id o) ∙ ap (λ n. has (nat_eq n) (each id_of o)) (eqb-true u a.id here) ∙ p.not_beside in
         parted A a c o
         ∙ ap (λ b. cond b ((A ++ a ∷ []) ∷ (lying (A ++ a ∷ []) c ++ lying A o)) (lying (A ++ a ∷ []) c ++ lying A o)) shut
         ∙ ap (λ l. l ++ lying A o) (nothing_below (A ++ a ∷ []) c shut quiet)
@@ -108,7 +105,8 @@ module _ (box : BoxKey) where
     at_node A a c o false true here inside d shut none in_c in_o =
         let p = parts a.id (each id_of c) (each id_of o) d in
         let absent : has (has_id u) o ≡ false = sym (has_by_id o) ∙ p.apart u (has_by_id c ∙ inside) in
-        let below : lies ((A ++ a ∷ []) ++ path (has_id u) c) ≡ false = ap lies (append_assoc A (a ∷ []) (path (has_id u) c)) ∙ shut in
+        let below : lies ((A ++ a ∷ []) ++ path (has_id u) c) ≡ false =
+        ap lies (append_assoc A (a ∷ []) (path (has_id u) c)) ∙ shut in
         parted A a c o
         ∙ ap₂ (λ x y. cond (lies (A ++ a ∷ [])) ((A ++ a ∷ []) ∷ (x ++ y)) (x ++ y)) (in_c (A ++ a ∷ []) p.children_distinct below none) (ap (lying A) (sym (cut_none (has_id u) o absent)))
         ∙ sym (parted A a (gone c) (gone o))
@@ -118,7 +116,9 @@ module _ (box : BoxKey) where
         ∙ ap₂ (λ x y. cond (lies (A ++ a ∷ [])) ((A ++ a ∷ []) ∷ (x ++ y)) (x ++ y)) (ap (lying (A ++ a ∷ [])) (sym (cut_none (has_id u) c inside))) (in_o p.others_distinct shut none)
         ∙ sym (parted A a (gone c) (gone o))
 
-    same_lying : (A : List Unit) (f : Forest Unit) → HasDistinctIds (each id_of f) → lies (A ++ path (has_id u) f) ≡ false → list_any names_box (branch (has_id u) f) ≡ false → lying A f ≡ lying A (gone f)
+    same_lying : (A : List Unit) (f : Forest Unit) → HasDistinctIds (each id_of f)
+        → lies (A ++ path (has_id u) f) ≡ false → list_any names_box (branch (has_id u) f) ≡ false
+        → lying A f ≡ lying A (gone f)
     same_lying A Empty d shut none = refl
     same_lying A (Node a c o) d shut none =
         at_node A a c o (nat_eq u a.id) (has (has_id u) c) refl refl d shut none
@@ -126,16 +126,20 @@ module _ (box : BoxKey) where
 
     -- what is seen of all that lies there, is seen of what is left
     module _ (seen : List Unit → Bool) where
-      of_rest : (b : Bool) (way : List Unit) (ways : List (List Unit)) → list_all seen (cond b (way ∷ ways) ways) ≡ true → (cond b (seen way) true ≡ true) × (list_all seen ways ≡ true)
+      of_rest : (b : Bool) (way : List Unit) (ways : List (List Unit)) → list_all seen (cond b (way ∷ ways) ways) ≡ true
+          → (cond b (seen way) true ≡ true) × (list_all seen ways ≡ true)
       of_rest true way ways all = and_parts (seen way) (list_all seen ways) all
       of_rest false way ways all = (refl, all)
 
-      with_rest : (b : Bool) (way : List Unit) (ways : List (List Unit)) → cond b (seen way) true ≡ true → list_all seen ways ≡ true → list_all seen (cond b (way ∷ ways) ways) ≡ true
+      with_rest : (b : Bool) (way : List Unit) (ways : List (List Unit)) → cond b (seen way) true ≡ true
+          → list_all seen ways ≡ true → list_all seen (cond b (way ∷ ways) ways) ≡ true
       with_rest true way ways one all = ap₂ ◌&&◌ one all
       with_rest false way ways one all = all
 
-      left_here : (A : List Unit) (a : Unit) (c o : Forest Unit) (is : Bool) → list_all seen (lying A (Node a c o)) ≡ true
-          → ((B : List Unit) → list_all seen (lying B c) ≡ true → list_all seen (lying B (gone c)) ≡ true) → (list_all seen (lying A o) ≡ true → list_all seen (lying A (gone o)) ≡ true)
+      left_here : (A : List Unit) (a : Unit) (c o : Forest Unit) (is : Bool)
+          → list_all seen (lying A (Node a c o)) ≡ true
+          → ((B : List Unit) → list_all seen (lying B c) ≡ true → list_all seen (lying B (gone c)) ≡ true)
+          → (list_all seen (lying A o) ≡ true → list_all seen (lying A (gone o)) ≡ true)
           → list_all seen (lying A (cond is (gone o) (Node a (gone c) (gone o)))) ≡ true
       left_here A a c o is all in_c in_o =
           let B = A ++ a ∷ [] in
@@ -143,16 +147,20 @@ module _ (box : BoxKey) where
           let two = and_parts (list_all seen (lying B c)) (list_all seen (lying A o)) (sym (list_all-append seen (lying B c) (lying A o)) ∙ one.1) in
           at is one.0 (in_c B two.0) (in_o two.1)
         where
-          at : (is : Bool) → cond (lies (A ++ a ∷ [])) (seen (A ++ a ∷ [])) true ≡ true → list_all seen (lying (A ++ a ∷ []) (gone c)) ≡ true → list_all seen (lying A (gone o)) ≡ true → list_all seen (lying A (cond is (gone o) (Node a (gone c) (gone o)))) ≡ true
+          at : (is : Bool) → cond (lies (A ++ a ∷ [])) (seen (A ++ a ∷ [])) true ≡ true
+              → list_all seen (lying (A ++ a ∷ []) (gone c)) ≡ true → list_all seen (lying A (gone o)) ≡ true
+              → list_all seen (lying A (cond is (gone o) (Node a (gone c) (gone o)))) ≡ true
           at true own below beside = beside
           at false own below beside =
               let B = A ++ a ∷ [] in
               ap (list_all seen) (parted A a (gone c) (gone o))
               ∙ with_rest (lies B) B (lying B (gone c) ++ lying A (gone o)) own (list_all-append seen (lying B (gone c)) (lying A (gone o)) ∙ ap₂ ◌&&◌ below beside)
 
-      pub fewer : (A : List Unit) (f : Forest Unit) → list_all seen (lying A f) ≡ true → list_all seen (lying A (gone f)) ≡ true
+      pub fewer : (A : List Unit) (f : Forest Unit) → list_all seen (lying A f) ≡ true
+          → list_all seen (lying A (gone f)) ≡ true
       fewer A Empty all = all
-      fewer A (Node a c o) all = left_here A a c o (nat_eq u a.id) all (λ B below. fewer B c below) (λ beside. fewer A o beside)
+      fewer A (Node a c o) all =
+          left_here A a c o (nat_eq u a.id) all (λ B below. fewer B c below) (λ beside. fewer A o beside)
 
   -- something lies there where a unit names it
   own_alone : (A : List Unit) (unit : Unit) → lies A ≡ false → lies (A ++ unit ∷ []) ≡ names_box unit
@@ -162,13 +170,16 @@ module _ (box : BoxKey) where
       by_boxes [] = above
       by_boxes (b ∷ boxes) = refl
 
-  some_here : (A : List Unit) (a : Unit) (c o : Forest Unit) → lies A ≡ false → (lies (A ++ a ∷ []) ≡ false → is_some_there (lying (A ++ a ∷ []) c) ≡ list_any names_box (nodes c)) → is_some_there (lying A o) ≡ list_any names_box (nodes o)
+  some_here : (A : List Unit) (a : Unit) (c o : Forest Unit) → lies A ≡ false
+      → (lies (A ++ a ∷ []) ≡ false → is_some_there (lying (A ++ a ∷ []) c) ≡ list_any names_box (nodes c))
+      → is_some_there (lying A o) ≡ list_any names_box (nodes o)
       → is_some_there (lying A (Node a c o)) ≡ list_any names_box (nodes (Node a c o))
   some_here A a c o above in_c in_o =
       let B = A ++ a ∷ [] in
       ap is_some_there (parted A a c o) ∙ some_kept (lies B) B (lying B c ++ lying A o) ∙ ap (λ b. lies B || b) (some_append (lying B c) (lying A o)) ∙ at (names_box a) refl
     where
-      some_kept : (b : Bool) (x : List Unit) (xs : List (List Unit)) → is_some_there (cond b (x ∷ xs) xs) ≡ (b || is_some_there xs)
+      some_kept : (b : Bool) (x : List Unit) (xs : List (List Unit))
+          → is_some_there (cond b (x ∷ xs) xs) ≡ (b || is_some_there xs)
       some_kept true x xs = refl
       some_kept false x xs = refl
 
@@ -176,7 +187,8 @@ module _ (box : BoxKey) where
       some_append [] ys = refl
       some_append (x ∷ xs) ys = refl
 
-      at : (x : Bool) → names_box a ≡ x → (lies (A ++ a ∷ []) || (is_some_there (lying (A ++ a ∷ []) c) || is_some_there (lying A o))) ≡ (names_box a || list_any names_box (nodes c ++ nodes o))
+      at : (x : Bool) → names_box a ≡ x
+          → (lies (A ++ a ∷ []) || (is_some_there (lying (A ++ a ∷ []) c) || is_some_there (lying A o))) ≡ (names_box a || list_any names_box (nodes c ++ nodes o))
       at true e =
           ap (λ b. b || (is_some_there (lying (A ++ a ∷ []) c) || is_some_there (lying A o))) (own_alone A a above ∙ e)
           ∙ sym (ap (λ b. b || list_any names_box (nodes c ++ nodes o)) e)
@@ -187,18 +199,22 @@ module _ (box : BoxKey) where
           ∙ sym (list_any-append names_box (nodes c) (nodes o))
           ∙ sym (ap (λ b. b || list_any names_box (nodes c ++ nodes o)) e)
 
-  pub some_named : (A : List Unit) (f : Forest Unit) → lies A ≡ false → is_some_there (lying A f) ≡ list_any names_box (nodes f)
+  pub some_named : (A : List Unit) (f : Forest Unit) → lies A ≡ false
+      → is_some_there (lying A f) ≡ list_any names_box (nodes f)
   some_named A Empty above = refl
-  some_named A (Node a c o) above = some_here A a c o above (λ shut. some_named (A ++ a ∷ []) c shut) (some_named A o above)
+  some_named A (Node a c o) above =
+      some_here A a c o above (λ shut. some_named (A ++ a ∷ []) c shut) (some_named A o above)
 
 -- The same lies there without the branch as with it.
-pub lying_without : (f : Forest Unit) (u : ℕ) (box : BoxKey) → HasDistinctIds (each id_of f) → list_any (names_box box) (near u f) ≡ false → lying box [] f ≡ lying box [] (cut (has_id u) f)
+pub lying_without : (f : Forest Unit) (u : ℕ) (box : BoxKey) → HasDistinctIds (each id_of f)
+    → list_any (names_box box) (near u f) ≡ false → lying box [] f ≡ lying box [] (cut (has_id u) f)
 lying_without f u box d none =
     let apart = none_in (names_box box) (branch (has_id u) f) (option_to_list (last_or None (filter names_some (path (has_id u) f)))) none in
     same_lying box u [] f d (by_nearest box None [] refl (path (has_id u) f) ∙ apart.1) apart.0
 
 -- The container is as open without the branch as with it.
-pub open_without : (f : Forest Unit) (u : ℕ) (box : BoxKey) (permitted : ℕ → Bool) (day : ℤ) → HasDistinctIds (each id_of f) → list_any (names_box box) (near u f) ≡ false
+pub open_without : (f : Forest Unit) (u : ℕ) (box : BoxKey) (permitted : ℕ → Bool) (day : ℤ)
+    → HasDistinctIds (each id_of f) → list_any (names_box box) (near u f) ≡ false
     → is_open f box permitted day ≡ is_open (cut (has_id u) f) box permitted day
 unfolding is_open
 open_without f u box permitted day d none =
@@ -206,18 +222,22 @@ open_without f u box permitted day d none =
 
 -- ---- a change of the units of a branch
 
-pub each_same : (g : Unit → Unit) (f : Forest Unit) → AllByRecursion (λ (unit : Unit). g unit ≡ unit) (nodes f) → each g f ≡ f
+pub each_same : (g : Unit → Unit) (f : Forest Unit) → AllByRecursion (λ (unit : Unit). g unit ≡ unit) (nodes f)
+    → each g f ≡ f
 each_same g Empty all = refl
 each_same g (Node a c o) all =
     let rest = both (nodes c) (nodes o) all.1 in
     ap (λ x. Node x (each g c) (each g o)) all.0 ∙ ap₂ (Node a) (each_same g c rest.0) (each_same g o rest.1)
   where
-    both : (xs ys : List Unit) → AllByRecursion (λ (unit : Unit). g unit ≡ unit) (xs ++ ys) → AllByRecursion (λ (unit : Unit). g unit ≡ unit) xs × AllByRecursion (λ (unit : Unit). g unit ≡ unit) ys
+    both : (xs ys : List Unit) → AllByRecursion (λ (unit : Unit). g unit ≡ unit) (xs ++ ys)
+        → AllByRecursion (λ (unit : Unit). g unit ≡ unit) xs × AllByRecursion (λ (unit : Unit). g unit ≡ unit) ys
     both [] ys all = (tt, all)
     both (x ∷ xs) ys all = let rest = both xs ys all.1 in ((all.0, rest.0), rest.1)
 
 -- what is changed is within the branch
-pub cut_alike : (g : Unit → Unit) (u : ℕ) (f : Forest Unit) → ((unit : Unit) → (g unit).id ≡ unit.id) → AllByRecursion (λ (unit : Unit). g unit ≡ unit) (nodes (cut (has_id u) f)) → cut (has_id u) (each g f) ≡ cut (has_id u) f
+pub cut_alike : (g : Unit → Unit) (u : ℕ) (f : Forest Unit) → ((unit : Unit) → (g unit).id ≡ unit.id)
+    → AllByRecursion (λ (unit : Unit). g unit ≡ unit) (nodes (cut (has_id u) f))
+    → cut (has_id u) (each g f) ≡ cut (has_id u) f
 cut_alike g u f ids all =
     sym (cut-each (has_id u) g f)
     ∙ ap (λ is. each g (cut is f)) (fun_ext (λ (unit : Unit). ap (nat_eq u) (ids unit)))

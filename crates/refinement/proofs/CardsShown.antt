@@ -1,25 +1,16 @@
 -- What a reader's card tells of an office: his seat, what he holds, and how much he ordered.
 use Rattle.std.proofs.Common.{◌≡◌, ℕ, ℤ, nat_eq, ◌&&◌, length, Option, Some, None, refl, ap, ◌∙◌}
-use Rattle.std.specs.Prelude.{is_some, option_map}
 use Rattle.std.specs.Ordering.{int_eq}
-use Rattle.desk_core.specs.DeskRows.{OrderRow, ReaderRow}
 use Rattle.desk_core.specs.declared.reader.Reader.{Reader as Sitter}
-use Rattle.desk_store.specs.Readers.{card_of, held_with, live_orders, placed_on, reader_with, ticket_holder}
 use Rattle.desk_store.specs.Readers as store
 use Rattle.desk_store.specs.declared.reader_summary.ReaderCard.{ReaderCard}
-use Rattle.office_core.specs.SoundOffice.{IsSoundOffice}
-use Rattle.office_core.specs.State.{Reader, State, is_ticket, orders_placed}
-use Rattle.office_core.specs.Words.{nth}
-use Rattle.state_encoding.specs.DeskEncoding.{order_row, reader_row}
-use Rattle.state_encoding.specs.OfficeRows.{tables}
-use Rattle.state_encoding.proofs.DeskLookups.{flipped, is_some-map}
-use Rattle.state_encoding.proofs.NumberedRows.{length-rows}
+use Rattle.office_core.specs.State.{State}
 use Rattle.state_encoding.proofs.OrdersPass.{count_rows}
 use Rattle.refinement.specs.Sitters.{sitter, sitter_of}
+use Rattle.refinement.proofs.Common.{IsSoundOffice, OrderRow, Reader, ReaderRow, Version, card_of, flipped, held_with, is_some, is_some-map, is_ticket, length-rows, live_orders, nth, option_map, order_row, orders_placed, placed_on, reader_row, reader_with, tables, ticket_holder}
 use Rattle.refinement.proofs.HeldShown.{held_shown}
 use Rattle.refinement.proofs.RowsOfLists.{found_row}
 use Rattle.refinement.proofs.SeatsShown.{seat_is}
-use Rattle.office_tables.specs.Versions.{Version}
 
 module _ (version : Version) (s : State) (sound : IsSoundOffice s) (t : ℕ) where
   pub placed_shown : (day : ℤ) → placed_on t day (tables version s).desk ≡ orders_placed s t day
@@ -44,7 +35,8 @@ module _ (version : Version) (s : State) (sound : IsSoundOffice s) (t : ℕ) whe
     orders = length (tables version s).desk.orders;
   } in c)) (option_map (reader_row t) o) ≡ option_map (card day) o
   card_at day None = refl
-  card_at day (Some reader) = rw (seat_is t s.seats, held_shown s sound t version, placed_shown day, length-rows (order_row s) 1 s.orders) refl
+  card_at day (Some reader) =
+      rw (seat_is t s.seats, held_shown s sound t version, placed_shown day, length-rows (order_row s) 1 s.orders) refl
 
   pub card_shown : (day : ℤ) → card_of t day (tables version s).desk ≡ option_map (card day) (nth s.readers t)
   card_shown day =
@@ -63,15 +55,20 @@ module _ (version : Version) (s : State) (sound : IsSoundOffice s) (t : ℕ) whe
 
   -- the tables tell which tickets were given
   pub known_ticket : is_some (reader_with t (tables version s).desk) ≡ is_ticket s t
-  known_ticket = ap is_some (found_row reader_row (λ (r : ReaderRow). r.ticket) (λ n x. refl) t s.readers) ∙ is_some-map (reader_row t) (nth s.readers t)
+  known_ticket =
+      ap is_some (found_row reader_row (λ (r : ReaderRow). r.ticket) (λ n x. refl) t s.readers)
+      ∙ is_some-map (reader_row t) (nth s.readers t)
 
   -- the tables tell who has a ticket
   abbrev holder_of_row : ReaderRow → Sitter
   holder_of_row r = record { ticket = t; until = r.until; seat = store.seat_of t (tables version s).desk; held = held_with t (tables version s).desk }
 
-  holder_at : (o : Option Reader) → option_map holder_of_row (option_map (reader_row t) o) ≡ option_map (sitter_of s t) o
+  holder_at : (o : Option Reader)
+      → option_map holder_of_row (option_map (reader_row t) o) ≡ option_map (sitter_of s t) o
   holder_at None = refl
   holder_at (Some reader) = rw (seat_is t s.seats, held_shown s sound t version) refl
 
   pub holder_shown : ticket_holder t (tables version s).desk ≡ sitter s t
-  holder_shown = ap (option_map holder_of_row) (found_row reader_row (λ (r : ReaderRow). r.ticket) (λ n x. refl) t s.readers) ∙ holder_at (nth s.readers t)
+  holder_shown =
+      ap (option_map holder_of_row) (found_row reader_row (λ (r : ReaderRow). r.ticket) (λ n x. refl) t s.readers)
+      ∙ holder_at (nth s.readers t)

@@ -1,17 +1,8 @@
 -- What the tables show after a change of the units or of their places.
 use Rattle.std.proofs.Common.{◌≡◌, ℕ, true, List}
-use Rattle.sqlite.specs.Effect.{Database}
-use Rattle.sqlite.specs.Tree.{Trees}
-use Rattle.tree_core.specs.Forest.{Forest}
-use Rattle.office_tables.specs.Versions.{Version}
 use Rattle.catalogue_core.specs.LegibleCatalogues.{IsLegibleCatalogue}
-use Rattle.catalogue_core.specs.Units.{Unit}
-use Rattle.catalogue_statements.specs.Representation.{Represents}
-use Rattle.office_core.specs.SoundOffice.{AreTexts}
 use Rattle.office_core.specs.State.{State}
-use Rattle.state_encoding.specs.OfficeRows.{tables}
-use Rattle.office_tables.specs.Step.{OnlyTouches}
-use Rattle.refinement.specs.Representation.{RepresentsState, office_of}
+use Rattle.refinement.proofs.Common.{AreTexts, Database, Forest, OnlyTouches, Represents, RepresentsState, Trees, Unit, Version, office_of, tables}
 use Rattle.refinement.proofs.Frames.{are_apart, desk_kept, desk_trees}
 
 module _ (s : State) (f : Forest Unit) where
@@ -21,8 +12,11 @@ module _ (s : State) (f : Forest Unit) where
   pub other_texts : AreTexts s → IsLegibleCatalogue (record s.catalogue { forest = f }) → AreTexts with_forest
   other_texts it legible = record { country = it.country; repo = it.repo; catalogue = legible; readers = it.readers }
 
-  pub shown_with : (places : Trees → Forest ℕ → Type 0) (version : Version) (old new : Database) (touched : List ℕ) → are_apart touched desk_trees ≡ true → OnlyTouches touched old new → RepresentsState places version old s
-      → IsLegibleCatalogue (record s.catalogue { forest = f }) → Represents places version new (office_of s) (record s.catalogue { forest = f }) → RepresentsState places version new with_forest
+  pub shown_with : (places : Trees → Forest ℕ → Type 0) (version : Version) (old new : Database) (touched : List ℕ)
+      → are_apart touched desk_trees ≡ true → OnlyTouches touched old new → RepresentsState places version old s
+      → IsLegibleCatalogue (record s.catalogue { forest = f })
+      → Represents places version new (office_of s) (record s.catalogue { forest = f })
+      → RepresentsState places version new with_forest
   shown_with places version old new touched apart only it legible shown = record {
     catalogue = shown;
     desk = desk_kept old new touched only (tables version s).desk apart it.desk;

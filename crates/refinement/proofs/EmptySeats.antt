@@ -1,6 +1,6 @@
 -- A new office's seats are empty.
 use Rattle.std.proofs.Common.{◌≡◌, ℕ, zero, suc, [], replicate, None, refl}
-use Rattle.state_encoding.specs.DeskEncoding.{seat_rows_from}
+use Rattle.refinement.proofs.Common.{seat_rows_from}
 
 -- nobody sits
 pub none_seated : (n k : ℕ) → seat_rows_from n (replicate k None) ≡ []

@@ -1,20 +1,9 @@
 -- What a call that touches some tables leaves of the others: the catalogue's part, and the desk's.
 use Rattle.std.proofs.Common.{◌≡◌, ℕ, ℤ, Bool, true, false, not, ◌&&◌, nat_eq, List, [], ◌∷◌, refl, sym, subst, ◌∙◌}
-use Rattle.std.specs.List.{AllByRecursion, list_any, list_all}
-use Rattle.std.proofs.lemmas.Bool.{and_parts}
-use Rattle.sqlite.specs.Effect.{Database}
 use Rattle.sqlite.specs.Order.{Row}
-use Rattle.sqlite.specs.Tree.{Trees}
-use Rattle.tree_core.specs.Forest.{Forest, each}
-use Rattle.office_tables.specs.Versions.{Version}
-use Rattle.catalogue_core.specs.CatalogueMerge.{Catalogue}
-use Rattle.catalogue_statements.specs.Representation.{Represents, RepresentsOffice, catalogue_trees, described_trees}
-use Rattle.catalogue_statements.specs.declared.office.OfficeRow.{OfficeRow}
 use Rattle.desk_core.specs.DeskRows.{Desk}
-use Rattle.desk_store.specs.Representation.{RepresentsDesk}
-use Rattle.office_tables.specs.RowNumbers.{HasNumbered}
 use Rattle.office_tables.specs.Schema as tables
-use Rattle.office_tables.specs.Step.{OnlyTouches, table_trees}
+use Rattle.refinement.proofs.Common.{AllByRecursion, Catalogue, Database, Forest, HasNumbered, OfficeRow, OnlyTouches, Represents, RepresentsDesk, RepresentsOffice, Trees, Version, and_parts, catalogue_trees, described_trees, each, list_all, list_any, table_trees}
 
 -- the trees of the desk's tables
 abbrev pub desk_trees : List ℕ
@@ -24,13 +13,15 @@ desk_trees =
 
 -- these are trees of our tables, and the call touches none of them
 abbrev pub are_apart : List ℕ → List ℕ → Bool
-are_apart touched trees = list_all (λ tree. list_any (nat_eq tree) table_trees && not (list_any (nat_eq tree) touched)) trees
+are_apart touched trees =
+    list_all (λ tree. list_any (nat_eq tree) table_trees && not (list_any (nat_eq tree) touched)) trees
 
 not_true : (b : Bool) → not b ≡ true → b ≡ false
 not_true true h = absurd (cc)
 not_true false h = refl
 
-pub untouched : (touched : List ℕ) (old new : Database) → OnlyTouches touched old new → (trees : List ℕ) → are_apart touched trees ≡ true
+pub untouched : (touched : List ℕ) (old new : Database) → OnlyTouches touched old new → (trees : List ℕ)
+    → are_apart touched trees ≡ true
     → AllByRecursion (λ tree. new.trees tree ≡ old.trees tree) trees
 untouched touched old new only [] h = tt
 untouched touched old new only (tree ∷ trees) h =
@@ -38,14 +29,18 @@ untouched touched old new only (tree ∷ trees) h =
     let here = and_parts (list_any (nat_eq tree) table_trees) (not (list_any (nat_eq tree) touched)) parts.0 in
     (only tree here.0 (not_true (list_any (nat_eq tree) touched) here.1), untouched touched old new only trees parts.1)
 
-numbered_same : {R : Type 0} (cells : ℤ × R → Row) (there now : List Row) (rows : List R) → now ≡ there → HasNumbered cells there rows → HasNumbered cells now rows
+numbered_same : {R : Type 0} (cells : ℤ × R → Row) (there now : List Row) (rows : List R) → now ≡ there
+    → HasNumbered cells there rows → HasNumbered cells now rows
 numbered_same cells there now rows same has = subst (λ l. HasNumbered cells l rows) (sym same) has
 
 module _ (old new : Database) (touched : List ℕ) (only : OnlyTouches touched old new) where
   -- the office's own row may be another
-  pub catalogue_with_office : (places : Trees → Forest ℕ → Type 0) → ((old new : Trees) (f : Forest ℕ) → new tables.link.tree ≡ old tables.link.tree → places old f → places new f)
-      → (version : Version) (o p : OfficeRow) (c : Catalogue) → are_apart touched (tables.link.tree ∷ described_trees) ≡ true → new.schema ≡ old.schema
-      → RepresentsOffice version new.trees p → p.next_unit ≡ c.next → Represents places version old o c → Represents places version new p c
+  pub catalogue_with_office : (places : Trees → Forest ℕ → Type 0)
+      → ((old new : Trees) (f : Forest ℕ) → new tables.link.tree ≡ old tables.link.tree → places old f → places new f)
+      → (version : Version) (o p : OfficeRow) (c : Catalogue)
+      → are_apart touched (tables.link.tree ∷ described_trees) ≡ true → new.schema ≡ old.schema
+      → RepresentsOffice version new.trees p → p.next_unit ≡ c.next → Represents places version old o c
+      → Represents places version new p c
   catalogue_with_office places same version o p c apart schema office next it =
       let kept = untouched touched old new only (tables.link.tree ∷ described_trees) apart in
       let k = it.catalogue in
@@ -72,14 +67,17 @@ module _ (old new : Database) (touched : List ℕ) (only : OnlyTouches touched o
         shown = same old.trees new.trees (each (λ u. u.id) c.forest) kept.0 it.shown;
       }
 
-  pub catalogue_kept : (places : Trees → Forest ℕ → Type 0) → ((old new : Trees) (f : Forest ℕ) → new tables.link.tree ≡ old tables.link.tree → places old f → places new f)
-      → (version : Version) (o : OfficeRow) (c : Catalogue) → are_apart touched catalogue_trees ≡ true → new.schema ≡ old.schema → Represents places version old o c → Represents places version new o c
+  pub catalogue_kept : (places : Trees → Forest ℕ → Type 0)
+      → ((old new : Trees) (f : Forest ℕ) → new tables.link.tree ≡ old tables.link.tree → places old f → places new f)
+      → (version : Version) (o : OfficeRow) (c : Catalogue) → are_apart touched catalogue_trees ≡ true
+      → new.schema ≡ old.schema → Represents places version old o c → Represents places version new o c
   catalogue_kept places same version o c apart schema it =
       let parts = and_parts _ (are_apart touched (tables.link.tree ∷ described_trees)) apart in
       let kept = untouched touched old new only catalogue_trees apart in
       catalogue_with_office places same version o o c parts.1 schema (kept.0 ∙ it.catalogue.office) it.catalogue.next it
 
-  pub desk_kept : (d : Desk) → are_apart touched desk_trees ≡ true → RepresentsDesk old.trees d → RepresentsDesk new.trees d
+  pub desk_kept : (d : Desk) → are_apart touched desk_trees ≡ true → RepresentsDesk old.trees d
+      → RepresentsDesk new.trees d
   desk_kept d apart it =
       let kept = untouched touched old new only desk_trees apart in
       record {

@@ -1,29 +1,15 @@
 -- How many containers are out with a ticket: its orders that are out, in the rows.
 use Rattle.std.proofs.Common.{◌≡◌, ℕ, zero, suc, ◌+◌, ◌<◌, ◌≤◌, Bool, true, false, cond, ◌&&◌, nat_eq, List, [], ◌∷◌, length, Option, Some, None, inl, inr, refl, sym, ap, subst, ◌∙◌, arith}
-use Rattle.std.specs.Prelude.{count_by, is_some, slice_get, sum_by}
-use Rattle.std.proofs.lemmas.Bool.{cases_Bool, cases_eq, false≢true}
+use Rattle.std.specs.Prelude.{count_by}
 use Rattle.std.proofs.lemmas.List.Sums.{sum_by-cons, sum_by_push}
-use Rattle.desk_core.specs.DeskRows.{OrderRow}
-use Rattle.desk_core.specs.declared.reader.Place.{Place}
-use Rattle.desk_core.specs.declared.reader.Place.TheVariants.{Shelf, Desk, Out}
-use Rattle.desk_store.specs.Readers.{held_with}
-use Rattle.office_core.specs.Laws.{Standing, Waiting, WithItsReader, Ended, numbers_from, standing}
-use Rattle.office_core.specs.SoundDesk.{is_out_for}
-use Rattle.office_core.specs.SoundOffice.{IsSoundOffice}
-use Rattle.office_core.specs.State.{Done, Cancelled, Order, State, container_of, containers, held_count, is_by, is_container, is_out_with, order_out}
-use Rattle.office_core.specs.Words.{nth, numbers_to, some_and, stands}
+use Rattle.desk_core.specs.declared.reader.Place.TheVariants.{Desk}
+use Rattle.office_core.specs.State.{Done, State}
 use Rattle.office_core.proofs.Counts.{numbered_from_one}
 use Rattle.office_core.proofs.Filed.{out_with}
 use Rattle.office_core.proofs.OrderLaws.{out_stands, stands_out}
 use Rattle.office_core.proofs.Orders.{out_is}
 use Rattle.office_core.proofs.Places.{out_known}
-use Rattle.office_core.proofs.Words.{numbered_within, other_number, same_number}
-use Rattle.state_encoding.specs.DeskEncoding.{order_row, rows_from, state_number}
-use Rattle.state_encoding.specs.OfficeRows.{tables}
-use Rattle.state_encoding.proofs.DeskLookups.{flipped}
-use Rattle.state_encoding.proofs.Members.{to_from}
-use Rattle.office_tables.specs.Versions.{Version}
-use Rattle.std.proofs.Math.Bool.{and-false}
+use Rattle.refinement.proofs.Common.{Cancelled, Ended, IsSoundOffice, Order, OrderRow, Out, Place, Shelf, Standing, Version, Waiting, WithItsReader, and-false, cases_Bool, cases_eq, container_of, containers, false≢true, flipped, held_count, held_with, is_by, is_container, is_out_for, is_out_with, is_some, nth, numbered_within, numbers_from, numbers_to, order_out, order_row, other_number, rows_from, same_number, slice_get, some_and, standing, stands, state_number, sum_by, tables, to_from}
 
 abbrev bit : Bool → ℕ
 bit b = cond b 1 0
@@ -32,7 +18,9 @@ bit b = cond b 1 0
 
 pub same_sum : {X : Type 0} (f g : X → ℕ) → ((x : X) → f x ≡ g x) → (xs : List X) → sum_by f xs ≡ sum_by g xs
 same_sum f g same [] = refl
-same_sum f g same (x ∷ xs) = sum_by-cons f x xs ∙ ap (λ n. n + sum_by f xs) (same x) ∙ ap (λ n. g x + n) (same_sum f g same xs) ∙ sym (sum_by-cons g x xs)
+same_sum f g same (x ∷ xs) =
+    sum_by-cons f x xs ∙ ap (λ n. n + sum_by f xs) (same x) ∙ ap (λ n. g x + n) (same_sum f g same xs)
+    ∙ sym (sum_by-cons g x xs)
 
 sum_none : {X : Type 0} (f : X → ℕ) → ((x : X) → f x ≡ 0) → (xs : List X) → sum_by f xs ≡ 0
 sum_none f none [] = refl
@@ -47,7 +35,8 @@ sum_both f g (x ∷ xs) =
     let rest = sum_both f g xs in
     omega (arith, a, b, c, rest)
 
-swapped : {X Y : Type 0} (f : X → Y → ℕ) (xs : List X) (ys : List Y) → sum_by (λ x. sum_by (f x) ys) xs ≡ sum_by (λ y. sum_by (λ x. f x y) xs) ys
+swapped : {X Y : Type 0} (f : X → Y → ℕ) (xs : List X) (ys : List Y)
+    → sum_by (λ x. sum_by (f x) ys) xs ≡ sum_by (λ y. sum_by (λ x. f x y) xs) ys
 swapped f [] ys = sym (sum_none (λ y. 0) (λ y. refl) ys)
 swapped f (x ∷ xs) ys =
     sum_by-cons (λ x. sum_by (f x) ys) x xs ∙ ap (λ n. sum_by (f x) ys + n) (swapped f xs ys)
@@ -85,7 +74,8 @@ module _ {X R : Type 0} (row : ℕ → X → R) (p : R → Bool) (all : List X) 
   abbrev at_number : ℕ → Bool
   at_number n = some_and (λ x. p (row n x)) (nth all n)
 
-  counted_from : (m : ℕ) (xs : List X) → ((j : ℕ) → nth all (suc m + j) ≡ slice_get xs j) → count_by p (rows_from row (suc m) xs) ≡ count_by at_number (numbers_from (suc m) (length xs))
+  counted_from : (m : ℕ) (xs : List X) → ((j : ℕ) → nth all (suc m + j) ≡ slice_get xs j)
+      → count_by p (rows_from row (suc m) xs) ≡ count_by at_number (numbers_from (suc m) (length xs))
   counted_from m [] are = refl
   counted_from m (x ∷ xs) are =
       let first : nth all (suc m) ≡ Some x = (let e : suc m ≡ suc m + 0 = omega arith in ap (nth all) e) ∙ are 0 in
@@ -109,7 +99,8 @@ state_two (Some WithItsReader) e = refl
 state_two (Some (Ended Done)) e = absurd (false≢true e)
 state_two (Some (Ended Cancelled)) e = absurd (false≢true e)
 
-by_number : (t : ℕ) (b : Bool) (o : Option Order) → some_and (λ (order : Order). nat_eq t order.ticket && b) o ≡ (b && some_and (λ (order : Order). nat_eq order.ticket t) o)
+by_number : (t : ℕ) (b : Bool) (o : Option Order)
+    → some_and (λ (order : Order). nat_eq t order.ticket && b) o ≡ (b && some_and (λ (order : Order). nat_eq order.ticket t) o)
 by_number t true None = refl
 by_number t false None = refl
 by_number t true (Some order) = and_true (nat_eq t order.ticket) ∙ flipped t order.ticket
@@ -136,7 +127,8 @@ module _ (s : State) (sound : IsSoundOffice s) (t : ℕ) where
 
   -- of one container
 
-  by_its_order : (k : ℕ) → sum_by (λ o. bit (nat_eq o k && is_by s t o)) (numbers_to (length s.orders)) ≡ bit (is_by s t k)
+  by_its_order : (k : ℕ)
+      → sum_by (λ o. bit (nat_eq o k && is_by s t o)) (numbers_to (length s.orders)) ≡ bit (is_by s t k)
   by_its_order k = elim (cases_Bool (is_by s t k)) [
     | inl mine ↦
         same_sum (λ o. bit (nat_eq o k && is_by s t o)) (λ o. bit (nat_eq o k)) (λ o. ap bit (at_mine mine o)) (numbers_to (length s.orders))
@@ -160,7 +152,8 @@ module _ (s : State) (sound : IsSoundOffice s) (t : ℕ) where
   of_container : (c : ℕ) → sum_by (λ o. bit (holds c o)) (numbers_to (length s.orders)) ≡ bit (is_out_with s t c)
   of_container c = at (s.place c)
     where
-      at : (p : Place) → sum_by (λ o. bit (is_out_for o p && is_by s t o)) (numbers_to (length s.orders)) ≡ bit (some_and (is_by s t) (order_out p))
+      at : (p : Place)
+          → sum_by (λ o. bit (is_out_for o p && is_by s t o)) (numbers_to (length s.orders)) ≡ bit (some_and (is_by s t) (order_out p))
       at Shelf = sum_none (λ o. 0) (λ o. refl) (numbers_to (length s.orders))
       at Desk = sum_none (λ o. 0) (λ o. refl) (numbers_to (length s.orders))
       at (Out k) = by_its_order k
@@ -174,7 +167,8 @@ module _ (s : State) (sound : IsSoundOffice s) (t : ℕ) where
         let at = out_stands (container_of s o) (λ k. stands o (s.queue k)) (λ k. is_out_for o (s.place k)) (s.past o) (state_two (standing s o) out) in
         let c = at.0 in
         let alone = out_with (container_of s o) (λ k. stands o (s.queue k)) (λ k. is_out_for o (s.place k)) (s.past o) c (filed.each o) at.2 in
-        let there : is_container s c ≡ true = out_known s c o filed sound.sound.desk.orders (out_is o (s.place c) at.2) in
+        let there : is_container s c ≡ true =
+        out_known s c o filed sound.sound.desk.orders (out_is o (s.place c) at.2) in
         let only : (k : ℕ) → is_out_for o (s.place k) ≡ nat_eq k c =
         λ k. elim (cases_eq k c) [
           | inl e ↦ subst (λ n. is_out_for o (s.place n) ≡ nat_eq n c) (sym e) (at.2 ∙ sym (same_number c))
@@ -188,8 +182,11 @@ module _ (s : State) (sound : IsSoundOffice s) (t : ℕ) where
         ∙ sym (ap (λ b. bit (b && is_by s t o)) not)
   ]
     where
-      once : (b : Bool) (c : ℕ) → 1 ≤ c → c ≤ length s.catalogue.containers → sum_by (λ k. bit (nat_eq k c && b)) (containers s) ≡ bit b
-      once true c low high = same_sum (λ k. bit (nat_eq k c && true)) (λ k. bit (nat_eq k c)) (λ k. ap bit (and_true (nat_eq k c))) (containers s) ∙ just_one c (length s.catalogue.containers) low high
+      once : (b : Bool) (c : ℕ) → 1 ≤ c → c ≤ length s.catalogue.containers
+          → sum_by (λ k. bit (nat_eq k c && b)) (containers s) ≡ bit b
+      once true c low high =
+          same_sum (λ k. bit (nat_eq k c && true)) (λ k. bit (nat_eq k c)) (λ k. ap bit (and_true (nat_eq k c))) (containers s)
+          ∙ just_one c (length s.catalogue.containers) low high
         where
           and_true : (b : Bool) → (b && true) ≡ b
           and_true true = refl

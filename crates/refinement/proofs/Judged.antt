@@ -1,26 +1,15 @@
 -- A sound office can be judged, and so can one of whose units some were changed.
 use Rattle.std.proofs.Common.{◌≡◌, ℕ, true, false, Option, Some, None, refl, sym, ap, subst, ◌∙◌, nat_eq}
-use Rattle.std.specs.Prelude.{is_some, option_map}
-use Rattle.std.specs.List.{AllByRecursion, IsDistinct}
-use Rattle.std.proofs.lemmas.Bool.{false≢true}
-use Rattle.tree_core.specs.Forest.{Forest, HasDistinctIds, each, nodes}
-use Rattle.tree_core.proofs.EachLemmas.{nodes-each}
 use Rattle.catalogue_core.specs.GoodCatalogues.{AreGoodUnits, IsSomeDay}
 use Rattle.catalogue_core.specs.LegibleCatalogues.{IsLegibleCatalogue}
-use Rattle.catalogue_core.specs.CatalogueMerge.{Catalogue}
-use Rattle.catalogue_core.specs.Units.{Unit}
 use Rattle.catalogue_core.proofs.KeptCatalogues.{kept, knows}
 use Rattle.catalogue_core.proofs.KeptUnits.{same_containers}
-use Rattle.office_core.specs.SoundDesk.{AreFiled, IsFiled, is_out_for}
-use Rattle.office_core.specs.SoundOffice.{IsSoundOffice}
-use Rattle.office_core.specs.State.{Order, State, container_of, order_out}
-use Rattle.office_core.specs.Words.{nth, stands}
-use Rattle.office_core.proofs.Words.{same_number}
-use Rattle.state_encoding.proofs.LegibleRows.{desk_legible}
-use Rattle.refinement.specs.AccessConditions.{CanBeJudged}
+use Rattle.office_core.specs.State.{State}
+use Rattle.refinement.proofs.Common.{AllByRecursion, AreFiled, CanBeJudged, Catalogue, Forest, HasDistinctIds, IsDistinct, IsFiled, IsSoundOffice, Order, Unit, container_of, desk_legible, each, false≢true, is_out_for, is_some, nodes, nodes-each, nth, option_map, order_out, same_number, stands}
 
 -- what is out is so by an order that is there
-pub orders_there : (s : State) → AreFiled s → (c o : ℕ) → order_out (s.place c) ≡ Some o → is_some (nth s.orders o) ≡ true
+pub orders_there : (s : State) → AreFiled s → (c o : ℕ) → order_out (s.place c) ≡ Some o
+    → is_some (nth s.orders o) ≡ true
 orders_there s filed c o out = at (nth s.orders o) refl
   where
     at : (x : Option Order) → nth s.orders o ≡ x → is_some x ≡ true
@@ -36,8 +25,10 @@ pub distinct_ids : (c : Catalogue) → AreGoodUnits c → HasDistinctIds (each (
 distinct_ids c units = subst (IsDistinct nat_eq) (sym (nodes-each (λ (unit : Unit). unit.id) c.forest)) units.ids
 
 -- the catalogue has other units, or has them in other places
-pub judged_with : (s : State) → IsSoundOffice s → (f : Forest Unit) → AreGoodUnits (record s.catalogue { forest = f }) → AllByRecursion (λ (unit : Unit). IsSomeDay unit.until) (nodes f)
-    → IsLegibleCatalogue (record s.catalogue { forest = f }) → CanBeJudged (record s { catalogue = record s.catalogue { forest = f } })
+pub judged_with : (s : State) → IsSoundOffice s → (f : Forest Unit) → AreGoodUnits (record s.catalogue { forest = f })
+    → AllByRecursion (λ (unit : Unit). IsSomeDay unit.until) (nodes f)
+    → IsLegibleCatalogue (record s.catalogue { forest = f })
+    → CanBeJudged (record s { catalogue = record s.catalogue { forest = f } })
 judged_with s g f units closures texts =
     let c : Catalogue = record s.catalogue { forest = f } in
     record {

@@ -1,3 +1,4 @@
+pub mod Common
 pub mod Answerings
 pub mod BranchesApart
 pub mod Changed

@@ -1,21 +1,8 @@
 -- Nothing of a branch lies in a container where no unit of the branch names it, and the branch's first unit does not lie there.
 use Rattle.std.proofs.Common.{◌≡◌, ℕ, Bool, true, false, cond, List, [], ◌∷◌, map, filter, nat_eq, refl, sym, ap, ap₂, ◌∙◌}
 use Rattle.std.specs.Prelude.{◌&&◌, ◌||◌, IsPermutation}
-use Rattle.std.specs.List.{list_any}
-use Rattle.std.proofs.lemmas.List.Folds.{list_any-append}
-use Rattle.std.proofs.lemmas.List.Sorted.{list_any-IsPermutation}
-use Rattle.sqlite.specs.Tree.{Trees}
-use Rattle.tree_core.specs.Forest.{branch, each}
-use Rattle.tree_core.proofs.EachLemmas.{branch-each}
-use Rattle.tree_core.proofs.Lists.{eqb_comm, list_any-map}
-use Rattle.catalogue_core.specs.UnitMarks.{names}
-use Rattle.catalogue_core.specs.Units.{Unit, has_id}
-use Rattle.catalogue_statements.specs.Rows.{HousingRow}
-use Rattle.catalogue_statements.specs.Representation.{RepresentsHousings}
 use Rattle.office_core.specs.State.{State}
-use Rattle.refinement.specs.AccessConditions.{CanBeJudged}
-use Rattle.refinement.specs.Gate.{IsHoused, is_named_near, is_on_path, is_one_of, nearest, says_so}
-use Rattle.refinement.specs.declared.housed_units.HousedUnit.{HousedUnit}
+use Rattle.refinement.proofs.Common.{CanBeJudged, HousedUnit, HousingRow, IsHoused, RepresentsHousings, Trees, Unit, branch, branch-each, each, eqb_comm, has_id, is_named_near, is_on_path, is_one_of, list_any, list_any-IsPermutation, list_any-append, list_any-map, names, nearest, says_so}
 use Rattle.refinement.proofs.BranchMembers.{off_path}
 use Rattle.refinement.proofs.BranchesApart.{neither}
 use Rattle.refinement.proofs.DayRules.{any_of_both}
@@ -28,7 +15,8 @@ none_at_all [] = refl
 none_at_all (x ∷ xs) = none_at_all xs
 
 -- a row of a unit that is none of these says nothing of them
-not_theirs : (k : ℕ) (m : Bool) (units : List ℕ) → list_any (nat_eq k) units ≡ false → list_any (λ unit. nat_eq unit k && m) units ≡ false
+not_theirs : (k : ℕ) (m : Bool) (units : List ℕ) → list_any (nat_eq k) units ≡ false
+    → list_any (λ unit. nat_eq unit k && m) units ≡ false
 not_theirs k m [] none = refl
 not_theirs k m (unit ∷ units) none =
     let both = neither (nat_eq k unit) (list_any (nat_eq k) units) none in
@@ -46,7 +34,8 @@ abbrev units_naming : ℕ → List HousingRow → List ℕ
 units_naming n rows = map (λ (h : HousingRow). h.unit) (filter (λ (h : HousingRow). nat_eq n h.container) rows)
 
 none_said : (n : ℕ) (units : List ℕ) (near : ℕ → Bool) → ((k : ℕ) → near k ≡ false → list_any (nat_eq k) units ≡ false)
-    → (rows : List HousingRow) → list_any near (units_naming n rows) ≡ false → list_any (λ unit. list_any (says_so n unit) rows) units ≡ false
+    → (rows : List HousingRow) → list_any near (units_naming n rows) ≡ false
+    → list_any (λ unit. list_any (says_so n unit) rows) units ≡ false
 none_said n units near apart [] none = none_at_all units
 none_said n units near apart (row ∷ rows) none =
     any_of_both (λ unit. says_so n unit row) (λ unit. list_any (says_so n unit) rows) units
@@ -67,7 +56,8 @@ none_said n units near apart (row ∷ rows) none =
 module _ (s : State) (judged : CanBeJudged s) (u n : ℕ) where
   -- no unit of the branch names it
   branch_apart : (db : Trees) (shown : RepresentsHousings db s.catalogue.forest s.catalogue.containers) (rows : List HousingRow)
-      → IsPermutation (filter (λ (h : HousingRow). nat_eq n h.container) shown.housings) rows → list_any (is_on_path u s) (map (λ (h : HousingRow). h.unit) rows) ≡ false
+      → IsPermutation (filter (λ (h : HousingRow). nat_eq n h.container) shown.housings) rows
+      → list_any (is_on_path u s) (map (λ (h : HousingRow). h.unit) rows) ≡ false
       → list_any (names s.catalogue.containers n) (branch (has_id u) s.catalogue.forest) ≡ false
   branch_apart db shown rows same none =
       let f = s.catalogue.forest in
@@ -82,7 +72,8 @@ module _ (s : State) (judged : CanBeJudged s) (u n : ℕ) where
 
   module _ (it : HousedUnit) (housed : IsHoused u s it) where
     pub apart_by_rows : (db : Trees) (shown : RepresentsHousings db s.catalogue.forest s.catalogue.containers) (rows : List HousingRow)
-        → IsPermutation (filter (λ (h : HousingRow). nat_eq n h.container) shown.housings) rows → is_one_of n it.containers.items ≡ false
+        → IsPermutation (filter (λ (h : HousingRow). nat_eq n h.container) shown.housings) rows
+        → is_one_of n it.containers.items ≡ false
         → list_any (is_on_path u s) (map (λ (h : HousingRow). h.unit) rows) ≡ false → is_named_near u s n ≡ false
     apart_by_rows db shown rows same outside none =
         list_any-append (names s.catalogue.containers n) (branch (has_id u) s.catalogue.forest) (nearest u s.catalogue.forest)

@@ -1,19 +1,12 @@
 -- Which units name the container with a number.
 use Rattle.std.proofs.Common.{◌≡◌, ℕ, zero, suc, Bool, true, List, [], ◌∷◌, Option, Some, None, inl, inr, refl, sym, ap, ap₂, cond, ◌∙◌, nat_eq, arith}
-use Rattle.std.specs.Prelude.{◌&&◌, ◌||◌, filter, slice_get}
-use Rattle.std.specs.List.{AllByRecursion, list_all, list_any}
+use Rattle.std.specs.Prelude.{◌&&◌, ◌||◌, filter}
 use Rattle.std.specs.Str.{bytes_eq}
-use Rattle.std.proofs.lemmas.Bool.{and_parts, cases_Bool, eq-eqb, eqb-true, false≢true}
-use Rattle.std.proofs.lemmas.Bool.Decides.{nat_tests}
 use Rattle.isad_core.specs.Boxes.{distinct, is_same as is_same_box}
 use Rattle.isad_core.specs.Texts.{Bytes}
-use Rattle.isad_core.specs.declared.values.BoxKey.{BoxKey}
-use Rattle.catalogue_core.specs.UnitMarks.{names}
-use Rattle.catalogue_core.specs.CatalogueMerge.{box_number}
-use Rattle.catalogue_core.specs.Units.{Unit}
 use Rattle.catalogue_core.proofs.BoxPlaces.{numbers_are_places}
 use Rattle.catalogue_core.proofs.ImportedAgain.{box_itself, one_text}
-use Rattle.office_core.specs.Words.{nth, some_and}
+use Rattle.refinement.proofs.Common.{AllByRecursion, BoxKey, Unit, and_parts, box_number, cases_Bool, eq-eqb, eqb-true, false≢true, list_all, list_any, names, nat_tests, nth, slice_get, some_and}
 
 one_box : (a b : BoxKey) → is_same_box a b ≡ true → a ≡ b
 one_box a b h =
@@ -59,7 +52,8 @@ module _ (cs : List BoxKey) (apart : distinct cs ≡ cs) (b : BoxKey) where
       ]
 
 -- a container has this number where it is the one that stands there
-has_number : (cs : List BoxKey) → distinct cs ≡ cs → (b : BoxKey) → list_any (is_same_box b) cs ≡ true → (n : ℕ) → nat_eq n (box_number cs b) ≡ some_and (λ box. is_same_box box b) (nth cs n)
+has_number : (cs : List BoxKey) → distinct cs ≡ cs → (b : BoxKey) → list_any (is_same_box b) cs ≡ true → (n : ℕ)
+    → nat_eq n (box_number cs b) ≡ some_and (λ box. is_same_box box b) (nth cs n)
 has_number cs apart b known n =
     let at = stands_at b cs known in
     ap (nat_eq n) (numbers_are_places cs at.0 b apart at.1) ∙ number_at cs apart b n at.0 at.1
@@ -68,14 +62,16 @@ has_number cs apart b known n =
 abbrev pub names_it : Option BoxKey → Unit → Bool
 names_it o unit = list_any (λ b. some_and (λ box. is_same_box box b) o) unit.values.boxes
 
-pub names_one : (cs : List BoxKey) → distinct cs ≡ cs → (n : ℕ) (boxes : List BoxKey) → list_all (λ b. list_any (is_same_box b) cs) boxes ≡ true
+pub names_one : (cs : List BoxKey) → distinct cs ≡ cs → (n : ℕ) (boxes : List BoxKey)
+    → list_all (λ b. list_any (is_same_box b) cs) boxes ≡ true
     → list_any (λ b. nat_eq n (box_number cs b)) boxes ≡ list_any (λ b. some_and (λ box. is_same_box box b) (nth cs n)) boxes
 names_one cs apart n [] known = refl
 names_one cs apart n (b ∷ boxes) known =
     let parts = and_parts (list_any (is_same_box b) cs) (list_all (λ b. list_any (is_same_box b) cs) boxes) known in
     ap₂ ◌||◌ (has_number cs apart b parts.0 n) (names_one cs apart n boxes parts.1)
 
-pub named : (cs : List BoxKey) → distinct cs ≡ cs → (n : ℕ) (units : List Unit) → AllByRecursion (λ (unit : Unit). list_all (λ b. list_any (is_same_box b) cs) unit.values.boxes ≡ true) units
+pub named : (cs : List BoxKey) → distinct cs ≡ cs → (n : ℕ) (units : List Unit)
+    → AllByRecursion (λ (unit : Unit). list_all (λ b. list_any (is_same_box b) cs) unit.values.boxes ≡ true) units
     → filter (names cs n) units ≡ filter (names_it (nth cs n)) units
 named cs apart n [] known = refl
 named cs apart n (unit ∷ units) known =

@@ -1,35 +1,17 @@
 -- Who may see a container, by what is read from the tables.
 use Rattle.std.proofs.Common.{◌≡◌, ℕ, ℤ, ◌<◌, ◌≤◌, ◌^◌, zero, suc, Bool, true, false, not, ◌&&◌, List, [], ◌∷◌, length, map, Option, Some, None, refl, sym, ap, ap₂, subst, ◌∙◌, nat_eq, arith}
-use Rattle.std.specs.Prelude.{◌||◌, filter, int_le, IsPermutation, slice_get}
-use Rattle.std.specs.List.{AllByRecursion, list_all, list_any}
-use Rattle.std.proofs.Math.Path.{fun_ext}
-use Rattle.std.proofs.lemmas.Bool.{false≢true}
-use Rattle.std.proofs.lemmas.List.Elements.{All-from_recursion, recursion_from_All}
-use Rattle.std.proofs.lemmas.List.Folds.{list_all-map}
-use Rattle.std.proofs.lemmas.List.Sorted.{All-permutation, IsPermutation-refl, list_any-IsPermutation}
-use Rattle.isad_core.specs.declared.values.BoxKey.{BoxKey}
-use Rattle.tree_core.specs.Forest.{Forest, nodes}
-use Rattle.tree_core.specs.declared.rows.Span.{Span}
-use Rattle.tree_core.proofs.Lists.{eqb_comm, list_any-map}
-use Rattle.desk_core.specs.DeskRows.{Desk, PermitRow}
+use Rattle.std.specs.Prelude.{◌||◌, filter, IsPermutation}
+use Rattle.desk_core.specs.DeskRows.{Desk}
 use Rattle.desk_store.specs.Permits.{permits_of}
 use Rattle.desk_store.specs.declared.reader_permits.Permit.{Permit}
-use Rattle.catalogue_core.specs.UnitLookup.{has_unit}
-use Rattle.catalogue_core.specs.ContainerContents.{is_open, is_some_there}
-use Rattle.catalogue_core.specs.UnitMarks.{names}
-use Rattle.catalogue_core.specs.OpenMarks.{is_clean_for, naming}
-use Rattle.catalogue_core.specs.Units.{Unit}
-use Rattle.catalogue_core.proofs.EachOf.{all_filtered}
+use Rattle.catalogue_core.specs.ContainerContents.{is_open}
 use Rattle.catalogue_core.proofs.OpenLemmas.{open_by_marks}
 use Rattle.catalogue_core.proofs.UnitsAfter.{each_there}
 use Rattle.tree_places.specs.Attachments.{AreAttachedRows}
 use Rattle.office_core.specs.State as office
-use Rattle.office_core.specs.State.{State, is_permitted, opens}
-use Rattle.office_core.specs.Words.{nth, some_and}
-use Rattle.state_encoding.specs.DeskEncoding.{permit_rows}
+use Rattle.office_core.specs.State.{State}
 use Rattle.state_encoding.proofs.ReadBack.{permits_known}
-use Rattle.refinement.specs.AccessConditions.{CanBeJudged}
-use Rattle.refinement.specs.Openness.{AreTheirs, allows, are_clean_for}
+use Rattle.refinement.proofs.Common.{All-from_recursion, All-permutation, AllByRecursion, AreTheirs, BoxKey, CanBeJudged, Forest, IsPermutation-refl, PermitRow, Span, Unit, all_filtered, allows, are_clean_for, eqb_comm, false≢true, fun_ext, has_unit, int_le, is_clean_for, is_permitted, is_some_there, list_all, list_all-map, list_any, list_any-IsPermutation, list_any-map, names, naming, nodes, nth, opens, permit_rows, recursion_from_All, slice_get, some_and}
 use Rattle.refinement.proofs.NamedContainers.{named, names_it}
 
 -- ---- lists
@@ -38,12 +20,14 @@ all_by_any : {X : Type 0} (p : X → Bool) (xs : List X) → list_all p xs ≡ n
 all_by_any p [] = refl
 all_by_any p (x ∷ xs) = at (p x) (all_by_any p xs)
   where
-    at : (b : Bool) → list_all p xs ≡ not (list_any (λ x. not (p x)) xs) → (b && list_all p xs) ≡ not (not b || list_any (λ x. not (p x)) xs)
+    at : (b : Bool) → list_all p xs ≡ not (list_any (λ x. not (p x)) xs)
+        → (b && list_all p xs) ≡ not (not b || list_any (λ x. not (p x)) xs)
     at true e = e
     at false e = refl
 
 pub all_alike : {X : Type 0} (p : X → Bool) (xs ys : List X) → IsPermutation xs ys → list_all p xs ≡ list_all p ys
-all_alike p xs ys same = all_by_any p xs ∙ ap not (list_any-IsPermutation (λ x. not (p x)) xs ys same) ∙ sym (all_by_any p ys)
+all_alike p xs ys same =
+    all_by_any p xs ∙ ap not (list_any-IsPermutation (λ x. not (p x)) xs ys same) ∙ sym (all_by_any p ys)
 
 some_by_any : {X : Type 0} (xs : List X) → is_some_there xs ≡ list_any (λ x. true) xs
 some_by_any [] = refl
@@ -75,13 +59,16 @@ module _ (s : State) (judged : CanBeJudged s) (t n : ℕ) where
   by_container : (units : List Unit) (o : Option BoxKey) → IsPermutation (filter (names_it o) (nodes forest)) units
       → some_and (λ box. is_open forest box permitted s.day) o ≡ (is_some_there units && list_all clean units)
   by_container units None same =
-      let none : is_some_there units ≡ false = sym (some_alike (filter (names_it None) (nodes forest)) units same) ∙ ap is_some_there (nothing_named (nodes forest)) in
+      let none : is_some_there units ≡ false =
+      sym (some_alike (filter (names_it None) (nodes forest)) units same)
+      ∙ ap is_some_there (nothing_named (nodes forest)) in
       sym (ap (λ b. b && list_all clean units) none)
   by_container units (Some box) same =
       open_by_marks forest box permitted s.day judged.units
       ∙ ap₂ ◌&&◌ (some_alike (naming box forest) units same) (all_alike clean (naming box forest) units same)
 
-  pub opens_by : (units : List Unit) → IsPermutation (filter (names s.catalogue.containers n) (nodes forest)) units → opens s t n ≡ (is_some_there units && list_all clean units)
+  pub opens_by : (units : List Unit) → IsPermutation (filter (names s.catalogue.containers n) (nodes forest)) units
+      → opens s t n ≡ (is_some_there units && list_all clean units)
   opens_by units same =
       by_container units (nth s.catalogue.containers n)
       (subst (λ l. IsPermutation l units) (named s.catalogue.containers judged.containers.apart n (nodes forest) judged.containers.known) same)
@@ -101,10 +88,12 @@ module _ (s : State) (judged : CanBeJudged s) (t n : ℕ) where
 
 -- ---- by the permits that are read
 
-same_of : (t : ℕ) (rows : List PermitRow) → filter (λ (row : PermitRow). nat_eq t row.ticket) rows ≡ filter (λ (row : PermitRow). nat_eq row.ticket t) rows
+same_of : (t : ℕ) (rows : List PermitRow)
+    → filter (λ (row : PermitRow). nat_eq t row.ticket) rows ≡ filter (λ (row : PermitRow). nat_eq row.ticket t) rows
 same_of t rows = ap (λ p. filter p rows) (fun_ext (λ (row : PermitRow). eqb_comm t row.ticket))
 
-pub allowed : (s : State) → CanBeJudged s → (t : ℕ) (d : Desk) → d.permits ≡ permit_rows s → (day : ℤ) (permits : List Permit) → IsPermutation (permits_of t d) permits
+pub allowed : (s : State) → CanBeJudged s → (t : ℕ) (d : Desk) → d.permits ≡ permit_rows s
+    → (day : ℤ) (permits : List Permit) → IsPermutation (permits_of t d) permits
     → allows day permits ≡ is_permitted day (s.permits t)
 allowed s judged t d are day permits same = fun_ext (λ u.
     sym (list_any-IsPermutation (λ (permit : Permit). nat_eq permit.unit u && int_le day permit.until) (permits_of t d) permits same)
@@ -122,11 +111,13 @@ some_mapped (unit ∷ units) = refl
 abbrev row_ids : List Span → List ℕ
 row_ids rows = map (λ (row : Span). row.id) rows
 
-rows_there : (f : Forest Unit) (rows : List Span) → AllByRecursion (λ id. has_unit f id ≡ true) (row_ids rows) → AllByRecursion (λ (row : Span). has_unit f row.id ≡ true) rows
+rows_there : (f : Forest Unit) (rows : List Span) → AllByRecursion (λ id. has_unit f id ≡ true) (row_ids rows)
+    → AllByRecursion (λ (row : Span). has_unit f row.id ≡ true) rows
 rows_there f [] all = tt
 rows_there f (row ∷ rows) all = (all.0, rows_there f rows all.1)
 
-mapped : (P : ℕ → Type 0) (units : List Unit) → AllByRecursion (λ (unit : Unit). P unit.id) units → AllByRecursion P (map (λ (unit : Unit). unit.id) units)
+mapped : (P : ℕ → Type 0) (units : List Unit) → AllByRecursion (λ (unit : Unit). P unit.id) units
+    → AllByRecursion P (map (λ (unit : Unit). unit.id) units)
 mapped P [] h = tt
 mapped P (unit ∷ units) h = (h.0, mapped P units h.1)
 
@@ -158,7 +149,9 @@ module _ (stands : Forest ℕ → Span → Type 0) (s : State) (judged : CanBeJu
       (at.1, rows_there f rows there)
 
   -- the answer is whether their units are clean
-  pub clean_open : (d : Desk) → d.permits ≡ permit_rows s → (permits : List Permit) → IsPermutation (permits_of t d) permits → nat_eq (length rows) 0 ≡ false → (clean : Bool) → clean ≡ are_clean_for s.day permits s.catalogue rows → clean ≡ opens s t n
+  pub clean_open : (d : Desk) → d.permits ≡ permit_rows s → (permits : List Permit)
+      → IsPermutation (permits_of t d) permits → nat_eq (length rows) 0 ≡ false → (clean : Bool)
+      → clean ≡ are_clean_for s.day permits s.catalogue rows → clean ≡ opens s t n
   clean_open d are permits same some clean is =
       let f = s.catalogue.forest in
       let permitted = is_permitted s.day (s.permits t) in
@@ -166,7 +159,8 @@ module _ (stands : Forest ℕ → Span → Type 0) (s : State) (judged : CanBeJu
       is ∙ ap (λ may. list_all (is_clean_for may s.day f) (row_ids rows)) (allowed s judged t d are s.day permits same)
       ∙ sym (all_alike (is_clean_for permitted s.day f) (map (λ (unit : Unit). unit.id) naming_it) (row_ids rows) at.0)
       ∙ list_all-map (is_clean_for permitted s.day f) (λ (unit : Unit). unit.id) naming_it
-      ∙ sym (ap (λ b. b && list_all (λ (unit : Unit). is_clean_for permitted s.day f unit.id) naming_it) any) ∙ sym (opens_by s judged t n naming_it (IsPermutation-refl naming_it))
+      ∙ sym (ap (λ b. b && list_all (λ (unit : Unit). is_clean_for permitted s.day f unit.id) naming_it) any)
+      ∙ sym (opens_by s judged t n naming_it (IsPermutation-refl naming_it))
     where
       something : (rows : List Span) → nat_eq (length rows) 0 ≡ false → is_some_there (row_ids rows) ≡ true
       something [] e = absurd (false≢true (sym e))

@@ -1,29 +1,14 @@
 -- A ticket's live orders on its card say whether it has ordered a container.
 use Rattle.std.proofs.Common.{◌≡◌, ℕ, Bool, true, false, cond, ◌&&◌, ◌||◌, nat_eq, List, [], ◌∷◌, filter, Option, Some, None, inl, inr, refl, sym, ap, subst, ◌∙◌}
-use Rattle.std.specs.Prelude.{is_some, nat_lt, option_map}
+use Rattle.std.specs.Prelude.{nat_lt}
 use Rattle.std.specs.Cmp.{both_ways}
-use Rattle.std.specs.List.{list_any}
-use Rattle.std.proofs.lemmas.Bool.{and_from, and_parts, eqb-true, false≢true, or_cases}
-use Rattle.tree_core.proofs.Lists.{list_any-map}
-use Rattle.office_tables.specs.Versions.{Version}
-use Rattle.desk_core.specs.DeskRows.{OrderRow}
-use Rattle.desk_store.specs.Readers.{is_live, live_orders}
 use Rattle.desk_store.specs.declared.reader_summary.LiveOrder.{LiveOrder}
-use Rattle.office_core.specs.Laws.{Waiting, WithItsReader, Ended, standing, stands_as}
-use Rattle.office_core.specs.SoundDesk.{ExactlyOne, IsFiled, is_out_for}
-use Rattle.office_core.specs.SoundOffice.{IsSoundOffice}
-use Rattle.office_core.specs.State.{Done, Cancelled, End, Order, State, container_of, has_ordered, is_by, is_out_with, order_out}
-use Rattle.office_core.specs.Words.{nth, some_and, stands}
+use Rattle.office_core.specs.State.{Done, State}
 use Rattle.office_core.proofs.Filed.{out_with, waiting}
 use Rattle.office_core.proofs.OrderLaws.{stands_out, stands_waiting}
 use Rattle.office_core.proofs.Orders.{is_by_its_ticket, out_is}
-use Rattle.office_core.proofs.Words.{same_number}
-use Rattle.state_encoding.specs.DeskEncoding.{order_row, order_rows, state_number}
-use Rattle.state_encoding.specs.OfficeRows.{tables}
-use Rattle.state_encoding.proofs.DeskLookups.{flipped, order_there, some_is}
 use Rattle.state_encoding.proofs.Grouped.{any_filter}
-use Rattle.state_encoding.proofs.Members.{any_of_in, some_in}
-use Rattle.state_encoding.proofs.NumberedRows.{in_rows}
+use Rattle.refinement.proofs.Common.{Cancelled, End, Ended, ExactlyOne, IsFiled, IsSoundOffice, Order, OrderRow, Version, Waiting, WithItsReader, and_from, and_parts, any_of_in, container_of, eqb-true, false≢true, flipped, has_ordered, in_rows, is_by, is_live, is_out_for, is_out_with, is_some, list_any, list_any-map, live_orders, nth, option_map, or_cases, order_out, order_row, order_rows, order_there, same_number, some_and, some_in, some_is, standing, stands, stands_as, state_number, tables}
 
 -- an order of that ticket for that container, which waits or is out
 abbrev is_theirs : ℕ → ℕ → OrderRow → Bool
@@ -41,7 +26,9 @@ any_from p m (n ∷ ns) h passes = elim (or_cases (nat_eq m n) (stands m ns) h) 
     or_second false b e = e
 
 -- a live order waits or is out
-live_is : (w h : Bool) (past : Option End) → ExactlyOne w h (is_some past) → nat_lt (state_number (cond w (Some Waiting) (cond h (Some WithItsReader) (option_map Ended past)))) 3 ≡ true → (w || h) ≡ true
+live_is : (w h : Bool) (past : Option End) → ExactlyOne w h (is_some past)
+    → nat_lt (state_number (cond w (Some Waiting) (cond h (Some WithItsReader) (option_map Ended past)))) 3 ≡ true
+    → (w || h) ≡ true
 live_is true h past one live = refl
 live_is false true past one live = refl
 live_is false false None one live = absurd one
@@ -49,12 +36,15 @@ live_is false false (Some Done) one live = absurd (false≢true live)
 live_is false false (Some Cancelled) one live = absurd (false≢true live)
 
 module _ (version : Version) (s : State) (sound : IsSoundOffice s) (t c : ℕ) where
-  row_ordered : (m : ℕ) (order : Order) → nth s.orders m ≡ Some order → is_theirs t c (order_row s m order) ≡ true → has_ordered s t c ≡ true
+  row_ordered : (m : ℕ) (order : Order) → nth s.orders m ≡ Some order → is_theirs t c (order_row s m order) ≡ true
+      → has_ordered s t c ≡ true
   row_ordered m order is passes =
       let one = and_parts (nat_eq c order.container) (nat_eq t order.ticket && is_live (order_row s m order)) passes in
       let two = and_parts (nat_eq t order.ticket) (is_live (order_row s m order)) one.1 in
-      let for_it : container_of s m ≡ Some c = ap (option_map (λ (order : Order). order.container)) is ∙ ap Some (sym (eqb-true c order.container one.0)) in
-      let mine : is_by s t m ≡ true = subst (λ k. is_by s k m ≡ true) (sym (eqb-true t order.ticket two.0)) (is_by_its_ticket s m order is) in
+      let for_it : container_of s m ≡ Some c =
+      ap (option_map (λ (order : Order). order.container)) is ∙ ap Some (sym (eqb-true c order.container one.0)) in
+      let mine : is_by s t m ≡ true =
+      subst (λ k. is_by s k m ≡ true) (sym (eqb-true t order.ticket two.0)) (is_by_its_ticket s m order is) in
       let filed = subst (λ k. IsFiled k (λ k. stands m (s.queue k)) (λ k. is_out_for m (s.place k)) (s.past m)) for_it (sound.sound.desk.filed.each m) in
       let live : nat_lt (state_number (cond (stands m (s.queue c)) (Some Waiting) (cond (is_out_for m (s.place c)) (Some WithItsReader) (option_map Ended (s.past m))))) 3 ≡ true =
       subst (λ k. nat_lt (state_number (stands_as k (λ k. stands m (s.queue k)) (λ k. is_out_for m (s.place k)) (s.past m))) 3 ≡ true) for_it two.1 in
@@ -74,13 +64,16 @@ module _ (version : Version) (s : State) (sound : IsSoundOffice s) (t c : ℕ) w
       row_ordered i.0 i.1 i.2 (ap (is_theirs t c) (sym i.3) ∙ found.2)
 
   -- an order that waits for it or is out with it, and is the ticket's, has its row
-  has_row : (o : ℕ) → is_by s t o ≡ true → container_of s o ≡ Some c → nat_lt (state_number (standing s o)) 3 ≡ true → list_any (is_theirs t c) (order_rows s) ≡ true
+  has_row : (o : ℕ) → is_by s t o ≡ true → container_of s o ≡ Some c → nat_lt (state_number (standing s o)) 3 ≡ true
+      → list_any (is_theirs t c) (order_rows s) ≡ true
   has_row o mine for_it live =
       let known = some_is (nth s.orders o) (by_some (nth s.orders o) mine) in
       let order = known.0 in
-      let box : Some order.container ≡ Some c = sym (ap (option_map (λ (order : Order). order.container)) known.1) ∙ for_it in
+      let box : Some order.container ≡ Some c =
+      sym (ap (option_map (λ (order : Order). order.container)) known.1) ∙ for_it in
       let same : order.container ≡ c = cc in
-      let ticket : nat_eq order.ticket t ≡ true = sym (ap (some_and (λ (order : Order). nat_eq order.ticket t)) known.1) ∙ mine in
+      let ticket : nat_eq order.ticket t ≡ true =
+      sym (ap (some_and (λ (order : Order). nat_eq order.ticket t)) known.1) ∙ mine in
       let passes : is_theirs t c (order_row s o order) ≡ true =
       and_from (nat_eq c order.container) (nat_eq t order.ticket && is_live (order_row s o order)) (ap (nat_eq c) same ∙ same_number c)
       (and_from (nat_eq t order.ticket) (is_live (order_row s o order)) (flipped t order.ticket ∙ ticket) live) in
@@ -102,7 +95,8 @@ module _ (version : Version) (s : State) (sound : IsSoundOffice s) (t c : ℕ) w
       let stood = stands_waiting (container_of s o) (λ k. stands o (s.queue k)) (λ k. is_out_for o (s.place k)) (s.past o) c is.for_it waits in
       has_row o found.2 is.for_it (ap (λ st. nat_lt (state_number st) 3) stood)
 
-  of_place : (o : Option ℕ) → order_out (s.place c) ≡ o → some_and (is_by s t) o ≡ true → list_any (is_theirs t c) (order_rows s) ≡ true
+  of_place : (o : Option ℕ) → order_out (s.place c) ≡ o → some_and (is_by s t) o ≡ true
+      → list_any (is_theirs t c) (order_rows s) ≡ true
   of_place None e mine = absurd (false≢true mine)
   of_place (Some o) e mine =
       let out : is_out_for o (s.place c) ≡ true = ap (some_and (nat_eq o)) e ∙ same_number o in

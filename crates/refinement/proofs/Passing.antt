@@ -1,44 +1,30 @@
 -- A change that the gate has the last word on.
 use Rattle.std.proofs.Common.{◌≡◌, ℕ, ℤ, Option, Some, None, Result, Ok, Err, OnOk, refl, sym, ap, subst, ◌∙◌, []}
-use Rattle.std.specs.Prelude.{◌∷◌, ⊤, IfOk, IsOk}
-use Rattle.sqlite.specs.Effect.{Database}
-use Rattle.sqlite.specs.Held.{Held, state}
+use Rattle.std.specs.Prelude.{◌∷◌}
 use Rattle.sqlite.specs.State as store
-use Rattle.sqlite.specs.State.{HasCleanDisk}
-use Rattle.sqlite.specs.Tree.{Trees}
 use Rattle.sqlite_trees.specs.declared.store.Store as kept_in
-use Rattle.tree_core.specs.Forest.{Forest}
-use Rattle.office_tables.specs.Versions.{Version}
 use Rattle.desk_core.specs.Refusals.{first_that_holds}
-use Rattle.desk_core.specs.declared.refusal.Refusal.{Refusal}
-use Rattle.office_core.specs.Rules.{Reply, after, decide, gate, refusal, step, result_of}
-use Rattle.office_core.specs.SoundOffice.{IsSoundOffice}
 use Rattle.office_core.specs.State.{State}
-use Rattle.office_core.specs.declared.command.Command.{Command}
 use Rattle.office_core.specs.declared.done.Done.{Done}
-use Rattle.office_tables.specs.Calls.{Answers}
-use Rattle.office_tables.specs.Step.{Goes, IsAborted, LeavesUnchanged}
-use Rattle.office_tables.specs.declared.fault.StoreFault.{StoreFault}
-use Rattle.office_tables.proofs.CallEnds.{excused_then}
-use Rattle.office_tables.proofs.Calls.{cut_then, early, goes_then, on_err_then, on_ok_then}
-use Rattle.refinement.specs.CommandSteps.{CarriesOut, CarriesOutStep}
-use Rattle.refinement.specs.Gate.{gate_reply, unless_refused}
-use Rattle.refinement.specs.AccessConditions.{CanBeJudged, RepresentsWhole}
-use Rattle.refinement.specs.Representation.{RepresentsState}
+use Rattle.refinement.proofs.Common.{Answers, CanBeJudged, CarriesOut, CarriesOutStep, Command, Database, Forest, Goes, HasCleanDisk, Held, IfOk, IsAborted, IsOk, IsSoundOffice, LeavesUnchanged, Refusal, Reply, RepresentsState, RepresentsWhole, StoreFault, Trees, Version, after, cut_then, decide, early, excused_then, gate, gate_reply, goes_then, on_err_then, on_ok_then, refusal, result_of, state, step, unless_refused, ⊤}
 use Rattle.refinement.proofs.Tellings.{looked_crash}
 
 -- the step of a command whose other checks do not hold
-gated_step : (places : Trees → Forest ℕ → Type 0) (version : Version) (s : State) (asked : Command) (db : Database) → refusal s asked ≡ first_that_holds (gate (after s asked) ∷ []) → (reply : Reply) → reply ≡ gate_reply (after s asked) (result_of s asked)
+gated_step : (places : Trees → Forest ℕ → Type 0) (version : Version) (s : State) (asked : Command) (db : Database)
+    → refusal s asked ≡ first_that_holds (gate (after s asked) ∷ []) → (reply : Reply)
+    → reply ≡ gate_reply (after s asked) (result_of s asked)
     → RepresentsState places version db (after s asked) → CarriesOutStep places version s asked reply db
 gated_step places version s asked db last reply is shown = at (gate (after s asked)) refl
   where
     at : (why : Option Refusal) → gate (after s asked) ≡ why → CarriesOutStep places version s asked reply db
     at None e =
-        let one : step s asked ≡ (after s asked, Ok (result_of s asked)) = ap (λ why. decide why s (after s asked) (result_of s asked)) (last ∙ ap (λ why. first_that_holds (why ∷ [])) e) in
+        let one : step s asked ≡ (after s asked, Ok (result_of s asked)) =
+        ap (λ why. decide why s (after s asked) (result_of s asked)) (last ∙ ap (λ why. first_that_holds (why ∷ [])) e) in
         let so : reply ≡ Ok (result_of s asked) = is ∙ ap (λ why. unless_refused why (result_of s asked)) e in
         record { told = so ∙ sym (ap (λ (p : State × Reply). p.1) one); represents = λ ok. subst (RepresentsState places version db) (sym (ap (λ (p : State × Reply). p.0) one)) shown }
     at (Some why) e =
-        let one : step s asked ≡ (s, Err why) = ap (λ why. decide why s (after s asked) (result_of s asked)) (last ∙ ap (λ why. first_that_holds (why ∷ [])) e) in
+        let one : step s asked ≡ (s, Err why) =
+        ap (λ why. decide why s (after s asked) (result_of s asked)) (last ∙ ap (λ why. first_that_holds (why ∷ [])) e) in
         let so : reply ≡ Err why = is ∙ ap (λ why. unless_refused why (result_of s asked)) e in
         record { told = so ∙ sym (ap (λ (p : State × Reply). p.1) one); represents = λ ok. absurd (let bad : IsOk (let r : Reply = Err why in r) = subst IsOk so ok in cc) }
 
@@ -46,17 +32,20 @@ pub if_ok_then : {X E : Type 0} (r : Result X E) (P Q : X → Type 0) → ((x : 
 if_ok_then (Ok x) P Q f h = f x h
 if_ok_then (Err e) P Q f h = tt
 
-pub if_ok_with : {X E : Type 0} (r : Result X E) (L : Type 0) (P Q : X → Type 0) → ((x : X) → L → P x → Q x) → OnOk r L → IfOk r P → IfOk r Q
+pub if_ok_with : {X E : Type 0} (r : Result X E) (L : Type 0) (P Q : X → Type 0) → ((x : X) → L → P x → Q x) → OnOk r L
+    → IfOk r P → IfOk r Q
 if_ok_with (Ok x) L P Q f l h = f x l h
 if_ok_with (Err e) L P Q f l h = tt
 
 -- what is known of a change, before it and by its call
 pub record IsChange (places : Trees → Forest ℕ → Type 0) (version : Version) (known : State → Type 0) (asked : Command) (today : ℤ) (done : Done) (old new : store.State) : Type 0 where
-  pub represents : HasCleanDisk new → (s : State) → IsSoundOffice s → known s → RepresentsState places version old.now s → RepresentsState places version new.now (after s asked)
+  pub represents : HasCleanDisk new → (s : State) → IsSoundOffice s → known s → RepresentsState places version old.now s
+      → RepresentsState places version new.now (after s asked)
   pub judged : (s : State) → IsSoundOffice s → known s → CanBeJudged (after s asked)
   pub day : (s : State) → known s → today ≡ (after s asked).day
   pub last : (s : State) → known s → refusal s asked ≡ first_that_holds (gate (after s asked) ∷ [])
-  pub answers : HasCleanDisk new → (s : State) → known s → RepresentsState places version old.now s → done ≡ result_of s asked
+  pub answers : HasCleanDisk new → (s : State) → known s → RepresentsState places version old.now s
+      → done ≡ result_of s asked
 
 module _ {S : Type 0} (g : kept_in.Ghosts S) (places : Trees → Forest ℕ → Type 0) (version : Version) (known : State → Type 0) (asked : Command) (today : ℤ) (done : Done) (before : store.State) (mid after_it : Held S) (r : Result Reply StoreFault) where
   abbrev b : store.State
@@ -66,7 +55,8 @@ module _ {S : Type 0} (g : kept_in.Ghosts S) (places : Trees → Forest ℕ → 
   c = state g after_it
 
   -- the same of a change that bears only on some containers
-  pub passed_where : (OthersStay : State → Type 0) → IsChange places version known asked today done before b → ((s : State) → IsSoundOffice s → known s → OthersStay (after s asked)) → Goes before b
+  pub passed_where : (OthersStay : State → Type 0) → IsChange places version known asked today done before b
+      → ((s : State) → IsSoundOffice s → known s → OthersStay (after s asked)) → Goes before b
       → Answers g (RepresentsWhole places version) CanBeJudged mid after_it r (λ _. ⊤) (λ _ s reply. CanBeJudged s → today ≡ s.day → OthersStay s → reply ≡ gate_reply s done)
       → CarriesOut places version known asked before c r
   passed_where OthersStay change others goes told =
@@ -88,8 +78,10 @@ module _ {S : Type 0} (g : kept_in.Ghosts S) (places : Trees → Forest ℕ → 
       }
 
 -- the same of a change that can withhold nothing
-pub passed_freely : (places : Trees → Forest ℕ → Type 0) (version : Version) (known : State → Type 0) (asked : Command) (today : ℤ) (done : Done) (old new : store.State) → IsChange places version known asked today done old new
-    → ((s : State) → IsSoundOffice s → known s → gate (after s asked) ≡ None) → Goes old new → CarriesOut places version known asked old new (let r : Result Reply StoreFault = Ok (Ok done) in r)
+pub passed_freely : (places : Trees → Forest ℕ → Type 0) (version : Version) (known : State → Type 0) (asked : Command) (today : ℤ) (done : Done) (old new : store.State)
+    → IsChange places version known asked today done old new
+    → ((s : State) → IsSoundOffice s → known s → gate (after s asked) ≡ None) → Goes old new
+    → CarriesOut places version known asked old new (let r : Result Reply StoreFault = Ok (Ok done) in r)
 passed_freely places version known asked today done old new change free goes = record {
   steps = λ clean s sound so it.
       gated_step places version s asked new.now (change.last s so) (Ok done)

@@ -1,23 +1,22 @@
 -- What a call leaves of the desk that touches the permits.
 use Rattle.std.proofs.Common.{◌≡◌, ℕ, true, List, [], ◌∷◌, ◌∙◌}
-use Rattle.std.specs.List.{AllByRecursion}
-use Rattle.sqlite.specs.Effect.{Database}
-use Rattle.desk_core.specs.DeskRows.{Desk, PermitRow}
+use Rattle.desk_core.specs.DeskRows.{Desk}
 use Rattle.desk_store.specs.Rows.{run_line_cells}
-use Rattle.desk_store.specs.Representation.{IsNumberOf, RepresentsDesk}
-use Rattle.office_tables.specs.RowNumbers.{HasNumbered}
 use Rattle.office_tables.specs.Permits.{permit_cells}
 use Rattle.office_tables.specs.Schema as tables
-use Rattle.office_tables.specs.Step.{OnlyTouches}
 use Rattle.office_tables.proofs.numbered.OwnNumbers.{still_numbered}
+use Rattle.refinement.proofs.Common.{AllByRecursion, Database, HasNumbered, IsNumberOf, OnlyTouches, PermitRow, RepresentsDesk}
 use Rattle.refinement.proofs.Frames.{are_apart, untouched}
 
 -- the trees of the desk's other tables
 abbrev pub but_permits : List ℕ
 but_permits = tables.reader.tree ∷ tables.seat.tree ∷ tables.orders.tree ∷ tables.holding.tree ∷ tables.run.tree ∷ tables.run_line.tree ∷ []
 
-pub desk_with_permits : (old new : Database) (touched : List ℕ) → OnlyTouches touched old new → (d : Desk) (permits : List PermitRow) → are_apart touched but_permits ≡ true → HasNumbered permit_cells (new.trees tables.permit.tree) permits
-    → AllByRecursion (λ (p : PermitRow). IsNumberOf d.readers p.ticket) permits → RepresentsDesk old.trees d → RepresentsDesk new.trees (record d { permits = permits })
+pub desk_with_permits : (old new : Database) (touched : List ℕ) → OnlyTouches touched old new
+    → (d : Desk) (permits : List PermitRow) → are_apart touched but_permits ≡ true
+    → HasNumbered permit_cells (new.trees tables.permit.tree) permits
+    → AllByRecursion (λ (p : PermitRow). IsNumberOf d.readers p.ticket) permits → RepresentsDesk old.trees d
+    → RepresentsDesk new.trees (record d { permits = permits })
 desk_with_permits old new touched only d permits apart stored tickets it =
     let kept = untouched touched old new only but_permits apart in
     record {

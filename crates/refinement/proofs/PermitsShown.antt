@@ -1,30 +1,17 @@
 -- The rows of permits: those of a ticket, one that is granted, and one that is taken back.
 use Rattle.std.proofs.Common.{◌≡◌, ◌≢◌, ℕ, ℤ, zero, suc, ◌<◌, ◌≤◌, Bool, true, false, not, cond, nat_eq, List, [], ◌∷◌, ◌++◌, length, map, filter, inl, inr, refl, sym, ap, subst, ◌∙◌, arith, pos}
-use Rattle.std.specs.Prelude.{int_lt, nat_lt}
-use Rattle.std.specs.List.{AllByRecursion, flat_map}
+use Rattle.std.specs.Prelude.{nat_lt}
 use Rattle.std.specs.List.Sorted.{IsPermutation}
-use Rattle.std.proofs.lemmas.Bool.{cases_Bool, cases_eq, eqb-true, ltb-true}
-use Rattle.std.proofs.lemmas.Bool.Decides.{nat_tests}
 use Rattle.std.proofs.lemmas.List.{append-nil, append_assoc}
 use Rattle.std.proofs.lemmas.List.Concat.{flat_map-cons, flat_map-append}
-use Rattle.std.proofs.lemmas.List.Sorted.{IsPermutation-append_comm, IsPermutation-append_left, IsPermutation-append_right, IsPermutation-cons, IsPermutation-map, IsPermutation-refl, IsPermutation-swap, IsPermutation-sym, IsPermutation-trans}
-use Rattle.sqlite.specs.Tree.{Trees}
-use Rattle.desk_core.specs.DeskRows.{Desk, PermitRow}
+use Rattle.desk_core.specs.DeskRows.{Desk}
 use Rattle.desk_store.specs.Permits.{is_permit, permits_of, without_permit, by_unit}
-use Rattle.desk_store.specs.Representation.{IsNumberOf, RepresentsDesk}
 use Rattle.desk_store.specs.declared.reader_permits.Permit.{Permit as Told}
-use Rattle.office_core.specs.SoundDesk.{AreGoodPermits, ByUnit}
-use Rattle.office_core.specs.State.{Permit, State, granted, granted_until, revoked}
-use Rattle.office_core.specs.Words.{numbers_to, update_at}
-use Rattle.office_core.proofs.Words.{other_number, put_here, put_there, same_number}
-use Rattle.state_encoding.specs.DeskEncoding.{permit_row, permit_rows}
-use Rattle.state_encoding.specs.OfficeRows.{tables}
-use Rattle.state_encoding.proofs.DeskLookups.{flipped}
+use Rattle.office_core.specs.State.{Permit, State}
 use Rattle.state_encoding.proofs.ReadBack.{permits_back}
 use Rattle.office_tables.proofs.Reading.{all_found}
-use Rattle.office_tables.specs.Versions.{Version}
-use Rattle.std.proofs.lemmas.List.Elements.{filter-append}
 use Rattle.std.specs.Cmp.{IsTotalOrder, int_cmp_total, on_total}
+use Rattle.refinement.proofs.Common.{AllByRecursion, AreGoodPermits, ByUnit, IsNumberOf, IsPermutation-append_comm, IsPermutation-append_left, IsPermutation-append_right, IsPermutation-cons, IsPermutation-map, IsPermutation-refl, IsPermutation-swap, IsPermutation-sym, IsPermutation-trans, PermitRow, RepresentsDesk, Trees, Version, cases_Bool, cases_eq, eqb-true, filter-append, flat_map, flipped, granted, granted_until, int_lt, ltb-true, nat_tests, numbers_to, other_number, permit_row, permit_rows, put_here, put_there, revoked, same_number, tables, update_at}
 
 -- ---- the permits of a ticket
 
@@ -37,7 +24,8 @@ told_of permit = record { unit = permit.unit; until = permit.until }
 abbrev back : PermitRow → Permit
 back row = record { unit = row.unit; until = row.until }
 
-same_of : (t : ℕ) (rows : List PermitRow) → filter (λ (row : PermitRow). nat_eq t row.ticket) rows ≡ filter (λ (row : PermitRow). nat_eq row.ticket t) rows
+same_of : (t : ℕ) (rows : List PermitRow)
+    → filter (λ (row : PermitRow). nat_eq t row.ticket) rows ≡ filter (λ (row : PermitRow). nat_eq row.ticket t) rows
 same_of t [] = refl
 same_of t (row ∷ rows) = rw (flipped t row.ticket) (ap (λ l. cond (nat_eq row.ticket t) (row ∷ l) l) (same_of t rows))
 
@@ -45,7 +33,8 @@ each_of : {A B C : Type 0} (f : B → C) (g : A → B) (xs : List A) → map f (
 each_of f g [] = refl
 each_of f g (x ∷ xs) = ap (λ l. f (g x) ∷ l) (each_of f g xs)
 
-pub permits_shown : (version : Version) (s : State) → AreGoodPermits s → (t : ℕ) → permits_of t (tables version s).desk ≡ map told_of (s.permits t)
+pub permits_shown : (version : Version) (s : State) → AreGoodPermits s → (t : ℕ)
+    → permits_of t (tables version s).desk ≡ map told_of (s.permits t)
 permits_shown version s good t =
     ap (map (λ (row : PermitRow). (let p : Told = record { unit = row.unit; until = row.until } in p))) (same_of t (permit_rows s))
     ∙ sym (each_of told_of back (filter (λ (row : PermitRow). nat_eq row.ticket t) (permit_rows s)))
@@ -53,7 +42,8 @@ permits_shown version s good t =
 
 -- ---- one that is taken back
 
-filter_flat : {X Y : Type 0} (p : Y → Bool) (f : X → List Y) (xs : List X) → flat_map (λ x. filter p (f x)) xs ≡ filter p (flat_map f xs)
+filter_flat : {X Y : Type 0} (p : Y → Bool) (f : X → List Y) (xs : List X)
+    → flat_map (λ x. filter p (f x)) xs ≡ filter p (flat_map f xs)
 filter_flat p f [] = refl
 filter_flat p f (x ∷ xs) =
     flat_map-cons (λ x. filter p (f x)) x xs ∙ ap (λ l. filter p (f x) ++ l) (filter_flat p f xs)
@@ -61,21 +51,26 @@ filter_flat p f (x ∷ xs) =
 
 flat_same : {X Y : Type 0} (f g : X → List Y) → ((x : X) → f x ≡ g x) → (xs : List X) → flat_map f xs ≡ flat_map g xs
 flat_same f g same [] = refl
-flat_same f g same (x ∷ xs) = flat_map-cons f x xs ∙ ap (λ l. l ++ flat_map f xs) (same x) ∙ ap (λ l. g x ++ l) (flat_same f g same xs) ∙ sym (flat_map-cons g x xs)
+flat_same f g same (x ∷ xs) =
+    flat_map-cons f x xs ∙ ap (λ l. l ++ flat_map f xs) (same x) ∙ ap (λ l. g x ++ l) (flat_same f g same xs)
+    ∙ sym (flat_map-cons g x xs)
 
 module _ (t u : ℕ) where
-  own_revoked : (k : ℕ) (ps : List Permit) (b : Bool) → nat_eq t k ≡ b → map (permit_row k) (cond b (revoked u ps) ps) ≡ filter (λ row. not (is_permit t u row)) (map (permit_row k) ps)
+  own_revoked : (k : ℕ) (ps : List Permit) (b : Bool) → nat_eq t k ≡ b
+      → map (permit_row k) (cond b (revoked u ps) ps) ≡ filter (λ row. not (is_permit t u row)) (map (permit_row k) ps)
   own_revoked k [] true e = refl
   own_revoked k [] false e = refl
   own_revoked k (p ∷ ps) true e = rw (e, flipped p.unit u) (at (nat_eq u p.unit) (own_revoked k ps true e))
     where
-      at : (b : Bool) → map (permit_row k) (revoked u ps) ≡ filter (λ row. not (is_permit t u row)) (map (permit_row k) ps)
+      at : (b : Bool)
+          → map (permit_row k) (revoked u ps) ≡ filter (λ row. not (is_permit t u row)) (map (permit_row k) ps)
           → map (permit_row k) (cond (not b) (p ∷ revoked u ps) (revoked u ps)) ≡ cond (not b) (permit_row k p ∷ filter (λ row. not (is_permit t u row)) (map (permit_row k) ps)) (filter (λ row. not (is_permit t u row)) (map (permit_row k) ps))
       at true rest = rest
       at false rest = ap (λ l. permit_row k p ∷ l) rest
   own_revoked k (p ∷ ps) false e = rw e (ap (λ l. permit_row k p ∷ l) (own_revoked k ps false e))
 
-  revoked_at : (permits : ℕ → List Permit) (k : ℕ) → map (permit_row k) (update_at permits t (revoked u (permits t)) k) ≡ filter (λ row. not (is_permit t u row)) (map (permit_row k) (permits k))
+  revoked_at : (permits : ℕ → List Permit) (k : ℕ)
+      → map (permit_row k) (update_at permits t (revoked u (permits t)) k) ≡ filter (λ row. not (is_permit t u row)) (map (permit_row k) (permits k))
   revoked_at permits k = elim (cases_eq t k) [
     | inl e ↦ subst (λ n. map (permit_row n) (update_at permits t (revoked u (permits t)) n) ≡ filter (λ row. not (is_permit t u row)) (map (permit_row n) (permits n))) e
         (ap (map (permit_row t)) (put_here permits t (revoked u (permits t))) ∙ own_revoked t (permits t) true (same_number t))
@@ -84,7 +79,8 @@ module _ (t u : ℕ) where
   ]
 
   -- the rows are those without it
-  pub revoked_rows : (s : State) → permit_rows (record s { permits = update_at s.permits t (revoked u (s.permits t)) }) ≡ without_permit t u (permit_rows s)
+  pub revoked_rows : (s : State)
+      → permit_rows (record s { permits = update_at s.permits t (revoked u (s.permits t)) }) ≡ without_permit t u (permit_rows s)
   revoked_rows s =
       flat_same (λ k. map (permit_row k) (update_at s.permits t (revoked u (s.permits t)) k)) (λ k. filter (λ row. not (is_permit t u row)) (map (permit_row k) (s.permits k))) (revoked_at s.permits) (numbers_to (length s.readers))
       ∙ filter_flat (λ row. not (is_permit t u row)) (λ k. map (permit_row k) (s.permits k)) (numbers_to (length s.readers))
@@ -101,19 +97,22 @@ none_revoked u (p ∷ ps) above =
     let apart : nat_eq p.unit u ≡ false = grind (arith, nat_tests, low) in
     rw apart (ap (λ l. p ∷ l) (none_revoked u ps above.1))
 
-new_until : (u : ℕ) (day : ℤ) (ps : List Permit) → AllByRecursion (λ (p : Permit). u < p.unit) ps → granted_until u day ps ≡ day
+new_until : (u : ℕ) (day : ℤ) (ps : List Permit) → AllByRecursion (λ (p : Permit). u < p.unit) ps
+    → granted_until u day ps ≡ day
 new_until u day [] above = refl
 new_until u day (p ∷ ps) above =
     let low = above.0 in
     let apart : nat_eq p.unit u ≡ false = grind (arith, nat_tests, low) in
     rw apart (new_until u day ps above.1)
 
-further : (u : ℕ) (p : Permit) (ps : List Permit) → u < p.unit → AllByRecursion (λ (q : Permit). p.unit < q.unit) ps → AllByRecursion (λ (q : Permit). u < q.unit) ps
+further : (u : ℕ) (p : Permit) (ps : List Permit) → u < p.unit → AllByRecursion (λ (q : Permit). p.unit < q.unit) ps
+    → AllByRecursion (λ (q : Permit). u < q.unit) ps
 further u p [] low above = tt
 further u p (q ∷ ps) low above = let next = above.0 in (omega (arith, low, next), further u p ps low above.1)
 
 -- the permit stands among those of other units
-granted_parts : (u : ℕ) (day : ℤ) (ps : List Permit) → ByUnit ps → IsPermutation (permit_to u (granted_until u day ps) ∷ revoked u ps) (granted u day ps)
+granted_parts : (u : ℕ) (day : ℤ) (ps : List Permit) → ByUnit ps
+    → IsPermutation (permit_to u (granted_until u day ps) ∷ revoked u ps) (granted u day ps)
 granted_parts u day [] by = IsPermutation-refl (permit_to u day ∷ [])
 granted_parts u day (p ∷ ps) by = elim (cases_Bool (nat_eq p.unit u)) [
   | inl here ↦
@@ -136,7 +135,8 @@ granted_parts u day (p ∷ ps) by = elim (cases_Bool (nat_eq p.unit u)) [
 abbrev rows_to : (ℕ → List Permit) → ℕ → List PermitRow
 rows_to permits n = flat_map (λ k. map (permit_row k) (permits k)) (numbers_to n)
 
-rows_more : (permits : ℕ → List Permit) (n : ℕ) → rows_to permits (suc n) ≡ rows_to permits n ++ map (permit_row (suc n)) (permits (suc n))
+rows_more : (permits : ℕ → List Permit) (n : ℕ)
+    → rows_to permits (suc n) ≡ rows_to permits n ++ map (permit_row (suc n)) (permits (suc n))
 rows_more permits n =
     flat_map-append (λ k. map (permit_row k) (permits k)) (numbers_to n) (suc n ∷ [])
     ∙ ap (λ l. rows_to permits n ++ l) (flat_map-cons (λ k. map (permit_row k) (permits k)) (suc n) [] ∙ append-nil (map (permit_row (suc n)) (permits (suc n))))
@@ -157,8 +157,10 @@ module _ (f g : ℕ → List Permit) (t : ℕ) (x : Permit) (one : IsPermutation
   one_row_more zero low high = absurd (omega (arith, low, high))
   one_row_more (suc n) low high = elim (cases_eq t (suc n)) [
     | inl last ↦
-        let mine : IsPermutation (permit_row t x ∷ map (permit_row t) (f t)) (map (permit_row t) (g t)) = IsPermutation-map (permit_row t) (x ∷ f t) (g t) one in
-        let in_f : rows_to f (suc n) ≡ rows_to f n ++ map (permit_row t) (f t) = rows_more f n ∙ ap (λ k. rows_to f n ++ map (permit_row k) (f k)) (sym last) in
+        let mine : IsPermutation (permit_row t x ∷ map (permit_row t) (f t)) (map (permit_row t) (g t)) =
+        IsPermutation-map (permit_row t) (x ∷ f t) (g t) one in
+        let in_f : rows_to f (suc n) ≡ rows_to f n ++ map (permit_row t) (f t) =
+        rows_more f n ∙ ap (λ k. rows_to f n ++ map (permit_row k) (f k)) (sym last) in
         let in_g : rows_to g (suc n) ≡ rows_to f n ++ map (permit_row t) (g t) =
         rows_more g n ∙ ap (λ k. rows_to g n ++ map (permit_row k) (g k)) (sym last)
         ∙ ap (λ l. l ++ map (permit_row t) (g t)) (rows_same f g n (λ k within. others k (λ e. omega (arith, within, e, last)))) in
@@ -194,7 +196,8 @@ all_there : {X : Type 0} (xs : List X) → filter (λ x. true) xs ≡ xs
 all_there [] = refl
 all_there (x ∷ xs) = ap (λ l. x ∷ l) (all_there xs)
 
-pub permits_reordered : (db : Trees) (d : Desk) (rows : List PermitRow) → IsPermutation d.permits rows → RepresentsDesk db d → RepresentsDesk db (record d { permits = rows })
+pub permits_reordered : (db : Trees) (d : Desk) (rows : List PermitRow) → IsPermutation d.permits rows
+    → RepresentsDesk db d → RepresentsDesk db (record d { permits = rows })
 permits_reordered db d rows same it = record {
   readers = it.readers;
   tickets = it.tickets;

@@ -1,22 +1,13 @@
 -- Where a container is and who waits for it, as the rows of the desk tell.
 use Rattle.std.proofs.Common.{◌≡◌, ℕ, Bool, true, false, cond, ◌&&◌, nat_eq, List, [], ◌∷◌, map, filter, Some, refl, sym, ap, subst, ◌∙◌, inl, inr}
-use Rattle.std.specs.Prelude.{filter_map, find, option_map}
-use Rattle.std.specs.List.{cons_option}
+use Rattle.std.specs.Prelude.{filter_map}
 use Rattle.catalogue_core.specs.Members.{StandsIn}
-use Rattle.desk_core.specs.DeskRows.{HoldingRow, OrderRow}
-use Rattle.desk_core.specs.declared.reader.Place.{Place}
-use Rattle.desk_core.specs.declared.reader.Place.TheVariants.{Shelf, Desk, Out}
+use Rattle.desk_core.specs.declared.reader.Place.TheVariants.{Desk}
 use Rattle.desk_store.specs.Orders.{IsAt}
-use Rattle.office_core.specs.SoundDesk.{IsSoundDesk}
-use Rattle.office_core.specs.State.{Order, State}
-use Rattle.office_core.specs.Words.{nth}
-use Rattle.state_encoding.specs.DeskEncoding.{holding_rows, order_from, order_row, order_rows, place_from, place_in}
-use Rattle.state_encoding.proofs.DeskLookups.{flipped}
-use Rattle.state_encoding.proofs.Members.{in_filter}
-use Rattle.state_encoding.proofs.NumberedRows.{in_rows}
+use Rattle.office_core.specs.State.{State}
 use Rattle.state_encoding.proofs.TableLaws.{reads_back}
 use Rattle.office_tables.proofs.Rows.{same_test}
-use Rattle.std.proofs.Math.Bool.{and_comm}
+use Rattle.refinement.proofs.Common.{HoldingRow, IsSoundDesk, Order, OrderRow, Out, Place, Shelf, and_comm, cons_option, find, flipped, holding_rows, in_filter, in_rows, nth, option_map, order_from, order_row, order_rows, place_from, place_in}
 
 -- ---- where a container is
 
@@ -25,18 +16,24 @@ of_row row Shelf is = absurd is
 of_row row Desk is = rw is refl
 of_row row (Out o) is = rw (is.0, is.1) refl
 
-placed_as : (c : ℕ) (rows : List HoldingRow) (p : Place) → IsAt (find (λ (h : HoldingRow). nat_eq c h.container) rows) p → place_in rows c ≡ p
+placed_as : (c : ℕ) (rows : List HoldingRow) (p : Place) → IsAt (find (λ (h : HoldingRow). nat_eq c h.container) rows) p
+    → place_in rows c ≡ p
 placed_as c [] p is = sym is
-placed_as c (row ∷ rows) p is = ap (λ b. cond b (place_from row) (place_in rows c)) (flipped row.container c) ∙ at (nat_eq c row.container) (placed_as c rows p) is
+placed_as c (row ∷ rows) p is =
+    ap (λ b. cond b (place_from row) (place_in rows c)) (flipped row.container c)
+    ∙ at (nat_eq c row.container) (placed_as c rows p) is
   where
     at : (b : Bool) → (IsAt (find (λ (h : HoldingRow). nat_eq c h.container) rows) p → place_in rows c ≡ p)
-        → IsAt (cond b (Some row) (find (λ (h : HoldingRow). nat_eq c h.container) rows)) p → cond b (place_from row) (place_in rows c) ≡ p
+        → IsAt (cond b (Some row) (find (λ (h : HoldingRow). nat_eq c h.container) rows)) p
+        → cond b (place_from row) (place_in rows c) ≡ p
     at true rest is = of_row row p is
     at false rest is = rest is
 
 -- what the rows tell of a container's place is its place
-pub place_shown : (s : State) → IsSoundDesk s → (c : ℕ) (p : Place) → IsAt (find (λ (h : HoldingRow). nat_eq c h.container) (holding_rows s)) p → p ≡ s.place c
-place_shown s sound c p is = sym (placed_as c (holding_rows s) p is) ∙ ap (λ (place : ℕ → Place). place c) (reads_back s sound).places
+pub place_shown : (s : State) → IsSoundDesk s → (c : ℕ) (p : Place)
+    → IsAt (find (λ (h : HoldingRow). nat_eq c h.container) (holding_rows s)) p → p ≡ s.place c
+place_shown s sound c p is =
+    sym (placed_as c (holding_rows s) p is) ∙ ap (λ (place : ℕ → Place). place c) (reads_back s sound).places
 
 -- ---- who waits
 
@@ -46,7 +43,8 @@ waits_in c row = nat_eq 1 row.state && nat_eq c row.container
 
 module _ {Y : Type 0} (s : State) (tell : ℕ → Order → Y) where
   -- an order that has a row
-  pub told_row : (row : OrderRow) → StandsIn row (order_rows s) → option_map (tell row.id) (nth s.orders row.id) ≡ Some (tell row.id (order_from row))
+  pub told_row : (row : OrderRow) → StandsIn row (order_rows s)
+      → option_map (tell row.id) (nth s.orders row.id) ≡ Some (tell row.id (order_from row))
   told_row row k =
       let i = in_rows (order_row s) s.orders row k in
       subst (λ (r : OrderRow). option_map (tell r.id) (nth s.orders r.id) ≡ Some (tell r.id (order_from r))) (sym i.3) (ap (option_map (tell i.0)) i.2)

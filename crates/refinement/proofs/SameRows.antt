@@ -2,10 +2,7 @@
 use Rattle.std.proofs.Common.{◌≡◌, true, List, [], ◌∷◌, nat_eq, refl, ap, ap₂, ◌∙◌}
 use Rattle.std.specs.Cmp.Lexicographic.{pointwise}
 use Rattle.std.specs.Prelude.{◌&&◌}
-use Rattle.std.proofs.lemmas.Bool.{and_parts, eqb-true, false≢true}
-use Rattle.tree_core.specs.declared.rows.Span.{Span}
-use Rattle.office_core.specs.Words.{is_empty}
-use Rattle.refinement.specs.Openness.{is_same_row}
+use Rattle.refinement.proofs.Common.{Span, and_parts, eqb-true, false≢true, is_empty, is_same_row}
 
 pub nothing_in : {X : Type 0} (xs : List X) → is_empty xs ≡ true → xs ≡ []
 nothing_in [] e = refl

@@ -1,18 +1,11 @@
 -- Numbers that ascend: equal ones stand side by side, so that one stands there more than so many times exactly where it stands again
 -- that many places further on.
 use Rattle.std.proofs.Common.{◌≡◌, ℕ, zero, suc, ◌+◌, ◌-◌, ◌<◌, ◌≤◌, Bool, true, false, ◌||◌, cond, List, [], ◌∷◌, length, get_or, drop, drop-cons, refl, sym, ap, ◌∙◌, inl, inr, arith, zero-add, nat_eq, nat_lt}
-use Rattle.std.specs.Prelude.{slice_get}
-use Rattle.std.specs.List.{count_by, list_any}
-use Rattle.std.specs.List.Sorted.{IsNonDecreasing, IsPermutation}
-use Rattle.std.proofs.lemmas.Bool.{cases_Bool, cases_eq, eq-eqb, le-ltb, lt-ltb, ltb-false, ne_eqb}
-use Rattle.std.proofs.lemmas.Bool.Decides.{nat_tests}
-use Rattle.std.proofs.lemmas.List.{length-drop}
-use Rattle.std.proofs.lemmas.List.Sorted.{list_any-IsPermutation, sum_by-IsPermutation}
+use Rattle.std.specs.List.{count_by}
+use Rattle.std.specs.List.Sorted.{IsPermutation}
 use Rattle.std.proofs.lemmas.List.Sums.{sum_by-cons}
 use Rattle.std.proofs.lemmas.Option.{slice_get-get_or, slice_get_past}
-use Rattle.tree_core.proofs.Lists.{any_agree}
-use Rattle.office_core.specs.Words.{some_and}
-use Rattle.refinement.specs.DayRules.{occurs_more_than}
+use Rattle.refinement.proofs.Common.{IsNonDecreasing, any_agree, cases_Bool, cases_eq, eq-eqb, le-ltb, length-drop, list_any, list_any-IsPermutation, lt-ltb, ltb-false, nat_tests, ne_eqb, occurs_more_than, slice_get, some_and, sum_by-IsPermutation}
 
 -- ---- one number
 
@@ -29,7 +22,8 @@ none_greater x (y ∷ ys) less =
     let lt : x < y = less 0 (omega arith) in
     one_more x y ys ∙ ap (λ b. cond b 1 0 + times x ys) (ne_eqb x y (λ e. absurd (omega (arith, e, lt)))) ∙ zero-add (times x ys) ∙ none_greater x ys (λ j l. less (suc j) (omega (arith, l)))
 
-not_at : (x most : ℕ) (ys : List ℕ) → ((j : ℕ) → j < length ys → x < get_or ys j 0) → some_and (nat_eq x) (slice_get ys most) ≡ false
+not_at : (x most : ℕ) (ys : List ℕ) → ((j : ℕ) → j < length ys → x < get_or ys j 0)
+    → some_and (nat_eq x) (slice_get ys most) ≡ false
 not_at x most [] less = refl
 not_at x zero (y ∷ ys) less = let lt : x < y = less 0 (omega arith) in ne_eqb x y (λ e. absurd (omega (arith, e, lt)))
 not_at x (suc most) (y ∷ ys) less = not_at x most ys (λ j l. less (suc j) (omega (arith, l)))
@@ -41,18 +35,21 @@ fewer m n = elim (cases_Bool (nat_lt m n)) [
 ]
 
 -- of a number with none below it
-least_stands : (x most : ℕ) (ys : List ℕ) → ((j : ℕ) → j < length ys → x ≤ get_or ys j 0) → IsNonDecreasing ys → nat_lt most (times x ys) ≡ some_and (nat_eq x) (slice_get ys most)
+least_stands : (x most : ℕ) (ys : List ℕ) → ((j : ℕ) → j < length ys → x ≤ get_or ys j 0) → IsNonDecreasing ys
+    → nat_lt most (times x ys) ≡ some_and (nat_eq x) (slice_get ys most)
 least_stands x most [] low up = le-ltb most 0 (omega arith)
 least_stands x most (y ∷ ys) low up = elim (cases_eq x y) [
   | inl e ↦ ap (nat_lt most) (one_more x y ys ∙ ap (λ b. cond b 1 0 + times x ys) (eq-eqb x y e)) ∙ again most (eq-eqb x y e) (λ m. least_stands x m ys (λ j l. low (suc j) (omega (arith, l))) (λ i j d le l. up (suc i) (suc j) d (omega (arith, le)) (omega (arith, l))))
   | inr ne ↦
       let here : x ≤ y = low 0 (omega arith) in
       let apart : x < y = omega (arith, here, ne) in
-      let less : (j : ℕ) → j < length (y ∷ ys) → x < get_or (y ∷ ys) j 0 = λ j l. (let above : y ≤ get_or (y ∷ ys) j 0 = up 0 j 0 (omega arith) l in omega (arith, above, apart)) in
+      let less : (j : ℕ) → j < length (y ∷ ys) → x < get_or (y ∷ ys) j 0 =
+      λ j l. (let above : y ≤ get_or (y ∷ ys) j 0 = up 0 j 0 (omega arith) l in omega (arith, above, apart)) in
       ap (nat_lt most) (none_greater x (y ∷ ys) less) ∙ le-ltb most 0 (omega arith) ∙ sym (not_at x most (y ∷ ys) less)
 ]
   where
-    again : (m : ℕ) → nat_eq x y ≡ true → ((k : ℕ) → nat_lt k (times x ys) ≡ some_and (nat_eq x) (slice_get ys k)) → nat_lt m (1 + times x ys) ≡ some_and (nat_eq x) (slice_get (y ∷ ys) m)
+    again : (m : ℕ) → nat_eq x y ≡ true → ((k : ℕ) → nat_lt k (times x ys) ≡ some_and (nat_eq x) (slice_get ys k))
+        → nat_lt m (1 + times x ys) ≡ some_and (nat_eq x) (slice_get (y ∷ ys) m)
     again zero same rest = lt-ltb 0 (1 + times x ys) (omega arith) ∙ sym same
     again (suc m) same rest = fewer m (times x ys) ∙ rest m
 
@@ -71,7 +68,8 @@ again_is most (x ∷ xs) up =
     ∙ ap (λ b. nat_lt most (times x (x ∷ xs)) || b) (again_is most xs later)
     ∙ at (nat_lt most (times x (x ∷ xs))) refl
   where
-    at : (b : Bool) → nat_lt most (times x (x ∷ xs)) ≡ b → (b || occurs_more_than most xs) ≡ (b || list_any (λ n. nat_lt most (times n (x ∷ xs))) xs)
+    at : (b : Bool) → nat_lt most (times x (x ∷ xs)) ≡ b
+        → (b || occurs_more_than most xs) ≡ (b || list_any (λ n. nat_lt most (times n (x ∷ xs))) xs)
     at true e = refl
     at false e = any_agree (λ n. nat_lt most (times n xs)) (λ n. nat_lt most (times n (x ∷ xs))) xs (λ n. elim (cases_eq n x) [
       | inl same ↦
@@ -108,11 +106,15 @@ left_at most i xs le lt =
     ∙ ap (λ o. some_and (nat_eq (get_or xs k 0)) o || stands_again most (drop (suc k) xs)) (ap (λ l. slice_get l most) (sym split) ∙ shifted k most xs ∙ ap (slice_get xs) there ∙ slice_get-get_or xs i 0 lt)
     ∙ ap (λ n. nat_eq (get_or xs k 0) (get_or xs i 0) || stands_again most (drop n xs)) next
 
-pub found_again : (most i : ℕ) (xs : List ℕ) → most ≤ i → i < length xs → stands_again most (drop (i - most) xs) ≡ stands_again most xs → get_or xs (i - most) 0 ≡ get_or xs i 0 → IsNonDecreasing xs → true ≡ occurs_more_than most xs
+pub found_again : (most i : ℕ) (xs : List ℕ) → most ≤ i → i < length xs
+    → stands_again most (drop (i - most) xs) ≡ stands_again most xs → get_or xs (i - most) 0 ≡ get_or xs i 0
+    → IsNonDecreasing xs → true ≡ occurs_more_than most xs
 found_again most i xs le lt so same up =
     sym (ap (λ b. b || stands_again most (drop (i + 1 - most) xs)) (eq-eqb (get_or xs (i - most) 0) (get_or xs i 0) same)) ∙ sym (left_at most i xs le lt) ∙ so ∙ again_is most xs up
 
-pub not_yet : (most i : ℕ) (xs : List ℕ) → most ≤ i → i < length xs → stands_again most (drop (i - most) xs) ≡ stands_again most xs → (get_or xs (i - most) 0 ≡ get_or xs i 0 → ⊥) → stands_again most (drop (i + 1 - most) xs) ≡ stands_again most xs
+pub not_yet : (most i : ℕ) (xs : List ℕ) → most ≤ i → i < length xs
+    → stands_again most (drop (i - most) xs) ≡ stands_again most xs → (get_or xs (i - most) 0 ≡ get_or xs i 0 → ⊥)
+    → stands_again most (drop (i + 1 - most) xs) ≡ stands_again most xs
 not_yet most i xs le lt so other =
     sym (ap (λ b. b || stands_again most (drop (i + 1 - most) xs)) (ne_eqb (get_or xs (i - most) 0) (get_or xs i 0) other)) ∙ sym (left_at most i xs le lt) ∙ so
 
@@ -120,12 +122,17 @@ too_short : (most : ℕ) (xs : List ℕ) → length xs ≤ most → stands_again
 too_short most [] le = refl
 too_short most (x ∷ xs) le = ap (λ o. some_and (nat_eq x) o || stands_again most xs) (slice_get_past (x ∷ xs) most le) ∙ too_short most xs (omega (arith, le))
 
-pub never_again : (most i : ℕ) (xs : List ℕ) → most ≤ i → length xs ≤ i → stands_again most (drop (i - most) xs) ≡ stands_again most xs → IsNonDecreasing xs → false ≡ occurs_more_than most xs
-never_again most i xs le end so up = sym (too_short most (drop (i - most) xs) (omega (arith, length-drop (i - most) xs, end, le))) ∙ so ∙ again_is most xs up
+pub never_again : (most i : ℕ) (xs : List ℕ) → most ≤ i → length xs ≤ i
+    → stands_again most (drop (i - most) xs) ≡ stands_again most xs → IsNonDecreasing xs
+    → false ≡ occurs_more_than most xs
+never_again most i xs le end so up =
+    sym (too_short most (drop (i - most) xs) (omega (arith, length-drop (i - most) xs, end, le))) ∙ so
+    ∙ again_is most xs up
 
 -- ---- in whatever order they come
 
-pub over_permuted : (most : ℕ) (xs ys : List ℕ) → IsPermutation xs ys → occurs_more_than most ys ≡ occurs_more_than most xs
+pub over_permuted : (most : ℕ) (xs ys : List ℕ) → IsPermutation xs ys
+    → occurs_more_than most ys ≡ occurs_more_than most xs
 over_permuted most xs ys p =
     any_agree (λ k. nat_lt most (times k ys)) (λ k. nat_lt most (times k xs)) ys (λ k. ap (nat_lt most) (sum_by-IsPermutation (λ y. cond (nat_eq k y) 1 0) xs ys p))
     ∙ sym (list_any-IsPermutation (λ k. nat_lt most (times k xs)) xs ys p)

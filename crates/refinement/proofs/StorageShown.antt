@@ -1,25 +1,9 @@
 -- The desk of a state beside its containers, as the tables show them.
 use Rattle.std.proofs.Common.{◌≡◌, ℕ, suc, ◌+◌, nat_eq, List, [], ◌∷◌, length, refl, sym, ap, subst, ◌∙◌, arith}
-use Rattle.std.specs.Prelude.{find, is_some, option_map}
-use Rattle.std.specs.List.{AllByRecursion}
-use Rattle.sqlite.specs.Effect.{Database}
-use Rattle.sqlite.specs.Tree.{Trees}
 use Rattle.isad_core.specs.LegibleValues.{IsLegibleBox}
-use Rattle.isad_core.specs.declared.values.BoxKey.{BoxKey}
-use Rattle.tree_core.specs.Forest.{Forest}
-use Rattle.office_tables.specs.Versions.{Version}
-use Rattle.catalogue_statements.specs.Rows.{counted_from}
 use Rattle.desk_store.specs.Storage.{IsLegibleStorage, RepresentsQueues, Storage, container_with}
-use Rattle.office_core.specs.SoundOffice.{IsSoundOffice}
-use Rattle.office_core.specs.State.{State, is_container}
-use Rattle.office_core.specs.Words.{nth}
-use Rattle.state_encoding.specs.DeskEncoding.{rows_from}
-use Rattle.state_encoding.specs.OfficeRows.{tables}
-use Rattle.state_encoding.proofs.DeskLookups.{is_some-map}
-use Rattle.state_encoding.proofs.LegibleRows.{desk_legible}
-use Rattle.state_encoding.proofs.NumberedRows.{length-rows}
-use Rattle.office_tables.specs.RowNumbers.{AreCountedFrom}
-use Rattle.refinement.specs.Representation.{RepresentsState}
+use Rattle.office_core.specs.State.{State}
+use Rattle.refinement.proofs.Common.{AllByRecursion, AreCountedFrom, BoxKey, Database, Forest, IsSoundOffice, RepresentsState, Trees, Version, counted_from, desk_legible, find, is_container, is_some, is_some-map, length-rows, nth, option_map, rows_from, tables}
 use Rattle.refinement.proofs.RowsOfLists.{found_row}
 
 abbrev pub storage_of : Version → State → Storage
@@ -36,12 +20,14 @@ rows_counted : (n : ℕ) (boxes : List BoxKey) → AreCountedFrom (λ (b : ℕ �
 rows_counted n [] = tt
 rows_counted n (box ∷ boxes) = (refl, rows_counted (suc n) boxes)
 
-rows_legible : (n : ℕ) (boxes : List BoxKey) → AllByRecursion IsLegibleBox boxes → AllByRecursion (λ (b : ℕ × BoxKey). IsLegibleBox b.1) (rows_from under n boxes)
+rows_legible : (n : ℕ) (boxes : List BoxKey) → AllByRecursion IsLegibleBox boxes
+    → AllByRecursion (λ (b : ℕ × BoxKey). IsLegibleBox b.1) (rows_from under n boxes)
 rows_legible n [] h = tt
 rows_legible n (box ∷ boxes) h = (h.0, rows_legible (suc n) boxes h.1)
 
 module _ (version : Version) (s : State) where
-  pub shows_storage : (places : Trees → Forest ℕ → Type 0) (db : Database) → IsSoundOffice s → RepresentsState places version db s → RepresentsQueues db tt (storage_of version s)
+  pub shows_storage : (places : Trees → Forest ℕ → Type 0) (db : Database) → IsSoundOffice s
+      → RepresentsState places version db s → RepresentsQueues db tt (storage_of version s)
   shows_storage places db sound it =
       let known = s.catalogue.containers in
       record {

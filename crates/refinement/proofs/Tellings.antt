@@ -1,19 +1,12 @@
 -- A call that reads, and hands on what a later call tells.
 use Rattle.std.proofs.Common.{Result, Ok, Err, OnOk, OnErr}
-use Rattle.std.specs.Prelude.{⊤}
-use Rattle.sqlite.specs.Effect.{Database}
-use Rattle.sqlite.specs.Held.{Held, state}
-use Rattle.sqlite.specs.State.{HasCleanDisk, State, Survives}
+use Rattle.sqlite.specs.State.{State}
 use Rattle.sqlite_trees.specs.declared.store.Store as store
-use Rattle.office_tables.specs.Calls.{Answers}
-use Rattle.office_tables.specs.Step.{IsAborted, LeavesUnchanged}
-use Rattle.office_tables.specs.declared.fault.StoreFault.{StoreFault}
-use Rattle.office_tables.proofs.CallEnds.{excused_then}
-use Rattle.office_tables.proofs.Calls.{cut_then, early, looks_then, on_err_then, on_ok_then}
-use Rattle.desk_store.proofs.ToldCalls.{shown_on}
 use Rattle.std.proofs.lemmas.Result.{IfOk-weaker}
+use Rattle.refinement.proofs.Common.{Answers, Database, HasCleanDisk, Held, IsAborted, LeavesUnchanged, StoreFault, Survives, cut_then, early, excused_then, looks_then, on_err_then, on_ok_then, shown_on, state, ⊤}
 
-pub looked_crash : {X E : Type 0} (r : Result X E) (a b : State) → OnOk r (LeavesUnchanged a b) → OnErr r (IsAborted a b) → Survives a b (λ _. ⊥)
+pub looked_crash : {X E : Type 0} (r : Result X E) (a b : State) → OnOk r (LeavesUnchanged a b)
+    → OnErr r (IsAborted a b) → Survives a b (λ _. ⊥)
 looked_crash (Ok x) a b looks cut = looks.goes.on.crash
 looked_crash (Err e) a b looks cut = cut.crash
 
@@ -27,7 +20,8 @@ module _ {Model : Type 0} (represents : Database → ⊤ → Model → Type 0) {
   abbrev c : State
   c = state g after
 
-  pub told_then : (told answer : ⊤ → Model → Y → Type 0) → LeavesUnchanged a b → (HasCleanDisk b → (m : Model) → represents a.now tt m → (y : Y) → told tt m y → answer tt m y)
+  pub told_then : (told answer : ⊤ → Model → Y → Type 0) → LeavesUnchanged a b
+      → (HasCleanDisk b → (m : Model) → represents a.now tt m → (y : Y) → told tt m y → answer tt m y)
       → Answers g represents kept mid after r (λ _. ⊤) told → Answers g represents kept before after r (λ _. ⊤) answer
   told_then told answer looked means last =
       let still = λ (clean : HasCleanDisk c). early b c _ (looked_crash r b c last.looks last.aborts) clean in

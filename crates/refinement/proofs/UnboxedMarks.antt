@@ -1,35 +1,27 @@
 -- What decides whether a unit is clean: not whether the units of its path name containers, nor whether it does itself or
 -- a plain leaf below it.
 use Rattle.std.proofs.Common.{◌≡◌, ◌∙◌, ◌&&◌, ◌||◌, ◌+◌, ◌*◌, ◌-◌, ℕ, ℤ, Bool, true, false, cond, not, List, [], ◌∷◌, ◌++◌, map, Some, None, nat_eq, inl, inr, refl, sym, ap, ap₂, subst, arith, append_assoc, append-nil}
-use Rattle.std.specs.Prelude.{is_none}
-use Rattle.std.specs.List.{list_all, list_any}
-use Rattle.std.proofs.lemmas.Bool.{cases_Bool, eqb-true, false≢true}
-use Rattle.std.proofs.lemmas.List.{map-append}
-use Rattle.std.proofs.lemmas.List.Folds.{list_any-append}
-use Rattle.tree_core.specs.Forest.{Forest, Empty, Node, each, nodes, size}
-use Rattle.tree_core.specs.Marks.{IsNumbered, contents_paths, is_closed, withholds}
+use Rattle.tree_core.specs.Marks.{is_closed}
 use Rattle.tree_core.specs.Visibility.{sharing_paths}
-use Rattle.tree_core.specs.declared.marks.Mark.{Mark}
-use Rattle.tree_core.proofs.EachLemmas.{size-each}
 use Rattle.tree_core.proofs.MarkWalks.{list_all-append}
-use Rattle.catalogue_core.specs.OpenMarks.{is_opened_above, with_permit}
-use Rattle.catalogue_core.specs.UnitMarks.{mark_of, without_number}
-use Rattle.catalogue_core.specs.Units.{Unit}
 use Rattle.tree_places.specs.Attachments.{ArePathMarks, branch_told, is_plain_leaf, without_containers, unboxed_leaf}
+use Rattle.refinement.proofs.Common.{Empty, Forest, IsNumbered, Mark, Node, Unit, cases_Bool, contents_paths, each, eqb-true, false≢true, is_none, is_opened_above, list_all, list_any, list_any-append, map-append, mark_of, nodes, size, size-each, with_permit, withholds, without_number}
 
 -- ---- the marks of a path
 
 abbrev bare : Mark → Mark
 bare mark = without_containers (without_number mark)
 
-any_bare : (p : Mark → Bool) → ((mark : Mark) → p (bare mark) ≡ p mark) → (marks : List Mark) → list_any p (map bare marks) ≡ list_any p marks
+any_bare : (p : Mark → Bool) → ((mark : Mark) → p (bare mark) ≡ p mark) → (marks : List Mark)
+    → list_any p (map bare marks) ≡ list_any p marks
 any_bare p same [] = refl
 any_bare p same (mark ∷ marks) = ap₂ ◌||◌ (same mark) (any_bare p same marks)
 
 bare_closed : (today : ℤ) (mark : Mark) → is_closed today (bare mark) ≡ is_closed today mark
 bare_closed today mark = elim mark.until as (λ o. is_closed today (bare (record mark { until = o })) ≡ is_closed today (record mark { until = o })) [ None ↦ refl | Some day ↦ refl ]
 
-bare_way : (today : ℤ) (above : Bool) (way : List Mark) → withholds today above (map bare way) ≡ withholds today above way
+bare_way : (today : ℤ) (above : Bool) (way : List Mark)
+    → withholds today above (map bare way) ≡ withholds today above way
 bare_way today above way =
     ap₂ ◌||◌ (any_bare (λ (mark : Mark). mark.draft) (λ _. refl) way)
     (ap₂ ◌&&◌ (any_bare (is_closed today) (bare_closed today) way) (ap (λ b. not (above || b)) (any_bare (λ (mark : Mark). mark.permit) (λ _. refl) way)))
@@ -43,23 +35,29 @@ module _ (permitted : ℕ → Bool) where
   abbrev for : Mark → Mark
   for mark = with_permit permitted mark
 
-  bare_marks : (marks : List Mark) → map bare (map for marks) ≡ map for (map without_containers (map without_number marks))
+  bare_marks : (marks : List Mark)
+      → map bare (map for marks) ≡ map for (map without_containers (map without_number marks))
   bare_marks [] = refl
   bare_marks (mark ∷ marks) = ap (λ l. bare (for mark) ∷ l) (bare_marks marks)
 
-  bare_units : (units : List Unit) → map bare (map for (map mark_of units)) ≡ map for (map without_containers (map mark_of units))
+  bare_units : (units : List Unit)
+      → map bare (map for (map mark_of units)) ≡ map for (map without_containers (map mark_of units))
   bare_units [] = refl
   bare_units (unit ∷ units) = ap (λ l. bare (for (mark_of unit)) ∷ l) (bare_units units)
 
   -- what the bare marks tell, those that are read tell as those of the units
-  told : {A : Type 0} (tell : List Mark → A) → ((way : List Mark) → tell (map bare way) ≡ tell way) → (units : List Unit) (marks : List Mark) → ArePathMarks units marks → tell (map for marks) ≡ tell (map for (map mark_of units))
+  told : {A : Type 0} (tell : List Mark → A) → ((way : List Mark) → tell (map bare way) ≡ tell way)
+      → (units : List Unit) (marks : List Mark) → ArePathMarks units marks
+      → tell (map for marks) ≡ tell (map for (map mark_of units))
   told tell same units marks are =
       sym (same (map for marks)) ∙ ap tell (bare_marks marks ∙ ap (map for) are ∙ sym (bare_units units)) ∙ same (map for (map mark_of units))
 
-  pub path_withholds : (today : ℤ) (above : Bool) (units : List Unit) (marks : List Mark) → ArePathMarks units marks → withholds today above (map for marks) ≡ withholds today above (map for (map mark_of units))
+  pub path_withholds : (today : ℤ) (above : Bool) (units : List Unit) (marks : List Mark) → ArePathMarks units marks
+      → withholds today above (map for marks) ≡ withholds today above (map for (map mark_of units))
   path_withholds today above = told (withholds today above) (bare_way today above)
 
-  pub path_opens : (units : List Unit) (marks : List Mark) → ArePathMarks units marks → is_opened_above (map for marks) ≡ is_opened_above (map for (map mark_of units))
+  pub path_opens : (units : List Unit) (marks : List Mark) → ArePathMarks units marks
+      → is_opened_above (map for marks) ≡ is_opened_above (map for (map mark_of units))
   path_opens = told is_opened_above bare_above
 
 pub unnumbered_units : (units : List Unit) → map without_number (map mark_of units) ≡ map mark_of units
@@ -72,7 +70,8 @@ abbrev boxed_mark : Mark → Bool
 boxed_mark mark = mark.boxed
 
 -- the paths that go on from two beginnings pass alike if each path does
-same_ways : (p : List Mark → Bool) (A B : List Mark) → ((way : List Mark) → p (A ++ way) ≡ p (B ++ way)) → (f : Forest Mark) → list_all p (sharing_paths boxed_mark A f) ≡ list_all p (sharing_paths boxed_mark B f)
+same_ways : (p : List Mark → Bool) (A B : List Mark) → ((way : List Mark) → p (A ++ way) ≡ p (B ++ way))
+    → (f : Forest Mark) → list_all p (sharing_paths boxed_mark A f) ≡ list_all p (sharing_paths boxed_mark B f)
 same_ways p A B same Empty = refl
 same_ways p A B same (Node m c o) =
     let AM = A ++ m ∷ [] in
@@ -88,7 +87,8 @@ same_ways p A B same (Node m c o) =
     ]
 
 -- a leaf more on a path that passes
-last_passes : (draft closed above permit d c p : Bool) → d ≡ false → c ≡ false → not (draft || (closed && not (above || permit))) ≡ true
+last_passes : (draft closed above permit d c p : Bool) → d ≡ false → c ≡ false
+    → not (draft || (closed && not (above || permit))) ≡ true
     → not ((draft || (d || false)) || ((closed || (c || false)) && not (above || (permit || (p || false))))) ≡ true
 last_passes draft closed above permit true c p none never passes = absurd (false≢true (sym none))
 last_passes draft closed above permit false true p none never passes = absurd (false≢true (sym never))
@@ -118,8 +118,10 @@ same_size : (g f : Forest Mark) → each unboxed_leaf g ≡ each unboxed_leaf f 
 same_size g f same = sym (size-each unboxed_leaf g) ∙ ap size same ∙ size-each unboxed_leaf f
 
 -- a node that tells the same, above and before forests that do
-same_node : (k : ℕ) (m x : Mark) (c o g h : Forest Mark) → IsNumbered k (Node m c o) → unboxed_leaf x ≡ unboxed_leaf m → IsNumbered (k + 1) g → IsNumbered (k + 2 * size c + 2) h
-    → each unboxed_leaf g ≡ each unboxed_leaf c → each unboxed_leaf h ≡ each unboxed_leaf o → IsNumbered k (Node x g h) × (each unboxed_leaf (Node x g h) ≡ each unboxed_leaf (Node m c o))
+same_node : (k : ℕ) (m x : Mark) (c o g h : Forest Mark) → IsNumbered k (Node m c o) → unboxed_leaf x ≡ unboxed_leaf m
+    → IsNumbered (k + 1) g → IsNumbered (k + 2 * size c + 2) h
+    → each unboxed_leaf g ≡ each unboxed_leaf c → each unboxed_leaf h ≡ each unboxed_leaf o
+    → IsNumbered k (Node x g h) × (each unboxed_leaf (Node x g h) ≡ each unboxed_leaf (Node m c o))
 same_node k m x c o g h numbered same below beside left right =
     let both = same_numbers x m same in
     let long : size c ≡ size g = sym (same_size g c left) in
@@ -127,7 +129,8 @@ same_node k m x c o g h numbered same below beside left right =
     let high = both.1 ∙ numbered.1 ∙ ap (λ s. k + 2 * s + 1) long in
     ((low, high, below, subst (λ s. IsNumbered (k + 2 * s + 2) h) long beside), ap (λ y. Node y (each unboxed_leaf g) (each unboxed_leaf h)) same ∙ ap₂ (Node (unboxed_leaf m)) left right)
 
-parted : (xs ys marks : List Mark) → map unboxed_leaf marks ≡ xs ++ ys → (left : List Mark) × (right : List Mark) × (marks ≡ left ++ right) × (map unboxed_leaf left ≡ xs) × (map unboxed_leaf right ≡ ys)
+parted : (xs ys marks : List Mark) → map unboxed_leaf marks ≡ xs ++ ys
+    → (left : List Mark) × (right : List Mark) × (marks ≡ left ++ right) × (map unboxed_leaf left ≡ xs) × (map unboxed_leaf right ≡ ys)
 parted [] ys marks e = ([], marks, refl, refl, e)
 parted (x ∷ xs) ys [] e = absurd (let clash : [] ≡ x ∷ (xs ++ ys) = e in cc)
 parted (x ∷ xs) ys (mark ∷ marks) e =
@@ -137,11 +140,13 @@ parted (x ∷ xs) ys (mark ∷ marks) e =
     let more = parted xs ys marks rest in
     (mark ∷ more.0, more.1, ap (λ l. mark ∷ l) more.2, ap₂ ◌∷◌ head more.3, more.4)
 
-same_list : (x : Mark) (marks left right xs ys : List Mark) → marks ≡ left ++ right → left ≡ xs → right ≡ ys → x ∷ marks ≡ x ∷ (xs ++ ys)
+same_list : (x : Mark) (marks left right xs ys : List Mark) → marks ≡ left ++ right → left ≡ xs → right ≡ ys
+    → x ∷ marks ≡ x ∷ (xs ++ ys)
 same_list x marks left right xs ys is below beside = ap (λ l. x ∷ l) (is ∙ ap₂ ◌++◌ below beside)
 
 -- a forest with the marks of a list that tells the same
-refilled : (k : ℕ) (f : Forest Mark) (marks : List Mark) → IsNumbered k f → map unboxed_leaf marks ≡ map unboxed_leaf (nodes f)
+refilled : (k : ℕ) (f : Forest Mark) (marks : List Mark) → IsNumbered k f
+    → map unboxed_leaf marks ≡ map unboxed_leaf (nodes f)
     → (g : Forest Mark) × (marks ≡ nodes g) × IsNumbered k g × (each unboxed_leaf g ≡ each unboxed_leaf f)
 refilled k Empty [] numbered e = (Empty, refl, tt, refl)
 refilled k Empty (x ∷ marks) numbered e = absurd (let clash : unboxed_leaf x ∷ map unboxed_leaf marks ≡ [] = e in cc)
@@ -157,7 +162,8 @@ refilled k (Node m c o) (x ∷ marks) numbered e =
     (Node x below.0 beside.0, same_list x marks parts.0 parts.1 (nodes below.0) (nodes beside.0) parts.2 below.1 beside.1, node.0, node.1)
 
 -- permits change nothing of this
-permits_told : (permitted : ℕ → Bool) (marks : List Mark) → map unboxed_leaf (map (with_permit permitted) marks) ≡ map (with_permit permitted) (map unboxed_leaf marks)
+permits_told : (permitted : ℕ → Bool) (marks : List Mark)
+    → map unboxed_leaf (map (with_permit permitted) marks) ≡ map (with_permit permitted) (map unboxed_leaf marks)
 permits_told permitted [] = refl
 permits_told permitted (mark ∷ marks) = ap₂ ◌∷◌ here (permits_told permitted marks)
   where
@@ -181,7 +187,8 @@ module _ (today : ℤ) (above : Bool) where
   first_same mark way =
       ap (λ c. not ((mark.draft || list_any (λ (m : Mark). m.draft) way) || ((c || list_any (is_closed today) way) && not (above || (mark.permit || list_any (λ (m : Mark). m.permit) way))))) (closed_same mark)
 
-  leaf_passes : (path : List Mark) (mark : Mark) → mark.draft ≡ false → is_none mark.until ≡ true → passes path ≡ true → passes (path ++ mark ∷ []) ≡ true
+  leaf_passes : (path : List Mark) (mark : Mark) → mark.draft ≡ false → is_none mark.until ≡ true → passes path ≡ true
+      → passes (path ++ mark ∷ []) ≡ true
   leaf_passes path mark published opened clean =
       let draft = λ (m : Mark). m.draft in
       let permit = λ (m : Mark). m.permit in
@@ -189,7 +196,8 @@ module _ (today : ℤ) (above : Bool) where
       (last_passes (list_any draft path) (list_any (is_closed today) path) above (list_any permit path) mark.draft (is_closed today mark) mark.permit published (never_closed mark opened) clean)
 
   -- nothing depends on a leaf that passes
-  leaf_way : (path : List Mark) (mark : Mark) (below beside : Forest Mark) → size below ≡ 0 → passes (path ++ mark ∷ []) ≡ true → pass path (Node mark below beside) ≡ pass path beside
+  leaf_way : (path : List Mark) (mark : Mark) (below beside : Forest Mark) → size below ≡ 0
+      → passes (path ++ mark ∷ []) ≡ true → pass path (Node mark below beside) ≡ pass path beside
   leaf_way path mark (Node x y z) beside none clean = absurd (omega (arith, none))
   leaf_way path mark Empty beside none clean =
       elim mark.boxed as (λ b. list_all passes (cond b (sharing_paths boxed_mark path beside) ((path ++ mark ∷ []) ∷ sharing_paths boxed_mark path beside)) ≡ pass path beside) [
@@ -198,7 +206,8 @@ module _ (today : ℤ) (above : Bool) where
       ]
 
   -- below a path that passes it does not matter whether plain leaves name containers
-  told_ways : (path : List Mark) (k : ℕ) (f : Forest Mark) → IsNumbered k f → passes path ≡ true → pass path f ≡ pass path (each unboxed_leaf f)
+  told_ways : (path : List Mark) (k : ℕ) (f : Forest Mark) → IsNumbered k f → passes path ≡ true
+      → pass path f ≡ pass path (each unboxed_leaf f)
   told_ways path k Empty numbered clean = refl
   told_ways path k (Node m c o) numbered clean =
       let way = path ++ m ∷ [] in
@@ -229,9 +238,12 @@ module _ (today : ℤ) (above : Bool) where
             ]) ∙ ap (λ x. pass path (Node x C O)) (sym is)
       ]
 
-  contents_same : (k : ℕ) (u v : Mark) (f g : Forest Mark) → without_containers u ≡ without_containers v → IsNumbered (k + 1) f → IsNumbered (k + 1) g → each unboxed_leaf f ≡ each unboxed_leaf g → list_all passes (contents_paths u f) ≡ list_all passes (contents_paths v g)
+  contents_same : (k : ℕ) (u v : Mark) (f g : Forest Mark) → without_containers u ≡ without_containers v
+      → IsNumbered (k + 1) f → IsNumbered (k + 1) g → each unboxed_leaf f ≡ each unboxed_leaf g
+      → list_all passes (contents_paths u f) ≡ list_all passes (contents_paths v g)
   contents_same k u v f g own first second same =
-      let alike : (way : List Mark) → passes (u ∷ way) ≡ passes (v ∷ way) = λ way. first_same u way ∙ ap (λ x. passes (x ∷ way)) own ∙ sym (first_same v way) in
+      let alike : (way : List Mark) → passes (u ∷ way) ≡ passes (v ∷ way) =
+      λ way. first_same u way ∙ ap (λ x. passes (x ∷ way)) own ∙ sym (first_same v way) in
       elim (cases_Bool (passes (v ∷ []))) [
         | inl on ↦ ap₂ ◌&&◌ (alike [])
             (told_ways (u ∷ []) (k + 1) f first (alike [] ∙ on) ∙ ap (pass (u ∷ [])) same ∙ same_ways passes (u ∷ []) (v ∷ []) alike (each unboxed_leaf g) ∙ sym (told_ways (v ∷ []) (k + 1) g second on))
@@ -239,9 +251,12 @@ module _ (today : ℤ) (above : Bool) where
       ]
 
   -- an answer by the marks of a branch is one by all that there is to tell
-  pub contents_told : (permitted : ℕ → Bool) (whole branch : List Mark) (answer : Bool) → branch_told branch ≡ branch_told whole
+  pub contents_told : (permitted : ℕ → Bool) (whole branch : List Mark) (answer : Bool)
+      → branch_told branch ≡ branch_told whole
       → ((k : ℕ) (first : Mark) (below : Forest Mark) → IsNumbered k (Node first below Empty) → map (with_permit permitted) branch ≡ nodes (Node first below Empty) → answer ≡ list_all (λ way. not (withholds today above way)) (contents_paths first below))
-      → (k : ℕ) (first : Mark) (below : Forest Mark) → IsNumbered k (Node first below Empty) → map (with_permit permitted) whole ≡ nodes (Node first below Empty) → answer ≡ list_all (λ way. not (withholds today above way)) (contents_paths first below)
+      → (k : ℕ) (first : Mark) (below : Forest Mark) → IsNumbered k (Node first below Empty)
+      → map (with_permit permitted) whole ≡ nodes (Node first below Empty)
+      → answer ≡ list_all (λ way. not (withholds today above way)) (contents_paths first below)
   contents_told permitted [] branch answer same says k first below numbered is = absurd (let clash : [] ≡ first ∷ (nodes below ++ []) = is in cc)
   contents_told permitted (w ∷ ws) [] answer same says k first below numbered is = absurd (let clash : [] ≡ without_containers w ∷ map unboxed_leaf ws = same in cc)
   contents_told permitted (w ∷ ws) (m ∷ ms) answer same says k first below numbered is =
@@ -255,6 +270,7 @@ module _ (today : ℤ) (above : Bool) where
       let own : without_containers (for m) ≡ without_containers first = ap for head ∙ ap without_containers top in
       let fill = refilled (k + 1) below (map for ms) numbered.2 (permits_told permitted ms ∙ ap (map for) rest ∙ sym (permits_told permitted ws) ∙ ap (map unboxed_leaf) (others ∙ append-nil (nodes below))) in
       let low : m.lft ≡ k = ap (λ (x : Mark). x.lft) own ∙ numbered.0 in
-      let high : m.rgt ≡ k + 2 * size fill.0 + 1 = ap (λ (x : Mark). x.rgt) own ∙ numbered.1 ∙ ap (λ s. k + 2 * s + 1) (sym (same_size fill.0 below fill.3)) in
+      let high : m.rgt ≡ k + 2 * size fill.0 + 1 =
+      ap (λ (x : Mark). x.rgt) own ∙ numbered.1 ∙ ap (λ s. k + 2 * s + 1) (sym (same_size fill.0 below fill.3)) in
       says k (for m) fill.0 (low, high, fill.2, tt) (ap (λ l. for m ∷ l) (fill.1 ∙ sym (append-nil (nodes fill.0))))
       ∙ contents_same k (for m) first fill.0 below own fill.2 numbered.2 fill.3

@@ -1,28 +1,13 @@
 -- A container is closed to a reader from whom a unit that lies in it is withheld.
 use Rattle.std.proofs.Common.{◌≡◌, ℕ, ℤ, Bool, true, false, cond, not, List, [], ◌∷◌, ◌++◌, append_assoc, filter, map, Option, Some, None, inl, inr, nat_eq, refl, sym, ap, ap₂, subst, ◌∙◌}
-use Rattle.std.specs.Prelude.{◌&&◌, ◌||◌, option_to_list}
-use Rattle.std.specs.List.{last_or, list_all, list_any}
-use Rattle.std.proofs.lemmas.Bool.{and_parts, cases_Bool, false≢true}
-use Rattle.isad_core.specs.declared.values.BoxKey.{BoxKey}
-use Rattle.tree_core.specs.Forest.{Forest, Empty, Node, each, has, nodes, path}
-use Rattle.tree_core.specs.Marks.{is_closed as is_mark_closed, withholds}
+use Rattle.std.specs.Prelude.{◌&&◌, ◌||◌}
+use Rattle.tree_core.specs.Marks.{is_closed as is_mark_closed}
 use Rattle.tree_core.specs.Members.{StandsIn}
-use Rattle.tree_core.specs.declared.marks.Mark.{Mark}
-use Rattle.tree_core.proofs.EachLemmas.{has-each}
-use Rattle.tree_core.proofs.LinkPaths.{path_none}
-use Rattle.tree_core.proofs.Lists.{any_agree, list_any-map}
-use Rattle.catalogue_core.specs.ContainerContents.{is_open, is_some_there, is_withheld_from, paths_below}
-use Rattle.catalogue_core.specs.OpenMarks.{with_permit}
-use Rattle.catalogue_core.specs.UnitLookup.{has_unit}
-use Rattle.catalogue_core.specs.UnitMarks.{AreMarks, mark_of, names, without_number}
-use Rattle.catalogue_core.specs.Units.{Unit, has_id, is_closed, is_later}
+use Rattle.catalogue_core.specs.ContainerContents.{is_open}
+use Rattle.catalogue_core.specs.Units.{is_closed}
 use Rattle.tree_places.proofs.MarkForests.{path_ids}
-use Rattle.office_core.specs.State.{State, is_permitted, opens}
-use Rattle.office_core.specs.Words.{nth, some_and}
-use Rattle.desk_store.specs.declared.container_orders.ContainerOrder.{ContainerOrder}
-use Rattle.refinement.specs.AccessConditions.{CanBeJudged}
-use Rattle.refinement.specs.Gate.{IsHoused, Withholds, is_one_of, is_withheld_in, names_some, nearest}
-use Rattle.refinement.specs.declared.housed_units.HousedUnit.{HousedUnit}
+use Rattle.office_core.specs.State.{State}
+use Rattle.refinement.proofs.Common.{AreMarks, BoxKey, CanBeJudged, ContainerOrder, Empty, Forest, HousedUnit, IsHoused, Mark, Node, Unit, Withholds, and_parts, any_agree, cases_Bool, each, false≢true, has, has-each, has_id, has_unit, is_later, is_one_of, is_permitted, is_some_there, is_withheld_from, is_withheld_in, last_or, list_all, list_any, list_any-map, mark_of, names, names_some, nearest, nodes, nth, opens, option_to_list, path, path_none, paths_below, some_and, with_permit, withholds, without_number}
 use Rattle.refinement.proofs.BranchesApart.{by_nearest, lies, lying}
 use Rattle.refinement.proofs.NearRows.{all_last, all_path}
 use Rattle.refinement.proofs.OpenElsewhere.{IsKnown, named_alike}
@@ -38,19 +23,24 @@ in_second : {X : Type 0} (x : X) (xs ys : List X) → StandsIn x ys → StandsIn
 in_second x [] ys there = there
 in_second x (y ∷ xs) ys there = inr (in_second x xs ys there)
 
-any_split : {X : Type 0} (p : X → Bool) (xs ys : List X) → list_any p (xs ++ ys) ≡ true → list_any p xs ≡ false → list_any p ys ≡ true
+any_split : {X : Type 0} (p : X → Bool) (xs ys : List X) → list_any p (xs ++ ys) ≡ true → list_any p xs ≡ false
+    → list_any p ys ≡ true
 any_split p [] ys some none = some
 any_split p (x ∷ xs) ys some none = at (p x) some none (any_split p xs ys)
   where
-    at : (b : Bool) → (b || list_any p (xs ++ ys)) ≡ true → (b || list_any p xs) ≡ false → (list_any p (xs ++ ys) ≡ true → list_any p xs ≡ false → list_any p ys ≡ true) → list_any p ys ≡ true
+    at : (b : Bool) → (b || list_any p (xs ++ ys)) ≡ true → (b || list_any p xs) ≡ false
+        → (list_any p (xs ++ ys) ≡ true → list_any p xs ≡ false → list_any p ys ≡ true) → list_any p ys ≡ true
     at true some none later = absurd (false≢true (sym none))
     at false some none later = later some none
 
-path_there : (u : ℕ) (A : List Unit) (f : Forest Unit) → has (has_id u) f ≡ true → StandsIn (A ++ path (has_id u) f) (paths_below A f)
+path_there : (u : ℕ) (A : List Unit) (f : Forest Unit) → has (has_id u) f ≡ true
+    → StandsIn (A ++ path (has_id u) f) (paths_below A f)
 path_there u A Empty there = absurd (false≢true there)
-path_there u A (Node a c o) there = at (has_id u a) (has (has_id u) c) refl refl there (path_there u (A ++ a ∷ []) c) (path_there u A o)
+path_there u A (Node a c o) there =
+    at (has_id u a) (has (has_id u) c) refl refl there (path_there u (A ++ a ∷ []) c) (path_there u A o)
   where
-    at : (here below : Bool) → has_id u a ≡ here → has (has_id u) c ≡ below → (has_id u a || list_any (has_id u) (nodes c ++ nodes o)) ≡ true
+    at : (here below : Bool) → has_id u a ≡ here → has (has_id u) c ≡ below
+        → (has_id u a || list_any (has_id u) (nodes c ++ nodes o)) ≡ true
         → (has (has_id u) c ≡ true → StandsIn ((A ++ a ∷ []) ++ path (has_id u) c) (paths_below (A ++ a ∷ []) c))
         → (has (has_id u) o ≡ true → StandsIn (A ++ path (has_id u) o) (paths_below A o))
         → StandsIn (A ++ cond here (a ∷ []) (cond below (a ∷ path (has_id u) c) (path (has_id u) o))) (paths_below A (Node a c o))
@@ -59,24 +49,28 @@ path_there u A (Node a c o) there = at (has_id u a) (has (has_id u) c) refl refl
         inr (in_first (A ++ a ∷ path (has_id u) c) (paths_below (A ++ a ∷ []) c) (paths_below A o)
         (subst (λ way. StandsIn way (paths_below (A ++ a ∷ []) c)) (append_assoc A (a ∷ []) (path (has_id u) c)) (in_c under)))
     at false false is under some in_c in_o =
-        let left : list_any (has_id u) (nodes c ++ nodes o) ≡ true = ap (λ b. b || list_any (has_id u) (nodes c ++ nodes o)) (sym is) ∙ some in
+        let left : list_any (has_id u) (nodes c ++ nodes o) ≡ true =
+        ap (λ b. b || list_any (has_id u) (nodes c ++ nodes o)) (sym is) ∙ some in
         inr (in_second (A ++ path (has_id u) o) (paths_below (A ++ a ∷ []) c) (paths_below A o) (in_o (any_split (has_id u) (nodes c) (nodes o) left under)))
 
 -- what holds of all that pass holds of one of them
-one_of_all : {X : Type 0} (q p : X → Bool) (x : X) (xs : List X) → StandsIn x xs → q x ≡ true → list_all p (filter q xs) ≡ true → p x ≡ true
+one_of_all : {X : Type 0} (q p : X → Bool) (x : X) (xs : List X) → StandsIn x xs → q x ≡ true
+    → list_all p (filter q xs) ≡ true → p x ≡ true
 one_of_all q p x [] there passes all = absurd there
 one_of_all q p x (y ∷ xs) (inl is) passes all =
     let here : q y ≡ true = ap q (sym is) ∙ passes in
     ap p is ∙ (and_parts (p y) (list_all p (filter q xs)) (ap (λ b. list_all p (cond b (y ∷ filter q xs) (filter q xs))) (sym here) ∙ all)).0
 one_of_all q p x (y ∷ xs) (inr later) passes all = at (q y) all (one_of_all q p x xs later passes)
   where
-    at : (b : Bool) → list_all p (cond b (y ∷ filter q xs) (filter q xs)) ≡ true → (list_all p (filter q xs) ≡ true → p x ≡ true) → p x ≡ true
+    at : (b : Bool) → list_all p (cond b (y ∷ filter q xs) (filter q xs)) ≡ true
+        → (list_all p (filter q xs) ≡ true → p x ≡ true) → p x ≡ true
     at true all rest = rest (and_parts (p y) (list_all p (filter q xs)) all).1
     at false all rest = rest all
 
 -- ---- by the unit, and by its marks
 
-closed_by : (f : Forest Unit) (u : ℕ) (box : BoxKey) (permitted : ℕ → Bool) (day : ℤ) → has_unit f u ≡ true → lies box (path (has_id u) f) ≡ true → is_withheld_from permitted day (path (has_id u) f) ≡ true
+closed_by : (f : Forest Unit) (u : ℕ) (box : BoxKey) (permitted : ℕ → Bool) (day : ℤ) → has_unit f u ≡ true
+    → lies box (path (has_id u) f) ≡ true → is_withheld_from permitted day (path (has_id u) f) ≡ true
     → is_open f box permitted day ≡ true → ⊥
 unfolding is_open
 closed_by f u box permitted day there inside withheld was =
@@ -85,7 +79,9 @@ closed_by f u box permitted day there inside withheld was =
     false≢true (ap not (sym withheld) ∙ one_of_all (lies box) seen (path (has_id u) f) (paths_below [] f) (path_there u [] f there) inside all)
 
 module _ (permitted : ℕ → Bool) (day : ℤ) (way : List Unit) (marks : List Mark) (are : AreMarks way marks) where
-  any_mark : (q r : Mark → Bool) (p : Unit → Bool) → ((mark : Mark) → q (with_permit permitted mark) ≡ r (without_number mark)) → ((unit : Unit) → r (mark_of unit) ≡ p unit)
+  any_mark : (q r : Mark → Bool) (p : Unit → Bool)
+      → ((mark : Mark) → q (with_permit permitted mark) ≡ r (without_number mark))
+      → ((unit : Unit) → r (mark_of unit) ≡ p unit)
       → list_any q (map (with_permit permitted) marks) ≡ list_any p way
   any_mark q r p read told =
       list_any-map q (with_permit permitted) marks
@@ -95,7 +91,8 @@ module _ (permitted : ℕ → Bool) (day : ℤ) (way : List Unit) (marks : List 
       ∙ list_any-map r mark_of way
       ∙ any_agree (λ unit. r (mark_of unit)) p way told
 
-  told : (until : Option ℤ) → (let mark : Mark = record { id = 0; lft = 0; rgt = 0; draft = false; until = until; boxed = false; permit = false } in is_mark_closed day mark) ≡ is_later day until
+  told : (until : Option ℤ)
+      → (let mark : Mark = record { id = 0; lft = 0; rgt = 0; draft = false; until = until; boxed = false; permit = false } in is_mark_closed day mark) ≡ is_later day until
   told None = refl
   told (Some until) = refl
 
@@ -106,11 +103,13 @@ module _ (permitted : ℕ → Bool) (day : ℤ) (way : List Unit) (marks : List 
       (any_mark (λ mark. mark.permit) (λ mark. permitted mark.id) (λ unit. permitted unit.id) (λ mark. refl) (λ unit. refl)))
 
 -- the units of marks
-pub ids_of_marks : (way : List Unit) (marks : List Mark) → AreMarks way marks → map (λ (mark : Mark). mark.id) marks ≡ map (λ (unit : Unit). unit.id) way
+pub ids_of_marks : (way : List Unit) (marks : List Mark) → AreMarks way marks
+    → map (λ (mark : Mark). mark.id) marks ≡ map (λ (unit : Unit). unit.id) way
 ids_of_marks way marks are =
     sym (read marks) ∙ ap (map (λ (mark : Mark). mark.id)) are ∙ told_of way
   where
-    read : (marks : List Mark) → map (λ (mark : Mark). mark.id) (map without_number marks) ≡ map (λ (mark : Mark). mark.id) marks
+    read : (marks : List Mark)
+        → map (λ (mark : Mark). mark.id) (map without_number marks) ≡ map (λ (mark : Mark). mark.id) marks
     read [] = refl
     read (mark ∷ marks) = ap (λ l. mark.id ∷ l) (read marks)
 
@@ -144,7 +143,8 @@ module _ (s : State) (judged : CanBeJudged s) (u : ℕ) (it : HousedUnit) (read 
   abbrev both : (is_one_of loan.container it.containers.items ≡ true) × (withholds s.day false (map (with_permit permitted) it.path.items) ≡ true)
   both = and_parts (is_one_of loan.container it.containers.items) (withholds s.day false (map (with_permit permitted) it.path.items)) withheld
 
-  never_open : (o : Option BoxKey) → nth cs loan.container ≡ o → some_and (λ box. is_open f box permitted s.day) o ≡ true → ⊥
+  never_open : (o : Option BoxKey) → nth cs loan.container ≡ o
+      → some_and (λ box. is_open f box permitted s.day) o ≡ true → ⊥
   never_open None is was = false≢true was
   never_open (Some box) is was =
       let units = nearest u f in

@@ -20,8 +20,7 @@ ghost use Rattle.refinement.specs.Openness.{AreClean, AreTheirs, TellsClean, all
 use catalogue_store::{Attached, Places, attached_rows};
 use desk_store::{Permit, permits};
 use isad_core::Day;
-use office_tables::value::NO_NUMBER;
-use office_tables::{StoreFault, Tables};
+use office_tables::{Number, StoreFault, Tables};
 use sqlite::Alter;
 use std::alloc::{AllocError, Global};
 use tree_core::{Mark, Span, clean_contents, clean_path};
@@ -180,7 +179,7 @@ fn judge_rows<P: Places, S: Alter>(
 pub(crate) fn judge<P: Places, S: Alter>(
     alloc: Global,
     tables: &mut Tables<P, S>,
-    container: u64,
+    container: Number,
     ticket: u64,
     today: Day,
     clean: Vec<Span>,
@@ -191,12 +190,6 @@ pub(crate) fn judge<P: Places, S: Alter>(
     ensures disk { HasCleanDisk (state S.Store tables.new)
         → IfErr result (BlamesDisk (state S.Store tables.old) (state S.Store tables.new)) }
 {
-    if container >= NO_NUMBER {
-        return Ok(Judgement {
-            is_open: false,
-            clean,
-        });
-    }
     let rows = attached_rows(alloc, tables, container)?;
     if rows.is_empty() {
         return Ok(Judgement {
@@ -210,7 +203,7 @@ pub(crate) fn judge<P: Places, S: Alter>(
 }
 
 /// Whether a container is open on this day to the reader with this ticket. A ticket that was not given stands for the
-/// public.
+/// public. A number that no container can have is open to nobody.
 pub fn is_open_to<P: Places, S: Alter>(
     alloc: Global,
     tables: &mut Tables<P, S>,
@@ -223,6 +216,9 @@ pub fn is_open_to<P: Places, S: Alter>(
     ensures disk { HasCleanDisk (state S.Store tables.new)
         → IfErr result (BlamesDisk (state S.Store tables.old) (state S.Store tables.new)) }
 {
-    let found = judge(alloc, tables, container, ticket, today, Vec::new(alloc))?;
+    let Some(number) = Number::of(container) else {
+        return Ok(false);
+    };
+    let found = judge(alloc, tables, number, ticket, today, Vec::new(alloc))?;
     Ok(found.is_open)
 }

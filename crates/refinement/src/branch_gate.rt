@@ -4,7 +4,6 @@
 
 ghost use Rattle.std.specs.Prelude.{◌≡◌, ◌<◌, ⊤, IfOk, Some, filter, length};
 ghost use Rattle.std.specs.List.Sorted.{IsNonDecreasing};
-ghost use Rattle.isad_core.specs.Limits.{IsNumber};
 ghost use Rattle.desk_store.specs.Holdings.{issued_of};
 ghost use Rattle.state_encoding.specs.OfficeRows.{tables as tables_of};
 ghost use Rattle.office_tables.specs.Calls.{Answers};
@@ -20,7 +19,7 @@ use catalogue_store::Places;
 use desk_store::{ContainerOrder, issued};
 use isad_core::Day;
 use office_core::{Done, Refusal};
-use office_tables::{StoreFault, Tables};
+use office_tables::{Number, StoreFault, Tables};
 use sqlite::Alter;
 use std::alloc::{AllocError, Global};
 
@@ -33,10 +32,9 @@ const FEW: usize = 8;
 fn containers_near<P: Places, S: Alter>(
     alloc: Global,
     tables: &mut Tables<P, S>,
-    unit: u64,
+    unit: Number,
     housed: &HousedUnit,
-) -> Result<Vec<u64>, StoreFault>
-    requires small { IsNumber unit }
+) -> Result<Vec<Number>, StoreFault>
     ensures answers { Answers S.Store (RepresentsWhole P.represents P.version) CanBeJudged tables.old tables.new result
         (λ _. ⊤) (λ _ s found. IsHoused unit s housed.now → AreNear unit s found.items) }
 {
@@ -50,7 +48,7 @@ fn containers_near<P: Places, S: Alter>(
 fn loans_of(
     alloc: Global,
     loans: &[ContainerOrder],
-    ascending: &[u64],
+    ascending: &[Number],
 ) -> Result<Vec<ContainerOrder>, AllocError>
     requires rise { IsNonDecreasing ascending.now }
     ensures { IfOk result (λ v. v.items ≡ filter (λ loan. is_one_of loan.container ascending.now) loans.now) }
@@ -58,7 +56,7 @@ fn loans_of(
     let mut found = Vec::new(alloc);
     for loan in loans {
         let loan = *loan;
-        if is_among(ascending, loan.container.get()) {
+        if is_among(ascending, loan.container) {
             found.push(loan)?;
         }
     }
@@ -70,11 +68,10 @@ fn loans_of(
 fn loans_in_branch<P: Places, S: Alter>(
     alloc: Global,
     tables: &mut Tables<P, S>,
-    unit: u64,
+    unit: Number,
     housed: &HousedUnit,
     loans: &[ContainerOrder],
 ) -> Result<Vec<ContainerOrder>, StoreFault>
-    requires small { IsNumber unit }
     ensures answers { Answers S.Store (RepresentsWhole P.represents P.version) CanBeJudged tables.old tables.new result
         (λ _. ⊤) (λ _ s found. IsHoused unit s housed.now → AreAsked unit s loans.now found.items) }
 {
@@ -88,11 +85,10 @@ fn loans_in_branch<P: Places, S: Alter>(
 fn loans_to_ask<P: Places, S: Alter>(
     alloc: Global,
     tables: &mut Tables<P, S>,
-    unit: u64,
+    unit: Number,
     housed: &HousedUnit,
     loans: Vec<ContainerOrder>,
 ) -> Result<Vec<ContainerOrder>, StoreFault>
-    requires small { IsNumber unit }
     ensures answers { Answers S.Store (RepresentsWhole P.represents P.version) CanBeJudged tables.old tables.new result
         (λ _. ⊤) (λ _ s found. IsHoused unit s housed.now → AreAsked unit s loans.items found.items) }
 {
@@ -107,9 +103,8 @@ fn loans_to_ask<P: Places, S: Alter>(
 pub fn loans_near<P: Places, S: Alter>(
     alloc: Global,
     tables: &mut Tables<P, S>,
-    unit: u64,
+    unit: Number,
 ) -> Result<Vec<ContainerOrder>, StoreFault>
-    requires small { IsNumber unit }
     ensures answers { Answers S.Store (RepresentsWhole P.represents P.version) CanBeJudged tables.old tables.new result
         (λ _. ⊤) (λ _ s found. AreAsked unit s (issued_of (tables_of P.version s).desk) found.items) }
 {
@@ -141,11 +136,10 @@ pub fn pass_of<P: Places, S: Alter>(
 fn lower_loans<P: Places, S: Alter>(
     alloc: Global,
     tables: &mut Tables<P, S>,
-    unit: u64,
+    unit: Number,
     housed: &HousedUnit,
     loans: &[ContainerOrder],
 ) -> Result<Vec<ContainerOrder>, StoreFault>
-    requires small { IsNumber unit }
     requires rise { IsNonDecreasing housed.now.containers.items }
     ensures answers { Answers S.Store (RepresentsWhole P.represents P.version) CanBeJudged tables.old tables.new result
         (λ _. ⊤)
@@ -163,12 +157,11 @@ fn lowest_closed<P: Places, S: Alter>(
     alloc: Global,
     tables: &mut Tables<P, S>,
     today: Day,
-    unit: u64,
+    unit: Number,
     housed: &HousedUnit,
     loans: &[ContainerOrder],
     place: usize,
 ) -> Result<u64, StoreFault>
-    requires small { IsNumber unit }
     requires rise { IsNonDecreasing housed.now.containers.items }
     requires there { place < length loans.now }
     ensures answers { Answers S.Store (RepresentsWhole P.represents P.version) CanBeJudged tables.old tables.new result
@@ -190,10 +183,9 @@ pub fn pass_near<P: Places, S: Alter>(
     alloc: Global,
     tables: &mut Tables<P, S>,
     today: Day,
-    unit: u64,
+    unit: Number,
     done: Done,
 ) -> Result<Result<Done, Refusal>, StoreFault>
-    requires small { IsNumber unit }
     ensures answers { Answers S.Store (RepresentsWhole P.represents P.version) CanBeJudged tables.old tables.new result
         (λ _. ⊤) (λ _ s reply. CanBeJudged s → today ≡ s.day → OthersAreOpen unit s → reply ≡ gate_reply s done) }
 {

@@ -12,8 +12,7 @@ use crate::housed_units::{HousedUnit, is_among};
 use catalogue_statements::containers::housed_in;
 use catalogue_store::Places;
 use desk_store::ContainerOrder;
-use office_tables::value::NO_NUMBER;
-use office_tables::{StoreFault, Tables};
+use office_tables::{Number, StoreFault, Tables};
 use sqlite::Alter;
 use std::alloc::{AllocError, Global};
 
@@ -21,22 +20,18 @@ use std::alloc::{AllocError, Global};
 /// To ask whether a unit lies in the branch takes two statements or more.
 const FEW: usize = 8;
 
-/// Whether one of these units is the other or lies below it. A number that no unit can have counts as one.
+/// Whether one of these units is the other or lies below it.
 fn is_some_below<P: Places, S: Alter>(
     alloc: Global,
     tables: &mut Tables<P, S>,
-    units: &[u64],
-    other: u64,
+    units: &[Number],
+    other: Number,
 ) -> Result<bool, StoreFault>
     ensures answers { Answers S.Store (RepresentsWhole P.represents P.version) CanBeJudged tables.old tables.new result
-        (λ _. ⊤) (λ _ s found. found ≡ false → list_any (is_on_path other s) units.now ≡ false) }
+        (λ _. ⊤) (λ _ s found. found ≡ list_any (is_on_path other s) units.now) }
 {
     for unit in units {
-        let unit = *unit;
-        if unit >= NO_NUMBER {
-            return Ok(true);
-        }
-        if P::is_below(alloc, tables, unit, other)? {
+        if P::is_below(alloc, tables, *unit, other)? {
             return Ok(true);
         }
     }
@@ -48,18 +43,15 @@ fn is_some_below<P: Places, S: Alter>(
 fn lies_apart<P: Places, S: Alter>(
     alloc: Global,
     tables: &mut Tables<P, S>,
-    unit: u64,
+    unit: Number,
     housed: &HousedUnit,
-    container: u64,
+    container: Number,
 ) -> Result<Option<bool>, StoreFault>
     requires rise { IsNonDecreasing housed.now.containers.items }
     ensures answers { Answers S.Store (RepresentsWhole P.represents P.version) CanBeJudged tables.old tables.new result
         (λ _. ⊤) (λ _ s found. CanBeJudged s → IsHoused unit s housed.now → found ≡ Some true
         → is_named_near unit s container ≡ false) }
 {
-    if container >= NO_NUMBER {
-        return Ok(None);
-    }
     if is_among(&housed.containers, container) {
         return Ok(Some(false));
     }
@@ -77,10 +69,10 @@ fn lies_apart<P: Places, S: Alter>(
 pub(crate) fn containers_apart<P: Places, S: Alter>(
     alloc: Global,
     tables: &mut Tables<P, S>,
-    unit: u64,
+    unit: Number,
     housed: &HousedUnit,
     loans: &[ContainerOrder],
-) -> Result<Option<Vec<u64>>, StoreFault>
+) -> Result<Option<Vec<Number>>, StoreFault>
     requires rise { IsNonDecreasing housed.now.containers.items }
     ensures answers { Answers S.Store (RepresentsWhole P.represents P.version) CanBeJudged tables.old tables.new result
         (λ _. ⊤) (λ _ s found. CanBeJudged s → IsHoused unit s housed.now
@@ -91,7 +83,7 @@ pub(crate) fn containers_apart<P: Places, S: Alter>(
     }
     let mut apart = Vec::new(alloc);
     for loan in loans {
-        let container = loan.container.get();
+        let container = loan.container;
         let Some(is_apart) = lies_apart(alloc, tables, unit, housed, container)? else {
             return Ok(None);
         };
@@ -103,7 +95,7 @@ pub(crate) fn containers_apart<P: Places, S: Alter>(
 }
 
 /// Whether a container is among these.
-fn is_listed(containers: &[u64], container: u64) -> bool
+fn is_listed(containers: &[Number], container: Number) -> bool
     ensures { result ≡ is_one_of container containers.now }
 {
     containers.contains(&container)
@@ -113,14 +105,14 @@ fn is_listed(containers: &[u64], container: u64) -> bool
 pub(crate) fn loans_without(
     alloc: Global,
     loans: &[ContainerOrder],
-    containers: &[u64],
+    containers: &[Number],
 ) -> Result<Vec<ContainerOrder>, AllocError>
     ensures { IfOk result (λ v. v.items ≡ filter (λ loan. not (is_one_of loan.container containers.now)) loans.now) }
 {
     let mut found = Vec::new(alloc);
     for loan in loans {
         let loan = *loan;
-        if !is_listed(containers, loan.container.get()) {
+        if !is_listed(containers, loan.container) {
             found.push(loan)?;
         }
     }

@@ -34,10 +34,10 @@ pub(crate) fn first_closed<P: Places, S: Alter>(
     let mut clean = Vec::new(alloc);
     for loan in loans {
         let loan = *loan;
-        let container = loan.container.get();
-        let found = judge(alloc, tables, container, loan.ticket.get(), today, clean)?;
+        let ticket = loan.ticket.get();
+        let found = judge(alloc, tables, loan.container, ticket, today, clean)?;
         if !found.is_open {
-            return Ok(Some(container));
+            return Ok(Some(loan.container.get()));
         }
         clean = found.clean;
     }

@@ -37,7 +37,8 @@ ascii_date d number has =
     let e : IsAscii rest = two (d.year % 100) (45 ∷ month_on) (omega arith) (dash month_on b) in
     two (d.year / 100) rest (omega (arith, last)) e
 
-some_of : {X Y : Type 0} (f : X → Option Y) (o : Option X) (y : Y) → option_and_then f o ≡ Some y → (x : X) × (f x ≡ Some y)
+some_of : {X Y : Type 0} (f : X → Option Y) (o : Option X) (y : Y) → option_and_then f o ≡ Some y
+    → (x : X) × (f x ≡ Some y)
 some_of f None y e = absurd (cc)
 some_of f (Some x) y e = (x, e)
 
@@ -47,7 +48,8 @@ dated y m d number e = at (is_civil y m d && is_day_number count) refl e
     count : ℤ
     count = days_from_civil (pos y) m d
 
-    at : (b : Bool) → (is_civil y m d && is_day_number (days_from_civil (pos y) m d)) ≡ b → cond b (Some (days_from_civil (pos y) m d)) None ≡ Some number → is_day_number number ≡ true
+    at : (b : Bool) → (is_civil y m d && is_day_number (days_from_civil (pos y) m d)) ≡ b
+        → cond b (Some (days_from_civil (pos y) m d)) None ≡ Some number → is_day_number number ≡ true
     at true is e = let same : days_from_civil (pos y) m d ≡ number = cc in ap is_day_number (sym same) ∙ (and_parts (is_civil y m d) (is_day_number (days_from_civil (pos y) m d)) is).1
     at false is e = absurd (cc)
 
@@ -69,6 +71,7 @@ day_is_utf8 number reads =
     IsUtf8-from_ascii (date_text (date_of number)) (ascii_date (date_of number) number (date_of-HasNumber number (is_day_number-so number (read_date (date_of number) number reads))))
 
 -- a test that only what is no text fails
-pub is_ok : {X E : Type 0} (P : X → Type 0) (Q : Type 0) (R : E → Type 0) (r : Result X E) → MatchResult r P (λ e. ¬ Q × R e) → Q → IsOk r
+pub is_ok : {X E : Type 0} (P : X → Type 0) (Q : Type 0) (R : E → Type 0) (r : Result X E)
+    → MatchResult r P (λ e. ¬ Q × R e) → Q → IsOk r
 is_ok P Q R (Ok x) m q = refl
 is_ok P Q R (Err e) m q = absurd (m.0 q)

@@ -1,3 +1,4 @@
+pub mod Common
 pub mod FullRows
 pub mod KeptRows
 pub mod KeptPlaces

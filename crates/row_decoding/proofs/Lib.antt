@@ -1,3 +1,4 @@
+pub mod Common
 pub mod TableReads
 pub mod TableTexts
 pub mod ReadCalls

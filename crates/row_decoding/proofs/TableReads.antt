@@ -1,6 +1,5 @@
 -- What is gathered of the rows of a table, for any query of ours that shows all of them.
 use Rattle.std.proofs.Common.{◌≡◌, ◌⊎◌, IsTrue, ℕ, List, [], ◌∷◌, map, Bool, true, not, ◌||◌, Option, Result, Ok, Err, IfOk, IfErr, is_none, filter_map, Ordering, refl, sym, ap, ap₂, subst, ◌∙◌}
-use Rattle.std.specs.List.{cons_option}
 use Rattle.std.specs.List.Sorted.{IsSorted, IsPermutation}
 use Rattle.std.proofs.lemmas.Bool.{both_ways}
 use Rattle.std.proofs.lemmas.List.Sorted.{list_any-IsPermutation}
@@ -9,7 +8,6 @@ use Rattle.sqlite.specs.declared.error.Error.{Error}
 use Rattle.sqlite.specs.Held.{Held, state}
 use Rattle.sqlite.specs.Given.{IsPlain}
 use Rattle.sqlite.specs.Listing.{understood}
-use Rattle.sqlite.specs.Order.{Row}
 use Rattle.sqlite.specs.Query.{inner, end, key_cmp}
 use Rattle.sqlite.specs.Table.{Table}
 use Rattle.sqlite.specs.Term.{Term, eval_all}
@@ -20,7 +18,6 @@ use Rattle.sqlite_value.specs.declared.keys.Key.{Key}
 use Rattle.office_tables.specs.Versions.{Version}
 use Rattle.office_tables.specs.ChangeStatement.{IsOutside}
 use Rattle.office_tables.specs.Query.{IsQuery, Reads, FoundInside, Gathers, StopsShort}
-use Rattle.office_tables.specs.Cells.{has_unread}
 use Rattle.office_tables.specs.Faults.{fault_of, IsUnlimited, HasCause, FaultsHaveCause}
 use Rattle.office_tables.specs.StatementMeaning.{Means}
 use Rattle.office_tables.specs.Schema.{schema}
@@ -33,8 +30,8 @@ use Rattle.office_tables.proofs.Rows.{kept_all}
 use Rattle.office_tables.proofs.StatementEnds.{answered, caused}
 use Rattle.office_tables.proofs.statements.SelectOf.{select_rows}
 use Rattle.row_decoding.specs.Examinations.{Examines}
-use Rattle.row_decoding.specs.Readings.{AreGathered, IsTable}
 use Rattle.row_decoding.specs.declared.decoded_rows.Gathered.{Gathered}
+use Rattle.row_decoding.proofs.Common.{AreGathered, IsTable, Row, cons_option, has_unread}
 
 pub same_rows : {A : Type 0} (xs : List A) → xs ≡ map (λ x. x) xs
 same_rows [] = refl
@@ -61,18 +58,24 @@ module _ (table : Table) (terms : List Term) (order : List (Term × Key)) (names
       (got.0, subst (λ l. IsPermutation l got.0) (kept_all there) got.1.0, got.1.1, got.2)
 
   -- the connection was open
-  pub was_open : (old new : State) → old.now.schema ≡ schema v → (rows : List Row) → Shown sql [] old new rows → IsTrue old.is_open
-  was_open old new has rows shown = (keeps sql [] old new rows (subst (λ s. IsPlain (understood s sql)) (sym has) means.plain) shown).0.was_open
+  pub was_open : (old new : State) → old.now.schema ≡ schema v → (rows : List Row) → Shown sql [] old new rows
+      → IsTrue old.is_open
+  was_open old new has rows shown =
+      (keeps sql [] old new rows (subst (λ s. IsPlain (understood s sql)) (sym has) means.plain) shown).0.was_open
 
   module _ (typed : accepts_program (schema v) [] (plain_query (inner table.tree end) [] terms order) [] ≡ true) where
-    cause : (old new : State) → old.now.schema ≡ schema v → IsUnlimited old → (e : Error) → FailsToQuery sql [] old new e → HasCause old new (fault_of e)
+    cause : (old new : State) → old.now.schema ≡ schema v → IsUnlimited old → (e : Error)
+        → FailsToQuery sql [] old new e → HasCause old new (fault_of e)
     cause old new has free e h =
         read_cause sql [] old new (schema v) has _ _ means.is means.plain means.whole means.unlisted (λ db e r. none_refuse r (λ t. both_ways _ t typed) (sums_nothing _)) free e h
 
-    pub is_excused : {X Y : Type 0} (old new : State) (r : Result X StoreFault) → (HasCleanDisk new → IsOutside old r ⊎ ((old.now.schema ≡ schema v) × Y × IfErr r (StopsShort sql [] old new))) → FaultsHaveCause old new r
+    pub is_excused : {X Y : Type 0} (old new : State) (r : Result X StoreFault)
+        → (HasCleanDisk new → IsOutside old r ⊎ ((old.now.schema ≡ schema v) × Y × IfErr r (StopsShort sql [] old new)))
+        → FaultsHaveCause old new r
     is_excused old new r ran clean free = caused old new r (ran clean) (λ it. why r it.0 it.2)
       where
-        why : {X : Type 0} (r : Result X StoreFault) → old.now.schema ≡ schema v → IfErr r (StopsShort sql [] old new) → IfErr r (HasCause old new)
+        why : {X : Type 0} (r : Result X StoreFault) → old.now.schema ≡ schema v → IfErr r (StopsShort sql [] old new)
+            → IfErr r (HasCause old new)
         why (Ok x) has stops = tt
         why (Err e) has stops = stop_cause sql old new e (cause old new has free) stops
 
@@ -90,7 +93,8 @@ module _ (table : Table) (terms : List Term) (order : List (Term × Key)) (names
       abbrev AreKept : List Row → Gathered X → Type 0
       AreKept rows kept = AreGathered told says rows kept.rows.items kept.are_read
 
-      read_of : (old new : State) → old.now.schema ≡ schema v → (all : Gathered X) → Gathers AreKept sql [] old new all → IsTable comes reads table told old.now.trees all
+      read_of : (old new : State) → old.now.schema ≡ schema v → (all : Gathered X) → Gathers AreKept sql [] old new all
+          → IsTable comes reads table told old.now.trees all
       read_of old new has all it =
           let got = in_table comes compares old new has it.rows it.shown in
           record {
@@ -102,7 +106,8 @@ module _ (table : Table) (terms : List Term) (order : List (Term × Key)) (names
           }
 
       -- what the call promises that makes such a query
-      pub examines : {S : Type 0} {g : store.Ghosts S} {before after : Held S} {r : Result (Gathered X) StoreFault} → Reads (state g before) (state g after) r
+      pub examines : {S : Type 0} {g : store.Ghosts S} {before after : Held S} {r : Result (Gathered X) StoreFault}
+          → Reads (state g before) (state g after) r
           → (HasCleanDisk (state g after) → FoundInside v (state g before) (Gathers AreKept sql [] (state g before) (state g after)) (StopsShort sql [] (state g before) (state g after)) r)
           → Examines g before after r (IsTable comes reads table told)
       examines {g = g} {before = before} {after = after} {r = r} read ran = record {
@@ -111,6 +116,8 @@ module _ (table : Table) (terms : List Term) (order : List (Term × Key)) (names
         faults = is_excused (state g before) (state g after) r ran;
       }
         where
-          on_ok : (r : Result (Gathered X) StoreFault) → (state g before).now.schema ≡ schema v → IfOk r (Gathers AreKept sql [] (state g before) (state g after)) → IfOk r (IsTable comes reads table told (state g before).now.trees)
+          on_ok : (r : Result (Gathered X) StoreFault) → (state g before).now.schema ≡ schema v
+              → IfOk r (Gathers AreKept sql [] (state g before) (state g after))
+              → IfOk r (IsTable comes reads table told (state g before).now.trees)
           on_ok (Ok all) has it = read_of (state g before) (state g after) has all it
           on_ok (Err e) has it = tt

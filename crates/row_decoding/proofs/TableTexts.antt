@@ -42,7 +42,8 @@ permits_terms = col 1 1 ∷ col 1 2 ∷ col 1 3 ∷ []
 abbrev pub permits_names : List (List ℕ)
 permits_names = codes "ticket" ∷ codes "unit" ∷ codes "until" ∷ []
 
-pub permits_mean : (v : Version) → Means v permits_text 0 (Select (asking tables.permit [] permits_terms []) permits_names)
+pub permits_mean : (v : Version)
+    → Means v permits_text 0 (Select (asking tables.permit [] permits_terms []) permits_names)
 unfolding understood everything
 permits_mean v = record { is = refl; plain = (refl, refl); whole = (le_refl _, refl, refl); unlisted = refl }
 
@@ -57,7 +58,8 @@ orders_terms = col 1 0 ∷ col 1 2 ∷ col 1 3 ∷ col 1 4 ∷ col 1 5 ∷ []
 abbrev pub orders_names : List (List ℕ)
 orders_names = codes "id" ∷ codes "ticket" ∷ codes "container" ∷ codes "day" ∷ codes "state" ∷ []
 
-pub orders_mean : (v : Version) → Means v orders_text 0 (Select (asking tables.orders [] orders_terms by_first) orders_names)
+pub orders_mean : (v : Version)
+    → Means v orders_text 0 (Select (asking tables.orders [] orders_terms by_first) orders_names)
 unfolding understood everything
 orders_mean v = record { is = refl; plain = (refl, refl); whole = (le_refl _, refl, refl); unlisted = refl }
 
@@ -72,7 +74,8 @@ holdings_terms = col 1 0 ∷ col 1 3 ∷ col 1 2 ∷ []
 abbrev pub holdings_names : List (List ℕ)
 holdings_names = codes "container" ∷ codes "place" ∷ codes "held_by" ∷ []
 
-pub holdings_mean : (v : Version) → Means v holdings_text 0 (Select (asking tables.holding [] holdings_terms []) holdings_names)
+pub holdings_mean : (v : Version)
+    → Means v holdings_text 0 (Select (asking tables.holding [] holdings_terms []) holdings_names)
 unfolding understood everything
 holdings_mean v = record { is = refl; plain = (refl, refl); whole = (le_refl _, refl, refl); unlisted = refl }
 
@@ -102,7 +105,8 @@ run_lines_terms = col 1 1 ∷ col 1 2 ∷ col 1 3 ∷ col 1 4 ∷ []
 abbrev pub run_lines_names : List (List ℕ)
 run_lines_names = codes "run" ∷ codes "container" ∷ codes "order_no" ∷ codes "ticket" ∷ []
 
-pub run_lines_mean : (v : Version) → Means v run_lines_text 0 (Select (asking tables.run_line [] run_lines_terms []) run_lines_names)
+pub run_lines_mean : (v : Version)
+    → Means v run_lines_text 0 (Select (asking tables.run_line [] run_lines_terms []) run_lines_names)
 unfolding understood everything
 run_lines_mean v = record { is = refl; plain = (refl, refl); whole = (le_refl _, refl, refl); unlisted = refl }
 
@@ -117,7 +121,8 @@ unit_numbers_terms = col 1 0 ∷ []
 abbrev pub unit_numbers_names : List (List ℕ)
 unit_numbers_names = codes "id" ∷ []
 
-pub unit_numbers_mean : (v : Version) → Means v unit_numbers_text 0 (Select (asking tables.unit [] unit_numbers_terms []) unit_numbers_names)
+pub unit_numbers_mean : (v : Version)
+    → Means v unit_numbers_text 0 (Select (asking tables.unit [] unit_numbers_terms []) unit_numbers_names)
 unfolding understood everything
 unit_numbers_mean v = record { is = refl; plain = (refl, refl); whole = (le_refl _, refl, refl); unlisted = refl }
 
@@ -132,6 +137,7 @@ container_numbers_terms = col 1 0 ∷ []
 abbrev pub container_numbers_names : List (List ℕ)
 container_numbers_names = codes "id" ∷ []
 
-pub container_numbers_mean : (v : Version) → Means v container_numbers_text 0 (Select (asking tables.container [] container_numbers_terms []) container_numbers_names)
+pub container_numbers_mean : (v : Version)
+    → Means v container_numbers_text 0 (Select (asking tables.container [] container_numbers_terms []) container_numbers_names)
 unfolding understood everything
 container_numbers_mean v = record { is = refl; plain = (refl, refl); whole = (le_refl _, refl, refl); unlisted = refl }

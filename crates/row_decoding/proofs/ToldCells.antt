@@ -8,8 +8,8 @@ use Rattle.sqlite.specs.Values.{or_null}
 use Rattle.sqlite.specs.declared.types.Value.{Value}
 use Rattle.sqlite.specs.declared.types.Value.TheVariants.{Null, Int, Real, Text, Blob}
 use Rattle.isad_core.specs.Texts.{Bytes}
-use Rattle.office_tables.specs.Cells.{whole_in, number_in, text_in, flag_in, or_null_in}
 use Rattle.office_tables.specs.Flags.{flag}
+use Rattle.row_decoding.proofs.Common.{flag_in, number_in, or_null_in, text_in, whole_in}
 
 pub is_number : (v : Value) (n : ℕ) → number_in v ≡ Some n → v ≡ Int (pos n)
 is_number Null n h = absurd cc
@@ -40,7 +40,8 @@ is_text (Blob b) t h = absurd cc
 int_is : (n m : ℤ) → int_eq n m ≡ true → n ≡ m
 int_is n m h = grind (arith, Decides-int_eq n m)
 
-flag_if : (n : ℤ) (b nil one : Bool) → int_eq n (pos 0) ≡ nil → int_eq n (pos 1) ≡ one → cond nil (Some false) (cond one (Some true) None) ≡ Some b → Int n ≡ Int (flag b)
+flag_if : (n : ℤ) (b nil one : Bool) → int_eq n (pos 0) ≡ nil → int_eq n (pos 1) ≡ one
+    → cond nil (Some false) (cond one (Some true) None) ≡ Some b → Int n ≡ Int (flag b)
 flag_if n b true one is _ h = let same : false ≡ b = cc in ap Int (int_is n (pos 0) is) ∙ ap (λ c. Int (flag c)) same
 flag_if n b false true _ is h = let same : true ≡ b = cc in ap Int (int_is n (pos 1) is) ∙ ap (λ c. Int (flag c)) same
 flag_if n b false false _ _ h = absurd cc
@@ -54,7 +55,8 @@ is_flag (Blob c) b h = absurd cc
 
 -- or null
 module _ {X : Type 0} (says : Value → Option X) (whole : X → ℤ) (is : (v : Value) (x : X) → says v ≡ Some x → v ≡ Int (whole x)) where
-  some_is : (v : Value) (s : Option X) (o : Option X) → says v ≡ s → option_map Some s ≡ Some o → v ≡ or_null Int (option_map whole o)
+  some_is : (v : Value) (s : Option X) (o : Option X) → says v ≡ s → option_map Some s ≡ Some o
+      → v ≡ or_null Int (option_map whole o)
   some_is v None o said h = absurd cc
   some_is v (Some x) o said h = let same : Some x ≡ o = cc in is v x said ∙ ap (λ (p : Option X). or_null Int (option_map whole p)) same
 

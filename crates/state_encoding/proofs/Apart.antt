@@ -1,17 +1,8 @@
 -- Rows of units that are all different, by a number of the unit and one of their own.
 use Rattle.std.proofs.Common.{◌≡◌, ℕ, Bool, false, not, ◌&&◌, List, [], ◌∷◌, ◌++◌, refl, sym, ap, ◌∙◌, subst, nat_eq, inl, inr, map}
-use Rattle.std.specs.Prelude.{filter}
-use Rattle.std.specs.List.{IsDistinct, AllByRecursion, flat_map}
-use Rattle.std.proofs.lemmas.Bool.{and_left, and_right, false≢true, not-true}
-use Rattle.std.proofs.lemmas.List.Concat.{flat_map-cons}
-use Rattle.isad_core.specs.declared.values.BoxKey.{BoxKey}
-use Rattle.isad_core.specs.Boxes.{distinct, is_same as is_same_box}
-use Rattle.tree_core.proofs.Lists.{In, In-append, In-map, head_apart, any_from_In}
-use Rattle.catalogue_core.proofs.EachOf.{all_append}
-use Rattle.catalogue_core.specs.Units.{Unit}
-use Rattle.state_encoding.specs.OfficeRows.{number_of}
-use Rattle.office_core.proofs.Words.{other_number}
-use Rattle.catalogue_core.proofs.Imported.{distinct_filter, distinct_again}
+use Rattle.std.specs.List.{IsDistinct}
+use Rattle.isad_core.specs.Boxes.{is_same as is_same_box}
+use Rattle.state_encoding.proofs.Common.{AllByRecursion, BoxKey, In, In-append, In-map, Unit, all_append, and_left, and_right, any_from_In, distinct, distinct_again, distinct_filter, false≢true, filter, flat_map, flat_map-cons, head_apart, not-true, number_of, other_number}
 use Rattle.state_encoding.proofs.RowsByNumber.{each_in, in_each, in_filter}
 
 -- ---- lists of lists
@@ -29,7 +20,8 @@ in_flat_map rows (u ∷ us) r i = elim (In-append (rows u) (flat_map rows us) r 
   | inr b ↦ let o = in_flat_map rows us r b in record { unit = o.unit; there = inr o.there; own = o.own }
 ]
 
-distinct_beside : {R : Type 0} (e : R → R → Bool) (xs ys : List R) → IsDistinct e xs → IsDistinct e ys → ((x y : R) → In x xs → In y ys → e x y ≡ false) → IsDistinct e (xs ++ ys)
+distinct_beside : {R : Type 0} (e : R → R → Bool) (xs ys : List R) → IsDistinct e xs → IsDistinct e ys
+    → ((x y : R) → In x xs → In y ys → e x y ≡ false) → IsDistinct e (xs ++ ys)
 unfolding IsDistinct
 distinct_beside e [] ys d f h = f
 distinct_beside e (x ∷ xs) ys d f h =
@@ -41,17 +33,21 @@ module _ {R : Type 0} (first second : R → ℕ) (rows : Unit → List R) (own :
   abbrev same : R → R → Bool
   same a b = nat_eq (first a) (first b) && nat_eq (second a) (second b)
 
-  one_apart : (rs : List R) → IsDistinct nat_eq (map second rs) → IsDistinct (λ a b. nat_eq (first a) (first b) && nat_eq (second a) (second b)) rs
+  one_apart : (rs : List R) → IsDistinct nat_eq (map second rs)
+      → IsDistinct (λ a b. nat_eq (first a) (first b) && nat_eq (second a) (second b)) rs
   unfolding IsDistinct
   one_apart [] d = tt
   one_apart (r ∷ rs) d = (others rs d.0, one_apart rs d.1)
     where
-      others : (xs : List R) → AllByRecursion (λ n. nat_eq (second r) n ≡ false) (map second xs) → AllByRecursion (λ x. (nat_eq (first r) (first x) && nat_eq (second r) (second x)) ≡ false) xs
+      others : (xs : List R) → AllByRecursion (λ n. nat_eq (second r) n ≡ false) (map second xs)
+          → AllByRecursion (λ x. (nat_eq (first r) (first x) && nat_eq (second r) (second x)) ≡ false) xs
       others [] h = tt
       others (x ∷ xs) h = (and_right (nat_eq (first r) (first x)) (nat_eq (second r) (second x)) h.0, others xs h.1)
 
   -- where the units have numbers of their own, and the rows of each unit too
-  pub pairs_apart : (us : List Unit) → IsDistinct nat_eq (map number_of us) → ((u : Unit) → In u us → IsDistinct nat_eq (map second (rows u))) → IsDistinct (λ a b. nat_eq (first a) (first b) && nat_eq (second a) (second b)) (flat_map rows us)
+  pub pairs_apart : (us : List Unit) → IsDistinct nat_eq (map number_of us)
+      → ((u : Unit) → In u us → IsDistinct nat_eq (map second (rows u)))
+      → IsDistinct (λ a b. nat_eq (first a) (first b) && nat_eq (second a) (second b)) (flat_map rows us)
   unfolding IsDistinct
   pairs_apart [] d h = tt
   pairs_apart (u ∷ us) d h =
@@ -73,7 +69,8 @@ all_different [] e = tt
 all_different (b ∷ rest) e =
     let p : BoxKey → Bool = λ later. not (is_same_box b later) in
     let kept : filter p (distinct rest) ≡ rest = tails b b (filter p (distinct rest)) rest e in
-    let again : distinct rest ≡ rest = ap distinct (sym kept) ∙ (distinct_filter p (distinct rest) ∙ (ap (filter p) (distinct_again rest) ∙ kept)) in
+    let again : distinct rest ≡ rest =
+    ap distinct (sym kept) ∙ (distinct_filter p (distinct rest) ∙ (ap (filter p) (distinct_again rest) ∙ kept)) in
     (in_each (λ x. is_same_box b x ≡ false) rest (λ x i. not-true (is_same_box b x) (in_filter p (distinct rest) x (subst (In x) (sym kept) i)).1), all_different rest again)
   where
     tails : (a b : BoxKey) (xs ys : List BoxKey) → (a ∷ xs) ≡ (b ∷ ys) → xs ≡ ys

@@ -1,23 +1,11 @@
 -- Tables without a cause, told of their cells.
 use Rattle.std.proofs.Common.{◌≡◌, true, false, Bool, List, [], ◌∷◌, ◌++◌, length, None, Some, Option, filter_map, if◌then◌else◌, refl, ap, subst, ◌||◌, IsUtf8, arith, unwrap_or, cond, nat_eq}
-use Rattle.std.specs.List.{AllByRecursion}
-use Rattle.std.proofs.lemmas.Bool.{or_parts}
 use Rattle.std.proofs.lemmas.Str.{IsUtf8-nil}
-use Rattle.sqlite.specs.Order.{Row, column}
-use Rattle.sqlite.specs.Tree.{Trees}
-use Rattle.desk_core.specs.Orders.{put_in_order, in_order}
-use Rattle.desk_core.specs.DeskRows.{ReaderRow}
-use Rattle.office_tables.specs.Versions.{Version}
-use Rattle.catalogue_core.specs.CatalogueRows.{OfficeRow, UnitRow, ElementRow, ContainerRow}
-use Rattle.office_core.specs.Words.{first}
+use Rattle.desk_core.specs.Orders.{in_order}
 use Rattle.office_tables.specs.Schema as tables
-use Rattle.office_tables.specs.Cells.{whole_in, number_in, text_in, flag_in, or_null_in}
-use Rattle.office_tables.specs.CatalogueCells.{read_office, read_unit, read_element, read_container}
-use Rattle.office_tables.specs.DeskCells.{read_reader}
-use Rattle.office_tables.proofs.CellTexts.{from_first, is_text, all_read}
-use Rattle.state_encoding.specs.Causes.{first_held, desk_tests, catalogue_tests}
+use Rattle.office_tables.specs.Cells.{number_in}
 use Rattle.state_encoding.specs.CellCauses.{rows_in, unread, either_of, no_office}
-use Rattle.state_encoding.specs.CellSoundness.{IsLegibleUnitRow, IsLegibleContainerRow, AreLegibleRows, CellsHaveNoCause, CellsDescribeASoundState}
+use Rattle.state_encoding.proofs.Common.{AllByRecursion, AreLegibleRows, CellsDescribeASoundState, CellsHaveNoCause, ContainerRow, ElementRow, IsLegibleContainerRow, IsLegibleUnitRow, OfficeRow, ReaderRow, Row, Trees, UnitRow, Version, all_read, catalogue_tests, column, desk_tests, first, first_held, flag_in, from_first, is_text, or_null_in, or_parts, put_in_order, read_container, read_element, read_office, read_reader, read_unit, text_in, whole_in}
 use Rattle.state_encoding.proofs.Judging.{none_held, hold_none}
 use Rattle.state_encoding.proofs.JudgedWhole.{rows_are_said}
 use Rattle.state_encoding.proofs.DeskSound.{desk_sound}
@@ -25,7 +13,8 @@ use Rattle.state_encoding.proofs.SaidTexts.{texts_said}
 
 -- ---- nothing is unread, and the rows that are read have no cause
 
-either_none : (us ts : List Bool) → length us ≡ length ts → first_held (either_of us ts) ≡ None → (first_held us ≡ None) × (first_held ts ≡ None)
+either_none : (us ts : List Bool) → length us ≡ length ts → first_held (either_of us ts) ≡ None
+    → (first_held us ≡ None) × (first_held ts ≡ None)
 either_none [] [] same h = (refl, refl)
 either_none [] (t ∷ ts) same h = absurd (omega (arith, same))
 either_none (u ∷ us) [] same h = absurd (omega (arith, same))
@@ -42,7 +31,8 @@ none_by_cells version db h =
 
 -- ---- the texts of rows that can be read are UTF-8
 
-all_put : {X : Type 0} (P : X → Type 0) (before : X → X → Bool) (x : X) (ys : List X) → P x → AllByRecursion P ys → AllByRecursion P (put_in_order before x ys)
+all_put : {X : Type 0} (P : X → Type 0) (before : X → X → Bool) (x : X) (ys : List X) → P x → AllByRecursion P ys
+    → AllByRecursion P (put_in_order before x ys)
 all_put P before x [] p all = (p, tt)
 all_put P before x (y ∷ ys) p all =
     elim (before y x) as (λ b. AllByRecursion P (if b then y ∷ put_in_order before x ys else x ∷ y ∷ ys)) [
@@ -50,7 +40,8 @@ all_put P before x (y ∷ ys) p all =
       | false ↦ (p, all)
     ]
 
-all_ordered : {X : Type 0} (P : X → Type 0) (before : X → X → Bool) (xs : List X) → AllByRecursion P xs → AllByRecursion P (in_order before xs)
+all_ordered : {X : Type 0} (P : X → Type 0) (before : X → X → Bool) (xs : List X) → AllByRecursion P xs
+    → AllByRecursion P (in_order before xs)
 all_ordered P before [] all = tt
 all_ordered P before (x ∷ xs) all = all_put P before x (in_order before xs) all.0 (all_ordered P before xs all.1)
 
@@ -116,7 +107,8 @@ legible_office row x h =
       subst IsUtf8 (ap (λ o. (made o).repo) repo.2) (is_text (column row 4) repo.0 repo.1),
     )
 
-legible_first : (rows : List OfficeRow) → AllByRecursion AreLegibleSettings rows → AreLegibleSettings (unwrap_or (first rows) no_office)
+legible_first : (rows : List OfficeRow) → AllByRecursion AreLegibleSettings rows
+    → AreLegibleSettings (unwrap_or (first rows) no_office)
 legible_first [] all = (IsUtf8-nil, IsUtf8-nil)
 legible_first (row ∷ rows) all = all.0
 

@@ -1,27 +1,15 @@
 -- The rows of a sound state meet the keys of the desk's tables.
 use Rattle.std.proofs.Common.{◌≡◌, ◌≢◌, ℕ, zero, suc, ◌<◌, List, [], ◌∷◌, ◌++◌, length, Option, Some, None, refl, sym, ap, ◌∙◌, subst, inl, inr, ◌⊎◌, arith}
 use Rattle.std.specs.Prelude.{map, filter_map, nat_eq}
-use Rattle.std.specs.List.{flat_map, AllByRecursion, cons_option}
-use Rattle.std.proofs.lemmas.Bool.{false≢true}
-use Rattle.std.proofs.lemmas.List.Concat.{flat_map-cons}
-use Rattle.desk_core.specs.declared.reader.Place.{Place}
-use Rattle.desk_core.specs.declared.reader.Place.TheVariants.{Shelf, Desk, Out}
-use Rattle.office_core.specs.Words.{numbers_to}
-use Rattle.office_core.specs.State.{State, Line, Run, Permit, is_seat_of, containers}
-use Rattle.catalogue_core.specs.Members.{StandsIn}
-use Rattle.office_core.specs.SoundDesk.{IsAscending, SitOnce, ByContainer, ByUnit, IsSoundDesk}
-use Rattle.desk_core.specs.DeskRows.{ReaderRow, SeatRow, OrderRow, HoldingRow, RunRow, RunLineRow, PermitRow}
-use Rattle.state_encoding.specs.DeskEncoding.{reader_row, seat_rows_from, order_row, holding_row, run_row, run_line_row, lines_from, permit_row}
-use Rattle.office_tables.specs.Versions.{Version}
-use Rattle.state_encoding.specs.OfficeRows.{tables}
-use Rattle.desk_core.specs.DeskCauses.{AreInOrder, MeetsDeskKeys}
-use Rattle.office_core.proofs.Words.{same_number, ascending-push}
+use Rattle.desk_core.specs.declared.reader.Place.TheVariants.{Desk}
+use Rattle.state_encoding.proofs.Common.{AllByRecursion, AreInOrder, ByContainer, ByUnit, HoldingRow, IsAscending, IsSoundDesk, Line, MeetsDeskKeys, OrderRow, Out, Permit, PermitRow, Place, ReaderRow, Run, RunLineRow, RunRow, SeatRow, Shelf, SitOnce, StandsIn, State, Version, ascending-push, cons_option, containers, false≢true, flat_map, flat_map-cons, holding_row, is_seat_of, lines_from, numbers_to, order_row, permit_row, reader_row, run_line_row, run_row, same_number, seat_rows_from, tables}
 use Rattle.state_encoding.proofs.Members.{all_in, all_of_in, none_in, in_append, in_filter_map, in_map, in_flat_map, in_numbers}
 use Rattle.state_encoding.proofs.NumberedRows.{in_order, rows_are_numbered, stands_at}
 use Rattle.state_encoding.proofs.ReadersPass.{in_seats}
 use Rattle.state_encoding.proofs.RunsPass.{in_lines_from}
 
-pub order-append : {R : Type 0} (Before : R → R → Type 0) (xs ys : List R) → AreInOrder Before xs → AreInOrder Before ys → ((x y : R) → StandsIn x xs → StandsIn y ys → Before x y) → AreInOrder Before (xs ++ ys)
+pub order-append : {R : Type 0} (Before : R → R → Type 0) (xs ys : List R) → AreInOrder Before xs → AreInOrder Before ys
+    → ((x y : R) → StandsIn x xs → StandsIn y ys → Before x y) → AreInOrder Before (xs ++ ys)
 order-append Before [] ys h k f = k
 order-append Before (x ∷ xs) ys h k f = (
   all_of_in (Before x) (xs ++ ys) (λ y m.
@@ -39,12 +27,15 @@ ascending_to (suc n) =
 
 -- ---- seats
 
-seats_order : (n : ℕ) (seats : List (Option ℕ)) → AreInOrder (λ (a b : SeatRow). a.seat < b.seat) (seat_rows_from n seats)
+seats_order : (n : ℕ) (seats : List (Option ℕ))
+    → AreInOrder (λ (a b : SeatRow). a.seat < b.seat) (seat_rows_from n seats)
 seats_order n [] = tt
 seats_order n (None ∷ seats) = seats_order (suc n) seats
-seats_order n (Some t ∷ seats) = (all_of_in (λ (b : SeatRow). n < b.seat) (seat_rows_from (suc n) seats) (λ x k. (in_seats (suc n) seats x k).0), seats_order (suc n) seats)
+seats_order n (Some t ∷ seats) =
+    (all_of_in (λ (b : SeatRow). n < b.seat) (seat_rows_from (suc n) seats) (λ x k. (in_seats (suc n) seats x k).0), seats_order (suc n) seats)
 
-sitters_order : (n : ℕ) (seats : List (Option ℕ)) → SitOnce seats → AreInOrder (λ (a b : SeatRow). a.ticket ≢ b.ticket) (seat_rows_from n seats)
+sitters_order : (n : ℕ) (seats : List (Option ℕ)) → SitOnce seats
+    → AreInOrder (λ (a b : SeatRow). a.ticket ≢ b.ticket) (seat_rows_from n seats)
 sitters_order n [] h = tt
 sitters_order n (None ∷ seats) h = sitters_order (suc n) seats h
 sitters_order n (Some t ∷ seats) h = (
@@ -60,17 +51,22 @@ holding_number c Shelf r e = absurd (cc)
 holding_number c Desk r e = let q : HoldingRow = record { container = c; place = 1; held_by = None } in let same : q ≡ r = cc in sym (ap (λ (row : HoldingRow). row.container) same)
 holding_number c (Out o) r e = let q : HoldingRow = record { container = c; place = 2; held_by = Some o } in let same : q ≡ r = cc in sym (ap (λ (row : HoldingRow). row.container) same)
 
-pub in_holdings : (place : ℕ → Place) (ns : List ℕ) (r : HoldingRow) → StandsIn r (filter_map (λ c. holding_row c (place c)) ns) → StandsIn r.container ns × (holding_row r.container (place r.container) ≡ Some r)
+pub in_holdings : (place : ℕ → Place) (ns : List ℕ) (r : HoldingRow)
+    → StandsIn r (filter_map (λ c. holding_row c (place c)) ns)
+    → StandsIn r.container ns × (holding_row r.container (place r.container) ≡ Some r)
 in_holdings place ns r k =
     let i = in_filter_map (λ c. holding_row c (place c)) ns r k in
     let e = holding_number i.0 (place i.0) r i.2 in
     (subst (λ c. StandsIn c ns) (sym e) i.1, subst (λ c. holding_row c (place c) ≡ Some r) (sym e) i.2)
 
-holdings_order : (place : ℕ → Place) (ns : List ℕ) → IsAscending ns → AreInOrder (λ (a b : HoldingRow). a.container < b.container) (filter_map (λ c. holding_row c (place c)) ns)
+holdings_order : (place : ℕ → Place) (ns : List ℕ) → IsAscending ns
+    → AreInOrder (λ (a b : HoldingRow). a.container < b.container) (filter_map (λ c. holding_row c (place c)) ns)
 holdings_order place [] h = tt
 holdings_order place (n ∷ ns) h = at (holding_row n (place n)) refl (holdings_order place ns h.1)
   where
-    at : (r : Option HoldingRow) → holding_row n (place n) ≡ r → AreInOrder (λ (a b : HoldingRow). a.container < b.container) (filter_map (λ c. holding_row c (place c)) ns) → AreInOrder (λ (a b : HoldingRow). a.container < b.container) (cons_option r (filter_map (λ c. holding_row c (place c)) ns))
+    at : (r : Option HoldingRow) → holding_row n (place n) ≡ r
+        → AreInOrder (λ (a b : HoldingRow). a.container < b.container) (filter_map (λ c. holding_row c (place c)) ns)
+        → AreInOrder (λ (a b : HoldingRow). a.container < b.container) (cons_option r (filter_map (λ c. holding_row c (place c)) ns))
     at None e f = f
     at (Some r) e f = (
       all_of_in (λ (b : HoldingRow). r.container < b.container) (filter_map (λ c. holding_row c (place c)) ns) (λ x k.
@@ -96,7 +92,8 @@ own_lines_order n (l ∷ ls) h = (
   own_lines_order n ls h.1,
 )
 
-lines_order : (n : ℕ) (runs : List Run) → AllByRecursion (λ (run : Run). ByContainer run.lines) runs → AreInOrder LineBefore (lines_from n runs)
+lines_order : (n : ℕ) (runs : List Run) → AllByRecursion (λ (run : Run). ByContainer run.lines) runs
+    → AreInOrder LineBefore (lines_from n runs)
 lines_order n [] h = tt
 lines_order n (run ∷ runs) h =
     order-append LineBefore (map (run_line_row n) run.lines) (lines_from (suc n) runs) (own_lines_order n run.lines h.0) (lines_order (suc n) runs h.1) (λ x y k l.
@@ -111,7 +108,8 @@ lines_order n (run ∷ runs) h =
 abbrev pub PermitBefore : PermitRow → PermitRow → Type 0
 PermitBefore a b = (a.ticket < b.ticket) ⊎ ((a.ticket ≡ b.ticket) × (a.unit < b.unit))
 
-own_permits_order : (t : ℕ) (permits : List Permit) → ByUnit permits → AreInOrder PermitBefore (map (permit_row t) permits)
+own_permits_order : (t : ℕ) (permits : List Permit) → ByUnit permits
+    → AreInOrder PermitBefore (map (permit_row t) permits)
 own_permits_order t [] h = tt
 own_permits_order t (p ∷ ps) h = (
   all_of_in (PermitBefore (permit_row t p)) (map (permit_row t) ps) (λ x k.
@@ -122,7 +120,8 @@ own_permits_order t (p ∷ ps) h = (
   own_permits_order t ps h.1,
 )
 
-permits_order : (permits : ℕ → List Permit) (ts : List ℕ) → IsAscending ts → ((t : ℕ) → ByUnit (permits t)) → AreInOrder PermitBefore (flat_map (λ t. map (permit_row t) (permits t)) ts)
+permits_order : (permits : ℕ → List Permit) (ts : List ℕ) → IsAscending ts → ((t : ℕ) → ByUnit (permits t))
+    → AreInOrder PermitBefore (flat_map (λ t. map (permit_row t) (permits t)) ts)
 permits_order permits [] h u = tt
 permits_order permits (t ∷ ts) h u =
     let rows : ℕ → List PermitRow = λ t. map (permit_row t) (permits t) in

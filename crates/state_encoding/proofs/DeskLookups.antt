@@ -1,24 +1,9 @@
 -- What the tables of a state know: tickets, containers, units and orders.
 use Rattle.std.proofs.Common.{◌≡◌, ℕ, ◌≤◌, Bool, true, ◌&&◌, Option, Some, None, refl, sym, ap, ◌∙◌, inl, inr, arith}
 use Rattle.std.proofs.lemmas.Int.{ints}
-use Rattle.std.specs.Prelude.{ℤ, nat_eq, nat_le, int_le, ◌≤ℤ◌, is_some, option_map}
-use Rattle.std.specs.List.{list_any}
-use Rattle.std.proofs.lemmas.Bool.{eq-eqb, cases_eq, le-leb, and_from, and_parts, leb-true}
-use Rattle.tree_core.specs.Forest.{nodes}
-use Rattle.tree_core.proofs.Lists.{list_any-map}
-use Rattle.catalogue_core.specs.Units.{Unit}
-use Rattle.office_core.specs.Words.{nth, some_and}
-use Rattle.office_core.specs.State.{State, Order, is_ticket, is_container}
-use Rattle.catalogue_core.specs.UnitLookup.{has_unit}
+use Rattle.std.specs.Prelude.{ℤ, nat_eq}
 use Rattle.catalogue_core.specs.Sources.{is_between}
-use Rattle.desk_core.specs.DeskRows.{ReaderRow, OrderRow, RunRow}
-use Rattle.state_encoding.specs.DeskEncoding.{reader_row, order_row, order_rows, run_row}
-use Rattle.office_tables.specs.Versions.{Version}
-use Rattle.catalogue_core.specs.CatalogueRows.{UnitRow, unit_row, ContainerRow, container_row}
-use Rattle.state_encoding.specs.OfficeRows.{tables}
-use Rattle.desk_core.specs.DeskCauses.{is_registered}
-use Rattle.state_encoding.specs.Causes.{is_container_there, is_unit_there}
-use Rattle.office_core.proofs.Words.{other_number}
+use Rattle.state_encoding.proofs.Common.{ContainerRow, Order, OrderRow, ReaderRow, RunRow, State, Unit, UnitRow, Version, and_from, and_parts, cases_eq, container_row, eq-eqb, has_unit, int_le, is_container, is_container_there, is_registered, is_some, is_ticket, is_unit_there, le-leb, leb-true, list_any, list_any-map, nat_le, nodes, nth, option_map, order_row, order_rows, other_number, reader_row, run_row, some_and, tables, unit_row, ◌≤ℤ◌}
 use Rattle.state_encoding.proofs.Members.{any_same}
 use Rattle.state_encoding.proofs.NumberedRows.{any_numbered, known_numbered, rows_are_numbered, numbered-rows}
 
@@ -31,7 +16,8 @@ pub is_some-map : {X Y : Type 0} (f : X → Y) (r : Option X) → is_some (optio
 is_some-map f None = refl
 is_some-map f (Some x) = refl
 
-pub some_and-map : {X Y : Type 0} (p : Y → Bool) (f : X → Y) (r : Option X) → some_and p (option_map f r) ≡ some_and (λ x. p (f x)) r
+pub some_and-map : {X Y : Type 0} (p : Y → Bool) (f : X → Y) (r : Option X)
+    → some_and p (option_map f r) ≡ some_and (λ x. p (f x)) r
 some_and-map p f None = refl
 some_and-map p f (Some x) = refl
 
@@ -70,12 +56,14 @@ module _ (version : Version) (s : State) where
       ∙ any_same (λ (unit : Unit). nat_eq unit.id u) (λ unit. nat_eq u unit.id) (nodes s.catalogue.forest) (λ unit. flipped unit.id u)
 
   -- an order of that number that passes
-  pub order_there : (p : OrderRow → Bool) (o : ℕ) → list_any (λ (row : OrderRow). nat_eq row.id o && p row) (order_rows s) ≡ some_and (λ (order : Order). p (order_row s o order)) (nth s.orders o)
+  pub order_there : (p : OrderRow → Bool) (o : ℕ)
+      → list_any (λ (row : OrderRow). nat_eq row.id o && p row) (order_rows s) ≡ some_and (λ (order : Order). p (order_row s o order)) (nth s.orders o)
   order_there p o =
       any_numbered (λ (row : OrderRow). row.id) p (order_rows s) o (rows_are_numbered (order_row s) (λ row. row.id) (λ n x. refl) 1 s.orders)
       ∙ (ap (some_and p) (numbered-rows (order_row s) s.orders o) ∙ some_and-map p (order_row s o) (nth s.orders o))
 
-  pub run_there : (n : ℕ) → list_any (λ (row : RunRow). nat_eq row.id n) (tables version s).desk.runs ≡ is_some (nth s.runs n)
+  pub run_there : (n : ℕ)
+      → list_any (λ (row : RunRow). nat_eq row.id n) (tables version s).desk.runs ≡ is_some (nth s.runs n)
   run_there n =
       known_numbered (λ (row : RunRow). row.id) (tables version s).desk.runs n (rows_are_numbered run_row (λ row. row.id) (λ n x. refl) 1 s.runs)
       ∙ (ap is_some (numbered-rows run_row s.runs n) ∙ is_some-map (run_row n) (nth s.runs n))

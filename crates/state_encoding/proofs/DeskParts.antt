@@ -1,23 +1,8 @@
 -- What it means, part by part, that the desk's tables have none of the causes 6 to 9.
 use Rattle.std.proofs.Common.{◌≡◌, ℕ, ◌≤◌, Bool, true, false, not, ◌&&◌, List, length, Option, Some, None, refl, sym, ap, ◌∙◌}
-use Rattle.std.specs.Prelude.{map, nat_eq, nat_le, int_le, ◌≤ℤ◌, is_some, option_map, count_by}
-use Rattle.std.specs.List.{list_all, list_any}
-use Rattle.std.proofs.lemmas.Bool.{and_parts, leb-true, false≢true, not-true}
-use Rattle.isad_core.specs.Days.{IsDayNumber, is_day_number}
-use Rattle.isad_core.proofs.DayLemmas.{is_day_number-so}
-use Rattle.isad_core.specs.Limits.{most_orders, most_tickets, most_permits}
-use Rattle.office_core.specs.Words.{nth}
-use Rattle.office_core.specs.State.{is_ticket, is_container}
-use Rattle.catalogue_core.specs.Members.{StandsIn}
-use Rattle.office_core.specs.Rules.{is_name}
+use Rattle.std.specs.Prelude.{map, nat_eq}
 use Rattle.catalogue_core.specs.Sources.{is_between}
-use Rattle.desk_core.specs.DeskRows.{ReaderRow, SeatRow, OrderRow, PermitRow}
-use Rattle.state_encoding.specs.DeskEncoding.{reader_from}
-use Rattle.catalogue_core.specs.CatalogueRows.{ContainerRow, box_from}
-use Rattle.state_encoding.specs.OfficeRows.{OfficeRows, state_of}
-use Rattle.isad_core.specs.Words.{are_numbered_from}
-use Rattle.desk_core.specs.DeskCauses.{is_registered, is_good_reader, is_good_seat, is_good_permit, are_good_readers, are_twice, is_of_the_day, is_good_order, are_good_orders}
-use Rattle.state_encoding.specs.Causes.{around, is_unit_there, is_container_there}
+use Rattle.state_encoding.proofs.Common.{ContainerRow, IsDayNumber, OfficeRows, OrderRow, PermitRow, ReaderRow, SeatRow, StandsIn, and_parts, are_good_orders, are_good_readers, are_numbered_from, are_twice, around, box_from, count_by, false≢true, int_le, is_container, is_container_there, is_day_number, is_day_number-so, is_good_order, is_good_permit, is_good_reader, is_good_seat, is_name, is_of_the_day, is_registered, is_some, is_ticket, is_unit_there, leb-true, list_all, list_any, most_orders, most_permits, most_tickets, nat_le, not-true, nth, option_map, reader_from, state_of, ◌≤ℤ◌}
 use Rattle.state_encoding.proofs.Members.{test_in}
 use Rattle.state_encoding.proofs.NumberedRows.{known_numbered, numbered-map}
 use Rattle.state_encoding.proofs.DeskLookups.{is_some-map, is_between_so, is_not_later}
@@ -38,7 +23,8 @@ pub record ReaderParts (t : OfficeRows) : Type 0 where
   pub numbered : are_numbered_from (λ (row : ReaderRow). row.ticket) 1 t.desk.readers ≡ true
   pub few : length t.desk.readers ≤ most_tickets
   pub readers : (row : ReaderRow) → StandsIn row t.desk.readers → (is_name row.name ≡ true) × IsDayNumber row.until
-  pub seats : (row : SeatRow) → StandsIn row t.desk.seats → (1 ≤ row.seat) × (row.seat ≤ t.office.seats) × (is_registered t.desk row.ticket ≡ true)
+  pub seats : (row : SeatRow) → StandsIn row t.desk.seats
+      → (1 ≤ row.seat) × (row.seat ≤ t.office.seats) × (is_registered t.desk row.ticket ≡ true)
   pub permits : (row : PermitRow) → StandsIn row t.desk.permits → PermitParts t row
 
 permit_parts : (t : OfficeRows) (row : PermitRow) → is_good_permit (around t) t.desk row ≡ true → PermitParts t row
@@ -113,18 +99,23 @@ orders_parts t h =
 
 -- ---- what the state of rows knows
 
-pub said_ticket : (t : OfficeRows) (ticket : ℕ) → are_numbered_from (λ (row : ReaderRow). row.ticket) 1 t.desk.readers ≡ true → is_ticket (state_of t) ticket ≡ is_registered t.desk ticket
+pub said_ticket : (t : OfficeRows) (ticket : ℕ)
+    → are_numbered_from (λ (row : ReaderRow). row.ticket) 1 t.desk.readers ≡ true
+    → is_ticket (state_of t) ticket ≡ is_registered t.desk ticket
 said_ticket t ticket h =
     ap is_some (numbered-map reader_from t.desk.readers ticket)
     ∙ (is_some-map reader_from (nth t.desk.readers ticket) ∙ sym (known_numbered (λ (row : ReaderRow). row.ticket) t.desk.readers ticket h))
 
-pub said_container : (t : OfficeRows) (c : ℕ) → are_numbered_from (λ (row : ContainerRow). row.id) 1 t.catalogue.containers ≡ true → is_container (state_of t) c ≡ is_container_there t c
+pub said_container : (t : OfficeRows) (c : ℕ)
+    → are_numbered_from (λ (row : ContainerRow). row.id) 1 t.catalogue.containers ≡ true
+    → is_container (state_of t) c ≡ is_container_there t c
 said_container t c h =
     ap is_some (numbered-map box_from t.catalogue.containers c)
     ∙ (is_some-map box_from (nth t.catalogue.containers c) ∙ sym (known_numbered (λ (row : ContainerRow). row.id) t.catalogue.containers c h))
 
 -- what is numbered among what rows say is said by the row of that number
-pub said_by : {R X : Type 0} (f : R → X) (rows : List R) (n : ℕ) (x : X) → nth (map f rows) n ≡ Some x → (row : R) × (nth rows n ≡ Some row) × (x ≡ f row)
+pub said_by : {R X : Type 0} (f : R → X) (rows : List R) (n : ℕ) (x : X) → nth (map f rows) n ≡ Some x
+    → (row : R) × (nth rows n ≡ Some row) × (x ≡ f row)
 said_by {R} f rows n x e = at (nth rows n) refl (sym (numbered-map f rows n) ∙ e)
   where
     at : (r : Option R) → nth rows n ≡ r → option_map f r ≡ Some x → (row : R) × (nth rows n ≡ Some row) × (x ≡ f row)

@@ -1,9 +1,7 @@
 -- The rows of a sound state have none of the causes 6 to 10, and meet the desk's keys.
 use Rattle.std.proofs.Common.{ap}
 use Rattle.std.specs.Prelude.{not}
-use Rattle.office_core.specs.State.{State}
-use Rattle.office_tables.specs.Versions.{Version}
-use Rattle.state_encoding.specs.DeskSoundness.{SoundTablesPass}
+use Rattle.state_encoding.proofs.Common.{SoundTablesPass, State, Version}
 use Rattle.state_encoding.proofs.DeskKeys.{meets_keys}
 use Rattle.state_encoding.proofs.ReadersPass.{readers_pass}
 use Rattle.state_encoding.proofs.OrdersPass.{orders_pass, holdings_pass}

@@ -1,13 +1,7 @@
 -- Rows in ascending order of a number: what is found by each number in turn is all of them.
 use Rattle.std.proofs.Common.{◌≡◌, ◌≢◌, ℕ, zero, suc, ◌+◌, ◌<◌, ◌≤◌, Bool, true, false, not, cond, ◌&&◌, ◌||◌, List, [], ◌∷◌, ◌++◌, Some, None, refl, sym, ap, ◌∙◌, subst, inl, inr, arith}
-use Rattle.std.specs.Prelude.{map, filter, filter_map, find, nat_eq}
-use Rattle.std.specs.List.{list_any, flat_map, cons_option}
-use Rattle.std.proofs.lemmas.Bool.{eqb-true, cases_eq, false≢true}
-use Rattle.std.proofs.lemmas.List.Concat.{flat_map-cons}
-use Rattle.catalogue_core.specs.Members.{StandsIn}
-use Rattle.office_core.specs.Laws.{numbers_from}
-use Rattle.desk_core.specs.DeskCauses.{AreInOrder}
-use Rattle.office_core.proofs.Words.{same_number, other_number}
+use Rattle.std.specs.Prelude.{map, filter_map, nat_eq}
+use Rattle.state_encoding.proofs.Common.{AreInOrder, StandsIn, cases_eq, cons_option, eqb-true, false≢true, filter, find, flat_map, flat_map-cons, list_any, numbers_from, other_number, same_number}
 use Rattle.state_encoding.proofs.Members.{all_in, all_of_in, in_filter, in_map}
 
 module _ {X : Type 0} where
@@ -15,18 +9,23 @@ module _ {X : Type 0} where
 
   pub filter_none : (p : X → Bool) (xs : List X) → ((x : X) → StandsIn x xs → p x ≡ false) → filter p xs ≡ []
   filter_none p [] f = refl
-  filter_none p (x ∷ xs) f = ap (λ b. cond b (x ∷ filter p xs) (filter p xs)) (f x (inl refl)) ∙ filter_none p xs (λ y k. f y (inr k))
+  filter_none p (x ∷ xs) f =
+      ap (λ b. cond b (x ∷ filter p xs) (filter p xs)) (f x (inl refl)) ∙ filter_none p xs (λ y k. f y (inr k))
 
   pub filter_all : (p : X → Bool) (xs : List X) → ((x : X) → StandsIn x xs → p x ≡ true) → filter p xs ≡ xs
   filter_all p [] f = refl
-  filter_all p (x ∷ xs) f = ap (λ b. cond b (x ∷ filter p xs) (filter p xs)) (f x (inl refl)) ∙ ap (λ l. x ∷ l) (filter_all p xs (λ y k. f y (inr k)))
+  filter_all p (x ∷ xs) f =
+      ap (λ b. cond b (x ∷ filter p xs) (filter p xs)) (f x (inl refl))
+      ∙ ap (λ l. x ∷ l) (filter_all p xs (λ y k. f y (inr k)))
 
   -- what the first test lets through, where the second does
-  pub filter_filter : (p q : X → Bool) (xs : List X) → ((x : X) → p x ≡ true → q x ≡ true) → filter p (filter q xs) ≡ filter p xs
+  pub filter_filter : (p q : X → Bool) (xs : List X) → ((x : X) → p x ≡ true → q x ≡ true)
+      → filter p (filter q xs) ≡ filter p xs
   filter_filter p q [] f = refl
   filter_filter p q (x ∷ xs) f = at (q x) (p x) refl refl (filter_filter p q xs f)
     where
-      at : (b c : Bool) → q x ≡ b → p x ≡ c → filter p (filter q xs) ≡ filter p xs → filter p (cond b (x ∷ filter q xs) (filter q xs)) ≡ cond c (x ∷ filter p xs) (filter p xs)
+      at : (b c : Bool) → q x ≡ b → p x ≡ c → filter p (filter q xs) ≡ filter p xs
+          → filter p (cond b (x ∷ filter q xs) (filter q xs)) ≡ cond c (x ∷ filter p xs) (filter p xs)
       at true true a e h = ap (λ d. cond d (x ∷ filter p (filter q xs)) (filter p (filter q xs))) e ∙ ap (λ l. x ∷ l) h
       at true false a e h = ap (λ d. cond d (x ∷ filter p (filter q xs)) (filter p (filter q xs))) e ∙ h
       at false true a e h = absurd (false≢true (sym a ∙ f x e))
@@ -36,7 +35,8 @@ module _ {X : Type 0} where
   any_filter p q [] = refl
   any_filter p q (x ∷ xs) = at (q x) (p x) refl (any_filter p q xs)
     where
-      at : (b c : Bool) → p x ≡ c → list_any p (filter q xs) ≡ list_any (λ x. p x && q x) xs → list_any p (cond b (x ∷ filter q xs) (filter q xs)) ≡ ((c && b) || list_any (λ x. p x && q x) xs)
+      at : (b c : Bool) → p x ≡ c → list_any p (filter q xs) ≡ list_any (λ x. p x && q x) xs
+          → list_any p (cond b (x ∷ filter q xs) (filter q xs)) ≡ ((c && b) || list_any (λ x. p x && q x) xs)
       at true true e h = ap (λ d. d || list_any p (filter q xs)) e
       at true false e h = ap (λ d. d || list_any p (filter q xs)) e ∙ h
       at false true e h = h
@@ -44,9 +44,11 @@ module _ {X : Type 0} where
 
   -- orders
 
-  pub order_weaker : (B C : X → X → Type 0) (xs : List X) → ((x y : X) → B x y → C x y) → AreInOrder B xs → AreInOrder C xs
+  pub order_weaker : (B C : X → X → Type 0) (xs : List X) → ((x y : X) → B x y → C x y) → AreInOrder B xs
+      → AreInOrder C xs
   order_weaker B C [] f h = tt
-  order_weaker B C (x ∷ xs) f h = (all_of_in (C x) xs (λ y k. f x y (all_in (B x) xs y h.0 k)), order_weaker B C xs f h.1)
+  order_weaker B C (x ∷ xs) f h =
+      (all_of_in (C x) xs (λ y k. f x y (all_in (B x) xs y h.0 k)), order_weaker B C xs f h.1)
 
   pub order-filter : (B : X → X → Type 0) (p : X → Bool) (xs : List X) → AreInOrder B xs → AreInOrder B (filter p xs)
   order-filter B p [] h = tt
@@ -56,7 +58,8 @@ module _ {X : Type 0} where
       at true k = (all_of_in (B x) (filter p xs) (λ y m. all_in (B x) xs y h.0 (in_filter p xs y m).0), k)
       at false k = k
 
-  pub order-map : {Y : Type 0} (B : X → X → Type 0) (C : Y → Y → Type 0) (f : X → Y) (xs : List X) → ((x y : X) → StandsIn x xs → StandsIn y xs → B x y → C (f x) (f y)) → AreInOrder B xs → AreInOrder C (map f xs)
+  pub order-map : {Y : Type 0} (B : X → X → Type 0) (C : Y → Y → Type 0) (f : X → Y) (xs : List X)
+      → ((x y : X) → StandsIn x xs → StandsIn y xs → B x y → C (f x) (f y)) → AreInOrder B xs → AreInOrder C (map f xs)
   order-map B C f [] g h = tt
   order-map B C f (x ∷ xs) g h = (
     all_of_in (C (f x)) (map f xs) (λ y k.
@@ -69,13 +72,15 @@ module _ {X : Type 0} where
   found p [] x e = absurd (cc)
   found p (y ∷ ys) x e = at (p y) refl (found p ys x) e
     where
-      at : (b : Bool) → p y ≡ b → (find p ys ≡ Some x → StandsIn x ys × (p x ≡ true)) → cond b (Some y) (find p ys) ≡ Some x → StandsIn x (y ∷ ys) × (p x ≡ true)
+      at : (b : Bool) → p y ≡ b → (find p ys ≡ Some x → StandsIn x ys × (p x ≡ true))
+          → cond b (Some y) (find p ys) ≡ Some x → StandsIn x (y ∷ ys) × (p x ≡ true)
       at true q f e = let s : y ≡ x = cc in (inl (sym s), ap p (sym s) ∙ q)
       at false q f e = let r = f e in (inr r.0, r.1)
 
 module _ {R : Type 0} (key : R → ℕ) where
   -- two rows with one number are one
-  pub same_row : (rows : List R) (a b : R) → AreInOrder (λ x y. key x ≢ key y) rows → StandsIn a rows → StandsIn b rows → key a ≡ key b → a ≡ b
+  pub same_row : (rows : List R) (a b : R) → AreInOrder (λ x y. key x ≢ key y) rows → StandsIn a rows → StandsIn b rows
+      → key a ≡ key b → a ≡ b
   same_row [] a b h k l e = absurd k
   same_row (r ∷ rows) a b h k l e =
       elim k [
@@ -98,16 +103,20 @@ module _ {R : Type 0} (key : R → ℕ) where
 
   find_none : (m : ℕ) (rows : List R) → ((r : R) → StandsIn r rows → key r ≢ m) → find (is_of m) rows ≡ None
   find_none m [] f = refl
-  find_none m (r ∷ rows) f = ap (λ b. cond b (Some r) (find (is_of m) rows)) (other_number (key r) m (f r (inl refl))) ∙ find_none m rows (λ x k. f x (inr k))
+  find_none m (r ∷ rows) f =
+      ap (λ b. cond b (Some r) (find (is_of m) rows)) (other_number (key r) m (f r (inl refl)))
+      ∙ find_none m rows (λ x k. f x (inr k))
 
-  lower : (r : R) (rows : List R) (m more : ℕ) → key r < m → filter_map (λ n. find (is_of n) (r ∷ rows)) (numbers_from m more) ≡ filter_map (λ n. find (is_of n) rows) (numbers_from m more)
+  lower : (r : R) (rows : List R) (m more : ℕ) → key r < m
+      → filter_map (λ n. find (is_of n) (r ∷ rows)) (numbers_from m more) ≡ filter_map (λ n. find (is_of n) rows) (numbers_from m more)
   lower r rows m zero l = refl
   lower r rows m (suc more) l =
       ap (λ b. cons_option (cond b (Some r) (find (is_of m) rows)) (filter_map (λ n. find (is_of n) (r ∷ rows)) (numbers_from (suc m) more))) (other_number (key r) m (λ e. omega (arith, l, e)))
       ∙ ap (cons_option (find (is_of m) rows)) (lower r rows (suc m) more (omega (arith, l)))
 
   -- one row or none of each number
-  pub found_all : (n more : ℕ) (rows : List R) → AreInOrder (λ a b. key a < key b) rows → AreFrom n more rows → filter_map (λ m. find (is_of m) rows) (numbers_from n more) ≡ rows
+  pub found_all : (n more : ℕ) (rows : List R) → AreInOrder (λ a b. key a < key b) rows → AreFrom n more rows
+      → filter_map (λ m. find (is_of m) rows) (numbers_from n more) ≡ rows
   found_all n zero [] h f = refl
   found_all n zero (r ∷ rows) h f = let i = f r (inl refl) in let a = i.0 in let b = i.1 in absurd (omega (arith, a, b))
   found_all n (suc more) [] h f = found_all (suc n) more [] tt (λ r k. absurd k)
@@ -143,7 +152,8 @@ module _ {R : Type 0} (key : R → ℕ) where
           ]
 
   -- the rows of the least number come first
-  first_group : (n : ℕ) (rows : List R) → AreInOrder (λ a b. key a ≤ key b) rows → ((r : R) → StandsIn r rows → n ≤ key r) → rows ≡ filter (is_of n) rows ++ filter (λ r. not (is_of n r)) rows
+  first_group : (n : ℕ) (rows : List R) → AreInOrder (λ a b. key a ≤ key b) rows
+      → ((r : R) → StandsIn r rows → n ≤ key r) → rows ≡ filter (is_of n) rows ++ filter (λ r. not (is_of n r)) rows
   first_group n [] h f = refl
   first_group n (r ∷ rows) h f =
       elim (cases_eq (key r) n) [
@@ -163,7 +173,8 @@ module _ {R : Type 0} (key : R → ℕ) where
             ∙ filter_all (λ r. not (is_of n r)) (r ∷ rows) (λ x k. ap not (other_number (key x) n (past x k))))
       ]
 
-  same_groups : (n : ℕ) (rows : List R) (m more : ℕ) → n < m → flat_map (λ k. filter (is_of k) rows) (numbers_from m more) ≡ flat_map (λ k. filter (is_of k) (filter (λ r. not (is_of n r)) rows)) (numbers_from m more)
+  same_groups : (n : ℕ) (rows : List R) (m more : ℕ) → n < m
+      → flat_map (λ k. filter (is_of k) rows) (numbers_from m more) ≡ flat_map (λ k. filter (is_of k) (filter (λ r. not (is_of n r)) rows)) (numbers_from m more)
   same_groups n rows m zero l = refl
   same_groups n rows m (suc more) l =
       let rest : List R = filter (λ r. not (is_of n r)) rows in
@@ -175,7 +186,8 @@ module _ {R : Type 0} (key : R → ℕ) where
       ∙ sym (flat_map-cons (λ k. filter (is_of k) rest) m (numbers_from (suc m) more))))
 
   -- all rows of each number
-  pub grouped_all : (n more : ℕ) (rows : List R) → AreInOrder (λ a b. key a ≤ key b) rows → AreFrom n more rows → flat_map (λ m. filter (is_of m) rows) (numbers_from n more) ≡ rows
+  pub grouped_all : (n more : ℕ) (rows : List R) → AreInOrder (λ a b. key a ≤ key b) rows → AreFrom n more rows
+      → flat_map (λ m. filter (is_of m) rows) (numbers_from n more) ≡ rows
   grouped_all n zero [] h f = refl
   grouped_all n zero (r ∷ rows) h f = let i = f r (inl refl) in let a = i.0 in let b = i.1 in absurd (omega (arith, a, b))
   grouped_all n (suc more) rows h f =

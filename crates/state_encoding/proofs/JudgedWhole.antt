@@ -1,21 +1,6 @@
 -- All tables: the catalogue's and the desk's together.
 use Rattle.std.proofs.Common.{◌≡◌, ℕ, true, [], ◌∷◌, List, None, refl, sym, ap, ◌∙◌, nat_eq, inl, inr, map}
-use Rattle.std.specs.List.{list_any}
-use Rattle.std.proofs.lemmas.Bool.{and_parts, or_cases, false≢true, eq-eqb, eqb-true}
-use Rattle.tree_core.specs.Forest.{nodes}
-use Rattle.tree_core.proofs.Lists.{In, In-permutation}
-use Rattle.tree_core.proofs.Lookups.{any_passes}
-use Rattle.office_tables.specs.Versions.{Version}
-use Rattle.catalogue_core.specs.Units.{has_id}
-use Rattle.office_core.specs.State.{State}
-use Rattle.office_core.specs.Soundness.{IsSound}
-use Rattle.catalogue_core.specs.CatalogueRows.{UnitRow, unit_row, ContainerRow}
-use Rattle.state_encoding.specs.OfficeRows.{OfficeRows, tables, state_of}
-use Rattle.state_encoding.specs.Causes.{around, catalogue_tests, day_is_broken, first_held, desk_tests}
-use Rattle.state_encoding.specs.RowSoundness.{IsCatalogueOf, IsSoundCatalogue, SaysASoundState, HasNoCause}
-use Rattle.isad_core.specs.Words.{are_numbered_from}
-use Rattle.desk_core.specs.DeskCauses.{readers_are_bad, orders_are_bad, holdings_are_bad, runs_are_bad}
-use Rattle.state_encoding.specs.DeskSoundness.{HasNoDeskCause, HasGoodCatalogue, SoundTablesPass, PassingRowsAreSound}
+use Rattle.state_encoding.proofs.Common.{ContainerRow, HasGoodCatalogue, HasNoCause, HasNoDeskCause, In, In-permutation, IsCatalogueOf, IsSound, IsSoundCatalogue, OfficeRows, PassingRowsAreSound, SaysASoundState, SoundTablesPass, State, UnitRow, Version, and_parts, any_passes, are_numbered_from, around, catalogue_tests, day_is_broken, desk_tests, eq-eqb, eqb-true, false≢true, first_held, has_id, holdings_are_bad, list_any, nodes, or_cases, orders_are_bad, readers_are_bad, runs_are_bad, state_of, tables, unit_row}
 use Rattle.state_encoding.proofs.Judging.{none_held, hold_none, none_before, none_behind, none_in_both}
 use Rattle.state_encoding.proofs.RowsByNumber.{in_map}
 use Rattle.state_encoding.proofs.told.ToldCatalogue.{no_cause, catalogue_is_said}
@@ -64,7 +49,8 @@ found u (row ∷ rows) h = elim (or_cases (nat_eq row.id u) (list_any (λ (row :
   | inr k ↦ let r = found u rows k in record { row = r.row; there = inr r.there; is = r.is }
 ]
 
-good_catalogue : (version : Version) (t : OfficeRows) → IsSoundCatalogue (state_of t) → IsCatalogueOf version t (state_of t) → first_held (catalogue_tests version t) ≡ None → HasGoodCatalogue t
+good_catalogue : (version : Version) (t : OfficeRows) → IsSoundCatalogue (state_of t)
+    → IsCatalogueOf version t (state_of t) → first_held (catalogue_tests version t) ≡ None → HasGoodCatalogue t
 good_catalogue version t g c h =
     record {
       containers = (and_parts (are_numbered_from (λ (row : ContainerRow). row.id) 1 t.catalogue.containers) _ (no_cause version t h).containers).0;

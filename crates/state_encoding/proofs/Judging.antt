@@ -1,7 +1,6 @@
 -- Tests of which none holds.
 use Rattle.std.proofs.Common.{◌≡◌, ℕ, suc, Bool, true, false, not, List, [], ◌∷◌, ◌++◌, Option, Some, None, refl, ap}
-use Rattle.std.specs.Prelude.{is_some, option_map}
-use Rattle.state_encoding.specs.Causes.{first_held}
+use Rattle.state_encoding.proofs.Common.{first_held, is_some, option_map}
 
 pub none_held : (b : Bool) (bs : List Bool) → first_held (b ∷ bs) ≡ None → (b ≡ false) × (first_held bs ≡ None)
 none_held true bs h = absurd (cc)

@@ -1,38 +1,29 @@
 -- The rows of a sound office's desk can be read back.
 use Rattle.std.proofs.Common.{◌≡◌, ℕ, zero, suc, ◌<◌, ◌≤◌, ◌^◌, true, false, ◌&&◌, ◌||◌, List, [], ◌∷◌, length, Option, Some, None, inl, inr, arith}
-use Rattle.std.specs.Prelude.{is_none, nat_eq, IsUtf8}
-use Rattle.std.specs.List.{AllByRecursion, list_all, list_any}
-use Rattle.std.proofs.lemmas.Bool.{and_parts, eqb-true, false≢true, or_cases}
-use Rattle.isad_core.specs.Days.{IsDayNumber, is_day_number}
-use Rattle.isad_core.specs.Limits.{most_seats}
-use Rattle.isad_core.proofs.DayLemmas.{is_day_number-true}
-use Rattle.desk_core.specs.DeskCauses.{Around, are_good_readers, are_good_orders, are_good_holdings, are_good_runs, is_good_holding, is_good_order, is_good_permit, is_good_reader, is_good_run, is_good_seat, is_out_order}
-use Rattle.desk_core.specs.DeskRows.{Desk, PermitRow, RunRow, SeatRow}
+use Rattle.std.specs.Prelude.{nat_eq, IsUtf8}
+use Rattle.desk_core.specs.DeskRows.{Desk}
 use Rattle.desk_core.specs.LegibleDesks.{IsKnownPlace, IsLegible, IsLegibleHolding, IsLegibleOrder, IsLegibleReader}
-use Rattle.office_tables.specs.Versions.{Version}
-use Rattle.office_core.specs.SoundOffice.{IsSoundOffice}
-use Rattle.office_core.specs.State.{Reader, State}
-use Rattle.office_core.specs.Words.{numbers_to}
-use Rattle.state_encoding.specs.Causes.{around}
-use Rattle.state_encoding.specs.DeskSoundness.{PassesAtTheDesk}
-use Rattle.state_encoding.specs.DeskEncoding.{reader_row, rows_from}
-use Rattle.state_encoding.specs.OfficeRows.{tables}
+use Rattle.state_encoding.proofs.Common.{AllByRecursion, Around, IsDayNumber, IsSoundOffice, PassesAtTheDesk, PermitRow, Reader, RunRow, SeatRow, StandsIn, State, Version, and_parts, are_good_holdings, are_good_orders, are_good_readers, are_good_runs, around, eqb-true, false≢true, is_day_number, is_day_number-true, is_good_holding, is_good_order, is_good_permit, is_good_reader, is_good_run, is_good_seat, is_none, is_out_order, list_all, list_any, most_seats, numbers_to, or_cases, reader_row, rows_from, tables}
 use Rattle.state_encoding.proofs.DeskLookups.{is_between_so}
 use Rattle.state_encoding.proofs.DeskParts.{not_bad}
 use Rattle.state_encoding.proofs.DeskPasses.{desk_passes}
 use Rattle.state_encoding.proofs.DeskKeys.{in_holdings}
 use Rattle.state_encoding.proofs.Members.{all_of_in, test_in}
-use Rattle.catalogue_core.specs.Members.{StandsIn}
 
 -- ---- readers
 
-legible_readers : (n : ℕ) (readers : List Reader) → AllByRecursion (λ (r : Reader). IsUtf8 r.name) readers → AllByRecursion (λ (r : Reader). IsDayNumber r.until) readers → AllByRecursion IsLegibleReader (rows_from reader_row n readers)
+legible_readers : (n : ℕ) (readers : List Reader) → AllByRecursion (λ (r : Reader). IsUtf8 r.name) readers
+    → AllByRecursion (λ (r : Reader). IsDayNumber r.until) readers
+    → AllByRecursion IsLegibleReader (rows_from reader_row n readers)
 legible_readers n [] h d = tt
-legible_readers n (r ∷ readers) h d = (record { name = h.0; until = is_day_number-true r.until d.0 }, legible_readers (suc n) readers h.1 d.1)
+legible_readers n (r ∷ readers) h d =
+    (record { name = h.0; until = is_day_number-true r.until d.0 }, legible_readers (suc n) readers h.1 d.1)
 
 -- ---- what the clerk's tests say
 
-small_place : (place : ℕ) (held : Option ℕ) (d : Desk) (c : ℕ) → ((nat_eq place 1 && is_none held) || (nat_eq place 2 && Rattle.isad_core.specs.Words.some_and (λ o. list_any (is_out_order o c) d.orders) held)) ≡ true → IsKnownPlace place held
+small_place : (place : ℕ) (held : Option ℕ) (d : Desk) (c : ℕ)
+    → ((nat_eq place 1 && is_none held) || (nat_eq place 2 && Rattle.isad_core.specs.Words.some_and (λ o. list_any (is_out_order o c) d.orders) held)) ≡ true
+    → IsKnownPlace place held
 small_place place None d c e =
     elim (or_cases (nat_eq place 1 && true) (nat_eq place 2 && false) e) [
       | inl desk ↦ eqb-true place 1 (and_parts (nat_eq place 1) true desk).0

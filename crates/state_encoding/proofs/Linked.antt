@@ -1,16 +1,13 @@
 -- A forest is what its link rows say.
 use Rattle.std.proofs.Common.{◌≡◌, ℕ, zero, suc, ◌+◌, ◌<◌, List, length, Option, Some, None, refl, ap, ◌∙◌, arith, length-append}
-use Rattle.std.proofs.lemmas.List.Sorted.{length_permutation}
-use Rattle.tree_core.specs.Forest.{Forest, Empty, Node, size}
-use Rattle.tree_core.specs.Links.{siblings, rows_below, HoldsLinks}
 use Rattle.tree_core.specs.Steps.{Fits}
-use Rattle.tree_core.specs.declared.rows.Link.{Link}
-use Rattle.tree_core.proofs.Lookups.{fits_all}
-use Rattle.catalogue_core.specs.CatalogueRows.{grow, forest_of_links, places_said, LinkRows}
+use Rattle.state_encoding.proofs.Common.{Empty, Forest, HoldsLinks, Link, LinkRows, Node, fits_all, forest_of_links, grow, length_permutation, places_said, rows_below, siblings, size}
 
-linked_fits : (fuel : ℕ) (links : List Link) (p : Option ℕ) (k : ℕ) (f : Forest ℕ) → Fits links p k f → size f < fuel → forest_of_links fuel links p k ≡ f
+linked_fits : (fuel : ℕ) (links : List Link) (p : Option ℕ) (k : ℕ) (f : Forest ℕ) → Fits links p k f → size f < fuel
+    → forest_of_links fuel links p k ≡ f
 linked_fits zero links p k f h l = absurd (omega (arith, l))
-linked_fits (suc fuel) links p k Empty h l = ap (λ r. grow r (λ u. forest_of_links fuel links (Some u) 1) (forest_of_links fuel links p (k + 1))) h
+linked_fits (suc fuel) links p k Empty h l =
+    ap (λ r. grow r (λ u. forest_of_links fuel links (Some u) 1) (forest_of_links fuel links p (k + 1))) h
 linked_fits (suc fuel) links p k (Node u c o) h l =
     ap (λ r. grow r (λ u. forest_of_links fuel links (Some u) 1) (forest_of_links fuel links p (k + 1))) h.0
     ∙ (ap (λ below. Node u below (forest_of_links fuel links p (k + 1))) (linked_fits fuel links (Some u) 1 c h.1 (omega (arith, l)))

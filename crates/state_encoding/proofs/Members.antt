@@ -1,12 +1,7 @@
 -- What stands in a list, and what tests say of it.
 use Rattle.std.proofs.Common.{◌≡◌, ℕ, zero, suc, ◌+◌, ◌≤◌, Bool, true, List, [], ◌∷◌, ◌++◌, Option, Some, None, refl, sym, ap, ◌∙◌, subst, inl, inr, arith}
 use Rattle.std.specs.Prelude.{map, filter_map}
-use Rattle.std.specs.List.{list_any, list_all, flat_map, AllByRecursion, cons_option}
-use Rattle.std.proofs.lemmas.Bool.{and_parts, and_from, or_cases, or_left, or_right, false≢true}
-use Rattle.std.proofs.lemmas.List.Concat.{flat_map-cons}
-use Rattle.office_core.specs.Words.{numbers_to}
-use Rattle.office_core.specs.Laws.{numbers_from}
-use Rattle.catalogue_core.specs.Members.{StandsIn}
+use Rattle.state_encoding.proofs.Common.{AllByRecursion, StandsIn, and_from, and_parts, cons_option, false≢true, flat_map, flat_map-cons, list_all, list_any, numbers_from, numbers_to, or_cases, or_left, or_right}
 pub use Rattle.tree_core.proofs.Lists.{any_agree as any_same, any_none as none_of_in, none_any as none_in}
 pub use Rattle.tree_core.proofs.Lists.{In-append as in_append, In-append_left as append_in_left, In-append_right as append_in_right}
 pub use Rattle.tree_core.proofs.Members.{In-filter as in_filter}
@@ -53,23 +48,28 @@ module _ {X Y : Type 0} where
   in_map f [] y k = absurd k
   in_map f (x ∷ xs) y k = elim k [ inl e ↦ (x, inl refl, e) | inr l ↦ let r = in_map f xs y l in (r.0, inr r.1, r.2) ]
 
-  pub in_filter_map : (f : X → Option Y) (xs : List X) (y : Y) → StandsIn y (filter_map f xs) → (x : X) × StandsIn x xs × (f x ≡ Some y)
+  pub in_filter_map : (f : X → Option Y) (xs : List X) (y : Y) → StandsIn y (filter_map f xs)
+      → (x : X) × StandsIn x xs × (f x ≡ Some y)
   in_filter_map f [] y k = absurd k
   in_filter_map f (x ∷ xs) y k = at (f x) refl (in_filter_map f xs y) k
     where
-      at : (r : Option Y) → f x ≡ r → (StandsIn y (filter_map f xs) → (z : X) × StandsIn z xs × (f z ≡ Some y)) → StandsIn y (cons_option r (filter_map f xs)) → (z : X) × StandsIn z (x ∷ xs) × (f z ≡ Some y)
+      at : (r : Option Y) → f x ≡ r → (StandsIn y (filter_map f xs) → (z : X) × StandsIn z xs × (f z ≡ Some y))
+          → StandsIn y (cons_option r (filter_map f xs)) → (z : X) × StandsIn z (x ∷ xs) × (f z ≡ Some y)
       at None e g k = let r = g k in (r.0, inr r.1, r.2)
       at (Some w) e g k = elim k [ inl s ↦ (x, inl refl, e ∙ ap Some (sym s)) | inr l ↦ let r = g l in (r.0, inr r.1, r.2) ]
 
-  pub filter_map_in : (f : X → Option Y) (xs : List X) (x : X) (y : Y) → StandsIn x xs → f x ≡ Some y → StandsIn y (filter_map f xs)
+  pub filter_map_in : (f : X → Option Y) (xs : List X) (x : X) (y : Y) → StandsIn x xs → f x ≡ Some y
+      → StandsIn y (filter_map f xs)
   filter_map_in f [] x y k e = absurd k
   filter_map_in f (z ∷ zs) x y k e = at (f z) refl (λ l. filter_map_in f zs x y l e) k
     where
-      at : (r : Option Y) → f z ≡ r → (StandsIn x zs → StandsIn y (filter_map f zs)) → StandsIn x (z ∷ zs) → StandsIn y (cons_option r (filter_map f zs))
+      at : (r : Option Y) → f z ≡ r → (StandsIn x zs → StandsIn y (filter_map f zs)) → StandsIn x (z ∷ zs)
+          → StandsIn y (cons_option r (filter_map f zs))
       at None q g k = elim k [ inl s ↦ absurd (let a = ap f s in cc) | inr l ↦ g l ]
       at (Some w) q g k = elim k [ inl s ↦ inl (let a = ap f s in cc) | inr l ↦ inr (g l) ]
 
-  pub in_flat_map : (f : X → List Y) (xs : List X) (y : Y) → StandsIn y (flat_map f xs) → (x : X) × StandsIn x xs × StandsIn y (f x)
+  pub in_flat_map : (f : X → List Y) (xs : List X) (y : Y) → StandsIn y (flat_map f xs)
+      → (x : X) × StandsIn x xs × StandsIn y (f x)
   in_flat_map f [] y k = absurd k
   in_flat_map f (x ∷ xs) y k =
       elim (in_append (f x) (flat_map f xs) y (subst (StandsIn y) (flat_map-cons f x xs) k)) [

@@ -1,22 +1,15 @@
 -- A forest is what its span rows say.
 use Rattle.std.proofs.Common.{◌≡◌, ℕ, zero, suc, ◌+◌, ◌*◌, ◌<◌, ◌≤◌, Bool, true, false, not, cond, List, [], ◌∷◌, ◌++◌, length, refl, ap, ◌∙◌, arith}
-use Rattle.std.specs.Prelude.{filter, nat_lt}
-use Rattle.std.specs.List.{AllByRecursion}
-use Rattle.std.proofs.lemmas.Bool.{lt-ltb, le-ltb}
-use Rattle.tree_core.specs.Forest.{Forest, Empty, Node, size}
-use Rattle.tree_core.specs.Spans.{number}
-use Rattle.tree_core.specs.declared.rows.Span.{Span}
+use Rattle.std.specs.Prelude.{nat_lt}
 use Rattle.catalogue_core.proofs.DistinctLists.{all_so}
-use Rattle.catalogue_core.proofs.EachOf.{all_append}
-use Rattle.catalogue_core.specs.CatalogueRows.{forest_of_spans, places_said, SpanRows}
-use Rattle.std.proofs.lemmas.List.Elements.{filter-append}
-use Rattle.std.proofs.lemmas.List.{append-nil}
+use Rattle.state_encoding.proofs.Common.{AllByRecursion, Empty, Forest, Node, Span, SpanRows, all_append, append-nil, filter, filter-append, forest_of_spans, le-ltb, lt-ltb, number, places_said, size}
 
 -- the first numbers of a forest that is numbered from k
 abbrev Within : ℕ → ℕ → Span → Type 0
 Within low high span = (low ≤ span.lft) × (span.lft < high)
 
-all_within : (low high low' high' : ℕ) → low' ≤ low → high ≤ high' → (rows : List Span) → AllByRecursion (Within low high) rows → AllByRecursion (Within low' high') rows
+all_within : (low high low' high' : ℕ) → low' ≤ low → high ≤ high' → (rows : List Span)
+    → AllByRecursion (Within low high) rows → AllByRecursion (Within low' high') rows
 all_within low high low' high' a b [] h = tt
 all_within low high low' high' a b (row ∷ rows) h =
     let l = h.0.0 in
@@ -34,7 +27,8 @@ numbers_within k (Node u c o) = (
 
 keeps : (p : Span → Bool) (rows : List Span) → AllByRecursion (λ row. p row ≡ true) rows → filter p rows ≡ rows
 keeps p [] h = refl
-keeps p (row ∷ rows) h = ap (λ b. cond b (row ∷ filter p rows) (filter p rows)) h.0 ∙ ap (λ l. row ∷ l) (keeps p rows h.1)
+keeps p (row ∷ rows) h =
+    ap (λ b. cond b (row ∷ filter p rows) (filter p rows)) h.0 ∙ ap (λ l. row ∷ l) (keeps p rows h.1)
 
 drops : (p : Span → Bool) (rows : List Span) → AllByRecursion (λ row. p row ≡ false) rows → filter p rows ≡ []
 drops p [] h = refl

@@ -1,35 +1,12 @@
 -- The rows of orders and places of a sound state are good.
 use Rattle.std.proofs.Common.{◌≡◌, ℕ, suc, Bool, true, false, not, cond, ◌&&◌, List, [], ◌∷◌, length, Option, Some, None, refl, sym, ap, ◌∙◌, subst, inl, inr, arith}
-use Rattle.std.specs.Prelude.{filter, nat_eq, nat_le, int_le, is_some, option_map, count_by}
-use Rattle.std.specs.Ordering.{int_eq}
-use Rattle.std.specs.List.{list_all, list_any}
-use Rattle.std.proofs.lemmas.Bool.{and_from, and_parts, le-leb, cases_Bool, false≢true, eqb-true, false_from_ne_true, or_left, or_right, not_from_false}
-use Rattle.std.proofs.lemmas.List.Sums.{length-filter}
-use Rattle.isad_core.specs.Days.{IsDayNumber, is_day_number}
-use Rattle.isad_core.proofs.DayLemmas.{is_day_number-true}
-use Rattle.isad_core.specs.Limits.{most_orders}
-use Rattle.desk_core.specs.declared.reader.Place.{Place}
-use Rattle.desk_core.specs.declared.reader.Place.TheVariants.{Shelf, Desk, Out}
-use Rattle.office_core.specs.Words.{nth, some_and, stands}
-use Rattle.office_core.specs.State.{State, Order, End, Done, Cancelled, container_of, containers, is_container, order_out}
-use Rattle.catalogue_core.specs.Members.{StandsIn}
-use Rattle.office_core.specs.Laws.{Standing, Waiting, WithItsReader, Ended, stands_as, standing}
-use Rattle.office_core.specs.SoundDesk.{ExactlyOne, IsFiled, is_out_for}
-use Rattle.office_core.specs.Soundness.{IsSound}
+use Rattle.std.specs.Prelude.{nat_eq}
+use Rattle.desk_core.specs.declared.reader.Place.TheVariants.{Desk}
+use Rattle.office_core.specs.Words.{stands}
 use Rattle.catalogue_core.specs.Sources.{is_between}
-use Rattle.desk_core.specs.DeskRows.{OrderRow, HoldingRow}
-use Rattle.state_encoding.specs.DeskEncoding.{rows_from, order_row, order_rows, state_number, holding_row, holding_rows}
-use Rattle.office_tables.specs.Versions.{Version}
-use Rattle.state_encoding.specs.OfficeRows.{tables}
-use Rattle.isad_core.specs.Words.{are_numbered_from}
-use Rattle.desk_core.specs.DeskCauses.{is_registered, is_live, are_twice, is_of_the_day, is_good_order, are_good_orders, is_out_order, is_good_holding, is_holding_of, has_its_holding, are_good_holdings}
-use Rattle.state_encoding.specs.Causes.{around, is_container_there}
-use Rattle.office_core.proofs.Words.{same_number, numbered_within}
-use Rattle.office_core.proofs.Counts.{numbered_from_one}
-use Rattle.office_core.proofs.Filed.{out_with}
 use Rattle.office_core.proofs.Orders.{out_is}
-use Rattle.office_core.proofs.OrderLaws.{out_stands, stands_out}
 use Rattle.office_core.proofs.Places.{out_order}
+use Rattle.state_encoding.proofs.Common.{Cancelled, Done, End, Ended, ExactlyOne, HoldingRow, IsDayNumber, IsFiled, IsSound, Order, OrderRow, Out, Place, Shelf, Standing, StandsIn, State, Version, Waiting, WithItsReader, and_from, and_parts, are_good_holdings, are_good_orders, are_numbered_from, are_twice, around, cases_Bool, container_of, containers, count_by, eqb-true, false_from_ne_true, false≢true, filter, has_its_holding, holding_row, holding_rows, int_eq, int_le, is_container, is_container_there, is_day_number, is_day_number-true, is_good_holding, is_good_order, is_holding_of, is_live, is_of_the_day, is_out_for, is_out_order, is_registered, is_some, le-leb, length-filter, list_all, list_any, most_orders, nat_le, not_from_false, nth, numbered_from_one, numbered_within, option_map, or_left, or_right, order_out, order_row, order_rows, out_stands, out_with, rows_from, same_number, some_and, standing, stands_as, stands_out, state_number, tables}
 use Rattle.state_encoding.proofs.Members.{all_in, any_of_in, none_of_in, tests_of_in, in_filter_map, filter_map_in, numbers_in}
 use Rattle.state_encoding.proofs.NumberedRows.{rows_are_numbered, length-rows, in_rows, numbered_in}
 use Rattle.state_encoding.proofs.DeskLookups.{registered, container_there, order_there, not_later}
@@ -39,7 +16,8 @@ use Rattle.state_encoding.proofs.DeskLookups.{registered, container_there, order
 abbrev stood : Bool → Bool → Option End → Option Standing
 stood a b p = cond a (Some Waiting) (cond b (Some WithItsReader) (option_map Ended p))
 
-four_states : (a b : Bool) (p : Option End) → ExactlyOne a b (is_some p) → is_between 1 4 (state_number (stood a b p)) ≡ true
+four_states : (a b : Bool) (p : Option End) → ExactlyOne a b (is_some p)
+    → is_between 1 4 (state_number (stood a b p)) ≡ true
 four_states true false None x = refl
 four_states false true None x = refl
 four_states false false (Some Done) x = refl
@@ -50,7 +28,8 @@ four_states true true (Some p) x = absurd x
 four_states false true (Some p) x = absurd x
 four_states false false None x = absurd x
 
-live_now : (a b : Bool) (p : Option End) → ExactlyOne a b (is_some p) → is_between 1 2 (state_number (stood a b p)) ≡ true → p ≡ None
+live_now : (a b : Bool) (p : Option End) → ExactlyOne a b (is_some p)
+    → is_between 1 2 (state_number (stood a b p)) ≡ true → p ≡ None
 live_now true false None x e = refl
 live_now false true None x e = refl
 live_now false false (Some Done) x e = absurd (false≢true e)
@@ -78,16 +57,19 @@ state_two (Some WithItsReader) e = refl
 state_two (Some (Ended Done)) e = absurd (false≢true e)
 state_two (Some (Ended Cancelled)) e = absurd (false≢true e)
 
-kept_rows : {X R : Type 0} (row : ℕ → X → R) (p : R → Bool) (q : X → Bool) → ((n : ℕ) (x : X) → p (row n x) ≡ q x) → (n : ℕ) (xs : List X) → length (filter p (rows_from row n xs)) ≡ length (filter q xs)
+kept_rows : {X R : Type 0} (row : ℕ → X → R) (p : R → Bool) (q : X → Bool) → ((n : ℕ) (x : X) → p (row n x) ≡ q x)
+    → (n : ℕ) (xs : List X) → length (filter p (rows_from row n xs)) ≡ length (filter q xs)
 kept_rows row p q e n [] = refl
 kept_rows row p q e n (x ∷ xs) =
     ap (λ b. length (cond b (row n x ∷ filter p (rows_from row (suc n) xs)) (filter p (rows_from row (suc n) xs)))) (e n x) ∙ at (q x) (kept_rows row p q e (suc n) xs)
   where
-    at : (b : Bool) → length (filter p (rows_from row (suc n) xs)) ≡ length (filter q xs) → length (cond b (row n x ∷ filter p (rows_from row (suc n) xs)) (filter p (rows_from row (suc n) xs))) ≡ length (cond b (x ∷ filter q xs) (filter q xs))
+    at : (b : Bool) → length (filter p (rows_from row (suc n) xs)) ≡ length (filter q xs)
+        → length (cond b (row n x ∷ filter p (rows_from row (suc n) xs)) (filter p (rows_from row (suc n) xs))) ≡ length (cond b (x ∷ filter q xs) (filter q xs))
     at true r = ap suc r
     at false r = r
 
-pub count_rows : {X R : Type 0} (row : ℕ → X → R) (p : R → Bool) (q : X → Bool) → ((n : ℕ) (x : X) → p (row n x) ≡ q x) → (n : ℕ) (xs : List X) → count_by p (rows_from row n xs) ≡ count_by q xs
+pub count_rows : {X R : Type 0} (row : ℕ → X → R) (p : R → Bool) (q : X → Bool) → ((n : ℕ) (x : X) → p (row n x) ≡ q x)
+    → (n : ℕ) (xs : List X) → count_by p (rows_from row n xs) ≡ count_by q xs
 count_rows row p q e n xs = sym (length-filter p (rows_from row n xs)) ∙ (kept_rows row p q e n xs ∙ length-filter q xs)
 
 -- ---- orders
@@ -96,10 +78,12 @@ module _ (version : Version) (s : State) (g : IsSound s) where
   for_it : (o : ℕ) (order : Order) → nth s.orders o ≡ Some order → container_of s o ≡ Some order.container
   for_it o order e = ap (option_map (λ order. order.container)) e
 
-  is_past : (o : ℕ) (order : Order) → nth s.orders o ≡ Some order → is_live (order_row s o order) ≡ true → s.past o ≡ None
+  is_past : (o : ℕ) (order : Order) → nth s.orders o ≡ Some order → is_live (order_row s o order) ≡ true
+      → s.past o ≡ None
   is_past o order e l = is_not_past (container_of s o) (λ c. stands o (s.queue c)) (λ c. is_out_for o (s.place c)) (s.past o) order.container (for_it o order e) (g.desk.filed.each o) l
 
-  not_twice : (o p : ℕ) (order other : Order) → nth s.orders o ≡ Some order → nth s.orders p ≡ Some other → are_twice (order_row s o order) (order_row s p other) ≡ false
+  not_twice : (o p : ℕ) (order other : Order) → nth s.orders o ≡ Some order → nth s.orders p ≡ Some other
+      → are_twice (order_row s o order) (order_row s p other) ≡ false
   not_twice o p order other e q =
       let a = order_row s o order in
       let b = order_row s p other in
@@ -111,7 +95,8 @@ module _ (version : Version) (s : State) (g : IsSound s) where
       let same = g.desk.orders.once o p order other e q (is_past o order e h2.0) (is_past p other q h3.0) (eqb-true order.ticket other.ticket h4.0) (eqb-true order.container other.container h4.1) in
       absurd (false≢true (sym (ap not (ap (nat_eq o) (sym same) ∙ same_number o)) ∙ h1.0)))
 
-  good_order_of : (o : ℕ) (order : Order) → nth s.orders o ≡ Some order → is_good_order (around (tables version s)) (tables version s).desk (order_row s o order) ≡ true
+  good_order_of : (o : ℕ) (order : Order) → nth s.orders o ≡ Some order
+      → is_good_order (around (tables version s)) (tables version s).desk (order_row s o order) ≡ true
   good_order_of o order e =
       let t = tables version s in
       let row = order_row s o order in
@@ -128,7 +113,8 @@ module _ (version : Version) (s : State) (g : IsSound s) where
       let i = in_rows (order_row s) s.orders other k in
       ap (are_twice row) i.3 ∙ not_twice o i.0 order i.1 e i.2))))))))
 
-  good_order : (r : OrderRow) → StandsIn r (order_rows s) → is_good_order (around (tables version s)) (tables version s).desk r ≡ true
+  good_order : (r : OrderRow) → StandsIn r (order_rows s)
+      → is_good_order (around (tables version s)) (tables version s).desk r ≡ true
   good_order r k =
       let i = in_rows (order_row s) s.orders r k in
       ap (is_good_order (around (tables version s)) (tables version s).desk) i.3 ∙ good_order_of i.0 i.1 i.2
@@ -156,7 +142,8 @@ module _ (version : Version) (s : State) (g : IsSound s) where
       ∙ (ap (some_and (λ (order : Order). nat_eq order.container c && nat_eq (state_number (standing s o)) 2)) x.1
       ∙ and_from (nat_eq x.0.container c) (nat_eq (state_number (standing s o)) 2) (ap (λ k. nat_eq k c) x.2 ∙ same_number c) (ap (λ st. nat_eq (state_number st) 2) it))
 
-  good_place : (c : ℕ) (p : Place) (r : HoldingRow) → s.place c ≡ p → holding_row c p ≡ Some r → is_good_holding (around (tables version s)) (tables version s).desk r ≡ true
+  good_place : (c : ℕ) (p : Place) (r : HoldingRow) → s.place c ≡ p → holding_row c p ≡ Some r
+      → is_good_holding (around (tables version s)) (tables version s).desk r ≡ true
   good_place c Shelf r e h = absurd (cc)
   good_place c Desk r e h =
       let q : HoldingRow = record { container = c; place = 1; held_by = None } in
@@ -167,7 +154,8 @@ module _ (version : Version) (s : State) (g : IsSound s) where
       let same : q ≡ r = cc in
       subst (λ r. is_good_holding (around (tables version s)) (tables version s).desk r ≡ true) same (and_from (is_container_there (tables version s) c) (list_any (is_out_order o c) (order_rows s)) (container_there version s c ∙ is_there c (λ f. absurd (cc))) (out_row c o e))
 
-  good_holding : (r : HoldingRow) → StandsIn r (holding_rows s) → is_good_holding (around (tables version s)) (tables version s).desk r ≡ true
+  good_holding : (r : HoldingRow) → StandsIn r (holding_rows s)
+      → is_good_holding (around (tables version s)) (tables version s).desk r ≡ true
   good_holding r k =
       let i = in_filter_map (λ c. holding_row c (s.place c)) (containers s) r k in
       good_place i.0 (s.place i.0) r refl i.2
@@ -177,7 +165,8 @@ module _ (version : Version) (s : State) (g : IsSound s) where
   out_at o Desk e = absurd (cc)
   out_at o (Out k) e = ap Out (cc)
 
-  holding_of : (o : ℕ) (order : Order) → nth s.orders o ≡ Some order → nat_eq (state_number (standing s o)) 2 ≡ true → list_any (is_holding_of (order_row s o order)) (holding_rows s) ≡ true
+  holding_of : (o : ℕ) (order : Order) → nth s.orders o ≡ Some order → nat_eq (state_number (standing s o)) 2 ≡ true
+      → list_any (is_holding_of (order_row s o order)) (holding_rows s) ≡ true
   holding_of o order e two =
       let x = out_stands (container_of s o) (λ k. stands o (s.queue k)) (λ k. is_out_for o (s.place k)) (s.past o) (state_two (standing s o) two) in
       let c = x.0 in

@@ -1,15 +1,7 @@
 -- The rows of a forest's places have numbers that they may have: those of its units, and else no more than twice as many as it
 -- has units.
 use Rattle.std.proofs.Common.{◌≡◌, ℕ, ◌+◌, ◌*◌, ◌≤◌, ◌^◌, true, Option, Some, refl, ◌∙◌, inl, inr, arith}
-use Rattle.std.specs.List.{list_all}
-use Rattle.std.specs.Option.{option_map_or}
-use Rattle.std.proofs.lemmas.Bool.{and_from, lt-ltb}
-use Rattle.std.proofs.lemmas.List.Folds.{list_all-append}
-use Rattle.tree_core.specs.Forest.{Forest, Empty, Node, nodes, size}
-use Rattle.tree_core.specs.Links.{rows_below}
-use Rattle.tree_core.specs.Spans.{number}
-use Rattle.tree_core.proofs.Lists.{In, In-append_left, In-append_right}
-use Rattle.catalogue_core.specs.CatalogueCauses.{is_unit_number, is_place_number, is_good_link, is_good_span}
+use Rattle.state_encoding.proofs.Common.{Empty, Forest, In, In-append_left, In-append_right, Node, and_from, is_good_link, is_good_span, is_place_number, is_unit_number, list_all, list_all-append, lt-ltb, nodes, number, option_map_or, rows_below, size}
 
 abbrev AreUnitNumbers : Forest ℕ → Type 0
 AreUnitNumbers f = (u : ℕ) → In u (nodes f) → is_unit_number u ≡ true
@@ -17,7 +9,8 @@ AreUnitNumbers f = (u : ℕ) → In u (nodes f) → is_unit_number u ≡ true
 fits : (n more : ℕ) → n + more ≤ 2 ^ 32 → 1 ≤ more → is_place_number n ≡ true
 fits n more few some = lt-ltb n (2 ^ 32) (omega (arith, few, some))
 
-pub links_numbered : (parent : Option ℕ) (k : ℕ) (f : Forest ℕ) → option_map_or is_unit_number parent true ≡ true → AreUnitNumbers f → k + size f ≤ 2 ^ 32 → list_all is_good_link (rows_below parent k f) ≡ true
+pub links_numbered : (parent : Option ℕ) (k : ℕ) (f : Forest ℕ) → option_map_or is_unit_number parent true ≡ true
+    → AreUnitNumbers f → k + size f ≤ 2 ^ 32 → list_all is_good_link (rows_below parent k f) ≡ true
 links_numbered parent k Empty p n few = refl
 links_numbered parent k (Node u c o) p n few =
     let here = n u (inl refl) in
@@ -28,7 +21,8 @@ links_numbered parent k (Node u c o) p n few =
     (list_all-append is_good_link (rows_below (Some u) 1 c) (rows_below parent (k + 1) o)
     ∙ and_from (list_all is_good_link (rows_below (Some u) 1 c)) _ below beside)
 
-pub spans_numbered : (k : ℕ) (f : Forest ℕ) → AreUnitNumbers f → k + 2 * size f ≤ 2 ^ 32 → list_all is_good_span (number k f) ≡ true
+pub spans_numbered : (k : ℕ) (f : Forest ℕ) → AreUnitNumbers f → k + 2 * size f ≤ 2 ^ 32
+    → list_all is_good_span (number k f) ≡ true
 spans_numbered k Empty n few = refl
 spans_numbered k (Node u c o) n few =
     let here = n u (inl refl) in

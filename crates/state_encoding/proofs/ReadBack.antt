@@ -1,25 +1,10 @@
 -- Seats, runs and permits are what their rows say.
 use Rattle.std.proofs.Common.{◌≡◌, ℕ, zero, suc, ◌<◌, ◌≤◌, Bool, true, false, cond, ◌||◌, List, [], ◌∷◌, ◌++◌, length, Option, Some, None, refl, sym, ap, ◌∙◌, inl, inr, arith, append_assoc}
-use Rattle.std.specs.Prelude.{nat_eq, map, filter, find, option_map, is_some}
-use Rattle.std.specs.List.{flat_map, AllByRecursion}
-use Rattle.std.proofs.Math.Path.{fun_ext}
-use Rattle.std.proofs.lemmas.List.{map-append, append-nil}
-use Rattle.std.proofs.lemmas.List.Concat.{flat_map-cons}
+use Rattle.std.specs.Prelude.{nat_eq, map}
 use Rattle.std.proofs.lemmas.Grind.{flat_map-append}
-use Rattle.std.proofs.lemmas.Bool.{cases_eq, cases_Bool, false≢true, eq-eqb}
-use Rattle.catalogue_core.proofs.EachOf.{all_append}
-use Rattle.office_core.specs.Words.{nth, numbers_to, stands}
-use Rattle.office_core.specs.State.{Line, Run, Permit, State}
-use Rattle.desk_core.specs.DeskRows.{SeatRow, RunLineRow, PermitRow}
-use Rattle.state_encoding.specs.DeskEncoding.{rows_from, seat_rows_from, run_row, run_line_row, lines_from, permit_row, permit_rows}
-use Rattle.office_tables.specs.Versions.{Version}
-use Rattle.catalogue_core.specs.CatalogueRows.{container_row, box_from}
-use Rattle.state_encoding.specs.OfficeRows.{seats_said, line_from, run_from, permits_said, SaysAllButUnits}
+use Rattle.office_core.specs.Words.{stands}
+use Rattle.state_encoding.proofs.Common.{AllByRecursion, AreGoodPermits, IsSoundDesk, Line, Permit, PermitRow, Run, RunLineRow, SaysAllButUnits, SeatRow, State, Version, all_append, append-nil, box_from, cases_Bool, cases_eq, container_row, eq-eqb, false≢true, filter, filter-append, find, flat_map, flat_map-cons, fun_ext, is_some, line_from, lines_from, map-append, none_to, nth, numbered_from_one, numbered_within, numbers_to, option_map, other_number, permit_row, permit_rows, permits_said, rows_from, run_from, run_line_row, run_row, same_number, seat_rows_from, seats_said, stands-push}
 use Rattle.state_encoding.proofs.TableLaws.{rows_back, reads_back}
-use Rattle.office_core.specs.SoundDesk.{AreGoodPermits, IsSoundDesk}
-use Rattle.office_core.proofs.Words.{same_number, other_number, stands-push, numbered_within}
-use Rattle.office_core.proofs.Counts.{none_to, numbered_from_one}
-use Rattle.std.proofs.lemmas.List.Elements.{filter-append}
 
 -- ---- seats
 
@@ -30,12 +15,14 @@ from_on : (n : ℕ) (seats : List (Option ℕ)) → AllByRecursion (λ row. n �
 from_on n [] = tt
 from_on n (None ∷ seats) = further (seat_rows_from (suc n) seats) (from_on (suc n) seats)
   where
-    further : (rows : List SeatRow) → AllByRecursion (λ row. suc n ≤ row.seat) rows → AllByRecursion (λ row. n ≤ row.seat) rows
+    further : (rows : List SeatRow) → AllByRecursion (λ row. suc n ≤ row.seat) rows
+        → AllByRecursion (λ row. n ≤ row.seat) rows
     further [] h = tt
     further (row ∷ rows) h = (let l = h.0 in omega (arith, l), further rows h.1)
 from_on n (Some t ∷ seats) = (omega arith, further (seat_rows_from (suc n) seats) (from_on (suc n) seats))
   where
-    further : (rows : List SeatRow) → AllByRecursion (λ row. suc n ≤ row.seat) rows → AllByRecursion (λ row. n ≤ row.seat) rows
+    further : (rows : List SeatRow) → AllByRecursion (λ row. suc n ≤ row.seat) rows
+        → AllByRecursion (λ row. n ≤ row.seat) rows
     further [] h = tt
     further (row ∷ rows) h = (let l = h.0 in omega (arith, l), further rows h.1)
 
@@ -45,7 +32,8 @@ nobody_at n (row ∷ rows) h =
     let l = h.0 in
     ap (λ b. cond b (Some row) (find (sits_at n) rows)) (other_number row.seat n (λ e. omega (arith, l, e))) ∙ nobody_at n rows h.1
 
-lower_row : (more m : ℕ) (row : SeatRow) (rows : List SeatRow) → row.seat < m → seats_said more m (row ∷ rows) ≡ seats_said more m rows
+lower_row : (more m : ℕ) (row : SeatRow) (rows : List SeatRow) → row.seat < m
+    → seats_said more m (row ∷ rows) ≡ seats_said more m rows
 lower_row zero m row rows h = refl
 lower_row (suc more) m row rows h =
     ap (λ b. option_map (λ (r : SeatRow). r.ticket) (cond b (Some row) (find (sits_at m) rows)) ∷ seats_said more (suc m) (row ∷ rows)) (other_number row.seat m (λ e. omega (arith, h, e)))
@@ -65,9 +53,11 @@ seats_back n (Some t ∷ seats) =
 abbrev of_run : ℕ → RunLineRow → Bool
 of_run n row = nat_eq row.run n
 
-no_lines : (n : ℕ) (rows : List RunLineRow) → AllByRecursion (λ row. nat_eq row.run n ≡ false) rows → filter (of_run n) rows ≡ []
+no_lines : (n : ℕ) (rows : List RunLineRow) → AllByRecursion (λ row. nat_eq row.run n ≡ false) rows
+    → filter (of_run n) rows ≡ []
 no_lines n [] h = refl
-no_lines n (row ∷ rows) h = ap (λ b. cond b (row ∷ filter (of_run n) rows) (filter (of_run n) rows)) h.0 ∙ no_lines n rows h.1
+no_lines n (row ∷ rows) h =
+    ap (λ b. cond b (row ∷ filter (of_run n) rows) (filter (of_run n) rows)) h.0 ∙ no_lines n rows h.1
 
 own_lines : (n : ℕ) (ls : List Line) → map line_from (filter (of_run n) (map (run_line_row n) ls)) ≡ ls
 own_lines n [] = refl
@@ -75,26 +65,31 @@ own_lines n (l ∷ ls) =
     ap (λ b. map line_from (cond b (run_line_row n l ∷ filter (of_run n) (map (run_line_row n) ls)) (filter (of_run n) (map (run_line_row n) ls)))) (same_number n)
     ∙ ap (λ k. l ∷ k) (own_lines n ls)
 
-all_of_run : (n m : ℕ) (ls : List Line) → nat_eq n m ≡ false → AllByRecursion (λ row. nat_eq row.run m ≡ false) (map (run_line_row n) ls)
+all_of_run : (n m : ℕ) (ls : List Line) → nat_eq n m ≡ false
+    → AllByRecursion (λ row. nat_eq row.run m ≡ false) (map (run_line_row n) ls)
 all_of_run n m [] h = tt
 all_of_run n m (l ∷ ls) h = (h, all_of_run n m ls h)
 
 later_lines : (n m : ℕ) (runs : List Run) → m < n → AllByRecursion (λ row. nat_eq row.run m ≡ false) (lines_from n runs)
 later_lines n m [] h = tt
-later_lines n m (run ∷ runs) h = all_append (λ row. nat_eq row.run m ≡ false) (map (run_line_row n) run.lines) (lines_from (suc n) runs) (all_of_run n m run.lines (other_number n m (λ e. omega (arith, h, e)))) (later_lines (suc n) m runs (omega (arith, h)))
+later_lines n m (run ∷ runs) h =
+    all_append (λ row. nat_eq row.run m ≡ false) (map (run_line_row n) run.lines) (lines_from (suc n) runs) (all_of_run n m run.lines (other_number n m (λ e. omega (arith, h, e)))) (later_lines (suc n) m runs (omega (arith, h)))
 
 -- the lines before those of run n are of lesser runs
 Before : ℕ → List RunLineRow → Type 0
 Before n front = (m : ℕ) → n ≤ m → AllByRecursion (λ row. nat_eq row.run m ≡ false) front
 
-runs_from : (front : List RunLineRow) (n : ℕ) (runs : List Run) → Before n front → map (run_from (front ++ lines_from n runs)) (rows_from run_row n runs) ≡ runs
+runs_from : (front : List RunLineRow) (n : ℕ) (runs : List Run) → Before n front
+    → map (run_from (front ++ lines_from n runs)) (rows_from run_row n runs) ≡ runs
 unfolding Before
 runs_from front n [] h = refl
 runs_from front n (run ∷ runs) h =
     let mine : List RunLineRow = map (run_line_row n) run.lines in
     let rest : List RunLineRow = lines_from (suc n) runs in
     let all : List RunLineRow = front ++ (mine ++ rest) in
-    let a : filter (of_run n) all ≡ filter (of_run n) mine = filter-append (of_run n) front (mine ++ rest) ∙ (ap (λ l. l ++ filter (of_run n) (mine ++ rest)) (no_lines n front (h n (omega arith))) ∙ (filter-append (of_run n) mine rest ∙ (ap (λ l. filter (of_run n) mine ++ l) (no_lines n rest (later_lines (suc n) n runs (omega arith))) ∙ nothing_more (filter (of_run n) mine)))) in
+    let a : filter (of_run n) all ≡ filter (of_run n) mine =
+    filter-append (of_run n) front (mine ++ rest)
+    ∙ (ap (λ l. l ++ filter (of_run n) (mine ++ rest)) (no_lines n front (h n (omega arith))) ∙ (filter-append (of_run n) mine rest ∙ (ap (λ l. filter (of_run n) mine ++ l) (no_lines n rest (later_lines (suc n) n runs (omega arith))) ∙ nothing_more (filter (of_run n) mine)))) in
     ap (λ ls. record { day = run.day; lines = map line_from ls } ∷ map (run_from all) (rows_from run_row (suc n) runs)) a
     ∙ (ap (λ ls. record { day = run.day; lines = ls } ∷ map (run_from all) (rows_from run_row (suc n) runs)) (own_lines n run.lines)
     ∙ ap (λ l. run ∷ l) (ap (λ l. map (run_from l) (rows_from run_row (suc n) runs)) (sym (append_assoc front mine rest)) ∙ runs_from (front ++ mine) (suc n) runs (λ m k. all_append (λ row. nat_eq row.run m ≡ false) front mine (h m (omega (arith, k))) (all_of_run n m run.lines (other_number n m (λ e. omega (arith, k, e)))))))
@@ -115,7 +110,8 @@ of_ticket t row = nat_eq row.ticket t
 permits_of : (permits : ℕ → List Permit) → ℕ → List PermitRow
 permits_of permits n = flat_map (λ t. map (permit_row t) (permits t)) (numbers_to n)
 
-own_permits : (t u : ℕ) (ps : List Permit) (b : Bool) → nat_eq u t ≡ b → permits_said (map (permit_row u) ps) t ≡ cond b ps []
+own_permits : (t u : ℕ) (ps : List Permit) (b : Bool) → nat_eq u t ≡ b
+    → permits_said (map (permit_row u) ps) t ≡ cond b ps []
 own_permits t u [] true e = refl
 own_permits t u [] false e = refl
 own_permits t u (p ∷ ps) true e =
@@ -136,13 +132,15 @@ said_parts xs ys t =
     ap (map (λ (row : PermitRow). record { unit = row.unit; until = row.until })) (filter-append (of_ticket t) xs ys)
     ∙ map-append (λ (row : PermitRow). record { unit = row.unit; until = row.until }) (filter (of_ticket t) xs) (filter (of_ticket t) ys)
 
-one_more : (permits : ℕ → List Permit) (n : ℕ) → permits_of permits (suc n) ≡ permits_of permits n ++ map (permit_row (suc n)) (permits (suc n))
+one_more : (permits : ℕ → List Permit) (n : ℕ)
+    → permits_of permits (suc n) ≡ permits_of permits n ++ map (permit_row (suc n)) (permits (suc n))
 unfolding permits_of
 one_more permits n =
     flat_map-append (λ t. map (permit_row t) (permits t)) (numbers_to n) (suc n ∷ [])
     ∙ ap (λ l. permits_of permits n ++ l) (flat_map-cons (λ t. map (permit_row t) (permits t)) (suc n) [] ∙ append-nil (map (permit_row (suc n)) (permits (suc n))))
 
-permits_all : (permits : ℕ → List Permit) (n t : ℕ) → permits_said (permits_of permits n) t ≡ cond (stands t (numbers_to n)) (permits t) []
+permits_all : (permits : ℕ → List Permit) (n t : ℕ)
+    → permits_said (permits_of permits n) t ≡ cond (stands t (numbers_to n)) (permits t) []
 unfolding permits_of
 permits_all permits zero t = refl
 permits_all permits (suc n) t =
@@ -167,8 +165,11 @@ permits_all permits (suc n) t =
 stands_there : (n t : ℕ) → 1 ≤ t → t ≤ n → stands t (numbers_to n) ≡ true
 stands_there n t l h = elim (cases_Bool (stands t (numbers_to n))) [ inl e ↦ e | inr e ↦ absurd (false≢true (sym (none_to (nat_eq t) n t e l h) ∙ same_number t)) ]
 
-ticket_permits : (s : State) (t : ℕ) (b : Bool) → is_some (nth s.readers t) ≡ b → (is_some (nth s.readers t) ≡ false → s.permits t ≡ []) → cond (stands t (numbers_to (length s.readers))) (s.permits t) [] ≡ s.permits t
-ticket_permits s t true e none = ap (λ b. cond b (s.permits t) []) (stands_there (length s.readers) t (numbered_from_one s.readers t e) (numbered_within s.readers t e))
+ticket_permits : (s : State) (t : ℕ) (b : Bool) → is_some (nth s.readers t) ≡ b
+    → (is_some (nth s.readers t) ≡ false → s.permits t ≡ [])
+    → cond (stands t (numbers_to (length s.readers))) (s.permits t) [] ≡ s.permits t
+ticket_permits s t true e none =
+    ap (λ b. cond b (s.permits t) []) (stands_there (length s.readers) t (numbered_from_one s.readers t e) (numbered_within s.readers t e))
 ticket_permits s t false e none = none_either (stands t (numbers_to (length s.readers))) (none e)
   where
     none_either : (b : Bool) → s.permits t ≡ [] → cond b (s.permits t) [] ≡ s.permits t
@@ -176,7 +177,8 @@ ticket_permits s t false e none = none_either (stands t (numbers_to (length s.re
     none_either false n = sym n
 
 -- where only readers have permits
-pub permits_known : (s : State) → ((t : ℕ) → is_some (nth s.readers t) ≡ false → s.permits t ≡ []) → permits_said (permit_rows s) ≡ s.permits
+pub permits_known : (s : State) → ((t : ℕ) → is_some (nth s.readers t) ≡ false → s.permits t ≡ [])
+    → permits_said (permit_rows s) ≡ s.permits
 unfolding permits_of
 permits_known s none = fun_ext (λ t. permits_all s.permits (length s.readers) t ∙ ticket_permits s t (is_some (nth s.readers t)) refl (none t))
 

@@ -1,35 +1,16 @@
 -- The rows of readers, seats and permits of a sound state are good.
 use Rattle.std.proofs.Common.{◌≡◌, ℕ, suc, ◌+◌, ◌<◌, ◌≤◌, true, List, [], ◌∷◌, length, Option, Some, None, refl, sym, ap, ◌∙◌, subst, inl, inr, arith}
-use Rattle.std.specs.Prelude.{map, filter, nat_eq, nat_le, count_by}
-use Rattle.std.specs.List.{list_all}
-use Rattle.std.proofs.lemmas.Bool.{and_from, le-leb, cases_Bool}
-use Rattle.std.proofs.lemmas.List.{length-map}
-use Rattle.std.proofs.lemmas.List.Sums.{length-filter}
-use Rattle.isad_core.specs.Days.{IsDayNumber, is_day_number}
-use Rattle.isad_core.proofs.DayLemmas.{is_day_number-true}
-use Rattle.office_core.specs.Words.{numbers_to}
-use Rattle.office_core.specs.State.{Permit, State, is_ticket, is_seat_of}
-use Rattle.catalogue_core.specs.UnitLookup.{has_unit}
-use Rattle.catalogue_core.specs.Members.{StandsIn}
-use Rattle.office_core.specs.Soundness.{IsSound}
-use Rattle.office_core.specs.Rules.{is_name}
+use Rattle.std.specs.Prelude.{map, nat_eq}
 use Rattle.catalogue_core.specs.Sources.{is_between}
-use Rattle.isad_core.specs.Limits.{most_tickets, most_permits}
-use Rattle.desk_core.specs.DeskRows.{ReaderRow, SeatRow, PermitRow}
-use Rattle.state_encoding.specs.DeskEncoding.{reader_row, reader_rows, seat_rows_from, seat_rows, permit_row, permit_rows}
-use Rattle.office_tables.specs.Versions.{Version}
-use Rattle.state_encoding.specs.OfficeRows.{tables}
-use Rattle.isad_core.specs.Words.{are_numbered_from}
-use Rattle.desk_core.specs.DeskCauses.{is_good_reader, is_good_seat, is_good_permit, are_good_readers, is_registered}
-use Rattle.state_encoding.specs.Causes.{around, is_unit_there}
-use Rattle.office_core.proofs.Words.{same_number}
+use Rattle.state_encoding.proofs.Common.{IsDayNumber, IsSound, Permit, PermitRow, ReaderRow, SeatRow, StandsIn, State, Version, and_from, are_good_readers, are_numbered_from, around, cases_Bool, count_by, filter, has_unit, is_day_number, is_day_number-true, is_good_permit, is_good_reader, is_good_seat, is_name, is_registered, is_seat_of, is_ticket, is_unit_there, le-leb, length-filter, length-map, list_all, most_permits, most_tickets, nat_le, numbers_to, permit_row, permit_rows, reader_row, reader_rows, same_number, seat_rows, seat_rows_from, tables}
 use Rattle.state_encoding.proofs.ReadBack.{permits_back}
 use Rattle.state_encoding.proofs.Members.{all_in, any_of_in, tests_of_in, in_flat_map, in_map}
 use Rattle.state_encoding.proofs.NumberedRows.{rows_are_numbered, length-rows, in_rows, numbered_in}
 use Rattle.state_encoding.proofs.DeskLookups.{registered, unit_there, between}
 
 -- a seat row is that of a taken seat
-pub in_seats : (n : ℕ) (seats : List (Option ℕ)) (r : SeatRow) → StandsIn r (seat_rows_from n seats) → (n ≤ r.seat) × (r.seat < n + length seats) × StandsIn (Some r.ticket) seats
+pub in_seats : (n : ℕ) (seats : List (Option ℕ)) (r : SeatRow) → StandsIn r (seat_rows_from n seats)
+    → (n ≤ r.seat) × (r.seat < n + length seats) × StandsIn (Some r.ticket) seats
 in_seats n [] r k = absurd k
 in_seats n (None ∷ seats) r k =
     let i = in_seats (suc n) seats r k in
@@ -57,7 +38,8 @@ module _ (version : Version) (s : State) (g : IsSound s) where
       ∙ and_from (is_name i.1.name) (is_day_number i.1.until) (g.desk.readers.names i.0 i.1 i.2)
       (is_day_number-true i.1.until (all_in (λ reader. IsDayNumber reader.until) s.readers i.1 g.days.readers (numbered_in s.readers i.0 i.1 i.2)))
 
-  good_seat : (r : SeatRow) → StandsIn r (seat_rows s) → is_good_seat (around (tables version s)) (tables version s).desk r ≡ true
+  good_seat : (r : SeatRow) → StandsIn r (seat_rows s)
+      → is_good_seat (around (tables version s)) (tables version s).desk r ≡ true
   good_seat r k =
       let i = in_seats 1 s.seats r k in
       let low = i.0 in
@@ -74,14 +56,16 @@ module _ (version : Version) (s : State) (g : IsSound s) where
         | inr e ↦ absurd (subst (StandsIn p) (g.desk.permits.known ticket e) k)
       ]
 
-  permits_count : (ticket : ℕ) → count_by (λ (other : PermitRow). nat_eq other.ticket ticket) (permit_rows s) ≡ length (s.permits ticket)
+  permits_count : (ticket : ℕ)
+      → count_by (λ (other : PermitRow). nat_eq other.ticket ticket) (permit_rows s) ≡ length (s.permits ticket)
   permits_count ticket =
       let mine = filter (λ (other : PermitRow). nat_eq other.ticket ticket) (permit_rows s) in
       sym (length-filter (λ (other : PermitRow). nat_eq other.ticket ticket) (permit_rows s))
       ∙ (sym (length-map mine (λ (row : PermitRow). (let p : Permit = record { unit = row.unit; until = row.until } in p)))
       ∙ ap (λ permits. length (permits ticket)) (permits_back s g.desk.permits))
 
-  good_permit_of : (ticket : ℕ) (p : Permit) → StandsIn p (s.permits ticket) → is_good_permit (around (tables version s)) (tables version s).desk (permit_row ticket p) ≡ true
+  good_permit_of : (ticket : ℕ) (p : Permit) → StandsIn p (s.permits ticket)
+      → is_good_permit (around (tables version s)) (tables version s).desk (permit_row ticket p) ≡ true
   good_permit_of ticket p k =
       let t = tables version s in
       let few = g.desk.permits.few ticket in
@@ -91,7 +75,8 @@ module _ (version : Version) (s : State) (g : IsSound s) where
       (and_from (is_day_number p.until) _ (is_day_number-true p.until (all_in (λ permit. IsDayNumber permit.until) (s.permits ticket) p (g.days.permits ticket) k))
       (le-leb (count_by (λ (other : PermitRow). nat_eq other.ticket ticket) t.desk.permits) most_permits (omega (arith, count, few)))))
 
-  good_permit : (r : PermitRow) → StandsIn r (permit_rows s) → is_good_permit (around (tables version s)) (tables version s).desk r ≡ true
+  good_permit : (r : PermitRow) → StandsIn r (permit_rows s)
+      → is_good_permit (around (tables version s)) (tables version s).desk r ≡ true
   good_permit r k =
       let i = in_flat_map (λ t. map (permit_row t) (s.permits t)) (numbers_to (length s.readers)) r k in
       let j = in_map (permit_row i.0) (s.permits i.0) r i.2 in

@@ -1,26 +1,7 @@
 -- The rows of runs of a sound state are good, and its day's rules hold.
 use Rattle.std.proofs.Common.{◌≡◌, ℕ, suc, ◌+◌, true, false, not, ◌&&◌, List, [], ◌∷◌, length, Option, Some, None, refl, sym, ap, ◌∙◌, inl, inr, arith}
-use Rattle.std.specs.Prelude.{map, filter, nat_eq, nat_le, int_le, is_some, option_map, option_and_then, slice_get, count_by}
-use Rattle.std.specs.List.{list_all, list_any}
-use Rattle.std.proofs.lemmas.Bool.{and_from, le-leb}
-use Rattle.std.proofs.lemmas.List.{length-map}
-use Rattle.std.proofs.lemmas.List.Sums.{length-filter}
-use Rattle.isad_core.specs.Days.{IsDayNumber, is_day_number}
-use Rattle.isad_core.proofs.DayLemmas.{is_day_number-true}
-use Rattle.office_core.specs.Words.{nth, some_and}
-use Rattle.office_core.specs.State.{State, Order, Line, Run, containers, is_seated, held_count, opens, order_out}
-use Rattle.catalogue_core.specs.Members.{StandsIn}
-use Rattle.office_core.specs.SoundDesk.{IsGoodLine}
-use Rattle.office_core.specs.Soundness.{IsSound}
-use Rattle.isad_core.specs.Limits.{most_runs}
-use Rattle.desk_core.specs.DeskRows.{RunRow, RunLineRow, OrderRow}
-use Rattle.state_encoding.specs.DeskEncoding.{run_row, run_rows, run_line_row, lines_from, run_line_rows}
-use Rattle.office_tables.specs.Versions.{Version}
-use Rattle.state_encoding.specs.OfficeRows.{line_from, run_from, tables}
-use Rattle.isad_core.specs.Words.{are_numbered_from}
-use Rattle.desk_core.specs.DeskCauses.{is_good_run, is_order_of_line, is_good_line, are_good_runs}
-use Rattle.state_encoding.specs.Causes.{around, holds_well, is_held_against_rules, day_is_broken}
-use Rattle.office_core.proofs.Words.{same_number}
+use Rattle.std.specs.Prelude.{map, nat_eq}
+use Rattle.state_encoding.proofs.Common.{IsDayNumber, IsGoodLine, IsSound, Line, Order, OrderRow, Run, RunLineRow, RunRow, StandsIn, State, Version, and_from, are_good_runs, are_numbered_from, around, containers, count_by, day_is_broken, filter, held_count, holds_well, int_le, is_day_number, is_day_number-true, is_good_line, is_good_run, is_held_against_rules, is_order_of_line, is_seated, is_some, le-leb, length-filter, length-map, line_from, lines_from, list_all, list_any, most_runs, nat_le, nth, opens, option_and_then, option_map, order_out, run_from, run_line_row, run_line_rows, run_row, run_rows, same_number, slice_get, some_and, tables}
 use Rattle.state_encoding.proofs.ReadBack.{runs_back}
 use Rattle.state_encoding.proofs.Whole.{says_the_state}
 use Rattle.state_encoding.proofs.Members.{all_in, none_of_in, tests_of_in, in_append, in_map}
@@ -28,7 +9,8 @@ use Rattle.state_encoding.proofs.NumberedRows.{rows_are_numbered, length-rows, i
 use Rattle.state_encoding.proofs.DeskLookups.{order_there, run_there, between, not_later}
 
 -- a line row is a line of a run
-pub in_lines_from : (n : ℕ) (runs : List Run) (r : RunLineRow) → StandsIn r (lines_from n runs) → (j : ℕ) × (run : Run) × (line : Line) × (slice_get runs j ≡ Some run) × StandsIn line run.lines × (r ≡ run_line_row (n + j) line)
+pub in_lines_from : (n : ℕ) (runs : List Run) (r : RunLineRow) → StandsIn r (lines_from n runs)
+    → (j : ℕ) × (run : Run) × (line : Line) × (slice_get runs j ≡ Some run) × StandsIn line run.lines × (r ≡ run_line_row (n + j) line)
 in_lines_from n [] r k = absurd k
 in_lines_from n (run ∷ runs) r k =
     elim (in_append (map (run_line_row n) run.lines) (lines_from (suc n) runs) r k) [
@@ -42,32 +24,43 @@ in_lines_from n (run ∷ runs) r k =
           (suc i.0, i.1, i.2, i.3, i.4, i.5 ∙ ap (λ m. run_line_row m i.2) z)
     ]
 
-pub in_lines : (runs : List Run) (r : RunLineRow) → StandsIn r (lines_from 1 runs) → (m : ℕ) × (run : Run) × (line : Line) × (nth runs m ≡ Some run) × StandsIn line run.lines × (r ≡ run_line_row m line)
+pub in_lines : (runs : List Run) (r : RunLineRow) → StandsIn r (lines_from 1 runs)
+    → (m : ℕ) × (run : Run) × (line : Line) × (nth runs m ≡ Some run) × StandsIn line run.lines × (r ≡ run_line_row m line)
 in_lines runs r k =
     let i = in_lines_from 1 runs r k in
     let z : 1 + i.0 ≡ suc i.0 = omega arith in
     (suc i.0, i.1, i.2, i.3, i.4, i.5 ∙ ap (λ m. run_line_row m i.2) z)
 
-of_container : (r : Option Order) (c : ℕ) → option_map (λ order. order.container) r ≡ Some c → some_and (λ order. nat_eq order.container c) r ≡ true
+of_container : (r : Option Order) (c : ℕ) → option_map (λ order. order.container) r ≡ Some c
+    → some_and (λ order. nat_eq order.container c) r ≡ true
 of_container None c e = absurd (cc)
 of_container (Some order) c e = let k : order.container ≡ c = cc in ap (λ n. nat_eq n c) k ∙ same_number c
 
-both_of : (r : Option Order) (c t : ℕ) → some_and (λ order. nat_eq order.container c) r ≡ true → some_and (λ order. nat_eq order.ticket t) r ≡ true → some_and (λ order. nat_eq order.container c && nat_eq order.ticket t) r ≡ true
+both_of : (r : Option Order) (c t : ℕ) → some_and (λ order. nat_eq order.container c) r ≡ true
+    → some_and (λ order. nat_eq order.ticket t) r ≡ true
+    → some_and (λ order. nat_eq order.container c && nat_eq order.ticket t) r ≡ true
 both_of None c t a b = a
 both_of (Some order) c t a b = and_from (nat_eq order.container c) (nat_eq order.ticket t) a b
 
 module _ (version : Version) (s : State) (g : IsSound s) where
-  lines_count : (n : ℕ) (run : Run) → nth s.runs n ≡ Some run → count_by (λ (line : RunLineRow). nat_eq line.run n) (run_line_rows s) ≡ length run.lines
+  lines_count : (n : ℕ) (run : Run) → nth s.runs n ≡ Some run
+      → count_by (λ (line : RunLineRow). nat_eq line.run n) (run_line_rows s) ≡ length run.lines
   lines_count n run e =
       let rows = run_line_rows s in
       let mine = filter (λ (line : RunLineRow). nat_eq line.run n) rows in
-      let a : option_map (λ (r : Run). length r.lines) (nth (map (run_from rows) (run_rows s)) n) ≡ Some (length run.lines) = ap (λ runs. option_map (λ (r : Run). length r.lines) (nth runs n)) (runs_back s.runs) ∙ ap (option_map (λ (r : Run). length r.lines)) e in
-      let b : nth (map (run_from rows) (run_rows s)) n ≡ Some (run_from rows (run_row n run)) = numbered-map (run_from rows) (run_rows s) n ∙ ap (option_map (run_from rows)) (numbered-rows run_row s.runs n ∙ ap (option_map (run_row n)) e) in
-      let c : Some (length (map line_from mine)) ≡ Some (length run.lines) = sym (ap (option_map (λ (r : Run). length r.lines)) b) ∙ a in
+      let a : option_map (λ (r : Run). length r.lines) (nth (map (run_from rows) (run_rows s)) n) ≡ Some (length run.lines) =
+      ap (λ runs. option_map (λ (r : Run). length r.lines) (nth runs n)) (runs_back s.runs)
+      ∙ ap (option_map (λ (r : Run). length r.lines)) e in
+      let b : nth (map (run_from rows) (run_rows s)) n ≡ Some (run_from rows (run_row n run)) =
+      numbered-map (run_from rows) (run_rows s) n
+      ∙ ap (option_map (run_from rows)) (numbered-rows run_row s.runs n ∙ ap (option_map (run_row n)) e) in
+      let c : Some (length (map line_from mine)) ≡ Some (length run.lines) =
+      sym (ap (option_map (λ (r : Run). length r.lines)) b) ∙ a in
       let d : length (map line_from mine) ≡ length run.lines = cc in
       sym (length-filter (λ (line : RunLineRow). nat_eq line.run n) rows) ∙ (sym (length-map mine line_from) ∙ d)
 
-  good_run_of : (n : ℕ) (run : Run) → nth s.runs n ≡ Some run → is_good_run (around (tables version s)) (tables version s).desk (run_row n run) ≡ true
+  good_run_of : (n : ℕ) (run : Run) → nth s.runs n ≡ Some run
+      → is_good_run (around (tables version s)) (tables version s).desk (run_row n run) ≡ true
   good_run_of n run e =
       let t = tables version s in
       let it = g.desk.runs.each n run e in
@@ -78,12 +71,14 @@ module _ (version : Version) (s : State) (g : IsSound s) where
       (and_from (int_le run.day s.day) _ (not_later run.day s.day it.day)
       (between 1 s.settings.run_size (count_by (λ (line : RunLineRow). nat_eq line.run n) t.desk.run_lines) (omega (arith, some, count)) (omega (arith, few, count))))
 
-  good_run : (r : RunRow) → StandsIn r (run_rows s) → is_good_run (around (tables version s)) (tables version s).desk r ≡ true
+  good_run : (r : RunRow) → StandsIn r (run_rows s)
+      → is_good_run (around (tables version s)) (tables version s).desk r ≡ true
   good_run r k =
       let i = in_rows run_row s.runs r k in
       ap (is_good_run (around (tables version s)) (tables version s).desk) i.3 ∙ good_run_of i.0 i.1 i.2
 
-  good_line_of : (n : ℕ) (run : Run) (line : Line) → nth s.runs n ≡ Some run → StandsIn line run.lines → is_good_line (tables version s).desk (run_line_row n line) ≡ true
+  good_line_of : (n : ℕ) (run : Run) (line : Line) → nth s.runs n ≡ Some run → StandsIn line run.lines
+      → is_good_line (tables version s).desk (run_line_row n line) ≡ true
   good_line_of n run line e k =
       let t = tables version s in
       let it = all_in (IsGoodLine s) run.lines line (g.desk.runs.each n run e).lines k in
@@ -107,11 +102,13 @@ module _ (version : Version) (s : State) (g : IsSound s) where
 
   -- ---- the day
 
-  well_held : (c : ℕ) (o : Option ℕ) → order_out (s.place c) ≡ o → some_and (λ ticket. not (holds_well s c ticket)) (option_and_then (λ o. option_map (λ order. order.ticket) (nth s.orders o)) o) ≡ false
+  well_held : (c : ℕ) (o : Option ℕ) → order_out (s.place c) ≡ o
+      → some_and (λ ticket. not (holds_well s c ticket)) (option_and_then (λ o. option_map (λ order. order.ticket) (nth s.orders o)) o) ≡ false
   well_held c None e = refl
   well_held c (Some o) e = at (nth s.orders o) refl
     where
-      at : (r : Option Order) → nth s.orders o ≡ r → some_and (λ ticket. not (holds_well s c ticket)) (option_map (λ order. order.ticket) r) ≡ false
+      at : (r : Option Order) → nth s.orders o ≡ r
+          → some_and (λ ticket. not (holds_well s c ticket)) (option_map (λ order. order.ticket) r) ≡ false
       at None q = refl
       at (Some order) q =
           let it = g.desk.places.holders c o order e q in

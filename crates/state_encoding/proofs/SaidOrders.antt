@@ -1,23 +1,9 @@
 -- Orders and places whose rows pass: each order stands where its row says.
 use Rattle.std.proofs.Common.{◌≡◌, ◌≢◌, ℕ, ◌<◌, Bool, true, false, not, cond, ◌&&◌, ◌||◌, List, [], ◌∷◌, Option, Some, None, refl, sym, ap, ◌∙◌, subst, inl, inr, ◌⊎◌, arith}
-use Rattle.std.specs.Prelude.{filter, nat_eq, is_none, option_map, option_and_then, unwrap_or}
-use Rattle.std.specs.List.{list_any, list_all}
-use Rattle.std.proofs.lemmas.Bool.{eqb-true, false≢true, false_from_ne_true, cases_eq, and_parts, and_from, and_right, or_cases}
-use Rattle.tree_core.proofs.Lists.{list_any-map}
-use Rattle.desk_core.specs.declared.reader.Place.TheVariants.{Shelf, Desk, Out}
-use Rattle.office_core.specs.Words.{nth, some_and, stands}
-use Rattle.office_core.specs.State.{End, Done, Cancelled, container_of}
-use Rattle.catalogue_core.specs.Members.{StandsIn}
-use Rattle.office_core.specs.Laws.{standing}
-use Rattle.office_core.specs.SoundDesk.{IsAscending, IsFiled, AreFiled, is_out_for}
-use Rattle.desk_core.specs.DeskRows.{OrderRow, waiting_for, HoldingRow}
-use Rattle.state_encoding.specs.DeskEncoding.{order_row, order_rows, order_from, state_number, end_of, past_in, place_from, place_in}
-use Rattle.state_encoding.specs.OfficeRows.{OfficeRows, state_of}
-use Rattle.desk_core.specs.DeskCauses.{AreInOrder, MeetsDeskKeys, is_out_order, is_at_desk, is_out_well, is_good_holding, is_holding_of, has_its_holding, are_good_holdings}
-use Rattle.state_encoding.specs.Causes.{around, is_container_there}
-use Rattle.office_core.proofs.Words.{same_number, other_number}
-use Rattle.office_core.proofs.Filed.{IsWaitingFor, IsOutWith, IsPast, filed_waiting, filed_out, filed_past}
-use Rattle.office_core.proofs.OrderLaws.{stands_waiting, stands_out, stands_past}
+use Rattle.std.specs.Prelude.{nat_eq, unwrap_or}
+use Rattle.desk_core.specs.declared.reader.Place.TheVariants.{Desk}
+use Rattle.office_core.specs.Words.{stands}
+use Rattle.state_encoding.proofs.Common.{AreFiled, AreInOrder, Cancelled, Done, End, HoldingRow, IsAscending, IsFiled, IsOutWith, IsPast, IsWaitingFor, MeetsDeskKeys, OfficeRows, OrderRow, Out, Shelf, StandsIn, and_from, and_parts, and_right, are_good_holdings, around, cases_eq, container_of, end_of, eqb-true, false_from_ne_true, false≢true, filed_out, filed_past, filed_waiting, filter, has_its_holding, is_at_desk, is_container_there, is_good_holding, is_holding_of, is_none, is_out_for, is_out_order, is_out_well, list_all, list_any, list_any-map, nth, option_and_then, option_map, or_cases, order_from, order_row, order_rows, other_number, past_in, place_from, place_in, same_number, some_and, standing, stands_out, stands_past, stands_waiting, state_number, state_of, waiting_for}
 use Rattle.state_encoding.proofs.Members.{all_in, some_in, any_same, test_in}
 use Rattle.state_encoding.proofs.NumberedRows.{any_numbered, has_number, by_number, numbered_in, numbered-map, rows_again}
 use Rattle.state_encoding.proofs.DeskLookups.{flipped}
@@ -26,7 +12,9 @@ use Rattle.state_encoding.proofs.DeskParts.{OrdersParts}
 
 -- ---- the place that rows give a container
 
-place_at_row : (rows : List HoldingRow) (r : HoldingRow) → AreInOrder (λ (a b : HoldingRow). a.container < b.container) rows → StandsIn r rows → place_in rows r.container ≡ place_from r
+place_at_row : (rows : List HoldingRow) (r : HoldingRow)
+    → AreInOrder (λ (a b : HoldingRow). a.container < b.container) rows → StandsIn r rows
+    → place_in rows r.container ≡ place_from r
 place_at_row [] r h k = absurd k
 place_at_row (x ∷ xs) r h k =
     elim k [
@@ -46,7 +34,8 @@ pub place_cases : (rows : List HoldingRow) (c : ℕ) → (place_in rows c ≡ Sh
 place_cases [] c = inl refl
 place_cases (x ∷ xs) c = at (nat_eq x.container c) refl (place_cases xs c)
   where
-    at : (b : Bool) → nat_eq x.container c ≡ b → (place_in xs c ≡ Shelf) ⊎ HoldingAt xs c → (place_in (x ∷ xs) c ≡ Shelf) ⊎ HoldingAt (x ∷ xs) c
+    at : (b : Bool) → nat_eq x.container c ≡ b → (place_in xs c ≡ Shelf) ⊎ HoldingAt xs c
+        → (place_in (x ∷ xs) c ≡ Shelf) ⊎ HoldingAt (x ∷ xs) c
     at true e r = inr (record { row = x; stands = inl refl; for_it = eqb-true x.container c e; is = ap (λ b. cond b (place_from x) (place_in xs c)) e })
     at false e r =
         elim r [
@@ -70,22 +59,26 @@ pub data HoldingKind (t : OfficeRows) (row : HoldingRow) : Type 0 where
 pub record HoldingParts (t : OfficeRows) : Type 0 where
   pub there : (row : HoldingRow) → StandsIn row t.desk.holdings → is_container_there t row.container ≡ true
   pub kinds : (row : HoldingRow) → StandsIn row t.desk.holdings → HoldingKind t row
-  pub held : (order : OrderRow) → StandsIn order t.desk.orders → order.state ≡ 2 → (row : HoldingRow) × StandsIn row t.desk.holdings × (row.container ≡ order.container) × (row.place ≡ 2) × (row.held_by ≡ Some order.id)
+  pub held : (order : OrderRow) → StandsIn order t.desk.orders → order.state ≡ 2
+      → (row : HoldingRow) × StandsIn row t.desk.holdings × (row.container ≡ order.container) × (row.place ≡ 2) × (row.held_by ≡ Some order.id)
 
 is_nothing : (r : Option ℕ) → is_none r ≡ true → r ≡ None
 is_nothing None e = refl
 is_nothing (Some o) e = absurd (false≢true e)
 
 module _ (t : OfficeRows) (k : MeetsDeskKeys t.desk) (p : OrdersParts t) where
-  out_row_at : (o c : ℕ) (r : Option OrderRow) → nth t.desk.orders o ≡ r → some_and (λ (row : OrderRow). nat_eq row.container c && nat_eq row.state 2) r ≡ true → OutRow t o c
+  out_row_at : (o c : ℕ) (r : Option OrderRow) → nth t.desk.orders o ≡ r
+      → some_and (λ (row : OrderRow). nat_eq row.container c && nat_eq row.state 2) r ≡ true → OutRow t o c
   out_row_at o c None e h = absurd (false≢true h)
   out_row_at o c (Some row) e h =
       let b = and_parts (nat_eq row.container c) (nat_eq row.state 2) h in
       record { row = row; is = e; for_it = eqb-true row.container c b.0; out = eqb-true row.state 2 b.1 }
 
-  out_kind : (row : HoldingRow) (h : Option ℕ) → row.held_by ≡ h → row.place ≡ 2 → some_and (λ o. list_any (is_out_order o row.container) t.desk.orders) h ≡ true → HoldingKind t row
+  out_kind : (row : HoldingRow) (h : Option ℕ) → row.held_by ≡ h → row.place ≡ 2
+      → some_and (λ o. list_any (is_out_order o row.container) t.desk.orders) h ≡ true → HoldingKind t row
   out_kind row None e q h = absurd (false≢true h)
-  out_kind row (Some o) e q h = OutWith o q e (out_row_at o row.container (nth t.desk.orders o) refl (sym (any_numbered (λ (row : OrderRow). row.id) (λ (order : OrderRow). nat_eq order.container row.container && nat_eq order.state 2) t.desk.orders o p.numbered) ∙ h))
+  out_kind row (Some o) e q h =
+      OutWith o q e (out_row_at o row.container (nth t.desk.orders o) refl (sym (any_numbered (λ (row : OrderRow). row.id) (λ (order : OrderRow). nat_eq order.container row.container && nat_eq order.state 2) t.desk.orders o p.numbered) ∙ h))
 
   kind_of : (row : HoldingRow) → (is_at_desk row || is_out_well t.desk row) ≡ true → HoldingKind t row
   kind_of row h =
@@ -120,7 +113,8 @@ module _ (t : OfficeRows) (k : MeetsDeskKeys t.desk) (p : OrdersParts t) where
 -- ---- where orders stand
 
 pub place_is_out : (row : HoldingRow) (o : ℕ) → row.place ≡ 2 → row.held_by ≡ Some o → place_from row ≡ Out o
-place_is_out row o e h = ap (λ n. cond (nat_eq n 1) Desk (Out (unwrap_or row.held_by 0))) e ∙ ap (λ r. Out (unwrap_or r 0)) h
+place_is_out row o e h =
+    ap (λ n. cond (nat_eq n 1) Desk (Out (unwrap_or row.held_by 0))) e ∙ ap (λ r. Out (unwrap_or r 0)) h
 
 pub place_is_desk : (row : HoldingRow) → row.place ≡ 1 → place_from row ≡ Desk
 place_is_desk row e = ap (λ n. cond (nat_eq n 1) Desk (Out (unwrap_or row.held_by 0))) e
@@ -128,7 +122,8 @@ place_is_desk row e = ap (λ n. cond (nat_eq n 1) Desk (Out (unwrap_or row.held_
 module _ (t : OfficeRows) (k : MeetsDeskKeys t.desk) (p : OrdersParts t) (q : HoldingParts t) where
   -- who waits
 
-  pub waits_so : (o c : ℕ) → stands o ((state_of t).queue c) ≡ some_and (λ (row : OrderRow). nat_eq row.container c && nat_eq row.state 1) (nth t.desk.orders o)
+  pub waits_so : (o c : ℕ)
+      → stands o ((state_of t).queue c) ≡ some_and (λ (row : OrderRow). nat_eq row.container c && nat_eq row.state 1) (nth t.desk.orders o)
   waits_so o c =
       let w : OrderRow → Bool = λ row. nat_eq row.container c && nat_eq row.state 1 in
       list_any-map (nat_eq o) (λ (row : OrderRow). row.id) (filter w t.desk.orders)
@@ -159,7 +154,8 @@ module _ (t : OfficeRows) (k : MeetsDeskKeys t.desk) (p : OrdersParts t) (q : Ho
           let same : o ≡ other = eqb-true o other (sym (ap (is_out_for o) (r.is ∙ place_is_out r.row other e n)) ∙ h) in
           record { row = x.row; is = ap (nth t.desk.orders) same ∙ x.is; for_it = x.for_it ∙ r.for_it; out = x.out }
 
-  pub out_of_order : (o : ℕ) (row : OrderRow) → nth t.desk.orders o ≡ Some row → row.state ≡ 2 → (state_of t).place row.container ≡ Out o
+  pub out_of_order : (o : ℕ) (row : OrderRow) → nth t.desk.orders o ≡ Some row → row.state ≡ 2
+      → (state_of t).place row.container ≡ Out o
   out_of_order o row e two =
       let h = q.held row (numbered_in t.desk.orders o row e) two in
       ap (place_in t.desk.holdings) (sym h.2)
@@ -191,7 +187,8 @@ module _ (t : OfficeRows) (k : MeetsDeskKeys t.desk) (p : OrdersParts t) (q : Ho
     out_not : row.state ≢ 2 → (c : ℕ) → is_out_for o ((state_of t).place c) ≡ false
     out_not ne c = false_from_ne_true (is_out_for o ((state_of t).place c)) (λ h. ne (out_as c h).1)
 
-    pub is_waiting : row.state ≡ 1 → IsWaitingFor (container_of (state_of t) o) (λ c. stands o ((state_of t).queue c)) (λ c. is_out_for o ((state_of t).place c)) ((state_of t).past o) row.container
+    pub is_waiting : row.state ≡ 1
+        → IsWaitingFor (container_of (state_of t) o) (λ c. stands o ((state_of t).queue c)) (λ c. is_out_for o ((state_of t).place c)) ((state_of t).past o) row.container
     is_waiting s =
         record {
           for_it = for_its;
@@ -201,7 +198,8 @@ module _ (t : OfficeRows) (k : MeetsDeskKeys t.desk) (p : OrdersParts t) (q : Ho
           not_past = past_is ∙ ap end_of s;
         }
 
-    pub is_out_with : row.state ≡ 2 → IsOutWith (container_of (state_of t) o) (λ c. stands o ((state_of t).queue c)) (λ c. is_out_for o ((state_of t).place c)) ((state_of t).past o) row.container
+    pub is_out_with : row.state ≡ 2
+        → IsOutWith (container_of (state_of t) o) (λ c. stands o ((state_of t).queue c)) (λ c. is_out_for o ((state_of t).place c)) ((state_of t).past o) row.container
     is_out_with s =
         record {
           for_it = for_its;
@@ -211,7 +209,8 @@ module _ (t : OfficeRows) (k : MeetsDeskKeys t.desk) (p : OrdersParts t) (q : Ho
           not_past = past_is ∙ ap end_of s;
         }
 
-    pub is_past : (how : End) → row.state ≢ 1 → row.state ≢ 2 → end_of row.state ≡ Some how → IsPast (container_of (state_of t) o) (λ c. stands o ((state_of t).queue c)) (λ c. is_out_for o ((state_of t).place c)) ((state_of t).past o) row.container how
+    pub is_past : (how : End) → row.state ≢ 1 → row.state ≢ 2 → end_of row.state ≡ Some how
+        → IsPast (container_of (state_of t) o) (λ c. stands o ((state_of t).queue c)) (λ c. is_out_for o ((state_of t).place c)) ((state_of t).past o) row.container how
     is_past how one two s =
         record {
           for_it = for_its;
@@ -262,10 +261,12 @@ module _ (t : OfficeRows) (k : MeetsDeskKeys t.desk) (p : OrdersParts t) (q : Ho
 
   -- all of them
 
-  filed_at : (o : ℕ) (r : Option OrderRow) → nth t.desk.orders o ≡ r → IsFiled (container_of (state_of t) o) (λ c. stands o ((state_of t).queue c)) (λ c. is_out_for o ((state_of t).place c)) ((state_of t).past o)
+  filed_at : (o : ℕ) (r : Option OrderRow) → nth t.desk.orders o ≡ r
+      → IsFiled (container_of (state_of t) o) (λ c. stands o ((state_of t).queue c)) (λ c. is_out_for o ((state_of t).place c)) ((state_of t).past o)
   filed_at o (Some row) e = filed_row o row e
   filed_at o None e =
-      let none : container_of (state_of t) o ≡ None = ap (option_map (λ order. order.container)) (numbered-map order_from t.desk.orders o ∙ ap (option_map order_from) e) in
+      let none : container_of (state_of t) o ≡ None =
+      ap (option_map (λ order. order.container)) (numbered-map order_from t.desk.orders o ∙ ap (option_map order_from) e) in
       subst (λ k. IsFiled k (λ c. stands o ((state_of t).queue c)) (λ c. is_out_for o ((state_of t).place c)) ((state_of t).past o)) (sym none) (
         λ c. waits_so o c ∙ ap (some_and (λ (row : OrderRow). nat_eq row.container c && nat_eq row.state 1)) e,
         λ c. false_from_ne_true (is_out_for o ((state_of t).place c)) (λ h. (let x = out_at_place o c h in let is = x.is in absurd (cc))),

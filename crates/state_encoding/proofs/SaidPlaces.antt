@@ -1,28 +1,9 @@
 -- Orders and places whose rows pass are sound, and the places show those rows again.
 use Rattle.std.proofs.Common.{◌≡◌, ℕ, suc, ◌≤◌, Bool, true, false, not, cond, ◌&&◌, List, [], ◌∷◌, length, Option, Some, None, refl, sym, ap, ◌∙◌, subst, inl, inr, arith}
-use Rattle.std.specs.Prelude.{ℤ, map, filter, filter_map, find, nat_eq, nat_le, option_map, option_and_then, unwrap_or, count_by}
-use Rattle.std.specs.Ordering.{int_eq}
-use Rattle.std.specs.List.{AllByRecursion}
-use Rattle.std.proofs.Math.Path.{fun_ext}
-use Rattle.std.proofs.lemmas.Bool.{eqb-true, eq-eqb, false≢true, cases_Bool, cases_eq, and_parts, and_from, leb-true}
+use Rattle.std.specs.Prelude.{ℤ, map, filter_map, nat_eq, unwrap_or}
 use Rattle.std.proofs.lemmas.Bool.Decides.{Decides-int_eq}
-use Rattle.std.proofs.lemmas.List.{length-map}
-use Rattle.std.proofs.lemmas.List.Sums.{length-filter}
-use Rattle.isad_core.specs.Days.{IsDayNumber}
-use Rattle.desk_core.specs.declared.reader.Place.TheVariants.{Shelf}
-use Rattle.office_core.specs.Words.{nth, numbers_to, some_and}
-use Rattle.office_core.specs.State.{Order, State, containers, is_container, order_out, is_seated, held_count, opens}
-use Rattle.catalogue_core.specs.Members.{StandsIn}
-use Rattle.office_core.specs.SoundDesk.{IsGoodOrder, AreGoodOrders, AreGoodPlaces}
 use Rattle.catalogue_core.specs.Sources.{is_between}
-use Rattle.desk_core.specs.DeskRows.{OrderRow, HoldingRow}
-use Rattle.state_encoding.specs.DeskEncoding.{order_from, end_of, holding_row, holding_rows, place_from, place_in}
-use Rattle.state_encoding.specs.OfficeRows.{OfficeRows, state_of}
-use Rattle.desk_core.specs.DeskCauses.{MeetsDeskKeys, is_live, are_twice}
-use Rattle.state_encoding.specs.Causes.{holds_well, holder_of, is_held_against_rules, day_is_broken}
-use Rattle.state_encoding.specs.DeskSoundness.{HasGoodCatalogue}
-use Rattle.office_core.proofs.Words.{numbered_within}
-use Rattle.office_core.proofs.Counts.{numbered_from_one}
+use Rattle.state_encoding.proofs.Common.{AllByRecursion, AreGoodOrders, AreGoodPlaces, HasGoodCatalogue, HoldingRow, IsDayNumber, IsGoodOrder, MeetsDeskKeys, OfficeRows, Order, OrderRow, Shelf, StandsIn, State, and_from, and_parts, are_twice, cases_Bool, cases_eq, containers, count_by, day_is_broken, end_of, eq-eqb, eqb-true, false≢true, filter, find, fun_ext, held_count, holder_of, holding_row, holding_rows, holds_well, int_eq, is_container, is_held_against_rules, is_live, is_seated, leb-true, length-filter, length-map, nat_le, nth, numbered_from_one, numbered_within, numbers_to, opens, option_and_then, option_map, order_from, order_out, place_from, place_in, some_and, state_of}
 use Rattle.state_encoding.proofs.Members.{all_of_in, none_in, in_map, in_filter, numbers_in, to_from}
 use Rattle.state_encoding.proofs.NumberedRows.{has_number, numbered_in}
 use Rattle.state_encoding.proofs.DeskLookups.{between}
@@ -32,15 +13,18 @@ use Rattle.state_encoding.proofs.SaidOrders.{place_cases, HoldingKind, AtDesk, O
 
 -- ---- counts
 
-kept_map : {X Y : Type 0} (p : Y → Bool) (f : X → Y) (xs : List X) → length (filter p (map f xs)) ≡ length (filter (λ x. p (f x)) xs)
+kept_map : {X Y : Type 0} (p : Y → Bool) (f : X → Y) (xs : List X)
+    → length (filter p (map f xs)) ≡ length (filter (λ x. p (f x)) xs)
 kept_map p f [] = refl
 kept_map p f (x ∷ xs) = at (p (f x)) (kept_map p f xs)
   where
-    at : (b : Bool) → length (filter p (map f xs)) ≡ length (filter (λ x. p (f x)) xs) → length (cond b (f x ∷ filter p (map f xs)) (filter p (map f xs))) ≡ length (cond b (x ∷ filter (λ x. p (f x)) xs) (filter (λ x. p (f x)) xs))
+    at : (b : Bool) → length (filter p (map f xs)) ≡ length (filter (λ x. p (f x)) xs)
+        → length (cond b (f x ∷ filter p (map f xs)) (filter p (map f xs))) ≡ length (cond b (x ∷ filter (λ x. p (f x)) xs) (filter (λ x. p (f x)) xs))
     at true e = ap suc e
     at false e = e
 
-pub count_map : {X Y : Type 0} (p : Y → Bool) (f : X → Y) (xs : List X) → count_by p (map f xs) ≡ count_by (λ x. p (f x)) xs
+pub count_map : {X Y : Type 0} (p : Y → Bool) (f : X → Y) (xs : List X)
+    → count_by p (map f xs) ≡ count_by (λ x. p (f x)) xs
 count_map p f xs = sym (length-filter p (map f xs)) ∙ (kept_map p f xs ∙ length-filter (λ x. p (f x)) xs)
 
 -- ---- orders
@@ -59,7 +43,8 @@ module _ (t : OfficeRows) (r : ReaderParts t) (p : OrdersParts t) (c : HasGoodCa
   abbrev of_that_day : ℕ → ℤ → OrderRow → Bool
   of_that_day ticket day row = nat_eq row.ticket ticket && int_eq row.day day
 
-  few_that_day : (ticket : ℕ) (day : ℤ) (rows : List OrderRow) → filter (of_that_day ticket day) t.desk.orders ≡ rows → length rows ≤ t.office.daily
+  few_that_day : (ticket : ℕ) (day : ℤ) (rows : List OrderRow) → filter (of_that_day ticket day) t.desk.orders ≡ rows
+      → length rows ≤ t.office.daily
   few_that_day ticket day [] e = omega arith
   few_that_day ticket day (row ∷ rows) e =
       let i = in_filter (of_that_day ticket day) t.desk.orders row (subst (StandsIn row) (sym e) (inl refl)) in
@@ -71,7 +56,8 @@ module _ (t : OfficeRows) (r : ReaderParts t) (p : OrdersParts t) (c : HasGoodCa
       let l = ap length e in
       omega (arith, few3, count, l)
 
-  is_live_row : (o : ℕ) (row : OrderRow) → nth t.desk.orders o ≡ Some row → (state_of t).past o ≡ None → is_live row ≡ true
+  is_live_row : (o : ℕ) (row : OrderRow) → nth t.desk.orders o ≡ Some row → (state_of t).past o ≡ None
+      → is_live row ≡ true
   is_live_row o row e past =
       let range = (p.orders row (numbered_in t.desk.orders o row e)).state in
       live_still row.state range.0 range.1 (sym (ap (option_and_then (λ (row : OrderRow). end_of row.state)) e) ∙ past)
@@ -97,8 +83,11 @@ module _ (t : OfficeRows) (r : ReaderParts t) (p : OrdersParts t) (c : HasGoodCa
             let b : OrderRow = j.0 in
             let x = is_live_row o a i.1 past in
             let y = is_live_row n b j.1 gone in
-            let same_ticket : a.ticket ≡ b.ticket = sym (ap (λ (order : Order). order.ticket) i.2) ∙ (ticket ∙ ap (λ (order : Order). order.ticket) j.2) in
-            let same_container : a.container ≡ b.container = sym (ap (λ (order : Order). order.container) i.2) ∙ (container ∙ ap (λ (order : Order). order.container) j.2) in
+            let same_ticket : a.ticket ≡ b.ticket =
+            sym (ap (λ (order : Order). order.ticket) i.2) ∙ (ticket ∙ ap (λ (order : Order). order.ticket) j.2) in
+            let same_container : a.container ≡ b.container =
+            sym (ap (λ (order : Order). order.container) i.2)
+            ∙ (container ∙ ap (λ (order : Order). order.container) j.2) in
             let none = none_in (are_twice a) t.desk.orders b (p.orders a (numbered_in t.desk.orders o a i.1)).once (numbered_in t.desk.orders n b j.1) in
             let first = has_number (λ (row : OrderRow). row.id) t.desk.orders o a p.numbered i.1 in
             let second = has_number (λ (row : OrderRow). row.id) t.desk.orders n b p.numbered j.1 in
@@ -121,11 +110,14 @@ module _ (t : OfficeRows) (r : ReaderParts t) (p : OrdersParts t) (c : HasGoodCa
 
 -- ---- places
 
-place_found : (rows : List HoldingRow) (c : ℕ) → place_in rows c ≡ unwrap_or (option_map place_from (find (λ (row : HoldingRow). nat_eq row.container c) rows)) Shelf
+place_found : (rows : List HoldingRow) (c : ℕ)
+    → place_in rows c ≡ unwrap_or (option_map place_from (find (λ (row : HoldingRow). nat_eq row.container c) rows)) Shelf
 place_found [] c = refl
 place_found (x ∷ xs) c = at (nat_eq x.container c) (place_found xs c)
   where
-    at : (b : Bool) → place_in xs c ≡ unwrap_or (option_map place_from (find (λ (row : HoldingRow). nat_eq row.container c) xs)) Shelf → cond b (place_from x) (place_in xs c) ≡ unwrap_or (option_map place_from (cond b (Some x) (find (λ (row : HoldingRow). nat_eq row.container c) xs))) Shelf
+    at : (b : Bool)
+        → place_in xs c ≡ unwrap_or (option_map place_from (find (λ (row : HoldingRow). nat_eq row.container c) xs)) Shelf
+        → cond b (place_from x) (place_in xs c) ≡ unwrap_or (option_map place_from (cond b (Some x) (find (λ (row : HoldingRow). nat_eq row.container c) xs))) Shelf
     at true e = refl
     at false e = e
 
@@ -147,14 +139,17 @@ module _ (t : OfficeRows) (k : MeetsDeskKeys t.desk) (q : HoldingParts t) (c : H
               | inr h ↦ ap (is_container s) (sym h.for_it) ∙ holding_known h.row h.stands
             ] in
             let none = none_in (is_held_against_rules s) (containers s) n day (numbers_in (length s.catalogue.containers) n (numbered_from_one s.catalogue.containers n there) (numbered_within s.catalogue.containers n there)) in
-            let holder : holder_of s n ≡ Some order.ticket = ap (option_and_then (λ o. option_map (λ (order : Order). order.ticket) (nth s.orders o))) e ∙ ap (option_map (λ (order : Order). order.ticket)) is in
+            let holder : holder_of s n ≡ Some order.ticket =
+            ap (option_and_then (λ o. option_map (λ (order : Order). order.ticket) (nth s.orders o))) e
+            ∙ ap (option_map (λ (order : Order). order.ticket)) is in
             let well = not_bad (holds_well s n order.ticket) (sym (ap (some_and (λ ticket. not (holds_well s n ticket))) holder) ∙ none) in
             let a = and_parts (is_seated s order.ticket) (nat_le (held_count s order.ticket) s.settings.hands && opens s order.ticket n) well in
             let b = and_parts (nat_le (held_count s order.ticket) s.settings.hands) (opens s order.ticket n) a.1 in
             record { seated = a.0; few = leb-true (held_count s order.ticket) s.settings.hands b.0; may_see = b.1 });
       }
 
-  shown_again : (n : ℕ) (row : HoldingRow) → row.container ≡ n → HoldingKind t row → holding_row n (place_from row) ≡ Some row
+  shown_again : (n : ℕ) (row : HoldingRow) → row.container ≡ n → HoldingKind t row
+      → holding_row n (place_from row) ≡ Some row
   shown_again n row e (AtDesk one none) =
       ap (holding_row n) (place_is_desk row one)
       ∙ (ap (λ m. Some (record { container = m; place = 1; held_by = None })) (sym e)
@@ -166,14 +161,18 @@ module _ (t : OfficeRows) (k : MeetsDeskKeys t.desk) (q : HoldingParts t) (c : H
       ∙ (ap (λ m. Some (record { container = row.container; place = m; held_by = Some o })) (sym two)
       ∙ ap (λ h. Some (record { container = row.container; place = row.place; held_by = h })) (sym some)))
 
-  shown_at : (n : ℕ) (r : Option HoldingRow) → find (λ (row : HoldingRow). nat_eq row.container n) t.desk.holdings ≡ r → holding_row n (unwrap_or (option_map place_from r) Shelf) ≡ r
+  shown_at : (n : ℕ) (r : Option HoldingRow) → find (λ (row : HoldingRow). nat_eq row.container n) t.desk.holdings ≡ r
+      → holding_row n (unwrap_or (option_map place_from r) Shelf) ≡ r
   shown_at n None e = refl
   shown_at n (Some row) e =
       let f = found (λ (row : HoldingRow). nat_eq row.container n) t.desk.holdings row e in
       shown_again n row (eqb-true row.container n f.1) (q.kinds row f.0)
 
-  shown : (n : ℕ) → holding_row n (place_in t.desk.holdings n) ≡ find (λ (row : HoldingRow). nat_eq row.container n) t.desk.holdings
-  shown n = ap (holding_row n) (place_found t.desk.holdings n) ∙ shown_at n (find (λ (row : HoldingRow). nat_eq row.container n) t.desk.holdings) refl
+  shown : (n : ℕ)
+      → holding_row n (place_in t.desk.holdings n) ≡ find (λ (row : HoldingRow). nat_eq row.container n) t.desk.holdings
+  shown n =
+      ap (holding_row n) (place_found t.desk.holdings n)
+      ∙ shown_at n (find (λ (row : HoldingRow). nat_eq row.container n) t.desk.holdings) refl
 
   pub holdings_again : holding_rows (state_of t) ≡ t.desk.holdings
   holdings_again =

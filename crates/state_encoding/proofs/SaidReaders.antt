@@ -1,28 +1,7 @@
 -- Readers, seats and permits whose rows pass are sound, and show those rows again.
 use Rattle.std.proofs.Common.{◌≡◌, ◌≢◌, ℕ, zero, suc, ◌<◌, ◌≤◌, true, List, [], ◌∷◌, length, Option, Some, None, refl, sym, ap, ◌∙◌, subst, inl, inr, arith}
-use Rattle.std.specs.Prelude.{map, filter, filter_map, find, nat_eq, option_map, count_by}
-use Rattle.std.specs.List.{list_any, flat_map, AllByRecursion, cons_option}
-use Rattle.std.proofs.Math.Path.{fun_ext}
-use Rattle.std.proofs.lemmas.Bool.{eqb-true, false≢true, false_from_ne_true}
-use Rattle.std.proofs.lemmas.List.{length-map}
-use Rattle.std.proofs.lemmas.List.Sums.{length-filter}
-use Rattle.isad_core.specs.Days.{IsDayNumber}
-use Rattle.office_core.specs.Words.{numbers_to}
-use Rattle.office_core.specs.State.{Reader, Permit, is_seat_of}
-use Rattle.catalogue_core.specs.UnitLookup.{has_unit}
-use Rattle.catalogue_core.specs.Members.{StandsIn}
-use Rattle.office_core.specs.Laws.{numbers_from}
-use Rattle.office_core.specs.SoundDesk.{SitOnce, AreGoodSeats, AreGoodReaders, ByUnit, AreGoodPermits}
-use Rattle.office_core.specs.Soundness.{ArePermitsOfUnits}
-use Rattle.office_core.specs.Rules.{is_name}
-use Rattle.isad_core.specs.Limits.{most_permits}
-use Rattle.desk_core.specs.DeskRows.{ReaderRow, SeatRow, PermitRow}
-use Rattle.state_encoding.specs.DeskEncoding.{reader_row, reader_rows, reader_from, seat_rows_from, seat_rows, permit_row, permit_rows}
-use Rattle.state_encoding.specs.OfficeRows.{OfficeRows, state_of, seats_said, permits_said}
-use Rattle.desk_core.specs.DeskCauses.{AreInOrder, MeetsDeskKeys, is_registered}
-use Rattle.state_encoding.specs.Causes.{is_unit_there}
-use Rattle.office_core.proofs.Words.{numbered_within}
-use Rattle.office_core.proofs.Counts.{numbered_from_one}
+use Rattle.std.specs.Prelude.{map, filter_map, nat_eq}
+use Rattle.state_encoding.proofs.Common.{AllByRecursion, AreGoodPermits, AreGoodReaders, AreGoodSeats, AreInOrder, ArePermitsOfUnits, ByUnit, IsDayNumber, MeetsDeskKeys, OfficeRows, Permit, PermitRow, Reader, ReaderRow, SeatRow, SitOnce, StandsIn, cons_option, count_by, eqb-true, false_from_ne_true, false≢true, filter, find, flat_map, fun_ext, has_unit, is_name, is_registered, is_seat_of, is_unit_there, length-filter, length-map, list_any, most_permits, numbered_from_one, numbered_within, numbers_from, numbers_to, option_map, permit_row, permit_rows, permits_said, reader_from, reader_row, reader_rows, seat_rows, seat_rows_from, seats_said, state_of}
 use Rattle.state_encoding.proofs.Members.{all_of_in, some_in, in_map, in_filter, to_from}
 use Rattle.state_encoding.proofs.NumberedRows.{rows_again, numbered_in}
 use Rattle.state_encoding.proofs.DeskKeys.{PermitBefore}
@@ -35,14 +14,17 @@ length-seats : (more n : ℕ) (rows : List SeatRow) → length (seats_said more 
 length-seats zero n rows = refl
 length-seats (suc more) n rows = ap suc (length-seats more (suc n) rows)
 
-ticket_found : (n u : ℕ) (rows : List SeatRow) (r : Option SeatRow) → find (λ (row : SeatRow). nat_eq row.seat n) rows ≡ r → option_map (λ (row : SeatRow). row.ticket) r ≡ Some u → (row : SeatRow) × StandsIn row rows × (row.seat ≡ n) × (row.ticket ≡ u)
+ticket_found : (n u : ℕ) (rows : List SeatRow) (r : Option SeatRow)
+    → find (λ (row : SeatRow). nat_eq row.seat n) rows ≡ r → option_map (λ (row : SeatRow). row.ticket) r ≡ Some u
+    → (row : SeatRow) × StandsIn row rows × (row.seat ≡ n) × (row.ticket ≡ u)
 ticket_found n u rows None e q = absurd (cc)
 ticket_found n u rows (Some row) e q =
     let f = found (λ (row : SeatRow). nat_eq row.seat n) rows row e in
     (row, f.0, eqb-true row.seat n f.1, cc)
 
 -- who sits has a row
-in_seats_said : (more n u : ℕ) (rows : List SeatRow) → StandsIn (Some u) (seats_said more n rows) → (row : SeatRow) × StandsIn row rows × (n ≤ row.seat) × (row.ticket ≡ u)
+in_seats_said : (more n u : ℕ) (rows : List SeatRow) → StandsIn (Some u) (seats_said more n rows)
+    → (row : SeatRow) × StandsIn row rows × (n ≤ row.seat) × (row.ticket ≡ u)
 in_seats_said zero n u rows k = absurd k
 in_seats_said (suc more) n u rows k =
     elim k [
@@ -60,16 +42,20 @@ is_their_seat : (u : ℕ) (x : Option ℕ) → is_seat_of u x ≡ true → x ≡
 is_their_seat u None e = absurd (false≢true e)
 is_their_seat u (Some v) e = ap Some (sym (eqb-true u v e))
 
-seated_row : (more n u : ℕ) (rows : List SeatRow) → list_any (is_seat_of u) (seats_said more n rows) ≡ true → (row : SeatRow) × StandsIn row rows × (n ≤ row.seat) × (row.ticket ≡ u)
+seated_row : (more n u : ℕ) (rows : List SeatRow) → list_any (is_seat_of u) (seats_said more n rows) ≡ true
+    → (row : SeatRow) × StandsIn row rows × (n ≤ row.seat) × (row.ticket ≡ u)
 seated_row more n u rows h =
     let i = some_in (is_seat_of u) (seats_said more n rows) h in
     in_seats_said more n u rows (subst (λ x. StandsIn x (seats_said more n rows)) (is_their_seat u i.0 i.2) i.1)
 
-sit_once : (more n : ℕ) (rows : List SeatRow) → AreInOrder (λ (a b : SeatRow). a.ticket ≢ b.ticket) rows → SitOnce (seats_said more n rows)
+sit_once : (more n : ℕ) (rows : List SeatRow) → AreInOrder (λ (a b : SeatRow). a.ticket ≢ b.ticket) rows
+    → SitOnce (seats_said more n rows)
 sit_once zero n rows h = tt
 sit_once (suc more) n rows h = at (find (λ (row : SeatRow). nat_eq row.seat n) rows) refl (sit_once more (suc n) rows h)
   where
-    at : (r : Option SeatRow) → find (λ (row : SeatRow). nat_eq row.seat n) rows ≡ r → SitOnce (seats_said more (suc n) rows) → SitOnce (option_map (λ (row : SeatRow). row.ticket) r ∷ seats_said more (suc n) rows)
+    at : (r : Option SeatRow) → find (λ (row : SeatRow). nat_eq row.seat n) rows ≡ r
+        → SitOnce (seats_said more (suc n) rows)
+        → SitOnce (option_map (λ (row : SeatRow). row.ticket) r ∷ seats_said more (suc n) rows)
     at None e k = k
     at (Some row) e k = (
       false_from_ne_true (list_any (is_seat_of row.ticket) (seats_said more (suc n) rows)) (λ q.
@@ -83,11 +69,15 @@ sit_once (suc more) n rows h = at (find (λ (row : SeatRow). nat_eq row.seat n) 
       k,
     )
 
-seats_found : (more n : ℕ) (rows : List SeatRow) → seat_rows_from n (seats_said more n rows) ≡ filter_map (λ m. find (λ (row : SeatRow). nat_eq row.seat m) rows) (numbers_from n more)
+seats_found : (more n : ℕ) (rows : List SeatRow)
+    → seat_rows_from n (seats_said more n rows) ≡ filter_map (λ m. find (λ (row : SeatRow). nat_eq row.seat m) rows) (numbers_from n more)
 seats_found zero n rows = refl
-seats_found (suc more) n rows = at (find (λ (row : SeatRow). nat_eq row.seat n) rows) refl (seats_found more (suc n) rows)
+seats_found (suc more) n rows =
+    at (find (λ (row : SeatRow). nat_eq row.seat n) rows) refl (seats_found more (suc n) rows)
   where
-    at : (r : Option SeatRow) → find (λ (row : SeatRow). nat_eq row.seat n) rows ≡ r → seat_rows_from (suc n) (seats_said more (suc n) rows) ≡ filter_map (λ m. find (λ (row : SeatRow). nat_eq row.seat m) rows) (numbers_from (suc n) more) → seat_rows_from n (option_map (λ (row : SeatRow). row.ticket) r ∷ seats_said more (suc n) rows) ≡ cons_option r (filter_map (λ m. find (λ (row : SeatRow). nat_eq row.seat m) rows) (numbers_from (suc n) more))
+    at : (r : Option SeatRow) → find (λ (row : SeatRow). nat_eq row.seat n) rows ≡ r
+        → seat_rows_from (suc n) (seats_said more (suc n) rows) ≡ filter_map (λ m. find (λ (row : SeatRow). nat_eq row.seat m) rows) (numbers_from (suc n) more)
+        → seat_rows_from n (option_map (λ (row : SeatRow). row.ticket) r ∷ seats_said more (suc n) rows) ≡ cons_option r (filter_map (λ m. find (λ (row : SeatRow). nat_eq row.seat m) rows) (numbers_from (suc n) more))
     at None e ih = ih
     at (Some row) e ih =
         let f = found (λ (row : SeatRow). nat_eq row.seat n) rows row e in
@@ -96,7 +86,8 @@ seats_found (suc more) n rows = at (find (λ (row : SeatRow). nat_eq row.seat n)
 
 -- ---- permits
 
-own_rows_again : (t : ℕ) (rows : List PermitRow) → ((row : PermitRow) → StandsIn row rows → row.ticket ≡ t) → map (permit_row t) (map (λ (row : PermitRow). record { unit = row.unit; until = row.until }) rows) ≡ rows
+own_rows_again : (t : ℕ) (rows : List PermitRow) → ((row : PermitRow) → StandsIn row rows → row.ticket ≡ t)
+    → map (permit_row t) (map (λ (row : PermitRow). record { unit = row.unit; until = row.until }) rows) ≡ rows
 own_rows_again t [] f = refl
 own_rows_again t (row ∷ rows) f =
     ap (λ k. record { ticket = k; unit = row.unit; until = row.until } ∷ map (permit_row t) (map (λ (row : PermitRow). record { unit = row.unit; until = row.until }) rows)) (sym (f row (inl refl)))
@@ -110,7 +101,8 @@ module _ (t : OfficeRows) (k : MeetsDeskKeys t.desk) (p : ReaderParts t) where
   abbrev mine : ℕ → List PermitRow
   mine ticket = filter (λ (row : PermitRow). nat_eq row.ticket ticket) t.desk.permits
 
-  is_mine : (ticket : ℕ) (row : PermitRow) → StandsIn row (mine ticket) → StandsIn row t.desk.permits × (row.ticket ≡ ticket)
+  is_mine : (ticket : ℕ) (row : PermitRow) → StandsIn row (mine ticket)
+      → StandsIn row t.desk.permits × (row.ticket ≡ ticket)
   is_mine ticket row l =
       let i = in_filter (λ (row : PermitRow). nat_eq row.ticket ticket) t.desk.permits row l in
       (i.0, eqb-true row.ticket ticket i.1)
@@ -185,7 +177,9 @@ module _ (t : OfficeRows) (k : MeetsDeskKeys t.desk) (p : ReaderParts t) where
             omega (arith, few, count));
       }
 
-  each_permit : (P : Permit → Type 0) → ((row : PermitRow) → StandsIn row t.desk.permits → P (record { unit = row.unit; until = row.until })) → (ticket : ℕ) → AllByRecursion P (permits_said t.desk.permits ticket)
+  each_permit : (P : Permit → Type 0)
+      → ((row : PermitRow) → StandsIn row t.desk.permits → P (record { unit = row.unit; until = row.until }))
+      → (ticket : ℕ) → AllByRecursion P (permits_said t.desk.permits ticket)
   each_permit P f ticket =
       all_of_in P (permits_said t.desk.permits ticket) (λ permit l.
       let i = in_map (λ (row : PermitRow). (let permit : Permit = record { unit = row.unit; until = row.until } in permit)) (mine ticket) permit l in
@@ -194,7 +188,8 @@ module _ (t : OfficeRows) (k : MeetsDeskKeys t.desk) (p : ReaderParts t) where
   pub permit_days : (ticket : ℕ) → AllByRecursion (λ permit. IsDayNumber permit.until) ((state_of t).permits ticket)
   permit_days = each_permit (λ permit. IsDayNumber permit.until) (λ row l. (p.permits row l).day)
 
-  pub permits_placed : ((u : ℕ) → is_unit_there t u ≡ true → has_unit (state_of t).catalogue.forest u ≡ true) → ArePermitsOfUnits (state_of t)
+  pub permits_placed : ((u : ℕ) → is_unit_there t u ≡ true → has_unit (state_of t).catalogue.forest u ≡ true)
+      → ArePermitsOfUnits (state_of t)
   permits_placed placed = each_permit (λ permit. has_unit (state_of t).catalogue.forest permit.unit ≡ true) (λ row l. placed row.unit (p.permits row l).unit)
 
   pub permits_again : permit_rows (state_of t) ≡ t.desk.permits

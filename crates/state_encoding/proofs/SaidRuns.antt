@@ -1,42 +1,24 @@
 -- Runs whose rows pass are sound, and show those rows again.
 use Rattle.std.proofs.Common.{◌≡◌, ℕ, suc, ◌<◌, ◌≤◌, true, ◌&&◌, List, [], ◌∷◌, ◌++◌, length, Option, Some, None, refl, sym, ap, ◌∙◌, subst, inl, inr, arith}
-use Rattle.std.specs.Prelude.{map, filter, nat_eq, nat_le, int_le, ◌≤ℤ◌, option_map, count_by}
-use Rattle.std.specs.List.{list_all, list_any, flat_map, AllByRecursion}
-use Rattle.std.proofs.lemmas.Bool.{eqb-true, false≢true, and_parts, leb-true}
-use Rattle.std.proofs.lemmas.List.{length-map}
-use Rattle.std.proofs.lemmas.List.Concat.{flat_map-cons}
-use Rattle.std.proofs.lemmas.List.Sums.{length-filter}
-use Rattle.isad_core.specs.Days.{IsDayNumber, is_day_number}
-use Rattle.office_core.specs.Words.{nth, some_and}
-use Rattle.office_core.specs.State.{Order, Line, Run, State, container_of, is_by}
-use Rattle.catalogue_core.specs.Members.{StandsIn}
-use Rattle.office_core.specs.Laws.{numbers_from}
-use Rattle.office_core.specs.SoundDesk.{IsGoodLine, ByContainer, IsGoodRun, AreGoodRuns}
+use Rattle.std.specs.Prelude.{map, nat_eq}
 use Rattle.catalogue_core.specs.Sources.{is_between}
-use Rattle.isad_core.proofs.DayLemmas.{is_day_number-so}
-use Rattle.isad_core.specs.Limits.{most_runs}
-use Rattle.desk_core.specs.DeskRows.{OrderRow, RunRow, RunLineRow}
-use Rattle.state_encoding.specs.DeskEncoding.{order_from, run_row, run_rows, run_line_row, lines_from, run_line_rows}
-use Rattle.state_encoding.specs.OfficeRows.{OfficeRows, state_of, line_from, run_from}
-use Rattle.desk_core.specs.DeskCauses.{AreInOrder, MeetsDeskKeys, is_good_run, is_order_of_line, is_good_line, are_good_runs}
-use Rattle.isad_core.specs.Words.{are_numbered_from}
+use Rattle.state_encoding.proofs.Common.{AllByRecursion, AreGoodRuns, AreInOrder, ByContainer, IsDayNumber, IsGoodLine, IsGoodRun, Line, MeetsDeskKeys, OfficeRows, Order, OrderRow, Run, RunLineRow, RunRow, StandsIn, State, and_parts, are_good_runs, are_numbered_from, around, container_of, count_by, eqb-true, false≢true, filter, flat_map, flat_map-cons, int_le, is_by, is_day_number, is_day_number-so, is_good_line, is_good_run, is_order_of_line, leb-true, length-filter, length-map, line_from, lines_from, list_all, list_any, most_runs, nat_le, nth, numbered_from_one, numbered_within, numbers_from, option_map, order_from, run_from, run_line_row, run_line_rows, run_row, run_rows, some_and, state_of, ◌≤ℤ◌}
 use Rattle.state_encoding.proofs.Members.{all_of_in, in_map, in_filter, test_in}
 use Rattle.state_encoding.proofs.NumberedRows.{known_numbered, any_numbered, numbered_in, numbered-map, rows_again}
-use Rattle.office_core.proofs.Words.{numbered_within}
-use Rattle.office_core.proofs.Counts.{numbered_from_one}
 use Rattle.state_encoding.proofs.DeskKeys.{LineBefore}
 use Rattle.state_encoding.proofs.DeskLookups.{is_between_so, is_not_later, some_and-map}
 use Rattle.state_encoding.proofs.Grouped.{order_weaker, order-filter, order-map, grouped_all}
 use Rattle.state_encoding.proofs.DeskParts.{OrdersParts, said_by}
-use Rattle.state_encoding.specs.Causes.{around}
 
 pub record RunParts (t : OfficeRows) : Type 0 where
   pub numbered : are_numbered_from (λ (row : RunRow). row.id) 1 t.desk.runs ≡ true
   pub few : length t.desk.runs ≤ most_runs
   pub days : (row : RunRow) → StandsIn row t.desk.runs → IsDayNumber row.day × (row.day ≤ℤ t.office.day)
   pub counts : (row : RunRow) → StandsIn row t.desk.runs → let lines = count_by (λ (line : RunLineRow). nat_eq line.run row.id) t.desk.run_lines in (1 ≤ lines) × (lines ≤ t.office.run_size)
-  pub known : (line : RunLineRow) → StandsIn line t.desk.run_lines → list_any (λ (row : RunRow). nat_eq row.id line.run) t.desk.runs ≡ true
-  pub orders : (line : RunLineRow) → StandsIn line t.desk.run_lines → list_any (is_order_of_line line) t.desk.orders ≡ true
+  pub known : (line : RunLineRow) → StandsIn line t.desk.run_lines
+      → list_any (λ (row : RunRow). nat_eq row.id line.run) t.desk.runs ≡ true
+  pub orders : (line : RunLineRow) → StandsIn line t.desk.run_lines
+      → list_any (is_order_of_line line) t.desk.orders ≡ true
 
 pub run_parts : (t : OfficeRows) → are_good_runs (around t) t.desk ≡ true → RunParts t
 run_parts t h =
@@ -56,7 +38,9 @@ run_parts t h =
     }
 
 -- the order of a line, by its number
-line_order : (s : State) (o c ticket : ℕ) (r : Option Order) → nth s.orders o ≡ r → some_and (λ (order : Order). nat_eq order.container c && nat_eq order.ticket ticket) r ≡ true → (container_of s o ≡ Some c) × (is_by s ticket o ≡ true)
+line_order : (s : State) (o c ticket : ℕ) (r : Option Order) → nth s.orders o ≡ r
+    → some_and (λ (order : Order). nat_eq order.container c && nat_eq order.ticket ticket) r ≡ true
+    → (container_of s o ≡ Some c) × (is_by s ticket o ≡ true)
 line_order s o c ticket None e h = absurd (false≢true h)
 line_order s o c ticket (Some order) e h =
     let b = and_parts (nat_eq order.container c) (nat_eq order.ticket ticket) h in (
@@ -68,7 +52,8 @@ by_container : (lines : List Line) → AreInOrder (λ (a b : Line). a.container 
 by_container [] h = tt
 by_container (line ∷ lines) h = (h.0, by_container lines h.1)
 
-own_rows_again : (n : ℕ) (rows : List RunLineRow) → ((row : RunLineRow) → StandsIn row rows → row.run ≡ n) → map (run_line_row n) (map line_from rows) ≡ rows
+own_rows_again : (n : ℕ) (rows : List RunLineRow) → ((row : RunLineRow) → StandsIn row rows → row.run ≡ n)
+    → map (run_line_row n) (map line_from rows) ≡ rows
 own_rows_again n [] f = refl
 own_rows_again n (row ∷ rows) f =
     ap (λ m. record { run = m; container = row.container; order_no = row.order_no; ticket = row.ticket } ∷ map (run_line_row n) (map line_from rows)) (sym (f row (inl refl)))
@@ -85,7 +70,9 @@ module _ (t : OfficeRows) (k : MeetsDeskKeys t.desk) (o : OrdersParts t) (p : Ru
 
   good_line : (line : RunLineRow) → StandsIn line t.desk.run_lines → IsGoodLine (state_of t) (line_from line)
   good_line line l =
-      let known = sym (any_numbered (λ (row : OrderRow). row.id) (λ (row : OrderRow). nat_eq row.container line.container && nat_eq row.ticket line.ticket) t.desk.orders line.order_no o.numbered) ∙ p.orders line l in
+      let known =
+      sym (any_numbered (λ (row : OrderRow). row.id) (λ (row : OrderRow). nat_eq row.container line.container && nat_eq row.ticket line.ticket) t.desk.orders line.order_no o.numbered)
+      ∙ p.orders line l in
       let said = ap (some_and (λ (order : Order). nat_eq order.container line.container && nat_eq order.ticket line.ticket)) (numbered-map order_from t.desk.orders line.order_no)
       ∙ (some_and-map (λ (order : Order). nat_eq order.container line.container && nat_eq order.ticket line.ticket) order_from (nth t.desk.orders line.order_no) ∙ known) in
       let r = line_order (state_of t) line.order_no line.container line.ticket (nth (state_of t).orders line.order_no) refl said in
@@ -132,7 +119,8 @@ module _ (t : OfficeRows) (k : MeetsDeskKeys t.desk) (o : OrdersParts t) (p : Ru
   pub runs_again : run_rows (state_of t) ≡ t.desk.runs
   runs_again = rows_again run_row (λ (row : RunRow). row.id) (run_from t.desk.run_lines) 1 t.desk.runs p.numbered (λ r l. refl)
 
-  lines_grouped : (n : ℕ) (runs : List RunRow) → are_numbered_from (λ (row : RunRow). row.id) n runs ≡ true → lines_from n (map (run_from t.desk.run_lines) runs) ≡ flat_map lines_of (numbers_from n (length runs))
+  lines_grouped : (n : ℕ) (runs : List RunRow) → are_numbered_from (λ (row : RunRow). row.id) n runs ≡ true
+      → lines_from n (map (run_from t.desk.run_lines) runs) ≡ flat_map lines_of (numbers_from n (length runs))
   lines_grouped n [] h = refl
   lines_grouped n (run ∷ runs) h =
       let b = and_parts (nat_eq run.id n) (are_numbered_from (λ (row : RunRow). row.id) (suc n) runs) h in

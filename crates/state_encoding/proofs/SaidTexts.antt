@@ -1,57 +1,55 @@
 -- The texts of a state that rows say are texts of the rows.
 use Rattle.std.proofs.Common.{◌≡◌, ℕ, zero, suc, ◌&&◌, Bool, length, List, [], ◌∷◌, Option, Some, None, map, refl, nat_eq, IsUtf8, sym, subst}
-use Rattle.std.specs.Prelude.{find, option_map, unwrap_or, IfSome, false}
-use Rattle.std.specs.List.{AllByRecursion, cons_option}
+use Rattle.std.specs.Prelude.{unwrap_or, false}
 use Rattle.std.proofs.lemmas.Str.{IsUtf8-nil}
 use Rattle.isad_core.specs.LegibleValues.{IsLegibleBox, AreLegibleValues}
-use Rattle.isad_core.specs.Texts.{Bytes}
-use Rattle.isad_core.specs.declared.values.BoxKey.{BoxKey}
-use Rattle.tree_core.specs.Forest.{nodes}
-use Rattle.tree_core.proofs.Lists.{In, find_some}
-use Rattle.tree_core.proofs.EachLemmas.{nodes-each}
-use Rattle.desk_core.specs.DeskRows.{ReaderRow}
 use Rattle.catalogue_core.specs.LegibleCatalogues.{HasLegibleTexts}
-use Rattle.catalogue_core.specs.CatalogueRows.{UnitRow, ElementRow, ContainerRow, HousingRow, box_from, text_said, after_level, housings_of, places_said}
-use Rattle.office_core.specs.Words.{nth}
-use Rattle.office_core.specs.Laws.{numbers_from}
-use Rattle.office_core.specs.SoundOffice.{AreTexts}
-use Rattle.state_encoding.specs.DeskEncoding.{reader_from}
-use Rattle.state_encoding.specs.OfficeRows.{OfficeRows, state_of, box_at, boxes_from, values_said, unit_from, unit_said}
-use Rattle.state_encoding.specs.CellSoundness.{IsLegibleUnitRow, IsLegibleContainerRow, AreLegibleRows}
+use Rattle.state_encoding.proofs.Common.{AllByRecursion, AreLegibleRows, AreTexts, BoxKey, Bytes, ContainerRow, ElementRow, HousingRow, IfSome, In, IsLegibleContainerRow, IsLegibleUnitRow, OfficeRows, ReaderRow, UnitRow, after_level, box_at, box_from, boxes_from, cons_option, find, find_some, housings_of, nodes, nodes-each, nth, numbers_from, option_map, places_said, reader_from, state_of, text_said, unit_from, unit_said, values_said}
 use Rattle.state_encoding.proofs.RowsByNumber.{each_in}
 use Rattle.state_encoding.proofs.NumberedRows.{numbered_in}
 
-readers_said : (rows : List ReaderRow) → AllByRecursion (λ (row : ReaderRow). IsUtf8 row.name) rows → AllByRecursion (λ reader. IsUtf8 reader.name) (map reader_from rows)
+readers_said : (rows : List ReaderRow) → AllByRecursion (λ (row : ReaderRow). IsUtf8 row.name) rows
+    → AllByRecursion (λ reader. IsUtf8 reader.name) (map reader_from rows)
 readers_said [] h = tt
 readers_said (row ∷ rows) h = (h.0, readers_said rows h.1)
 
-boxes_legible : (rows : List ContainerRow) → AllByRecursion IsLegibleContainerRow rows → AllByRecursion IsLegibleBox (map box_from rows)
+boxes_legible : (rows : List ContainerRow) → AllByRecursion IsLegibleContainerRow rows
+    → AllByRecursion IsLegibleBox (map box_from rows)
 boxes_legible [] h = tt
-boxes_legible (row ∷ rows) h = (record { name = h.0.name; location = h.0.location; kind = h.0.kind }, boxes_legible rows h.1)
+boxes_legible (row ∷ rows) h =
+    (record { name = h.0.name; location = h.0.location; kind = h.0.kind }, boxes_legible rows h.1)
 
-text_legible : (elements : List ElementRow) (u k : ℕ) → AllByRecursion (λ (row : ElementRow). IsUtf8 row.value) elements → IfSome (text_said elements u k) IsUtf8
+text_legible : (elements : List ElementRow) (u k : ℕ) → AllByRecursion (λ (row : ElementRow). IsUtf8 row.value) elements
+    → IfSome (text_said elements u k) IsUtf8
 text_legible elements u k h = at (find is_it elements) refl
   where
     is_it : ElementRow → Bool
     is_it row = nat_eq row.unit u && nat_eq row.k (after_level k)
 
-    at : (r : Option ElementRow) → find is_it elements ≡ r → IfSome (option_map (λ (row : ElementRow). row.value) r) IsUtf8
+    at : (r : Option ElementRow) → find is_it elements ≡ r
+        → IfSome (option_map (λ (row : ElementRow). row.value) r) IsUtf8
     at None e = tt
     at (Some row) e = each_in (λ (row : ElementRow). IsUtf8 row.value) elements row h (find_some is_it elements row e).0
 
-texts_legible : (elements : List ElementRow) (u : ℕ) (ns : List ℕ) → AllByRecursion (λ (row : ElementRow). IsUtf8 row.value) elements → AllByRecursion (λ text. IfSome text IsUtf8) (map (text_said elements u) ns)
+texts_legible : (elements : List ElementRow) (u : ℕ) (ns : List ℕ)
+    → AllByRecursion (λ (row : ElementRow). IsUtf8 row.value) elements
+    → AllByRecursion (λ text. IfSome text IsUtf8) (map (text_said elements u) ns)
 texts_legible elements u [] h = tt
 texts_legible elements u (n ∷ ns) h = (text_legible elements u n h, texts_legible elements u ns h)
 
-own_boxes_legible : (boxes : List BoxKey) (mine : List HousingRow) (n more : ℕ) → AllByRecursion IsLegibleBox boxes → AllByRecursion IsLegibleBox (boxes_from boxes mine n more)
+own_boxes_legible : (boxes : List BoxKey) (mine : List HousingRow) (n more : ℕ) → AllByRecursion IsLegibleBox boxes
+    → AllByRecursion IsLegibleBox (boxes_from boxes mine n more)
 own_boxes_legible boxes mine n zero h = tt
-own_boxes_legible boxes mine n (suc more) h = at (find (λ (row : HousingRow). nat_eq row.ord n) mine) (own_boxes_legible boxes mine (suc n) more h)
+own_boxes_legible boxes mine n (suc more) h =
+    at (find (λ (row : HousingRow). nat_eq row.ord n) mine) (own_boxes_legible boxes mine (suc n) more h)
   where
-    passes : (r : Option BoxKey) → ((b : BoxKey) → r ≡ Some b → In b boxes) → (rest : List BoxKey) → AllByRecursion IsLegibleBox rest → AllByRecursion IsLegibleBox (cons_option r rest)
+    passes : (r : Option BoxKey) → ((b : BoxKey) → r ≡ Some b → In b boxes) → (rest : List BoxKey)
+        → AllByRecursion IsLegibleBox rest → AllByRecursion IsLegibleBox (cons_option r rest)
     passes None f rest all = all
     passes (Some b) f rest all = (each_in IsLegibleBox boxes b h (f b refl), all)
 
-    at : (r : Option HousingRow) → AllByRecursion IsLegibleBox (boxes_from boxes mine (suc n) more) → AllByRecursion IsLegibleBox (cons_option (box_at boxes r) (boxes_from boxes mine (suc n) more))
+    at : (r : Option HousingRow) → AllByRecursion IsLegibleBox (boxes_from boxes mine (suc n) more)
+        → AllByRecursion IsLegibleBox (cons_option (box_at boxes r) (boxes_from boxes mine (suc n) more))
     at None all = all
     at (Some row) all = passes (nth boxes row.container) (λ b e. numbered_in boxes row.container b e) (boxes_from boxes mine (suc n) more) all
 

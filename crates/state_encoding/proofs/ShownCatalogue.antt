@@ -1,13 +1,6 @@
 -- The rows of a sound catalogue have their keys and no cause.
 use Rattle.std.proofs.Common.{[], ◌∷◌, refl}
-use Rattle.std.specs.List.{list_all}
-use Rattle.std.proofs.lemmas.Bool.{and_from, not_from_true}
-use Rattle.office_tables.specs.Versions.{Version, encoding}
-use Rattle.office_core.specs.State.{State}
-use Rattle.state_encoding.specs.OfficeRows.{OfficeRows, tables}
-use Rattle.state_encoding.specs.Causes.{is_good_office, office_is_bad}
-use Rattle.catalogue_core.specs.CatalogueCauses.{are_good_places, are_good_units, unit_numbers, is_good_element, are_good_container_rows, is_good_housing, places_are_bad, units_are_bad, elements_are_bad, containers_are_bad}
-use Rattle.state_encoding.specs.RowSoundness.{HasNoCatalogueCause}
+use Rattle.state_encoding.proofs.Common.{HasNoCatalogueCause, OfficeRows, State, Version, and_from, are_good_container_rows, are_good_places, are_good_units, containers_are_bad, elements_are_bad, encoding, is_good_element, is_good_housing, is_good_office, list_all, not_from_true, office_is_bad, places_are_bad, tables, unit_numbers, units_are_bad}
 use Rattle.state_encoding.proofs.Judging.{hold_none}
 use Rattle.state_encoding.proofs.ShownUnits.{office_shown, AreShownUnits, units_shown}
 use Rattle.state_encoding.proofs.ShownElements.{elements_shown, AreShownContainers, containers_shown, AreShownHousings, housings_shown}

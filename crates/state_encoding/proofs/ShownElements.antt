@@ -1,30 +1,11 @@
 -- The rows of the texts and of the containers of a sound catalogue have their keys and no cause.
 use Rattle.std.proofs.Common.{◌≡◌, ℕ, zero, suc, ◌+◌, ◌<◌, ◌≤◌, Bool, true, false, cond, not, List, [], ◌∷◌, length, Option, Some, None, refl, sym, ap, ◌∙◌, subst, nat_eq, nat_lt, inl, inr, arith, map}
-use Rattle.std.specs.Prelude.{nat_le, unwrap_or, slice_get}
-use Rattle.std.specs.List.{IsDistinct, AllByRecursion, list_any, list_all}
-use Rattle.std.proofs.lemmas.Bool.{and_from, and_parts, le-leb, ltb-true, ltb-false, not-true, not_from_false, false≢true}
-use Rattle.isad_core.specs.Texts.{Bytes, is_blank_text}
-use Rattle.isad_core.specs.declared.values.BoxKey.{BoxKey}
+use Rattle.std.specs.Prelude.{unwrap_or}
+use Rattle.std.specs.List.{IsDistinct}
 use Rattle.isad_core.specs.Boxes.{is_same as is_same_box}
-use Rattle.tree_core.specs.Forest.{nodes}
-use Rattle.tree_core.proofs.Lists.{In, In-map, any_from_In}
-use Rattle.office_tables.specs.Versions.{Version}
-use Rattle.catalogue_core.specs.Units.{Unit}
-use Rattle.catalogue_core.specs.CatalogueMerge.{box_number}
-use Rattle.isad_core.specs.Limits.{most_containers}
-use Rattle.office_core.specs.Laws.{numbers_from}
-use Rattle.office_core.specs.State.{State}
-use Rattle.office_core.specs.Words.{nth, stands}
-use Rattle.state_encoding.specs.DeskEncoding.{rows_from}
+use Rattle.office_core.specs.Words.{stands}
 use Rattle.catalogue_core.specs.Sources.{is_between}
-use Rattle.catalogue_core.specs.GoodCatalogues.{is_good_text, IsGoodUnit}
-use Rattle.catalogue_core.specs.CatalogueRows.{ElementRow, after_level, element_rows_from, ContainerRow, container_row, HousingRow, housing_row, housings_of}
-use Rattle.state_encoding.specs.OfficeRows.{OfficeRows, tables, number_of}
-use Rattle.isad_core.specs.Words.{are_numbered_from}
-use Rattle.catalogue_core.specs.CatalogueCauses.{unit_numbers, is_good_element, is_good_housing, are_good_container_rows, is_same_element, is_same_container, is_same_place, is_housed_alike}
-use Rattle.state_encoding.specs.RowSoundness.{IsSoundCatalogue}
-use Rattle.office_core.proofs.Words.{same_number, other_number}
-use Rattle.catalogue_core.proofs.ImportedAgain.{box_itself}
+use Rattle.state_encoding.proofs.Common.{AllByRecursion, BoxKey, Bytes, ContainerRow, ElementRow, HousingRow, In, In-map, IsGoodUnit, IsSoundCatalogue, OfficeRows, State, Unit, Version, after_level, and_from, and_parts, any_from_In, are_good_container_rows, are_numbered_from, box_itself, box_number, container_row, element_rows_from, false≢true, housing_row, housings_of, is_blank_text, is_good_element, is_good_housing, is_good_text, is_housed_alike, is_same_container, is_same_element, is_same_place, le-leb, list_all, list_any, ltb-false, ltb-true, most_containers, nat_le, nodes, not-true, not_from_false, nth, number_of, numbers_from, other_number, rows_from, same_number, slice_get, tables, unit_numbers}
 use Rattle.state_encoding.proofs.UnitRows.{HasRows, all_rows, number_there, number_back, after_less, elements_own, housings_own}
 use Rattle.state_encoding.proofs.RowsByNumber.{each_in, in_each, all_in, in_all, in_map, numbers_apart}
 use Rattle.state_encoding.proofs.Apart.{in_flat_map, pairs_apart, all_different}
@@ -40,7 +21,8 @@ record IsTextRow (u j n : ℕ) (row : ElementRow) : Type 0 where
   number : row.k ≡ after_level place
   filled : is_blank_text row.value ≡ false
 
-text_row : (u j : ℕ) (texts : List (Option Bytes)) → list_all is_good_text texts ≡ true → (row : ElementRow) → In row (element_rows_from u j texts) → IsTextRow u j (length texts) row
+text_row : (u j : ℕ) (texts : List (Option Bytes)) → list_all is_good_text texts ≡ true → (row : ElementRow)
+    → In row (element_rows_from u j texts) → IsTextRow u j (length texts) row
 text_row u j [] h row i = absurd i
 text_row u j (None ∷ texts) h row i = let r = text_row u (suc j) texts h row i in record { unit = r.unit; place = r.place; behind = omega (arith, r.behind); before = omega (arith, r.before); number = r.number; filled = r.filled }
 text_row u j (Some text ∷ texts) h row (inl e) =
@@ -59,7 +41,8 @@ text_row u j (Some text ∷ texts) h row (inr i) =
 ranged : (i : ℕ) → 1 ≤ i → i < 26 → (is_between 1 26 (after_level i) ≡ true) × (not (nat_eq (after_level i) 4) ≡ true)
 ranged i a b = at (nat_lt i 4) refl
   where
-    at : (x : Bool) → nat_lt i 4 ≡ x → (is_between 1 26 (cond x i (i + 1)) ≡ true) × (not (nat_eq (cond x i (i + 1)) 4) ≡ true)
+    at : (x : Bool) → nat_lt i 4 ≡ x
+        → (is_between 1 26 (cond x i (i + 1)) ≡ true) × (not (nat_eq (cond x i (i + 1)) 4) ≡ true)
     at true e =
         let l = ltb-true i 4 e in
         (and_from (nat_le 1 i) (nat_le i 26) (le-leb 1 i a) (le-leb i 26 (omega (arith, l))), ap not (other_number i 4 (λ q. omega (arith, l, q))))
@@ -67,7 +50,8 @@ ranged i a b = at (nat_lt i 4) refl
         let l = ltb-false i 4 e in
         (and_from (nat_le 1 (i + 1)) (nat_le (i + 1) 26) (le-leb 1 (i + 1) (omega arith)) (le-leb (i + 1) 26 (omega (arith, b))), ap not (other_number (i + 1) 4 (λ q. omega (arith, l, q))))
 
-numbers_differ : (u j : ℕ) (texts : List (Option Bytes)) → list_all is_good_text texts ≡ true → IsDistinct nat_eq (map (λ (row : ElementRow). row.k) (element_rows_from u j texts))
+numbers_differ : (u j : ℕ) (texts : List (Option Bytes)) → list_all is_good_text texts ≡ true
+    → IsDistinct nat_eq (map (λ (row : ElementRow). row.k) (element_rows_from u j texts))
 unfolding IsDistinct
 numbers_differ u j [] h = tt
 numbers_differ u j (None ∷ texts) h = numbers_differ u (suc j) texts h
@@ -83,7 +67,8 @@ numbers_differ u j (Some text ∷ texts) h =
       numbers_differ u (suc j) texts rest,
     )
 
-pub elements_shown : (version : Version) (s : State) → IsSoundCatalogue s → unit_numbers (tables version s).catalogue ≡ map number_of (nodes s.catalogue.forest)
+pub elements_shown : (version : Version) (s : State) → IsSoundCatalogue s
+    → unit_numbers (tables version s).catalogue ≡ map number_of (nodes s.catalogue.forest)
     → (list_all (is_good_element (unit_numbers (tables version s).catalogue)) (tables version s).catalogue.elements ≡ true) × IsDistinct is_same_element (tables version s).catalogue.elements
 elements_shown version s g told =
     let us = nodes s.catalogue.forest in
@@ -105,28 +90,34 @@ elements_shown version s g told =
 
 -- ---- the containers
 
-ids_count : (n : ℕ) (boxes : List BoxKey) → map (λ (row : ContainerRow). row.id) (rows_from container_row n boxes) ≡ numbers_from n (length boxes)
+ids_count : (n : ℕ) (boxes : List BoxKey)
+    → map (λ (row : ContainerRow). row.id) (rows_from container_row n boxes) ≡ numbers_from n (length boxes)
 ids_count n [] = refl
 ids_count n (b ∷ boxes) = ap (λ l. n ∷ l) (ids_count (suc n) boxes)
 
-counted : (n : ℕ) (boxes : List BoxKey) → are_numbered_from (λ (row : ContainerRow). row.id) n (rows_from container_row n boxes) ≡ true
+counted : (n : ℕ) (boxes : List BoxKey)
+    → are_numbered_from (λ (row : ContainerRow). row.id) n (rows_from container_row n boxes) ≡ true
 counted n [] = refl
 counted n (b ∷ boxes) = and_from (nat_eq n n) _ (same_number n) (counted (suc n) boxes)
 
-named : (n : ℕ) (boxes : List BoxKey) → list_all (λ box. not (is_blank_text box.name)) boxes ≡ true → list_all (λ (row : ContainerRow). not (is_blank_text row.name)) (rows_from container_row n boxes) ≡ true
+named : (n : ℕ) (boxes : List BoxKey) → list_all (λ box. not (is_blank_text box.name)) boxes ≡ true
+    → list_all (λ (row : ContainerRow). not (is_blank_text row.name)) (rows_from container_row n boxes) ≡ true
 named n [] h = refl
 named n (b ∷ boxes) h = let p = and_parts (not (is_blank_text b.name)) (list_all (λ box. not (is_blank_text box.name)) boxes) h in and_from (not (is_blank_text b.name)) _ p.0 (named (suc n) boxes p.1)
 
-count_rows : {R : Type 0} (row : ℕ → BoxKey → R) (n : ℕ) (boxes : List BoxKey) → length (rows_from row n boxes) ≡ length boxes
+count_rows : {R : Type 0} (row : ℕ → BoxKey → R) (n : ℕ) (boxes : List BoxKey)
+    → length (rows_from row n boxes) ≡ length boxes
 count_rows row n [] = refl
 count_rows row n (b ∷ boxes) = ap suc (count_rows row (suc n) boxes)
 
-rows_differ : (n : ℕ) (boxes : List BoxKey) → IsDistinct is_same_box boxes → IsDistinct is_same_container (rows_from container_row n boxes)
+rows_differ : (n : ℕ) (boxes : List BoxKey) → IsDistinct is_same_box boxes
+    → IsDistinct is_same_container (rows_from container_row n boxes)
 unfolding IsDistinct
 rows_differ n [] d = tt
 rows_differ n (b ∷ boxes) d = (others (suc n) boxes d.0, rows_differ (suc n) boxes d.1)
   where
-    others : (m : ℕ) (xs : List BoxKey) → AllByRecursion (λ x. is_same_box b x ≡ false) xs → AllByRecursion (λ row. is_same_container (container_row n b) row ≡ false) (rows_from container_row m xs)
+    others : (m : ℕ) (xs : List BoxKey) → AllByRecursion (λ x. is_same_box b x ≡ false) xs
+        → AllByRecursion (λ row. is_same_container (container_row n b) row ≡ false) (rows_from container_row m xs)
     others m [] h = tt
     others m (x ∷ xs) h = (h.0, others (suc m) xs h.1)
 
@@ -158,7 +149,8 @@ record IsBoxRow (boxes : List BoxKey) (u n : ℕ) (bs : List BoxKey) (row : Hous
   there : In box bs
   container : row.container ≡ box_number boxes box
 
-box_row : (boxes : List BoxKey) (u n : ℕ) (bs : List BoxKey) (row : HousingRow) → In row (rows_from (housing_row boxes u) n bs) → IsBoxRow boxes u n bs row
+box_row : (boxes : List BoxKey) (u n : ℕ) (bs : List BoxKey) (row : HousingRow)
+    → In row (rows_from (housing_row boxes u) n bs) → IsBoxRow boxes u n bs row
 box_row boxes u n [] row i = absurd i
 box_row boxes u n (b ∷ bs) row (inl e) =
     let o = ap (λ (r : HousingRow). r.ord) e in
@@ -167,7 +159,8 @@ box_row boxes u n (b ∷ bs) row (inr i) =
     let r = box_row boxes u (suc n) bs row i in
     record { unit = r.unit; behind = omega (arith, r.behind); before = omega (arith, r.before); box = r.box; there = inr r.there; container = r.container }
 
-number_ranged : (boxes : List BoxKey) (b : BoxKey) → list_any (is_same_box b) boxes ≡ true → is_between 1 (length boxes) (box_number boxes b) ≡ true
+number_ranged : (boxes : List BoxKey) (b : BoxKey) → list_any (is_same_box b) boxes ≡ true
+    → is_between 1 (length boxes) (box_number boxes b) ≡ true
 number_ranged boxes b h =
     let r = number_there boxes b h in
     let e : box_number boxes b ≡ suc r.0 = ap (λ n. unwrap_or n 0) r.1 in
@@ -179,16 +172,19 @@ number_ranged boxes b h =
     short (y ∷ ys) zero x e = omega arith
     short (y ∷ ys) (suc i) x e = let l = short ys i x e in omega (arith, l)
 
-ords_count : (boxes : List BoxKey) (u n : ℕ) (bs : List BoxKey) → map (λ (row : HousingRow). row.ord) (rows_from (housing_row boxes u) n bs) ≡ numbers_from n (length bs)
+ords_count : (boxes : List BoxKey) (u n : ℕ) (bs : List BoxKey)
+    → map (λ (row : HousingRow). row.ord) (rows_from (housing_row boxes u) n bs) ≡ numbers_from n (length bs)
 ords_count boxes u n [] = refl
 ords_count boxes u n (b ∷ bs) = ap (λ l. n ∷ l) (ords_count boxes u (suc n) bs)
 
-numbers_kept : (boxes : List BoxKey) (u n : ℕ) (bs : List BoxKey) → map (λ (row : HousingRow). row.container) (rows_from (housing_row boxes u) n bs) ≡ map (box_number boxes) bs
+numbers_kept : (boxes : List BoxKey) (u n : ℕ) (bs : List BoxKey)
+    → map (λ (row : HousingRow). row.container) (rows_from (housing_row boxes u) n bs) ≡ map (box_number boxes) bs
 numbers_kept boxes u n [] = refl
 numbers_kept boxes u n (b ∷ bs) = ap (λ l. box_number boxes b ∷ l) (numbers_kept boxes u (suc n) bs)
 
 -- different containers have different numbers
-number_each : (boxes bs : List BoxKey) → list_all (λ box. list_any (is_same_box box) boxes) bs ≡ true → IsDistinct is_same_box bs → IsDistinct nat_eq (map (box_number boxes) bs)
+number_each : (boxes bs : List BoxKey) → list_all (λ box. list_any (is_same_box box) boxes) bs ≡ true
+    → IsDistinct is_same_box bs → IsDistinct nat_eq (map (box_number boxes) bs)
 unfolding IsDistinct
 number_each boxes [] h d = tt
 number_each boxes (b ∷ bs) h d =
@@ -198,7 +194,10 @@ number_each boxes (b ∷ bs) h d =
     one : (a c : BoxKey) → Some a ≡ Some c → a ≡ c
     one a c e = cc
 
-    others : (xs : List BoxKey) → nth boxes (box_number boxes b) ≡ Some b → list_all (λ box. list_any (is_same_box box) boxes) xs ≡ true → AllByRecursion (λ x. is_same_box b x ≡ false) xs → AllByRecursion (λ n. nat_eq (box_number boxes b) n ≡ false) (map (box_number boxes) xs)
+    others : (xs : List BoxKey) → nth boxes (box_number boxes b) ≡ Some b
+        → list_all (λ box. list_any (is_same_box box) boxes) xs ≡ true
+        → AllByRecursion (λ x. is_same_box b x ≡ false) xs
+        → AllByRecursion (λ n. nat_eq (box_number boxes b) n ≡ false) (map (box_number boxes) xs)
     others [] e k a = tt
     others (x ∷ xs) e k a =
         let q = and_parts (list_any (is_same_box x) boxes) (list_all (λ box. list_any (is_same_box box) boxes) xs) k in (
@@ -213,11 +212,13 @@ pub record AreShownHousings (version : Version) (s : State) : Type 0 where
   pub places : IsDistinct is_same_place (tables version s).catalogue.housings
   pub once : IsDistinct is_housed_alike (tables version s).catalogue.housings
 
-pub housings_shown : (version : Version) (s : State) → IsSoundCatalogue s → unit_numbers (tables version s).catalogue ≡ map number_of (nodes s.catalogue.forest) → AreShownHousings version s
+pub housings_shown : (version : Version) (s : State) → IsSoundCatalogue s
+    → unit_numbers (tables version s).catalogue ≡ map number_of (nodes s.catalogue.forest) → AreShownHousings version s
 housings_shown version s g told =
     let t : OfficeRows = tables version s in
     let us = nodes s.catalogue.forest in
-    let rows : Unit → List HousingRow = λ unit. rows_from (housing_row s.catalogue.containers unit.id) 1 unit.values.boxes in
+    let rows : Unit → List HousingRow =
+    λ unit. rows_from (housing_row s.catalogue.containers unit.id) 1 unit.values.boxes in
     record {
       good = in_all (is_good_housing t.catalogue) t.catalogue.housings (λ row i.
           let o = in_flat_map rows us row i in

@@ -1,42 +1,15 @@
 -- The rows of the units of a sound catalogue, and of their places, have their keys and no cause.
 use Rattle.std.proofs.Common.{◌≡◌, ℕ, ◌+◌, ◌*◌, ◌^◌, ◌<◌, ◌≤◌, true, false, not, List, [], ◌∷◌, length, Option, Some, None, refl, sym, ap, ◌∙◌, subst, nat_eq, arith, map}
-use Rattle.std.specs.Prelude.{ℤ, nat_le, nat_lt, is_some}
-use Rattle.std.specs.List.{IsDistinct, AllByRecursion, list_all}
-use Rattle.std.proofs.lemmas.Bool.{and_from, leb-true, le-leb, lt-ltb, not_from_false}
+use Rattle.std.specs.Prelude.{ℤ, nat_lt}
+use Rattle.std.specs.List.{IsDistinct}
 use Rattle.std.proofs.lemmas.Slice.Eq.{bytes_eq-Decides}
-use Rattle.std.proofs.lemmas.List.{length-map}
-use Rattle.std.proofs.lemmas.List.Folds.{list_all-map}
-use Rattle.std.proofs.lemmas.List.Sorted.{IsPermutation-refl}
-use Rattle.isad_core.specs.Texts.{is_blank_text}
-use Rattle.isad_core.specs.Days.{is_day_number}
-use Rattle.isad_core.proofs.DayLemmas.{is_day_number-true}
-use Rattle.tree_core.specs.Forest.{Forest, nodes, each, size}
-use Rattle.tree_core.specs.Links.{siblings}
-use Rattle.tree_core.specs.Spans.{number}
-use Rattle.tree_core.proofs.Lists.{In, any_from_In}
 use Rattle.tree_core.proofs.LinkPaths.{ids-rows_below}
 use Rattle.tree_core.proofs.NumberingWalk.{ids-number}
-use Rattle.tree_core.proofs.Linking.{link_faultless, no_link_fault}
-use Rattle.tree_core.proofs.Reading.{faultless, no_fault}
-use Rattle.tree_core.proofs.EachLemmas.{nodes-each}
-use Rattle.tree_core.specs.Encodings.{TreeEncoding, Links, Spans}
-use Rattle.office_tables.specs.Versions.{Version, version_number, encoding}
-use Rattle.catalogue_core.specs.Units.{Unit}
 use Rattle.catalogue_core.proofs.NodeLemmas.{length-nodes}
-use Rattle.isad_core.specs.Limits.{most_units, most_unit_numbers, most_deep, most_bytes, most_seats, most_daily, most_hands, most_run_size}
-use Rattle.office_core.specs.State.{State}
 use Rattle.office_core.specs.Words.{stands}
-use Rattle.catalogue_core.specs.Sources.{is_source, is_between}
-use Rattle.catalogue_core.specs.Moves.{height}
+use Rattle.catalogue_core.specs.Sources.{is_between}
 use Rattle.catalogue_core.proofs.Heights.{height-each}
-use Rattle.office_core.specs.Soundness.{is_country, is_repository}
-use Rattle.catalogue_core.specs.GoodCatalogues.{IsSomeDay, IsGoodUnit, is_same_unit}
-use Rattle.catalogue_core.specs.CatalogueRows.{OfficeRow, UnitRow, unit_row, place_rows, places_said}
-use Rattle.state_encoding.specs.OfficeRows.{number_of, tables, unit_said}
-use Rattle.state_encoding.specs.Causes.{is_good_office}
-use Rattle.catalogue_core.specs.CatalogueCauses.{is_unit_number, is_good_link, is_good_span, are_good_places, is_some_day, is_good_unit_row, unit_numbers, place_numbers, all_stand_in, are_good_units, is_named_alike}
-use Rattle.state_encoding.specs.RowSoundness.{IsSoundCatalogue}
-use Rattle.office_core.proofs.Words.{same_number}
+use Rattle.state_encoding.proofs.Common.{AllByRecursion, Forest, In, IsGoodUnit, IsPermutation-refl, IsSomeDay, IsSoundCatalogue, Links, OfficeRow, Spans, State, TreeEncoding, Unit, UnitRow, Version, all_stand_in, and_from, any_from_In, are_good_places, are_good_units, each, encoding, faultless, height, is_blank_text, is_country, is_day_number, is_day_number-true, is_good_link, is_good_office, is_good_span, is_good_unit_row, is_named_alike, is_repository, is_same_unit, is_some, is_some_day, is_source, is_unit_number, le-leb, leb-true, length-map, link_faultless, list_all, list_all-map, lt-ltb, most_bytes, most_daily, most_deep, most_hands, most_run_size, most_seats, most_unit_numbers, most_units, nat_le, no_fault, no_link_fault, nodes, nodes-each, not_from_false, number, number_of, place_numbers, place_rows, places_said, same_number, siblings, size, tables, unit_numbers, unit_row, unit_said, version_number}
 use Rattle.state_encoding.proofs.UnitRows.{units_back}
 use Rattle.state_encoding.proofs.RowsByNumber.{in_all, each_in, in_map}
 use Rattle.state_encoding.proofs.PlaceNumbers.{links_numbered, spans_numbered}
@@ -46,7 +19,8 @@ use Rattle.state_encoding.proofs.PlaceNumbers.{links_numbered, spans_numbered}
 between : (low high n : ℕ) → low ≤ n → n ≤ high → is_between low high n ≡ true
 between low high n a b = and_from (nat_le low n) (nat_le n high) (le-leb low n a) (le-leb n high b)
 
-pub office_shown : (version : Version) (s : State) → IsSoundCatalogue s → is_good_office version (tables version s).office ≡ true
+pub office_shown : (version : Version) (s : State) → IsSoundCatalogue s
+    → is_good_office version (tables version s).office ≡ true
 office_shown version s g =
     let row : OfficeRow = (tables version s).office in
     and_from (nat_eq row.version (version_number version)) _ (same_number (version_number version))
@@ -65,7 +39,9 @@ office_shown version s g =
 enough : 1 + 2 * most_units ≤ 2 ^ 32
 enough = leb-true (1 + 2 * most_units) (2 ^ 32) refl
 
-places_shown : (way : TreeEncoding) (f : Forest ℕ) → IsDistinct nat_eq (nodes f) → ((u : ℕ) → In u (nodes f) → is_unit_number u ≡ true) → size f ≤ most_units → are_good_places way (place_rows way f) ≡ true
+places_shown : (way : TreeEncoding) (f : Forest ℕ) → IsDistinct nat_eq (nodes f)
+    → ((u : ℕ) → In u (nodes f) → is_unit_number u ≡ true) → size f ≤ most_units
+    → are_good_places way (place_rows way f) ≡ true
 places_shown Links f d n few =
     and_from (list_all is_good_link (siblings f)) _ (links_numbered None 1 f refl n (omega (arith, few, enough)))
     (ap (λ fault. not (is_some fault)) (no_link_fault (siblings f) (link_faultless f (siblings f) (record { distinct = d; rows = IsPermutation-refl (siblings f) }))))
@@ -87,7 +63,9 @@ day_shown : (until : Option ℤ) → IsSomeDay until → is_some_day until ≡ t
 day_shown None h = refl
 day_shown (Some day) h = is_day_number-true day h
 
-row_shown : (next : ℕ) (u : Unit) → (1 ≤ u.id) × (u.id < next) → IsSomeDay u.until → (is_source u.source ≡ true) × (is_blank_text u.legacy ≡ false) × (length u.legacy ≤ most_bytes) × (length u.values.level ≤ most_bytes) → is_good_unit_row next (unit_row u) ≡ true
+row_shown : (next : ℕ) (u : Unit) → (1 ≤ u.id) × (u.id < next) → IsSomeDay u.until
+    → (is_source u.source ≡ true) × (is_blank_text u.legacy ≡ false) × (length u.legacy ≤ most_bytes) × (length u.values.level ≤ most_bytes)
+    → is_good_unit_row next (unit_row u) ≡ true
 row_shown next u n d g =
     and_from (nat_lt u.id next) _ (lt-ltb u.id next n.1)
     (and_from (is_source u.source) _ g.0
@@ -103,7 +81,8 @@ names_shown (u ∷ us) d = (others us d.0, names_shown us d.1)
     flips : (v : Unit) → is_named_alike (unit_row u) (unit_row v) ≡ is_same_unit u v
     flips v = grind (arith, bytes_eq-Decides v.source u.source, bytes_eq-Decides u.source v.source, bytes_eq-Decides v.legacy u.legacy, bytes_eq-Decides u.legacy v.legacy)
 
-    others : (vs : List Unit) → AllByRecursion (λ v. is_same_unit u v ≡ false) vs → AllByRecursion (λ row. is_named_alike (unit_row u) row ≡ false) (map unit_row vs)
+    others : (vs : List Unit) → AllByRecursion (λ v. is_same_unit u v ≡ false) vs
+        → AllByRecursion (λ row. is_named_alike (unit_row u) row ≡ false) (map unit_row vs)
     others [] h = tt
     others (v ∷ vs) h = (flips v ∙ h.0, others vs h.1)
 
@@ -125,23 +104,29 @@ units_shown version s g =
     let ids : nodes f ≡ map number_of us = nodes-each number_of s.catalogue.forest in
     let apart : IsDistinct nat_eq (nodes f) = subst (IsDistinct nat_eq) (sym ids) g.units.ids in
     let told : unit_numbers (tables version s).catalogue ≡ map number_of us = numbers_of_rows us in
-    let placed : place_numbers (tables version s).catalogue.places ≡ map number_of us = numbers_placed (encoding version) f ∙ ids in
+    let placed : place_numbers (tables version s).catalogue.places ≡ map number_of us =
+    numbers_placed (encoding version) f ∙ ids in
     let rows : list_all (is_good_unit_row s.catalogue.next) (map unit_row us) ≡ true =
     list_all-map (is_good_unit_row s.catalogue.next) unit_row us
     ∙ in_all (λ u. is_good_unit_row s.catalogue.next (unit_row u)) us (λ u i.
     let k = each_in (IsGoodUnit s.catalogue.containers) us u g.units.each i in
     row_shown s.catalogue.next u (each_in (λ (unit : Unit). (1 ≤ unit.id) × (unit.id < s.catalogue.next)) us u g.units.given i) (each_in (λ (unit : Unit). IsSomeDay unit.until) us u g.closures i) (k.source, k.legacy, k.legacy_short, k.level_short)) in
-    let count : length (map unit_row us) ≡ size s.catalogue.forest = length-map us unit_row ∙ length-nodes s.catalogue.forest in
+    let count : length (map unit_row us) ≡ size s.catalogue.forest =
+    length-map us unit_row ∙ length-nodes s.catalogue.forest in
     let few = g.units.few in
-    let same_count : size f ≡ size s.catalogue.forest = sym (length-nodes f) ∙ (ap length ids ∙ (length-map us number_of ∙ length-nodes s.catalogue.forest)) in
+    let same_count : size f ≡ size s.catalogue.forest =
+    sym (length-nodes f) ∙ (ap length ids ∙ (length-map us number_of ∙ length-nodes s.catalogue.forest)) in
     let next = g.units.next in
     let numbers : (u : ℕ) → In u (nodes f) → is_unit_number u ≡ true = λ u i.
     let r = in_map number_of us u (subst (In u) ids i) in
     let given = each_in (λ (unit : Unit). (1 ≤ unit.id) × (unit.id < s.catalogue.next)) us r.it g.units.given r.there in
     subst (λ n. is_unit_number n ≡ true) r.is (between 1 most_unit_numbers r.it.id given.0 (omega (arith, given, next))) in
     let t = tables version s in
-    let same_height : height (places_said t.catalogue.places) ≡ height s.catalogue.forest = sym (height-each (unit_said t.catalogue) (places_said t.catalogue.places)) ∙ ap (λ g. height g) (units_back version s g.units.ids g.units.each) in
-    let deep : height (places_said t.catalogue.places) ≤ most_deep = subst (λ n. n ≤ most_deep) (sym same_height) g.units.depth in
+    let same_height : height (places_said t.catalogue.places) ≡ height s.catalogue.forest =
+    sym (height-each (unit_said t.catalogue) (places_said t.catalogue.places))
+    ∙ ap (λ g. height g) (units_back version s g.units.ids g.units.each) in
+    let deep : height (places_said t.catalogue.places) ≤ most_deep =
+    subst (λ n. n ≤ most_deep) (sym same_height) g.units.depth in
     record {
       places = places_shown (encoding version) f apart numbers (omega (arith, few, same_count));
       units = and_from (list_all (is_good_unit_row s.catalogue.next) (map unit_row us)) _ rows

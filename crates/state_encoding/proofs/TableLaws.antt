@@ -1,45 +1,36 @@
 -- What the desk's commands do to the rows of orders, and what the rows say.
 use Rattle.std.proofs.Common.{◌≡◌, ◌≢◌, ℕ, zero, suc, ◌+◌, ◌<◌, ◌≤◌, Bool, true, false, cond, ◌&&◌, ◌||◌, List, [], ◌∷◌, length, Option, Some, None, Ok, refl, sym, ap, ◌∙◌, subst, inl, inr, arith}
-use Rattle.std.specs.Prelude.{nat_eq, map, filter, is_some, option_map, slice_get, filter_map, option_and_then, unwrap_or}
-use Rattle.std.specs.List.{AllByRecursion, cons_option}
-use Rattle.std.proofs.Math.Path.{fun_ext}
-use Rattle.std.proofs.lemmas.Bool.{eqb-true, cases_eq, cases_Bool, false≢true, and_parts, or_cases}
-use Rattle.office_core.specs.Words.{nth, numbers_to, stands, first, some_and}
-use Rattle.desk_core.specs.declared.reader.Place.TheVariants.{Shelf, Desk, Out}
-use Rattle.desk_core.specs.declared.reader.Place.{Place}
-use Rattle.office_core.specs.State.{is_desk, is_by, State, Order, containers, End, Done, Cancelled, container_of}
+use Rattle.std.specs.Prelude.{nat_eq, map, filter_map, unwrap_or}
+use Rattle.office_core.specs.Words.{stands}
+use Rattle.desk_core.specs.declared.reader.Place.TheVariants.{Desk}
 use Rattle.office_core.specs.declared.command.Command.TheVariants as command
 use Rattle.office_core.specs.declared.done.Done.TheVariants as done
-use Rattle.office_core.specs.Rules.{Reply, step, issued}
-use Rattle.office_core.specs.SoundDesk.{ExactlyOne, IsFiled, IsAscending, AreFiled, AreGoodPlaces, IsSoundDesk, is_out_for}
-use Rattle.office_core.specs.Laws.{Standing, Waiting, WithItsReader, Ended, stands_as, standing}
-use Rattle.desk_core.specs.DeskRows.{HoldingRow, OrderRow, with_state, waiting_for}
-use Rattle.state_encoding.specs.DeskEncoding.{reader_row, reader_from, order_from, OneRowChanges, holding_row, holding_rows, place_in, end_of, past_in, ReadsBack, state_number, rows_from, order_row, order_rows}
-use Rattle.office_core.proofs.Words.{same_number, other_number, below_none, numbered_within}
 use Rattle.office_core.proofs.Steps.{held_so, step_at}
-use Rattle.office_core.proofs.Counts.{none_to, numbered_from_one}
-use Rattle.office_core.proofs.Filed.{only_issues, is_issued, no_order, OnlyMoves, waiting}
-use Rattle.office_core.proofs.OrderLaws.{stands_out, waiting_stands, stands_waiting, goes_same}
+use Rattle.state_encoding.proofs.Common.{AllByRecursion, AreFiled, AreGoodPlaces, Cancelled, Done, End, Ended, ExactlyOne, HoldingRow, IsAscending, IsFiled, IsSoundDesk, OneRowChanges, OnlyMoves, Order, OrderRow, Out, Place, ReadsBack, Reply, Shelf, Standing, State, Waiting, WithItsReader, and_parts, below_none, cases_Bool, cases_eq, cons_option, container_of, containers, end_of, eqb-true, false≢true, filter, first, fun_ext, goes_same, holding_row, holding_rows, is_by, is_desk, is_issued, is_out_for, is_some, issued, no_order, none_to, nth, numbered_from_one, numbered_within, numbers_to, only_issues, option_and_then, option_map, or_cases, order_from, order_row, order_rows, other_number, past_in, place_in, reader_from, reader_row, rows_from, same_number, slice_get, some_and, standing, stands_as, stands_out, stands_waiting, state_number, step, waiting, waiting_for, waiting_stands, with_state}
 
 -- where one order moves, one row changes
 
-row_at : (s t : State) (o : ℕ) → OnlyMoves s t o → (n : ℕ) (order : Order) → order_row t n order ≡ cond (nat_eq n o) (record (order_row s n order) { state = state_number (standing t o) }) (order_row s n order)
+row_at : (s t : State) (o : ℕ) → OnlyMoves s t o → (n : ℕ) (order : Order)
+    → order_row t n order ≡ cond (nat_eq n o) (record (order_row s n order) { state = state_number (standing t o) }) (order_row s n order)
 row_at s t o m n order = at (nat_eq n o) refl
   where
-    at : (b : Bool) → nat_eq n o ≡ b → order_row t n order ≡ cond b (record (order_row s n order) { state = state_number (standing t o) }) (order_row s n order)
+    at : (b : Bool) → nat_eq n o ≡ b
+        → order_row t n order ≡ cond b (record (order_row s n order) { state = state_number (standing t o) }) (order_row s n order)
     at true e = ap (λ k. record { id = n; ticket = order.ticket; container = order.container; day = order.day; state = state_number (standing t k) }) (eqb-true n o e)
     at false e =
         let ne : n ≢ o = λ same. false≢true (sym e ∙ (ap (λ k. nat_eq k o) same ∙ same_number o)) in
         ap (λ x. record { id = n; ticket = order.ticket; container = order.container; day = order.day; state = state_number x })
         (goes_same s t n (m.orders n ne) (m.queues n ne) (m.places n ne) (m.past n ne))
 
-rows_moved_from : (s t : State) (o : ℕ) → OnlyMoves s t o → (n : ℕ) (orders : List Order) → rows_from (order_row t) n orders ≡ with_state o (state_number (standing t o)) (rows_from (order_row s) n orders)
+rows_moved_from : (s t : State) (o : ℕ) → OnlyMoves s t o → (n : ℕ) (orders : List Order)
+    → rows_from (order_row t) n orders ≡ with_state o (state_number (standing t o)) (rows_from (order_row s) n orders)
 rows_moved_from s t o m n [] = refl
 rows_moved_from s t o m n (x ∷ xs) =
     ap (λ row. row ∷ rows_from (order_row t) (suc n) xs) (row_at s t o m n x)
     ∙ ap (λ rows. cond (nat_eq n o) (record (order_row s n x) { state = state_number (standing t o) }) (order_row s n x) ∷ rows) (rows_moved_from s t o m (suc n) xs)
 
-pub rows_moved : (s t : State) (o : ℕ) → OnlyMoves s t o → t.orders ≡ s.orders → order_rows t ≡ with_state o (state_number (standing t o)) (order_rows s)
+pub rows_moved : (s t : State) (o : ℕ) → OnlyMoves s t o → t.orders ≡ s.orders
+    → order_rows t ≡ with_state o (state_number (standing t o)) (order_rows s)
 rows_moved s t o m e = ap (rows_from (order_row t) 1) e ∙ rows_moved_from s t o m 1 s.orders
 
 -- Order adds a row
@@ -82,11 +73,13 @@ said s c n orders = waiting_for c (rows_from (order_row s) n orders)
 row_waits : State → ℕ → ℕ → Order → Bool
 row_waits s c n order = nat_eq order.container c && nat_eq (state_number (standing s n)) 1
 
-keep : (b : Bool) (row : OrderRow) (rows : List OrderRow) → map (λ row. row.id) (cond b (row ∷ rows) rows) ≡ cond b (row.id ∷ map (λ row. row.id) rows) (map (λ row. row.id) rows)
+keep : (b : Bool) (row : OrderRow) (rows : List OrderRow)
+    → map (λ row. row.id) (cond b (row ∷ rows) rows) ≡ cond b (row.id ∷ map (λ row. row.id) rows) (map (λ row. row.id) rows)
 keep true row rows = refl
 keep false row rows = refl
 
-said_from : (s : State) (c n : ℕ) (orders : List Order) → (AllByRecursion (λ k. n ≤ k) (said s c n orders)) × IsAscending (said s c n orders)
+said_from : (s : State) (c n : ℕ) (orders : List Order)
+    → (AllByRecursion (λ k. n ≤ k) (said s c n orders)) × IsAscending (said s c n orders)
 unfolding said
 said_from s c n [] = (tt, tt)
 said_from s c n (x ∷ xs) =
@@ -103,7 +96,8 @@ said_from s c n (x ∷ xs) =
     strict [] h = tt
     strict (k ∷ ks) h = (h.0, strict ks h.1)
 
-    at : (b : Bool) (ks : List ℕ) → AllByRecursion (λ k. suc n ≤ k) ks → IsAscending ks → AllByRecursion (λ k. n ≤ k) (cond b (n ∷ ks) ks) × IsAscending (cond b (n ∷ ks) ks)
+    at : (b : Bool) (ks : List ℕ) → AllByRecursion (λ k. suc n ≤ k) ks → IsAscending ks
+        → AllByRecursion (λ k. n ≤ k) (cond b (n ∷ ks) ks) × IsAscending (cond b (n ∷ ks) ks)
     at true ks h a = ((omega arith, weaker ks h), (strict ks h, a))
     at false ks h a = (weaker ks h, a)
 
@@ -115,7 +109,8 @@ past_first : (k n : ℕ) (rest : List ℕ) (b : Bool) → k ≢ n → stands k (
 past_first k n rest true ne = ap (λ x. x || stands k rest) (other_number k n ne)
 past_first k n rest false ne = refl
 
-said_stands : (s : State) (c n : ℕ) (orders : List Order) (j : ℕ) → stands (n + j) (said s c n orders) ≡ some_and (row_waits s c (n + j)) (slice_get orders j)
+said_stands : (s : State) (c n : ℕ) (orders : List Order) (j : ℕ)
+    → stands (n + j) (said s c n orders) ≡ some_and (row_waits s c (n + j)) (slice_get orders j)
 unfolding said row_waits
 said_stands s c n [] j = refl
 said_stands s c n (x ∷ xs) zero =
@@ -150,7 +145,8 @@ both : (a b : Bool) → a ≡ true → b ≡ true → (a && b) ≡ true
 both true b e f = f
 both false b e f = absurd (false≢true e)
 
-queue_row : (s : State) (c k : ℕ) (r : Option Order) → AreFiled s → nth s.orders k ≡ r → some_and (row_waits s c k) r ≡ stands k (s.queue c)
+queue_row : (s : State) (c k : ℕ) (r : Option Order) → AreFiled s → nth s.orders k ≡ r
+    → some_and (row_waits s c k) r ≡ stands k (s.queue c)
 unfolding row_waits
 queue_row s c k None f e = same_Bool false (stands k (s.queue c)) (λ h. absurd (false≢true h))
     (λ w.
@@ -195,12 +191,14 @@ queue_is s f c =
 -- The places and the past
 
 -- the row of n, where it is c's
-own_row : (c n : ℕ) (rows : List HoldingRow) (p : Place) → nat_eq n c ≡ true → (p ≡ Shelf → place_in rows c ≡ Shelf) → place_in (cons_option (holding_row n p) rows) c ≡ p
+own_row : (c n : ℕ) (rows : List HoldingRow) (p : Place) → nat_eq n c ≡ true → (p ≡ Shelf → place_in rows c ≡ Shelf)
+    → place_in (cons_option (holding_row n p) rows) c ≡ p
 own_row c n rows Shelf e h = h refl
 own_row c n rows Desk e h = ap (λ b. cond b Desk (place_in rows c)) e
 own_row c n rows (Out o) e h = ap (λ b. cond b (Out o) (place_in rows c)) e
 
-other_row : (c n : ℕ) (rows : List HoldingRow) (p : Place) → nat_eq n c ≡ false → place_in (cons_option (holding_row n p) rows) c ≡ place_in rows c
+other_row : (c n : ℕ) (rows : List HoldingRow) (p : Place) → nat_eq n c ≡ false
+    → place_in (cons_option (holding_row n p) rows) c ≡ place_in rows c
 other_row c n rows Shelf e = refl
 other_row c n rows Desk e = ap (λ b. cond b Desk (place_in rows c)) e
 other_row c n rows (Out o) e = ap (λ b. cond b (Out o) (place_in rows c)) e
@@ -209,7 +207,8 @@ if_shelf : (b : Bool) (p : Place) → p ≡ Shelf → cond b p Shelf ≡ Shelf
 if_shelf true p e = e
 if_shelf false p e = refl
 
-place_among : (place : ℕ → Place) (c : ℕ) (ns : List ℕ) → place_in (filter_map (λ n. holding_row n (place n)) ns) c ≡ cond (stands c ns) (place c) Shelf
+place_among : (place : ℕ → Place) (c : ℕ) (ns : List ℕ)
+    → place_in (filter_map (λ n. holding_row n (place n)) ns) c ≡ cond (stands c ns) (place c) Shelf
 place_among place c [] = refl
 place_among place c (n ∷ ns) =
     let rows = filter_map (λ n. holding_row n (place n)) ns in
@@ -224,19 +223,23 @@ place_among place c (n ∷ ns) =
 stands_to : (n c : ℕ) → 1 ≤ c → c ≤ n → stands c (numbers_to n) ≡ true
 stands_to n c l h = elim (cases_Bool (stands c (numbers_to n))) [ inl e ↦ e | inr e ↦ absurd (false≢true (sym (none_to (nat_eq c) n c e l h) ∙ same_number c)) ]
 
-place_there : (s : State) (c : ℕ) (b : Bool) → is_some (nth s.catalogue.containers c) ≡ b → AreGoodPlaces s → cond (stands c (containers s)) (s.place c) Shelf ≡ s.place c
-place_there s c true e g = ap (λ b. cond b (s.place c) Shelf) (stands_to (length s.catalogue.containers) c (numbered_from_one s.catalogue.containers c e) (numbered_within s.catalogue.containers c e))
+place_there : (s : State) (c : ℕ) (b : Bool) → is_some (nth s.catalogue.containers c) ≡ b → AreGoodPlaces s
+    → cond (stands c (containers s)) (s.place c) Shelf ≡ s.place c
+place_there s c true e g =
+    ap (λ b. cond b (s.place c) Shelf) (stands_to (length s.catalogue.containers) c (numbered_from_one s.catalogue.containers c e) (numbered_within s.catalogue.containers c e))
 place_there s c false e g = if_shelf (stands c (containers s)) (s.place c) (g.known c e) ∙ sym (g.known c e)
 
 place_is : (s : State) → AreGoodPlaces s → (c : ℕ) → place_in (holding_rows s) c ≡ s.place c
 place_is s g c = place_among s.place c (containers s) ∙ place_there s c (is_some (nth s.catalogue.containers c)) refl g
 
-rows_get : {X Y : Type 0} (row : ℕ → X → Y) (n : ℕ) (xs : List X) (j : ℕ) → slice_get (rows_from row n xs) j ≡ option_map (row (n + j)) (slice_get xs j)
+rows_get : {X Y : Type 0} (row : ℕ → X → Y) (n : ℕ) (xs : List X) (j : ℕ)
+    → slice_get (rows_from row n xs) j ≡ option_map (row (n + j)) (slice_get xs j)
 rows_get row n [] j = refl
 rows_get row n (x ∷ xs) zero = let e : n ≡ n + 0 = omega arith in ap (λ k. Some (row k x)) e
 rows_get row n (x ∷ xs) (suc j) = let e : suc n + j ≡ n + suc j = omega arith in rows_get row (suc n) xs j ∙ ap (λ k. option_map (row k) (slice_get xs j)) e
 
-end_at : (a b : Bool) (p : Option End) → ExactlyOne a b (is_some p) → end_of (state_number (cond a (Some Waiting) (cond b (Some WithItsReader) (option_map Ended p)))) ≡ p
+end_at : (a b : Bool) (p : Option End) → ExactlyOne a b (is_some p)
+    → end_of (state_number (cond a (Some Waiting) (cond b (Some WithItsReader) (option_map Ended p)))) ≡ p
 end_at true false None x = refl
 end_at false true None x = refl
 end_at false false (Some Done) x = refl
@@ -247,14 +250,17 @@ end_at true true (Some p) x = absurd x
 end_at false true (Some p) x = absurd x
 end_at false false None x = absurd x
 
-end_is : (k : Option ℕ) (w h : ℕ → Bool) (p : Option End) (c : ℕ) → k ≡ Some c → IsFiled k w h p → end_of (state_number (stands_as k w h p)) ≡ p
+end_is : (k : Option ℕ) (w h : ℕ → Bool) (p : Option End) (c : ℕ) → k ≡ Some c → IsFiled k w h p
+    → end_of (state_number (stands_as k w h p)) ≡ p
 end_is k w h p c e f = let g = subst (λ k. IsFiled k w h p) e f in ap (λ k. end_of (state_number (stands_as k w h p))) e ∙ end_at (w c) (h c) p g.0
 
-past_row : (s : State) (o : ℕ) (r : Option Order) → AreFiled s → nth s.orders o ≡ r → option_and_then (λ row. end_of row.state) (option_map (order_row s o) r) ≡ s.past o
+past_row : (s : State) (o : ℕ) (r : Option Order) → AreFiled s → nth s.orders o ≡ r
+    → option_and_then (λ row. end_of row.state) (option_map (order_row s o) r) ≡ s.past o
 past_row s o None f e =
     let none = ap (option_map (λ order. order.container)) e in
     sym (no_order (container_of s o) (λ c. stands o (s.queue c)) (λ c. is_out_for o (s.place c)) (s.past o) none (f.each o)).2
-past_row s o (Some order) f e = end_is (container_of s o) (λ c. stands o (s.queue c)) (λ c. is_out_for o (s.place c)) (s.past o) order.container (ap (option_map (λ order. order.container)) e) (f.each o)
+past_row s o (Some order) f e =
+    end_is (container_of s o) (λ c. stands o (s.queue c)) (λ c. is_out_for o (s.place c)) (s.past o) order.container (ap (option_map (λ order. order.container)) e) (f.each o)
 
 past_is : (s : State) → AreFiled s → (o : ℕ) → past_in (order_rows s) o ≡ s.past o
 past_is s f zero = past_row s zero None f refl
@@ -263,9 +269,11 @@ past_is s f (suc j) =
     ap (option_and_then (λ row. end_of row.state)) (rows_get (order_row s) 1 s.orders j ∙ ap (λ k. option_map (order_row s k) (slice_get s.orders j)) e)
     ∙ past_row s (suc j) (nth s.orders (suc j)) f refl
 
-pub rows_back : {X Y : Type 0} (row : ℕ → X → Y) (back : Y → X) → ((n : ℕ) (x : X) → back (row n x) ≡ x) → (n : ℕ) (xs : List X) → map back (rows_from row n xs) ≡ xs
+pub rows_back : {X Y : Type 0} (row : ℕ → X → Y) (back : Y → X) → ((n : ℕ) (x : X) → back (row n x) ≡ x)
+    → (n : ℕ) (xs : List X) → map back (rows_from row n xs) ≡ xs
 rows_back row back h n [] = refl
-rows_back row back h n (x ∷ xs) = ap (λ y. y ∷ map back (rows_from row (suc n) xs)) (h n x) ∙ ap (λ l. x ∷ l) (rows_back row back h (suc n) xs)
+rows_back row back h n (x ∷ xs) =
+    ap (λ y. y ∷ map back (rows_from row (suc n) xs)) (h n x) ∙ ap (λ l. x ∷ l) (rows_back row back h (suc n) xs)
 
 -- the rows of a sound desk say so
 pub reads_back : (s : State) → IsSoundDesk s → ReadsBack s
@@ -276,7 +284,9 @@ reads_back s g = record { readers = rows_back reader_row reader_from (λ n x. re
 abbrev reply_of : ℕ → Reply
 reply_of o = Ok (done.Issue o)
 
-issue_rows_at : (s : State) (c t o : ℕ) (q : List ℕ) → s.queue c ≡ q → is_desk (s.place c) ≡ true → some_and (is_by s t) (first q) ≡ true → AreFiled s → Ok (done.Issue (unwrap_or (first q) 0)) ≡ reply_of o → order_rows (issued s c q) ≡ with_state o 2 (order_rows s)
+issue_rows_at : (s : State) (c t o : ℕ) (q : List ℕ) → s.queue c ≡ q → is_desk (s.place c) ≡ true
+    → some_and (is_by s t) (first q) ≡ true → AreFiled s → Ok (done.Issue (unwrap_or (first q) 0)) ≡ reply_of o
+    → order_rows (issued s c q) ≡ with_state o 2 (order_rows s)
 issue_rows_at s c t o [] e d b f r = absurd (false≢true b)
 issue_rows_at s c t o (p ∷ os) e d b f r =
     let same : p ≡ o = cc in
@@ -286,7 +296,8 @@ issue_rows_at s c t o (p ∷ os) e d b f r =
     ∙ ap (λ x. with_state p (state_number x) (order_rows s)) l
     ∙ ap (λ n. with_state n 2 (order_rows s)) same
 
-pub issue_rows : (s : State) (c t o : ℕ) → AreFiled s → (step s (command.Issue c t)).1 ≡ Ok (done.Issue o) → order_rows (step s (command.Issue c t)).0 ≡ with_state o 2 (order_rows s)
+pub issue_rows : (s : State) (c t o : ℕ) → AreFiled s → (step s (command.Issue c t)).1 ≡ Ok (done.Issue o)
+    → order_rows (step s (command.Issue c t)).0 ≡ with_state o 2 (order_rows s)
 issue_rows s c t o f =
     step_at (λ u reply. reply ≡ Ok (done.Issue o) → order_rows u ≡ with_state o 2 (order_rows s)) s (command.Issue c t)
     (λ why r. absurd (cc))

@@ -1,9 +1,6 @@
 -- The rows of a sound state say that state.
 use Rattle.std.proofs.Common.{◌≡◌, ap, ◌∙◌}
-use Rattle.office_core.specs.State.{State}
-use Rattle.office_tables.specs.Versions.{Version}
-use Rattle.state_encoding.specs.OfficeRows.{tables, state_of}
-use Rattle.office_core.specs.Soundness.{IsSound}
+use Rattle.state_encoding.proofs.Common.{IsSound, State, Version, state_of, tables}
 use Rattle.state_encoding.proofs.ReadBack.{says_all_but_units}
 use Rattle.state_encoding.proofs.UnitRows.{units_back}
 

@@ -1,7 +1,5 @@
 //! Days in the reading room, by the desk's calls: their results and the rows in the tables.
 
-ghost use Rattle.std.specs.Prelude.{◌<◌, ◌^◌};
-
 use crate::desk::{add_order, day_after, register, show_orders};
 use crate::tests::{Query, new_office, show_rows};
 use catalogue_store::{LinkPlaces, NewUnit, StoreFault, add_unit, commit};
@@ -36,17 +34,15 @@ fn one_box(alloc: Global, name: &str, location: &str) -> Result<Values, AllocErr
 fn add_boxed<S: Alter>(
     alloc: Global,
     tables: &mut Tables<LinkPlaces, S>,
-    id: u64,
+    id: u32,
     name: &str,
     location: &str,
-) -> Result<(), StoreFault>
-    requires small { id < 2 ^ 62 }
-{
+) -> Result<(), StoreFault> {
     let values = one_box(alloc, name, location)?;
     let source = Text::new(alloc, "a")?;
     let legacy = Text(format!(in alloc; "{id}")?);
     let unit = NewUnit {
-        id,
+        id: Number::from(id),
         source: &source,
         legacy: &legacy,
         values: &values,

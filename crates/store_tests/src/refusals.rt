@@ -6,7 +6,7 @@ use crate::tests::{
 };
 use catalogue_store::{LinkPlaces, Places, StoreFault, move_unit, replace_values};
 use nested_sets::SpanPlaces;
-use office_tables::Tables;
+use office_tables::{Number, Tables};
 use sqlite::{Alter, Connection};
 use std::alloc::Global;
 use std::process::Abort;
@@ -33,12 +33,12 @@ fn attempt<P: Places, S: Alter>(
         Slip::AddBelowNone => add(alloc, tables, 5, Some(9), MAPS),
         Slip::ReplaceNone => {
             let later = values_of(alloc, LATER)?;
-            replace_values(alloc, tables, 9, &later)
+            replace_values(alloc, tables, Number::from(9), &later)
         }
-        Slip::MoveNone => move_unit(alloc, tables, 9, None),
-        Slip::MoveBelowNone => move_unit(alloc, tables, 2, Some(9)),
-        Slip::MoveBelowItself => move_unit(alloc, tables, 2, Some(2)),
-        Slip::MoveIntoItsBranch => move_unit(alloc, tables, 1, Some(2)),
+        Slip::MoveNone => move_unit(alloc, tables, Number::from(9), None),
+        Slip::MoveBelowNone => move_unit(alloc, tables, Number::from(2), Some(Number::from(9))),
+        Slip::MoveBelowItself => move_unit(alloc, tables, Number::from(2), Some(Number::from(2))),
+        Slip::MoveIntoItsBranch => move_unit(alloc, tables, Number::from(1), Some(Number::from(2))),
     }
 }
 

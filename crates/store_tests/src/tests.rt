@@ -1,6 +1,6 @@
 //! The catalogue's tables, in either version: what a clerk would see in them.
 
-ghost use Rattle.std.specs.Prelude.{◌≡◌, ◌<◌, ◌^◌, IfOk, IfSome, OnOk};
+ghost use Rattle.std.specs.Prelude.{◌≡◌, OnOk};
 ghost use Rattle.sqlite.specs.Held.{state};
 ghost use Rattle.sqlite.specs.State.{HasCleanDisk};
 ghost use Rattle.office_tables.specs.Schema.{no_schema};
@@ -15,7 +15,7 @@ use catalogue_store::{
 use desk_store::{create_desk, is_blank};
 use isad_core::{BoxKey, Day, List, Text, Values};
 use nested_sets::SpanPlaces;
-use office_tables::Tables;
+use office_tables::{Number, Tables};
 use sqlite::{Alter, Connection, Row};
 use std::alloc::{AllocError, Global};
 use std::array;
@@ -23,9 +23,7 @@ use std::process::Abort;
 use std::test::Fail;
 
 /// An office with two seats, on the first of March 2024.
-fn settings(alloc: Global) -> Result<OfficeRow, StoreFault>
-    ensures { IfOk result (λ row. row.next_unit ≡ 1) }
-{
+fn settings(alloc: Global) -> Result<OfficeRow, StoreFault> {
     let Some(day) = Day::from_number(19783) else {
         return Err(StoreFault::Schema);
     };
@@ -37,7 +35,7 @@ fn settings(alloc: Global) -> Result<OfficeRow, StoreFault>
         hands: 1,
         run_size: 2,
         day,
-        next_unit: 1,
+        next_unit: Number::from(1),
     })
 }
 
@@ -141,24 +139,21 @@ pub(crate) fn values_of(alloc: Global, unit: Described) -> Result<Values, AllocE
 pub(crate) fn add<P: Places, S: Alter>(
     alloc: Global,
     tables: &mut Tables<P, S>,
-    id: u64,
-    parent: Option<u64>,
+    id: u32,
+    parent: Option<u32>,
     unit: Described,
-) -> Result<(), StoreFault>
-    requires small { id < 2 ^ 62 }
-    requires low { IfSome parent (λ p. p < 2 ^ 63) }
-{
+) -> Result<(), StoreFault> {
     let values = values_of(alloc, unit)?;
     let source = Text::new(alloc, "a")?;
     let legacy = Text(format!(in alloc; "{id}")?);
     let unit = NewUnit {
-        id,
+        id: Number::from(id),
         source: &source,
         legacy: &legacy,
         values: &values,
         draft: false,
     };
-    add_unit(alloc, tables, parent, &unit)
+    add_unit(alloc, tables, parent.map(Number::from), &unit)
 }
 
 /// Unit 1, a fonds in Box 1, with unit 2 below it.
@@ -184,11 +179,9 @@ pub(crate) fn four_units<P: Places, S: Alter>(
 fn move_second<P: Places, S: Alter>(
     alloc: Global,
     tables: &mut Tables<P, S>,
-    parent: Option<u64>,
-) -> Result<(), StoreFault>
-    requires low { IfSome parent (λ p. p < 2 ^ 63) }
-{
-    move_unit(alloc, tables, 2, parent)
+    parent: Option<u32>,
+) -> Result<(), StoreFault> {
+    move_unit(alloc, tables, Number::from(2), parent.map(Number::from))
 }
 
 /// Unit 2 is moved to the top and back.
@@ -226,7 +219,7 @@ fn remove_first<P: Places, S: Alter>(
     text: &mut String,
 ) -> Result<(), StoreFault> {
     four_units(alloc, tables)?;
-    let removed = remove_branch(alloc, tables, 1)?;
+    let removed = remove_branch(alloc, tables, Number::from(1))?;
     write!(text, "{removed}\n")?;
     Ok(())
 }
@@ -236,12 +229,12 @@ fn is_described<P: Places, S: Alter>(
     alloc: Global,
     tables: &mut Tables<P, S>,
     wanted: &Values,
-    container: u64,
+    container: u32,
 ) -> Result<bool, StoreFault> {
-    let found = values(alloc, tables, 1)?;
+    let found = values(alloc, tables, Number::from(1))?;
     Ok(match &found {
         Some(unit) => unit.values == *wanted
-            && unit.containers.as_slice() == [container].as_slice(),
+            && unit.containers.as_slice() == [Number::from(container)].as_slice(),
         None => false,
     })
 }
@@ -256,7 +249,7 @@ fn revise_unit<P: Places, S: Alter>(
     let first = values_of(alloc, DOCKS)?;
     let before = is_described(alloc, tables, &first, 1)?;
     let later = values_of(alloc, LATER)?;
-    replace_values(alloc, tables, 1, &later)?;
+    replace_values(alloc, tables, Number::from(1), &later)?;
     let after = is_described(alloc, tables, &later, 2)?;
     write!(text, "{before} {after}\n")?;
     Ok(())
@@ -268,7 +261,7 @@ fn show_contents<P: Places, S: Alter>(
     tables: &mut Tables<P, S>,
     text: &mut String,
 ) -> Result<(), StoreFault> {
-    for attached in &contents_marks(alloc, tables, 1)? {
+    for attached in &contents_marks(alloc, tables, Number::from(1))? {
         show_statuses(text, &attached.path)?;
         show_branch(text, &attached.branch)?;
     }
@@ -281,7 +274,7 @@ fn show_path<P: Places, S: Alter>(
     tables: &mut Tables<P, S>,
     text: &mut String,
 ) -> Result<(), StoreFault> {
-    show_marks(text, &path_marks(alloc, tables, 2)?)
+    show_marks(text, &path_marks(alloc, tables, Number::from(2))?)
 }
 
 /// Unit 2 is moved below unit 4, it and unit 3 are closed, and the marks of Box 1, of unit 2's path and of all units
@@ -292,8 +285,8 @@ fn read_marks<P: Places, S: Alter>(
     text: &mut String,
 ) -> Result<(), StoreFault> {
     moved_below(alloc, tables)?;
-    set_closure(tables, 2, Day::from_number(21915))?;
-    set_closure(tables, 3, Day::from_number(21916))?;
+    set_closure(tables, Number::from(2), Day::from_number(21915))?;
+    set_closure(tables, Number::from(3), Day::from_number(21916))?;
     show_contents(alloc, tables, text)?;
     show_path(alloc, tables, text)?;
     show_walk(text, &branch_marks(alloc, tables, None)?)
@@ -301,7 +294,7 @@ fn read_marks<P: Places, S: Alter>(
 
 fn show_heads(text: &mut String, heads: &[Head]) -> Result<(), StoreFault> {
     for head in heads {
-        let id = head.id;
+        let id = head.id.get();
         write!(text, " {id} ")?;
         text.push_str(head.title.as_str())?;
     }
@@ -317,8 +310,8 @@ fn read_heads<P: Places, S: Alter>(
 ) -> Result<(), StoreFault> {
     moved_below(alloc, tables)?;
     show_heads(text, &heads_below(alloc, tables, None)?)?;
-    show_heads(text, &heads_below(alloc, tables, Some(4))?)?;
-    show_heads(text, &path_heads(alloc, tables, 2)?)
+    show_heads(text, &heads_below(alloc, tables, Some(Number::from(4)))?)?;
+    show_heads(text, &path_heads(alloc, tables, Number::from(2))?)
 }
 
 /// Unit 1 and all below it become drafts, then unit 2 is published: how many units were set each time.
@@ -328,8 +321,8 @@ fn set<P: Places, S: Alter>(
     text: &mut String,
 ) -> Result<(), StoreFault> {
     four_units(alloc, tables)?;
-    let branch = set_status(alloc, tables, 1, true, true)?;
-    let one = set_status(alloc, tables, 2, false, false)?;
+    let branch = set_status(alloc, tables, Number::from(1), true, true)?;
+    let one = set_status(alloc, tables, Number::from(2), false, false)?;
     write!(text, "{branch} {one}\n")?;
     Ok(())
 }
@@ -339,7 +332,7 @@ fn known_as_two<P: Places, S: Alter>(
     alloc: Global,
     tables: &mut Tables<P, S>,
     source: &str,
-) -> Result<Option<u64>, StoreFault> {
+) -> Result<Option<Number>, StoreFault> {
     let source = Text::new(alloc, source)?;
     let legacy = Text::new(alloc, "2")?;
     known(alloc, tables, &source, &legacy)
@@ -352,10 +345,11 @@ fn looked_up<P: Places, S: Alter>(
     text: &mut String,
 ) -> Result<(), StoreFault> {
     four_units(alloc, tables)?;
-    let here = known_as_two(alloc, tables, "a")?.unwrap_or(0);
+    let here = known_as_two(alloc, tables, "a")?.map_or(0, |unit| unit.get());
     let is_new = known_as_two(alloc, tables, "b")?.is_none();
-    let office = office_row(alloc, tables)?;
-    let (units, containers, next) = (office.units, office.containers, office.row.next_unit);
+    let office = &office_row(alloc, tables)?;
+    let next = office.row.next_unit.get();
+    let (units, containers) = (office.units, office.containers);
     write!(text, "{here} {is_new} {units} {containers} {next}\n")?;
     Ok(())
 }

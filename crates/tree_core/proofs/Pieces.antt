@@ -1,12 +1,8 @@
 -- The nodes of a forest whose ids do not repeat, after a branch is cut away or moved. `id` says the id of what stands in a node.
 use Rattle.std.proofs.Common.{◌≡◌, ℕ, Bool, true, false, not, ◌||◌, List, [], ◌∷◌, ◌++◌, map, Option, Some, None, refl, sym, ap, ◌∙◌, subst, nat_eq, inl, inr, arith, append-nil, append_assoc}
-use Rattle.std.proofs.lemmas.Bool.{eqb-true, cases_Bool, false≢true}
-use Rattle.std.proofs.lemmas.List.Folds.{list_any-append}
-use Rattle.std.proofs.lemmas.List.Elements.{filter-append}
-use Rattle.std.proofs.lemmas.List.Sorted.{IsPermutation-trans, IsPermutation-sym, IsPermutation-cons, IsPermutation-append_comm, IsPermutation-append_left, IsPermutation-append_right, list_any-IsPermutation}
-use Rattle.std.specs.List.{list_any, filter}
+use Rattle.std.specs.List.{filter}
 use Rattle.std.specs.List.Sorted.{IsPermutation}
-use Rattle.tree_core.specs.Forest.{Forest, Empty, Node, nodes, each, has, has_place, tree, branch, join, put_below, cut, move_last, HasDistinctIds}
+use Rattle.tree_core.proofs.Common.{Empty, Forest, HasDistinctIds, IsPermutation-append_comm, IsPermutation-append_left, IsPermutation-append_right, IsPermutation-cons, IsPermutation-sym, IsPermutation-trans, Node, branch, cases_Bool, cut, each, eqb-true, false≢true, filter-append, has, has_place, join, list_any, list_any-IsPermutation, list_any-append, move_last, nodes, put_below, tree}
 use Rattle.tree_core.proofs.Lists.{In, In-map, any_from_In}
 use Rattle.tree_core.proofs.LinkPaths.{parts}
 use Rattle.tree_core.proofs.Adding.{pull, perm_same}
@@ -15,9 +11,11 @@ use Rattle.tree_core.proofs.SpanShifts.{distinct_cut, tree_apart}
 
 -- ---- whatever stands in the nodes
 
-none_here : {A : Type 0} (t : A → Bool) (a : A) (c o : Forest A) → has t (Node a c o) ≡ false → (t a ≡ false) × (has t c ≡ false) × (has t o ≡ false)
+none_here : {A : Type 0} (t : A → Bool) (a : A) (c o : Forest A) → has t (Node a c o) ≡ false
+    → (t a ≡ false) × (has t c ≡ false) × (has t o ≡ false)
 none_here t a c o h =
-    let all : (t a || (has t c || has t o)) ≡ false = ap (λ b. t a || b) (sym (list_any-append t (nodes c) (nodes o))) ∙ h in
+    let all : (t a || (has t c || has t o)) ≡ false =
+    ap (λ b. t a || b) (sym (list_any-append t (nodes c) (nodes o))) ∙ h in
     let none : (t a ≡ false) × (has t c ≡ false) × (has t o ≡ false) = grind arith in
     none
 
@@ -31,7 +29,8 @@ nothing_put t g (Node a c o) h = let n = none_here t a c o h in rw (n.0, nothing
 
 joined_nodes : {A : Type 0} (f g : Forest A) → nodes (join f g) ≡ nodes f ++ nodes g
 joined_nodes Empty g = refl
-joined_nodes (Node a c o) g = ap (λ xs. a ∷ xs) (ap (λ xs. nodes c ++ xs) (joined_nodes o g) ∙ sym (append_assoc (nodes c) (nodes o) (nodes g)))
+joined_nodes (Node a c o) g =
+    ap (λ xs. a ∷ xs) (ap (λ xs. nodes c ++ xs) (joined_nodes o g) ∙ sym (append_assoc (nodes c) (nodes o) (nodes g)))
 
 -- ---- nodes that have ids
 
@@ -59,13 +58,18 @@ module _ {A : Type 0} (id : A → ℕ) where
       }
 
   data Where (u : ℕ) (a : A) (c o : Forest A) : Type 0 where
-    Here : nat_eq u (id a) ≡ true → has (λ x. nat_eq u (id x)) c ≡ false → has (λ x. nat_eq u (id x)) o ≡ false → Where u a c o
-    Below : nat_eq u (id a) ≡ false → has (λ x. nat_eq u (id x)) c ≡ true → has (λ x. nat_eq u (id x)) o ≡ false → Where u a c o
-    Beside : nat_eq u (id a) ≡ false → has (λ x. nat_eq u (id x)) c ≡ false → has (λ x. nat_eq u (id x)) o ≡ true → Where u a c o
+    Here : nat_eq u (id a) ≡ true → has (λ x. nat_eq u (id x)) c ≡ false → has (λ x. nat_eq u (id x)) o ≡ false
+        → Where u a c o
+    Below : nat_eq u (id a) ≡ false → has (λ x. nat_eq u (id x)) c ≡ true → has (λ x. nat_eq u (id x)) o ≡ false
+        → Where u a c o
+    Beside : nat_eq u (id a) ≡ false → has (λ x. nat_eq u (id x)) c ≡ false → has (λ x. nat_eq u (id x)) o ≡ true
+        → Where u a c o
 
-  find_where : (u : ℕ) (a : A) (c o : Forest A) → Pieces a c o → has (λ x. nat_eq u (id x)) (Node a c o) ≡ true → Where u a c o
+  find_where : (u : ℕ) (a : A) (c o : Forest A) → Pieces a c o → has (λ x. nat_eq u (id x)) (Node a c o) ≡ true
+      → Where u a c o
   find_where u a c o p h =
-      let some : (nat_eq u (id a) || (has (λ x. nat_eq u (id x)) c || has (λ x. nat_eq u (id x)) o)) ≡ true = ap (λ b. nat_eq u (id a) || b) (sym (list_any-append (λ x. nat_eq u (id x)) (nodes c) (nodes o))) ∙ h in
+      let some : (nat_eq u (id a) || (has (λ x. nat_eq u (id x)) c || has (λ x. nat_eq u (id x)) o)) ≡ true =
+      ap (λ b. nat_eq u (id a) || b) (sym (list_any-append (λ x. nat_eq u (id x)) (nodes c) (nodes o))) ∙ h in
       elim (cases_Bool (nat_eq u (id a))) [
         | inl e ↦
             let same = eqb-true u (id a) e in
@@ -77,7 +81,8 @@ module _ {A : Type 0} (id : A → ℕ) where
       ]
 
   -- a forest is a branch and the rest
-  pub branch_and_rest : (u : ℕ) (f : Forest A) → Once f → has (λ x. nat_eq u (id x)) f ≡ true → IsPermutation (nodes (tree (λ x. nat_eq u (id x)) f) ++ nodes (cut (λ x. nat_eq u (id x)) f)) (nodes f)
+  pub branch_and_rest : (u : ℕ) (f : Forest A) → Once f → has (λ x. nat_eq u (id x)) f ≡ true
+      → IsPermutation (nodes (tree (λ x. nat_eq u (id x)) f) ++ nodes (cut (λ x. nat_eq u (id x)) f)) (nodes f)
   branch_and_rest u Empty d h = absurd (false≢true h)
   branch_and_rest u (Node a c o) d h =
       let p = pieces a c o d in
@@ -93,7 +98,8 @@ module _ {A : Type 0} (id : A → ℕ) where
             let T = nodes (tree t c) in
             let R = nodes (cut t c) in
             let is : all ≡ T ++ (a ∷ (R ++ O)) = rw (e, m, nothing_cut t o n) refl in
-            let rest : IsPermutation (T ++ (R ++ O)) (C ++ O) = subst (λ xs. IsPermutation xs (C ++ O)) (append_assoc T R O) (IsPermutation-append_left O (T ++ R) C (branch_and_rest u c p.below m)) in
+            let rest : IsPermutation (T ++ (R ++ O)) (C ++ O) =
+            subst (λ xs. IsPermutation xs (C ++ O)) (append_assoc T R O) (IsPermutation-append_left O (T ++ R) C (branch_and_rest u c p.below m)) in
             IsPermutation-trans all (T ++ (a ∷ (R ++ O))) (a ∷ (C ++ O)) (perm_same all (T ++ (a ∷ (R ++ O))) is)
             (IsPermutation-trans (T ++ (a ∷ (R ++ O))) (a ∷ (T ++ (R ++ O))) (a ∷ (C ++ O)) (IsPermutation-sym (a ∷ (T ++ (R ++ O))) (T ++ (a ∷ (R ++ O))) (pull (a ∷ []) T (R ++ O)))
             (IsPermutation-cons a (T ++ (R ++ O)) (C ++ O) rest))
@@ -106,7 +112,8 @@ module _ {A : Type 0} (id : A → ℕ) where
             (IsPermutation-append_right (a ∷ C) (T ++ R) O (branch_and_rest u o p.beside n)))
       ]
 
-  put_nodes : (v : ℕ) (g f : Forest A) → Once f → has (λ x. nat_eq v (id x)) f ≡ true → IsPermutation (nodes (put_below (λ x. nat_eq v (id x)) g f)) (nodes g ++ nodes f)
+  put_nodes : (v : ℕ) (g f : Forest A) → Once f → has (λ x. nat_eq v (id x)) f ≡ true
+      → IsPermutation (nodes (put_below (λ x. nat_eq v (id x)) g f)) (nodes g ++ nodes f)
   put_nodes v g Empty d h = absurd (false≢true h)
   put_nodes v g (Node a c o) d h =
       let p = pieces a c o d in
@@ -117,12 +124,14 @@ module _ {A : Type 0} (id : A → ℕ) where
       let O = nodes o in
       elim (find_where v a c o p h) [
         | Here e m n ↦
-            let is : all ≡ (a ∷ C) ++ (G ++ O) = rw (e, nothing_put t g o n, joined_nodes c g) (ap (λ xs. a ∷ xs) (append_assoc C G O)) in
+            let is : all ≡ (a ∷ C) ++ (G ++ O) =
+            rw (e, nothing_put t g o n, joined_nodes c g) (ap (λ xs. a ∷ xs) (append_assoc C G O)) in
             IsPermutation-trans all ((a ∷ C) ++ (G ++ O)) (G ++ (a ∷ (C ++ O))) (perm_same all ((a ∷ C) ++ (G ++ O)) is) (pull (a ∷ C) G O)
         | Below e m n ↦
             let P = nodes (put_below t g c) in
             let is : all ≡ a ∷ (P ++ O) = rw (e, nothing_put t g o n) refl in
-            let inner : IsPermutation (P ++ O) (G ++ (C ++ O)) = subst (IsPermutation (P ++ O)) (append_assoc G C O) (IsPermutation-append_left O P (G ++ C) (put_nodes v g c p.below m)) in
+            let inner : IsPermutation (P ++ O) (G ++ (C ++ O)) =
+            subst (IsPermutation (P ++ O)) (append_assoc G C O) (IsPermutation-append_left O P (G ++ C) (put_nodes v g c p.below m)) in
             IsPermutation-trans all (a ∷ (P ++ O)) (G ++ (a ∷ (C ++ O))) (perm_same all (a ∷ (P ++ O)) is)
             (IsPermutation-trans (a ∷ (P ++ O)) (a ∷ (G ++ (C ++ O))) (G ++ (a ∷ (C ++ O))) (IsPermutation-cons a (P ++ O) (G ++ (C ++ O)) inner) (pull (a ∷ []) G (C ++ O)))
         | Beside e m n ↦
@@ -136,7 +145,9 @@ module _ {A : Type 0} (id : A → ℕ) where
   once_cut u f d = subst HasDistinctIds (sym (cut-each (nat_eq u) id f)) (distinct_cut u (each id f) d)
 
   -- a move leaves the nodes that were there
-  pub moved_nodes : (u : ℕ) (p : Option ℕ) (f : Forest A) → Once f → has (λ x. nat_eq u (id x)) f ≡ true → has_place (λ n x. nat_eq n (id x)) p (cut (λ x. nat_eq u (id x)) f) ≡ true → IsPermutation (nodes (move_last (λ n x. nat_eq n (id x)) u p f)) (nodes f)
+  pub moved_nodes : (u : ℕ) (p : Option ℕ) (f : Forest A) → Once f → has (λ x. nat_eq u (id x)) f ≡ true
+      → has_place (λ n x. nat_eq n (id x)) p (cut (λ x. nat_eq u (id x)) f) ≡ true
+      → IsPermutation (nodes (move_last (λ n x. nat_eq n (id x)) u p f)) (nodes f)
   moved_nodes u None f d h there =
       let T = tree (λ x. nat_eq u (id x)) f in
       let R = cut (λ x. nat_eq u (id x)) f in
@@ -152,10 +163,14 @@ module _ {A : Type 0} (id : A → ℕ) where
   abbrev pub branch_ids : ℕ → Forest A → List ℕ
   branch_ids u f = branch (nat_eq u) (each id f)
 
-  pub gone_there : (u : ℕ) (f : Forest A) (a : A) → In a (nodes (tree (λ x. nat_eq u (id x)) f)) → list_any (nat_eq (id a)) (branch_ids u f) ≡ true
-  gone_there u f a h = ap (list_any (nat_eq (id a))) (branch-each (nat_eq u) id f) ∙ any_from_In (map id (nodes (tree (λ x. nat_eq u (id x)) f))) (id a) (In-map id (nodes (tree (λ x. nat_eq u (id x)) f)) a h)
+  pub gone_there : (u : ℕ) (f : Forest A) (a : A) → In a (nodes (tree (λ x. nat_eq u (id x)) f))
+      → list_any (nat_eq (id a)) (branch_ids u f) ≡ true
+  gone_there u f a h =
+      ap (list_any (nat_eq (id a))) (branch-each (nat_eq u) id f)
+      ∙ any_from_In (map id (nodes (tree (λ x. nat_eq u (id x)) f))) (id a) (In-map id (nodes (tree (λ x. nat_eq u (id x)) f)) a h)
 
-  pub left_apart : (u : ℕ) (f : Forest A) (a : A) → Once f → has (λ x. nat_eq u (id x)) f ≡ true → In a (nodes (cut (λ x. nat_eq u (id x)) f)) → list_any (nat_eq (id a)) (branch_ids u f) ≡ false
+  pub left_apart : (u : ℕ) (f : Forest A) (a : A) → Once f → has (λ x. nat_eq u (id x)) f ≡ true
+      → In a (nodes (cut (λ x. nat_eq u (id x)) f)) → list_any (nat_eq (id a)) (branch_ids u f) ≡ false
   left_apart u f a d h i =
       let rest = cut (λ x. nat_eq u (id x)) f in
       let there : has (nat_eq (id a)) (cut (nat_eq u) (each id f)) ≡ true =
@@ -165,11 +180,13 @@ module _ {A : Type 0} (id : A → ℕ) where
         | inr n ↦ n
       ]
 
-  none_kept : (ids : List ℕ) (xs : List A) → ((a : A) → In a xs → list_any (nat_eq (id a)) ids ≡ true) → filter (λ a. not (list_any (nat_eq (id a)) ids)) xs ≡ []
+  none_kept : (ids : List ℕ) (xs : List A) → ((a : A) → In a xs → list_any (nat_eq (id a)) ids ≡ true)
+      → filter (λ a. not (list_any (nat_eq (id a)) ids)) xs ≡ []
   none_kept ids [] all = refl
   none_kept ids (x ∷ xs) all = rw (all x (inl refl)) (none_kept ids xs (λ a i. all a (inr i)))
 
-  all_kept : (ids : List ℕ) (xs : List A) → ((a : A) → In a xs → list_any (nat_eq (id a)) ids ≡ false) → filter (λ a. not (list_any (nat_eq (id a)) ids)) xs ≡ xs
+  all_kept : (ids : List ℕ) (xs : List A) → ((a : A) → In a xs → list_any (nat_eq (id a)) ids ≡ false)
+      → filter (λ a. not (list_any (nat_eq (id a)) ids)) xs ≡ xs
   all_kept ids [] all = refl
   all_kept ids (x ∷ xs) all = rw (all x (inl refl)) (ap (λ l. x ∷ l) (all_kept ids xs (λ a i. all a (inr i))))
 
@@ -184,11 +201,17 @@ module _ {A : Type 0} (id : A → ℕ) where
       ∙ all_kept ids R (λ a i. left_apart u f a d h i)
 
   -- what is not of the branch is still there
-  pub still_there : (u n : ℕ) (f : Forest A) → Once f → has (λ x. nat_eq u (id x)) f ≡ true → has (λ x. nat_eq n (id x)) f ≡ true → list_any (nat_eq n) (branch_ids u f) ≡ false → has (λ x. nat_eq n (id x)) (cut (λ x. nat_eq u (id x)) f) ≡ true
+  pub still_there : (u n : ℕ) (f : Forest A) → Once f → has (λ x. nat_eq u (id x)) f ≡ true
+      → has (λ x. nat_eq n (id x)) f ≡ true → list_any (nat_eq n) (branch_ids u f) ≡ false
+      → has (λ x. nat_eq n (id x)) (cut (λ x. nat_eq u (id x)) f) ≡ true
   still_there u n f d h there gone =
       let t = λ (x : A). nat_eq n (id x) in
       let T = tree (λ x. nat_eq u (id x)) f in
       let R = cut (λ x. nat_eq u (id x)) f in
-      let both : (has t T || has t R) ≡ true = sym (list_any-append t (nodes T) (nodes R)) ∙ list_any-IsPermutation t (nodes T ++ nodes R) (nodes f) (branch_and_rest u f d h) ∙ there in
-      let not_in : has t T ≡ false = sym (ap (list_any (nat_eq n)) (branch-each (nat_eq u) id f) ∙ sym (ap (list_any (nat_eq n)) (nodes-each id T)) ∙ has-each (nat_eq n) id T) ∙ gone in
+      let both : (has t T || has t R) ≡ true =
+      sym (list_any-append t (nodes T) (nodes R))
+      ∙ list_any-IsPermutation t (nodes T ++ nodes R) (nodes f) (branch_and_rest u f d h) ∙ there in
+      let not_in : has t T ≡ false =
+      sym (ap (list_any (nat_eq n)) (branch-each (nat_eq u) id f) ∙ sym (ap (list_any (nat_eq n)) (nodes-each id T)) ∙ has-each (nat_eq n) id T)
+      ∙ gone in
       rw not_in at both

@@ -1,14 +1,8 @@
 -- Which units share the containers above them, and who may see all of these.
 use Rattle.std.proofs.Common.{if◌then◌else◌, ◌≡◌, ℕ, ℤ, Bool, true, false, cond, not, ◌&&◌, ◌||◌, List, [], ◌∷◌, ◌++◌, refl, sym, ap, ◌∙◌, nat_eq, inl, inr, map, append_assoc, subst}
-use Rattle.std.proofs.lemmas.Bool.{eq-eqb, cases_Bool, false≢true, or_parts}
-use Rattle.std.proofs.lemmas.List.{map-append}
-use Rattle.std.proofs.lemmas.List.Folds.{list_any-append}
-use Rattle.std.proofs.Math.Bool.{or-false}
-use Rattle.std.specs.List.{list_any, list_all}
-use Rattle.tree_core.specs.declared.marks.Mark.{Mark}
-use Rattle.tree_core.specs.Forest.{Forest, Empty, Node, nodes, each, has, path, HasDistinctIds}
 use Rattle.tree_core.specs.Visibility.{sharing, sharing_paths}
 use Rattle.tree_core.specs.Marks.{is_closed, withholds, contents_paths}
+use Rattle.tree_core.proofs.Common.{Empty, Forest, HasDistinctIds, Mark, Node, cases_Bool, each, eq-eqb, false≢true, has, list_all, list_any, list_any-append, map-append, nodes, or-false, or_parts, path}
 use Rattle.tree_core.proofs.Lists.{In, In-append, In-append_left, In-append_right, In-map, any_from_In}
 use Rattle.tree_core.proofs.LinkPaths.{parts, other_id}
 use Rattle.tree_core.proofs.Adding.{Here, Below, Beside, place}
@@ -17,10 +11,12 @@ use Rattle.tree_core.proofs.MarkWalks.{is_draft, has_permit, is_seen, is_boxed, 
 
 -- ---- by paths
 -- what is not in the forest does not share either
-shares_none : {A : Type 0} (boxed is : A → Bool) (f : Forest A) → has is f ≡ false → list_any is (sharing boxed f) ≡ false
+shares_none : {A : Type 0} (boxed is : A → Bool) (f : Forest A) → has is f ≡ false
+    → list_any is (sharing boxed f) ≡ false
 shares_none boxed is Empty h = refl
 shares_none boxed is (Node a c o) h =
-    let all : (is a || (has is c || has is o)) ≡ false = ap (λ b. is a || b) (sym (list_any-append is (nodes c) (nodes o))) ∙ h in
+    let all : (is a || (has is c || has is o)) ≡ false =
+    ap (λ b. is a || b) (sym (list_any-append is (nodes c) (nodes o))) ∙ h in
     let p = or_parts (is a) (has is c || has is o) all in
     let q = or_parts (has is c) (has is o) p.1 in
     elim (boxed a) as (λ b. list_any is (if b then sharing boxed o else a ∷ (sharing boxed c ++ sharing boxed o)) ≡ false) [
@@ -29,7 +25,8 @@ shares_none boxed is (Node a c o) h =
     ]
 
 -- a node shares exactly where no node of its path in the forest has a container
-pub shares : {A : Type 0} (key : A → ℕ) (boxed : A → Bool) (x : ℕ) (f : Forest A) → HasDistinctIds (each key f) → has (λ a. nat_eq x (key a)) f ≡ true →
+pub shares : {A : Type 0} (key : A → ℕ) (boxed : A → Bool) (x : ℕ) (f : Forest A) → HasDistinctIds (each key f)
+    → has (λ a. nat_eq x (key a)) f ≡ true →
     list_any (λ a. nat_eq x (key a)) (sharing boxed f) ≡ not (list_any boxed (path (λ a. nat_eq x (key a)) f))
 shares key boxed x Empty d h = absurd (false≢true h)
 shares {A} key boxed x (Node a c o) d h =
@@ -73,22 +70,29 @@ sharing_in {A} boxed (Node a c o) b h = elim (cases_Bool (boxed a)) [
     taken : boxed a ≡ false → sharing boxed (Node a c o) ≡ a ∷ (sharing boxed c ++ sharing boxed o)
     taken f = rw f refl
 
-    joined : (xs ys : List A) → (In b xs → In b (nodes c)) → (In b ys → In b (nodes o)) → In b (xs ++ ys) → In b (nodes c ++ nodes o)
+    joined : (xs ys : List A) → (In b xs → In b (nodes c)) → (In b ys → In b (nodes o)) → In b (xs ++ ys)
+        → In b (nodes c ++ nodes o)
     joined xs ys f g i = elim (In-append xs ys b i) [ inl j ↦ In-append_left (nodes c) (nodes o) b (f j) | inr j ↦ In-append_right (nodes c) (nodes o) b (g j) ]
 
-    first : (xs ys : List A) → In b (a ∷ (xs ++ ys)) → (In b xs → In b (nodes c)) → (In b ys → In b (nodes o)) → In b (a ∷ (nodes c ++ nodes o))
+    first : (xs ys : List A) → In b (a ∷ (xs ++ ys)) → (In b xs → In b (nodes c)) → (In b ys → In b (nodes o))
+        → In b (a ∷ (nodes c ++ nodes o))
     first xs ys (inl e) f g = inl e
     first xs ys (inr i) f g = inr (joined xs ys f g i)
 
 map_same : {A B : Type 0} (f g : A → B) (xs : List A) → ((x : A) → In x xs → f x ≡ g x) → map f xs ≡ map g xs
 map_same f g [] h = refl
-map_same f g (x ∷ xs) h = ap (λ y. y ∷ map f xs) (h x (inl refl)) ∙ ap (λ ys. g x ∷ ys) (map_same f g xs (λ y i. h y (inr i)))
+map_same f g (x ∷ xs) h =
+    ap (λ y. y ∷ map f xs) (h x (inl refl)) ∙ ap (λ ys. g x ∷ ys) (map_same f g xs (λ y i. h y (inr i)))
 
 has_key : {A : Type 0} (key : A → ℕ) (f : Forest A) (b : A) → In b (nodes f) → has (nat_eq (key b)) (each key f) ≡ true
-has_key key f b i = ap (list_any (nat_eq (key b))) (nodes-each key f) ∙ any_from_In (map key (nodes f)) (key b) (In-map key (nodes f) b i)
+has_key key f b i =
+    ap (list_any (nat_eq (key b))) (nodes-each key f)
+    ∙ any_from_In (map key (nodes f)) (key b) (In-map key (nodes f) b i)
 
 -- the paths of the sharing nodes are their paths in the forest
-pub sharing_paths-are : {A : Type 0} (key : A → ℕ) (boxed : A → Bool) (above : List A) (f : Forest A) → HasDistinctIds (each key f) → sharing_paths boxed above f ≡ map (λ b. above ++ path (λ a. nat_eq (key b) (key a)) f) (sharing boxed f)
+pub sharing_paths-are : {A : Type 0} (key : A → ℕ) (boxed : A → Bool) (above : List A) (f : Forest A)
+    → HasDistinctIds (each key f)
+    → sharing_paths boxed above f ≡ map (λ b. above ++ path (λ a. nat_eq (key b) (key a)) f) (sharing boxed f)
 sharing_paths-are key boxed above Empty d = refl
 sharing_paths-are {A} key boxed above (Node a c o) d =
     let p = parts (key a) (each key c) (each key o) d in
@@ -116,18 +120,22 @@ sharing_paths-are {A} key boxed above (Node a c o) d =
     path_here : path (λ x. nat_eq (key a) (key x)) (Node a c o) ≡ a ∷ []
     path_here = rw (eq-eqb (key a) (key a) refl) refl
 
-    path_inside : (b : A) → nat_eq (key b) (key a) ≡ false → has (λ x. nat_eq (key b) (key x)) c ≡ true → path (λ x. nat_eq (key b) (key x)) (Node a c o) ≡ a ∷ path (λ x. nat_eq (key b) (key x)) c
+    path_inside : (b : A) → nat_eq (key b) (key a) ≡ false → has (λ x. nat_eq (key b) (key x)) c ≡ true
+        → path (λ x. nat_eq (key b) (key x)) (Node a c o) ≡ a ∷ path (λ x. nat_eq (key b) (key x)) c
     path_inside b n h = rw (n, h) refl
 
-    path_outside : (b : A) → nat_eq (key b) (key a) ≡ false → has (λ x. nat_eq (key b) (key x)) c ≡ false → path (λ x. nat_eq (key b) (key x)) (Node a c o) ≡ path (λ x. nat_eq (key b) (key x)) o
+    path_outside : (b : A) → nat_eq (key b) (key a) ≡ false → has (λ x. nat_eq (key b) (key x)) c ≡ false
+        → path (λ x. nat_eq (key b) (key x)) (Node a c o) ≡ path (λ x. nat_eq (key b) (key x)) o
     path_outside b n h = rw (n, h) refl
 
-    not_in_first : (x : ℕ) (c o : Forest ℕ) → ((y : ℕ) → has (nat_eq y) c ≡ true → has (nat_eq y) o ≡ false) → has (nat_eq x) o ≡ true → has (nat_eq x) c ≡ false
+    not_in_first : (x : ℕ) (c o : Forest ℕ) → ((y : ℕ) → has (nat_eq y) c ≡ true → has (nat_eq y) o ≡ false)
+        → has (nat_eq x) o ≡ true → has (nat_eq x) c ≡ false
     not_in_first x c o apart h = elim (cases_Bool (has (nat_eq x) c)) [ inl t ↦ absurd (false≢true (sym (apart x t) ∙ h)) | inr n ↦ n ]
 
 -- ---- who may see all of a unit's contents
 -- one path, with what is above the unit and without: d, c and p say that a draft, a closed unit or a permit is above
-seen_below : (d ds c cs p ps : Bool) → d ≡ false → (c && not (p || ps)) ≡ false → not (ds || (cs && not (p || ps))) ≡ not ((d || ds) || ((c || cs) && not (false || (p || ps))))
+seen_below : (d ds c cs p ps : Bool) → d ≡ false → (c && not (p || ps)) ≡ false
+    → not (ds || (cs && not (p || ps))) ≡ not ((d || ds) || ((c || cs) && not (false || (p || ps))))
 seen_below true ds c cs p ps e h = absurd (false≢true (sym e))
 seen_below false true c cs p ps e h = refl
 seen_below false false false cs p ps e h = refl
@@ -143,7 +151,9 @@ seen_below false false true cs false true e h = and_any cs
     and_any false = refl
 seen_below false false true cs false false e h = absurd (false≢true (sym h))
 
-seen_with : (today : ℤ) (above Q : List Mark) → list_any is_draft above ≡ false → (list_any (is_closed today) above && not (list_any has_permit above || list_any has_permit Q)) ≡ false → is_seen today (list_any has_permit above) Q ≡ is_seen today false (above ++ Q)
+seen_with : (today : ℤ) (above Q : List Mark) → list_any is_draft above ≡ false
+    → (list_any (is_closed today) above && not (list_any has_permit above || list_any has_permit Q)) ≡ false
+    → is_seen today (list_any has_permit above) Q ≡ is_seen today false (above ++ Q)
 seen_with today above Q d h =
     seen_below (list_any is_draft above) (list_any is_draft Q) (list_any (is_closed today) above) (list_any (is_closed today) Q) (list_any has_permit above) (list_any has_permit Q) d h
     ∙ sym (rw (list_any-append is_draft above Q, list_any-append (is_closed today) above Q, list_any-append has_permit above Q) refl)
@@ -154,7 +164,8 @@ still_open true true ps q h = refl
 still_open true false true q h = refl
 still_open true false false q h = absurd (false≢true (sym h))
 
-seen_paths : (today : ℤ) (above P : List Mark) (f : Forest Mark) → list_any is_draft above ≡ false → (list_any (is_closed today) above && not (list_any has_permit above || list_any has_permit P)) ≡ false
+seen_paths : (today : ℤ) (above P : List Mark) (f : Forest Mark) → list_any is_draft above ≡ false
+    → (list_any (is_closed today) above && not (list_any has_permit above || list_any has_permit P)) ≡ false
     → list_all (is_seen today (list_any has_permit above)) (sharing_paths is_boxed P f) ≡ list_all (λ Q. is_seen today false (above ++ Q)) (sharing_paths is_boxed P f)
 seen_paths today above P Empty d h = refl
 seen_paths today above P (Node m c o) d h =
@@ -172,7 +183,8 @@ seen_paths today above P (Node m c o) d h =
           ap (λ b. b && list_all one rest) (seen_with today above Q d open')
           ∙ ap (λ b. two Q && b)
           (list_all-append one (sharing_paths is_boxed Q c) (sharing_paths is_boxed P o)
-          ∙ ap (λ b. b && list_all one (sharing_paths is_boxed P o)) below ∙ ap (λ b. list_all two (sharing_paths is_boxed Q c) && b) beside
+          ∙ ap (λ b. b && list_all one (sharing_paths is_boxed P o)) below
+          ∙ ap (λ b. list_all two (sharing_paths is_boxed Q c) && b) beside
           ∙ sym (list_all-append two (sharing_paths is_boxed Q c) (sharing_paths is_boxed P o)))
     ]
 
@@ -190,7 +202,8 @@ open_by_paths today above unit below = elim (cases_Bool (is_seen today false (ab
   | inr f ↦ rw f refl
 ]
   where
-    seen_parts : (d ds c cs p ps : Bool) → not ((d || ds) || ((c || cs) && not (false || (p || ps)))) ≡ true → (d ≡ false) × ((c && not (p || ps)) ≡ false)
+    seen_parts : (d ds c cs p ps : Bool) → not ((d || ds) || ((c || cs) && not (false || (p || ps)))) ≡ true
+        → (d ≡ false) × ((c && not (p || ps)) ≡ false)
     seen_parts true ds c cs p ps t = absurd (false≢true t)
     seen_parts false true c cs p ps t = absurd (false≢true t)
     seen_parts false false false cs p ps t = (refl, refl)

@@ -1,3 +1,4 @@
+pub mod Common
 pub mod BareRows
 pub mod BoundLemmas
 pub mod Children

@@ -1,26 +1,15 @@
 -- Why reading marks fails: never for the units of a catalogue within its limits.
-use Rattle.std.proofs.Common.{◌≡◌, ℕ, ◌<◌, ◌≤◌, ◌^◌, List, map, find, length, get_or, Some, None, option_map, nat_eq, sym, ap, subst, ◌∙◌, arith}
-use Rattle.std.specs.List.{AllByRecursion}
-use Rattle.std.proofs.lemmas.List.{get_or-map, length-map}
-use Rattle.std.proofs.lemmas.List.Sorted.{IsPermutation-sym}
-use Rattle.sqlite.specs.Tree.{Trees}
-use Rattle.sqlite_rules.specs.Lists.{Has}
-use Rattle.sqlite_rules.proofs.ListLemmas.{all_has}
-use Rattle.sqlite_trees.proofs.ListLemmas.{all-get_or, all-permutation, all_from_map}
-use Rattle.tree_core.specs.Forest.{Forest, nodes}
-use Rattle.tree_core.specs.declared.rows.Span.{Span}
+use Rattle.std.proofs.Common.{◌≡◌, ℕ, ◌<◌, ◌^◌, List, map, find, length, get_or, Some, None, option_map, nat_eq, sym, ap, subst, ◌∙◌, arith}
 use Rattle.tree_core.proofs.EachLemmas.{nodes-each}
-use Rattle.catalogue_core.specs.Bounds.{IsKept, IsLegibleUnit}
-use Rattle.catalogue_core.specs.CatalogueMerge.{Catalogue}
-use Rattle.catalogue_statements.specs.Representation.{RepresentsUnits}
-use Rattle.catalogue_core.specs.Units.{Unit}
 use Rattle.catalogue_statements.specs.declared.row_types.Status.{Status}
-use Rattle.tree_places.proofs.MarkReads.{blank_unit, found_unit}
 use Rattle.office_tables.proofs.Rows.{had}
+use Rattle.tree_places.proofs.Common.{AllByRecursion, Catalogue, Forest, Has, IsKept, IsLegibleUnit, IsPermutation-sym, RepresentsUnits, Span, Trees, Unit, all-get_or, all-permutation, all_from_map, all_has, get_or-map, length-map, nodes}
+use Rattle.tree_places.proofs.MarkReads.{blank_unit, found_unit}
 
 -- ---- the units of a catalogue
 
-pub legible_units : (db : Trees) (c : Catalogue) (at : RepresentsUnits db c.forest) → IsKept c → AllByRecursion IsLegibleUnit at.units
+pub legible_units : (db : Trees) (c : Catalogue) (at : RepresentsUnits db c.forest) → IsKept c
+    → AllByRecursion IsLegibleUnit at.units
 legible_units db c at kept = all-permutation IsLegibleUnit (nodes c.forest) at.units at.are kept.units
 
 low_ids : (c : Catalogue) → IsKept c → AllByRecursion (λ (u : Unit). u.id < 2 ^ 63) (nodes c.forest)
@@ -34,31 +23,29 @@ low_id c kept u there = all_has (λ (u : Unit). u.id < 2 ^ 63) (nodes c.forest) 
 -- ---- a unit's status
 
 -- a unit that is there has one
-pub status_there : (db : Trees) (f : Forest Unit) (at : RepresentsUnits db f) (id : ℕ) (u : Unit) → Has (nodes f) u → id ≡ u.id
-    → option_map (λ (x : Unit). (let y : Status = record { draft = x.draft; until = x.until } in y)) (find (λ (x : Unit). nat_eq id x.id) at.units) ≡ None → ⊥
+pub status_there : (db : Trees) (f : Forest Unit) (at : RepresentsUnits db f) (id : ℕ) (u : Unit) → Has (nodes f) u
+    → id ≡ u.id
+    → option_map (λ (x : Unit). (let y : Status = record { draft = x.draft; until = x.until } in y)) (find (λ (x : Unit). nat_eq id x.id) at.units) ≡ None
+    → ⊥
 status_there db f at id u there same none =
     let in_units : Has at.units u = had at.units (nodes f) (IsPermutation-sym (nodes f) at.units at.are) u there in
     let status = λ (x : Unit). (let y : Status = record { draft = x.draft; until = x.until } in y) in
-    let clash : None ≡ Some (status u) = sym none ∙ ap (option_map status) (found_unit at.units id u at.rise in_units same) in
+    let clash : None ≡ Some (status u) =
+    sym none ∙ ap (option_map status) (found_unit at.units id u at.rise in_units same) in
     absurd (cc)
 
 -- ---- the units of some rows
 
 -- the unit of a row
-pub unit_at : (f : Forest Unit) (spans : List Span) (units : List Unit) (i : ℕ) (d : Span) → AllByRecursion (Has (nodes f)) units → map (λ (s : Span). s.id) spans ≡ map (λ (u : Unit). u.id) units → i < length spans
+pub unit_at : (f : Forest Unit) (spans : List Span) (units : List Unit) (i : ℕ) (d : Span)
+    → AllByRecursion (Has (nodes f)) units → map (λ (s : Span). s.id) spans ≡ map (λ (u : Unit). u.id) units
+    → i < length spans
     → (u : Unit) × Has (nodes f) u × ((get_or spans i d).id ≡ u.id)
 unit_at f spans units i d all same low =
-    let low' : i < length units = omega (arith, length-map spans (λ (s : Span). s.id), ap length same, length-map units (λ (u : Unit). u.id)) in
+    let low' : i < length units =
+    omega (arith, length-map spans (λ (s : Span). s.id), ap length same, length-map units (λ (u : Unit). u.id)) in
     let u = get_or units i blank_unit in (
       u,
       all-get_or (Has (nodes f)) units i blank_unit all low',
       sym (get_or-map (λ (s : Span). s.id) spans i d 0 low) ∙ ap (λ l. get_or l i 0) same ∙ get_or-map (λ (u : Unit). u.id) units i blank_unit 0 low',
     )
-
--- its number is one that SQL has
-pub never_high : (c : Catalogue) → IsKept c → (spans : List Span) (units : List Unit) (i : ℕ) (d : Span) → AllByRecursion (Has (nodes c.forest)) units → map (λ (s : Span). s.id) spans ≡ map (λ (u : Unit). u.id) units → i < length spans
-    → 2 ^ 63 ≤ (get_or spans i d).id → ⊥
-never_high c kept spans units i d all same low high =
-    let it = unit_at c.forest spans units i d all same low in
-    let small : it.0.id < 2 ^ 63 = low_id c kept it.0 it.1 in
-    omega (arith, it.2, small, high)

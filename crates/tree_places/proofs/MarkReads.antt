@@ -1,41 +1,28 @@
 -- What the rows of a unit say of its mark.
 use Rattle.std.proofs.Common.{◌≡◌, inl, inr, ℕ, zero, suc, pos, ◌+◌, ◌<◌, ◌≤◌, List, [], ◌∷◌, ◌++◌, map, filter, length, take, get_or, Some, None, option_map, Bool, true, false, not, ◌==◌, nat_eq, Less, Equal, refl, sym, ap, ap₂, ◌∙◌, arith}
-use Rattle.std.specs.List.{find, AllByRecursion}
-use Rattle.std.specs.List.Sorted.{IsPermutation}
+use Rattle.std.specs.List.{find}
 use Rattle.std.specs.Ordering.{int_cmp}
 use Rattle.std.specs.Cmp.{tied_itself, int_cmp_total}
-use Rattle.std.proofs.lemmas.Bool.{eq-eqb, ne_eqb, eqb-true, cases_Bool}
-use Rattle.std.proofs.lemmas.List.{length-map, map-append, take_more, take_all, length-take-le, get_or-map}
-use Rattle.std.proofs.lemmas.List.Sorted.{length_permutation, IsPermutation-sym}
-use Rattle.sqlite.specs.Tree.{Trees}
-use Rattle.sqlite_rules.specs.Lists.{Has}
-use Rattle.sqlite_rules.proofs.ListLemmas.{all_has}
 use Rattle.isad_core.specs.declared.values.BoxKey.{BoxKey}
-use Rattle.tree_core.specs.Forest.{Forest, nodes}
-use Rattle.tree_core.specs.declared.marks.Mark.{Mark}
-use Rattle.tree_core.specs.declared.rows.Span.{Span}
 use Rattle.catalogue_core.specs.ContainerContents.{is_some_there}
-use Rattle.catalogue_core.specs.MarkLookup.{mark_at, marks_at}
-use Rattle.catalogue_core.specs.CatalogueMerge.{box_number}
 use Rattle.office_tables.specs.Order.{Rises}
-use Rattle.catalogue_statements.specs.Rows.{by_number, counted_from, HousingRow}
-use Rattle.catalogue_statements.specs.Representation.{RepresentsUnits, RepresentsHousings, housing_cells, housings_of}
-use Rattle.catalogue_core.specs.Units.{Unit}
 use Rattle.catalogue_statements.specs.declared.row_types.Status.{Status}
 use Rattle.catalogue_statements.proofs.Numbered.{length-counted}
-use Rattle.tree_places.specs.Attachments.{is_plain_leaf, without_containers, unboxed_leaf}
 use Rattle.office_tables.proofs.Rows.{had}
+use Rattle.tree_places.proofs.Common.{AllByRecursion, Forest, Has, HousingRow, IsPermutation, IsPermutation-sym, Mark, RepresentsHousings, RepresentsUnits, Span, Trees, Unit, all_has, box_number, by_number, cases_Bool, counted_from, eq-eqb, eqb-true, get_or-map, housing_cells, housings_of, is_plain_leaf, length-map, length-take-le, length_permutation, map-append, mark_at, marks_at, ne_eqb, nodes, take_all, take_more, unboxed_leaf, without_containers}
 
 -- ---- the status
 
 -- a unit is found by its number
-pub found_unit : (units : List Unit) (id : ℕ) (u : Unit) → Rises by_number units → Has units u → id ≡ u.id → find (λ (x : Unit). nat_eq id x.id) units ≡ Some u
+pub found_unit : (units : List Unit) (id : ℕ) (u : Unit) → Rises by_number units → Has units u → id ≡ u.id
+    → find (λ (x : Unit). nat_eq id x.id) units ≡ Some u
 found_unit (x ∷ xs) id u up (inl e) same = rw (eq-eqb id x.id (same ∙ ap (λ (u : Unit). u.id) e)) (ap Some (sym e))
 found_unit (x ∷ xs) id u up (inr h) same = elim (cases_Bool (nat_eq id x.id)) [
   | inl t ↦ absurd (
       let less : int_cmp (pos x.id) (pos u.id) ≡ Less = all_has (λ w. by_number x w ≡ Less) xs u up.0 h in
       let e : u.id ≡ x.id = sym same ∙ eqb-true id x.id t in
-      let tied : int_cmp (pos x.id) (pos u.id) ≡ Equal = ap (λ n. int_cmp (pos x.id) (pos n)) e ∙ tied_itself int_cmp_total (pos x.id) in
+      let tied : int_cmp (pos x.id) (pos u.id) ≡ Equal =
+      ap (λ n. int_cmp (pos x.id) (pos n)) e ∙ tied_itself int_cmp_total (pos x.id) in
       cc)
   | inr f ↦ rw f (found_unit xs id u up.1 h same)
 ]
@@ -47,12 +34,15 @@ status_of u = record { draft = u.draft; until = u.until }
 some_same : (u : Unit) (s : Status) → Some s ≡ option_map status_of (Some u) → s ≡ status_of u
 some_same u s e = cc
 
-pub status_read : (db : Trees) (f : Forest Unit) (at : RepresentsUnits db f) (id : ℕ) (u : Unit) (s : Status) → Has (nodes f) u → id ≡ u.id
-    → option_map (λ (x : Unit). (let y : Status = record { draft = x.draft; until = x.until } in y)) (find (λ (x : Unit). nat_eq id x.id) at.units) ≡ Some s → (s.draft ≡ u.draft) × (s.until ≡ u.until)
+pub status_read : (db : Trees) (f : Forest Unit) (at : RepresentsUnits db f) (id : ℕ) (u : Unit) (s : Status)
+    → Has (nodes f) u → id ≡ u.id
+    → option_map (λ (x : Unit). (let y : Status = record { draft = x.draft; until = x.until } in y)) (find (λ (x : Unit). nat_eq id x.id) at.units) ≡ Some s
+    → (s.draft ≡ u.draft) × (s.until ≡ u.until)
 unfolding status_of
 status_read db f at id u s there same told =
     let in_units : Has at.units u = had at.units (nodes f) (IsPermutation-sym (nodes f) at.units at.are) u there in
-    let e : s ≡ status_of u = some_same u s (sym told ∙ ap (option_map status_of) (found_unit at.units id u at.rise in_units same)) in
+    let e : s ≡ status_of u =
+    some_same u s (sym told ∙ ap (option_map status_of) (found_unit at.units id u at.rise in_units same)) in
     (ap (λ (x : Status). x.draft) e, ap (λ (x : Status). x.until) e)
 
 -- ---- whether it names containers of its own
@@ -61,15 +51,19 @@ some_if_long : (n : ℕ) (boxes : List BoxKey) → n ≡ length boxes → not (n
 some_if_long n [] e = ap not (eq-eqb n 0 e)
 some_if_long n (b ∷ boxes) e = ap not (ne_eqb n 0 (λ z. let k : 0 ≡ length boxes + 1 = omega arith in absurd (omega arith)))
 
-pub boxes_read : (db : Trees) (f : Forest Unit) (containers : List BoxKey) (at : RepresentsHousings db f containers) (id n : ℕ) (u : Unit) (ys : List HousingRow) → Has (nodes f) u → id ≡ u.id
-    → IsPermutation (filter (λ (h : HousingRow). nat_eq id h.unit) at.housings) ys → n ≡ length ys → not (n == 0) ≡ is_some_there u.values.boxes
+pub boxes_read : (db : Trees) (f : Forest Unit) (containers : List BoxKey) (at : RepresentsHousings db f containers) (id n : ℕ) (u : Unit) (ys : List HousingRow)
+    → Has (nodes f) u → id ≡ u.id
+    → IsPermutation (filter (λ (h : HousingRow). nat_eq id h.unit) at.housings) ys → n ≡ length ys
+    → not (n == 0) ≡ is_some_there u.values.boxes
 boxes_read db f containers at id n u ys there same perm long =
     let cell = λ (h : HousingRow). (let c : ℕ × ℕ = (h.ord, h.container) in c) in
-    let theirs : IsPermutation (housing_cells containers u.values) (housings_of u.id at.housings) = all_has (λ u. IsPermutation (housing_cells containers u.values) (housings_of u.id at.housings)) (nodes f) u at.are there in
+    let theirs : IsPermutation (housing_cells containers u.values) (housings_of u.id at.housings) =
+    all_has (λ u. IsPermutation (housing_cells containers u.values) (housings_of u.id at.housings)) (nodes f) u at.are there in
     let a = length_permutation (housing_cells containers u.values) (housings_of u.id at.housings) theirs in
     let b = length-map (filter (λ (h : HousingRow). nat_eq u.id h.unit) at.housings) cell in
     let c = length_permutation (filter (λ (h : HousingRow). nat_eq id h.unit) at.housings) ys perm in
-    let d : length (filter (λ (h : HousingRow). nat_eq id h.unit) at.housings) ≡ length (filter (λ (h : HousingRow). nat_eq u.id h.unit) at.housings) = ap (λ k. length (filter (λ (h : HousingRow). nat_eq k h.unit) at.housings)) same in
+    let d : length (filter (λ (h : HousingRow). nat_eq id h.unit) at.housings) ≡ length (filter (λ (h : HousingRow). nat_eq u.id h.unit) at.housings) =
+    ap (λ k. length (filter (λ (h : HousingRow). nat_eq k h.unit) at.housings)) same in
     let e = length-counted 1 u.values.boxes in
     let k = length-map (counted_from 1 u.values.boxes) (λ (box : ℕ × BoxKey). (let c : ℕ × ℕ = (box.0, box_number containers box.1) in c)) in
     some_if_long n u.values.boxes (long ∙ c ∙ d ∙ sym b ∙ a ∙ k ∙ e)
@@ -77,13 +71,15 @@ boxes_read db f containers at id n u ys there same perm long =
 -- ---- a unit below the one in question
 
 -- of a plain leaf the status is enough
-pub leaf_read : (mark status : Mark) → status ≡ without_containers mark → is_plain_leaf status ≡ true → status ≡ unboxed_leaf mark
+pub leaf_read : (mark status : Mark) → status ≡ without_containers mark → is_plain_leaf status ≡ true
+    → status ≡ unboxed_leaf mark
 leaf_read mark status is leaf =
     let same : is_plain_leaf mark ≡ true = ap is_plain_leaf (sym is) ∙ leaf in
     is ∙ sym (rw same refl)
 
 -- else it is asked what it names
-pub below_read : (mark status : Mark) (boxed : Bool) → status ≡ without_containers mark → boxed ≡ mark.boxed → is_plain_leaf status ≡ false → record status { boxed = boxed } ≡ unboxed_leaf mark
+pub below_read : (mark status : Mark) (boxed : Bool) → status ≡ without_containers mark → boxed ≡ mark.boxed
+    → is_plain_leaf status ≡ false → record status { boxed = boxed } ≡ unboxed_leaf mark
 below_read mark status boxed is names more =
     let same : is_plain_leaf mark ≡ false = ap is_plain_leaf (sym is) ∙ more in
     ap₂ (λ (m : Mark) (b : Bool). (let with : Mark = record m { boxed = b } in with)) is names ∙ sym (rw same refl)
@@ -93,22 +89,27 @@ below_read mark status boxed is names more =
 pub blank_unit : Unit
 blank_unit = record { id = 0; source = []; legacy = []; values = record { level = []; texts = []; boxes = [] }; draft = false; until = None }
 
-pub marks_at-append : (xs ys : List Span) (us vs : List Unit) → length xs ≡ length us → marks_at (xs ++ ys) (us ++ vs) ≡ marks_at xs us ++ marks_at ys vs
+pub marks_at-append : (xs ys : List Span) (us vs : List Unit) → length xs ≡ length us
+    → marks_at (xs ++ ys) (us ++ vs) ≡ marks_at xs us ++ marks_at ys vs
 marks_at-append [] ys [] vs e = refl
 marks_at-append [] ys (u ∷ us) vs e = absurd (omega arith)
 marks_at-append (x ∷ xs) ys [] vs e = absurd (omega arith)
 marks_at-append (x ∷ xs) ys (u ∷ us) vs e = ap (λ l. mark_at x u ∷ l) (marks_at-append xs ys us vs (omega arith))
 
-at_index : (P : Unit → Type 0) (units : List Unit) (i : ℕ) (d : Unit) → AllByRecursion P units → i < length units → P (get_or units i d)
+at_index : (P : Unit → Type 0) (units : List Unit) (i : ℕ) (d : Unit) → AllByRecursion P units → i < length units
+    → P (get_or units i d)
 at_index P [] i d all low = absurd (omega arith)
 at_index P (u ∷ units) zero d all low = all.0
 at_index P (u ∷ units) (suc i) d all low = at_index P units i d all.1 (omega arith)
 
 -- the unit of a row, and what its mark adds
-pub next_mark : (f : Forest Unit) (spans : List Span) (units : List Unit) (i : ℕ) (d : Span) → AllByRecursion (Has (nodes f)) units → map (λ (s : Span). s.id) spans ≡ map (λ (u : Unit). u.id) units → i < length spans
+pub next_mark : (f : Forest Unit) (spans : List Span) (units : List Unit) (i : ℕ) (d : Span)
+    → AllByRecursion (Has (nodes f)) units → map (λ (s : Span). s.id) spans ≡ map (λ (u : Unit). u.id) units
+    → i < length spans
     → (u : Unit) × Has (nodes f) u × ((get_or spans i d).id ≡ u.id) × (marks_at (take i spans) (take i units) ++ mark_at (get_or spans i d) u ∷ [] ≡ marks_at (take (i + 1) spans) (take (i + 1) units))
 next_mark f spans units i d all same low =
-    let long : length spans ≡ length units = sym (length-map spans (λ (s : Span). s.id)) ∙ ap length same ∙ length-map units (λ (u : Unit). u.id) in
+    let long : length spans ≡ length units =
+    sym (length-map spans (λ (s : Span). s.id)) ∙ ap length same ∙ length-map units (λ (u : Unit). u.id) in
     let low' : i < length units = omega arith in
     let s = get_or spans i d in
     let u = get_or units i blank_unit in
@@ -120,32 +121,48 @@ next_mark f spans units i d all same low =
           ∙ sym (ap (λ l. marks_at l (take (i + 1) units)) (take_more spans i d low) ∙ ap (marks_at (take i spans ++ s ∷ [])) (take_more units i blank_unit low')),
     )
 
-pub mark_more : (f : Forest Unit) (spans : List Span) (units : List Unit) (i : ℕ) (d : Span) (mark : Mark) (marks more : List Mark) → AllByRecursion (Has (nodes f)) units → map (λ (s : Span). s.id) spans ≡ map (λ (u : Unit). u.id) units → i < length spans
-    → ((u : Unit) → Has (nodes f) u → (get_or spans i d).id ≡ u.id → mark ≡ mark_at (get_or spans i d) u) → marks ≡ marks_at (take i spans) (take i units) → more ≡ marks ++ mark ∷ [] → more ≡ marks_at (take (i + 1) spans) (take (i + 1) units)
+pub mark_more : (f : Forest Unit) (spans : List Span) (units : List Unit) (i : ℕ) (d : Span) (mark : Mark) (marks more : List Mark)
+    → AllByRecursion (Has (nodes f)) units → map (λ (s : Span). s.id) spans ≡ map (λ (u : Unit). u.id) units
+    → i < length spans
+    → ((u : Unit) → Has (nodes f) u → (get_or spans i d).id ≡ u.id → mark ≡ mark_at (get_or spans i d) u)
+    → marks ≡ marks_at (take i spans) (take i units) → more ≡ marks ++ mark ∷ []
+    → more ≡ marks_at (take (i + 1) spans) (take (i + 1) units)
 mark_more f spans units i d mark marks more all same low answers so_far pushed =
     let next = next_mark f spans units i d all same low in
     pushed ∙ ap₂ (λ l m. l ++ m ∷ []) so_far (answers next.0 next.1 next.2) ∙ next.3
 
-pub all_marks : (spans : List Span) (units : List Unit) (i : ℕ) → map (λ (s : Span). s.id) spans ≡ map (λ (u : Unit). u.id) units → length spans ≤ i → marks_at (take i spans) (take i units) ≡ marks_at spans units
+pub all_marks : (spans : List Span) (units : List Unit) (i : ℕ)
+    → map (λ (s : Span). s.id) spans ≡ map (λ (u : Unit). u.id) units → length spans ≤ i
+    → marks_at (take i spans) (take i units) ≡ marks_at spans units
 all_marks spans units i same high =
-    let long : length spans ≡ length units = sym (length-map spans (λ (s : Span). s.id)) ∙ ap length same ∙ length-map units (λ (u : Unit). u.id) in
+    let long : length spans ≡ length units =
+    sym (length-map spans (λ (s : Span). s.id)) ∙ ap length same ∙ length-map units (λ (u : Unit). u.id) in
     ap (λ l. marks_at l (take i units)) (take_all i spans high) ∙ ap (marks_at spans) (take_all i units (omega arith))
 
-pub marks_all : (spans : List Span) (units : List Unit) (i : ℕ) (marks : List Mark) → map (λ (s : Span). s.id) spans ≡ map (λ (u : Unit). u.id) units → length spans ≤ i → marks ≡ marks_at (take i spans) (take i units) → marks ≡ marks_at spans units
+pub marks_all : (spans : List Span) (units : List Unit) (i : ℕ) (marks : List Mark)
+    → map (λ (s : Span). s.id) spans ≡ map (λ (u : Unit). u.id) units → length spans ≤ i
+    → marks ≡ marks_at (take i spans) (take i units) → marks ≡ marks_at spans units
 marks_all spans units i marks same high so_far = so_far ∙ all_marks spans units i same high
 
 -- the same without what some marks say of containers
-pub told_more : (tell : Mark → Mark) (f : Forest Unit) (spans : List Span) (units : List Unit) (i : ℕ) (d : Span) (mark : Mark) (marks more : List Mark) → AllByRecursion (Has (nodes f)) units → map (λ (s : Span). s.id) spans ≡ map (λ (u : Unit). u.id) units → i < length spans
-    → ((u : Unit) → Has (nodes f) u → (get_or spans i d).id ≡ u.id → mark ≡ tell (mark_at (get_or spans i d) u)) → marks ≡ map tell (marks_at (take i spans) (take i units)) → more ≡ marks ++ mark ∷ [] → more ≡ map tell (marks_at (take (i + 1) spans) (take (i + 1) units))
+pub told_more : (tell : Mark → Mark) (f : Forest Unit) (spans : List Span) (units : List Unit) (i : ℕ) (d : Span) (mark : Mark) (marks more : List Mark)
+    → AllByRecursion (Has (nodes f)) units → map (λ (s : Span). s.id) spans ≡ map (λ (u : Unit). u.id) units
+    → i < length spans
+    → ((u : Unit) → Has (nodes f) u → (get_or spans i d).id ≡ u.id → mark ≡ tell (mark_at (get_or spans i d) u))
+    → marks ≡ map tell (marks_at (take i spans) (take i units)) → more ≡ marks ++ mark ∷ []
+    → more ≡ map tell (marks_at (take (i + 1) spans) (take (i + 1) units))
 told_more tell f spans units i d mark marks more all same low answers so_far pushed =
     let next = next_mark f spans units i d all same low in
     pushed ∙ ap₂ (λ l m. l ++ m ∷ []) so_far (answers next.0 next.1 next.2) ∙ sym (map-append tell (marks_at (take i spans) (take i units)) (mark_at (get_or spans i d) next.0 ∷ [])) ∙ ap (map tell) next.3
 
-pub told_all : (tell : Mark → Mark) (spans : List Span) (units : List Unit) (i : ℕ) (marks : List Mark) → map (λ (s : Span). s.id) spans ≡ map (λ (u : Unit). u.id) units → length spans ≤ i → marks ≡ map tell (marks_at (take i spans) (take i units)) → marks ≡ map tell (marks_at spans units)
+pub told_all : (tell : Mark → Mark) (spans : List Span) (units : List Unit) (i : ℕ) (marks : List Mark)
+    → map (λ (s : Span). s.id) spans ≡ map (λ (u : Unit). u.id) units → length spans ≤ i
+    → marks ≡ map tell (marks_at (take i spans) (take i units)) → marks ≡ map tell (marks_at spans units)
 told_all tell spans units i marks same high so_far = so_far ∙ ap (map tell) (all_marks spans units i same high)
 
 -- the unit of the first row, and those of the others
-pub first_unit : (first : Span) (below : List Span) (units : List Unit) → map (λ (s : Span). s.id) (first ∷ below) ≡ map (λ (u : Unit). u.id) units
+pub first_unit : (first : Span) (below : List Span) (units : List Unit)
+    → map (λ (s : Span). s.id) (first ∷ below) ≡ map (λ (u : Unit). u.id) units
     → (u : Unit) × (us : List Unit) × (units ≡ u ∷ us) × (first.id ≡ u.id) × (map (λ (s : Span). s.id) below ≡ map (λ (u : Unit). u.id) us)
 first_unit first below [] same = absurd (let k : first.id ∷ map (λ (s : Span). s.id) below ≡ [] = same in cc)
 first_unit first below (u ∷ us) same =

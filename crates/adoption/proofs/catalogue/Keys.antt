@@ -1,48 +1,25 @@
 -- The rows of the catalogue's tables have their keys.
 use Rattle.std.proofs.Common.{◌≡◌, ℕ, pos, List, [], ◌∷◌, map, Bool, true, false, not, ◌&&◌, Option, Some, filter_map, nat_eq, sym, ap₂, subst, ◌∙◌, arith}
-use Rattle.std.specs.List.{AllByRecursion, IsDistinct}
-use Rattle.std.specs.Ordering.{int_cmp}
-use Rattle.std.proofs.lemmas.Bool.{and_parts, not-true}
-use Rattle.std.proofs.lemmas.List.Sorted.{IsPermutation-map}
+use Rattle.std.specs.List.{IsDistinct}
 use Rattle.std.proofs.lemmas.Map.Keys.{IsDistinct-IsPermutation}
-use Rattle.sqlite.specs.Effect.{Database}
-use Rattle.sqlite.specs.Order.{Row, column}
-use Rattle.sqlite.specs.Ops.{is_null}
-use Rattle.sqlite.specs.Table.{Table}
-use Rattle.sqlite_schema.specs.Rules.{agree, clashes, passes}
-use Rattle.sqlite_schema.specs.declared.schema.Constraint.TheVariants.{Datatype, Unique}
-use Rattle.sqlite_trees.proofs.ListLemmas.{all_weaker}
-use Rattle.sqlite_value.specs.Keys.{plain, first_key}
-use Rattle.office_tables.specs.Versions.{Version, First, Second, encoding}
+use Rattle.sqlite_schema.specs.Rules.{passes}
+use Rattle.sqlite_value.specs.Keys.{first_key}
 use Rattle.tree_core.specs.declared.rows.Link.{Link}
 use Rattle.tree_core.specs.declared.rows.Span.{Span}
-use Rattle.tree_core.proofs.Lists.{eqb_comm}
-use Rattle.desk_core.specs.Orders.{in_order}
-use Rattle.desk_core.proofs.OrderLemmas.{in_order-permutation}
-use Rattle.catalogue_core.specs.CatalogueCauses.{MeetsCatalogueKeys, place_numbers, is_named_alike, is_same_element, is_same_container, is_same_place, is_housed_alike}
-use Rattle.catalogue_core.specs.CatalogueRows.{UnitRow, ElementRow, ContainerRow, HousingRow}
-use Rattle.office_tables.specs.CatalogueCells.{read_unit, read_link, read_span, read_element, read_container, read_housing}
-use Rattle.office_tables.specs.Order.{Rises}
 use Rattle.office_tables.specs.Schema as tables
-use Rattle.office_tables.specs.Schema.{schema}
 use Rattle.office_tables.proofs.Tests.{both, same_number, same_bytes}
-use Rattle.row_decoding.specs.TableRows.{by, then_by, places_in}
-use Rattle.state_encoding.specs.CellCauses.{rows_in}
 use Rattle.state_encoding.proofs.shown_cells.OtherOrders.{flips}
-use Rattle.sqlite.specs.declared.types.Value.TheVariants.{Null}
 use Rattle.row_completeness.specs.WholePlaces.{AreWholePlaces}
-use Rattle.row_completeness.specs.WholeRows.{IsWholeTable}
 use Rattle.row_completeness.proofs.KeptPlaces.{links_rise, spans_rise}
-use Rattle.row_completeness.proofs.KeptRows.{rows_rise}
-use Rattle.row_completeness.proofs.UniqueRows.{KeysDiffer, keys_differ, read_pairs, distinct_pairs, distinct_numbers, stay_in_order}
-use Rattle.adoption.specs.SoundTables.{AreGoodTables}
+use Rattle.std.proofs.Math.Bool.{and_comm}
+use Rattle.adoption.proofs.Common.{AllByRecursion, AreGoodTables, ContainerRow, Database, Datatype, ElementRow, First, HousingRow, IsPermutation-map, IsWholeTable, KeysDiffer, MeetsCatalogueKeys, Null, Rises, Row, Second, Table, Unique, UnitRow, Version, agree, all_weaker, and_parts, by, clashes, column, distinct_numbers, distinct_pairs, encoding, eqb_comm, in_order, in_order-permutation, int_cmp, is_housed_alike, is_named_alike, is_null, is_same_container, is_same_element, is_same_place, keys_differ, not-true, place_numbers, places_in, plain, read_container, read_element, read_housing, read_link, read_pairs, read_span, read_unit, rows_in, rows_rise, schema, stay_in_order, then_by}
 use Rattle.adoption.proofs.catalogue.Rules.{IsKeyed, live, rows_keyed, place_whole, unit_whole, element_whole, container_whole, housing_whole, unit_keyed, container_keyed}
 use Rattle.adoption.proofs.catalogue.Readings.{unit_parts, element_parts, container_parts, housing_parts}
-use Rattle.std.proofs.Math.Bool.{and_comm}
 
 -- ---- what a key is of rows that are read
 
-unit_key : (a b : Row) (x y : UnitRow) → read_unit a ≡ Some x → read_unit b ≡ Some y → agree plain (2 ∷ 3 ∷ []) a (2 ∷ 3 ∷ []) b ≡ is_named_alike x y
+unit_key : (a b : Row) (x y : UnitRow) → read_unit a ≡ Some x → read_unit b ≡ Some y
+    → agree plain (2 ∷ 3 ∷ []) a (2 ∷ 3 ∷ []) b ≡ is_named_alike x y
 unfolding first_key
 unit_key a b x y is said =
     let p = unit_parts a x is in
@@ -53,7 +30,8 @@ unit_key a b x y is said =
     let m = q.legacy in
     rw (s, t, l, m) (both (same_bytes x.source y.source) (same_bytes x.legacy y.legacy))
 
-element_key : (a b : Row) (x y : ElementRow) → read_element a ≡ Some x → read_element b ≡ Some y → agree plain (1 ∷ 2 ∷ []) a (1 ∷ 2 ∷ []) b ≡ is_same_element x y
+element_key : (a b : Row) (x y : ElementRow) → read_element a ≡ Some x → read_element b ≡ Some y
+    → agree plain (1 ∷ 2 ∷ []) a (1 ∷ 2 ∷ []) b ≡ is_same_element x y
 unfolding first_key
 element_key a b x y is said =
     let p = element_parts a x is in
@@ -64,7 +42,8 @@ element_key a b x y is said =
     let m = q.k in
     rw (s, t, l, m) (both (same_number x.unit y.unit ∙ eqb_comm y.unit x.unit) (same_number x.k y.k ∙ eqb_comm y.k x.k))
 
-container_key : (a b : Row) (x y : ContainerRow) → read_container a ≡ Some x → read_container b ≡ Some y → agree plain (2 ∷ 3 ∷ 4 ∷ []) a (2 ∷ 3 ∷ 4 ∷ []) b ≡ is_same_container x y
+container_key : (a b : Row) (x y : ContainerRow) → read_container a ≡ Some x → read_container b ≡ Some y
+    → agree plain (2 ∷ 3 ∷ 4 ∷ []) a (2 ∷ 3 ∷ 4 ∷ []) b ≡ is_same_container x y
 unfolding first_key
 container_key a b x y is said =
     let p = container_parts a x is in
@@ -77,7 +56,8 @@ container_key a b x y is said =
     let k = q.kind in
     rw (s, t, l, m, j, k) (ap₂ ◌&&◌ (same_bytes x.name y.name) (both (same_bytes x.location y.location) (same_bytes x.kind y.kind)))
 
-place_key : (a b : Row) (x y : HousingRow) → read_housing a ≡ Some x → read_housing b ≡ Some y → agree plain (1 ∷ 2 ∷ []) a (1 ∷ 2 ∷ []) b ≡ is_same_place x y
+place_key : (a b : Row) (x y : HousingRow) → read_housing a ≡ Some x → read_housing b ≡ Some y
+    → agree plain (1 ∷ 2 ∷ []) a (1 ∷ 2 ∷ []) b ≡ is_same_place x y
 unfolding first_key
 place_key a b x y is said =
     let p = housing_parts a x is in
@@ -88,7 +68,8 @@ place_key a b x y is said =
     let m = q.ord in
     rw (s, t, l, m) (both (same_number x.unit y.unit ∙ eqb_comm y.unit x.unit) (same_number x.ord y.ord ∙ eqb_comm y.ord x.ord))
 
-once_key : (a b : Row) (x y : HousingRow) → read_housing a ≡ Some x → read_housing b ≡ Some y → agree plain (3 ∷ 1 ∷ []) a (3 ∷ 1 ∷ []) b ≡ is_housed_alike x y
+once_key : (a b : Row) (x y : HousingRow) → read_housing a ≡ Some x → read_housing b ≡ Some y
+    → agree plain (3 ∷ 1 ∷ []) a (3 ∷ 1 ∷ []) b ≡ is_housed_alike x y
 unfolding first_key
 once_key a b x y is said =
     let p = housing_parts a x is in
@@ -101,8 +82,10 @@ once_key a b x y is said =
     ∙ and_comm (nat_eq x.container y.container) (nat_eq x.unit y.unit))
 
 -- no two rows that are read have one key
-apart : {X : Type 0} (read : Row → Option X) (alike : X → X → Bool) (places : List ℕ) → ((a b : Row) (x y : X) → read a ≡ Some x → read b ≡ Some y → agree plain places a places b ≡ alike x y)
-    → (table : Table) (rows : List Row) → IsWholeTable table rows → AllByRecursion (λ row. clashes plain places rows row ≡ false) rows → IsDistinct alike (filter_map read rows)
+apart : {X : Type 0} (read : Row → Option X) (alike : X → X → Bool) (places : List ℕ)
+    → ((a b : Row) (x y : X) → read a ≡ Some x → read b ≡ Some y → agree plain places a places b ≡ alike x y)
+    → (table : Table) (rows : List Row) → IsWholeTable table rows
+    → AllByRecursion (λ row. clashes plain places rows row ≡ false) rows → IsDistinct alike (filter_map read rows)
 apart read alike places key table rows whole own =
     distinct_pairs alike (filter_map read rows)
     (read_pairs read (KeysDiffer plain places) (λ x y. alike x y ≡ false) (λ a b x y is said h. sym (key a b x y is said) ∙ h) rows (keys_differ plain places rows whole.rise whole.numbers own))
@@ -117,7 +100,8 @@ whole_places Second db it =
     let keyed = rows_keyed tables.span (λ b row h. (and_parts (is_null b) _ h).0) 4 (omega arith) (db.trees tables.span.tree) (place_whole Second db it).cells ((live Second db it).obeys.rules Datatype).1.1.1.1.1.1.1.1.1.1.1.1.0 in
     record { rise = (place_whole Second db it).rise; cells = (place_whole Second db it).cells; keys = all_weaker (IsKeyed 4) (λ row. column row 1 ≡ Null) (λ row h. h.1) (db.trees tables.span.tree) keyed }
 
-places_distinct : (v : Version) (db : Database) → AreWholePlaces (db.trees tables.link.tree) → IsDistinct nat_eq (place_numbers (places_in (encoding v) db.trees))
+places_distinct : (v : Version) (db : Database) → AreWholePlaces (db.trees tables.link.tree)
+    → IsDistinct nat_eq (place_numbers (places_in (encoding v) db.trees))
 places_distinct First db whole =
     let links = filter_map read_link (db.trees tables.link.tree) in
     let number : Link → ℕ = λ link. link.id in

@@ -1,20 +1,7 @@
 -- The table of the office has the one row that is said of it.
 use Rattle.std.proofs.Common.{◌≡◌, pos, ◌<◌, List, [], ◌∷◌, false, Option, Some, None, is_none, filter_map, unwrap_or, Less, refl, sym, ap, ap₂, ◌∙◌, arith}
-use Rattle.std.specs.List.{AllByRecursion, cons_option}
-use Rattle.std.specs.Ordering.{int_cmp}
-use Rattle.std.proofs.lemmas.Bool.{or_parts, true≢false}
-use Rattle.sqlite.specs.Order.{Row, column}
-use Rattle.sqlite.specs.Tree.{IsTable}
-use Rattle.sqlite_value.specs.Order.{value_cmp}
-use Rattle.sqlite_value.proofs.OrderLemmas.{value_cmp-Int}
-use Rattle.office_tables.specs.Versions.{Version, First, Second, version_number}
-use Rattle.catalogue_core.specs.CatalogueRows.{OfficeRow}
 use Rattle.office_core.specs.Words.{first}
-use Rattle.office_tables.specs.Cells.{has_unread}
-use Rattle.office_tables.specs.CatalogueCells.{read_office}
-use Rattle.office_tables.specs.SharedRows.{office_cells}
-use Rattle.office_tables.proofs.numbered.Counted.{less_below}
-use Rattle.state_encoding.specs.CellCauses.{no_office}
+use Rattle.adoption.proofs.Common.{AllByRecursion, First, IsTable, OfficeRow, Row, Second, Version, column, cons_option, has_unread, int_cmp, less_below, no_office, office_cells, or_parts, read_office, true≢false, value_cmp, value_cmp-Int, version_number}
 use Rattle.adoption.proofs.catalogue.Rules.{IsKeyed}
 use Rattle.adoption.proofs.catalogue.Readings.{office_parts, is_office}
 
@@ -25,19 +12,24 @@ some_version : (v : Version) → 0 < version_number v
 some_version First = omega arith
 some_version Second = omega arith
 
-not_two : (a b : Row) (o p : Option OfficeRow) → read_office a ≡ o → read_office b ≡ p → is_none o ≡ false → is_none p ≡ false → value_cmp (column a 0) (column b 0) ≡ Less → ⊥
+not_two : (a b : Row) (o p : Option OfficeRow) → read_office a ≡ o → read_office b ≡ p → is_none o ≡ false
+    → is_none p ≡ false → value_cmp (column a 0) (column b 0) ≡ Less → ⊥
 not_two a b None p is too h k less = true≢false h
 not_two a b (Some o) None is too h k less = true≢false k
 not_two a b (Some o) (Some p) is too h k less =
-    let less_ints : int_cmp (pos 1) (pos 1) ≡ Less = sym (ap₂ value_cmp (office_parts a o is).one (office_parts b p too).one ∙ value_cmp-Int (pos 1) (pos 1)) ∙ less in
+    let less_ints : int_cmp (pos 1) (pos 1) ≡ Less =
+    sym (ap₂ value_cmp (office_parts a o is).one (office_parts b p too).one ∙ value_cmp-Int (pos 1) (pos 1)) ∙ less in
     let absurdly = less_below 1 1 less_ints in
     omega (arith, absurdly)
 
-one_row : (row : Row) (o : Option OfficeRow) → read_office row ≡ o → is_none o ≡ false → IsKeyed 11 row → row ∷ [] ≡ office_cells (unwrap_or (first (cons_option o [])) no_office) ∷ []
+one_row : (row : Row) (o : Option OfficeRow) → read_office row ≡ o → is_none o ≡ false → IsKeyed 11 row
+    → row ∷ [] ≡ office_cells (unwrap_or (first (cons_option o [])) no_office) ∷ []
 one_row row None is h fit = absurd (true≢false h)
 one_row row (Some o) is h fit = ap (λ (r : Row). r ∷ []) (is_office row o is fit)
 
-pub office_stored : (v : Version) (rows : List Row) → IsTable rows → AllByRecursion (IsKeyed 11) rows → has_unread read_office rows ≡ false → version_number v ≡ (said rows).version → rows ≡ office_cells (said rows) ∷ []
+pub office_stored : (v : Version) (rows : List Row) → IsTable rows → AllByRecursion (IsKeyed 11) rows
+    → has_unread read_office rows ≡ false → version_number v ≡ (said rows).version
+    → rows ≡ office_cells (said rows) ∷ []
 office_stored v [] up fit all version = let some = some_version v in absurd (omega (arith, some, version))
 office_stored v (row ∷ []) up fit all version = one_row row (read_office row) refl (or_parts _ _ all).0 fit.0
 office_stored v (a ∷ b ∷ rows) up fit all version =

@@ -1,13 +1,9 @@
 -- What rows tell of each unit, among the rows of all units.
 use Rattle.std.proofs.Common.{◌≡◌, ℕ, List, [], ◌∷◌, ◌++◌, map, filter, Bool, true, false, nat_eq, refl, sym, ap, ap₂, subst, ◌∙◌, append-nil}
-use Rattle.std.specs.List.{AllByRecursion, IsDistinct, flat_map, list_any}
-use Rattle.std.specs.List.Sorted.{IsPermutation}
-use Rattle.std.proofs.lemmas.Bool.{eq-eqb}
+use Rattle.std.specs.List.{IsDistinct}
 use Rattle.std.proofs.lemmas.List.Concat.{flat_map-cons}
 use Rattle.std.proofs.lemmas.List.Elements.{filter-append}
-use Rattle.sqlite_trees.proofs.ListLemmas.{all_weaker, filter_all, filter_none, IsPermutation-filter}
-use Rattle.tree_core.proofs.Lists.{eqb_comm, In-permutation}
-use Rattle.state_encoding.proofs.Members.{all_in, all_of_in, any_of_in, in_flat_map}
+use Rattle.adoption.proofs.Common.{AllByRecursion, In-permutation, IsPermutation, IsPermutation-filter, all_in, all_of_in, all_weaker, any_of_in, eq-eqb, eqb_comm, filter_all, filter_none, flat_map, in_flat_map, list_any}
 
 module _ {U A : Type 0} (number : U → ℕ) (key : A → ℕ) (shown : U → List A) (own : (u : U) → AllByRecursion (λ a. key a ≡ number u) (shown u)) where
   abbrev is_of : ℕ → A → Bool
@@ -19,14 +15,16 @@ module _ {U A : Type 0} (number : U → ℕ) (key : A → ℕ) (shown : U → Li
   not_mine : (n : ℕ) (u : U) → nat_eq n (number u) ≡ false → filter (is_of n) (shown u) ≡ []
   not_mine n u h = filter_none (is_of n) (shown u) (all_weaker (λ a. key a ≡ number u) (λ a. is_of n a ≡ false) (λ a k. ap (nat_eq n) k ∙ h) (shown u) (own u))
 
-  none_mine : (n : ℕ) (us : List U) → AllByRecursion (λ m. nat_eq n m ≡ false) (map number us) → filter (is_of n) (flat_map shown us) ≡ []
+  none_mine : (n : ℕ) (us : List U) → AllByRecursion (λ m. nat_eq n m ≡ false) (map number us)
+      → filter (is_of n) (flat_map shown us) ≡ []
   none_mine n [] h = refl
   none_mine n (u ∷ us) h =
       ap (filter (is_of n)) (flat_map-cons shown u us)
       ∙ (filter-append (is_of n) (shown u) (flat_map shown us)
       ∙ ap₂ ◌++◌ (not_mine n u h.0) (none_mine n us h.1))
 
-  later : (u : U) (rest : List A) (vs : List U) → AllByRecursion (λ m. nat_eq (number u) m ≡ false) (map number vs) → AllByRecursion (λ v. filter (is_of (number v)) rest ≡ shown v) vs
+  later : (u : U) (rest : List A) (vs : List U) → AllByRecursion (λ m. nat_eq (number u) m ≡ false) (map number vs)
+      → AllByRecursion (λ v. filter (is_of (number v)) rest ≡ shown v) vs
       → AllByRecursion (λ v. filter (is_of (number v)) (shown u ++ rest) ≡ shown v) vs
   later u rest [] d h = tt
   later u rest (v ∷ vs) d h = (
@@ -34,7 +32,8 @@ module _ {U A : Type 0} (number : U → ℕ) (key : A → ℕ) (shown : U → Li
     later u rest vs d.1 h.1,
   )
 
-  all_mine : (us : List U) → IsDistinct nat_eq (map number us) → AllByRecursion (λ u. filter (is_of (number u)) (flat_map shown us) ≡ shown u) us
+  all_mine : (us : List U) → IsDistinct nat_eq (map number us)
+      → AllByRecursion (λ u. filter (is_of (number u)) (flat_map shown us) ≡ shown u) us
   unfolding IsDistinct
   all_mine [] d = tt
   all_mine (u ∷ us) d = (

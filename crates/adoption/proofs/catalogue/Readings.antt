@@ -1,20 +1,10 @@
 -- A row of the catalogue's tables that has all its cells is the row of what is read of it.
 use Rattle.std.proofs.Common.{◌≡◌, ℕ, ℤ, pos, Bool, true, false, Option, Some, None, refl, ap, ◌∙◌}
-use Rattle.std.proofs.lemmas.Bool.{eqb-true}
 use Rattle.std.specs.Prelude.{option_map, unwrap_or, nat_eq, cond}
-use Rattle.sqlite.specs.Order.{Row, column}
 use Rattle.sqlite.specs.Values.{or_null}
-use Rattle.sqlite.specs.declared.types.Value.{Value}
-use Rattle.sqlite.specs.declared.types.Value.TheVariants.{Int, Text}
-use Rattle.catalogue_core.specs.CatalogueRows.{OfficeRow, UnitRow, ElementRow, ContainerRow, HousingRow}
-use Rattle.office_tables.specs.Cells.{whole_in, number_in, text_in, flag_in, or_null_in}
-use Rattle.office_tables.specs.CatalogueCells.{read_office, read_unit, read_element, read_container, read_housing}
 use Rattle.office_tables.specs.Flags.{flag}
-use Rattle.office_tables.specs.RowCells.{unit_cells, element_cells, container_cells, housing_cells}
-use Rattle.office_tables.specs.SharedRows.{office_cells}
-use Rattle.office_tables.proofs.CellTexts.{from_first}
-use Rattle.row_decoding.proofs.ToldCells.{is_number, is_whole, is_text, is_flag, is_or_null}
-use Rattle.row_completeness.proofs.KeptRows.{whole_row}
+use Rattle.office_tables.specs.RowCells.{element_cells, housing_cells}
+use Rattle.adoption.proofs.Common.{ContainerRow, ElementRow, HousingRow, Int, OfficeRow, Row, Text, UnitRow, Value, column, container_cells, eqb-true, flag_in, from_first, is_flag, is_number, is_or_null, is_text, is_whole, number_in, office_cells, or_null_in, read_container, read_element, read_housing, read_office, read_unit, text_in, unit_cells, whole_in, whole_row}
 use Rattle.adoption.proofs.catalogue.Rules.{IsKeyed, IsNumbered}
 
 same_day : (o : Option ℤ) → option_map (λ (n : ℤ). n) o ≡ o
@@ -42,7 +32,8 @@ unit_parts row u h =
     let d = from_first (text_in (column row 2)) _ u c.2 in
     let e = from_first (text_in (column row 3)) _ u d.2 in
     let f = from_first (text_in (column row 4)) _ u e.2 in
-    let made : record { id = a.0; source = d.0; legacy = e.0; level = f.0; draft = b.0; until = c.0 } ≡ u = ap (λ (o : Option UnitRow). unwrap_or o u) f.2 in
+    let made : record { id = a.0; source = d.0; legacy = e.0; level = f.0; draft = b.0; until = c.0 } ≡ u =
+    ap (λ (o : Option UnitRow). unwrap_or o u) f.2 in
     record {
       id = is_number (column row 0) a.0 a.1 ∙ ap (λ (x : UnitRow). Int (pos x.id)) made;
       source = is_text (column row 2) d.0 d.1 ∙ ap (λ (x : UnitRow). Text x.source) made;
@@ -83,7 +74,8 @@ element_parts row e h =
       value = is_text (column row 3) c.0 c.1 ∙ ap (λ (x : ElementRow). Text x.value) made;
     }
 
-pub is_element : (row : Row) (e : ElementRow) (n : ℤ) → read_element row ≡ Some e → column row 0 ≡ Int n → IsNumbered 4 row → row ≡ element_cells (n, e)
+pub is_element : (row : Row) (e : ElementRow) (n : ℤ) → read_element row ≡ Some e → column row 0 ≡ Int n
+    → IsNumbered 4 row → row ≡ element_cells (n, e)
 is_element row e n h number fit =
     let it = element_parts row e h in
     let unit = it.unit in
@@ -105,7 +97,8 @@ container_parts row c h =
     let b = from_first (text_in (column row 2)) _ c a.2 in
     let d = from_first (text_in (column row 3)) _ c b.2 in
     let e = from_first (text_in (column row 4)) _ c d.2 in
-    let made : record { id = a.0; name = b.0; location = d.0; kind = e.0 } ≡ c = ap (λ (o : Option ContainerRow). unwrap_or o c) e.2 in
+    let made : record { id = a.0; name = b.0; location = d.0; kind = e.0 } ≡ c =
+    ap (λ (o : Option ContainerRow). unwrap_or o c) e.2 in
     record {
       id = is_number (column row 0) a.0 a.1 ∙ ap (λ (x : ContainerRow). Int (pos x.id)) made;
       name = is_text (column row 2) b.0 b.1 ∙ ap (λ (x : ContainerRow). Text x.name) made;
@@ -113,7 +106,8 @@ container_parts row c h =
       kind = is_text (column row 4) e.0 e.1 ∙ ap (λ (x : ContainerRow). Text x.kind) made;
     }
 
-pub is_container : (row : Row) (c : ContainerRow) → read_container row ≡ Some c → IsKeyed 5 row → row ≡ container_cells c
+pub is_container : (row : Row) (c : ContainerRow) → read_container row ≡ Some c → IsKeyed 5 row
+    → row ≡ container_cells c
 is_container row c h fit =
     let it = container_parts row c h in
     let id = it.id in
@@ -135,14 +129,16 @@ housing_parts row l h =
     let a = from_first (number_in (column row 1)) _ l h in
     let b = from_first (number_in (column row 2)) _ l a.2 in
     let c = from_first (number_in (column row 3)) _ l b.2 in
-    let made : record { unit = a.0; ord = b.0; container = c.0 } ≡ l = ap (λ (o : Option HousingRow). unwrap_or o l) c.2 in
+    let made : record { unit = a.0; ord = b.0; container = c.0 } ≡ l =
+    ap (λ (o : Option HousingRow). unwrap_or o l) c.2 in
     record {
       unit = is_number (column row 1) a.0 a.1 ∙ ap (λ (x : HousingRow). Int (pos x.unit)) made;
       ord = is_number (column row 2) b.0 b.1 ∙ ap (λ (x : HousingRow). Int (pos x.ord)) made;
       container = is_number (column row 3) c.0 c.1 ∙ ap (λ (x : HousingRow). Int (pos x.container)) made;
     }
 
-pub is_housing : (row : Row) (l : HousingRow) (n : ℤ) → read_housing row ≡ Some l → column row 0 ≡ Int n → IsNumbered 4 row → row ≡ housing_cells (n, l)
+pub is_housing : (row : Row) (l : HousingRow) (n : ℤ) → read_housing row ≡ Some l → column row 0 ≡ Int n
+    → IsNumbered 4 row → row ≡ housing_cells (n, l)
 is_housing row l n h number fit =
     let it = housing_parts row l h in
     let unit = it.unit in

@@ -1,24 +1,8 @@
 -- What SQL and the wholeness of tables tell of each row of the catalogue's tables.
 use Rattle.std.proofs.Common.{◌≡◌, ℕ, ◌<◌, List, [], ◌∷◌, length, true, ◌&&◌, drop, refl, sym, subst, IsTrue, arith}
-use Rattle.std.specs.List.{AllByRecursion}
-use Rattle.std.proofs.lemmas.Bool.{and_parts, true≢false}
-use Rattle.sqlite.specs.Effect.{Database, IsDatabase}
-use Rattle.sqlite.specs.Order.{Row, column}
-use Rattle.sqlite.specs.Ops.{is_null}
-use Rattle.sqlite.specs.declared.types.Value.{Value}
-use Rattle.sqlite.specs.declared.types.Value.TheVariants.{Null, Int, Real, Text, Blob}
-use Rattle.sqlite.specs.Table.{Table}
-use Rattle.sqlite_schema.specs.Rules.{are_typed, has_computed}
-use Rattle.sqlite_schema.specs.declared.schema.Constraint.TheVariants.{Datatype}
-use Rattle.sqlite_trees.proofs.ListLemmas.{all_both}
-use Rattle.sqlite_trees.specs.View.{is_int}
-use Rattle.office_tables.specs.Versions.{Version, encoding}
 use Rattle.office_tables.specs.Schema as tables
-use Rattle.office_tables.specs.Schema.{schema}
 use Rattle.row_completeness.proofs.FullRows.{whole_tables}
-use Rattle.row_completeness.specs.WholeRows.{IsWholeTable, AreWholeTables}
-use Rattle.adoption.specs.OrderedTables.{StandInOrder}
-use Rattle.adoption.specs.SoundTables.{AreGoodTables}
+use Rattle.adoption.proofs.Common.{AllByRecursion, AreGoodTables, AreWholeTables, Blob, Database, Datatype, Int, IsDatabase, IsWholeTable, Null, Real, Row, StandInOrder, Table, Text, Value, Version, all_both, and_parts, are_typed, column, encoding, has_computed, is_int, is_null, schema, true≢false}
 
 -- ---- a row of a table
 
@@ -45,9 +29,11 @@ module _ (table : Table) (begins : (b : Value) (row : Row) → are_typed table.k
   key_is_null : (row : Row) → 1 < length row → IsTyped row → column row 1 ≡ Null
   key_is_null [] l h = absurd (omega (arith, l))
   key_is_null (a ∷ []) l h = absurd (omega (arith, l))
-  key_is_null (a ∷ b ∷ row) l h = is_nil b (begins b row (and_parts (are_typed table.key 0 table.columns (b ∷ row)) (has_computed table (a ∷ b ∷ row)) h).0)
+  key_is_null (a ∷ b ∷ row) l h =
+      is_nil b (begins b row (and_parts (are_typed table.key 0 table.columns (b ∷ row)) (has_computed table (a ∷ b ∷ row)) h).0)
 
-  pub rows_keyed : (n : ℕ) → 1 < n → (rows : List Row) → AllByRecursion (λ (row : Row). length row ≡ n) rows → AllByRecursion IsTyped rows → AllByRecursion (IsKeyed n) rows
+  pub rows_keyed : (n : ℕ) → 1 < n → (rows : List Row) → AllByRecursion (λ (row : Row). length row ≡ n) rows
+      → AllByRecursion IsTyped rows → AllByRecursion (IsKeyed n) rows
   rows_keyed n l rows cells typed =
       all_both (λ (row : Row). length row ≡ n) IsTyped (IsKeyed n) (λ row h k. (h, key_is_null row (omega (arith, l, h)) k)) rows cells typed
 

@@ -1,39 +1,18 @@
 -- The tables show the catalogue that their rows say.
 use Rattle.std.proofs.Common.{◌≡◌, ℕ, List, [], ◌∷◌, map, filter, Bool, true, false, not, filter_map, nat_eq, refl, sym, ap, ap₂, subst, ◌∙◌}
-use Rattle.std.specs.List.{AllByRecursion, IsDistinct, flat_map}
-use Rattle.std.specs.List.Sorted.{IsPermutation}
-use Rattle.std.proofs.lemmas.Bool.{and_parts, or_parts, or_from, eqb-true}
-use Rattle.std.proofs.lemmas.List.Sorted.{IsPermutation-map, IsPermutation-sym, IsPermutation-trans}
-use Rattle.sqlite.specs.Effect.{Database}
-use Rattle.sqlite.specs.Tree.{Trees}
-use Rattle.sqlite_trees.proofs.ListLemmas.{all_weaker}
-use Rattle.isad_core.specs.Words.{are_numbered_from}
-use Rattle.tree_core.specs.Forest.{Forest, Empty, Node, nodes, each}
-use Rattle.office_tables.specs.Versions.{Version, First, Second, version_number, encoding}
-use Rattle.desk_core.specs.Orders.{in_order}
-use Rattle.desk_core.proofs.OrderLemmas.{in_order-permutation}
-use Rattle.catalogue_core.specs.CatalogueCauses.{are_good_places}
-use Rattle.catalogue_core.specs.CatalogueRows.{unit_row, ElementRow, element_rows_from, ContainerRow, HousingRow, housing_row, places_said}
-use Rattle.catalogue_core.specs.Units.{Unit}
-use Rattle.catalogue_statements.specs.Representation.{RepresentsCatalogue, RepresentsOffice, RepresentsUnits, RepresentsElements, element_cells, elements_of, RepresentsContainers, RepresentsHousings, housing_cells, housings_of}
-use Rattle.office_tables.specs.Cells.{has_unread}
-use Rattle.office_tables.specs.CatalogueCells.{read_unit, read_element, read_container, read_housing}
-use Rattle.office_tables.specs.RowCells.{unit_cells, container_cells, element_cells as element_row_cells, housing_cells as housing_row_cells}
+use Rattle.std.specs.List.{IsDistinct}
+use Rattle.catalogue_core.specs.CatalogueRows.{unit_row}
+use Rattle.catalogue_statements.specs.Representation.{element_cells, housing_cells}
+use Rattle.office_tables.specs.RowCells.{element_cells as element_row_cells, housing_cells as housing_row_cells}
 use Rattle.office_tables.specs.Schema as tables
-use Rattle.office_tables.specs.SharedRows.{office_cells}
 use Rattle.office_core.specs.State.{State}
-use Rattle.row_decoding.specs.TableRows.{then_by}
-use Rattle.state_encoding.specs.CellCauses.{rows_in, unread}
 use Rattle.state_encoding.specs.DeskEncoding.{rows_from}
 use Rattle.state_encoding.specs.RowSoundness.{IsCatalogueOf, IsSoundCatalogue}
-use Rattle.state_encoding.specs.OfficeRows.{OfficeRows, state_of, unit_said}
 use Rattle.state_encoding.proofs.told.ToldCatalogue.{HasNoCause, no_cause, catalogue_is_said}
 use Rattle.state_encoding.proofs.told.ToldUnits.{said_id}
 use Rattle.refinement.specs.Representation.{office_of}
 use Rattle.row_completeness.specs.WholePlaces.{RepresentsWhatItDescribes, places_are_defective}
-use Rattle.row_completeness.proofs.KeptRows.{rows_kept, has_numbered}
-use Rattle.adoption.specs.Catalogue.{RepresentsItsCatalogue}
-use Rattle.adoption.specs.SoundTables.{AreGoodTables}
+use Rattle.adoption.proofs.Common.{AllByRecursion, AreGoodTables, ContainerRow, Database, ElementRow, Empty, First, Forest, HousingRow, IsPermutation, IsPermutation-map, IsPermutation-sym, IsPermutation-trans, Node, OfficeRows, RepresentsCatalogue, RepresentsContainers, RepresentsElements, RepresentsHousings, RepresentsItsCatalogue, RepresentsOffice, RepresentsUnits, Second, Trees, Unit, Version, all_weaker, and_parts, are_good_places, are_numbered_from, container_cells, each, element_rows_from, elements_of, encoding, eqb-true, flat_map, has_numbered, has_unread, housing_row, housings_of, in_order, in_order-permutation, nodes, office_cells, or_from, or_parts, places_said, read_container, read_element, read_housing, read_unit, rows_in, rows_kept, state_of, then_by, unit_cells, unit_said, unread, version_number}
 use Rattle.adoption.proofs.tables.Causeless.{ArePassed, are_passed}
 use Rattle.adoption.proofs.catalogue.Rules.{IsKeyed, IsNumbered, office_whole, office_keyed, unit_keyed, container_keyed, element_whole, element_numbered, housing_whole, housing_numbered}
 use Rattle.adoption.proofs.catalogue.Readings.{is_unit, is_element, is_container, is_housing}
@@ -43,7 +22,8 @@ use Rattle.adoption.proofs.catalogue.Owned.{each_has, all_owned}
 use Rattle.adoption.proofs.catalogue.Told.{element_cell, element_units, elements_told, housing_cell, housing_units, housings_told, containers_told}
 use Rattle.adoption.proofs.catalogue.Units.{units_stored}
 
-no_defect : (v : Version) (db : Trees) → AllByRecursion (λ (b : Bool). b ≡ false) (unread v db) → are_good_places (encoding v) (rows_in v db).catalogue.places ≡ true → places_are_defective (encoding v) db ≡ false
+no_defect : (v : Version) (db : Trees) → AllByRecursion (λ (b : Bool). b ≡ false) (unread v db)
+    → are_good_places (encoding v) (rows_in v db).catalogue.places ≡ true → places_are_defective (encoding v) db ≡ false
 no_defect First db read good = or_from _ _ read.1.0 (ap not good)
 no_defect Second db read good = or_from _ _ read.1.0 (ap not good)
 
@@ -164,7 +144,8 @@ module _ (v : Version) (db : Database) (it : AreGoodTables v db) where
     housings = housings;
   }
 
-  pub catalogue_shown : (places : Trees → Forest ℕ → Type 0) → ((db : Trees) → RepresentsWhatItDescribes places (encoding v) db) → RepresentsItsCatalogue places v db
+  pub catalogue_shown : (places : Trees → Forest ℕ → Type 0)
+      → ((db : Trees) → RepresentsWhatItDescribes places (encoding v) db) → RepresentsItsCatalogue places v db
   catalogue_shown places represents = record {
     keys = keys_met v db it;
     represents = record {

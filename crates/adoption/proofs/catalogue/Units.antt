@@ -1,22 +1,11 @@
 -- The units that rows say have these rows.
 use Rattle.std.proofs.Common.{◌≡◌, ℕ, pos, List, [], ◌∷◌, map, Option, Some, None, find, nat_eq, false, Less, refl, sym, ap, ap₂, subst, ◌∙◌}
 use Rattle.std.specs.Prelude.{option_map, unwrap_or}
-use Rattle.std.specs.List.{AllByRecursion}
-use Rattle.std.specs.List.Sorted.{IsPermutation}
-use Rattle.std.specs.Ordering.{int_cmp}
-use Rattle.std.proofs.lemmas.List.Sorted.{IsPermutation-map}
-use Rattle.sqlite.specs.Tree.{Trees}
-use Rattle.sqlite_trees.proofs.ListLemmas.{map-map}
-use Rattle.tree_core.specs.Forest.{Forest, nodes, each}
 use Rattle.tree_core.proofs.EachLemmas.{nodes-each}
-use Rattle.catalogue_core.specs.CatalogueRows.{CatalogueRows, UnitRow, unit_row as row_of_unit}
-use Rattle.catalogue_core.specs.Units.{Unit}
-use Rattle.catalogue_statements.specs.Rows.{by_number, unit_row}
-use Rattle.catalogue_statements.specs.Representation.{RepresentsUnits}
-use Rattle.office_tables.specs.Order.{Rises}
-use Rattle.office_tables.specs.RowCells.{unit_cells}
+use Rattle.catalogue_core.specs.CatalogueRows.{unit_row as row_of_unit}
+use Rattle.catalogue_statements.specs.Rows.{unit_row}
 use Rattle.office_tables.specs.Schema as tables
-use Rattle.state_encoding.specs.OfficeRows.{unit_from, unit_said, values_said}
+use Rattle.adoption.proofs.Common.{AllByRecursion, CatalogueRows, Forest, IsPermutation, IsPermutation-map, RepresentsUnits, Rises, Trees, Unit, UnitRow, by_number, each, int_cmp, map-map, nodes, unit_cells, unit_from, unit_said, values_said}
 
 module _ (c : CatalogueRows) where
   abbrev made : ℕ → Option UnitRow → Unit
@@ -35,22 +24,27 @@ module _ (c : CatalogueRows) where
   all_again (u ∷ us) = ap₂ ◌∷◌ (again u) (all_again us)
 
   -- so they are those of the rows, if their rows are these
-  units_are : (f : Forest ℕ) (rows : List UnitRow) → IsPermutation (map row_of_unit (nodes (each (unit_said c) f))) rows → IsPermutation (nodes (each (unit_said c) f)) (map (unit_from c) rows)
+  units_are : (f : Forest ℕ) (rows : List UnitRow) → IsPermutation (map row_of_unit (nodes (each (unit_said c) f))) rows
+      → IsPermutation (nodes (each (unit_said c) f)) (map (unit_from c) rows)
   units_are f rows same =
       let said = nodes-each (unit_said c) f in
       let back : map (unit_from c) (map row_of_unit (nodes (each (unit_said c) f))) ≡ nodes (each (unit_said c) f) =
       ap (λ us. map (unit_from c) (map row_of_unit us)) said ∙ (all_again (nodes f) ∙ sym said) in
       subst (λ us. IsPermutation us (map (unit_from c) rows)) back (IsPermutation-map (unit_from c) (map row_of_unit (nodes (each (unit_said c) f))) rows same)
 
-  later : (row : UnitRow) (rows : List UnitRow) → AllByRecursion (λ (b : UnitRow). int_cmp (pos row.id) (pos b.id) ≡ Less) rows → AllByRecursion (λ u. by_number (unit_from c row) u ≡ Less) (map (unit_from c) rows)
+  later : (row : UnitRow) (rows : List UnitRow)
+      → AllByRecursion (λ (b : UnitRow). int_cmp (pos row.id) (pos b.id) ≡ Less) rows
+      → AllByRecursion (λ u. by_number (unit_from c row) u ≡ Less) (map (unit_from c) rows)
   later row [] h = tt
   later row (b ∷ rows) h = (h.0, later row rows h.1)
 
-  rise : (rows : List UnitRow) → Rises (λ (a b : UnitRow). int_cmp (pos a.id) (pos b.id)) rows → Rises by_number (map (unit_from c) rows)
+  rise : (rows : List UnitRow) → Rises (λ (a b : UnitRow). int_cmp (pos a.id) (pos b.id)) rows
+      → Rises by_number (map (unit_from c) rows)
   rise [] up = tt
   rise (row ∷ rows) up = (later row rows up.0, rise rows up.1)
 
-  pub units_stored : (db : Trees) (f : Forest ℕ) (rows : List UnitRow) → db tables.unit.tree ≡ map unit_cells rows → Rises (λ (a b : UnitRow). int_cmp (pos a.id) (pos b.id)) rows
+  pub units_stored : (db : Trees) (f : Forest ℕ) (rows : List UnitRow) → db tables.unit.tree ≡ map unit_cells rows
+      → Rises (λ (a b : UnitRow). int_cmp (pos a.id) (pos b.id)) rows
       → IsPermutation (map row_of_unit (nodes (each (unit_said c) f))) rows → RepresentsUnits db (each (unit_said c) f)
   units_stored db f rows stored up same = record {
     units = map (unit_from c) rows;

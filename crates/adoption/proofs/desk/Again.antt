@@ -1,37 +1,21 @@
 -- Rows with none of the causes 1 to 9 say a state that is sound but for the rules of the day, and are that state's rows of the desk.
 use Rattle.std.proofs.Common.{◌≡◌, true, map, None, sym, ap, ◌∙◌, inl, inr, nat_eq}
-use Rattle.std.proofs.lemmas.Bool.{and_parts, eq-eqb, eqb-true, false≢true}
-use Rattle.isad_core.specs.Words.{are_numbered_from}
-use Rattle.sqlite.specs.Tree.{Trees}
-use Rattle.tree_core.specs.Forest.{nodes}
-use Rattle.office_tables.specs.Versions.{Version}
-use Rattle.tree_core.proofs.Lists.{In-permutation}
 use Rattle.tree_core.proofs.Lookups.{any_passes}
-use Rattle.catalogue_core.specs.CatalogueCauses.{MeetsCatalogueKeys}
-use Rattle.catalogue_core.specs.CatalogueRows.{UnitRow, ContainerRow, unit_row}
-use Rattle.catalogue_core.specs.Units.{has_id}
-use Rattle.desk_core.specs.DeskCauses.{MeetsDeskKeys, are_good_holdings}
-use Rattle.desk_core.specs.DeskRows.{Desk, HoldingRow}
+use Rattle.catalogue_core.specs.CatalogueRows.{unit_row}
 use Rattle.office_core.specs.State.{State, is_container}
-use Rattle.state_encoding.proofs.CellCauses.{legible_rows}
-use Rattle.state_encoding.proofs.DeskParts.{ReaderParts, OrdersParts, not_bad, said_container}
-use Rattle.state_encoding.proofs.Members.{in_map, some_in}
 use Rattle.state_encoding.proofs.SaidOrders.{HoldingParts, holding_parts, place_cases, said_filed, orders_again}
 use Rattle.state_encoding.proofs.SaidPlaces.{said_orders, order_days, holdings_again}
 use Rattle.state_encoding.proofs.SaidReaders.{said_readers, reader_days, readers_again, said_seats, seats_again, said_permits, permit_days, permits_placed, permits_again}
-use Rattle.state_encoding.proofs.SaidRuns.{RunParts, said_runs, run_days, runs_again, lines_again}
 use Rattle.state_encoding.proofs.SaidTexts.{texts_said}
 use Rattle.state_encoding.proofs.told.ToldCatalogue.{catalogue_is_said, no_cause}
-use Rattle.state_encoding.specs.CellCauses.{rows_in}
-use Rattle.state_encoding.specs.Causes.{around, catalogue_cause}
 use Rattle.state_encoding.specs.DeskSoundness.{HasGoodCatalogue}
 use Rattle.state_encoding.specs.RowSoundness.{IsCatalogueOf, IsSoundCatalogue}
-use Rattle.state_encoding.specs.OfficeRows.{OfficeRows, state_of, tables}
-use Rattle.adoption.specs.Tables.{IsSoundButForTheDay}
+use Rattle.adoption.proofs.Common.{ContainerRow, Desk, HoldingRow, In-permutation, IsSoundButForTheDay, MeetsCatalogueKeys, MeetsDeskKeys, OfficeRows, OrdersParts, ReaderParts, RunParts, Trees, UnitRow, Version, and_parts, are_good_holdings, are_numbered_from, around, catalogue_cause, eq-eqb, eqb-true, false≢true, has_id, in_map, legible_rows, lines_again, nodes, not_bad, rows_in, run_days, runs_again, said_container, said_runs, some_in, state_of, tables}
 use Rattle.adoption.proofs.desk.ShownDesk.{reader_facts, order_facts, run_facts}
 use Rattle.adoption.proofs.tables.Causeless.{ArePassed}
 
-good_catalogue : (version : Version) (t : OfficeRows) → IsSoundCatalogue (state_of t) → IsCatalogueOf version t (state_of t) → catalogue_cause version t ≡ None → HasGoodCatalogue t
+good_catalogue : (version : Version) (t : OfficeRows) → IsSoundCatalogue (state_of t)
+    → IsCatalogueOf version t (state_of t) → catalogue_cause version t ≡ None → HasGoodCatalogue t
 good_catalogue version t sound rows none = record {
   containers = (and_parts (are_numbered_from (λ (row : ContainerRow). row.id) 1 t.catalogue.containers) _ (no_cause version t none).containers).0;
   apart = sound.boxes;
@@ -42,7 +26,8 @@ good_catalogue version t sound rows none = record {
       any_passes (has_id u) units r.0 r.1 (eq-eqb u r.0.id (sym (ap (λ (row : UnitRow). row.id) (sym r.2) ∙ eqb-true f.0.id u f.2)));
 }
 
-same_desk : (a b : Desk) → a.readers ≡ b.readers → a.seats ≡ b.seats → a.orders ≡ b.orders → a.holdings ≡ b.holdings → a.runs ≡ b.runs → a.run_lines ≡ b.run_lines → a.permits ≡ b.permits → a ≡ b
+same_desk : (a b : Desk) → a.readers ≡ b.readers → a.seats ≡ b.seats → a.orders ≡ b.orders → a.holdings ≡ b.holdings
+    → a.runs ≡ b.runs → a.run_lines ≡ b.run_lines → a.permits ≡ b.permits → a ≡ b
 same_desk a b p q r s t u v = λ i. record { readers = p i; seats = q i; orders = r i; holdings = s i; runs = t i; run_lines = u i; permits = v i }
 
 module _ (version : Version) (db : Trees) (passed : ArePassed version db) (named : MeetsCatalogueKeys (rows_in version db).catalogue) (keys : MeetsDeskKeys (rows_in version db).desk) where
@@ -74,7 +59,8 @@ module _ (version : Version) (db : Trees) (passed : ArePassed version db) (named
   said_again v =
       same_desk (tables v s).desk t.desk (readers_again t keys r) (seats_again t keys r) (orders_again t keys o q) (holdings_again t keys q c) (runs_again t keys o p) (lines_again t keys o p) (permits_again t keys r)
 
-  pub holding_known : (row : HoldingRow) → Rattle.catalogue_core.specs.Members.StandsIn row t.desk.holdings → is_container s row.container ≡ true
+  pub holding_known : (row : HoldingRow) → Rattle.catalogue_core.specs.Members.StandsIn row t.desk.holdings
+      → is_container s row.container ≡ true
   holding_known row k = said_container t row.container c.containers ∙ q.there row k
 
   pub sound_but : IsSoundButForTheDay s

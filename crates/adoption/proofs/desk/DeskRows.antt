@@ -1,16 +1,6 @@
 -- A whole row of a table of the desk that can be read has the cells of what is read.
 use Rattle.std.proofs.Common.{◌≡◌, ℤ, pos, ◌∷◌, Some, refl, ap, ap₂, ◌∙◌}
-use Rattle.sqlite.specs.Order.{Row, column}
-use Rattle.sqlite.specs.declared.types.Value.{Value}
-use Rattle.sqlite.specs.declared.types.Value.TheVariants.{Int}
-use Rattle.desk_core.specs.DeskRows.{ReaderRow, SeatRow, OrderRow, HoldingRow, RunRow, RunLineRow, PermitRow}
-use Rattle.office_tables.proofs.CellTexts.{from_first}
-use Rattle.office_tables.specs.Cells.{whole_in, number_in, text_in, or_null_in}
-use Rattle.office_tables.specs.DeskCells.{read_reader, read_seat, read_order, read_holding, read_run, read_run_line, read_permit}
-use Rattle.office_tables.specs.Permits.{permit_cells}
-use Rattle.office_tables.specs.RowCells.{reader_cells, seat_cells, order_cells, holding_cells, run_cells, run_line_cells}
-use Rattle.row_decoding.proofs.ToldCells.{is_number, is_whole, is_text, is_or_null}
-use Rattle.row_completeness.proofs.KeptRows.{whole_row}
+use Rattle.adoption.proofs.Common.{HoldingRow, Int, OrderRow, PermitRow, ReaderRow, Row, RunLineRow, RunRow, SeatRow, Value, column, from_first, holding_cells, is_number, is_or_null, is_text, is_whole, number_in, or_null_in, order_cells, permit_cells, read_holding, read_order, read_permit, read_reader, read_run, read_run_line, read_seat, reader_cells, run_cells, run_line_cells, seat_cells, text_in, whole_in, whole_row}
 use Rattle.adoption.proofs.catalogue.Rules.{IsKeyed, IsNumbered}
 
 -- a cell, and those behind it
@@ -101,7 +91,8 @@ line_parts row r h =
       ticket = is_number _ d.0 d.1 ∙ ap (λ (x : RunLineRow). Int (pos x.ticket)) same;
     }
 
-pub run_line_is : (row : Row) (r : RunLineRow) (n : ℤ) → read_run_line row ≡ Some r → column row 0 ≡ Int n → IsNumbered 5 row → row ≡ run_line_cells (n, r)
+pub run_line_is : (row : Row) (r : RunLineRow) (n : ℤ) → read_run_line row ≡ Some r → column row 0 ≡ Int n
+    → IsNumbered 5 row → row ≡ run_line_cells (n, r)
 run_line_is row r n h own whole =
     let it = line_parts row r h in
     whole_row 5 row whole.0 ∙ and_then own (and_then it.run (and_then it.container (and_then it.order_no (and_then it.ticket refl))))
@@ -125,7 +116,8 @@ permit_parts row r h =
       until = is_whole _ c.0 c.1 ∙ ap (λ (x : PermitRow). Int x.until) same;
     }
 
-pub permit_is : (row : Row) (r : PermitRow) (n : ℤ) → read_permit row ≡ Some r → column row 0 ≡ Int n → IsNumbered 4 row → row ≡ permit_cells (n, r)
+pub permit_is : (row : Row) (r : PermitRow) (n : ℤ) → read_permit row ≡ Some r → column row 0 ≡ Int n → IsNumbered 4 row
+    → row ≡ permit_cells (n, r)
 permit_is row r n h own whole =
     let it = permit_parts row r h in
     whole_row 4 row whole.0 ∙ and_then own (and_then it.ticket (and_then it.unit (and_then it.until refl)))

@@ -1,16 +1,8 @@
 -- The desk's tables of a live connection, whose rows stand in order, with none of the causes 1 to 9 against them.
 use Rattle.std.proofs.Common.{subst}
-use Rattle.std.specs.List.{AllByRecursion}
-use Rattle.sqlite.specs.Effect.{Database}
-use Rattle.sqlite.specs.Schema.{Schema}
-use Rattle.sqlite.specs.Table.{Table}
-use Rattle.sqlite_schema.specs.Rules.{Obeys}
-use Rattle.office_tables.specs.Versions.{Version}
-use Rattle.office_tables.specs.Schema.{schema}
 use Rattle.adoption.specs.Desk.{RowsRepresentTheDesk}
-use Rattle.adoption.specs.SoundTables.{AreGoodTables}
 use Rattle.row_completeness.proofs.FullRows.{whole_tables}
-use Rattle.row_completeness.specs.WholeRows.{IsWholeTable}
+use Rattle.adoption.proofs.Common.{AllByRecursion, AreGoodTables, Database, IsWholeTable, Obeys, Schema, Table, Version, schema}
 use Rattle.adoption.proofs.desk.KeptDesk.{keys}
 use Rattle.adoption.proofs.desk.ShownDesk.{shows_desk}
 use Rattle.adoption.proofs.tables.Causeless.{ArePassed, are_passed}

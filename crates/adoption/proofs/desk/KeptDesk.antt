@@ -1,33 +1,13 @@
 -- What a live connection tells of the desk's tables, when they are whole and all of their rows can be read: each has the cells of the
 -- rows that are read, and these have their keys.
 use Rattle.std.proofs.Common.{◌≡◌, ℕ, length, List, [], ◌∷◌, true, false, not, ◌&&◌, inl, inr, IsTrue, filter_map, nat_eq, refl, sym, ap, subst, ◌∙◌, arith}
-use Rattle.std.specs.List.{AllByRecursion}
-use Rattle.std.proofs.lemmas.Bool.{and_parts, eq-eqb, false≢true, not-true}
-use Rattle.sqlite.specs.Ops.{is_null}
-use Rattle.sqlite.specs.Order.{Row}
-use Rattle.sqlite.specs.Table.{Table}
-use Rattle.sqlite.specs.Tree.{Trees, rowid}
 use Rattle.sqlite_catalog.specs.Listing.{automatic}
-use Rattle.sqlite_schema.specs.Rules.{clashes, guards, passes, Obeys}
-use Rattle.sqlite_schema.specs.declared.schema.Constraint.TheVariants.{Datatype, Unique}
+use Rattle.sqlite_schema.specs.Rules.{passes}
 use Rattle.sqlite_schema.specs.declared.schema.Index.{Index}
-use Rattle.sqlite_trees.proofs.ListLemmas.{all_both, all_weaker}
-use Rattle.sqlite_trees.specs.View.{is_int}
-use Rattle.office_tables.specs.Versions.{Version}
 use Rattle.catalogue_core.specs.Members.{StandsIn}
-use Rattle.desk_core.specs.DeskCauses.{AreInOrder, MeetsDeskKeys}
-use Rattle.desk_core.specs.DeskRows.{Desk, ReaderRow, SeatRow, OrderRow, HoldingRow, RunRow, RunLineRow, PermitRow}
 use Rattle.state_encoding.proofs.Grouped.{order_weaker}
-use Rattle.state_encoding.proofs.Members.{test_in}
-use Rattle.row_decoding.specs.TableRows.{then_by}
-use Rattle.state_encoding.specs.CellCauses.{rows_in}
-use Rattle.office_tables.specs.DeskCells.{read_reader, read_seat, read_order, read_holding, read_run, read_run_line, read_permit}
-use Rattle.office_tables.specs.RowNumbers.{HasNumbered}
-use Rattle.office_tables.specs.Permits.{permit_cells}
-use Rattle.office_tables.specs.RowCells.{reader_cells, seat_cells, order_cells, holding_cells, run_cells, run_line_cells}
 use Rattle.office_tables.specs.Schema as tables
-use Rattle.office_tables.specs.Schema.{schema}
-use Rattle.row_completeness.specs.WholeRows.{IsWholeTable}
+use Rattle.adoption.proofs.Common.{AllByRecursion, AreInOrder, Datatype, Desk, HasNumbered, HoldingRow, IsWholeTable, MeetsDeskKeys, Obeys, OrderRow, PermitRow, ReaderRow, Row, RunLineRow, RunRow, SeatRow, Table, Trees, Unique, Version, all_both, all_weaker, and_parts, clashes, eq-eqb, false≢true, guards, holding_cells, is_int, is_null, not-true, order_cells, permit_cells, read_holding, read_order, read_permit, read_reader, read_run, read_run_line, read_seat, reader_cells, rowid, rows_in, run_cells, run_line_cells, schema, seat_cells, test_in, then_by}
 use Rattle.adoption.proofs.catalogue.Rules.{IsKeyed, IsNumbered, rows_keyed}
 use Rattle.adoption.proofs.desk.DeskRows.{reader_is, seat_is, order_is, holding_is, run_is, run_line_is, permit_is, seat_parts, line_parts, permit_parts}
 use Rattle.adoption.proofs.tables.Causeless.{IsDeskRead}
@@ -36,8 +16,10 @@ use Rattle.adoption.proofs.tables.RowsStored.{AreStored, stored, numbered, stays
 use Rattle.adoption.proofs.tables.UniqueRows.{AreUnique, apart_in_one, apart_in_two}
 
 -- a row has a number of its own
-with_numbers : (n : ℕ) (rows : List Row) → AllByRecursion (λ row. length row ≡ n) rows → AllByRecursion (λ row. IsTrue (is_int (rowid row))) rows → AllByRecursion (IsNumbered n) rows
-with_numbers n rows long own = all_both (λ row. length row ≡ n) (λ row. IsTrue (is_int (rowid row))) (IsNumbered n) (λ row l k. (l, k)) rows long own
+with_numbers : (n : ℕ) (rows : List Row) → AllByRecursion (λ row. length row ≡ n) rows
+    → AllByRecursion (λ row. IsTrue (is_int (rowid row))) rows → AllByRecursion (IsNumbered n) rows
+with_numbers n rows long own =
+    all_both (λ row. length row ≡ n) (λ row. IsTrue (is_int (rowid row))) (IsNumbered n) (λ row l k. (l, k)) rows long own
 
 module _ (version : Version) (db : Trees) (obeys : Obeys (schema version) db) (whole : AllByRecursion (λ (table : Table). IsWholeTable table (db table.tree)) (schema version).tables) (all : IsDeskRead db) where
   abbrev d : Desk
@@ -94,7 +76,8 @@ module _ (version : Version) (db : Trees) (obeys : Obeys (schema version) db) (w
   -- ---- what is unique
 
   -- a unique index of the table
-  guarded : (table : Table) (index : Index) (rows : List Row) → StandsIn index (schema version).indexes → guards index table ≡ true → AllByRecursion (λ row. passes Unique (schema version) db table row ≡ true) rows
+  guarded : (table : Table) (index : Index) (rows : List Row) → StandsIn index (schema version).indexes
+      → guards index table ≡ true → AllByRecursion (λ row. passes Unique (schema version) db table row ≡ true) rows
       → AllByRecursion (λ row. clashes index.order index.columns (db table.tree) row ≡ false) rows
   guarded table index rows there guard keeps =
       all_weaker (λ row. passes Unique (schema version) db table row ≡ true) (λ row. clashes index.order index.columns (db table.tree) row ≡ false)

@@ -1,24 +1,7 @@
 -- Tables of a desk against which there is no cause show the desk of their rows.
 use Rattle.std.proofs.Common.{◌≡◌, ℕ, suc, ◌+◌, ◌<◌, ◌≤◌, length, List, [], ◌∷◌, true, nat_eq, inl, inr, arith}
-use Rattle.std.specs.List.{AllByRecursion, list_any}
-use Rattle.std.proofs.lemmas.Bool.{and_parts, eqb-true, false≢true, or_cases}
-use Rattle.sqlite.specs.Table.{Table}
-use Rattle.sqlite.specs.Tree.{Trees}
-use Rattle.sqlite_schema.specs.Rules.{Obeys}
-use Rattle.isad_core.specs.Words.{are_numbered_from}
-use Rattle.office_tables.specs.Versions.{Version}
-use Rattle.desk_core.specs.DeskCauses.{are_good_readers, are_good_orders, are_good_runs}
-use Rattle.desk_core.specs.DeskRows.{ReaderRow, OrderRow, RunRow, RunLineRow, PermitRow}
 use Rattle.desk_store.specs.Representation.{IsNumberOf, RepresentsDesk}
-use Rattle.state_encoding.proofs.DeskParts.{ReaderParts, OrdersParts, not_bad, reader_parts, orders_parts}
-use Rattle.state_encoding.proofs.Members.{all_of_in}
-use Rattle.state_encoding.proofs.SaidRuns.{RunParts, run_parts}
-use Rattle.state_encoding.specs.CellCauses.{rows_in}
-use Rattle.state_encoding.specs.Causes.{around}
-use Rattle.state_encoding.specs.OfficeRows.{OfficeRows}
-use Rattle.office_tables.specs.RowNumbers.{AreCountedFrom}
-use Rattle.office_tables.specs.Schema.{schema}
-use Rattle.row_completeness.specs.WholeRows.{IsWholeTable}
+use Rattle.adoption.proofs.Common.{AllByRecursion, AreCountedFrom, IsWholeTable, Obeys, OfficeRows, OrderRow, OrdersParts, PermitRow, ReaderParts, ReaderRow, RunLineRow, RunParts, RunRow, Table, Trees, Version, all_of_in, and_parts, are_good_orders, are_good_readers, are_good_runs, are_numbered_from, around, eqb-true, false≢true, list_any, not_bad, or_cases, orders_parts, reader_parts, rows_in, run_parts, schema}
 use Rattle.adoption.proofs.desk.KeptDesk.{readers, seats, orders, holdings, runs, run_lines, permits}
 use Rattle.adoption.proofs.tables.Causeless.{ArePassed}
 
@@ -28,7 +11,8 @@ module _ {R : Type 0} (number : R → ℕ) where
   counted n (r ∷ rows) h = let p = and_parts (nat_eq (number r) n) (are_numbered_from number (suc n) rows) h in (eqb-true (number r) n p.0, counted (suc n) rows p.1)
 
   -- a row that is there has one of the numbers
-  within : (n m : ℕ) (rows : List R) → are_numbered_from number n rows ≡ true → list_any (λ r. nat_eq (number r) m) rows ≡ true → (n ≤ m) × (m < n + length rows)
+  within : (n m : ℕ) (rows : List R) → are_numbered_from number n rows ≡ true
+      → list_any (λ r. nat_eq (number r) m) rows ≡ true → (n ≤ m) × (m < n + length rows)
   within n m [] h there = absurd (false≢true there)
   within n m (r ∷ rows) h there =
       let p = and_parts (nat_eq (number r) n) (are_numbered_from number (suc n) rows) h in
@@ -38,7 +22,8 @@ module _ {R : Type 0} (number : R → ℕ) where
         | inr later ↦ let w = within (suc n) m rows p.1 later in let low = w.0 in let high = w.1 in (omega (arith, low), omega (arith, high))
       ]
 
-  number_of : (m : ℕ) (rows : List R) → are_numbered_from number 1 rows ≡ true → list_any (λ r. nat_eq (number r) m) rows ≡ true → IsNumberOf rows m
+  number_of : (m : ℕ) (rows : List R) → are_numbered_from number 1 rows ≡ true
+      → list_any (λ r. nat_eq (number r) m) rows ≡ true → IsNumberOf rows m
   number_of m rows h there = let w = within 1 m rows h there in let high = w.1 in (w.0, omega (arith, high))
 
 module _ (version : Version) (db : Trees) (passed : ArePassed version db) where

@@ -1,21 +1,7 @@
 -- What it means, table by table, that none of the causes 1 to 9 holds of the rows of tables.
 use Rattle.std.proofs.Common.{◌≡◌, Bool, true, false, ◌||◌, [], ◌∷◌, None, refl}
-use Rattle.std.specs.List.{AllByRecursion}
-use Rattle.std.proofs.lemmas.Bool.{or_parts}
-use Rattle.sqlite.specs.Tree.{Trees}
-use Rattle.office_tables.specs.Versions.{Version, encoding}
-use Rattle.catalogue_core.specs.CatalogueCauses.{places_are_bad, units_are_bad, elements_are_bad, containers_are_bad}
-use Rattle.desk_core.specs.DeskCauses.{readers_are_bad, orders_are_bad, holdings_are_bad, runs_are_bad}
-use Rattle.state_encoding.proofs.Judging.{hold_none}
-use Rattle.row_decoding.specs.TableRows.{places_are_unread}
-use Rattle.state_encoding.specs.CellCauses.{rows_in, unread, cell_cause}
-use Rattle.state_encoding.specs.Causes.{around, catalogue_cause, day_is_broken, first_held, office_is_bad}
-use Rattle.state_encoding.specs.OfficeRows.{OfficeRows}
-use Rattle.office_tables.specs.Cells.{has_unread}
-use Rattle.office_tables.specs.CatalogueCells.{read_office, read_unit, read_element, read_container, read_housing}
-use Rattle.office_tables.specs.DeskCells.{read_reader, read_seat, read_order, read_holding, read_run, read_run_line, read_permit}
 use Rattle.office_tables.specs.Schema as tables
-use Rattle.adoption.specs.DeskCheck.{catalogue_cell_cause, of_desk}
+use Rattle.adoption.proofs.Common.{AllByRecursion, OfficeRows, Trees, Version, around, catalogue_cause, catalogue_cell_cause, cell_cause, containers_are_bad, day_is_broken, elements_are_bad, encoding, first_held, has_unread, hold_none, holdings_are_bad, of_desk, office_is_bad, or_parts, orders_are_bad, places_are_bad, places_are_unread, read_container, read_element, read_holding, read_housing, read_office, read_order, read_permit, read_reader, read_run, read_run_line, read_seat, read_unit, readers_are_bad, rows_in, runs_are_bad, units_are_bad, unread}
 
 -- ---- nine of ten tests do not hold
 
@@ -30,7 +16,8 @@ record NoneOfNine (a b c d e f g h i : Bool) : Type 0 where
   eight : h ≡ false
   nine : i ≡ false
 
-none_of_nine : (a b c d e f g h i j : Bool) → first_held (a ∷ b ∷ c ∷ d ∷ e ∷ []) ≡ None → of_desk (first_held (a ∷ b ∷ c ∷ d ∷ e ∷ f ∷ g ∷ h ∷ i ∷ j ∷ [])) ≡ None → NoneOfNine a b c d e f g h i
+none_of_nine : (a b c d e f g h i j : Bool) → first_held (a ∷ b ∷ c ∷ d ∷ e ∷ []) ≡ None
+    → of_desk (first_held (a ∷ b ∷ c ∷ d ∷ e ∷ f ∷ g ∷ h ∷ i ∷ j ∷ [])) ≡ None → NoneOfNine a b c d e f g h i
 none_of_nine true b c d e f g h i j first desk = absurd (cc)
 none_of_nine false true c d e f g h i j first desk = absurd (cc)
 none_of_nine false false true d e f g h i j first desk = absurd (cc)
@@ -43,8 +30,10 @@ none_of_nine false false false false false false false false true j first desk =
 none_of_nine false false false false false false false false false j first desk =
     record { one = refl; two = refl; three = refl; four = refl; five = refl; six = refl; seven = refl; eight = refl; nine = refl }
 
-none_of_five : (a b c d e : Bool) → a ≡ false → b ≡ false → c ≡ false → d ≡ false → e ≡ false → first_held (a ∷ b ∷ c ∷ d ∷ e ∷ []) ≡ None
-none_of_five a b c d e p q r s t = hold_none a (b ∷ c ∷ d ∷ e ∷ []) p (hold_none b (c ∷ d ∷ e ∷ []) q (hold_none c (d ∷ e ∷ []) r (hold_none d (e ∷ []) s (hold_none e [] t refl))))
+none_of_five : (a b c d e : Bool) → a ≡ false → b ≡ false → c ≡ false → d ≡ false → e ≡ false
+    → first_held (a ∷ b ∷ c ∷ d ∷ e ∷ []) ≡ None
+none_of_five a b c d e p q r s t =
+    hold_none a (b ∷ c ∷ d ∷ e ∷ []) p (hold_none b (c ∷ d ∷ e ∷ []) q (hold_none c (d ∷ e ∷ []) r (hold_none d (e ∷ []) s (hold_none e [] t refl))))
 
 -- ---- of tables
 
@@ -96,7 +85,8 @@ module _ (version : Version) (db : Trees) where
       (false || day_is_broken t)
       first desk
 
-  pub are_passed : catalogue_cell_cause version db ≡ None → of_desk (cell_cause version db) ≡ None → ArePassed version db
+  pub are_passed : catalogue_cell_cause version db ≡ None → of_desk (cell_cause version db) ≡ None
+      → ArePassed version db
   are_passed first desk =
       let it = none_holds first desk in
       let office = or_parts (has_unread read_office (db tables.office.tree)) (office_is_bad version t) it.one in

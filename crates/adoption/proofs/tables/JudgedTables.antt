@@ -1,29 +1,17 @@
 -- Of a state that is sound but for the rules of the day, and whose rows of the desk have been judged, it can be told who may see what.
 use Rattle.std.proofs.Common.{◌≡◌, ◌<◌, ◌^◌, true, sym, subst, inr, arith}
-use Rattle.std.specs.Prelude.{IsUtf8}
-use Rattle.sqlite.specs.Tree.{Trees}
 use Rattle.isad_core.proofs.DayLemmas.{is_day_number-true}
 use Rattle.isad_core.specs.Days.{is_day_number}
-use Rattle.office_tables.specs.Versions.{Version}
 use Rattle.catalogue_core.proofs.KeptCatalogues.{kept, knows}
-use Rattle.catalogue_core.specs.CatalogueCauses.{MeetsCatalogueKeys}
 use Rattle.catalogue_core.specs.Members.{StandsIn}
-use Rattle.desk_core.specs.DeskCauses.{MeetsDeskKeys}
-use Rattle.desk_core.specs.DeskRows.{ReaderRow, SeatRow, HoldingRow, RunRow, PermitRow}
 use Rattle.desk_core.specs.LegibleDesks.{IsKnownPlace, IsLegible, IsLegibleHolding, IsLegibleOrder, IsLegibleReader}
 use Rattle.office_core.proofs.Words.{numbered_within}
 use Rattle.office_core.specs.State.{State}
-use Rattle.state_encoding.proofs.CellCauses.{legible_rows}
 use Rattle.state_encoding.proofs.DeskLookups.{is_between_so}
-use Rattle.state_encoding.proofs.DeskParts.{ReaderParts, OrdersParts}
-use Rattle.state_encoding.proofs.Members.{all_in, all_of_in}
 use Rattle.state_encoding.proofs.SaidOrders.{HoldingKind, AtDesk, OutWith}
-use Rattle.state_encoding.proofs.SaidRuns.{RunParts}
-use Rattle.state_encoding.specs.CellCauses.{rows_in}
-use Rattle.state_encoding.specs.OfficeRows.{OfficeRows, state_of}
 use Rattle.refinement.proofs.Judged.{distinct_ids, orders_there}
 use Rattle.refinement.specs.AccessConditions.{CanBeJudged}
-use Rattle.adoption.specs.Tables.{IsSoundButForTheDay}
+use Rattle.adoption.proofs.Common.{HoldingRow, IsSoundButForTheDay, IsUtf8, MeetsCatalogueKeys, MeetsDeskKeys, OfficeRows, OrdersParts, PermitRow, ReaderParts, ReaderRow, RunParts, RunRow, SeatRow, Trees, Version, all_in, all_of_in, legible_rows, rows_in, state_of}
 use Rattle.adoption.proofs.desk.Again.{q, said_again, holding_known, sound_but}
 use Rattle.adoption.proofs.desk.ShownDesk.{reader_facts, order_facts, run_facts}
 use Rattle.adoption.proofs.tables.Causeless.{ArePassed}

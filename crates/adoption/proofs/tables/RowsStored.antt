@@ -1,22 +1,6 @@
 -- A table whose rows are whole and can all be read has the cells of what is read, in the order of its key.
 use Rattle.std.proofs.Common.{◌≡◌, ℕ, ℤ, pos, ◌<◌, List, [], ◌∷◌, map, Bool, false, Option, Some, Less, filter_map, sym, ap, subst, ◌∙◌, IsTrue}
-use Rattle.std.specs.List.{AllByRecursion}
-use Rattle.std.specs.Ordering.{int_cmp}
-use Rattle.std.proofs.lemmas.List.Sorted.{IsPermutation-sym, IsPermutation-trans}
-use Rattle.sqlite.specs.Order.{Row, column}
-use Rattle.sqlite.specs.Tree.{IsAscending, IsTable}
-use Rattle.sqlite.specs.declared.types.Value.TheVariants.{Int}
-use Rattle.sqlite_trees.proofs.ListLemmas.{all_weaker}
-use Rattle.sqlite_trees.specs.View.{is_int}
-use Rattle.desk_core.proofs.OrderLemmas.{in_order-permutation}
-use Rattle.desk_core.specs.DeskCauses.{AreInOrder}
-use Rattle.desk_core.specs.Orders.{in_order}
-use Rattle.row_decoding.specs.TableRows.{by}
-use Rattle.office_tables.proofs.numbered.Counted.{less_below}
-use Rattle.office_tables.specs.Cells.{has_unread}
-use Rattle.office_tables.specs.RowNumbers.{AreByNumber, HasNumbered}
-use Rattle.row_completeness.proofs.KeptRows.{has_numbered, rows_kept, rows_rise}
-use Rattle.row_completeness.proofs.UniqueRows.{stay_in_order}
+use Rattle.adoption.proofs.Common.{AllByRecursion, AreByNumber, AreInOrder, HasNumbered, Int, IsAscending, IsPermutation-sym, IsPermutation-trans, IsTable, Row, all_weaker, by, column, has_numbered, has_unread, in_order, in_order-permutation, int_cmp, is_int, less_below, rows_kept, rows_rise, stay_in_order}
 
 -- ---- orders
 
@@ -27,7 +11,8 @@ in_order_so R (x ∷ xs) up = (up.0, in_order_so R xs up.1)
 
 rise_by : {R : Type 0} (key : R → ℕ) (rows : List R) → AreByNumber key rows → AreInOrder (λ a b. key a < key b) rows
 rise_by key [] up = tt
-rise_by key (r ∷ rows) up = (all_weaker (λ x. int_cmp (pos (key r)) (pos (key x)) ≡ Less) (λ x. key r < key x) (λ x less. less_below (key r) (key x) less) rows up.0, rise_by key rows up.1)
+rise_by key (r ∷ rows) up =
+    (all_weaker (λ x. int_cmp (pos (key r)) (pos (key x)) ≡ Less) (λ x. key r < key x) (λ x less. less_below (key r) (key x) less) rows up.0, rise_by key rows up.1)
 
 -- ---- rows by the key that is their number
 
@@ -43,10 +28,12 @@ module _ {R : Type 0} (read : Row → Option R) (cells : R → Row) (P : Row →
     rise whole up = rows_rise read (λ r. pos (key r)) P (λ row r e fit. ap (λ (x : Row). column x 0) (is row r e fit) ∙ keyed r) there up whole
 
     -- taken by their key they stand as they do in the table
-    pub stays : AllByRecursion P there → IsTable there → in_order (by key) (filter_map read there) ≡ filter_map read there
+    pub stays : AllByRecursion P there → IsTable there
+        → in_order (by key) (filter_map read there) ≡ filter_map read there
     stays whole up = stay_in_order key (filter_map read there) (rise whole up)
 
-    pub stored : has_unread read there ≡ false → AllByRecursion P there → IsTable there → AreStored cells key there (in_order (by key) (filter_map read there))
+    pub stored : has_unread read there ≡ false → AllByRecursion P there → IsTable there
+        → AreStored cells key there (in_order (by key) (filter_map read there))
     stored all whole up =
         subst (AreStored cells key there) (sym (stays whole up))
         (record { are = rows_kept read cells P is there all whole; by_number = rise whole up; rise = rise_by key (filter_map read there) (rise whole up) })
@@ -54,9 +41,11 @@ module _ {R : Type 0} (read : Row → Option R) (cells : R → Row) (P : Row →
 -- ---- rows with a number of their own
 
 -- in whatever order they are taken
-pub numbered : {R : Type 0} (read : Row → Option R) (cells : ℤ × R → Row) (P : Row → Type 0) → ((row : Row) → P row → IsTrue (is_int (column row 0)))
+pub numbered : {R : Type 0} (read : Row → Option R) (cells : ℤ × R → Row) (P : Row → Type 0)
+    → ((row : Row) → P row → IsTrue (is_int (column row 0)))
     → ((row : Row) (r : R) (n : ℤ) → read row ≡ Some r → column row 0 ≡ Int n → P row → row ≡ cells (n, r))
-    → (before : R → R → Bool) (there : List Row) → has_unread read there ≡ false → AllByRecursion P there → IsTable there → HasNumbered cells there (in_order before (filter_map read there))
+    → (before : R → R → Bool) (there : List Row) → has_unread read there ≡ false → AllByRecursion P there
+    → IsTable there → HasNumbered cells there (in_order before (filter_map read there))
 numbered read cells P own is before there all whole up =
     let it = has_numbered read P own cells is there all up whole in
     let rows = filter_map read there in

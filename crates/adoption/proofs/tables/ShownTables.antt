@@ -1,27 +1,17 @@
 -- Tables that show the catalogue of their rows show all of the state that these say.
 use Rattle.std.proofs.Common.{◌≡◌, ℕ, None, sym, ap, subst}
 use Rattle.std.specs.Prelude.{drop}
-use Rattle.sqlite.specs.Effect.{Database}
-use Rattle.sqlite.specs.Tree.{Trees}
-use Rattle.tree_core.specs.Forest.{Forest}
-use Rattle.office_tables.specs.Versions.{Version}
 use Rattle.desk_store.specs.Representation.{RepresentsDesk}
-use Rattle.state_encoding.proofs.CellCauses.{cells_are_said}
-use Rattle.state_encoding.proofs.Judging.{none_before}
-use Rattle.state_encoding.specs.CellCauses.{rows_in, unread, either_of, cell_cause}
-use Rattle.state_encoding.specs.Causes.{catalogue_tests, desk_tests}
-use Rattle.adoption.specs.DeskCheck.{catalogue_cell_cause, of_desk}
-use Rattle.adoption.specs.Catalogue.{RepresentsItsCatalogue}
 use Rattle.adoption.specs.Desk.{RepresentsItsDesk}
-use Rattle.adoption.specs.SoundTables.{AreGoodTables, AreSoundTables}
-use Rattle.adoption.specs.Tables.{RepresentsAGoodState, RepresentsItsState}
+use Rattle.adoption.proofs.Common.{AreGoodTables, AreSoundTables, Database, Forest, RepresentsAGoodState, RepresentsItsCatalogue, RepresentsItsState, Trees, Version, catalogue_cell_cause, catalogue_tests, cell_cause, cells_are_said, desk_tests, either_of, none_before, of_desk, rows_in, unread}
 use Rattle.adoption.proofs.desk.Again.{said_again, sound_but}
 use Rattle.adoption.proofs.desk.DeskTables.{passed, desk_shown}
 use Rattle.adoption.proofs.tables.JudgedTables.{can_be_judged}
 
 -- without any cause, none of the first holds
 first_five : (version : Version) (db : Trees) → cell_cause version db ≡ None → catalogue_cell_cause version db ≡ None
-first_five version db none = none_before (either_of (unread version db) (catalogue_tests version (rows_in version db))) (either_of (drop 5 (unread version db)) (desk_tests (rows_in version db))) none
+first_five version db none =
+    none_before (either_of (unread version db) (catalogue_tests version (rows_in version db))) (either_of (drop 5 (unread version db)) (desk_tests (rows_in version db))) none
 
 pub sound_are_good : (version : Version) (db : Database) → AreSoundTables version db → AreGoodTables version db
 sound_are_good version db sound = record {

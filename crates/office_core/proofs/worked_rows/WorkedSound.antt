@@ -1,37 +1,24 @@
 -- The row on permits, and that its office is sound.
 use Rattle.std.proofs.Common.{◌≡◌, ℕ, zero, suc, ◌+◌, ◌<◌, ◌≤◌, Bool, true, false, not, ◌&&◌, List, [], ◌∷◌, length, map, Some, refl, sym, ap, subst, inl, inr, arith}
-use Rattle.std.specs.Prelude.{nat_eq, nat_le, codes, decimal}
 use Rattle.std.specs.Fmt.{digits}
-use Rattle.std.specs.List.{list_all, AllByRecursion, IsDistinct}
-use Rattle.std.specs.Str.{bytes_eq}
-use Rattle.std.proofs.lemmas.Bool.{cases_Bool, cases_eq, eq-eqb, ne_eqb, leb-true, not-true, or_left, or_right, and_parts, false≢true}
+use Rattle.std.specs.List.{IsDistinct}
 use Rattle.std.proofs.lemmas.Fmt.{decimal_injective}
-use Rattle.std.proofs.lemmas.Int.{ints}
 use Rattle.std.proofs.lemmas.Slice.Eq.{bytes_eq-Decides}
-use Rattle.isad_core.specs.Texts.{is_blank_text}
-use Rattle.isad_core.specs.Days.{IsDayNumber}
-use Rattle.tree_core.specs.Forest.{nodes, size}
-use Rattle.catalogue_core.specs.Units.{Unit}
-use Rattle.office_core.specs.Words.{nth}
-use Rattle.office_core.specs.State.{Reader, Permit, is_ticket}
-use Rattle.catalogue_core.specs.UnitLookup.{has_unit}
 use Rattle.catalogue_core.specs.ContainerContents.{is_open}
-use Rattle.catalogue_core.specs.Moves.{height}
 use Rattle.office_core.specs.Rules.{is_name}
-use Rattle.isad_core.specs.Limits.{most_bytes, most_permits}
-use Rattle.office_core.specs.SoundDesk.{ByUnit, IsSoundDesk}
-use Rattle.catalogue_core.specs.GoodCatalogues.{IsSomeDay, IsGoodUnit, is_same_unit, AreGoodUnits}
-use Rattle.office_core.specs.Soundness.{IsSound}
 use Rattle.office_core.specs.WorkedReplies.{MostPermits}
 use Rattle.office_core.specs.WorkedExamples.{office, march_1, march_31, year_end, titled, units_from, permits_from, with_most_permits}
+use Rattle.office_core.proofs.Common.{AllByRecursion, AreGoodUnits, ByUnit, IsDayNumber, IsGoodUnit, IsSomeDay, IsSound, IsSoundDesk, Permit, Reader, Unit, and_parts, bytes_eq, cases_Bool, cases_eq, codes, decimal, eq-eqb, false≢true, has_unit, height, ints, is_blank_text, is_same_unit, is_ticket, leb-true, list_all, most_bytes, most_permits, nat_eq, nat_le, ne_eqb, nodes, not-true, nth, or_left, or_right, size}
 use Rattle.office_core.proofs.Words.{put_each}
 use Rattle.office_core.proofs.SoundDesk.{desk_start, no_value}
 
 -- ---- units side by side
 
-all_units : (P : Unit → Type 0) (first n : ℕ) → ((k : ℕ) → first ≤ k → k < first + n → P (titled k)) → AllByRecursion P (nodes (units_from first n))
+all_units : (P : Unit → Type 0) (first n : ℕ) → ((k : ℕ) → first ≤ k → k < first + n → P (titled k))
+    → AllByRecursion P (nodes (units_from first n))
 all_units P first zero f = tt
-all_units P first (suc n) f = (f first (omega arith) (omega arith), all_units P (suc first) n (λ k l h. f k (omega arith) (omega arith)))
+all_units P first (suc n) f =
+    (f first (omega arith) (omega arith), all_units P (suc first) n (λ k l h. f k (omega arith) (omega arith)))
 
 size-units : (first n : ℕ) → size (units_from first n) ≡ n
 size-units first zero = refl
@@ -46,7 +33,8 @@ unfolding IsDistinct
 numbers_apart first zero = tt
 numbers_apart first (suc n) = (other first (suc first) n (omega arith), numbers_apart (suc first) n)
   where
-    other : (m first n : ℕ) → m < first → AllByRecursion (λ k. nat_eq m k ≡ false) (map (λ (unit : Unit). unit.id) (nodes (units_from first n)))
+    other : (m first n : ℕ) → m < first
+        → AllByRecursion (λ k. nat_eq m k ≡ false) (map (λ (unit : Unit). unit.id) (nodes (units_from first n)))
     other m first zero l = tt
     other m first (suc n) l = (ne_eqb m first (λ e. omega (arith, e, l)), other m (suc first) n (omega arith))
 
@@ -95,7 +83,8 @@ good_unit k h =
       apart = refl;
     }
 
-good_units : (first n : ℕ) → AllByRecursion (λ unit. has_text unit ≡ true) (nodes (units_from first n)) → AllByRecursion (IsGoodUnit []) (nodes (units_from first n))
+good_units : (first n : ℕ) → AllByRecursion (λ unit. has_text unit ≡ true) (nodes (units_from first n))
+    → AllByRecursion (IsGoodUnit []) (nodes (units_from first n))
 good_units first zero h = tt
 good_units first (suc n) h = (good_unit first h.0, good_units (suc first) n h.1)
 
@@ -115,9 +104,12 @@ units_good =
 
 -- ---- permits
 
-all_permits : (P : Permit → Type 0) (first n : ℕ) → ((k : ℕ) → first ≤ k → k < first + n → P (record { unit = k; until = march_31 })) → AllByRecursion P (permits_from first n)
+all_permits : (P : Permit → Type 0) (first n : ℕ)
+    → ((k : ℕ) → first ≤ k → k < first + n → P (record { unit = k; until = march_31 }))
+    → AllByRecursion P (permits_from first n)
 all_permits P first zero f = tt
-all_permits P first (suc n) f = (f first (omega arith) (omega arith), all_permits P (suc first) n (λ k l h. f k (omega arith) (omega arith)))
+all_permits P first (suc n) f =
+    (f first (omega arith) (omega arith), all_permits P (suc first) n (λ k l h. f k (omega arith) (omega arith)))
 
 by_unit : (first n : ℕ) → ByUnit (permits_from first n)
 by_unit first zero = tt
@@ -135,7 +127,8 @@ is_there first (suc n) k l h = elim (cases_eq k first) [
 ]
 
 -- Ann's permits are as these, and no other ticket has one
-each_ticket : (P : ℕ → List Permit → Type 0) → P 1 (permits_from 1 most_permits) → ((t : ℕ) → P t []) → (t : ℕ) → P t (with_most_permits.permits t)
+each_ticket : (P : ℕ → List Permit → Type 0) → P 1 (permits_from 1 most_permits) → ((t : ℕ) → P t []) → (t : ℕ)
+    → P t (with_most_permits.permits t)
 each_ticket P here there = put_each P (λ t. []) 1 (permits_from 1 most_permits) here (λ t ne. there t)
 
 -- ---- all of it

@@ -1,19 +1,7 @@
 -- Rows with numbers of their own that tell nothing: one more, and those that are left.
 use Rattle.std.proofs.Common.{◌≡◌, ◌<◌, ◌+◌, ℤ, List, [], ◌∷◌, ◌++◌, map, filter, length, Bool, false, not, Ordering, refl, ap, subst, ◌∙◌, arith}
-use Rattle.std.specs.List.{AllByRecursion, list_any}
-use Rattle.std.specs.List.Sorted.{IsPermutation, IsSorted}
-use Rattle.std.proofs.lemmas.Bool.{or_parts, or_from}
-use Rattle.std.proofs.lemmas.List.{length-map, get_or-map}
-use Rattle.std.proofs.lemmas.List.Sorted.{IsPermutation-refl, IsPermutation-sym, IsPermutation-trans, IsPermutation-cons, IsPermutation-map, IsPermutation-append_comm}
-use Rattle.sqlite.specs.declared.types.Value.TheVariants.{Int}
-use Rattle.sqlite.specs.Order.{Row}
-use Rattle.sqlite.specs.Edit.{is_taken}
-use Rattle.sqlite.specs.Tree.{rowid, put_row}
-use Rattle.sqlite_trees.proofs.ListLemmas.{map-map, filter-map, IsPermutation-filter, ascending-filter, all-permutation, all-map, all_from_map}
-use Rattle.office_tables.specs.Order.{IsOrdered}
-use Rattle.office_tables.specs.OrderedInsertion.{put_by}
+use Rattle.office_tables.proofs.Common.{AllByRecursion, HasNumbered, Int, IsOrdered, IsPermutation, IsPermutation-append_comm, IsPermutation-cons, IsPermutation-filter, IsPermutation-map, IsPermutation-refl, IsPermutation-sym, IsPermutation-trans, IsSorted, Row, all-map, all-permutation, all_from_map, ascending-filter, filter-map, get_or-map, is_taken, length-map, list_any, map-map, or_from, or_parts, put_by, put_row, rowid}
 use Rattle.office_tables.proofs.Puts.{put_rows, put_rises, put_more, fresh_key}
-use Rattle.office_tables.specs.RowNumbers.{HasNumbered}
 
 -- what no row is, none is in another order
 
@@ -33,38 +21,48 @@ module _ {R : Type 0} (cells : ℤ × R → Row) where
   abbrev told : ℤ × R → R
   told x = x.1
 
-  pub none_numbered : (there : List Row) (rows : List R) (has : HasNumbered cells there rows) (p : R → Bool) → list_any p rows ≡ false → list_any (λ (x : ℤ × R). p x.1) has.numbered ≡ false
+  pub none_numbered : (there : List Row) (rows : List R) (has : HasNumbered cells there rows) (p : R → Bool)
+      → list_any p rows ≡ false → list_any (λ (x : ℤ × R). p x.1) has.numbered ≡ false
   none_numbered there rows has p none =
       each_none (λ (x : ℤ × R). p x.1) has.numbered (all_from_map (λ r. p r ≡ false) told has.numbered (all-permutation (λ r. p r ≡ false) rows (map told has.numbered) has.tell (none_each p rows none)))
 
-  pub all_numbered : (there : List Row) (rows : List R) (has : HasNumbered cells there rows) (P : R → Type 0) → AllByRecursion P rows → AllByRecursion (λ (x : ℤ × R). P x.1) has.numbered
-  all_numbered there rows has P all = all_from_map P told has.numbered (all-permutation P rows (map told has.numbered) has.tell all)
+  pub all_numbered : (there : List Row) (rows : List R) (has : HasNumbered cells there rows) (P : R → Type 0)
+      → AllByRecursion P rows → AllByRecursion (λ (x : ℤ × R). P x.1) has.numbered
+  all_numbered there rows has P all =
+      all_from_map P told has.numbered (all-permutation P rows (map told has.numbered) has.tell all)
 
-  pub all_told : (there : List Row) (rows : List R) (has : HasNumbered cells there rows) (P : R → Type 0) → AllByRecursion (λ (x : ℤ × R). P x.1) has.numbered → AllByRecursion P rows
-  all_told there rows has P all = all-permutation P (map told has.numbered) rows (IsPermutation-sym rows (map told has.numbered) has.tell) (all-map P told has.numbered all)
+  pub all_told : (there : List Row) (rows : List R) (has : HasNumbered cells there rows) (P : R → Type 0)
+      → AllByRecursion (λ (x : ℤ × R). P x.1) has.numbered → AllByRecursion P rows
+  all_told there rows has P all =
+      all-permutation P (map told has.numbered) rows (IsPermutation-sym rows (map told has.numbered) has.tell) (all-map P told has.numbered all)
 
   -- an empty table
   pub none_there : (there : List Row) → there ≡ [] → HasNumbered cells there []
   none_there there none = record { numbered = []; are = none; rise = tt; tell = IsPermutation-refl [] }
 
   -- the table is the same
-  pub still_numbered : (there now : List Row) (rows : List R) → now ≡ there → HasNumbered cells there rows → HasNumbered cells now rows
-  still_numbered there now rows same has = record { numbered = has.numbered; are = same ∙ has.are; rise = has.rise; tell = has.tell }
+  pub still_numbered : (there now : List Row) (rows : List R) → now ≡ there → HasNumbered cells there rows
+      → HasNumbered cells now rows
+  still_numbered there now rows same has =
+      record { numbered = has.numbered; are = same ∙ has.are; rise = has.rise; tell = has.tell }
 
   -- those that the test finds, in whatever order they are read
-  pub kept_permuted : (there : List Row) (rows : List R) (has : HasNumbered cells there rows) (p : R → Bool) (ys : List (ℤ × R)) → IsPermutation (filter (λ (x : ℤ × R). p x.1) has.numbered) ys → IsPermutation (filter p rows) (map told ys)
+  pub kept_permuted : (there : List Row) (rows : List R) (has : HasNumbered cells there rows) (p : R → Bool) (ys : List (ℤ × R))
+      → IsPermutation (filter (λ (x : ℤ × R). p x.1) has.numbered) ys → IsPermutation (filter p rows) (map told ys)
   kept_permuted there rows has p ys same =
       IsPermutation-trans (filter p rows) (map told (filter (λ (x : ℤ × R). p x.1) has.numbered)) (map told ys)
       (subst (IsPermutation (filter p rows)) (filter-map p told has.numbered) (IsPermutation-filter p rows (map told has.numbered) has.tell))
       (IsPermutation-map told (filter (λ (x : ℤ × R). p x.1) has.numbered) ys same)
 
   -- what is told of them
-  pub told_permuted : {T : Type 0} (f : R → T) (there : List Row) (rows : List R) (has : HasNumbered cells there rows) (p : R → Bool) (ys : List (ℤ × R)) → IsPermutation (filter (λ (x : ℤ × R). p x.1) has.numbered) ys
+  pub told_permuted : {T : Type 0} (f : R → T) (there : List Row) (rows : List R) (has : HasNumbered cells there rows) (p : R → Bool) (ys : List (ℤ × R))
+      → IsPermutation (filter (λ (x : ℤ × R). p x.1) has.numbered) ys
       → IsPermutation (map f (filter p rows)) (map (λ (x : ℤ × R). f x.1) ys)
   told_permuted f there rows has p ys same =
       subst (IsPermutation (map f (filter p rows))) (map-map f told ys) (IsPermutation-map f (filter p rows) (map told ys) (kept_permuted there rows has p ys same))
 
-  sorted_told : (cmp : R → R → Ordering) (ys : List (ℤ × R)) → IsSorted (λ x y. cmp x.1 y.1) ys → IsSorted cmp (map told ys)
+  sorted_told : (cmp : R → R → Ordering) (ys : List (ℤ × R)) → IsSorted (λ x y. cmp x.1 y.1) ys
+      → IsSorted cmp (map told ys)
   sorted_told cmp [] sorted = λ k d low high. absurd (omega (arith, high))
   sorted_told cmp (y ∷ ys) sorted = λ k d low high.
       let within : k + 1 < length (y ∷ ys) = rw (length-map (y ∷ ys) told) at high in
@@ -72,12 +70,15 @@ module _ {R : Type 0} (cells : ℤ × R → Row) where
       rw (get_or-map told (y ∷ ys) (k + 1) y d within, get_or-map told (y ∷ ys) k y d before) (sorted k y low within)
 
   -- those that the test finds, in their order
-  pub kept_ordered : (cmp : R → R → Ordering) (there : List Row) (rows : List R) (has : HasNumbered cells there rows) (p : R → Bool) (ys : List (ℤ × R)) → IsOrdered (λ x y. cmp x.1 y.1) (filter (λ (x : ℤ × R). p x.1) has.numbered) ys
+  pub kept_ordered : (cmp : R → R → Ordering) (there : List Row) (rows : List R) (has : HasNumbered cells there rows) (p : R → Bool) (ys : List (ℤ × R))
+      → IsOrdered (λ x y. cmp x.1 y.1) (filter (λ (x : ℤ × R). p x.1) has.numbered) ys
       → IsOrdered cmp (filter p rows) (map told ys)
   kept_ordered cmp there rows has p ys at = (kept_permuted there rows has p ys at.0, sorted_told cmp ys at.1)
 
   -- those that the test does not find
-  pub those_left : (there now : List Row) (rows : List R) (has : HasNumbered cells there rows) (p : R → Bool) → now ≡ map cells (filter (λ (x : ℤ × R). not (p x.1)) has.numbered) → HasNumbered cells now (filter (λ r. not (p r)) rows)
+  pub those_left : (there now : List Row) (rows : List R) (has : HasNumbered cells there rows) (p : R → Bool)
+      → now ≡ map cells (filter (λ (x : ℤ × R). not (p x.1)) has.numbered)
+      → HasNumbered cells now (filter (λ r. not (p r)) rows)
   those_left there now rows has p are = record {
     numbered = filter (λ (x : ℤ × R). not (p x.1)) has.numbered;
     are = are;
@@ -87,7 +88,9 @@ module _ {R : Type 0} (cells : ℤ × R → Row) where
 
   module _ (keyed : (x : ℤ × R) → rowid (cells x) ≡ Int x.0) where
     -- one more, under a number that was free
-    pub one_more : (there now : List Row) (rows : List R) (n : ℤ) (new : R) → HasNumbered cells there rows → now ≡ put_row (cells (n, new)) there → is_taken there (cells (n, new)) ≡ false → HasNumbered cells now (new ∷ rows)
+    pub one_more : (there now : List Row) (rows : List R) (n : ℤ) (new : R) → HasNumbered cells there rows
+        → now ≡ put_row (cells (n, new)) there → is_taken there (cells (n, new)) ≡ false
+        → HasNumbered cells now (new ∷ rows)
     one_more there now rows n new has put free = record {
       numbered = put_by own (n, new) has.numbered;
       are = put ∙ ap (put_row (cells (n, new))) has.are ∙ put_rows cells own keyed (n, new) has.numbered;
@@ -98,7 +101,9 @@ module _ {R : Type 0} (cells : ℤ × R → Row) where
     }
 
     -- in whatever order they are told
-    pub one_at_end : (there now : List Row) (rows : List R) (n : ℤ) (new : R) → HasNumbered cells there rows → now ≡ put_row (cells (n, new)) there → is_taken there (cells (n, new)) ≡ false → HasNumbered cells now (rows ++ new ∷ [])
+    pub one_at_end : (there now : List Row) (rows : List R) (n : ℤ) (new : R) → HasNumbered cells there rows
+        → now ≡ put_row (cells (n, new)) there → is_taken there (cells (n, new)) ≡ false
+        → HasNumbered cells now (rows ++ new ∷ [])
     one_at_end there now rows n new has put free =
         let more = one_more there now rows n new has put free in
         record {

@@ -1,13 +1,7 @@
 -- A row that is taken out and then put again: it stands in place of the one that was there.
 use Rattle.std.proofs.Common.{◌≡◌, ℕ, ◌<◌, pos, true, false, not, nat_eq, List, [], ◌∷◌, filter, Less, Equal, Greater, inl, inr, refl, sym, ap, ◌∙◌, arith}
 use Rattle.std.specs.Prelude.{nat_lt}
-use Rattle.std.specs.List.{AllByRecursion}
-use Rattle.std.specs.Ordering.{int_cmp}
-use Rattle.std.proofs.lemmas.Bool.{cases_Bool, ltb-true}
-use Rattle.std.proofs.lemmas.Bool.Decides.{nat_tests}
-use Rattle.sqlite_trees.proofs.ListLemmas.{all_weaker}
-use Rattle.office_tables.specs.Order.{Rises}
-use Rattle.office_tables.specs.OrderedInsertion.{put_by}
+use Rattle.office_tables.proofs.Common.{AllByRecursion, Rises, all_weaker, cases_Bool, int_cmp, ltb-true, nat_tests, put_by}
 use Rattle.office_tables.proofs.numbered.Counted.{below_less, less_below}
 
 greater : (m n : ℕ) → n < m → int_cmp (pos m) (pos n) ≡ Greater
@@ -20,14 +14,16 @@ equal : (m n : ℕ) → nat_lt m n ≡ false → nat_lt n m ≡ false → int_cm
 equal m n e k = rw (e, k) refl
 
 module _ {A : Type 0} (number : A → ℕ) where
-  all_kept : (n : ℕ) (xs : List A) → AllByRecursion (λ x. n < number x) xs → filter (λ x. not (nat_eq n (number x))) xs ≡ xs
+  all_kept : (n : ℕ) (xs : List A) → AllByRecursion (λ x. n < number x) xs
+      → filter (λ x. not (nat_eq n (number x))) xs ≡ xs
   all_kept n [] h = refl
   all_kept n (x ∷ xs) h =
       let k = h.0 in
       let e : nat_eq n (number x) ≡ false = grind (arith, nat_tests, k) in
       rw e (ap (λ l. x ∷ l) (all_kept n xs h.1))
 
-  put_first : (new : A) (xs : List A) → AllByRecursion (λ x. number new < number x) xs → put_by (λ x. pos (number x)) new xs ≡ new ∷ xs
+  put_first : (new : A) (xs : List A) → AllByRecursion (λ x. number new < number x) xs
+      → put_by (λ x. pos (number x)) new xs ≡ new ∷ xs
   put_first new [] h = refl
   put_first new (x ∷ xs) h = rw (greater (number x) (number new) h.0) refl
 
@@ -46,7 +42,8 @@ module _ {A : Type 0} (number : A → ℕ) where
       | inr not_after ↦
           let e : nat_eq (number new) (number x) ≡ true = grind (arith, nat_tests, not_before, not_after) in
           let above = all_weaker (λ y. int_cmp (pos (number x)) (pos (number y)) ≡ Less) (λ y. number new < number y) (λ y h. let k = less_below (number x) (number y) h in grind (arith, nat_tests, not_after, k)) xs up.0 in
-          let here : put_by (λ x. pos (number x)) new (x ∷ xs) ≡ new ∷ xs = rw (equal (number x) (number new) not_before not_after) refl in
+          let here : put_by (λ x. pos (number x)) new (x ∷ xs) ≡ new ∷ xs =
+          rw (equal (number x) (number new) not_before not_after) refl in
           rw e (ap (put_by (λ x. pos (number x)) new) (all_kept (number new) xs above) ∙ put_first new xs above ∙ sym here)
     ]
   ]

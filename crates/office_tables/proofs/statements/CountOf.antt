@@ -1,25 +1,12 @@
 -- A SELECT that counts the rows of one table, for any of our texts and any records.
 use Rattle.std.proofs.Common.{◌≡◌, ℕ, ◌<◌, ◌^◌, pos, Bool, true, List, [], ◌∷◌, length, map, Result, IfOk, IfErr, ap, ◌∙◌, arith}
-use Rattle.std.specs.List.{count_by, list_all}
 use Rattle.std.proofs.lemmas.Bool.{both_ways}
 use Rattle.std.proofs.lemmas.List.Sums.{count_by-le-length, length-filter}
-use Rattle.std.proofs.lemmas.Result.{IfOk-weaker}
-use Rattle.sqlite.specs.declared.types.Value.TheVariants.{Null, Int}
-use Rattle.sqlite.specs.Order.{Row}
-use Rattle.sqlite.specs.Table.{Table}
-use Rattle.sqlite.specs.Term.{Term, holds}
-use Rattle.sqlite.specs.Query.{inner, end}
-use Rattle.sqlite.specs.Command.TheVariants.{Select}
-use Rattle.sqlite.specs.State.{State, Shown}
-use Rattle.sqlite.proofs.Callers.{reads_as}
-use Rattle.sqlite_schema.specs.declared.program.Program.{Program}
-use Rattle.sqlite_typing.specs.Types.{accepts_program}
-use Rattle.office_tables.specs.Query.{FindsFirst, Misses}
+use Rattle.sqlite.specs.State.{Shown}
 use Rattle.office_tables.specs.RowCounts.{cap}
-use Rattle.office_tables.specs.Faults.{IsUnlimited, HasCause}
-use Rattle.office_tables.specs.StatementMeaning.{Means}
-use Rattle.office_tables.specs.Schema.{Version, schema}
-use Rattle.office_tables.specs.declared.fault.StoreFault.{StoreFault}
+use Rattle.office_tables.specs.Faults.{HasCause}
+use Rattle.office_tables.specs.Schema.{Version}
+use Rattle.office_tables.proofs.Common.{FindsFirst, IfOk-weaker, Int, IsUnlimited, Means, Misses, Null, Program, Row, Select, State, StoreFault, Table, Term, accepts_program, count_by, end, holds, inner, list_all, reads_as, schema}
 use Rattle.office_tables.proofs.Causes.{read_cause, none_refuse, counts_always}
 use Rattle.office_tables.proofs.Counts.{summary_query, count_rows, counts}
 use Rattle.office_tables.proofs.RowReads.{all_caused}
@@ -43,13 +30,17 @@ module _ (v : Version) (table : Table) (sql : List ℕ) (where_terms : List Term
   one_row rows shown =
       let read = reads_as sql params old new (schema v) has (Select (counting table where_terms) names) means.is means.plain means.unlisted rows shown in
       counts table.tree where_terms old.now.trees params row xs keep stored keeps rows (read.answer Null)
-      ∙ ap (λ n. number_cells (cap n) ∷ []) (length-filter keep xs) ∙ ap (λ n. number_cells n ∷ []) (uncapped (count_by keep xs) is_few)
+      ∙ ap (λ n. number_cells (cap n) ∷ []) (length-filter keep xs)
+      ∙ ap (λ n. number_cells n ∷ []) (uncapped (count_by keep xs) is_few)
 
-  pub count_finds : (r : Result ℕ StoreFault) → IfOk r (FindsFirst sql params old new) → IfOk r (λ n. n ≡ count_by keep xs)
+  pub count_finds : (r : Result ℕ StoreFault) → IfOk r (FindsFirst sql params old new)
+      → IfOk r (λ n. n ≡ count_by keep xs)
   count_finds r found = IfOk-weaker r _ _ (λ n it. it.is (count_by keep xs ∷ []) (one_row it.rows it.shown)) found
 
-  pub count_faults : accepts_program (schema v) [] (summary_query (inner table.tree end) where_terms count_rows) params ≡ true → IsUnlimited old
-      → (r : Result ℕ StoreFault) → IfErr r (Misses number_cells (λ n. n < 2 ^ 32) sql params old new) → IfErr r (HasCause old new)
+  pub count_faults : accepts_program (schema v) [] (summary_query (inner table.tree end) where_terms count_rows) params ≡ true
+      → IsUnlimited old
+      → (r : Result ℕ StoreFault) → IfErr r (Misses number_cells (λ n. n < 2 ^ 32) sql params old new)
+      → IfErr r (HasCause old new)
   count_faults typed free r missed =
       all_caused number_cells (λ n. n < 2 ^ 32) sql params old new r missed
       (read_cause sql params old new (schema v) has (counting table where_terms) names means.is means.plain means.whole means.unlisted (λ db e refused. none_refuse refused (λ t. both_ways _ t typed) (counts_always _ _)) free)

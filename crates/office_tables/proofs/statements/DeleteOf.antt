@@ -1,28 +1,11 @@
 -- What a DELETE from one table does that no foreign key refers to, and why it fails, for any of our texts and any records.
 use Rattle.std.proofs.Common.{◌≡◌, ℕ, ℤ, List, [], ◌∷◌, length, map, filter, Bool, true, false, not, Some, Ok, Result, OnOk, IfErr, ◌∙◌, slice_get}
 use Rattle.std.proofs.lemmas.Bool.{both_ways}
-use Rattle.std.specs.List.{list_all}
-use Rattle.sqlite.specs.declared.types.Value.TheVariants.{Null, Int}
-use Rattle.sqlite.specs.Order.{Row}
-use Rattle.sqlite.specs.Table.{Table}
-use Rattle.sqlite.specs.Term.{Term, eval_all, holds}
-use Rattle.sqlite.specs.Tree.{rowid}
-use Rattle.sqlite.specs.Edit.{id_in}
-use Rattle.sqlite.specs.Query.{inner, end}
 use Rattle.sqlite.specs.Command.TheVariants.{Delete}
 use Rattle.sqlite.specs.Listing.{understood}
-use Rattle.sqlite.specs.State.{State, Executes, IsLive, mode_of}
-use Rattle.sqlite.proofs.Callers.{statement_of, runs_as}
-use Rattle.sqlite_schema.specs.Rules.{references_fit}
-use Rattle.sqlite_schema.specs.declared.program.Program.{Program}
-use Rattle.sqlite_typing.specs.Types.{accepts_program}
-use Rattle.office_tables.specs.ChangeStatement.{Ran}
-use Rattle.office_tables.specs.Faults.{IsUnlimited, HasCause}
-use Rattle.office_tables.specs.StatementMeaning.{Means}
-use Rattle.office_tables.specs.Order.{Rises}
-use Rattle.office_tables.specs.Schema.{Version, schema}
-use Rattle.office_tables.specs.Step.{HasRows}
-use Rattle.office_tables.specs.declared.fault.StoreFault.{StoreFault}
+use Rattle.office_tables.specs.Faults.{HasCause}
+use Rattle.office_tables.specs.Schema.{Version}
+use Rattle.office_tables.proofs.Common.{Executes, HasRows, Int, IsLive, IsUnlimited, Means, Null, Program, Ran, Rises, Row, State, StoreFault, Table, Term, accepts_program, end, eval_all, holds, id_in, inner, list_all, mode_of, references_fit, rowid, runs_as, schema, statement_of}
 use Rattle.office_tables.proofs.Causes.{none_refuse, sums_nothing}
 use Rattle.office_tables.proofs.DeleteCauses.{leaf_cause}
 use Rattle.office_tables.proofs.Queries.{plain_query, choosing, chosen}
@@ -41,7 +24,8 @@ module _ (v : Version) (at : ℕ) (table : Table) (there : slice_get (schema v).
   module _ {A : Type 0} (row : A → Row) (key : A → ℤ) (keyed : (x : A) → rowid (row x) ≡ Int (key x)) (xs : List A) (stored : old.now.trees table.tree ≡ map row xs) (up : Rises (by_key row key keyed) xs)
       (keep : A → Bool) (keeps : (x : A) → list_all (holds (params ∷ row x ∷ [])) where_terms ≡ keep x)
       (source : A → Row) (represents : (x : A) → eval_all project (params ∷ row x ∷ []) ≡ source x) (named : (x : A) → id_in (rowid (source x)) ≡ key x) where
-    leaves : (count : ℕ) → Executes sql params old new (Ok count) → HasRows table.tree (map row (filter (λ x. not (keep x)) xs)) old.now new.now
+    leaves : (count : ℕ) → Executes sql params old new (Ok count)
+        → HasRows table.tree (map row (filter (λ x. not (keep x)) xs)) old.now new.now
     leaves count h =
         let wrote = runs_as sql params old new (schema v) has (Delete at q) means.is means.plain count h in
         let it : Deleted (schema v) at table there (mode_of old) params q old.now new.now =
@@ -53,12 +37,15 @@ module _ (v : Version) (at : ℕ) (table : Table) (there : slice_get (schema v).
         }
 
     -- the records that the test finds are gone
-    pub delete_leaves : (r : Result Unit StoreFault) → Ran sql params old new r → OnOk r (HasRows table.tree (map row (filter (λ x. not (keep x)) xs)) old.now new.now)
+    pub delete_leaves : (r : Result Unit StoreFault) → Ran sql params old new r
+        → OnOk r (HasRows table.tree (map row (filter (λ x. not (keep x)) xs)) old.now new.now)
     delete_leaves r ran = ran_well sql params old new r _ ran leaves
 
   -- every fault has its cause, where the values type
-  pub delete_faults : references_fit (schema v) (plain table) false true ≡ true → accepts_program (schema v) [] (plain_query (inner table.tree end) where_terms project []) params ≡ true
-      → IsUnlimited old → IsLive old → (r : Result Unit StoreFault) → Ran sql params old new r → IfErr r (HasCause old new)
+  pub delete_faults : references_fit (schema v) (plain table) false true ≡ true
+      → accepts_program (schema v) [] (plain_query (inner table.tree end) where_terms project []) params ≡ true
+      → IsUnlimited old → IsLive old → (r : Result Unit StoreFault) → Ran sql params old new r
+      → IfErr r (HasCause old new)
   delete_faults fit accepted free live r ran =
       ran_badly sql params old new r ran
       (leaf_cause sql params old new (schema v) has at q means.is means.plain means.whole table there (λ db e refused. none_refuse refused (λ t. both_ways _ t accepted) (sums_nothing _)) fit alone live free)

@@ -1,24 +1,11 @@
 -- What an INSERT of one row does, and why it fails, for any of our texts.
 use Rattle.std.proofs.Common.{◌≡◌, ℕ, ◌/◌, List, [], ◌∷◌, length, true, Ok, Result, OnOk, IfErr, Some, sym, ap, ◌∙◌, slice_get}
 use Rattle.std.proofs.lemmas.Bool.{both_ways}
-use Rattle.sqlite.specs.Order.{Row}
-use Rattle.sqlite.specs.Table.{Table}
-use Rattle.sqlite.specs.Term.{Term}
-use Rattle.sqlite.specs.Edit.{edit_of, are_fresh, put_all}
-use Rattle.sqlite.specs.Effect.{value_rows}
-use Rattle.sqlite.specs.Rowids.TheVariants.{Chosen}
 use Rattle.sqlite.specs.Source.TheVariants.{Values}
-use Rattle.sqlite.specs.Command.TheVariants.{Insert}
 use Rattle.sqlite.specs.Listing.{understood}
-use Rattle.sqlite.specs.State.{State, Executes, IsLive, mode_of}
-use Rattle.sqlite.proofs.Callers.{statement_of, runs_as}
-use Rattle.sqlite_typing.specs.Types.{accepts_terms}
-use Rattle.office_tables.specs.ChangeStatement.{Ran}
-use Rattle.office_tables.specs.Faults.{IsUnlimited, HasCause}
-use Rattle.office_tables.specs.StatementMeaning.{Means}
-use Rattle.office_tables.specs.Schema.{Version, schema}
-use Rattle.office_tables.specs.Step.{PutsRow}
-use Rattle.office_tables.specs.declared.fault.StoreFault.{StoreFault}
+use Rattle.office_tables.specs.Faults.{HasCause}
+use Rattle.office_tables.specs.Schema.{Version}
+use Rattle.office_tables.proofs.Common.{Chosen, Executes, Insert, IsLive, IsUnlimited, Means, PutsRow, Ran, Row, State, StoreFault, Table, Term, accepts_terms, are_fresh, edit_of, mode_of, put_all, runs_as, schema, statement_of, value_rows}
 use Rattle.office_tables.proofs.InsertCauses.{IsWelcome, values_typed, insert_cause}
 use Rattle.office_tables.proofs.Puts.{not_taken}
 use Rattle.office_tables.proofs.RowWrites.{ran_well, ran_badly}
@@ -34,7 +21,8 @@ module _ (v : Version) (at : ℕ) (table : Table) (there : slice_get (schema v).
       let wrote = runs_as sql params old new (schema v) has (Insert at (Values terms width)) means.is means.plain count h in
       let it : Inserted (schema v) at table there (mode_of old) params (Values terms width) old.now new.now =
       inserted (schema v) at table there old.step_limit (mode_of old) params (statement_of sql (understood (schema v) sql)) (Values terms width) old.now new.now wrote.tally has wrote.changed in
-      let is : (edit_of old.now.trees (plain table) [] Chosen 0 it.rows).news ≡ row ∷ [] = ap (λ rows. (edit_of old.now.trees (plain table) [] Chosen 0 rows).news) it.source.1 ∙ news in
+      let is : (edit_of old.now.trees (plain table) [] Chosen 0 it.rows).news ≡ row ∷ [] =
+      ap (λ rows. (edit_of old.now.trees (plain table) [] Chosen 0 rows).news) it.source.1 ∙ news in
       record {
         rows = it.applies.rows ∙ ap (put_all (old.now.trees table.tree)) is;
         fresh = not_taken _ (sym (ap (are_fresh (old.now.trees table.tree)) is) ∙ it.applies.fresh);
@@ -42,11 +30,14 @@ module _ (v : Version) (at : ℕ) (table : Table) (there : slice_get (schema v).
       }
 
   -- the row is put among the table's
-  pub insert_puts : (r : Result Unit StoreFault) → Ran sql params old new r → OnOk r (PutsRow table.tree row old.now new.now)
+  pub insert_puts : (r : Result Unit StoreFault) → Ran sql params old new r
+      → OnOk r (PutsRow table.tree row old.now new.now)
   insert_puts r ran = ran_well sql params old new r _ ran puts
 
   -- every fault has its cause, where the values type and the table takes the row
-  pub insert_faults : accepts_terms terms params ≡ true → IsWelcome (schema v) old.now.trees (plain table) row → IsUnlimited old → IsLive old → (r : Result Unit StoreFault) → Ran sql params old new r → IfErr r (HasCause old new)
+  pub insert_faults : accepts_terms terms params ≡ true → IsWelcome (schema v) old.now.trees (plain table) row
+      → IsUnlimited old → IsLive old → (r : Result Unit StoreFault) → Ran sql params old new r
+      → IfErr r (HasCause old new)
   insert_faults typed welcome free live r ran =
       ran_badly sql params old new r ran
       (insert_cause v at table there sql params old new has terms width means.is means.plain means.whole live free (λ e refused. values_typed refused (λ t. both_ways _ t typed)) row news welcome)

@@ -1,9 +1,9 @@
 -- Tables that two crates change: no foreign key refers to them, and their own keys fit the schema.
 use Rattle.std.proofs.Common.{◌≡◌, true, false, refl}
 use Rattle.sqlite_schema.specs.Names.{same_name}
-use Rattle.sqlite_schema.specs.Rules.{references_fit}
 use Rattle.sqlite_value.specs.Keys.{joined}
-use Rattle.office_tables.specs.Schema.{Version, First, Second, schema, seat, permit, office}
+use Rattle.office_tables.specs.Schema.{Version, First, Second}
+use Rattle.office_tables.proofs.Common.{office, permit, references_fit, schema, seat}
 use Rattle.office_tables.proofs.Steps.{is_referred_to}
 use Rattle.office_tables.proofs.UpdateCauses.{KeepsTable}
 

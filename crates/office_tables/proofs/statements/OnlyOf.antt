@@ -1,17 +1,9 @@
 -- A DELETE and an UPDATE touch no other table, whatever rows there are.
 use Rattle.std.proofs.Common.{◌≡◌, ℕ, List, [], ◌∷◌, length, false, true, refl, Some, Result, OnOk, slice_get}
-use Rattle.sqlite.specs.Order.{Row}
-use Rattle.sqlite.specs.Table.{Table}
-use Rattle.sqlite.specs.Command.TheVariants.{Delete, Update}
+use Rattle.sqlite.specs.Command.TheVariants.{Delete}
 use Rattle.sqlite.specs.Listing.{understood}
-use Rattle.sqlite.specs.State.{State, mode_of}
-use Rattle.sqlite.proofs.Callers.{statement_of, runs_as}
-use Rattle.sqlite_schema.specs.declared.program.Program.{Program}
-use Rattle.office_tables.specs.ChangeStatement.{Ran}
-use Rattle.office_tables.specs.StatementMeaning.{Means}
-use Rattle.office_tables.specs.Schema.{Version, schema}
-use Rattle.office_tables.specs.Step.{OnlyTouches}
-use Rattle.office_tables.specs.declared.fault.StoreFault.{StoreFault}
+use Rattle.office_tables.specs.Schema.{Version}
+use Rattle.office_tables.proofs.Common.{Means, OnlyTouches, Program, Ran, Row, State, StoreFault, Table, Update, mode_of, runs_as, schema, statement_of}
 use Rattle.office_tables.proofs.RowWrites.{ran_well}
 use Rattle.office_tables.proofs.Steps.{deleted, Deleted, updated_with, Updated, is_referred_to, plain}
 use Rattle.office_tables.proofs.Touching.{touched}
@@ -26,14 +18,16 @@ pub idle : (v : Version) (s : State) (table : Table) → IsIdle (schema v) (mode
 idle v s table rows = no_works_on_update (schema v) 0 table.tree _ _ (all_free v) (as_many s.now.trees table rows)
 
 module _ (v : Version) (at : ℕ) (table : Table) (there : slice_get (schema v).tables at ≡ Some (plain table)) (sql : List ℕ) (q : Program) (params : Row) (old new : State) (has : old.now.schema ≡ schema v) where
-  pub delete_only : is_referred_to (schema v) table.tree ≡ false → Means v sql (length params) (Delete at q) → (r : Result Unit StoreFault) → Ran sql params old new r → OnOk r (OnlyTouches (table.tree ∷ []) old.now new.now)
+  pub delete_only : is_referred_to (schema v) table.tree ≡ false → Means v sql (length params) (Delete at q)
+      → (r : Result Unit StoreFault) → Ran sql params old new r → OnOk r (OnlyTouches (table.tree ∷ []) old.now new.now)
   delete_only alone means r ran = ran_well sql params old new r _ ran (λ count h.
       let wrote = runs_as sql params old new (schema v) has (Delete at q) means.is means.plain count h in
       let it : Deleted (schema v) at table there (mode_of old) params q old.now new.now =
       deleted (schema v) at table there old.step_limit (mode_of old) params (statement_of sql (understood (schema v) sql)) q old.now new.now wrote.tally alone has wrote.changed in
       touched v old.now new.now table.tree it.applies.tables)
 
-  pub update_only : Means v sql (length params) (Update at q) → (r : Result Unit StoreFault) → Ran sql params old new r → OnOk r (OnlyTouches (table.tree ∷ []) old.now new.now)
+  pub update_only : Means v sql (length params) (Update at q) → (r : Result Unit StoreFault) → Ran sql params old new r
+      → OnOk r (OnlyTouches (table.tree ∷ []) old.now new.now)
   update_only means r ran = ran_well sql params old new r _ ran (λ count h.
       let wrote = runs_as sql params old new (schema v) has (Update at q) means.is means.plain count h in
       let it : Updated (schema v) at table there (mode_of old) params q old.now new.now =

@@ -1,35 +1,12 @@
 -- What an UPDATE of one table does, and why it fails, for any of our texts and any records.
 use Rattle.std.proofs.Common.{◌≡◌, ℕ, ℤ, List, [], ◌∷◌, length, map, filter, drop, if◌then◌else◌, Bool, true, Some, Ok, Result, OnOk, IfErr, ◌∙◌, slice_get}
 use Rattle.std.proofs.lemmas.Bool.{both_ways}
-use Rattle.std.specs.List.{list_all}
-use Rattle.std.specs.List.Sorted.{IsPermutation}
-use Rattle.sqlite.specs.declared.types.Value.TheVariants.{Null, Int}
-use Rattle.sqlite.specs.Order.{Row, column}
-use Rattle.sqlite.specs.Table.{Table}
-use Rattle.sqlite.specs.Schema.{Schema}
-use Rattle.sqlite.specs.Term.{Term, eval_all, holds}
-use Rattle.sqlite.specs.Tree.{rowid}
-use Rattle.sqlite.specs.Cast.{cast_row}
-use Rattle.sqlite.specs.Edit.{id_in}
-use Rattle.sqlite.specs.Query.{inner, end}
-use Rattle.sqlite.specs.Command.TheVariants.{Update}
 use Rattle.sqlite.specs.Effect.{Answers}
 use Rattle.sqlite.specs.Listing.{understood}
-use Rattle.sqlite.specs.State.{State, Executes, IsLive, mode_of}
-use Rattle.sqlite.proofs.Callers.{statement_of, runs_as}
-use Rattle.sqlite_rules.specs.Lists.{Has}
 use Rattle.sqlite_rules.specs.Steps.{is_typed, is_present}
-use Rattle.sqlite_rules.proofs.ListLemmas.{has_filtered}
-use Rattle.sqlite_schema.specs.Rules.{passes_checks}
-use Rattle.sqlite_schema.specs.declared.program.Program.{Program}
-use Rattle.sqlite_typing.specs.Types.{accepts_program}
-use Rattle.office_tables.specs.ChangeStatement.{Ran}
-use Rattle.office_tables.specs.Faults.{IsUnlimited, HasCause}
-use Rattle.office_tables.specs.StatementMeaning.{Means}
-use Rattle.office_tables.specs.Order.{Rises}
-use Rattle.office_tables.specs.Schema.{Version, schema}
-use Rattle.office_tables.specs.Step.{HasRows}
-use Rattle.office_tables.specs.declared.fault.StoreFault.{StoreFault}
+use Rattle.office_tables.specs.Faults.{HasCause}
+use Rattle.office_tables.specs.Schema.{Version}
+use Rattle.office_tables.proofs.Common.{Executes, Has, HasRows, Int, IsLive, IsPermutation, IsUnlimited, Means, Null, Program, Ran, Rises, Row, Schema, State, StoreFault, Table, Term, Update, accepts_program, cast_row, column, end, eval_all, has_filtered, holds, id_in, inner, list_all, mode_of, passes_checks, rowid, runs_as, schema, statement_of}
 use Rattle.office_tables.proofs.Causes.{none_refuse, sums_nothing}
 use Rattle.office_tables.proofs.Queries.{plain_query, choosing, chosen}
 use Rattle.office_tables.proofs.RowWrites.{ran_well, ran_badly}
@@ -53,13 +30,16 @@ module _ (v : Version) (at : ℕ) (table : Table) (there : slice_get (schema v).
   abbrev Chosen : List Row → Type 0
   Chosen rows = (ys : List A) × IsPermutation (filter keep xs) ys × (rows ≡ map source ys)
 
-  found : (s : Schema) (rows : List Row) → Answers (record { schema = s; trees = old.now.trees }) q params rows → Chosen rows
+  found : (s : Schema) (rows : List Row) → Answers (record { schema = s; trees = old.now.trees }) q params rows
+      → Chosen rows
   found s rows given = chosen table.tree where_terms project old.now.trees params row source xs keep stored keeps represents rows (given.answer Null)
 
-  cast_each : (rows : List Row) (got : Chosen rows) (x : A) → Has got.0 x → cast_row (plain table) (drop 1 (source x)) ≡ row (changed x)
+  cast_each : (rows : List Row) (got : Chosen rows) (x : A) → Has got.0 x
+      → cast_row (plain table) (drop 1 (source x)) ≡ row (changed x)
   cast_each rows got x h = let it = has_filtered keep xs x (had (filter keep xs) got.0 got.1 x h) in casts x it.0 it.1
 
-  leaves : (count : ℕ) → Executes sql params old new (Ok count) → HasRows table.tree (map row (map (λ x. if keep x then changed x else x) xs)) old.now new.now
+  leaves : (count : ℕ) → Executes sql params old new (Ok count)
+      → HasRows table.tree (map row (map (λ x. if keep x then changed x else x) xs)) old.now new.now
   leaves count h =
       let wrote = runs_as sql params old new (schema v) has (Update at q) means.is means.plain count h in
       let it : Updated (schema v) at table there (mode_of old) params q old.now new.now =
@@ -71,13 +51,15 @@ module _ (v : Version) (at : ℕ) (table : Table) (there : slice_get (schema v).
       }
 
   -- the records that are kept by the test are changed
-  pub update_leaves : (r : Result Unit StoreFault) → Ran sql params old new r → OnOk r (HasRows table.tree (map row (map (λ x. if keep x then changed x else x) xs)) old.now new.now)
+  pub update_leaves : (r : Result Unit StoreFault) → Ran sql params old new r
+      → OnOk r (HasRows table.tree (map row (map (λ x. if keep x then changed x else x) xs)) old.now new.now)
   update_leaves r ran = ran_well sql params old new r _ ran leaves
 
   -- every fault has its cause, where the values type, the changed rows keep the rules of their columns, and no column of a key changes
   module _ (kept : ℕ → Bool) (keeping : KeepsTable kept (schema v) at (plain table)) (alike : (x : A) (p : ℕ) → kept p ≡ true → column (row x) p ≡ column (row (changed x)) p)
       (typed : (x : A) → is_typed (plain table) (row (changed x)) ≡ true) (present : (x : A) → is_present (plain table) (row (changed x)) ≡ true) (checked : (x : A) → passes_checks (plain table) (row (changed x)) ≡ true) where
-    pub update_faults : accepts_program (schema v) [] (plain_query (inner table.tree end) where_terms project []) params ≡ true → IsUnlimited old → IsLive old
+    pub update_faults : accepts_program (schema v) [] (plain_query (inner table.tree end) where_terms project []) params ≡ true
+        → IsUnlimited old → IsLive old
         → (r : Result Unit StoreFault) → Ran sql params old new r → IfErr r (HasCause old new)
     update_faults accepted free live r ran =
         ran_badly sql params old new r ran

@@ -1,18 +1,10 @@
 -- Rows that are put in the order of their keys are those that stood in it, whatever order they came in.
 use Rattle.std.proofs.Common.{◌≡◌, ◌⊎◌, ℕ, ◌+◌, ◌*◌, ◌<◌, ◌≤◌, Bool, true, false, not, ◌&&◌, ◌||◌, if◌then◌else◌, List, [], ◌∷◌, ◌++◌, refl, sym, ap, ◌∙◌, subst, inl, inr, arith, nat_eq, nat_lt}
 use Rattle.std.specs.List.{IsDistinct}
-use Rattle.std.specs.List.Sorted.{IsPermutation}
-use Rattle.std.proofs.lemmas.Bool.{false≢true, lt-ltb}
-use Rattle.std.proofs.lemmas.Map.Keys.{IsDistinct-IsPermutation}
-use Rattle.std.proofs.lemmas.List.Sorted.{IsPermutation-sym}
-use Rattle.tree_core.proofs.Lists.{In, In-append, In-append_left, In-append_right, In-permutation}
 use Rattle.tree_core.proofs.Members.{Round, round}
-use Rattle.tree_core.specs.declared.rows.Span.{Span}
-use Rattle.tree_core.specs.Forest.{Forest, Empty, Node, size}
-use Rattle.tree_core.specs.Spans.{number}
-use Rattle.desk_core.specs.DeskCauses.{AreInOrder}
-use Rattle.desk_core.specs.Orders.{put_in_order, in_order}
+use Rattle.desk_core.specs.Orders.{in_order}
 use Rattle.row_decoding.specs.TableRows.{by, then_by}
+use Rattle.state_encoding.proofs.Common.{AreInOrder, Empty, Forest, In, In-append, In-append_left, In-append_right, In-permutation, IsDistinct-IsPermutation, IsPermutation, IsPermutation-sym, Node, Span, false≢true, lt-ltb, number, put_in_order, size}
 use Rattle.state_encoding.proofs.Members.{all_in, all_of_in}
 use Rattle.state_encoding.proofs.Grouped.{order_weaker}
 
@@ -40,7 +32,8 @@ module _ {X : Type 0} (before : X → X → Bool) where
 
   without : (l r : List X) (x : X) → AreInOrder Precedes (l ++ x ∷ r) → AreInOrder Precedes (l ++ r)
   without [] r x h = h.1
-  without (y ∷ ys) r x h = (all_of_in (Precedes y) (ys ++ r) (λ z k. all_in (Precedes y) (ys ++ x ∷ r) z h.0 (in_more x z ys r k)), without ys r x h.1)
+  without (y ∷ ys) r x h =
+      (all_of_in (Precedes y) (ys ++ r) (λ z k. all_in (Precedes y) (ys ++ x ∷ r) z h.0 (in_more x z ys r k)), without ys r x h.1)
 
   -- neither stands before the other
   abbrev alike : X → X → Bool
@@ -71,10 +64,12 @@ module _ {X : Type 0} (before : X → X → Bool) where
 
     not_twice : (l r : List X) (x : X) → AreInOrder Precedes (l ++ x ∷ r) → In x (l ++ r) → ⊥
     not_twice [] r x h i = false≢true (sym (itself x) ∙ (all_in (Precedes x) r x h.0 i).0)
-    not_twice (y ∷ ys) r x h (inl e) = false≢true (sym (itself x) ∙ subst (λ z. before z x ≡ true) (sym e) (all_in (Precedes y) (ys ++ x ∷ r) x h.0 (In-append_right ys (x ∷ r) x (inl refl))).0)
+    not_twice (y ∷ ys) r x h (inl e) =
+        false≢true (sym (itself x) ∙ subst (λ z. before z x ≡ true) (sym e) (all_in (Precedes y) (ys ++ x ∷ r) x h.0 (In-append_right ys (x ∷ r) x (inl refl))).0)
     not_twice (y ∷ ys) r x h (inr i) = not_twice ys r x h.1 i
 
-    ordered_from : (xs rows : List X) → AreInOrder Precedes rows → IsDistinct alike xs → ((z : X) → In z xs → In z rows) → ((z : X) → In z rows → In z xs) → in_order before xs ≡ rows
+    ordered_from : (xs rows : List X) → AreInOrder Precedes rows → IsDistinct alike xs → ((z : X) → In z xs → In z rows)
+        → ((z : X) → In z rows → In z xs) → in_order before xs ≡ rows
     ordered_from [] [] h d there back = refl
     ordered_from [] (y ∷ ys) h d there back = absurd (back y (inl refl))
     ordered_from (x ∷ xs) rows h d there back =
@@ -88,7 +83,8 @@ module _ {X : Type 0} (before : X → X → Bool) where
         (λ z i. elim (back z (subst (In z) (sym r.is) (in_more x z l m i))) [ inl e ↦ absurd (not_twice l m x ordered (subst (λ w. In w (l ++ m)) e i)) | inr k ↦ k ]) in
         ap (put_in_order before x) rest ∙ (put_back l m x ordered ∙ sym r.is)
 
-    pub ordered_again : (rows xs : List X) → AreInOrder Precedes rows → IsPermutation rows xs → in_order before xs ≡ rows
+    pub ordered_again : (rows xs : List X) → AreInOrder Precedes rows → IsPermutation rows xs
+        → in_order before xs ≡ rows
     ordered_again rows xs h same =
         ordered_from xs rows h (IsDistinct-IsPermutation alike alike_flips rows xs same (apart rows h))
         (λ z i. In-permutation rows xs z same i) (λ z i. In-permutation xs rows z (IsPermutation-sym rows xs same) i)
@@ -116,17 +112,21 @@ second_goes m k n l e h = grind (arith, e, h)
 second_below : (m k n l : ℕ) → m ≡ n → k < l → goes n l m k ≡ false
 second_below m k n l e h = grind (arith, e, h)
 
-pub by_again : {X : Type 0} (key : X → ℕ) (rows xs : List X) → AreInOrder (λ a b. key a < key b) rows → IsPermutation rows xs → in_order (by key) xs ≡ rows
+pub by_again : {X : Type 0} (key : X → ℕ) (rows xs : List X) → AreInOrder (λ a b. key a < key b) rows
+    → IsPermutation rows xs → in_order (by key) xs ≡ rows
 by_again key rows xs h same =
     ordered_again (by key) (λ x. not_itself (key x)) rows xs
     (order_weaker (λ a b. key a < key b) (Precedes (by key)) rows (λ a b l. (lt-ltb (key a) (key b) l, not_below (key a) (key b) l)) h) same
 
-pub then_by_again : {X : Type 0} (key second : X → ℕ) (rows xs : List X) → AreInOrder (λ a b. (key a < key b) ⊎ ((key a ≡ key b) × (second a < second b))) rows → IsPermutation rows xs → in_order (then_by key second) xs ≡ rows
+pub then_by_again : {X : Type 0} (key second : X → ℕ) (rows xs : List X)
+    → AreInOrder (λ a b. (key a < key b) ⊎ ((key a ≡ key b) × (second a < second b))) rows → IsPermutation rows xs
+    → in_order (then_by key second) xs ≡ rows
 then_by_again {X} key second rows xs h same =
     ordered_again (then_by key second) (λ x. pair_itself (key x) (second x)) rows xs
     (order_weaker (λ a b. (key a < key b) ⊎ ((key a ≡ key b) × (second a < second b))) (Precedes (then_by key second)) rows precedes h) same
   where
-    precedes : (a b : X) → (key a < key b) ⊎ ((key a ≡ key b) × (second a < second b)) → Precedes (then_by key second) a b
+    precedes : (a b : X) → (key a < key b) ⊎ ((key a ≡ key b) × (second a < second b))
+        → Precedes (then_by key second) a b
     precedes a b (inl l) = (ap (λ p. p || (nat_eq (key a) (key b) && nat_lt (second a) (second b))) (lt-ltb (key a) (key b) l), first_below (key a) (second a) (key b) (second b) l)
     precedes a b (inr e) = (second_goes (key a) (second a) (key b) (second b) e.0 e.1, second_below (key a) (second a) (key b) (second b) e.0 e.1)
 
@@ -137,13 +137,15 @@ IsFirst a b = a.lft < b.lft
 
 within : (k : ℕ) (f : Forest ℕ) (span : Span) → In span (number k f) → (k ≤ span.lft) × (span.lft < k + 2 * size f)
 within k Empty span i = absurd i
-within k (Node u c o) span (inl e) = (omega (arith, ap (λ (s : Span). s.lft) e), omega (arith, ap (λ (s : Span). s.lft) e))
+within k (Node u c o) span (inl e) =
+    (omega (arith, ap (λ (s : Span). s.lft) e), omega (arith, ap (λ (s : Span). s.lft) e))
 within k (Node u c o) span (inr i) = elim (In-append (number (k + 1) c) (number (k + 2 * size c + 2) o) span i) [
   | inl j ↦ let w = within (k + 1) c span j in (omega (arith, w), omega (arith, w))
   | inr j ↦ let w = within (k + 2 * size c + 2) o span j in (omega (arith, w), omega (arith, w))
 ]
 
-order-append : (xs ys : List Span) → AreInOrder IsFirst xs → AreInOrder IsFirst ys → ((a b : Span) → In a xs → In b ys → IsFirst a b) → AreInOrder IsFirst (xs ++ ys)
+order-append : (xs ys : List Span) → AreInOrder IsFirst xs → AreInOrder IsFirst ys
+    → ((a b : Span) → In a xs → In b ys → IsFirst a b) → AreInOrder IsFirst (xs ++ ys)
 order-append [] ys h k f = k
 order-append (x ∷ xs) ys h k f = (
   all_of_in (IsFirst x) (xs ++ ys) (λ z i. elim (In-append xs ys z i) [ inl j ↦ all_in (IsFirst x) xs z h.0 j | inr j ↦ f x z (inl refl) j ]),

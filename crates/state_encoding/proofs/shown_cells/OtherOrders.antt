@@ -1,27 +1,10 @@
 -- What rows say, and what is told of them, is the same in each other order of them.
 use Rattle.std.proofs.Common.{◌≡◌, ℕ, Bool, true, false, cond, not, ◌&&◌, List, [], ◌∷◌, length, Option, Some, None, refl, sym, ap, ◌∙◌, subst, inl, inr, nat_eq, map}
-use Rattle.std.specs.Prelude.{filter, filter_map, find, option_map, unwrap_or, nat_le}
-use Rattle.std.specs.List.{IsDistinct, list_all, list_any}
-use Rattle.std.specs.List.Sorted.{IsPermutation}
-use Rattle.std.proofs.Math.Path.{fun_ext}
-use Rattle.std.proofs.lemmas.Bool.{false≢true, and_parts, and_from, eqb-true, eq-eqb}
-use Rattle.std.proofs.lemmas.List.Sorted.{IsPermutation-sym, IsPermutation-map, list_any-IsPermutation, length_permutation, sum_by-IsPermutation}
-use Rattle.std.proofs.lemmas.List.Sums.{length-filter}
-use Rattle.std.proofs.lemmas.Map.Keys.{IsDistinct-IsPermutation}
-use Rattle.isad_core.specs.Limits.{most_units, most_deep}
-use Rattle.isad_core.specs.Texts.{Bytes, is_blank_text}
+use Rattle.std.specs.Prelude.{filter_map, unwrap_or}
+use Rattle.std.specs.List.{IsDistinct}
 use Rattle.isad_core.specs.Words.{is_between, stands}
-use Rattle.isad_core.specs.declared.values.BoxKey.{BoxKey}
 use Rattle.isad_core.specs.declared.values.Values.{Values}
-use Rattle.tree_core.proofs.Lists.{In, In-permutation, find_some, find_none, eqb_comm}
-use Rattle.tree_core.proofs.Lookups.{any_passes}
-use Rattle.tree_core.specs.Forest.{each}
-use Rattle.catalogue_core.specs.CatalogueCauses.{MeetsCatalogueKeys, is_named_alike, is_same_container, is_housed_alike, unit_numbers, all_stand_in, place_numbers, is_good_unit_row, are_good_units, is_good_element, is_good_housing, is_same_element, is_same_place}
-use Rattle.catalogue_core.specs.CatalogueRows.{CatalogueRows, UnitRow, ElementRow, ContainerRow, HousingRow, after_level, text_said, box_from, housings_of, places_said}
-use Rattle.catalogue_core.specs.Moves.{height}
-use Rattle.catalogue_core.specs.Units.{Unit}
-use Rattle.office_core.specs.Laws.{numbers_from}
-use Rattle.state_encoding.specs.OfficeRows.{box_at, boxes_from, boxes_said, values_said, unit_from, unit_said}
+use Rattle.state_encoding.proofs.Common.{BoxKey, Bytes, CatalogueRows, ContainerRow, ElementRow, HousingRow, In, In-permutation, IsDistinct-IsPermutation, IsPermutation, IsPermutation-map, IsPermutation-sym, MeetsCatalogueKeys, Unit, UnitRow, after_level, all_stand_in, and_from, and_parts, any_passes, are_good_units, box_at, box_from, boxes_from, boxes_said, each, eq-eqb, eqb-true, eqb_comm, false≢true, filter, find, find_none, find_some, fun_ext, height, housings_of, is_blank_text, is_good_element, is_good_housing, is_good_unit_row, is_housed_alike, is_named_alike, is_same_container, is_same_element, is_same_place, length-filter, length_permutation, list_all, list_any, list_any-IsPermutation, most_deep, most_units, nat_le, numbers_from, option_map, place_numbers, places_said, sum_by-IsPermutation, text_said, unit_from, unit_numbers, unit_said, values_said}
 use Rattle.state_encoding.proofs.RowsByNumber.{all_in, in_all, each_in, found_by}
 use Rattle.state_encoding.proofs.UnitRows.{found_kept}
 use Rattle.state_encoding.proofs.told.ToldCatalogue.{alike_flips}
@@ -56,12 +39,15 @@ module _ {X : Type 0} (p : X → Bool) (xs ys : List X) (same : IsPermutation xs
           ap Some (one y x (In-permutation xs ys y same k.0) l.0 k.1 l.1)
 
 -- two rows that are alike are one
-one_row : {X : Type 0} (alike : X → X → Bool) → ((a b : X) → alike a b ≡ alike b a) → (xs : List X) → IsDistinct alike xs → (a b : X) → In a xs → In b xs → alike a b ≡ true → a ≡ b
+one_row : {X : Type 0} (alike : X → X → Bool) → ((a b : X) → alike a b ≡ alike b a) → (xs : List X)
+    → IsDistinct alike xs → (a b : X) → In a xs → In b xs → alike a b ≡ true → a ≡ b
 unfolding IsDistinct
 one_row alike flips [] d a b i j e = absurd i
 one_row alike flips (x ∷ xs) d a b (inl i) (inl j) e = i ∙ sym j
-one_row alike flips (x ∷ xs) d a b (inl i) (inr j) e = absurd (false≢true (sym (each_in (λ y. alike x y ≡ false) xs b d.0 j) ∙ subst (λ y. alike y b ≡ true) i e))
-one_row alike flips (x ∷ xs) d a b (inr i) (inl j) e = absurd (false≢true (sym (each_in (λ y. alike x y ≡ false) xs a d.0 i) ∙ (flips x a ∙ subst (λ y. alike a y ≡ true) j e)))
+one_row alike flips (x ∷ xs) d a b (inl i) (inr j) e =
+    absurd (false≢true (sym (each_in (λ y. alike x y ≡ false) xs b d.0 j) ∙ subst (λ y. alike y b ≡ true) i e))
+one_row alike flips (x ∷ xs) d a b (inr i) (inl j) e =
+    absurd (false≢true (sym (each_in (λ y. alike x y ≡ false) xs a d.0 i) ∙ (flips x a ∙ subst (λ y. alike a y ≡ true) j e)))
 one_row alike flips (x ∷ xs) d a b (inr i) (inr j) e = one_row alike flips xs d.1 a b i j e
 
 -- where no two rows have one pair of numbers, the same row is found by them
@@ -70,9 +56,12 @@ module _ {X : Type 0} (first second : X → ℕ) where
   is_pair a b = nat_eq (first a) (first b) && nat_eq (second a) (second b)
 
   pub flips : (a b : X) → is_pair a b ≡ is_pair b a
-  flips a b = ap (λ p. p && nat_eq (second a) (second b)) (eqb_comm (first a) (first b)) ∙ ap (λ p. nat_eq (first b) (first a) && p) (eqb_comm (second a) (second b))
+  flips a b =
+      ap (λ p. p && nat_eq (second a) (second b)) (eqb_comm (first a) (first b))
+      ∙ ap (λ p. nat_eq (first b) (first a) && p) (eqb_comm (second a) (second b))
 
-  pub pair_too : (xs ys : List X) → IsPermutation xs ys → IsDistinct is_pair xs → (m n : ℕ) → find (λ x. nat_eq (first x) m && nat_eq (second x) n) ys ≡ find (λ x. nat_eq (first x) m && nat_eq (second x) n) xs
+  pub pair_too : (xs ys : List X) → IsPermutation xs ys → IsDistinct is_pair xs → (m n : ℕ)
+      → find (λ x. nat_eq (first x) m && nat_eq (second x) n) ys ≡ find (λ x. nat_eq (first x) m && nat_eq (second x) n) xs
   pair_too xs ys same d m n =
       finds_too (λ x. nat_eq (first x) m && nat_eq (second x) n) xs ys same (λ a b i j e f.
       let p = and_parts (nat_eq (first a) m) (nat_eq (second a) n) e in
@@ -82,14 +71,17 @@ module _ {X : Type 0} (first second : X → ℕ) where
       (eq-eqb (first a) (first b) (eqb-true (first a) m p.0 ∙ sym (eqb-true (first b) m q.0)))
       (eq-eqb (second a) (second b) (eqb-true (second a) n p.1 ∙ sym (eqb-true (second b) n q.1)))))
 
-pub number_too : {X : Type 0} (key : X → ℕ) (xs ys : List X) → IsPermutation xs ys → IsDistinct nat_eq (map key xs) → (n : ℕ) → find (λ x. nat_eq (key x) n) ys ≡ find (λ x. nat_eq (key x) n) xs
+pub number_too : {X : Type 0} (key : X → ℕ) (xs ys : List X) → IsPermutation xs ys → IsDistinct nat_eq (map key xs)
+    → (n : ℕ) → find (λ x. nat_eq (key x) n) ys ≡ find (λ x. nat_eq (key x) n) xs
 number_too {X} key xs ys same d n =
     finds_too (λ x. nat_eq (key x) n) xs ys same (λ a b i j e f. one a b (found_by key xs a d i) (subst (λ m. find (λ x. nat_eq (key x) m) xs ≡ Some b) (eqb-true (key b) n f ∙ sym (eqb-true (key a) n e)) (found_by key xs b d j)))
   where
-    one : (a b : X) → find (λ x. nat_eq (key x) (key a)) xs ≡ Some a → find (λ x. nat_eq (key x) (key a)) xs ≡ Some b → a ≡ b
+    one : (a b : X) → find (λ x. nat_eq (key x) (key a)) xs ≡ Some a → find (λ x. nat_eq (key x) (key a)) xs ≡ Some b
+        → a ≡ b
     one a b e f = let s : Some a ≡ Some b = sym e ∙ f in cc
 
-stand_too : (others others' ns ns' : List ℕ) → IsPermutation others others' → IsPermutation ns ns' → all_stand_in others ns ≡ true → all_stand_in others' ns' ≡ true
+stand_too : (others others' ns ns' : List ℕ) → IsPermutation others others' → IsPermutation ns ns'
+    → all_stand_in others ns ≡ true → all_stand_in others' ns' ≡ true
 stand_too others others' ns ns' same own h =
     in_all (λ n. stands n others') ns' (λ n i. any_too (nat_eq n) others others' same ∙ all_in (λ n. stands n others) ns n h (In-permutation ns ns' n own i))
 
@@ -123,7 +115,8 @@ module _ (c d : CatalogueRows) (r : IsReordered c d) where
   known_too : (u : ℕ) → stands u (unit_numbers d) ≡ stands u (unit_numbers c)
   known_too u = any_too (nat_eq u) (unit_numbers c) (unit_numbers d) unit_ids
 
-  pub elements_too : list_all (is_good_element (unit_numbers c)) c.elements ≡ true → list_all (is_good_element (unit_numbers d)) d.elements ≡ true
+  pub elements_too : list_all (is_good_element (unit_numbers c)) c.elements ≡ true
+      → list_all (is_good_element (unit_numbers d)) d.elements ≡ true
   elements_too h =
       let rows = all_too (is_good_element (unit_numbers c)) c.elements d.elements r.elements h in
       in_all (is_good_element (unit_numbers d)) d.elements (λ row i.
@@ -157,13 +150,15 @@ module _ (c d : CatalogueRows) (r : IsReordered c d) where
     text_too : (u k : ℕ) → text_said d.elements u k ≡ text_said c.elements u k
     text_too u k = ap (option_map (λ (row : ElementRow). row.value)) (pair_too (λ (row : ElementRow). row.unit) (λ (row : ElementRow). row.k) c.elements d.elements r.elements texts u (after_level k))
 
-    box_too : (u m : ℕ) → find (λ (row : HousingRow). nat_eq row.ord m) (housings_of u d.housings) ≡ find (λ (row : HousingRow). nat_eq row.ord m) (housings_of u c.housings)
+    box_too : (u m : ℕ)
+        → find (λ (row : HousingRow). nat_eq row.ord m) (housings_of u d.housings) ≡ find (λ (row : HousingRow). nat_eq row.ord m) (housings_of u c.housings)
     box_too u m =
         sym (found_kept (λ (row : HousingRow). nat_eq row.unit u) (λ (row : HousingRow). nat_eq row.ord m) d.housings)
         ∙ (pair_too (λ (row : HousingRow). row.unit) (λ (row : HousingRow). row.ord) c.housings d.housings r.housings lie u m
         ∙ found_kept (λ (row : HousingRow). nat_eq row.unit u) (λ (row : HousingRow). nat_eq row.ord m) c.housings)
 
-    boxes_too : (u : ℕ) → boxes_said (map box_from d.containers) d.housings u ≡ boxes_said (map box_from c.containers) c.housings u
+    boxes_too : (u : ℕ)
+        → boxes_said (map box_from d.containers) d.housings u ≡ boxes_said (map box_from c.containers) c.housings u
     boxes_too u =
         let boxes : List BoxKey = map box_from c.containers in
         ap (λ l. boxes_said (map box_from l) d.housings u) r.containers
@@ -180,7 +175,8 @@ module _ (c d : CatalogueRows) (r : IsReordered c d) where
 
     unit_too : (u : ℕ) → unit_said d u ≡ unit_said c u
     unit_too u =
-        let none : Values → Unit = λ v. record { id = u; source = []; legacy = []; values = v; draft = false; until = None } in
+        let none : Values → Unit =
+        λ v. record { id = u; source = []; legacy = []; values = v; draft = false; until = None } in
         ap (λ o. unwrap_or (option_map (unit_from d) o) (none (values_said d u []))) (number_too (λ (row : UnitRow). row.id) c.units d.units r.units ids u)
         ∙ (ap (λ f. unwrap_or (option_map f (find (λ (row : UnitRow). nat_eq row.id u) c.units)) (none (values_said d u []))) (fun_ext from_too)
         ∙ ap (λ v. unwrap_or (option_map (unit_from c) (find (λ (row : UnitRow). nat_eq row.id u) c.units)) (none v)) (values_too u []))

@@ -1,16 +1,6 @@
 -- Tables whose catalogue stands in another order say the same state, and have a cause no sooner.
 use Rattle.std.proofs.Common.{◌≡◌, Bool, true, false, List, [], ◌∷◌, None, refl, sym, ap, ◌∙◌, subst, nat_eq, map}
-use Rattle.std.specs.List.{list_all, list_any}
-use Rattle.std.proofs.Math.Path.{fun_ext}
-use Rattle.std.proofs.lemmas.Bool.{and_from, not_from_true}
-use Rattle.office_tables.specs.Versions.{Version, encoding}
-use Rattle.desk_core.specs.DeskCauses.{readers_are_bad, orders_are_bad, holdings_are_bad, runs_are_bad}
-use Rattle.catalogue_core.specs.CatalogueCauses.{MeetsCatalogueKeys, are_good_places, are_good_units, unit_numbers, is_good_element, are_good_container_rows, is_good_housing}
-use Rattle.catalogue_core.specs.CatalogueRows.{CatalogueRows, UnitRow, ContainerRow, box_from}
-use Rattle.office_core.specs.State.{State, containers}
-use Rattle.office_core.specs.Soundness.{IsSound}
-use Rattle.state_encoding.specs.Causes.{around, catalogue_tests, desk_tests, day_is_broken, is_held_against_rules, is_good_office, first_held, cause}
-use Rattle.state_encoding.specs.OfficeRows.{OfficeRows, tables, state_of}
+use Rattle.state_encoding.proofs.Common.{CatalogueRows, ContainerRow, IsSound, MeetsCatalogueKeys, OfficeRows, State, UnitRow, Version, and_from, are_good_container_rows, are_good_places, are_good_units, around, box_from, catalogue_tests, cause, containers, day_is_broken, desk_tests, encoding, first_held, fun_ext, holdings_are_bad, is_good_element, is_good_housing, is_good_office, is_held_against_rules, list_all, list_any, not_from_true, orders_are_bad, readers_are_bad, runs_are_bad, state_of, tables, unit_numbers}
 use Rattle.state_encoding.proofs.DeskPasses.{desk_passes}
 use Rattle.state_encoding.proofs.JudgedWhole.{sound_catalogue, tables_are_shown}
 use Rattle.state_encoding.proofs.Judging.{none_behind, none_in_both}
@@ -18,7 +8,8 @@ use Rattle.state_encoding.proofs.ShownElements.{elements_shown, containers_shown
 use Rattle.state_encoding.proofs.ShownUnits.{office_shown, units_shown}
 use Rattle.state_encoding.proofs.shown_cells.OtherOrders.{IsReordered, any_too, units_too, elements_too, housings_too, forest_too}
 
-pub five_none : {a b c d e : Bool} → a ≡ false → b ≡ false → c ≡ false → d ≡ false → e ≡ false → first_held (a ∷ b ∷ c ∷ d ∷ e ∷ []) ≡ None
+pub five_none : {a b c d e : Bool} → a ≡ false → b ≡ false → c ≡ false → d ≡ false → e ≡ false
+    → first_held (a ∷ b ∷ c ∷ d ∷ e ∷ []) ≡ None
 five_none p q r s t = rw (p, q, r, s, t) refl
 
 module _ (version : Version) (s : State) (g : IsSound s) (c : CatalogueRows) (r : IsReordered (tables version s).catalogue c) (placed : are_good_places (encoding version) c.places ≡ true) where

@@ -1,28 +1,12 @@
 -- Each reading gives back the row of which the cells are.
 use Rattle.std.proofs.Common.{◌≡◌, ℕ, ℤ, pos, true, false, Bool, List, [], ◌∷◌, None, Some, Option, filter_map, map, refl, sym, ap, subst, ◌∙◌, inl, inr, IsUtf8}
-use Rattle.std.specs.Prelude.{option_map, is_none}
-use Rattle.std.specs.List.{cons_option}
-use Rattle.std.specs.List.Sorted.{IsPermutation}
-use Rattle.std.proofs.lemmas.Bool.{or_from}
-use Rattle.std.proofs.lemmas.List.{map-id}
 use Rattle.sqlite.specs.declared.types.Value.TheVariants.{Int, Text}
-use Rattle.sqlite.specs.Order.{Row}
 use Rattle.sqlite.specs.Values.{or_null}
-use Rattle.tree_core.proofs.Lists.{In, In-permutation}
-use Rattle.tree_core.specs.declared.rows.Link.{Link}
-use Rattle.tree_core.specs.declared.rows.Span.{Span}
-use Rattle.desk_core.specs.DeskRows.{ReaderRow, SeatRow, OrderRow, HoldingRow, RunRow, RunLineRow, PermitRow}
-use Rattle.catalogue_core.specs.CatalogueRows.{OfficeRow, UnitRow, ElementRow, ContainerRow, HousingRow}
-use Rattle.office_tables.specs.Cells.{whole_in, number_in, text_in, flag_in, or_null_in, from, has_unread}
-use Rattle.office_tables.specs.CatalogueCells.{read_office, read_unit, read_link, read_span, read_element, read_container, read_housing}
-use Rattle.office_tables.specs.DeskCells.{read_reader, read_seat, read_order, read_holding, read_run, read_run_line, read_permit}
+use Rattle.office_tables.specs.Cells.{number_in}
 use Rattle.office_tables.specs.Flags.{flag}
 use Rattle.office_tables.specs.RowNumbers.{HasNumbered}
-use Rattle.office_tables.specs.Permits.{permit_cells}
-use Rattle.office_tables.proofs.CellTexts.{says_text}
-use Rattle.state_encoding.specs.CellSoundness.{IsLegibleUnitRow, IsLegibleContainerRow}
-use Rattle.office_tables.specs.SharedRows.{office_cells}
-use Rattle.state_encoding.specs.CellsOfOffices.{HasRows, unit_cells, element_cells, container_cells, housing_cells, link_cells, span_cells, reader_cells, seat_cells, order_cells, holding_cells, run_cells, run_line_cells}
+use Rattle.state_encoding.specs.CellsOfOffices.{HasRows}
+use Rattle.state_encoding.proofs.Common.{ContainerRow, ElementRow, HoldingRow, HousingRow, In, In-permutation, IsLegibleContainerRow, IsLegibleUnitRow, IsPermutation, Link, OfficeRow, OrderRow, PermitRow, ReaderRow, Row, RunLineRow, RunRow, SeatRow, Span, UnitRow, cons_option, container_cells, element_cells, flag_in, from, has_unread, holding_cells, housing_cells, is_none, link_cells, map-id, office_cells, option_map, or_from, or_null_in, order_cells, permit_cells, read_container, read_element, read_holding, read_housing, read_link, read_office, read_order, read_permit, read_reader, read_run, read_run_line, read_seat, read_span, read_unit, reader_cells, run_cells, run_line_cells, says_text, seat_cells, span_cells, text_in, unit_cells, whole_in}
 
 -- ---- cells
 
@@ -102,25 +86,36 @@ pub record AreRead {R : Type 0} (read : Row → Option R) (there : List Row) (ro
 module _ {A R : Type 0} (read : Row → Option R) (cells : A → Row) (tell : A → R) (P : R → Type 0) (back : (a : A) → P (tell a) → read (cells a) ≡ Some (tell a)) where
   each_back : (xs : List A) → ((r : R) → In r (map tell xs) → P r) → filter_map read (map cells xs) ≡ map tell xs
   each_back [] h = refl
-  each_back (x ∷ xs) h = ap (λ o. cons_option o (filter_map read (map cells xs))) (back x (h (tell x) (inl refl))) ∙ ap (λ l. tell x ∷ l) (each_back xs (λ r i. h r (inr i)))
+  each_back (x ∷ xs) h =
+      ap (λ o. cons_option o (filter_map read (map cells xs))) (back x (h (tell x) (inl refl)))
+      ∙ ap (λ l. tell x ∷ l) (each_back xs (λ r i. h r (inr i)))
 
   none_unread : (xs : List A) → ((r : R) → In r (map tell xs) → P r) → has_unread read (map cells xs) ≡ false
   none_unread [] h = refl
-  none_unread (x ∷ xs) h = or_from (is_none (read (cells x))) (has_unread read (map cells xs)) (ap is_none (back x (h (tell x) (inl refl)))) (none_unread xs (λ r i. h r (inr i)))
+  none_unread (x ∷ xs) h =
+      or_from (is_none (read (cells x))) (has_unread read (map cells xs)) (ap is_none (back x (h (tell x) (inl refl)))) (none_unread xs (λ r i. h r (inr i)))
 
-  all_back : (there : List Row) (rows : List R) (stored : List A) → there ≡ map cells stored → IsPermutation rows (map tell stored) → ((r : R) → In r rows → P r) → AreRead read there rows
+  all_back : (there : List Row) (rows : List R) (stored : List A) → there ≡ map cells stored
+      → IsPermutation rows (map tell stored) → ((r : R) → In r rows → P r) → AreRead read there rows
   all_back there rows stored are same h =
-      let every : (r : R) → In r (map tell stored) → P r = λ r i. h r (In-permutation rows (map tell stored) r same i) in
+      let every : (r : R) → In r (map tell stored) → P r =
+      λ r i. h r (In-permutation rows (map tell stored) r same i) in
       record {
         all = ap (has_unread read) are ∙ none_unread stored every;
         same = subst (IsPermutation rows) (sym (ap (filter_map read) are ∙ each_back stored every)) same;
       }
 
 -- of rows that have a number of their own
-pub numbered_read : {R : Type 0} (read : Row → Option R) (cells : ℤ × R → Row) (P : R → Type 0) → ((x : ℤ × R) → P x.1 → read (cells x) ≡ Some x.1)
-    → (there : List Row) (rows : List R) → HasNumbered cells there rows → ((r : R) → In r rows → P r) → AreRead read there rows
-numbered_read read cells P back there rows has h = all_back read cells (λ x. x.1) P back there rows has.numbered has.are has.tell h
+pub numbered_read : {R : Type 0} (read : Row → Option R) (cells : ℤ × R → Row) (P : R → Type 0)
+    → ((x : ℤ × R) → P x.1 → read (cells x) ≡ Some x.1)
+    → (there : List Row) (rows : List R) → HasNumbered cells there rows → ((r : R) → In r rows → P r)
+    → AreRead read there rows
+numbered_read read cells P back there rows has h =
+    all_back read cells (λ x. x.1) P back there rows has.numbered has.are has.tell h
 
-pub keyed_read : {R : Type 0} (read : Row → Option R) (cells : R → Row) (P : R → Type 0) → ((x : R) → P x → read (cells x) ≡ Some x)
-    → (there : List Row) (rows : List R) → HasRows cells there rows → ((r : R) → In r rows → P r) → AreRead read there rows
-keyed_read read cells P back there rows has h = all_back read cells (λ x. x) P back there rows has.stored has.are (subst (IsPermutation rows) (sym (map-id has.stored)) has.tell) h
+pub keyed_read : {R : Type 0} (read : Row → Option R) (cells : R → Row) (P : R → Type 0)
+    → ((x : R) → P x → read (cells x) ≡ Some x)
+    → (there : List Row) (rows : List R) → HasRows cells there rows → ((r : R) → In r rows → P r)
+    → AreRead read there rows
+keyed_read read cells P back there rows has h =
+    all_back read cells (λ x. x) P back there rows has.stored has.are (subst (IsPermutation rows) (sym (map-id has.stored)) has.tell) h

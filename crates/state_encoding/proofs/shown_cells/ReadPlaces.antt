@@ -1,26 +1,12 @@
 -- The places of the units, as they are read.
 use Rattle.std.proofs.Common.{◌≡◌, ◌⊎◌, ◌<◌, ℕ, true, false, not, List, refl, sym, ap, ◌∙◌, subst, inl, nat_eq}
-use Rattle.std.specs.Prelude.{⊤, is_some, filter_map}
-use Rattle.std.specs.List.{IsDistinct, list_all}
-use Rattle.std.specs.List.Sorted.{IsPermutation}
-use Rattle.std.proofs.lemmas.Bool.{and_parts, and_from}
-use Rattle.std.proofs.lemmas.List.Sorted.{IsPermutation-refl, IsPermutation-trans, IsPermutation-map}
-use Rattle.sqlite.specs.Tree.{Trees}
-use Rattle.tree_core.specs.declared.rows.Link.{Link}
-use Rattle.tree_core.specs.declared.rows.Span.{Span}
-use Rattle.tree_core.specs.Forest.{Forest, nodes}
-use Rattle.tree_core.specs.Links.{siblings, HoldsLinks}
-use Rattle.tree_core.specs.Spans.{number}
-use Rattle.tree_core.specs.Encodings.{TreeEncoding, Links, Spans}
-use Rattle.tree_core.proofs.Linking.{link_faultless, no_link_fault}
+use Rattle.std.specs.Prelude.{filter_map}
+use Rattle.std.specs.List.{IsDistinct}
 use Rattle.desk_core.specs.Orders.{in_order}
 use Rattle.desk_core.proofs.OrderLemmas.{in_order-permutation}
-use Rattle.catalogue_core.specs.CatalogueCauses.{is_good_link, are_good_places, place_numbers, ArePlacesOf}
-use Rattle.catalogue_core.specs.CatalogueRows.{PlaceRows, LinkRows, SpanRows, place_rows, places_said}
 use Rattle.office_tables.specs.Schema as tables
-use Rattle.office_tables.specs.CatalogueCells.{read_link, read_span}
 use Rattle.row_decoding.specs.TableRows.{by, then_by, places_in, places_are_unread}
-use Rattle.state_encoding.specs.CellsOfOffices.{HasPlaces, link_cells, span_cells}
+use Rattle.state_encoding.proofs.Common.{ArePlacesOf, Forest, HasPlaces, HoldsLinks, IsPermutation, IsPermutation-map, IsPermutation-refl, IsPermutation-trans, Link, LinkRows, Links, PlaceRows, Span, SpanRows, Spans, TreeEncoding, Trees, and_from, and_parts, are_good_places, is_good_link, is_some, link_cells, link_faultless, list_all, no_link_fault, nodes, number, place_numbers, place_rows, places_said, read_link, read_span, siblings, span_cells, ⊤}
 use Rattle.state_encoding.proofs.Grouped.{order_weaker}
 use Rattle.state_encoding.proofs.Linked.{links_say}
 use Rattle.state_encoding.proofs.shown_cells.KeyOrder.{then_by_again, spans_in_order}
@@ -34,7 +20,8 @@ pub record AreSamePlaces (way : TreeEncoding) (these those : PlaceRows) : Type 0
   pub numbers : IsPermutation (place_numbers these) (place_numbers those)
   pub said : places_said those ≡ places_said these
 
-links_too : (f : Forest ℕ) (links : List Link) → IsDistinct nat_eq (nodes f) → IsPermutation (siblings f) links → AreSamePlaces Links (LinkRows (siblings f)) (LinkRows links)
+links_too : (f : Forest ℕ) (links : List Link) → IsDistinct nat_eq (nodes f) → IsPermutation (siblings f) links
+    → AreSamePlaces Links (LinkRows (siblings f)) (LinkRows links)
 links_too f links d same =
     let held : HoldsLinks f links = record { distinct = d; rows = same } in
     record {
@@ -45,7 +32,8 @@ links_too f links d same =
       said = links_say f links held ∙ sym (links_say f (siblings f) (record { distinct = d; rows = IsPermutation-refl (siblings f) }));
     }
 
-spans_too : (f : Forest ℕ) (spans : List Span) → spans ≡ number 1 f → AreSamePlaces Spans (SpanRows (number 1 f)) (SpanRows spans)
+spans_too : (f : Forest ℕ) (spans : List Span) → spans ≡ number 1 f
+    → AreSamePlaces Spans (SpanRows (number 1 f)) (SpanRows spans)
 spans_too f spans e =
     subst (λ l. AreSamePlaces Spans (SpanRows (number 1 f)) (SpanRows l)) (sym e)
     (record { rows = IsPermutation-refl (number 1 f); good = λ g. g; numbers = IsPermutation-refl (place_numbers (SpanRows (number 1 f))); said = refl })
@@ -54,9 +42,11 @@ pub record ArePlacesRead (way : TreeEncoding) (db : Trees) (f : Forest ℕ) : Ty
   pub all : places_are_unread way db ≡ false
   pub same : AreSamePlaces way (place_rows way f) (places_in way db)
 
-pub places_read : (way : TreeEncoding) (db : Trees) (f : Forest ℕ) → IsDistinct nat_eq (nodes f) → HasPlaces db (place_rows way f) → ArePlacesRead way db f
+pub places_read : (way : TreeEncoding) (db : Trees) (f : Forest ℕ) → IsDistinct nat_eq (nodes f)
+    → HasPlaces db (place_rows way f) → ArePlacesRead way db f
 places_read Links db f d has =
-    let it : AreRead read_link (db tables.link.tree) (siblings f) = keyed_read read_link link_cells (λ _. ⊤) (λ row h. link_back row) (db tables.link.tree) (siblings f) has (λ row i. tt) in
+    let it : AreRead read_link (db tables.link.tree) (siblings f) =
+    keyed_read read_link link_cells (λ _. ⊤) (λ row h. link_back row) (db tables.link.tree) (siblings f) has (λ row i. tt) in
     let rows = filter_map read_link (db tables.link.tree) in
     record {
       all = it.all;
@@ -64,7 +54,8 @@ places_read Links db f d has =
           (IsPermutation-trans (siblings f) rows (in_order (by (λ (row : Link). row.id)) rows) it.same (in_order-permutation (by (λ (row : Link). row.id)) rows));
     }
 places_read Spans db f d has =
-    let it : AreRead read_span (db tables.span.tree) (number 1 f) = keyed_read read_span span_cells (λ _. ⊤) (λ row h. span_back row) (db tables.span.tree) (number 1 f) has (λ row i. tt) in
+    let it : AreRead read_span (db tables.span.tree) (number 1 f) =
+    keyed_read read_span span_cells (λ _. ⊤) (λ row h. span_back row) (db tables.span.tree) (number 1 f) has (λ row i. tt) in
     record {
       all = it.all;
       same = spans_too f (in_order (then_by (λ (row : Span). row.lft) (λ (row : Span). row.id)) (filter_map read_span (db tables.span.tree)))

@@ -1,42 +1,21 @@
 -- Tables that show a sound office: all is read, there is no cause, and they say the office.
 use Rattle.std.proofs.Common.{◌≡◌, Bool, false, List, [], ◌∷◌, ◌++◌, None, refl, sym, ap, ◌∙◌, subst, nat_eq, ◌||◌, unwrap_or, IsUtf8}
-use Rattle.std.specs.Prelude.{⊤, filter_map, is_none}
-use Rattle.std.specs.List.{IsDistinct, cons_option}
-use Rattle.std.specs.List.Sorted.{IsPermutation}
-use Rattle.std.proofs.lemmas.Bool.{or_from}
-use Rattle.std.proofs.lemmas.List.Sorted.{IsPermutation-trans}
-use Rattle.sqlite.specs.Tree.{Trees}
-use Rattle.tree_core.specs.Forest.{each}
-use Rattle.office_tables.specs.Versions.{Version, encoding}
-use Rattle.tree_core.proofs.EachLemmas.{nodes-each}
-use Rattle.desk_core.specs.DeskCauses.{MeetsDeskKeys}
-use Rattle.desk_core.specs.DeskRows.{Desk, ReaderRow, SeatRow, OrderRow, HoldingRow, RunRow, RunLineRow, PermitRow}
+use Rattle.std.specs.Prelude.{filter_map}
+use Rattle.std.specs.List.{IsDistinct}
+use Rattle.desk_core.specs.DeskRows.{Desk}
 use Rattle.desk_core.specs.Orders.{in_order}
 use Rattle.desk_core.proofs.OrderLemmas.{in_order-permutation}
-use Rattle.catalogue_core.specs.CatalogueRows.{ElementRow, ContainerRow}
-use Rattle.office_core.specs.SoundOffice.{IsSoundOffice}
-use Rattle.office_core.specs.State.{State}
-use Rattle.office_core.specs.Words.{first}
 use Rattle.office_tables.specs.Schema as tables
-use Rattle.office_tables.specs.Cells.{has_unread}
-use Rattle.office_tables.specs.CatalogueCells.{read_office, read_unit, read_element, read_container, read_housing}
-use Rattle.office_tables.specs.DeskCells.{read_reader, read_seat, read_order, read_holding, read_run, read_run_line, read_permit}
-use Rattle.office_tables.specs.Permits.{permit_cells}
-use Rattle.state_encoding.specs.Causes.{catalogue_tests, desk_tests, cause, first_held}
 use Rattle.state_encoding.specs.CellCauses.{rows_in, unread, either_of, no_office}
-use Rattle.state_encoding.specs.CellSoundness.{AreLegibleRows, IsLegibleUnitRow, IsLegibleContainerRow}
-use Rattle.office_tables.specs.SharedRows.{office_cells}
-use Rattle.state_encoding.specs.CellsOfOffices.{HasTables, IsRead, IsTold, SoundOfficesAreRead, SoundOfficesAreTold, unit_cells, element_cells, container_cells, housing_cells, reader_cells, seat_cells, order_cells, holding_cells, run_cells, run_line_cells}
-use Rattle.state_encoding.specs.OfficeRows.{OfficeRows, tables as tables_of, state_of, number_of}
+use Rattle.state_encoding.specs.OfficeRows.{tables as tables_of}
+use Rattle.state_encoding.proofs.Common.{AreLegibleRows, ContainerRow, ElementRow, HasTables, HoldingRow, IsLegibleContainerRow, IsLegibleUnitRow, IsPermutation, IsPermutation-trans, IsRead, IsSoundOffice, IsTold, MeetsDeskKeys, OfficeRows, OrderRow, PermitRow, ReaderRow, RunLineRow, RunRow, SeatRow, SoundOfficesAreRead, SoundOfficesAreTold, State, Trees, Version, and_parts, catalogue_tests, cause, cons_option, container_cells, desk_tests, each, element_cells, encoding, first, first_held, has_unread, holding_cells, housing_cells, is_none, nodes-each, number_of, office_cells, or_from, order_cells, permit_cells, read_container, read_element, read_holding, read_housing, read_office, read_order, read_permit, read_reader, read_run, read_run_line, read_seat, read_unit, reader_cells, run_cells, run_line_cells, seat_cells, state_of, unit_cells, ⊤}
 use Rattle.state_encoding.proofs.DeskPasses.{desk_passes}
-use Rattle.state_encoding.proofs.JudgedWhole.{tables_are_shown}
+use Rattle.state_encoding.proofs.JudgedWhole.{tables_are_shown, sound_catalogue}
 use Rattle.state_encoding.proofs.Judging.{none_held, hold_none}
 use Rattle.state_encoding.proofs.NumberedRows.{in_order as numbered_in_order}
 use Rattle.state_encoding.proofs.RowsByNumber.{each_in}
 use Rattle.state_encoding.proofs.ShownElements.{containers_shown}
 use Rattle.state_encoding.proofs.ShownUnits.{units_shown}
-use Rattle.state_encoding.proofs.JudgedWhole.{sound_catalogue}
-use Rattle.std.proofs.lemmas.Bool.{and_parts}
 use Rattle.state_encoding.proofs.Whole.{says_the_state}
 use Rattle.state_encoding.proofs.shown_cells.KeyOrder.{by_again, then_by_again}
 use Rattle.state_encoding.proofs.shown_cells.LegibleTables.{tables_legible}
@@ -54,7 +33,8 @@ either_too (u ∷ us) (t ∷ ts) h k =
     let b = none_held t ts k in
     hold_none (u || t) (either_of us ts) (or_from u t a.0 b.0) (either_too us ts a.1 b.1)
 
-ordered_too : {R : Type 0} (before : R → R → Bool) (rows xs : List R) → IsPermutation rows xs → IsPermutation rows (in_order before xs)
+ordered_too : {R : Type 0} (before : R → R → Bool) (rows xs : List R) → IsPermutation rows xs
+    → IsPermutation rows (in_order before xs)
 ordered_too before rows xs same = IsPermutation-trans rows xs (in_order before xs) same (in_order-permutation before xs)
 
 module _ (version : Version) (db : Trees) (s : State) (has : HasTables db (tables_of version s)) (g : IsSoundOffice s) where
@@ -114,7 +94,9 @@ module _ (version : Version) (db : Trees) (s : State) (has : HasTables db (table
   permits = numbered_read read_permit permit_cells (λ _. ⊤) (λ row h. permit_back row) (db tables.permit.tree) t.desk.permits has.desk.permits (λ row i. tt)
 
   office_all : has_unread read_office (db tables.office.tree) ≡ false
-  office_all = ap (has_unread read_office) has.office ∙ or_from (is_none (read_office (office_cells t.office))) false (ap is_none (office_back t.office texts.country texts.repo)) refl
+  office_all =
+      ap (has_unread read_office) has.office
+      ∙ or_from (is_none (read_office (office_cells t.office))) false (ap is_none (office_back t.office texts.country texts.repo)) refl
 
   office_same : (rows_in version db).office ≡ t.office
   office_same =

@@ -1,22 +1,12 @@
 -- Each state has trees that show it: its rows as they stand, those without an INTEGER PRIMARY KEY numbered from 1 on.
 use Rattle.std.proofs.Common.{◌≡◌, ℕ, suc, ◌<◌, ℤ, pos, List, [], ◌∷◌, cond, refl, sym, ap, subst, nat_eq, map, arith, Less}
-use Rattle.std.specs.List.{AllByRecursion}
-use Rattle.std.specs.List.Sorted.{IsPermutation}
-use Rattle.std.specs.Ordering.{int_cmp}
-use Rattle.std.proofs.lemmas.List.Sorted.{IsPermutation-refl}
-use Rattle.sqlite.specs.Order.{Row}
-use Rattle.sqlite.specs.Tree.{Trees}
-use Rattle.office_tables.specs.Versions.{Version}
-use Rattle.catalogue_core.specs.CatalogueRows.{PlaceRows, LinkRows, SpanRows}
-use Rattle.office_core.specs.State.{State}
 use Rattle.office_tables.specs.Schema as tables
 use Rattle.office_tables.specs.RowNumbers.{HasNumbered}
 use Rattle.office_tables.specs.Order.{Rises}
-use Rattle.office_tables.specs.Permits.{permit_cells}
 use Rattle.office_tables.proofs.numbered.Counted.{below_less}
-use Rattle.office_tables.specs.SharedRows.{office_cells}
-use Rattle.state_encoding.specs.CellsOfOffices.{HasRows, HasPlaces, HasTables, IsRepresentedByTrees, unit_cells, element_cells, container_cells, housing_cells, link_cells, span_cells, reader_cells, seat_cells, order_cells, holding_cells, run_cells, run_line_cells}
-use Rattle.state_encoding.specs.OfficeRows.{OfficeRows, tables as tables_of}
+use Rattle.state_encoding.specs.CellsOfOffices.{HasRows}
+use Rattle.state_encoding.specs.OfficeRows.{tables as tables_of}
+use Rattle.state_encoding.proofs.Common.{AllByRecursion, HasPlaces, HasTables, IsPermutation, IsPermutation-refl, IsRepresentedByTrees, LinkRows, OfficeRows, PlaceRows, Row, SpanRows, State, Trees, Version, container_cells, element_cells, holding_cells, housing_cells, int_cmp, link_cells, office_cells, order_cells, permit_cells, reader_cells, run_cells, run_line_cells, seat_cells, span_cells, unit_cells}
 
 module _ {R : Type 0} where
   counted_from : ℕ → List R → List (ℤ × R)
@@ -39,7 +29,8 @@ module _ {R : Type 0} where
   rise n (row ∷ rows) = (above n (suc n) rows (omega arith), rise (suc n) rows)
 
   has_numbered : (cells : ℤ × R → Row) (rows : List R) → HasNumbered cells (map cells (counted_from 1 rows)) rows
-  has_numbered cells rows = record { numbered = counted_from 1 rows; are = refl; rise = rise 1 rows; tell = subst (IsPermutation rows) (sym (told 1 rows)) (IsPermutation-refl rows) }
+  has_numbered cells rows =
+      record { numbered = counted_from 1 rows; are = refl; rise = rise 1 rows; tell = subst (IsPermutation rows) (sym (told 1 rows)) (IsPermutation-refl rows) }
 
   has_rows : (cells : R → Row) (rows : List R) → HasRows cells (map cells rows) rows
   has_rows cells rows = record { stored = rows; are = refl; tell = IsPermutation-refl rows }

@@ -1,39 +1,14 @@
 -- Rows of the catalogue's tables with their keys and without a cause say a sound catalogue, and are its rows.
 use Rattle.std.proofs.Common.{◌≡◌, ℕ, ◌+◌, ◌<◌, ◌≤◌, true, false, not, List, [], ◌∷◌, length, Option, Some, None, refl, sym, ap, ◌∙◌, subst, nat_eq, inl, inr, arith, map}
-use Rattle.std.specs.Prelude.{ℤ, nat_le, nat_lt}
-use Rattle.std.specs.List.{IsDistinct, AllByRecursion, list_all}
-use Rattle.std.specs.List.Sorted.{IsPermutation}
-use Rattle.std.proofs.lemmas.Bool.{and_parts, eqb-true, leb-true, ltb-true, not-true, not-false}
+use Rattle.std.specs.Prelude.{ℤ, nat_lt}
+use Rattle.std.specs.List.{IsDistinct}
 use Rattle.std.proofs.lemmas.Slice.Eq.{bytes_eq-Decides}
-use Rattle.std.proofs.lemmas.List.{length-map}
-use Rattle.std.proofs.lemmas.List.Folds.{list_all-map}
-use Rattle.std.proofs.lemmas.List.Sorted.{IsPermutation-refl, IsPermutation-sym, length_permutation}
-use Rattle.std.proofs.lemmas.Map.Keys.{IsDistinct-IsPermutation}
-use Rattle.isad_core.specs.Texts.{is_blank_text}
-use Rattle.isad_core.specs.Days.{IsDayNumber, is_day_number}
-use Rattle.isad_core.proofs.DayLemmas.{is_day_number-so}
-use Rattle.isad_core.specs.declared.values.BoxKey.{BoxKey}
-use Rattle.isad_core.specs.Boxes.{distinct, is_same as is_same_box}
-use Rattle.tree_core.specs.Forest.{Forest, Empty, Node, nodes, each, size}
-use Rattle.tree_core.proofs.Lists.{In, In-map}
-use Rattle.tree_core.proofs.EachLemmas.{nodes-each}
-use Rattle.office_tables.specs.Versions.{Version, version_number, encoding}
-use Rattle.catalogue_core.specs.Units.{Unit}
+use Rattle.isad_core.specs.Boxes.{is_same as is_same_box}
 use Rattle.catalogue_core.proofs.NodeLemmas.{length-nodes}
-use Rattle.isad_core.specs.Limits.{most_units, most_unit_numbers, most_containers, most_deep, most_bytes, most_seats, most_daily, most_hands, most_run_size}
 use Rattle.office_core.specs.Words.{stands}
-use Rattle.catalogue_core.specs.Sources.{is_source, is_between}
-use Rattle.catalogue_core.specs.Moves.{height}
+use Rattle.catalogue_core.specs.Sources.{is_between}
 use Rattle.catalogue_core.proofs.Heights.{height-each}
-use Rattle.office_core.specs.Soundness.{is_country, is_repository, AreGoodSettings}
-use Rattle.catalogue_core.specs.GoodCatalogues.{IsSomeDay, IsGoodUnit, AreGoodUnits, is_same_unit}
-use Rattle.office_core.specs.Laws.{numbers_from}
-use Rattle.catalogue_core.specs.CatalogueRows.{OfficeRow, UnitRow, unit_row, ElementRow, ContainerRow, HousingRow, place_rows, box_from, text_said, places_said, housings_of}
-use Rattle.state_encoding.specs.OfficeRows.{number_of, OfficeRows, state_of, boxes_said, unit_said, unit_from}
-use Rattle.isad_core.specs.Words.{are_numbered_from}
-use Rattle.state_encoding.specs.Causes.{is_good_office, office_is_bad, catalogue_cause}
-use Rattle.catalogue_core.specs.CatalogueCauses.{is_unit_number, are_good_places, is_some_day, is_good_unit_row, unit_numbers, place_numbers, all_stand_in, are_good_units, is_good_element, is_good_housing, are_good_container_rows, places_are_bad, units_are_bad, elements_are_bad, containers_are_bad, is_named_alike, MeetsCatalogueKeys, ArePlacesOf}
-use Rattle.state_encoding.specs.RowSoundness.{IsCatalogueOf, IsSoundCatalogue, SaysTheCatalogue}
+use Rattle.state_encoding.proofs.Common.{AllByRecursion, AreGoodSettings, AreGoodUnits, ArePlacesOf, BoxKey, ContainerRow, ElementRow, Empty, Forest, HousingRow, In, In-map, IsCatalogueOf, IsDayNumber, IsDistinct-IsPermutation, IsGoodUnit, IsPermutation, IsPermutation-refl, IsPermutation-sym, IsSomeDay, IsSoundCatalogue, MeetsCatalogueKeys, Node, OfficeRow, OfficeRows, SaysTheCatalogue, Unit, UnitRow, Version, all_stand_in, and_parts, are_good_container_rows, are_good_places, are_good_units, are_numbered_from, box_from, boxes_said, catalogue_cause, containers_are_bad, distinct, each, elements_are_bad, encoding, eqb-true, height, housings_of, is_blank_text, is_country, is_day_number, is_day_number-so, is_good_element, is_good_housing, is_good_office, is_good_unit_row, is_named_alike, is_repository, is_same_unit, is_some_day, is_source, is_unit_number, leb-true, length-map, length_permutation, list_all, list_all-map, ltb-true, most_bytes, most_containers, most_daily, most_deep, most_hands, most_run_size, most_seats, most_unit_numbers, most_units, nat_le, nodes, nodes-each, not-false, not-true, number_of, numbers_from, office_is_bad, place_numbers, place_rows, places_are_bad, places_said, size, state_of, text_said, unit_from, unit_numbers, unit_row, unit_said, units_are_bad, version_number}
 use Rattle.state_encoding.proofs.Judging.{none_held}
 use Rattle.state_encoding.proofs.RowsByNumber.{in_map, all_in, stands_in}
 use Rattle.state_encoding.proofs.told.ToldPlaces.{ArePlaced, good_places, numbers_given}
@@ -112,7 +87,8 @@ record IsGoodRow (next : ℕ) (row : UnitRow) : Type 0 where
   level_short : length row.level ≤ most_bytes
   until : IsSomeDay row.until
 
-good_row : (next : ℕ) (row : UnitRow) → is_unit_number row.id ≡ true → is_good_unit_row next row ≡ true → IsGoodRow next row
+good_row : (next : ℕ) (row : UnitRow) → is_unit_number row.id ≡ true → is_good_unit_row next row ≡ true
+    → IsGoodRow next row
 good_row next row n h =
     let b = and_parts (nat_lt row.id next) _ h in
     let c = and_parts (is_source row.source) _ b.1 in
@@ -135,7 +111,8 @@ record AreGoodRows (t : OfficeRows) : Type 0 where
   few : length t.catalogue.units ≤ most_units
   depth : height (state_of t).catalogue.forest ≤ most_deep
 
-good_rows : (version : Version) (t : OfficeRows) → are_good_places (encoding version) t.catalogue.places ≡ true → are_good_units t.office.next_unit t.catalogue ≡ true → AreGoodRows t
+good_rows : (version : Version) (t : OfficeRows) → are_good_places (encoding version) t.catalogue.places ≡ true
+    → are_good_units t.office.next_unit t.catalogue ≡ true → AreGoodRows t
 good_rows version t p h =
     let a = and_parts (list_all (is_good_unit_row t.office.next_unit) t.catalogue.units) _ h in
     let b = and_parts (all_stand_in (place_numbers t.catalogue.places) (unit_numbers t.catalogue)) _ a.1 in
@@ -151,7 +128,9 @@ good_rows version t p h =
       depth = subst (λ n. n ≤ most_deep) (sym (height-each (unit_said t.catalogue) (places_said t.catalogue.places))) (leb-true (height (places_said t.catalogue.places)) most_deep d.1);
     }
 
-units_of : (version : Version) (t : OfficeRows) → ArePlaced (encoding version) t.catalogue.places (places_said t.catalogue.places) → AreGoodRows t → AreUnitsOf t (places_said t.catalogue.places)
+units_of : (version : Version) (t : OfficeRows)
+    → ArePlaced (encoding version) t.catalogue.places (places_said t.catalogue.places) → AreGoodRows t
+    → AreUnitsOf t (places_said t.catalogue.places)
 units_of version t p g =
     record {
       apart = p.apart;
@@ -168,14 +147,18 @@ names_apart (u ∷ us) d = (others us d.0, names_apart us d.1)
     flips : (v : Unit) → is_same_unit u v ≡ is_named_alike (unit_row u) (unit_row v)
     flips v = grind (arith, bytes_eq-Decides v.source u.source, bytes_eq-Decides u.source v.source, bytes_eq-Decides v.legacy u.legacy, bytes_eq-Decides u.legacy v.legacy)
 
-    others : (vs : List Unit) → AllByRecursion (λ row. is_named_alike (unit_row u) row ≡ false) (map unit_row vs) → AllByRecursion (λ v. is_same_unit u v ≡ false) vs
+    others : (vs : List Unit) → AllByRecursion (λ row. is_named_alike (unit_row u) row ≡ false) (map unit_row vs)
+        → AllByRecursion (λ v. is_same_unit u v ≡ false) vs
     others [] h = tt
     others (v ∷ vs) h = (flips v ∙ h.0, others vs h.1)
 
 pub alike_flips : (a b : UnitRow) → is_named_alike a b ≡ is_named_alike b a
 alike_flips a b = grind (arith, bytes_eq-Decides a.source b.source, bytes_eq-Decides b.source a.source, bytes_eq-Decides a.legacy b.legacy, bytes_eq-Decides b.legacy a.legacy)
 
-good_unit : (t : OfficeRows) (row : UnitRow) → IsGoodRow t.office.next_unit row → ((e : ElementRow) → In e t.catalogue.elements → is_blank_text e.value ≡ false) → distinct (boxes_said (map box_from t.catalogue.containers) t.catalogue.housings row.id) ≡ boxes_said (map box_from t.catalogue.containers) t.catalogue.housings row.id → IsGoodUnit (map box_from t.catalogue.containers) (unit_from t.catalogue row)
+good_unit : (t : OfficeRows) (row : UnitRow) → IsGoodRow t.office.next_unit row
+    → ((e : ElementRow) → In e t.catalogue.elements → is_blank_text e.value ≡ false)
+    → distinct (boxes_said (map box_from t.catalogue.containers) t.catalogue.housings row.id) ≡ boxes_said (map box_from t.catalogue.containers) t.catalogue.housings row.id
+    → IsGoodUnit (map box_from t.catalogue.containers) (unit_from t.catalogue row)
 good_unit t row g e d =
     record {
       source = g.source;
@@ -188,21 +171,27 @@ good_unit t row g e d =
       apart = d;
     }
 
-all_mapped : (P : Unit → Type 0) (g : ℕ → Unit) (us : List ℕ) → ((u : ℕ) → In u us → P (g u)) → AllByRecursion P (map g us)
+all_mapped : (P : Unit → Type 0) (g : ℕ → Unit) (us : List ℕ) → ((u : ℕ) → In u us → P (g u))
+    → AllByRecursion P (map g us)
 all_mapped P g [] h = tt
 all_mapped P g (u ∷ us) h = (h u (inl refl), all_mapped P g us (λ v i. h v (inr i)))
 
 ids_said : (t : OfficeRows) (us : List ℕ) → map (λ (unit : Unit). unit.id) (map (unit_said t.catalogue) us) ≡ us
 ids_said t [] = refl
-ids_said t (u ∷ us) = ap (λ v. v ∷ map (λ (unit : Unit). unit.id) (map (unit_said t.catalogue) us)) (said_id t u) ∙ ap (λ l. u ∷ l) (ids_said t us)
+ids_said t (u ∷ us) =
+    ap (λ v. v ∷ map (λ (unit : Unit). unit.id) (map (unit_said t.catalogue) us)) (said_id t u)
+    ∙ ap (λ l. u ∷ l) (ids_said t us)
 
 -- ---- the containers
 
-good_housing : (t : OfficeRows) (units : List ℕ) → ((u : ℕ) → In u (unit_numbers t.catalogue) → In u units) → (row : HousingRow) → is_good_housing t.catalogue row ≡ true → IsGoodHousing (map box_from t.catalogue.containers) units t.catalogue.housings row
+good_housing : (t : OfficeRows) (units : List ℕ) → ((u : ℕ) → In u (unit_numbers t.catalogue) → In u units)
+    → (row : HousingRow) → is_good_housing t.catalogue row ≡ true
+    → IsGoodHousing (map box_from t.catalogue.containers) units t.catalogue.housings row
 good_housing t units f row h =
     let a = and_parts (stands row.unit (unit_numbers t.catalogue)) _ h in
     let b = and_parts (is_between 1 (length t.catalogue.containers) row.container) (is_between 1 (length (housings_of row.unit t.catalogue.housings)) row.ord) a.1 in
-    let n : length (map box_from t.catalogue.containers) ≡ length t.catalogue.containers = length-map t.catalogue.containers box_from in
+    let n : length (map box_from t.catalogue.containers) ≡ length t.catalogue.containers =
+    length-map t.catalogue.containers box_from in
     let c = within 1 (length t.catalogue.containers) row.container b.0 in
     record {
       unit = f row.unit (stands_in row.unit (unit_numbers t.catalogue) a.0);
@@ -210,7 +199,8 @@ good_housing t units f row h =
       ord = within 1 (length (housings_of row.unit t.catalogue.housings)) row.ord b.1;
     }
 
-names_there : (rows : List ContainerRow) → list_all (λ (row : ContainerRow). not (is_blank_text row.name)) rows ≡ true → list_all (λ (box : BoxKey). not (is_blank_text box.name)) (map box_from rows) ≡ true
+names_there : (rows : List ContainerRow) → list_all (λ (row : ContainerRow). not (is_blank_text row.name)) rows ≡ true
+    → list_all (λ (box : BoxKey). not (is_blank_text box.name)) (map box_from rows) ≡ true
 names_there rows h = list_all-map (λ (box : BoxKey). not (is_blank_text box.name)) box_from rows ∙ h
 
 -- ---- all of it
@@ -240,21 +230,24 @@ module _ (version : Version) (t : OfficeRows) (k : MeetsCatalogueKeys t.catalogu
   element : (row : ElementRow) → In row t.catalogue.elements → IsGoodElement (unit_numbers t.catalogue) row
   element row i = good_element (unit_numbers t.catalogue) row (all_in (is_good_element (unit_numbers t.catalogue)) t.catalogue.elements row n.elements i)
 
-  housing : (row : HousingRow) → In row t.catalogue.housings → IsGoodHousing (map box_from t.catalogue.containers) (nodes (places_said t.catalogue.places)) t.catalogue.housings row
+  housing : (row : HousingRow) → In row t.catalogue.housings
+      → IsGoodHousing (map box_from t.catalogue.containers) (nodes (places_said t.catalogue.places)) t.catalogue.housings row
   housing row i = good_housing t (nodes (places_said t.catalogue.places)) there row (all_in (is_good_housing t.catalogue) t.catalogue.housings row n.housings i)
 
   office : IsGoodOffice version t.office
   office = good_office version t.office n.office
 
   -- what is so of each unit of a row is so of each unit
-  of_units : (P : Unit → Type 0) → ((row : UnitRow) → In row t.catalogue.units → P (unit_from t.catalogue row)) → AllByRecursion P (nodes (state_of t).catalogue.forest)
+  of_units : (P : Unit → Type 0) → ((row : UnitRow) → In row t.catalogue.units → P (unit_from t.catalogue row))
+      → AllByRecursion P (nodes (state_of t).catalogue.forest)
   of_units P h = subst (AllByRecursion P) (sym (nodes-each (unit_said t.catalogue) (places_said t.catalogue.places))) (all_mapped P (unit_said t.catalogue) (nodes (places_said t.catalogue.places)) (each_said t (places_said t.catalogue.places) P k.units units h))
 
   sound_units : AreGoodUnits (state_of t).catalogue
   sound_units =
       let f = (state_of t).catalogue.forest in
       let count : length (map unit_row (nodes f)) ≡ length (nodes f) = length-map (nodes f) unit_row in
-      let all : length t.catalogue.units ≡ length (map unit_row (nodes f)) = length_permutation (map unit_row (nodes f)) t.catalogue.units reordered in
+      let all : length t.catalogue.units ≡ length (map unit_row (nodes f)) =
+      length_permutation (map unit_row (nodes f)) t.catalogue.units reordered in
       let sized : length (nodes f) ≡ size f = length-nodes f in
       record {
         each = of_units (IsGoodUnit (map box_from t.catalogue.containers)) (λ row i. good_unit t row (rows.each row i) (λ e j. (element e j).filled)
@@ -272,7 +265,8 @@ module _ (version : Version) (t : OfficeRows) (k : MeetsCatalogueKeys t.catalogu
       let c = and_parts (are_numbered_from (λ (row : ContainerRow). row.id) 1 t.catalogue.containers) _ n.containers in
       let d = and_parts (list_all (λ (row : ContainerRow). not (is_blank_text row.name)) t.catalogue.containers) (nat_le (length t.catalogue.containers) most_containers) c.1 in
       let l = leb-true (length t.catalogue.containers) most_containers d.1 in
-      let same : length (map box_from t.catalogue.containers) ≡ length t.catalogue.containers = length-map t.catalogue.containers box_from in
+      let same : length (map box_from t.catalogue.containers) ≡ length t.catalogue.containers =
+      length-map t.catalogue.containers box_from in
       record {
         settings = office.settings;
         today = office.day;

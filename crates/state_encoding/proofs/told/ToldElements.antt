@@ -1,26 +1,10 @@
 -- The texts that rows of elements say are those rows.
 use Rattle.std.proofs.Common.{◌≡◌, ℕ, zero, suc, ◌+◌, ◌<◌, ◌≤◌, true, false, cond, not, ◌&&◌, List, [], ◌∷◌, ◌++◌, Option, Some, None, refl, sym, ap, ◌∙◌, subst, nat_eq, inl, inr, arith, map}
-use Rattle.std.specs.Prelude.{filter, find, option_map, nat_le}
-use Rattle.std.specs.List.{IsDistinct, list_all, flat_map}
-use Rattle.std.specs.Option.{option_to_list}
-use Rattle.std.specs.List.Sorted.{IsPermutation}
-use Rattle.std.proofs.lemmas.Bool.{and_parts, and_from, eqb-true, leb-true, lt-ltb, le-ltb, cases_eq, cases_lt, not-true, false≢true, eq-eqb}
-use Rattle.std.proofs.lemmas.List.Concat.{flat_map-cons}
-use Rattle.std.proofs.lemmas.List.Folds.{flat_map-map}
-use Rattle.std.proofs.lemmas.List.Sorted.{IsPermutation-trans}
-use Rattle.isad_core.specs.Texts.{Bytes, is_blank_text}
-use Rattle.tree_core.specs.Forest.{Forest, nodes, each}
-use Rattle.tree_core.proofs.Lists.{In, In-map, find_some}
-use Rattle.tree_core.proofs.EachLemmas.{nodes-each}
+use Rattle.std.specs.List.{IsDistinct}
 use Rattle.tree_core.proofs.Repeats.{distinct_repeats}
-use Rattle.catalogue_core.specs.Units.{Unit}
-use Rattle.office_core.specs.Laws.{numbers_from}
 use Rattle.office_core.specs.Words.{stands}
 use Rattle.catalogue_core.specs.Sources.{is_between}
-use Rattle.catalogue_core.specs.GoodCatalogues.{is_good_text}
-use Rattle.catalogue_core.specs.CatalogueRows.{ElementRow, after_level, element_rows_from, text_said}
-use Rattle.state_encoding.specs.OfficeRows.{OfficeRows, unit_said}
-use Rattle.catalogue_core.specs.CatalogueCauses.{is_same_element, is_good_element}
+use Rattle.state_encoding.proofs.Common.{Bytes, ElementRow, Forest, In, In-map, IsPermutation, IsPermutation-trans, OfficeRows, Unit, after_level, and_from, and_parts, cases_eq, cases_lt, each, element_rows_from, eq-eqb, eqb-true, false≢true, filter, find, find_some, flat_map, flat_map-cons, flat_map-map, is_blank_text, is_good_element, is_good_text, is_same_element, le-ltb, leb-true, list_all, lt-ltb, nat_le, nodes, nodes-each, not-true, numbers_from, option_map, option_to_list, text_said, unit_said}
 use Rattle.state_encoding.proofs.UnitRows.{found_kept}
 use Rattle.state_encoding.proofs.RowsByNumber.{in_filter, flat_map_same, flat_map_reordered, grouped, one_kept, in_numbers, own_apart}
 use Rattle.state_encoding.proofs.told.ToldUnits.{said_id, said_texts}
@@ -57,7 +41,8 @@ is_number k a b c = elim (cases_lt k 4) [
 -- ---- the rows of one unit
 
 -- no two have one number
-mine_apart : (u : ℕ) (rows : List ElementRow) → IsDistinct is_same_element rows → IsDistinct nat_eq (map (λ (row : ElementRow). row.k) (mine u rows))
+mine_apart : (u : ℕ) (rows : List ElementRow) → IsDistinct is_same_element rows
+    → IsDistinct nat_eq (map (λ (row : ElementRow). row.k) (mine u rows))
 mine_apart u rows d = own_apart (λ (row : ElementRow). row.unit) (λ (row : ElementRow). row.k) u rows d
 
 -- the row that a text shows is the one that it was read from
@@ -67,7 +52,8 @@ one_shown u j rows texts =
     ap (λ r. element_rows_from u j (option_map (λ (row : ElementRow). row.value) r ∷ texts)) (found_kept (λ (row : ElementRow). nat_eq row.unit u) (λ (row : ElementRow). nat_eq row.k (after_level j)) rows)
     ∙ at (find (λ (row : ElementRow). nat_eq row.k (after_level j)) (mine u rows)) refl
   where
-    at : (r : Option ElementRow) → find (λ (row : ElementRow). nat_eq row.k (after_level j)) (mine u rows) ≡ r → element_rows_from u j (option_map (λ (row : ElementRow). row.value) r ∷ texts) ≡ option_to_list r ++ element_rows_from u (suc j) texts
+    at : (r : Option ElementRow) → find (λ (row : ElementRow). nat_eq row.k (after_level j)) (mine u rows) ≡ r
+        → element_rows_from u j (option_map (λ (row : ElementRow). row.value) r ∷ texts) ≡ option_to_list r ++ element_rows_from u (suc j) texts
     at None e = refl
     at (Some row) e =
         let f = find_some (λ (row : ElementRow). nat_eq row.k (after_level j)) (mine u rows) row e in
@@ -77,7 +63,8 @@ one_shown u j rows texts =
         ap (λ n. record { unit = n; k = after_level j; value = row.value } ∷ element_rows_from u (suc j) texts) (sym a)
         ∙ ap (λ n. record { unit = row.unit; k = n; value = row.value } ∷ element_rows_from u (suc j) texts) (sym b)
 
-all_shown : (u j n : ℕ) (rows : List ElementRow) → IsDistinct is_same_element rows → element_rows_from u j (map (text_said rows u) (numbers_from j n)) ≡ flat_map (λ k. filter (λ (row : ElementRow). nat_eq row.k k) (mine u rows)) (map after_level (numbers_from j n))
+all_shown : (u j n : ℕ) (rows : List ElementRow) → IsDistinct is_same_element rows
+    → element_rows_from u j (map (text_said rows u) (numbers_from j n)) ≡ flat_map (λ k. filter (λ (row : ElementRow). nat_eq row.k k) (mine u rows)) (map after_level (numbers_from j n))
 all_shown u j zero rows d = refl
 all_shown u j (suc n) rows d =
     one_shown u j rows (map (text_said rows u) (numbers_from (suc j) n))
@@ -105,12 +92,15 @@ good_element units row h =
       unit = c.1;
     }
 
-pub elements_are_said : (t : OfficeRows) (f : Forest ℕ) → IsDistinct nat_eq (nodes f) → IsDistinct is_same_element t.catalogue.elements → ((row : ElementRow) → In row t.catalogue.elements → (In row.k numbers) × (In row.unit (nodes f)))
+pub elements_are_said : (t : OfficeRows) (f : Forest ℕ) → IsDistinct nat_eq (nodes f)
+    → IsDistinct is_same_element t.catalogue.elements
+    → ((row : ElementRow) → In row t.catalogue.elements → (In row.k numbers) × (In row.unit (nodes f)))
     → IsPermutation (flat_map (λ (unit : Unit). element_rows_from unit.id 1 unit.values.texts) (nodes (each (unit_said t.catalogue) f))) t.catalogue.elements
 elements_are_said t f a d h =
     let key : ElementRow → ℕ = λ row. row.unit in
     let shown : Unit → List ElementRow = λ unit. element_rows_from unit.id 1 unit.values.texts in
-    let of : ℕ → List ElementRow = λ u. element_rows_from u 1 (map (text_said t.catalogue.elements u) (numbers_from 1 25)) in
+    let of : ℕ → List ElementRow =
+    λ u. element_rows_from u 1 (map (text_said t.catalogue.elements u) (numbers_from 1 25)) in
     let same : flat_map shown (nodes (each (unit_said t.catalogue) f)) ≡ flat_map of (nodes f) =
     ap (flat_map shown) (nodes-each (unit_said t.catalogue) f)
     ∙ (flat_map-map shown (unit_said t.catalogue) (nodes f)
@@ -123,11 +113,15 @@ elements_are_said t f a d h =
     (grouped key (nodes f) t.catalogue.elements a (λ row i. (h row i).1)))
 
 -- each text that is said is one of a row
-pub texts_are_good : (t : OfficeRows) (u : ℕ) (ns : List ℕ) → ((row : ElementRow) → In row t.catalogue.elements → is_blank_text row.value ≡ false) → list_all is_good_text (map (text_said t.catalogue.elements u) ns) ≡ true
+pub texts_are_good : (t : OfficeRows) (u : ℕ) (ns : List ℕ)
+    → ((row : ElementRow) → In row t.catalogue.elements → is_blank_text row.value ≡ false)
+    → list_all is_good_text (map (text_said t.catalogue.elements u) ns) ≡ true
 texts_are_good t u [] h = refl
 texts_are_good t u (k ∷ ns) h =
     and_from (is_good_text (text_said t.catalogue.elements u k)) (list_all is_good_text (map (text_said t.catalogue.elements u) ns)) (at (find (λ (row : ElementRow). nat_eq row.unit u && nat_eq row.k (after_level k)) t.catalogue.elements) refl) (texts_are_good t u ns h)
   where
-    at : (r : Option ElementRow) → find (λ (row : ElementRow). nat_eq row.unit u && nat_eq row.k (after_level k)) t.catalogue.elements ≡ r → is_good_text (option_map (λ (row : ElementRow). row.value) r) ≡ true
+    at : (r : Option ElementRow)
+        → find (λ (row : ElementRow). nat_eq row.unit u && nat_eq row.k (after_level k)) t.catalogue.elements ≡ r
+        → is_good_text (option_map (λ (row : ElementRow). row.value) r) ≡ true
     at None e = refl
     at (Some row) e = ap not (h row (find_some (λ (row : ElementRow). nat_eq row.unit u && nat_eq row.k (after_level k)) t.catalogue.elements row e).0)

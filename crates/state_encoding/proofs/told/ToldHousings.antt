@@ -1,29 +1,8 @@
 -- What lies in the units that rows say is in those rows.
 use Rattle.std.proofs.Common.{◌≡◌, ℕ, zero, suc, ◌+◌, ◌<◌, ◌≤◌, true, List, [], ◌∷◌, ◌++◌, length, Option, Some, None, refl, sym, ap, ◌∙◌, subst, nat_eq, arith, map}
-use Rattle.std.specs.Prelude.{filter, find}
-use Rattle.std.specs.List.{IsDistinct, list_any, list_all, flat_map, cons_option}
-use Rattle.std.specs.Option.{option_to_list}
-use Rattle.std.specs.List.Sorted.{IsPermutation}
-use Rattle.std.proofs.lemmas.Bool.{and_from, eqb-true}
-use Rattle.std.proofs.lemmas.List.{length-map}
-use Rattle.std.proofs.lemmas.List.Concat.{flat_map-cons}
-use Rattle.std.proofs.lemmas.List.Folds.{flat_map-map}
-use Rattle.std.proofs.lemmas.List.Sorted.{IsPermutation-trans, IsPermutation-sym, IsPermutation-map}
-use Rattle.std.proofs.lemmas.Map.Keys.{IsDistinct-IsPermutation}
-use Rattle.isad_core.specs.declared.values.BoxKey.{BoxKey}
-use Rattle.isad_core.specs.Boxes.{distinct, is_same as is_same_box}
-use Rattle.tree_core.specs.Forest.{Forest, nodes, each}
-use Rattle.tree_core.proofs.Lists.{In, eqb_comm}
-use Rattle.tree_core.proofs.EachLemmas.{nodes-each}
-use Rattle.tree_core.proofs.Reading.{fills}
-use Rattle.catalogue_core.specs.Units.{Unit}
-use Rattle.catalogue_core.specs.CatalogueMerge.{box_number}
-use Rattle.office_core.specs.Laws.{numbers_from}
-use Rattle.office_core.specs.Words.{nth}
-use Rattle.state_encoding.specs.DeskEncoding.{rows_from}
-use Rattle.catalogue_core.specs.CatalogueRows.{HousingRow, housing_row, box_from, housings_of}
-use Rattle.state_encoding.specs.OfficeRows.{OfficeRows, box_at, boxes_from, boxes_said, unit_said}
-use Rattle.catalogue_core.specs.CatalogueCauses.{is_same_place, is_housed_alike}
+use Rattle.std.specs.List.{IsDistinct}
+use Rattle.isad_core.specs.Boxes.{is_same as is_same_box}
+use Rattle.state_encoding.proofs.Common.{BoxKey, Forest, HousingRow, In, IsDistinct-IsPermutation, IsPermutation, IsPermutation-map, IsPermutation-sym, IsPermutation-trans, OfficeRows, Unit, and_from, box_at, box_from, box_number, boxes_from, boxes_said, cons_option, distinct, each, eqb-true, eqb_comm, fills, filter, find, flat_map, flat_map-cons, flat_map-map, housing_row, housings_of, is_housed_alike, is_same_place, length-map, list_all, list_any, nodes, nodes-each, nth, numbers_from, option_to_list, rows_from, unit_said}
 use Rattle.state_encoding.proofs.RowsByNumber.{in_map, in_filter, flat_map_same, flat_map_reordered, grouped, found_by, one_kept, in_numbers, numbers_length, numbers_apart, own_apart}
 use Rattle.state_encoding.proofs.told.ToldUnits.{said_id, said_boxes}
 use Rattle.state_encoding.proofs.NumberedRows.{numbered_in}
@@ -53,13 +32,15 @@ module _ (boxes : List BoxKey) (rows : List HousingRow) (units : List ℕ) (b : 
   own u row i = let r = in_filter (λ (row : HousingRow). nat_eq row.unit u) rows row i in (r.0, eqb-true row.unit u r.1)
 
   -- each place of a unit is one of as many as it has containers
-  ranged : (u : ℕ) (row : HousingRow) → In row (housings_of u rows) → (1 ≤ row.ord) × (row.ord ≤ length (housings_of u rows))
+  ranged : (u : ℕ) (row : HousingRow) → In row (housings_of u rows)
+      → (1 ≤ row.ord) × (row.ord ≤ length (housings_of u rows))
   ranged u row i = let o = own u row i in subst (λ v. (1 ≤ row.ord) × (row.ord ≤ length (housings_of v rows))) o.1 (h row o.0).ord
 
   places_apart : (u : ℕ) → IsDistinct nat_eq (map (λ (row : HousingRow). row.ord) (housings_of u rows))
   places_apart u = own_apart (λ (row : HousingRow). row.unit) (λ (row : HousingRow). row.ord) u rows p
 
-  in_range : (u : ℕ) (row : HousingRow) → In row (housings_of u rows) → In row.ord (numbers_from 1 (length (housings_of u rows)))
+  in_range : (u : ℕ) (row : HousingRow) → In row (housings_of u rows)
+      → In row.ord (numbers_from 1 (length (housings_of u rows)))
   in_range u row i = let r = ranged u row i in in_numbers 1 row.ord (length (housings_of u rows)) r.0 (let l = r.1 in omega (arith, l))
 
   housed : (u m : ℕ) → 1 ≤ m → m < 1 + length (housings_of u rows) → IsHoused boxes u (housings_of u rows) m
@@ -99,7 +80,8 @@ module _ (boxes : List BoxKey) (rows : List HousingRow) (units : List ℕ) (b : 
       ap (λ c. record { unit = u; ord = n; container = c }) i.number
       ∙ (ap (λ v. record { unit = v; ord = n; container = row.container }) (sym i.unit)
       ∙ ap (λ o. record { unit = row.unit; ord = o; container = row.container }) (sym i.ord)) in
-      let kept : filter (λ (row : HousingRow). nat_eq row.ord n) mine ≡ row ∷ [] = one_kept (λ (row : HousingRow). row.ord) n mine (places_apart u) ∙ ap option_to_list i.found in
+      let kept : filter (λ (row : HousingRow). nat_eq row.ord n) mine ≡ row ∷ [] =
+      one_kept (λ (row : HousingRow). row.ord) n mine (places_apart u) ∙ ap option_to_list i.found in
       first
       ∙ (ap (λ r. r ∷ rows_from (housing_row boxes u) (suc n) rest) same
       ∙ (ap (λ l. row ∷ l) (shown_from u (suc n) more (omega arith) (omega (arith, k)))
@@ -107,43 +89,55 @@ module _ (boxes : List BoxKey) (rows : List HousingRow) (units : List ℕ) (b : 
       ∙ sym (flat_map-cons (λ m. filter (λ (row : HousingRow). nat_eq row.ord m) mine) n (numbers_from (suc n) more)))))
 
   -- the rows of the containers that are said of one unit are its rows
-  pub own_housings : (u : ℕ) → IsPermutation (rows_from (housing_row boxes u) 1 (boxes_said boxes rows u)) (housings_of u rows)
+  pub own_housings : (u : ℕ)
+      → IsPermutation (rows_from (housing_row boxes u) 1 (boxes_said boxes rows u)) (housings_of u rows)
   own_housings u =
       let mine : List HousingRow = housings_of u rows in
       subst (λ l. IsPermutation l mine) (sym (shown_from u 1 (length mine) (omega arith) (omega arith)))
       (grouped (λ (row : HousingRow). row.ord) (numbers_from 1 (length mine)) mine (numbers_apart 1 (length mine)) (λ row i. in_range u row i))
 
   -- and they are all different
-  pub said_apart : IsDistinct is_housed_alike rows → (u : ℕ) → distinct (boxes_said boxes rows u) ≡ boxes_said boxes rows u
+  pub said_apart : IsDistinct is_housed_alike rows → (u : ℕ)
+      → distinct (boxes_said boxes rows u) ≡ boxes_said boxes rows u
   said_apart once u =
       let mine : List HousingRow = housings_of u rows in
       let bs : List BoxKey = boxes_said boxes rows u in
       let container : HousingRow → ℕ = λ row. row.container in
       let shown : List HousingRow = rows_from (housing_row boxes u) 1 bs in
-      let d : IsDistinct nat_eq (map container mine) = own_apart (λ (row : HousingRow). row.unit) container u rows once in
-      let e : IsDistinct nat_eq (map container shown) = IsDistinct-IsPermutation nat_eq eqb_comm (map container mine) (map container shown) (IsPermutation-map container mine shown (IsPermutation-sym shown mine (own_housings u))) d in
+      let d : IsDistinct nat_eq (map container mine) =
+      own_apart (λ (row : HousingRow). row.unit) container u rows once in
+      let e : IsDistinct nat_eq (map container shown) =
+      IsDistinct-IsPermutation nat_eq eqb_comm (map container mine) (map container shown) (IsPermutation-map container mine shown (IsPermutation-sym shown mine (own_housings u))) d in
       stay_distinct bs (numbers_tell (box_number boxes) bs (subst (IsDistinct nat_eq) (numbers u 1 bs) e))
     where
-      numbers : (u n : ℕ) (bs : List BoxKey) → map (λ (row : HousingRow). row.container) (rows_from (housing_row boxes u) n bs) ≡ map (box_number boxes) bs
+      numbers : (u n : ℕ) (bs : List BoxKey)
+          → map (λ (row : HousingRow). row.container) (rows_from (housing_row boxes u) n bs) ≡ map (box_number boxes) bs
       numbers u n [] = refl
       numbers u n (b ∷ bs) = ap (λ l. box_number boxes b ∷ l) (numbers u (suc n) bs)
 
 -- each container that is said of a unit is there
-pub said_known : (boxes : List BoxKey) (mine : List HousingRow) (n more : ℕ) → list_all (λ box. list_any (is_same_box box) boxes) (boxes_from boxes mine n more) ≡ true
+pub said_known : (boxes : List BoxKey) (mine : List HousingRow) (n more : ℕ)
+    → list_all (λ box. list_any (is_same_box box) boxes) (boxes_from boxes mine n more) ≡ true
 said_known boxes mine n zero = refl
 said_known boxes mine n (suc more) = at (at_place n mine) (said_known boxes mine (suc n) more)
   where
-    passes : (r : Option BoxKey) → ((b : BoxKey) → r ≡ Some b → In b boxes) → (rest : List BoxKey) → list_all (λ box. list_any (is_same_box box) boxes) rest ≡ true → list_all (λ box. list_any (is_same_box box) boxes) (cons_option r rest) ≡ true
+    passes : (r : Option BoxKey) → ((b : BoxKey) → r ≡ Some b → In b boxes) → (rest : List BoxKey)
+        → list_all (λ box. list_any (is_same_box box) boxes) rest ≡ true
+        → list_all (λ box. list_any (is_same_box box) boxes) (cons_option r rest) ≡ true
     passes None f rest h = h
-    passes (Some b) f rest h = and_from (list_any (is_same_box b) boxes) (list_all (λ box. list_any (is_same_box box) boxes) rest) (is_there boxes b (f b refl)) h
+    passes (Some b) f rest h =
+        and_from (list_any (is_same_box b) boxes) (list_all (λ box. list_any (is_same_box box) boxes) rest) (is_there boxes b (f b refl)) h
 
-    at : (r : Option HousingRow) → list_all (λ box. list_any (is_same_box box) boxes) (boxes_from boxes mine (suc n) more) ≡ true → list_all (λ box. list_any (is_same_box box) boxes) (cons_option (box_at boxes r) (boxes_from boxes mine (suc n) more)) ≡ true
+    at : (r : Option HousingRow)
+        → list_all (λ box. list_any (is_same_box box) boxes) (boxes_from boxes mine (suc n) more) ≡ true
+        → list_all (λ box. list_any (is_same_box box) boxes) (cons_option (box_at boxes r) (boxes_from boxes mine (suc n) more)) ≡ true
     at None h = h
     at (Some row) h = passes (nth boxes row.container) (λ b e. numbered_in boxes row.container b e) (boxes_from boxes mine (suc n) more) h
 
 -- ---- of all units
 
-pub housings_are_said : (t : OfficeRows) (f : Forest ℕ) → IsDistinct nat_eq (nodes f) → IsDistinct is_same_box (map box_from t.catalogue.containers) → IsDistinct is_same_place t.catalogue.housings
+pub housings_are_said : (t : OfficeRows) (f : Forest ℕ) → IsDistinct nat_eq (nodes f)
+    → IsDistinct is_same_box (map box_from t.catalogue.containers) → IsDistinct is_same_place t.catalogue.housings
     → ((row : HousingRow) → In row t.catalogue.housings → IsGoodHousing (map box_from t.catalogue.containers) (nodes f) t.catalogue.housings row)
     → IsPermutation (flat_map (λ (unit : Unit). rows_from (housing_row (map box_from t.catalogue.containers) unit.id) 1 unit.values.boxes) (nodes (each (unit_said t.catalogue) f))) t.catalogue.housings
 housings_are_said t f a b p h =

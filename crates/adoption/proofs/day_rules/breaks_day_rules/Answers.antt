@@ -1,5 +1,4 @@
-use Rattle.sqlite.specs.Held.{state}
-use Rattle.adoption.specs.Tables.{GoodTablesRepresentTheirState}
+use Rattle.adoption.proofs.Common.{GoodTablesRepresentTheirState, state}
 use Rattle.adoption.proofs.catalogue.Shown.{catalogue_shown}
 use Rattle.adoption.proofs.tables.ShownTables.{good_state}
 use Rattle.adoption.proofs.DayRules.{day_judged}

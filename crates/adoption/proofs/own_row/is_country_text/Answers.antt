@@ -1,9 +1,6 @@
 use Rattle.std.proofs.Common.{false, sym, ap, ◌∙◌}
-use Rattle.std.specs.Option.{option_map_or}
 use Rattle.sqlite.specs.Value.{owned}
-use Rattle.office_core.specs.Soundness.{is_country}
-use Rattle.office_tables.specs.Cells.{text_in}
-use Rattle.office_tables.proofs.CellTexts.{says_text, says_nothing}
+use Rattle.adoption.proofs.Common.{is_country, option_map_or, says_nothing, says_text, text_in}
 use Rattle.adoption.proofs.own_row.is_country_text.Goals as goal
 
 pub returns-in-Ok : goal.returns-in-Ok

@@ -1,12 +1,6 @@
 use Rattle.std.proofs.Common.{◌≡◌, Some, sym, ap, subst, ◌∙◌}
-use Rattle.sqlite.specs.Effect.{Database}
-use Rattle.sqlite.specs.Held.{state}
-use Rattle.state_encoding.specs.Causes.{day_is_broken}
-use Rattle.state_encoding.specs.CellCauses.{rows_in}
-use Rattle.office_tables.proofs.Calls.{looks_then}
 use Rattle.row_decoding.proofs.ReadCalls.{before}
-use Rattle.adoption.specs.OwnRows.{own_row_of}
-use Rattle.adoption.specs.SoundTables.{AreGoodTables}
+use Rattle.adoption.proofs.Common.{AreGoodTables, Database, day_is_broken, looks_then, own_row_of, rows_in, state}
 use Rattle.adoption.proofs.CauseLemmas.{told_desk, good_tables, broken_day, kept_day}
 use Rattle.adoption.proofs.JudgmentEnds.{as_judged, judged, passes, passes_later, still_known}
 use Rattle.adoption.proofs.verdicts.desk_cause.Goals as goal

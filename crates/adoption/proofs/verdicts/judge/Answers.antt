@@ -1,11 +1,6 @@
 use Rattle.std.proofs.Common.{◌≡◌, sym, ap, subst, ◌∙◌}
-use Rattle.sqlite.specs.Effect.{Database}
-use Rattle.sqlite.specs.Held.{state}
-use Rattle.state_encoding.specs.CellCauses.{cell_cause}
-use Rattle.office_tables.proofs.Calls.{looks_then}
 use Rattle.row_decoding.proofs.ReadCalls.{before}
-use Rattle.adoption.specs.Verdicts.{IsVersionVerdict}
-use Rattle.adoption.specs.OrderedTables.{StandInOrder}
+use Rattle.adoption.proofs.Common.{Database, IsVersionVerdict, StandInOrder, cell_cause, looks_then, state}
 use Rattle.adoption.proofs.JudgmentEnds.{is_full, judged, passes, passes_later, still_known}
 use Rattle.adoption.proofs.verdicts.judge.Goals as goal
 

@@ -1,13 +1,7 @@
 use Rattle.std.proofs.Common.{◌≡◌, Some, sym, ap, subst, ◌∙◌}
-use Rattle.sqlite.specs.Effect.{Database}
-use Rattle.sqlite.specs.Held.{state}
-use Rattle.sqlite.specs.State.{HasCleanDisk}
-use Rattle.state_encoding.specs.CellCauses.{cell_cause}
-use Rattle.office_tables.proofs.Calls.{looks_then}
 use Rattle.integrity_checks.proofs.ExaminationEnds.{earlier, still}
 use Rattle.adoption.specs.Judgments.{HasGoodCatalogue}
-use Rattle.adoption.specs.OwnRows.{own_row_of}
-use Rattle.adoption.specs.OrderedTables.{StandInOrder}
+use Rattle.adoption.proofs.Common.{Database, HasCleanDisk, StandInOrder, cell_cause, looks_then, own_row_of, state}
 use Rattle.adoption.proofs.CauseLemmas.{no_own_row, told_catalogue, fine_catalogue}
 use Rattle.adoption.proofs.JudgmentEnds.{as_judged, judged, judged_last, passes, passes_later, still_known}
 use Rattle.adoption.proofs.verdicts.least_cause.Goals as goal

@@ -1,10 +1,5 @@
 use Rattle.std.proofs.Common.{◌≡◌, inl, inr, rules, length, slice_index_or, sym, ap, ap₂, subst, ◌∙◌}
-use Rattle.sqlite.specs.Held.{state}
-use Rattle.sqlite.specs.Order.{column}
-use Rattle.office_tables.specs.Versions.{version_number}
-use Rattle.office_tables.specs.Cells.{number_in}
-use Rattle.adoption.specs.Verdicts.{IsVersionVerdict, verdict_of_version}
-use Rattle.adoption.specs.Versions.{AreVersions, ShowsVersions}
+use Rattle.adoption.proofs.Common.{AreVersions, IsVersionVerdict, ShowsVersions, column, number_in, state, verdict_of_version, version_number}
 use Rattle.adoption.proofs.JudgmentEnds.{judged, passes}
 use Rattle.adoption.proofs.VersionLemmas.{one_row, version_judged}
 use Rattle.adoption.proofs.version.judge_version.Goals as goal

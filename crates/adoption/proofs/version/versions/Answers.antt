@@ -1,8 +1,6 @@
 use Rattle.std.proofs.Common.{sym, subst, ◌∙◌}
-use Rattle.sqlite.specs.Held.{state}
-use Rattle.sqlite.specs.State.{HasCleanDisk}
-use Rattle.office_tables.specs.Faults.{HasCause}
 use Rattle.refinement.proofs.DiskBlames.{blames_caused}
+use Rattle.adoption.proofs.Common.{HasCause, HasCleanDisk, state}
 use Rattle.adoption.proofs.JudgmentEnds.{judged}
 use Rattle.adoption.proofs.VersionLemmas.{shown_versions, versions_refused, versions_cause, looks_unchanged, cut_by}
 use Rattle.adoption.proofs.version.versions.Goals as goal

@@ -1,12 +1,5 @@
 use Rattle.std.proofs.Common.{◌≡◌, ◌∙◌, ap, ap₂, arith, take, filter, List, length, ℕ, Bor}
-use Rattle.std.specs.List.{list_any}
-use Rattle.std.proofs.Math.Seq.{take-length}
-use Rattle.isad_core.specs.Texts.{Bytes}
-use Rattle.isad_core.specs.declared.values.BoxKey.{BoxKey}
-use Rattle.atom_csv.specs.Entries.{entries}
-use Rattle.atom_csv.specs.Fields.{borrowed_fields}
-use Rattle.isad_core.specs.Boxes.{distinct, is_same}
-use Rattle.atom_csv.specs.Values.{entry_at, is_named_box, triples}
+use Rattle.atom_csv.proofs.Common.{BoxKey, Bytes, borrowed_fields, distinct, entries, entry_at, is_named_box, is_same, list_any, take-length, triples}
 use Rattle.atom_csv.proofs.BoxLemmas.{Told, holds_more, key_of, length-triples}
 use Rattle.atom_csv.proofs.boxes.boxes.Goals as goal
 

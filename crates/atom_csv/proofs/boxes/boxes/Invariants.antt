@@ -1,7 +1,5 @@
 use Rattle.std.proofs.Common.{take, filter}
-use Rattle.atom_csv.specs.Fields.{borrowed_fields}
-use Rattle.atom_csv.specs.Values.{is_named_box, triples}
-use Rattle.atom_csv.specs.KnownContainers.{Holds}
+use Rattle.atom_csv.proofs.Common.{Holds, borrowed_fields, is_named_box, triples}
 use Rattle.atom_csv.proofs.boxes.boxes.Given as goal
 
 abbrev pub invariant-loop-i : goal.invariant-loop-i

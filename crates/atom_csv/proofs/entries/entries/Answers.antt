@@ -2,8 +2,7 @@ use Rattle.std.proofs.Common.{rules, lit<, Bor}
 use Rattle.std.proofs.lemmas.Iterator.{YieldsList-from_map_by}
 use Rattle.std.proofs.lemmas.Iterator.Consumers.{YieldsList-at, map_from_collect}
 use Rattle.std.proofs.lemmas.Iterator.Splits.{YieldsList-from_str_split}
-use Rattle.isad_core.specs.Texts.{Bytes}
-use Rattle.atom_csv.specs.Entries.{entry_of}
+use Rattle.atom_csv.proofs.Common.{Bytes, entry_of}
 use Rattle.atom_csv.proofs.entries.entries.Goals as goal
 
 pub returns : goal.returns

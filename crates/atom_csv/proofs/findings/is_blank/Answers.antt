@@ -1,7 +1,6 @@
 use Rattle.std.proofs.Common.{◌≡◌, ◌∙◌, ap, sym, map, take, true, false, List, ℕ}
-use Rattle.csv.specs.Records.{Row, field_at, fields_of}
-use Rattle.isad_core.specs.Texts.{Bytes}
-use Rattle.atom_csv.specs.Fields.{is_blank, is_empty, trimmed}
+use Rattle.csv.specs.Records.{Row, field_at}
+use Rattle.atom_csv.proofs.Common.{Bytes, fields_of, is_blank, is_empty, trimmed}
 use Rattle.atom_csv.proofs.FieldLemmas.{blank_more, blank_not, take_fields}
 use Rattle.atom_csv.proofs.findings.is_blank.Goals as goal
 

@@ -1,6 +1,5 @@
 use Rattle.std.proofs.Common.{◌≡◌, map, take, true}
-use Rattle.csv.specs.Records.{fields_of}
-use Rattle.atom_csv.specs.Fields.{is_blank, trimmed}
+use Rattle.atom_csv.proofs.Common.{fields_of, is_blank, trimmed}
 use Rattle.atom_csv.proofs.findings.is_blank.Given as goal
 
 abbrev pub invariant-loop-field : goal.invariant-loop-field

@@ -1,8 +1,5 @@
 use Rattle.std.proofs.Common.{◌≡◌, ◌∙◌, sym, ap, [], option_map, Some, None, Option, Bor, refl}
-use Rattle.std.specs.Prelude.{unwrap_or}
-use Rattle.csv.specs.Records.{fields_of}
-use Rattle.isad_core.specs.Texts.{Bytes}
-use Rattle.atom_csv.specs.Fields.{trimmed}
+use Rattle.atom_csv.proofs.Common.{Bytes, fields_of, trimmed, unwrap_or}
 use Rattle.atom_csv.proofs.FieldLemmas.{trimmed_at}
 use Rattle.atom_csv.proofs.header.field_at.Goals as goal
 

@@ -1,8 +1,6 @@
 use Rattle.std.proofs.Common.{◌∙◌, ◌++◌, ◌∷◌, [], ap, sym, map, take, Bor}
-use Rattle.std.proofs.lemmas.List.{map-append}
-use Rattle.csv.specs.Records.{Row, field_at, fields_of}
-use Rattle.isad_core.specs.Texts.{Bytes}
-use Rattle.atom_csv.specs.Fields.{borrowed_fields, trimmed}
+use Rattle.csv.specs.Records.{Row, field_at}
+use Rattle.atom_csv.proofs.Common.{Bytes, borrowed_fields, fields_of, map-append, trimmed}
 use Rattle.atom_csv.proofs.FieldLemmas.{take_field, take_fields}
 use Rattle.atom_csv.proofs.header.names.Goals as goal
 

@@ -1,6 +1,5 @@
 use Rattle.std.proofs.Common.{◌≡◌, map, take}
-use Rattle.csv.specs.Records.{fields_of}
-use Rattle.atom_csv.specs.Fields.{borrowed_fields, trimmed}
+use Rattle.atom_csv.proofs.Common.{borrowed_fields, fields_of, trimmed}
 use Rattle.atom_csv.proofs.header.names.Given as goal
 
 abbrev pub invariant-loop-field : goal.invariant-loop-field

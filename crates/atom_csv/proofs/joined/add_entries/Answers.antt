@@ -1,11 +1,7 @@
 use Rattle.std.proofs.Common.{◌∙◌, ap, sym, refl, lit<, Bor, map, fold, [], ◌∷◌}
 use Rattle.std.proofs.lemmas.Iterator.Splits.{YieldsList-from_str_split}
 use Rattle.std.proofs.lemmas.Iterator.Consumers.{YieldsList-at, YieldsList-end}
-use Rattle.std.proofs.lemmas.List.{map-append}
-use Rattle.std.proofs.lemmas.List.Sums.{fold-append}
-use Rattle.std.specs.String.{string_bytes}
-use Rattle.isad_core.specs.Texts.{Bytes}
-use Rattle.atom_csv.specs.Entries.{entry_of, with_entry}
+use Rattle.atom_csv.proofs.Common.{Bytes, entry_of, fold-append, map-append, string_bytes, with_entry}
 use Rattle.atom_csv.proofs.EntryLemmas.{entries_seen}
 use Rattle.atom_csv.proofs.joined.add_entries.Goals as goal
 

@@ -1,7 +1,5 @@
 use Rattle.std.proofs.Common.{◌≡◌, fold, map, Bor}
-use Rattle.std.specs.String.{string_bytes}
-use Rattle.isad_core.specs.Texts.{Bytes}
-use Rattle.atom_csv.specs.Entries.{entry_of, with_entry}
+use Rattle.atom_csv.proofs.Common.{Bytes, entry_of, string_bytes, with_entry}
 use Rattle.atom_csv.proofs.joined.add_entries.Given as goal
 
 abbrev pub invariant-loop-part : goal.invariant-loop-part

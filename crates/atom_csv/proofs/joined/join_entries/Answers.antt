@@ -1,15 +1,7 @@
 use Rattle.std.proofs.Common.{◌≡◌, ◌∙◌, ◌+◌, ◌<◌, ◌++◌, ◌∷◌, [], ℕ, suc, List, ap, sym, arith, fold, take, get_or, length}
-use Rattle.std.proofs.Math.Seq.{take-length, take-suc}
 use Rattle.std.proofs.lemmas.Grind.{flat_map-append}
-use Rattle.std.proofs.lemmas.List.Sums.{fold-append}
 use Rattle.std.proofs.lemmas.List.{append-nil}
-use Rattle.std.specs.List.{flat_map}
-use Rattle.isad_core.specs.Texts.{Bytes}
-use Rattle.atom_csv.specs.Columns.{columns_of}
-use Rattle.atom_csv.specs.Entries.{with_entry}
-use Rattle.atom_csv.specs.Fields.{Fields, fields_in, value}
-use Rattle.atom_csv.specs.Values.{told_by}
-use Rattle.atom_csv.specs.declared.column.Column.{Column}
+use Rattle.atom_csv.proofs.Common.{Bytes, Column, Fields, columns_of, fields_in, flat_map, fold-append, take-length, take-suc, told_by, value, with_entry}
 use Rattle.atom_csv.proofs.EntryLemmas.{fold_joined}
 use Rattle.atom_csv.proofs.joined.join_entries.Goals as goal
 

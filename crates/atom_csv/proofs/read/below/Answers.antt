@@ -1,9 +1,5 @@
 use Rattle.std.proofs.Common.{◌∙◌, ◌++◌, ◌∷◌, [], List, Bool, sym, ap, refl, arith, map, append_assoc, length-append}
-use Rattle.std.specs.Prelude.{if◌then◌else◌}
-use Rattle.csv.specs.Records.{fields_of}
-use Rattle.isad_core.specs.Texts.{Bytes}
-use Rattle.atom_csv.specs.Fields.{fields_in, trimmed}
-use Rattle.atom_csv.specs.Source.{rows_left}
+use Rattle.atom_csv.proofs.Common.{Bytes, fields_in, fields_of, if◌then◌else◌, rows_left, trimmed}
 use Rattle.atom_csv.proofs.read.below.Goals as goal
 
 pub loop-row-init : goal.loop-row-init

@@ -1,8 +1,6 @@
 use Rattle.std.proofs.Common.{◌≡◌, ◌+◌, ◌-◌, ◌<◌, ◌≤◌, ◌++◌, List, length, map}
 use Rattle.isad_core.specs.Limits.{most_rows}
-use Rattle.atom_csv.specs.Fields.{Fields, trimmed}
-use Rattle.atom_csv.specs.ReadProgress.{Tells}
-use Rattle.atom_csv.specs.Source.{IsReading, rows_left}
+use Rattle.atom_csv.proofs.Common.{Fields, IsReading, Tells, rows_left, trimmed}
 use Rattle.atom_csv.proofs.read.below.Given as goal
 
 abbrev pub invariant-loop-row : goal.invariant-loop-row

@@ -1,5 +1,6 @@
 use Rattle.std.proofs.Common.{◌∙◌, ap, inr, Some}
-use Rattle.csv.specs.Reading.{builder_is_flexible, strip_bom}
+use Rattle.csv.specs.Reading.{strip_bom}
+use Rattle.atom_csv.proofs.Common.{builder_is_flexible}
 use Rattle.atom_csv.proofs.TextLemmas.{unmarked_text}
 use Rattle.atom_csv.proofs.records.reader.Goals as goal
 

@@ -1,9 +1,5 @@
 use Rattle.std.proofs.Common.{◌≡◌, ◌∙◌, ◌∷◌, [], Bool, List, true, false, refl, subst, Bor, Some, Option}
-use Rattle.std.specs.Prelude.{if◌then◌else◌}
-use Rattle.csv.specs.Reading.{ReadRecord, error_kind}
-use Rattle.csv.specs.Records.{fields_of}
-use Rattle.isad_core.specs.Texts.{Bytes}
-use Rattle.atom_csv.specs.Source.{Source, rows_left}
+use Rattle.atom_csv.proofs.Common.{Bytes, ReadRecord, Source, error_kind, fields_of, if◌then◌else◌, rows_left}
 use Rattle.atom_csv.proofs.SourceLemmas.{fails_outside, read_more, read_none}
 use Rattle.atom_csv.proofs.records.take_record.Goals as goal
 

@@ -1,8 +1,5 @@
 use Rattle.std.proofs.Common.{◌≡◌, ◌∙◌, ◌<◌, ◌-◌, sym, ap, arith, length, true, get_or, suc, ℕ, List, take}
-use Rattle.std.proofs.lemmas.Str.{IsCharBoundary-before_ascii, IsCharBoundary-end}
-use Rattle.std.proofs.Math.Seq.{take-length}
-use Rattle.isad_core.specs.Texts.{is_space}
-use Rattle.atom_csv.specs.Fields.{trim_end}
+use Rattle.atom_csv.proofs.Common.{IsCharBoundary-before_ascii, IsCharBoundary-end, is_space, take-length, trim_end}
 use Rattle.atom_csv.proofs.TrimLemmas.{end_more, space_is_ascii}
 use Rattle.atom_csv.proofs.trim.trim_end.Goals as goal
 

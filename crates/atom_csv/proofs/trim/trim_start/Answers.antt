@@ -1,6 +1,5 @@
 use Rattle.std.proofs.Common.{◌≡◌, ◌∙◌, ◌<◌, sym, ap, refl, arith, length, true, get_or, ℕ, List}
-use Rattle.std.proofs.lemmas.Str.{IsCharBoundary-after_ascii, IsCharBoundary-start}
-use Rattle.isad_core.specs.Texts.{is_space}
+use Rattle.atom_csv.proofs.Common.{IsCharBoundary-after_ascii, IsCharBoundary-start, is_space}
 use Rattle.atom_csv.proofs.TrimLemmas.{space_is_ascii, start_more}
 use Rattle.atom_csv.proofs.trim.trim_start.Goals as goal
 

@@ -1,6 +1,6 @@
 use Rattle.std.proofs.Common.{◌≡◌, ◌≤◌, ◌-◌, length, drop}
-use Rattle.std.specs.Str.{IsCharBoundary}
 use Rattle.atom_csv.specs.Fields as spec
+use Rattle.atom_csv.proofs.Common.{IsCharBoundary}
 use Rattle.atom_csv.proofs.trim.trim_start.Given as goal
 
 abbrev pub invariant-loop-start : goal.invariant-loop-start

@@ -1,11 +1,9 @@
 use Rattle.std.proofs.Common.{rules, ◌≡◌, ℕ, ◌+◌, ◌<◌, List, ◌∷◌, [], ◌++◌, ◌∙◌, ap, arith, get_or, length, map, suc, sym, take}
 use Rattle.std.proofs.lemmas.Grind.{take-set_at}
-use Rattle.std.proofs.lemmas.List.{map-append, take_all}
-use Rattle.std.proofs.Math.Seq.{take-suc}
 use Rattle.isad_core.specs.Values.{line_elements}
 use Rattle.isad_core.specs.declared.element.Element.TheVariants as element
-use Rattle.atom_csv.specs.Fields.{fields_in}
-use Rattle.atom_csv.specs.Values.{text_elements, nonblank, text_of}
+use Rattle.atom_csv.specs.Values.{text_elements}
+use Rattle.atom_csv.proofs.Common.{fields_in, map-append, nonblank, take-suc, take_all, text_of}
 use Rattle.atom_csv.proofs.values.texts.Goals as goal
 
 -- what is told of one more

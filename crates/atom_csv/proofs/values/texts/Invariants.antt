@@ -1,7 +1,6 @@
 use Rattle.std.proofs.Common.{◌≡◌, ◌+◌, ◌∷◌, length, map, take}
 use Rattle.isad_core.specs.declared.element.Element.TheVariants as element
-use Rattle.atom_csv.specs.Fields.{fields_in}
-use Rattle.atom_csv.specs.Values.{nonblank, text_of}
+use Rattle.atom_csv.proofs.Common.{fields_in, nonblank, text_of}
 use Rattle.atom_csv.proofs.values.texts.Given as goal
 
 abbrev pub invariant-loop-i : goal.invariant-loop-i

@@ -1,16 +1,7 @@
 use Rattle.std.proofs.Common.{◌≡◌, true}
-use Rattle.sqlite.specs.Held.{state}
-use Rattle.catalogue_core.specs.UnitLookup.{has_unit}
-use Rattle.desk_store.specs.Holdings.{issued_of}
 use Rattle.office_core.specs.declared.command.Command.TheVariants as command
 use Rattle.office_core.specs.declared.done.Done.TheVariants as done
-use Rattle.office_core.proofs.KeptOffices.{office_kept}
-use Rattle.state_encoding.specs.DeskEncoding.{permit_rows}
-use Rattle.state_encoding.specs.OfficeRows.{tables}
-use Rattle.refinement.specs.Gate.{AreAsked, AreEnough}
-use Rattle.refinement.specs.Representation.{office_of}
-use Rattle.refinement.proofs.Doings.{does_pass}
-use Rattle.refinement.proofs.Passing.{passed_where}
+use Rattle.catalogue_commands.proofs.Common.{AreAsked, AreEnough, does_pass, has_unit, issued_of, office_kept, office_of, passed_where, permit_rows, state, tables}
 use Rattle.catalogue_commands.proofs.Removed.{removes, removes_near}
 use Rattle.catalogue_commands.proofs.removal.remove_beside.Goals as goal
 

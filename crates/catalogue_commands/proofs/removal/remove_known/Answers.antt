@@ -1,8 +1,5 @@
 use Rattle.std.proofs.Common.{subst, sym}
-use Rattle.desk_store.specs.Holdings.{issued_of}
-use Rattle.state_encoding.specs.OfficeRows.{tables}
-use Rattle.refinement.specs.Gate.{AreAsked}
-use Rattle.refinement.proofs.Doings.{does_then, office_passed}
+use Rattle.catalogue_commands.proofs.Common.{AreAsked, does_then, issued_of, office_passed, tables}
 use Rattle.catalogue_commands.proofs.removal.remove_known.Goals as goal
 
 pub returns-in_err-loans : goal.returns-in_err-loans

@@ -1,12 +1,7 @@
 use Rattle.std.proofs.Common.{◌≡◌, Bool, true, None, sym, subst}
-use Rattle.sqlite.specs.Held.{state}
-use Rattle.catalogue_core.specs.UnitLookup.{has_unit}
-use Rattle.office_core.specs.Rules.{after, gate}
 use Rattle.office_core.specs.declared.command.Command.TheVariants as command
 use Rattle.office_core.specs.declared.done.Done.TheVariants as done
-use Rattle.refinement.specs.Gate.{OthersAreOpen}
-use Rattle.refinement.proofs.Doings.{catalogue_passed}
-use Rattle.refinement.proofs.Passing.{passed_freely, passed_where}
+use Rattle.catalogue_commands.proofs.Common.{OthersAreOpen, after, catalogue_passed, gate, has_unit, passed_freely, passed_where, state}
 use Rattle.catalogue_commands.proofs.Statused.{publishes, sets, sets_near}
 use Rattle.catalogue_commands.proofs.status.set_known.Goals as goal
 

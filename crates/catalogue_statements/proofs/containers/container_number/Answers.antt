@@ -1,7 +1,6 @@
 use Rattle.std.proofs.Common.{Ok, [], slice_get, ap, ◌∙◌}
-use Rattle.std.proofs.lemmas.Result.{IfOk-weaker}
+use Rattle.catalogue_statements.proofs.Common.{IfOk-weaker, looks_up}
 use Rattle.catalogue_statements.proofs.ContainerStatements.{container_number_command, container_number_means, container_number_finds, container_number_faults}
-use Rattle.office_tables.proofs.StatementEnds.{looks_up}
 use Rattle.catalogue_statements.proofs.containers.container_number.Goals as goal
 
 pub find_one-requires : goal.find_one-requires

@@ -1,7 +1,6 @@
 use Rattle.std.proofs.Common.{Ok, [], slice_get, ap, ◌∙◌}
-use Rattle.std.proofs.lemmas.Result.{IfOk-weaker}
+use Rattle.catalogue_statements.proofs.Common.{IfOk-weaker, looks_up}
 use Rattle.catalogue_statements.proofs.ContainerStatements.{find_container_command, find_container_means, find_container_finds, find_container_faults}
-use Rattle.office_tables.proofs.StatementEnds.{looks_up}
 use Rattle.catalogue_statements.proofs.containers.find_container.Goals as goal
 
 pub find_one-requires : goal.find_one-requires
@@ -9,7 +8,7 @@ find_one-requires g c = record { count = 1; command = find_container_command; me
 
 pub returns : goal.returns
 returns g c =
-    looks_up g.P.Versioned.version c.find_one.ensures.reads (rw c.number.ensures at c.find_one.ensures.ran)
+    looks_up g.P.Versioned.version c.find_one.ensures.reads (rw c.cell.ensures at c.find_one.ensures.ran)
     (λ v has found xs stored _. IfOk-weaker c.find_one.result _ _ (λ first it.
     let all = find_container_finds _ _ v has xs stored c.args.n (λ l. l) (Ok it.0) it.1 in
     (all.0, all.1, it.2 ∙ ap (λ l. slice_get l 0) all.2)) found)

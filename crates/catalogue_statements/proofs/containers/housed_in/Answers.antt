@@ -1,5 +1,5 @@
+use Rattle.catalogue_statements.proofs.Common.{looks_up}
 use Rattle.catalogue_statements.proofs.HousingStatements.{housed_command, housed_means, housed_finds, housed_faults}
-use Rattle.office_tables.proofs.StatementEnds.{looks_up}
 use Rattle.catalogue_statements.proofs.containers.housed_in.Goals as goal
 
 pub find-requires : goal.find-requires
@@ -7,6 +7,6 @@ find-requires g c = record { count = 1; command = housed_command; means = housed
 
 pub returns : goal.returns
 returns g c =
-    looks_up g.P.Versioned.version c.find.ensures.reads (rw c.number.ensures at c.find.ensures.ran)
+    looks_up g.P.Versioned.version c.find.ensures.reads (rw c.cell.ensures at c.find.ensures.ran)
     (λ v has found xs stored _. housed_finds _ _ v has xs stored c.args.container (λ found. found.items) c.find.result found)
     (λ v has missed xs stored _ free. housed_faults _ _ v has xs stored c.args.container (λ found. found.items) c.find.result free missed)

@@ -1,5 +1,5 @@
 use Rattle.std.proofs.Common.{refl}
-use Rattle.office_tables.proofs.StatementEnds.{puts_numbered}
+use Rattle.catalogue_statements.proofs.Common.{puts_numbered}
 use Rattle.catalogue_statements.proofs.HousingStatements.{insert_housing_command, insert_housing_means, insert_housing_puts, insert_housing_faults}
 use Rattle.catalogue_statements.proofs.containers.insert_housing.Goals as goal
 
@@ -8,6 +8,6 @@ change-requires g c = record { count = 3; command = insert_housing_command; chan
 
 pub returns : goal.returns
 returns g c =
-    puts_numbered g.P.Versioned.version c.change.ensures.leaves (rw (c.number.ensures, c.number-2.ensures, c.number-3.ensures) at c.change.ensures.ran)
+    puts_numbered g.P.Versioned.version c.change.ensures.leaves (rw (c.cell.ensures, c.cell-2.ensures, c.cell-3.ensures) at c.change.ensures.ran)
     (λ v has ran. insert_housing_puts _ _ c.args.unit c.args.ord c.args.container v has c.change.result ran)
     (λ v has ran xs stored room free. insert_housing_faults _ _ c.args.unit c.args.ord c.args.container v has room.0 xs stored room.1 room.2 free c.change.ensures.live c.change.result ran)

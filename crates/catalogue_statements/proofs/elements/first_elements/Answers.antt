@@ -1,5 +1,5 @@
+use Rattle.catalogue_statements.proofs.Common.{looks_up}
 use Rattle.catalogue_statements.proofs.ElementStatements.{first_command, first_means, first_found, first_faults}
-use Rattle.office_tables.proofs.StatementEnds.{looks_up}
 use Rattle.catalogue_statements.proofs.elements.first_elements.Goals as goal
 
 pub find-requires : goal.find-requires
@@ -7,6 +7,6 @@ find-requires g c = record { count = 2; command = first_command; means = first_m
 
 pub returns : goal.returns
 returns g c =
-    looks_up g.P.Versioned.version c.find.ensures.reads (rw (c.number.ensures, c.number-2.ensures) at c.find.ensures.ran)
+    looks_up g.P.Versioned.version c.find.ensures.reads (rw (c.cell.ensures, c.cell-2.ensures) at c.find.ensures.ran)
     (λ v has found xs stored _. first_found _ _ c.args.unit c.args.most v has xs stored (λ found. found.items) c.find.result found)
     (λ v has missed xs stored legible free. first_faults _ _ c.args.unit c.args.most v has xs stored (λ found. found.items) c.find.result legible free missed)

@@ -1,5 +1,5 @@
 use Rattle.std.proofs.Common.{refl}
-use Rattle.office_tables.proofs.StatementEnds.{puts_numbered}
+use Rattle.catalogue_statements.proofs.Common.{puts_numbered}
 use Rattle.catalogue_statements.proofs.ElementStatements.{insert_element_command, insert_element_means, insert_element_puts, insert_element_faults}
 use Rattle.catalogue_statements.proofs.elements.insert_element.Goals as goal
 
@@ -8,6 +8,6 @@ change-requires g c = record { count = 3; command = insert_element_command; chan
 
 pub returns : goal.returns
 returns g c =
-    puts_numbered g.P.Versioned.version c.change.ensures.leaves (rw (c.number.ensures, c.number-2.ensures, c.words.ensures) at c.change.ensures.ran)
+    puts_numbered g.P.Versioned.version c.change.ensures.leaves (rw (c.cell.ensures, c.cell-2.ensures, c.words.ensures) at c.change.ensures.ran)
     (λ v has ran. insert_element_puts _ _ c.args.unit c.args.k c.args.value.now v has c.change.result ran)
     (λ v has ran xs texts room free. insert_element_faults _ _ c.args.unit c.args.k c.args.value.now v has room.0 xs (record { rows = texts }) room.1 free c.change.ensures.live c.change.result ran)

@@ -1,15 +1,6 @@
 use Rattle.office_tables.specs.Schema as tables
 use Rattle.std.proofs.Common.{◌≡◌, ℤ, None, [], ◌∷◌, ap, sym, subst, option_copied, false, nat_eq, ◌&&◌}
-use Rattle.std.specs.List.{list_any}
-use Rattle.std.proofs.lemmas.List.Sorted.{IsPermutation-refl}
-use Rattle.sqlite.specs.Held.{state}
-use Rattle.sqlite.specs.Edit.{next_rowid}
-use Rattle.catalogue_statements.specs.DescriptionRows.{AddsTexts, WithTexts, text_cells}
-use Rattle.catalogue_statements.specs.Rows.{ElementRow, element_row}
-use Rattle.catalogue_statements.specs.Representation.{element_number}
-use Rattle.office_tables.specs.Step.{OnlyTouches, PutsRow}
-use Rattle.office_tables.proofs.Calls.{goes_nowhere, on_ok_then}
-use Rattle.office_tables.proofs.Touching.{nothing_touched}
+use Rattle.catalogue_statements.proofs.Common.{AddsTexts, ElementRow, IsPermutation-refl, OnlyTouches, PutsRow, WithTexts, element_number, element_row, goes_nowhere, list_any, next_rowid, nothing_touched, on_ok_then, state, text_cells}
 use Rattle.catalogue_statements.proofs.TextLemmas.{one_element}
 use Rattle.catalogue_statements.proofs.WritingCalls.{writes_well}
 use Rattle.catalogue_statements.proofs.elements.insert_text.Goals as goal
@@ -38,9 +29,9 @@ returns-in-Some g c =
       makes = λ clean xs at. on_ok_then c.insert_element.result puts (AddsTexts unit (text_cells c.args.place (option_copied c.args.text)) xs b.now.trees)
           (λ put.
           let it = one_element a.now b.now unit c.element_number.result value xs at put in
-          (it.0, it.1, subst (λ cells. WithTexts unit cells xs it.0) (sym e) (subst (λ k. WithTexts unit ((k, value) ∷ []) xs it.0) c.element_number.ensures.number it.2)))
+          (it.0, it.1, subst (λ cells. WithTexts unit cells xs it.0) (sym e) (subst (λ k. WithTexts unit ((k, value) ∷ []) xs it.0) c.element_number.ensures it.2)))
           (inserted.puts clean);
       faults = λ xs at room clean free.
-          let none_yet = subst (λ k. list_any (λ (e : ElementRow). nat_eq unit e.unit && nat_eq k e.k) xs ≡ false) (sym c.element_number.ensures.number) room.1 in
+          let none_yet = subst (λ k. list_any (λ (e : ElementRow). nat_eq unit e.unit && nat_eq k e.k) xs ≡ false) (sym c.element_number.ensures) room.1 in
           inserted.faults xs at.rows (room.0, none_yet) clean free;
     }

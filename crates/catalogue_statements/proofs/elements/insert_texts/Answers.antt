@@ -1,18 +1,9 @@
 use Rattle.office_tables.specs.Schema as tables
 use Rattle.std.proofs.Common.{map, take, arith, refl, false, nat_eq, ◌&&◌, Option, length, get_or, ◌≡◌, ◌<◌, ◌+◌, ◌∙◌, List, [], ◌∷◌, ◌++◌, ap, sym, subst, option_copied}
-use Rattle.std.specs.List.{list_any}
-use Rattle.std.proofs.lemmas.List.{take_all}
-use Rattle.sqlite.specs.Held.{state}
-use Rattle.isad_core.specs.Texts.{Bytes}
-use Rattle.catalogue_statements.specs.DescriptionRows.{WithTexts, cell_of, text_cells}
-use Rattle.catalogue_statements.specs.Rows.{ElementRow}
-use Rattle.catalogue_statements.specs.Representation.{element_number, texts_from}
-use Rattle.office_tables.proofs.Calls.{early, goes_then}
-use Rattle.office_tables.proofs.Touching.{touched_again}
+use Rattle.catalogue_statements.proofs.Common.{Bytes, ElementRow, WithTexts, cell_of, early, element_number, goes_then, list_any, state, take_all, text_cells, texts_from, touched_again, untouched}
 use Rattle.catalogue_statements.proofs.Parts.{cells_then}
 use Rattle.catalogue_statements.proofs.TextLemmas.{first_cells, cells_step}
 use Rattle.catalogue_statements.proofs.Untold.{text_free, unit_still}
-use Rattle.office_tables.proofs.Sparing.{untouched}
 use Rattle.catalogue_statements.proofs.WritingCalls.{writes_cut, writes_known, writes_well}
 use Rattle.catalogue_statements.proofs.elements.insert_texts.Goals as goal
 

@@ -1,10 +1,6 @@
 use Rattle.office_tables.specs.Schema as tables
 use Rattle.std.proofs.Common.{◌≡◌, List, [], ◌∷◌}
-use Rattle.sqlite.specs.Held.{state}
-use Rattle.sqlite.specs.State.{HasCleanDisk}
-use Rattle.catalogue_statements.specs.DescriptionRows.{AreElements, WithTexts}
-use Rattle.catalogue_statements.specs.Rows.{ElementRow}
-use Rattle.office_tables.specs.Step.{Goes, OnlyTouches}
+use Rattle.catalogue_statements.proofs.Common.{AreElements, ElementRow, Goes, HasCleanDisk, OnlyTouches, WithTexts, state}
 use Rattle.catalogue_statements.proofs.TextLemmas.{first_cells}
 use Rattle.catalogue_statements.proofs.elements.insert_texts.Given as goal
 

@@ -1,27 +1,21 @@
 use Rattle.office_tables.specs.Schema as tables
 use Rattle.std.proofs.Common.{◌≡◌, ◌+◌, [], ◌∷◌, length, ap, ◌∙◌, arith}
-use Rattle.sqlite.specs.Effect.{Database}
-use Rattle.sqlite.specs.Held.{state}
-use Rattle.catalogue_statements.specs.Rows.{counted_from}
-use Rattle.catalogue_statements.specs.Representation.{RepresentsContainers}
-use Rattle.office_tables.proofs.Calls.{early, goes_then}
-use Rattle.office_tables.proofs.Sparing.{same_untouched}
-use Rattle.office_tables.proofs.Touching.{touched_again}
+use Rattle.catalogue_statements.proofs.Common.{Database, RepresentsContainers, counted_from, early, goes_then, same_untouched, state, touched_again}
 use Rattle.catalogue_statements.proofs.Numbered.{one_container}
 use Rattle.catalogue_statements.proofs.Untold.{next_free, none_alike}
 use Rattle.catalogue_statements.proofs.WritingCalls.{writes_cut_looked, writes_not, writes_well}
 use Rattle.catalogue_statements.proofs.housing.add_container.Goals as goal
 
-pub returns-in_err-number-clause-writes : goal.returns-in_err-number-clause-writes
-returns-in_err-number-clause-writes g c =
-    let failed = c.in_err-number.ensures.looks in
+pub returns-in_err-number : goal.returns-in_err-number
+returns-in_err-number g c =
+    let failed = c.in_err-number.ensures in
     writes_not c.in_err-number.field-0.0 c.from_residual.ensures failed.reads.aborts failed.reads.spares (λ boxes at _. failed.faults boxes at tt)
 
-pub returns-in_err-insert_container-clause-writes : goal.returns-in_err-insert_container-clause-writes
-returns-in_err-insert_container-clause-writes g c =
+pub returns-in_err-insert_container : goal.returns-in_err-insert_container
+returns-in_err-insert_container g c =
     let b = state g.S.Store c.next_number.new.tables in
     let n = c.in_ok-number.number in
-    let next = c.in_ok-number.ensures.looks in
+    let next = c.in_ok-number.ensures in
     let failed = c.in_err-insert_container.ensures in
     writes_cut_looked c.in_err-insert_container.field-0.0 c.from_residual-in_err-insert_container.ensures next.reads.looks failed.leaves.aborts failed.leaves.spares
     (λ before boxes at new.
@@ -29,13 +23,13 @@ returns-in_err-insert_container-clause-writes g c =
     let there : RepresentsContainers b.now.trees boxes = ap (λ (db : Database). db.trees tables.container.tree) (next.reads.looks.same before) ∙ at in
     failed.faults (counted_from 1 boxes) there (next_free 1 n boxes (omega (arith, is)), none_alike 1 boxes c.args.key.now new))
 
-pub returns-clause-writes : goal.returns-clause-writes
-returns-clause-writes g c =
+pub returns : goal.returns
+returns g c =
     let a = state g.S.Store c.args.tables.now in
     let b = state g.S.Store c.next_number.new.tables in
     let d = state g.S.Store c.insert_container.new.tables in
     let touched = tables.container.tree ∷ [] in
-    let next = c.in_ok-number.ensures.looks in
+    let next = c.in_ok-number.ensures in
     let looked = next.reads.looks in
     let inserted = c.in_ok-insert_container.ensures in
     let early_b = early b d _ inserted.leaves.crash in

@@ -1,20 +1,8 @@
 use Rattle.office_tables.specs.Schema as tables
 use Rattle.std.proofs.Common.{◌≡◌, ℤ, [], ◌∷◌, false, nat_eq, ◌&&◌, refl, sym, subst}
-use Rattle.std.specs.List.{list_any}
-use Rattle.sqlite.specs.Held.{state}
-use Rattle.sqlite.specs.Edit.{next_rowid}
-use Rattle.catalogue_statements.specs.DescriptionRows.{AddsHousings}
-use Rattle.catalogue_core.specs.Descriptions.{with_boxes}
-use Rattle.catalogue_core.specs.CatalogueMerge.{box_number}
-use Rattle.catalogue_statements.specs.Rows.{HousingRow, housing_row}
-use Rattle.office_tables.specs.Step.{OnlyTouches, PutsRow}
-use Rattle.office_tables.proofs.CallEnds.{leaves_part}
-use Rattle.office_tables.proofs.Calls.{on_ok_then}
-use Rattle.office_tables.proofs.numbered.OwnNumbers.{still_numbered}
+use Rattle.catalogue_statements.proofs.Common.{AddsHousings, HousingRow, OnlyTouches, PutsRow, box_number, housing_row, leaves_part, list_any, next_rowid, on_ok_then, state, still_numbered, touched_wider, untouched, with_boxes}
 use Rattle.catalogue_statements.proofs.HousingLemmas.{housed}
 use Rattle.catalogue_statements.proofs.Untold.{unit_still}
-use Rattle.office_tables.proofs.Sparing.{untouched}
-use Rattle.office_tables.proofs.Touching.{touched_wider}
 use Rattle.catalogue_statements.proofs.WritingCalls.{writes_last, writes_not}
 use Rattle.catalogue_statements.proofs.housing.house.Goals as goal
 
@@ -22,9 +10,9 @@ pub returns-in_err-number : goal.returns-in_err-number
 returns-in_err-number g c =
     let a = state g.S.Store c.args.tables.now in
     let b = state g.S.Store c.number_of.new.tables in
-    let failed = c.in_err-number.ensures.writes in
+    let failed = c.in_err-number.ensures in
     writes_not c.in_err-number.field-0.0 c.from_residual.ensures failed.leaves.aborts (λ clean. untouched (tables.container.tree ∷ tables.housing.tree ∷ []) a b _ (failed.leaves.spares clean))
-    (λ held at room. failed.faults held.boxes at.containers room.1)
+    (λ held at room. failed.faults held.boxes at.containers tt)
 
 pub returns : goal.returns
 returns g c =
@@ -34,7 +22,7 @@ returns g c =
     let unit = c.args.unit in
     let key = c.args.key.now in
     let touched = tables.container.tree ∷ tables.housing.tree ∷ [] in
-    let number = c.in_ok-number.ensures.writes in
+    let number = c.in_ok-number.ensures in
     let r = c.insert_housing.result in
     let last = c.insert_housing.ensures in
     let row : ℤ × HousingRow = (next_rowid (b.now.trees tables.housing.tree), record { unit = unit; ord = c.args.place; container = c.in_ok-number.number }) in
@@ -50,5 +38,5 @@ returns g c =
     let is = number.makes before held.boxes at.containers at.apart in
     let kept = number.only before in
     let here = unit_still a.now.trees b.now.trees unit (kept tables.unit.tree refl refl) room.0 in
-    let none = subst (λ n. list_any (λ (h : HousingRow). nat_eq unit h.unit && nat_eq n h.container) held.rows ≡ false) (sym is.0) room.3 in
-    last.faults held.rows (still_numbered housing_row (a.now.trees tables.housing.tree) (b.now.trees tables.housing.tree) held.rows (kept tables.housing.tree refl refl) at.rows) (here, room.2, none))
+    let none = subst (λ n. list_any (λ (h : HousingRow). nat_eq unit h.unit && nat_eq n h.container) held.rows ≡ false) (sym is.0) room.2 in
+    last.faults held.rows (still_numbered housing_row (a.now.trees tables.housing.tree) (b.now.trees tables.housing.tree) held.rows (kept tables.housing.tree refl refl) at.rows) (here, room.1, none))

@@ -1,21 +1,11 @@
 use Rattle.office_tables.specs.Schema as tables
-use Rattle.std.proofs.Common.{append-nil, refl, false, nat_eq, ◌&&◌, ◌^◌, ◌≡◌, ◌<◌, ◌+◌, ◌∙◌, List, [], ◌∷◌, ◌++◌, length, get_or, take, ap, sym, subst, arith}
-use Rattle.std.proofs.lemmas.List.{take_more, take_all, length-take-le}
-use Rattle.std.specs.List.{list_any}
-use Rattle.std.proofs.lemmas.List.Sorted.{IsPermutation-refl}
-use Rattle.isad_core.specs.Boxes.{distinct}
-use Rattle.sqlite.specs.Held.{state}
-use Rattle.isad_core.specs.declared.values.BoxKey.{BoxKey}
-use Rattle.catalogue_statements.specs.DescriptionRows.{AddsHousings, AreHoused, WithHousings, housing_cell}
-use Rattle.catalogue_core.specs.Descriptions.{with_boxes}
-use Rattle.catalogue_core.specs.CatalogueMerge.{box_number}
-use Rattle.catalogue_statements.specs.Rows.{HousingRow}
-use Rattle.office_tables.proofs.Calls.{early, goes_nowhere, goes_then}
-use Rattle.office_tables.proofs.Touching.{touched_again, nothing_touched}
+use Rattle.std.proofs.Common.{append-nil, refl, false, nat_eq, ◌&&◌, ◌≡◌, ◌<◌, ◌+◌, ◌∙◌, List, [], ◌∷◌, ◌++◌, length, get_or, take, ap, sym, subst, arith}
+use Rattle.std.proofs.lemmas.List.{length-take-le}
+use Rattle.catalogue_statements.proofs.Common.{AddsHousings, AreHoused, BoxKey, HousingRow, IsPermutation-refl, WithHousings, box_number, distinct, early, goes_nowhere, goes_then, housing_cell, list_any, nothing_touched, state, take_all, take_more, touched_again, with_boxes}
 use Rattle.catalogue_statements.proofs.Parts.{cells_then}
 use Rattle.catalogue_statements.proofs.HousingLemmas.{boxes_more, cells_in, housing_more}
-use Rattle.catalogue_statements.proofs.Untold.{boxes_within, housing_number, housing_place, not_seen, unit_still}
-use Rattle.catalogue_statements.proofs.WritingCalls.{writes_cut, writes_known, writes_well}
+use Rattle.catalogue_statements.proofs.Untold.{housing_number, housing_place, not_seen, unit_still}
+use Rattle.catalogue_statements.proofs.WritingCalls.{writes_cut, writes_unknown, writes_well}
 use Rattle.catalogue_statements.proofs.housing.insert_housings.Goals as goal
 
 pub loop-key-preserved : goal.loop-key-preserved
@@ -29,7 +19,8 @@ loop-key-preserved g c =
     let key = c.key-item.result in
     let seen = take i told in
     let invariant = c.loop-key.invariant in
-    let last = c.in_ok-house.ensures.leaves.goes in
+    let did = rw c.in_ok-next.ensures.same at c.in_ok-house.ensures in
+    let last = did.leaves.goes in
     let low : i < length told = subst (λ (l : List BoxKey). i < length l) c.as_slice-key-items.ensures c.loop-key-test.true in
     let taken : take (i + 1) told ≡ seen ++ key ∷ [] =
     take_more told i key low ∙ ap (λ b. seen ++ b ∷ []) (sym (c.key-item.is ∙ ap (λ (l : List BoxKey). get_or l i key) c.as_slice-key-items.ensures)) in
@@ -38,11 +29,11 @@ loop-key-preserved g c =
       (
         goes_then a b d invariant.1.0 last,
         (
-          λ clean. touched_again (tables.container.tree ∷ tables.housing.tree ∷ []) a.now b.now d.now (invariant.1.1.0 (early b d _ last.on.crash clean)) (c.in_ok-house.ensures.only clean),
+          λ clean. touched_again (tables.container.tree ∷ tables.housing.tree ∷ []) a.now b.now d.now (invariant.1.1.0 (early b d _ last.on.crash clean)) (did.only clean),
           λ clean boxes xs at.
               let before = invariant.1.1.1 (early b d _ last.on.crash clean) boxes xs at in
               let now = with_boxes boxes seen in
-              let one = c.in_ok-house.ensures.makes clean (record { boxes = now; rows = before.0 }) before.1 in
+              let one = did.makes clean (record { boxes = now; rows = before.0 }) before.1 in
               let ys = one.0 in
               let cells = cells_in now seen ++ (c.loop-key.place + 1, box_number (with_boxes now (key ∷ [])) key) ∷ [] in
               let more : WithHousings unit cells xs ys = cells_then (λ (h : HousingRow). h.unit) housing_cell unit (cells_in now seen) ((c.loop-key.place + 1, box_number (with_boxes now (key ∷ [])) key) ∷ []) xs before.0 ys before.2 one.2 in
@@ -78,25 +69,28 @@ returns-in_err-house g c =
     let seen = take i told in
     let invariant = c.loop-key.invariant in
     let so_far = invariant.1 in
-    let failed = c.in_err-house.ensures in
-    writes_cut c.in_err-house.field-0.0 c.from_residual.ensures so_far.0 so_far.1.0 failed.leaves.aborts failed.leaves.spares
+    let failed = rw c.in_ok-next.ensures.same at c.in_err-house.ensures in
+    writes_cut c.in_err-house.field-0.0 c.from_residual-in_err-house.ensures so_far.0 so_far.1.0 failed.leaves.aborts failed.leaves.spares
     (λ before held at room.
-    let small = room.1 in
-    let none = room.3 in
+    let none = room.2 in
     let housed = so_far.1.1 before held.boxes held.rows at in
     let here = unit_still a.now.trees b.now.trees unit ((so_far.1.0 before) tables.unit.tree refl refl) room.0 in
     let low : i < length told = subst (λ (l : List BoxKey). i < length l) c.as_slice-key-items.ensures c.loop-key-test.true in
     let is : key ≡ get_or told i key = c.key-item.is ∙ ap (λ (l : List BoxKey). get_or l i key) c.as_slice-key-items.ensures in
     let now = with_boxes held.boxes seen in
-    let few : length now < 2 ^ 63 = omega (arith, small, boxes_within held.boxes seen, length-take-le i told (omega (arith, low)), c.as_slice-key-items.type_inv, c.loop-key-test.true) in
     let place_free = subst (λ n. list_any (λ (h : HousingRow). nat_eq unit h.unit && nat_eq (n + 1) h.ord) housed.0 ≡ false) (sym invariant.0) (housing_place unit i held.boxes told key held.rows housed.0 at.apart low housed.2 none) in
-    let number_free = housing_number unit i held.boxes told key held.rows housed.0 at.apart low housed.2 none (not_seen told i key low is room.2) in
-    failed.faults (record { boxes = now; rows = housed.0 }) housed.1 (here, few, place_free, number_free))
+    let number_free = housing_number unit i held.boxes told key held.rows housed.0 at.apart low housed.2 none (not_seen told i key low is room.1) in
+    failed.faults (record { boxes = now; rows = housed.0 }) housed.1 (here, place_free, number_free))
 
-pub returns-then-place : goal.returns-then-place
-returns-then-place g c =
+pub returns-in_err-next : goal.returns-in_err-next
+returns-in_err-next g c =
     let so_far = c.loop-key.invariant.1 in
-    writes_known so_far.0 so_far.1.0 (λ clean held at room. omega (arith, c.loop-key.invariant.0, c.as_slice-key-items.type_inv, c.loop-key-test.true))
+    let failed = c.in_err-next.ensures in
+    writes_unknown c.in_err-next.field-0.0 c.from_residual.ensures failed.fair so_far.0 so_far.1.0
+    (λ clean held at room. let great = failed.great in omega (arith, great, c.loop-key.invariant.0, c.as_slice-key-items.type_inv, c.loop-key-test.true))
+
+pub overflow_add-place : goal.overflow_add-place
+overflow_add-place g c = omega (arith, c.loop-key.invariant.0, c.as_slice-key-items.type_inv, c.loop-key-test.true)
 
 pub returns : goal.returns
 returns g c =

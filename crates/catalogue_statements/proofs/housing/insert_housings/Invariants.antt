@@ -1,12 +1,6 @@
 use Rattle.office_tables.specs.Schema as tables
 use Rattle.std.proofs.Common.{◌≡◌, List, [], ◌∷◌, take}
-use Rattle.sqlite.specs.Held.{state}
-use Rattle.sqlite.specs.State.{HasCleanDisk}
-use Rattle.isad_core.specs.declared.values.BoxKey.{BoxKey}
-use Rattle.catalogue_statements.specs.DescriptionRows.{AreHoused, WithHousings}
-use Rattle.catalogue_core.specs.Descriptions.{with_boxes}
-use Rattle.catalogue_statements.specs.Rows.{HousingRow}
-use Rattle.office_tables.specs.Step.{Goes, OnlyTouches}
+use Rattle.catalogue_statements.proofs.Common.{AreHoused, BoxKey, Goes, HasCleanDisk, HousingRow, OnlyTouches, WithHousings, state, with_boxes}
 use Rattle.catalogue_statements.proofs.HousingLemmas.{cells_in}
 use Rattle.catalogue_statements.proofs.housing.insert_housings.Given as goal
 

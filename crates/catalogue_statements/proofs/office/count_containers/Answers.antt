@@ -1,9 +1,7 @@
 use Rattle.std.proofs.Common.{◌≡◌, length, Some, None, Err, refl, sym, ◌∙◌}
-use Rattle.office_tables.specs.RowCounts.{cap}
 use Rattle.office_tables.specs.Schema as tables
-use Rattle.catalogue_statements.specs.Rows.{container_row}
+use Rattle.catalogue_statements.proofs.Common.{cap, container_row, looks_ill, looks_not, looks_well}
 use Rattle.catalogue_statements.proofs.OfficeStatements.{count_containers_text, count_containers_command, count_containers_means, count_told, count_caused}
-use Rattle.office_tables.proofs.LookUps.{looks_ill, looks_not, looks_well}
 use Rattle.catalogue_statements.proofs.office.count_containers.Goals as goal
 
 pub find_one-requires : goal.find_one-requires

@@ -1,9 +1,7 @@
 use Rattle.std.proofs.Common.{◌≡◌, length, Some, None, Err, refl, sym, ◌∙◌}
-use Rattle.office_tables.specs.RowCounts.{cap}
 use Rattle.office_tables.specs.Schema as tables
-use Rattle.catalogue_statements.specs.Rows.{unit_row}
+use Rattle.catalogue_statements.proofs.Common.{cap, looks_ill, looks_not, looks_well, unit_row}
 use Rattle.catalogue_statements.proofs.OfficeStatements.{count_units_text, count_units_command, count_units_means, count_told, count_caused}
-use Rattle.office_tables.proofs.LookUps.{looks_ill, looks_not, looks_well}
 use Rattle.catalogue_statements.proofs.office.count_units.Goals as goal
 
 pub find_one-requires : goal.find_one-requires

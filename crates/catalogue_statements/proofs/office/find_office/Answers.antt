@@ -1,9 +1,6 @@
 use Rattle.std.proofs.Common.{Ok, List, [], slice_get, ap, ◌∙◌}
-use Rattle.std.proofs.lemmas.Result.{IfOk-weaker}
-use Rattle.sqlite.specs.Held.{state}
-use Rattle.catalogue_statements.specs.declared.office.OfficeRow.{OfficeRow}
+use Rattle.catalogue_statements.proofs.Common.{IfOk-weaker, OfficeRow, answered, caused, state}
 use Rattle.catalogue_statements.proofs.OfficeStatements.{office_is_command, office_is_means, office_is_finds, office_is_faults}
-use Rattle.office_tables.proofs.StatementEnds.{answered, caused}
 use Rattle.catalogue_statements.proofs.office.find_office.Goals as goal
 
 pub find_one-requires : goal.find_one-requires

@@ -1,7 +1,6 @@
 use Rattle.std.proofs.Common.{refl}
-use Rattle.sqlite.specs.Held.{state}
+use Rattle.catalogue_statements.proofs.Common.{caused, done, state}
 use Rattle.catalogue_statements.proofs.OfficeStatements.{set_next_command, set_next_means, set_next_leaves, set_next_only, set_next_faults}
-use Rattle.office_tables.proofs.StatementEnds.{done, caused}
 use Rattle.catalogue_statements.proofs.office.set_next_unit.Goals as goal
 
 pub change-requires : goal.change-requires
@@ -9,12 +8,12 @@ change-requires g c = record { count = 1; command = set_next_command; changes = 
 
 pub returns-clause-rows : goal.returns-clause-rows
 returns-clause-rows g c clean version o stored =
-    done (state g.S.Store c.args.tables.now) c.change.result _ (rw c.number.ensures at (c.change.ensures.ran clean)) (λ ran. set_next_leaves _ _ c.args.next g.P.Versioned.version ran.0 version o stored c.change.result ran.1)
+    done (state g.S.Store c.args.tables.now) c.change.result _ (rw c.cell.ensures at (c.change.ensures.ran clean)) (λ ran. set_next_leaves _ _ c.args.next g.P.Versioned.version ran.0 version o stored c.change.result ran.1)
 
 pub returns-clause-only : goal.returns-clause-only
 returns-clause-only g c clean =
-    done (state g.S.Store c.args.tables.now) c.change.result _ (rw c.number.ensures at (c.change.ensures.ran clean)) (λ ran. set_next_only _ _ c.args.next g.P.Versioned.version ran.0 c.change.result ran.1)
+    done (state g.S.Store c.args.tables.now) c.change.result _ (rw c.cell.ensures at (c.change.ensures.ran clean)) (λ ran. set_next_only _ _ c.args.next g.P.Versioned.version ran.0 c.change.result ran.1)
 
 pub returns-clause-faults : goal.returns-clause-faults
 returns-clause-faults g c version o stored clean free =
-    caused (state g.S.Store c.args.tables.now) (state g.S.Store c.change.new.tables) c.change.result (rw c.number.ensures at (c.change.ensures.ran clean)) (λ ran. set_next_faults _ _ c.args.next g.P.Versioned.version ran.0 version o stored c.change.result ran.1 free c.change.ensures.live)
+    caused (state g.S.Store c.args.tables.now) (state g.S.Store c.change.new.tables) c.change.result (rw c.cell.ensures at (c.change.ensures.ran clean)) (λ ran. set_next_faults _ _ c.args.next g.P.Versioned.version ran.0 version o stored c.change.result ran.1 free c.change.ensures.live)

@@ -1,12 +1,6 @@
 use Rattle.std.proofs.Common.{Ok, refl, ◌∷◌, [], slice_get, ap, ◌∙◌}
-use Rattle.std.specs.Prelude.{IsUtf8}
-use Rattle.std.proofs.lemmas.Result.{IfOk-weaker}
-use Rattle.sqlite.specs.declared.types.Value.TheVariants.{Text}
-use Rattle.sqlite_trees.proofs.ListLemmas.{all_weaker}
-use Rattle.catalogue_core.specs.Bounds.{IsLegibleUnit}
-use Rattle.catalogue_core.specs.Units.{Unit}
+use Rattle.catalogue_statements.proofs.Common.{IfOk-weaker, IsLegibleUnit, IsUtf8, Text, Unit, all_weaker, looks_up}
 use Rattle.catalogue_statements.proofs.UnitQueries.{level_text, level_columns, level_names, level_means, level_command, numbered_finds, numbered_faults}
-use Rattle.office_tables.proofs.StatementEnds.{looks_up}
 use Rattle.catalogue_statements.proofs.units.find_level.Goals as goal
 
 pub find_one-requires : goal.find_one-requires
@@ -14,7 +8,7 @@ find_one-requires g c = record { count = 1; command = level_command; means = lev
 
 pub returns : goal.returns
 returns g c =
-    looks_up g.P.Versioned.version c.find_one.ensures.reads (rw c.number.ensures at c.find_one.ensures.ran)
+    looks_up g.P.Versioned.version c.find_one.ensures.reads (rw c.cell.ensures at c.find_one.ensures.ran)
     (λ v has found xs stored _. IfOk-weaker c.find_one.result _ _ (λ first it.
     let all = numbered_finds _ _ c.args.id v has level_text level_columns level_names (level_means v) xs stored (λ t. Text t ∷ []) (λ l. l) (λ (u : Unit). u.values.level) (λ _. refl) (Ok it.0) it.1 in
     (all.0, all.1, it.2 ∙ ap (λ l. slice_get l 0) all.2)) found)

@@ -1,20 +1,10 @@
 use Rattle.std.proofs.Common.{Ok, refl, ◌≡◌, true, ◌∷◌, [], ap, ◌∙◌, filter, map}
-use Rattle.std.specs.Prelude.{IfSome, IsUtf8}
-use Rattle.std.proofs.lemmas.Result.{IfOk-weaker}
-use Rattle.sqlite.specs.Values.{or_null}
-use Rattle.sqlite.specs.declared.types.Value.TheVariants.{Int, Text}
-use Rattle.sqlite_trees.proofs.ListLemmas.{all_weaker, ascending-filter}
 use Rattle.isad_core.specs.Days.{is_day_number}
-use Rattle.catalogue_core.specs.Bounds.{IsLegibleUnit}
-use Rattle.catalogue_core.specs.Units.{Unit, has_id}
 use Rattle.office_tables.specs.Flags.{flag}
-use Rattle.office_tables.proofs.Reading.{first_shown}
-use Rattle.office_tables.proofs.Sorted.{only_order}
-use Rattle.catalogue_statements.specs.Rows.{by_number}
 use Rattle.catalogue_statements.specs.Standings.{standing_of}
 use Rattle.catalogue_statements.specs.declared.row_types.Standing.{Standing}
+use Rattle.catalogue_statements.proofs.Common.{IfOk-weaker, IfSome, Int, IsLegibleUnit, IsUtf8, Text, Unit, all_weaker, ascending-filter, by_number, first_shown, has_id, looks_up, only_order, or_null}
 use Rattle.catalogue_statements.proofs.UnitQueries.{standing_text, standing_columns, standing_names, standing_means, standing_command, numbered_finds, numbered_faults, by_number_total}
-use Rattle.office_tables.proofs.StatementEnds.{looks_up}
 use Rattle.catalogue_statements.proofs.units.find_standing.Goals as goal
 
 pub find_one-requires : goal.find_one-requires
@@ -22,7 +12,7 @@ find_one-requires g c = record { count = 1; command = standing_command; means = 
 
 pub returns : goal.returns
 returns g c =
-    looks_up g.P.Versioned.version c.find_one.ensures.reads (rw c.number.ensures at c.find_one.ensures.ran)
+    looks_up g.P.Versioned.version c.find_one.ensures.reads (rw c.cell.ensures at c.find_one.ensures.ran)
     (λ v has found xs stored up.
     let rising = ascending-filter _ (has_id c.args.id) xs up in
     IfOk-weaker c.find_one.result _ _ (λ first it.

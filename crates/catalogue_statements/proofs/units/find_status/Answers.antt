@@ -1,19 +1,9 @@
 use Rattle.std.proofs.Common.{Ok, refl, ◌∷◌, [], map, filter, ap, ◌∙◌, SFits}
-use Rattle.std.specs.Prelude.{IfSome}
 use Rattle.std.specs.Int.{w32}
-use Rattle.std.proofs.lemmas.Result.{IfOk-weaker}
-use Rattle.sqlite.specs.Values.{or_null}
-use Rattle.sqlite.specs.declared.types.Value.TheVariants.{Int}
-use Rattle.sqlite_trees.proofs.ListLemmas.{all_weaker, ascending-filter}
-use Rattle.catalogue_core.specs.Bounds.{IsLegibleUnit}
-use Rattle.catalogue_core.specs.Units.{Unit, has_id}
 use Rattle.office_tables.specs.Flags.{flag}
-use Rattle.office_tables.proofs.Reading.{first_shown}
-use Rattle.office_tables.proofs.Sorted.{only_order}
-use Rattle.catalogue_statements.specs.Rows.{by_number}
 use Rattle.catalogue_statements.specs.declared.row_types.Status.{Status}
+use Rattle.catalogue_statements.proofs.Common.{IfOk-weaker, IfSome, Int, IsLegibleUnit, Unit, all_weaker, ascending-filter, by_number, first_shown, has_id, looks_up, only_order, or_null}
 use Rattle.catalogue_statements.proofs.UnitQueries.{status_text, status_columns, status_names, status_means, status_command, numbered_finds, numbered_faults, until_fits, by_number_total}
-use Rattle.office_tables.proofs.StatementEnds.{looks_up}
 use Rattle.catalogue_statements.proofs.units.find_status.Goals as goal
 
 abbrev status : Unit → Status
@@ -24,7 +14,7 @@ find_one-requires g c = record { count = 1; command = status_command; means = st
 
 pub returns : goal.returns
 returns g c =
-    looks_up g.P.Versioned.version c.find_one.ensures.reads (rw c.number.ensures at c.find_one.ensures.ran)
+    looks_up g.P.Versioned.version c.find_one.ensures.reads (rw c.cell.ensures at c.find_one.ensures.ran)
     (λ v has found xs stored up.
     let rising = ascending-filter _ (has_id c.args.id) xs up in
     IfOk-weaker c.find_one.result _ _ (λ first it.

@@ -1,7 +1,7 @@
 use Rattle.std.proofs.Common.{refl}
 use Rattle.catalogue_statements.specs.NewUnit.{unit_of}
+use Rattle.catalogue_statements.proofs.Common.{puts_row}
 use Rattle.catalogue_statements.proofs.UnitWrites.{insert_unit_command, insert_unit_means, insert_unit_puts, insert_unit_faults}
-use Rattle.office_tables.proofs.StatementEnds.{puts_row}
 use Rattle.catalogue_statements.proofs.units.insert_unit.Goals as goal
 
 pub change-requires : goal.change-requires
@@ -9,6 +9,6 @@ change-requires g c = record { count = 5; command = insert_unit_command; changes
 
 pub returns : goal.returns
 returns g c =
-    puts_row g.P.Versioned.version c.change.ensures.leaves (rw (c.number.ensures, c.words.ensures, c.words-2.ensures, c.words-3.ensures, c.truth.ensures) at c.change.ensures.ran)
+    puts_row g.P.Versioned.version c.change.ensures.leaves (rw (c.cell.ensures, c.words.ensures, c.words-2.ensures, c.words-3.ensures, c.truth.ensures) at c.change.ensures.ran)
     (λ v has ran. insert_unit_puts _ _ (unit_of c.args.unit.now) refl v has c.change.result ran)
     (λ v has ran xs stored both free. insert_unit_faults _ _ (unit_of c.args.unit.now) refl v has xs stored both.0 both.1 free c.change.ensures.live c.change.result ran)

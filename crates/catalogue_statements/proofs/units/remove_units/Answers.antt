@@ -1,17 +1,9 @@
-use Rattle.std.proofs.Common.{rules, ℕ, List, [], ◌∷◌, take, get_or, sym, subst, arith}
-use Rattle.std.proofs.lemmas.List.{take_more, take_all}
-use Rattle.sqlite.specs.Held.{state}
-use Rattle.sqlite_trees.proofs.ListLemmas.{ascending-filter}
-use Rattle.office_tables.specs.Faults.{IsUnlimited}
-use Rattle.catalogue_statements.specs.Removals.{without, AreRemoved, unit_tables}
-use Rattle.office_tables.proofs.Calls.{early, goes_nowhere, goes_then}
-use Rattle.office_tables.proofs.Sparing.{untouched}
-use Rattle.office_tables.proofs.Touching.{touched_again, nothing_touched}
-use Rattle.office_tables.proofs.Causes.{cause_then, still_unlimited}
+use Rattle.std.proofs.Common.{rules, ◌≡◌, ◌∙◌, ℕ, List, [], ◌∷◌, take, get_or, sym, subst, arith}
+use Rattle.catalogue_statements.proofs.Common.{AreRemoved, IsUnlimited, ascending-filter, cause_then, early, get_or_default, goes_nowhere, goes_then, nothing_touched, state, still_unlimited, take_all, take_more, touched_again, unit_tables, untouched, without}
 use Rattle.catalogue_statements.proofs.Moves.{id_of}
 use Rattle.catalogue_statements.proofs.Removals.{removed_none, removed_then, next_listed}
 use Rattle.catalogue_statements.proofs.UnitFaults.{told_after}
-use Rattle.catalogue_statements.proofs.WritingCalls.{only_cut, only_known, only_well}
+use Rattle.catalogue_statements.proofs.WritingCalls.{only_cut, only_well}
 use Rattle.catalogue_statements.proofs.units.remove_units.Goals as goal
 
 pub loop-id-init : goal.loop-id-init
@@ -27,9 +19,6 @@ returns-in_err-remove_unit-clause-writes g c =
     let failed = c.in_err-remove_unit.ensures in
     only_cut c.in_err-remove_unit.field-0.0 c.from_residual.ensures so_far.0 so_far.1.0 failed.leaves.aborts (λ clean. untouched unit_tables b d _ (failed.leaves.spares clean))
 
-pub returns-then-id-ge-NO_NUMBER-clause-writes : goal.returns-then-id-ge-NO_NUMBER-clause-writes
-returns-then-id-ge-NO_NUMBER-clause-writes g c = let so_far = c.loop-id.invariant in only_known so_far.0 so_far.1.0
-
 pub returns-clause-writes : goal.returns-clause-writes
 returns-clause-writes g c = let so_far = c.loop-id.invariant in only_well so_far.0 so_far.1.0
 
@@ -41,14 +30,16 @@ loop-id-preserved g c =
     let i = c.loop-id.id-index in
     let ids = c.args.ids.now in
     let invariant = c.loop-id.invariant in
-    let last = c.in_ok-remove_unit.ensures.leaves.goes in (
+    let is : c.id-item.result ≡ get_or ids i 0 = c.id-item.is ∙ get_or_default ids i c.id-item.result 0 c.loop-id-test.true in
+    let removed = rw is at c.in_ok-remove_unit.ensures in
+    let last = removed.leaves.goes in (
       goes_then a b d invariant.0 last,
       (
-        (λ clean. touched_again unit_tables a.now b.now d.now (invariant.1.0 (early b d _ last.on.crash clean)) (c.in_ok-remove_unit.ensures.only clean)),
+        (λ clean. touched_again unit_tables a.now b.now d.now (invariant.1.0 (early b d _ last.on.crash clean)) (removed.only clean)),
         λ clean xs stored up listed.
             let gone = take i ids in
             let before = invariant.1.1 (early b d _ last.on.crash clean) xs stored up listed in
-            let one = c.in_ok-remove_unit.ensures.removes clean (without id_of gone xs) (before.units xs stored up) (ascending-filter _ _ xs up) (next_listed ids i xs listed c.loop-id-test.true) in
+            let one = removed.removes clean (without id_of gone xs) (before.units xs stored up) (ascending-filter _ _ xs up) (next_listed ids i xs listed c.loop-id-test.true) in
             subst (λ (l : List ℕ). AreRemoved l a.now d.now) (sym (take_more ids i 0 c.loop-id-test.true)) (removed_then gone (get_or ids i 0 ∷ []) a.now b.now d.now before one),
       ),
     )
@@ -60,7 +51,7 @@ returns-clause-removes g c clean xs stored up listed =
     subst (λ (l : List ℕ). AreRemoved l a.now b.now) (take_all c.loop-id.id-index c.args.ids.now (omega (arith, c.loop-id-test.false))) (c.loop-id.invariant.1.1 clean xs stored up listed)
 
 pub returns-in_err-remove_unit-clause-faults : goal.returns-in_err-remove_unit-clause-faults
-returns-in_err-remove_unit-clause-faults g c told listed low clean free =
+returns-in_err-remove_unit-clause-faults g c told listed clean free =
     let a = state g.S.Store c.args.tables.now in
     let b = state g.S.Store c.loop-id.tables in
     let d = state g.S.Store c.remove_unit.new.tables in

@@ -1,12 +1,6 @@
 use Rattle.std.proofs.Common.{◌≡◌, List, map, take}
-use Rattle.sqlite.specs.Held.{state}
-use Rattle.sqlite.specs.State.{HasCleanDisk}
-use Rattle.office_tables.specs.Order.{Rises}
-use Rattle.catalogue_statements.specs.Removals.{AreListed, AreRemoved, unit_tables}
-use Rattle.catalogue_statements.specs.Rows.{unit_row, by_number}
-use Rattle.office_tables.specs.Step.{Goes, OnlyTouches}
-use Rattle.catalogue_core.specs.Units.{Unit}
 use Rattle.office_tables.specs.Schema as tables
+use Rattle.catalogue_statements.proofs.Common.{AreListed, AreRemoved, Goes, HasCleanDisk, OnlyTouches, Rises, Unit, by_number, state, unit_row, unit_tables}
 use Rattle.catalogue_statements.proofs.units.remove_units.Given as goal
 
 abbrev pub invariant-loop-id : goal.invariant-loop-id

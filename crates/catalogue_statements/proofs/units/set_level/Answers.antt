@@ -1,6 +1,6 @@
 use Rattle.std.proofs.Common.{refl}
+use Rattle.catalogue_statements.proofs.Common.{changes}
 use Rattle.catalogue_statements.proofs.UnitWrites.{set_level_command, set_level_means, set_level_leaves, set_level_only, set_level_faults}
-use Rattle.office_tables.proofs.StatementEnds.{changes}
 use Rattle.catalogue_statements.proofs.units.set_level.Goals as goal
 
 pub change-requires : goal.change-requires
@@ -8,7 +8,7 @@ change-requires g c = record { count = 2; command = set_level_command; changes =
 
 pub returns : goal.returns
 returns g c =
-    changes g.P.Versioned.version c.change.ensures.leaves (rw (c.number.ensures, c.words.ensures) at c.change.ensures.ran)
+    changes g.P.Versioned.version c.change.ensures.leaves (rw (c.cell.ensures, c.words.ensures) at c.change.ensures.ran)
     (λ v has ran xs stored up. set_level_leaves _ _ c.args.id c.args.values.now v has xs stored up c.change.result ran)
     (λ v has ran. set_level_only _ _ c.args.id v has c.change.result c.args.values.now ran)
     (λ v has ran xs stored up free. set_level_faults _ _ c.args.id c.args.values.now v has xs stored up c.change.result ran free c.change.ensures.live)

@@ -1,10 +1,7 @@
 use Rattle.std.proofs.Common.{Ok, [], slice_get, ap, ◌∙◌}
 use Rattle.std.specs.Bool.{⊤}
-use Rattle.std.proofs.lemmas.Result.{IfOk-weaker}
-use Rattle.sqlite_trees.proofs.ListLemmas.{all_of}
-use Rattle.catalogue_core.specs.Units.{Unit}
+use Rattle.catalogue_statements.proofs.Common.{IfOk-weaker, Unit, all_of, looks_up}
 use Rattle.catalogue_statements.proofs.UnitQueries.{from_command, from_means, from_finds, from_faults}
-use Rattle.office_tables.proofs.StatementEnds.{looks_up}
 use Rattle.catalogue_statements.proofs.units.unit_number.Goals as goal
 
 pub find_one-requires : goal.find_one-requires

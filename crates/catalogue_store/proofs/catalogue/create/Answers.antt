@@ -1,17 +1,9 @@
 use Rattle.std.proofs.Common.{[]}
 use Rattle.sqlite.specs.Change.{KeepsRows}
-use Rattle.sqlite.specs.Held.{state}
-use Rattle.tree_core.specs.Forest.{Empty}
 use Rattle.office_tables.specs.Schema as tables
 use Rattle.office_tables.specs.Schema.{desk_tables}
-use Rattle.office_tables.specs.Step.{InTransaction, Continues, Goes, PutsRow, Spares, IsSame}
-use Rattle.office_tables.proofs.Calls.{early, continues_then, on_ok_both, on_ok_then}
-use Rattle.office_tables.proofs.CallEnds.{same_fault, making_last, making_not, making_then}
-use Rattle.catalogue_statements.specs.Rows.{office_row}
-use Rattle.catalogue_statements.specs.Representation.{Represents}
+use Rattle.catalogue_store.proofs.Common.{BlamesDisk, Continues, Empty, Goes, InTransaction, IsSame, PutsRow, Represents, Spares, continues_then, early, if_err_then, making_last, making_not, making_then, office_row, on_ok_both, on_ok_then, same_fault, state}
 use Rattle.catalogue_store.proofs.Beginning.{shows_beginning, desk_kept}
-use Rattle.office_tables.proofs.Sparing.{if_err_then}
-use Rattle.office_tables.specs.Faults.{BlamesDisk}
 use Rattle.catalogue_store.proofs.catalogue.create.Goals as goal
 
 pub returns-in_err-create_units-clause-leaves : goal.returns-in_err-create_units-clause-leaves

@@ -1,14 +1,5 @@
 use Rattle.std.proofs.Common.{sym, subst, ◌∙◌}
-use Rattle.std.specs.Prelude.{⊤}
-use Rattle.sqlite.specs.Effect.{Database}
-use Rattle.tree_core.specs.Forest.{each}
-use Rattle.catalogue_core.specs.Bounds.{IsBounded, IsKept}
-use Rattle.catalogue_core.specs.Units.{Unit}
-use Rattle.office_tables.specs.Calls.{RepresentsAlone}
-use Rattle.catalogue_statements.specs.Representation.{Represents}
-use Rattle.tree_places.specs.Attachments.{AreAttachedRows, AreRowsOf, AreThere}
-use Rattle.office_tables.proofs.CallEnds.{same_fault}
-use Rattle.office_tables.proofs.StoreCalls.{tells_not}
+use Rattle.catalogue_store.proofs.Common.{AreAttachedRows, AreRowsOf, AreThere, Database, IsBounded, IsKept, Represents, RepresentsAlone, Unit, each, same_fault, tells_not, ⊤}
 use Rattle.catalogue_store.proofs.AttachedRows.{attached_rows, attached_there}
 use Rattle.catalogue_store.proofs.LaterAnswers.{answers_later}
 use Rattle.catalogue_store.proofs.container_marks.attached_rows.Goals as goal

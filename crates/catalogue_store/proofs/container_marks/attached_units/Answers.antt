@@ -1,7 +1,7 @@
 use Rattle.std.proofs.Common.{rules}
 use Rattle.std.proofs.Math.Dec.{eqb}
 use Rattle.std.proofs.lemmas.List.Filters.{dedup_is}
-use Rattle.sqlite.specs.Held.{state}
+use Rattle.catalogue_store.proofs.Common.{state}
 use Rattle.catalogue_store.proofs.Attachments.{attached}
 use Rattle.catalogue_store.proofs.container_marks.attached_units.Goals as goal
 

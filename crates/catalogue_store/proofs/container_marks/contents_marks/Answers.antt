@@ -1,15 +1,5 @@
 use Rattle.std.proofs.Common.{sym, subst, List, map}
-use Rattle.std.specs.Prelude.{⊤}
-use Rattle.std.specs.List.{AllByRecursion}
-use Rattle.sqlite.specs.Effect.{Database}
-use Rattle.tree_core.specs.Forest.{each}
-use Rattle.tree_core.specs.declared.rows.Span.{Span}
-use Rattle.catalogue_core.specs.Bounds.{IsKept}
-use Rattle.catalogue_core.specs.Units.{Unit}
-use Rattle.catalogue_statements.specs.Representation.{Represents}
-use Rattle.tree_places.specs.Attachments.{AreAttachedRows, AreMarksOfEach, AreMarksOfContents}
-use Rattle.office_tables.proofs.CallEnds.{same_fault}
-use Rattle.office_tables.proofs.StoreCalls.{tells_not}
+use Rattle.catalogue_store.proofs.Common.{AllByRecursion, AreAttachedRows, AreMarksOfContents, AreMarksOfEach, Database, IsKept, Represents, Span, Unit, each, same_fault, tells_not, ⊤}
 use Rattle.catalogue_store.proofs.LaterAnswers.{answers_later}
 use Rattle.catalogue_store.proofs.container_marks.contents_marks.Goals as goal
 

@@ -1,21 +1,6 @@
 use Rattle.std.proofs.Common.{List, [], map, sym, subst, ◌∙◌, arith}
-use Rattle.std.specs.List.{AllByRecursion}
-use Rattle.std.proofs.lemmas.List.{take_all}
-use Rattle.sqlite.specs.Effect.{Database}
-use Rattle.sqlite.specs.Held.{state}
-use Rattle.sqlite_trees.proofs.ListLemmas.{all-get_or}
-use Rattle.tree_core.specs.Forest.{each}
-use Rattle.tree_core.specs.declared.rows.Span.{Span}
-use Rattle.catalogue_core.specs.Bounds.{IsKept}
-use Rattle.catalogue_core.specs.Units.{Unit}
 use Rattle.office_tables.specs.declared.fault.StoreFault.TheVariants as fault
-use Rattle.catalogue_statements.specs.Representation.{Represents}
-use Rattle.tree_places.specs.Attachments.{AreMarksOfEach}
-use Rattle.office_tables.proofs.CallEnds.{same_fault}
-use Rattle.office_tables.proofs.StoreCalls.{tells_not, tells_cut}
-use Rattle.office_tables.proofs.Calls.{cut_after, early, looks_nowhere, looks_then}
-use Rattle.tree_places.proofs.MarkForests.{rows_more}
-use Rattle.office_tables.proofs.Sparing.{spares_full}
+use Rattle.catalogue_store.proofs.Common.{AllByRecursion, AreMarksOfEach, Database, IsKept, Represents, Span, Unit, all-get_or, cut_after, each, early, looks_nowhere, looks_then, rows_more, same_fault, spares_full, state, take_all, tells_cut, tells_not}
 use Rattle.catalogue_store.proofs.container_marks.marks_of_each.Goals as goal
 
 pub loop-row-init : goal.loop-row-init

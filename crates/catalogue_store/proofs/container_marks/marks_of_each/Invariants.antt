@@ -1,15 +1,5 @@
 use Rattle.std.proofs.Common.{map, take}
-use Rattle.std.specs.List.{AllByRecursion}
-use Rattle.sqlite.specs.Held.{state}
-use Rattle.sqlite.specs.State.{HasCleanDisk}
-use Rattle.tree_core.specs.Forest.{each}
-use Rattle.tree_core.specs.declared.rows.Span.{Span}
-use Rattle.catalogue_core.specs.CatalogueMerge.{Catalogue}
-use Rattle.catalogue_core.specs.Units.{Unit}
-use Rattle.catalogue_statements.specs.Representation.{Represents}
-use Rattle.tree_places.specs.Attachments.{AreMarksOfEach}
-use Rattle.office_tables.specs.Step.{LeavesUnchanged}
-use Rattle.catalogue_statements.specs.declared.office.OfficeRow.{OfficeRow}
+use Rattle.catalogue_store.proofs.Common.{AllByRecursion, AreMarksOfEach, Catalogue, HasCleanDisk, LeavesUnchanged, OfficeRow, Represents, Span, Unit, each, state}
 use Rattle.catalogue_store.proofs.container_marks.marks_of_each.Given as goal
 
 abbrev pub invariant-loop-row : goal.invariant-loop-row

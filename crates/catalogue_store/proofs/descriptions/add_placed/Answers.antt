@@ -1,35 +1,32 @@
-use Rattle.std.proofs.Common.{[], ◌∷◌, ◌+◌, refl, sym, ◌∙◌, nat_eq}
-use Rattle.std.proofs.lemmas.List.Sorted.{list_any-IsPermutation}
-use Rattle.sqlite.specs.Held.{state}
-use Rattle.tree_core.specs.Forest.{add, each, nodes}
-use Rattle.tree_core.proofs.EachLemmas.{has_place-each, has-each}
-use Rattle.catalogue_core.specs.Bounds.{IsKept}
-use Rattle.catalogue_core.specs.Descriptions.{with_numbered, HasPlaceFor, IsNew}
-use Rattle.catalogue_core.specs.Units.{Unit, has_id, is_from}
+use Rattle.std.proofs.Common.{[], ◌∷◌, ◌+◌, Err, refl, sym, ap, ◌∙◌, nat_eq, arith}
+use Rattle.isad_core.specs.Limits.{IsNumber}
 use Rattle.office_tables.specs.Schema as tables
-use Rattle.office_tables.specs.Step.{Goes, HasRows, IsAborted, OnlyTouches}
-use Rattle.catalogue_statements.specs.NewUnit.{unit_of}
-use Rattle.catalogue_statements.specs.Rows.{ElementRow, HousingRow, office_row}
-use Rattle.catalogue_statements.specs.Representation.{RepresentsNumbered, catalogue_trees}
-use Rattle.office_tables.proofs.CallEnds.{excused_then, same_fault}
-use Rattle.office_tables.proofs.StoreCalls.{makes_not, makes_cut}
-use Rattle.office_tables.proofs.Calls.{cut_then, early, goes_then, on_err_then, on_ok_then}
-use Rattle.office_tables.proofs.Outcomes.{on_ok_by}
-use Rattle.office_tables.proofs.Touching.{touched_then, touched_wider}
+use Rattle.office_tables.specs.declared.fault.StoreFault.TheVariants as fault
 use Rattle.catalogue_statements.proofs.NewUnits.{no_unit, shows_added}
-use Rattle.catalogue_statements.proofs.Untold.{none_yet, unit_added}
+use Rattle.catalogue_store.proofs.Common.{ElementRow, Goes, HasPlaceFor, HasRows, HousingRow, IsAborted, IsKept, IsNew, OnlyTouches, RepresentsNumbered, Unit, add, catalogue_trees, cut_after, cut_then, each, early, excused_then, goes_then, has-each, has_id, has_place-each, is_from, last_touched, list_any-IsPermutation, looks_nowhere, makes_cut, makes_not, nodes, none_yet, office_row, on_err_then, on_ok_by, on_ok_then, same_fault, spares_known, state, touched_then, touched_wider, unit_added, unit_of, untouched_last, wider_spares, with_numbered}
 use Rattle.catalogue_store.proofs.Telling.{descriptions_in, descriptions_shown, same_described, same_descriptions}
-use Rattle.office_tables.proofs.Sparing.{last_touched, untouched_last, wider_spares}
 use Rattle.catalogue_store.proofs.descriptions.add_placed.Goals as goal
+
+pub returns-in_err-next : goal.returns-in_err-next
+returns-in_err-next g c =
+    let a = state g.S.Store c.args.tables.now in
+    let handed = c.from_residual.ensures in
+    let e = c.in_err-next.field-0.0 in
+    let looked = looks_nowhere a in
+    record {
+      updates = makes_not g.S.Store (RepresentsNumbered g.P.Places.represents g.P.Versioned.version) (λ k. IsKept k × IsNew (unit_of c.args.unit.now) k × IsNumber (c.args.unit.now.id + 1)) (HasPlaceFor c.args.parent) c.args.tables.now c.args.tables.now c.from_residual.result (with_numbered c.args.parent (unit_of c.args.unit.now)) catalogue_trees fault.Schema
+          (same_fault c.from_residual.result e handed.0 handed.1 ∙ ap Err c.in_err-next.ensures.fair) (cut_after a a looked.goes.on) (spares_known a a looked)
+          (λ o k it may kept clean free. let small = kept.2 in absurd (omega (arith, small, c.get.ensures.same, c.in_err-next.ensures.great)));
+    }
 
 pub returns-in_err-insert_unit : goal.returns-in_err-insert_unit
 returns-in_err-insert_unit g c =
     let u = unit_of c.args.unit.now in
-    let handed = c.from_residual.ensures in
+    let handed = c.from_residual-in_err-insert_unit.ensures in
     let e = c.in_err-insert_unit.field-0.0 in
     record {
-      updates = makes_not g.S.Store (RepresentsNumbered g.P.Places.represents g.P.Versioned.version) (λ k. IsKept k × IsNew (unit_of c.args.unit.now) k) (HasPlaceFor c.args.parent) c.args.tables.now c.insert_unit.new.tables c.from_residual.result (with_numbered c.args.parent (unit_of c.args.unit.now)) catalogue_trees e
-          (same_fault c.from_residual.result e handed.0 handed.1) c.in_err-insert_unit.ensures.leaves.aborts c.in_err-insert_unit.ensures.leaves.spares
+      updates = makes_not g.S.Store (RepresentsNumbered g.P.Places.represents g.P.Versioned.version) (λ k. IsKept k × IsNew (unit_of c.args.unit.now) k × IsNumber (c.args.unit.now.id + 1)) (HasPlaceFor c.args.parent) c.args.tables.now c.insert_unit.new.tables c.from_residual-in_err-insert_unit.result (with_numbered c.args.parent (unit_of c.args.unit.now)) catalogue_trees e
+          (same_fault c.from_residual-in_err-insert_unit.result e handed.0 handed.1) c.in_err-insert_unit.ensures.leaves.aborts c.in_err-insert_unit.ensures.leaves.spares
           (λ o k it may kept clean free.
           let at = it.catalogue.units in
           c.in_err-insert_unit.ensures.faults at.units at.rows (
@@ -46,7 +43,7 @@ returns-in_err-add g c =
     let handed = c.from_residual-in_err-add.ensures in
     let e = c.in_err-add.field-0.0 in
     record {
-      updates = makes_cut g.S.Store (RepresentsNumbered g.P.Places.represents g.P.Versioned.version) (λ k. IsKept k × IsNew (unit_of c.args.unit.now) k) (HasPlaceFor c.args.parent) c.args.tables.now c.insert_unit.new.tables c.add.new.tables c.from_residual-in_err-add.result (with_numbered c.args.parent (unit_of c.args.unit.now)) catalogue_trees e
+      updates = makes_cut g.S.Store (RepresentsNumbered g.P.Places.represents g.P.Versioned.version) (λ k. IsKept k × IsNew (unit_of c.args.unit.now) k × IsNumber (c.args.unit.now.id + 1)) (HasPlaceFor c.args.parent) c.args.tables.now c.insert_unit.new.tables c.add.new.tables c.from_residual-in_err-add.result (with_numbered c.args.parent (unit_of c.args.unit.now)) catalogue_trees e
           (same_fault c.from_residual-in_err-add.result e handed.0 handed.1) c.in_ok-insert_unit.ensures.leaves.goes.on
           (λ at_b. touched_wider (tables.unit.tree ∷ []) catalogue_trees a.now b.now refl (c.in_ok-insert_unit.ensures.puts at_b).only) c.in_err-add.ensures.updates.aborts
           (λ clean. wider_spares (tables.link.tree ∷ []) catalogue_trees b (state g.S.Store c.add.new.tables) e refl (c.in_err-add.ensures.updates.spares clean))
@@ -68,7 +65,7 @@ returns-in_err-describe g c =
     let e = c.in_err-describe.field-0.0 in
     let went = goes_then a b d c.in_ok-insert_unit.ensures.leaves.goes c.in_ok-add.ensures.updates.goes in
     record {
-      updates = makes_cut g.S.Store (RepresentsNumbered g.P.Places.represents g.P.Versioned.version) (λ k. IsKept k × IsNew (unit_of c.args.unit.now) k) (HasPlaceFor c.args.parent) c.args.tables.now c.add.new.tables c.describe.new.tables c.from_residual-in_err-describe.result (with_numbered c.args.parent (unit_of c.args.unit.now)) catalogue_trees e
+      updates = makes_cut g.S.Store (RepresentsNumbered g.P.Places.represents g.P.Versioned.version) (λ k. IsKept k × IsNew (unit_of c.args.unit.now) k × IsNumber (c.args.unit.now.id + 1)) (HasPlaceFor c.args.parent) c.args.tables.now c.add.new.tables c.describe.new.tables c.from_residual-in_err-describe.result (with_numbered c.args.parent (unit_of c.args.unit.now)) catalogue_trees e
           (same_fault c.from_residual-in_err-describe.result e handed.0 handed.1) went.on
           (λ at_d. touched_wider (tables.unit.tree ∷ tables.link.tree ∷ []) catalogue_trees a.now d.now refl
           (touched_then (tables.unit.tree ∷ []) (tables.link.tree ∷ []) a.now b.now d.now (c.in_ok-insert_unit.ensures.puts (early b d _ c.in_ok-add.ensures.updates.goes.on.crash at_d)).only (c.in_ok-add.ensures.updates.only at_d)))
@@ -88,7 +85,6 @@ returns-in_err-describe g c =
           c.in_err-describe.ensures.faults told here (
             unit,
             kept.1.whole,
-            kept.0.few_boxes,
             none_yet (λ (x : ElementRow). x.unit) u.id k.forest told.elements kept.1.number at.elements.others,
             none_yet (λ (h : HousingRow). h.unit) u.id k.forest told.housed.rows kept.1.number at.housings.others,
           ) clean free);
@@ -109,7 +105,7 @@ returns g c =
     let r = c.set_next_unit.result in
     let added = c.in_ok-add.ensures.updates in
     let described = c.in_ok-describe.ensures in
-    let numbered = c.set_next_unit.ensures in
+    let numbered = rw (c.in_ok-next.ensures.same, c.get.ensures.same) at c.set_next_unit.ensures in
     let went = goes_then a d e (goes_then a b d c.in_ok-insert_unit.ensures.leaves.goes added.goes) described.leaves.goes in
     record {
       updates = record {

@@ -1,38 +1,22 @@
-use Rattle.std.proofs.Common.{◌≡◌, ◌∙◌, true, sym}
-use Rattle.std.proofs.lemmas.Bool.{false≢true}
-use Rattle.sqlite.specs.Held.{state}
-use Rattle.tree_core.specs.Forest.{has_place}
-use Rattle.catalogue_core.specs.Bounds.{IsKept}
-use Rattle.catalogue_core.specs.Descriptions.{HasPlaceFor, IsNew, with_numbered}
-use Rattle.catalogue_core.specs.Units.{has_id}
-use Rattle.office_tables.specs.Step.{Goes}
-use Rattle.office_tables.proofs.CallEnds.{same_fault}
-use Rattle.office_tables.proofs.Calls.{early, on_ok_then}
-use Rattle.office_tables.proofs.StoreCalls.{makes_not}
-use Rattle.catalogue_statements.specs.NewUnit.{unit_of}
-use Rattle.catalogue_statements.specs.Representation.{RepresentsNumbered, catalogue_trees}
+use Rattle.std.proofs.Common.{◌≡◌, ◌+◌, ◌∙◌, true, sym}
+use Rattle.isad_core.specs.Limits.{IsNumber}
+use Rattle.catalogue_store.proofs.Common.{Goes, HasPlaceFor, IsKept, IsNew, RepresentsNumbered, catalogue_trees, early, false≢true, has_id, has_place, makes_not, on_ok_then, same_fault, state, unit_of, with_numbered}
 use Rattle.catalogue_store.proofs.Accepted.{makes_after, makes_refused}
 use Rattle.catalogue_store.proofs.descriptions.add_unit.Goals as goal
-
-pub add_placed-requires : goal.add_placed-requires
-add_placed-requires g c =
-    let a = state g.S.Store c.args.tables.now in
-    let b = state g.S.Store c.is_place.new.tables in
-    record { small = c.requires.small; low = c.requires.low }
 
 pub returns-in_err-is_place-clause-updates : goal.returns-in_err-is_place-clause-updates
 returns-in_err-is_place-clause-updates g c =
     let handed = c.from_residual.ensures in
     let e = c.in_err-is_place.field-0.0 in
     let told = c.in_err-is_place.ensures.answers in
-    makes_not g.S.Store (RepresentsNumbered g.P.Places.represents g.P.Versioned.version) (λ k. IsKept k × IsNew (unit_of c.args.unit.now) k) (HasPlaceFor c.args.parent) c.args.tables.now c.is_place.new.tables c.from_residual.result (with_numbered c.args.parent (unit_of c.args.unit.now)) catalogue_trees e
+    makes_not g.S.Store (RepresentsNumbered g.P.Places.represents g.P.Versioned.version) (λ k. IsKept k × IsNew (unit_of c.args.unit.now) k × IsNumber (c.args.unit.now.id + 1)) (HasPlaceFor c.args.parent) c.args.tables.now c.is_place.new.tables c.from_residual.result (with_numbered c.args.parent (unit_of c.args.unit.now)) catalogue_trees e
     (same_fault c.from_residual.result e handed.0 handed.1) told.aborts told.spares (λ o k shown may kept clean free. told.faults (record o { next_unit = k.next }) k shown tt kept.0 clean free)
 
 pub returns-then-not-branch : goal.returns-then-not-branch
 returns-then-not-branch g c =
     let told = c.in_ok-is_place.ensures.answers in
     record {
-      updates = makes_refused g.S.Store (RepresentsNumbered g.P.Places.represents g.P.Versioned.version) (λ k. IsKept k × IsNew (unit_of c.args.unit.now) k) (HasPlaceFor c.args.parent) (with_numbered c.args.parent (unit_of c.args.unit.now)) catalogue_trees c.args.tables.now c.is_place.new.tables told.looks
+      updates = makes_refused g.S.Store (RepresentsNumbered g.P.Places.represents g.P.Versioned.version) (λ k. IsKept k × IsNew (unit_of c.args.unit.now) k × IsNumber (c.args.unit.now.id + 1)) (HasPlaceFor c.args.parent) (with_numbered c.args.parent (unit_of c.args.unit.now)) catalogue_trees c.args.tables.now c.is_place.new.tables told.looks
           (λ clean o k shown may. false≢true (sym c.if-not-branch.true ∙ told.answers clean (record o { next_unit = k.next }) k shown ∙ may.place));
       accepts = λ clean o k shown. tt;
     }
@@ -44,7 +28,7 @@ returns g c =
     let told = c.in_ok-is_place.ensures.answers in
     let added = c.add_placed.ensures.updates in
     record {
-      updates = makes_after g.S.Store (RepresentsNumbered g.P.Places.represents g.P.Versioned.version) (λ k. IsKept k × IsNew (unit_of c.args.unit.now) k) (HasPlaceFor c.args.parent) (with_numbered c.args.parent (unit_of c.args.unit.now)) catalogue_trees c.args.tables.now c.is_place.new.tables told.looks c.add_placed.new.tables c.add_placed.result added;
+      updates = makes_after g.S.Store (RepresentsNumbered g.P.Places.represents g.P.Versioned.version) (λ k. IsKept k × IsNew (unit_of c.args.unit.now) k × IsNumber (c.args.unit.now.id + 1)) (HasPlaceFor c.args.parent) (with_numbered c.args.parent (unit_of c.args.unit.now)) catalogue_trees c.args.tables.now c.is_place.new.tables told.looks c.add_placed.new.tables c.add_placed.result added;
       accepts = λ clean o k shown.
           on_ok_then c.add_placed.result (Goes a b) (has_place has_id c.args.parent k.forest ≡ true)
           (λ went. sym (told.answers (early a b _ went.on.crash clean) (record o { next_unit = k.next }) k shown) ∙ c.if-not-branch.false) added.goes;

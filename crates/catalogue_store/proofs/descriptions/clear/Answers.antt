@@ -1,16 +1,8 @@
 use Rattle.office_tables.specs.Schema as tables
 use Rattle.std.proofs.Common.{[], ◌∷◌, refl, ◌∙◌}
-use Rattle.sqlite.specs.Held.{state}
-use Rattle.catalogue_statements.specs.DescriptionRows.{AreElements, HasDescriptions, descriptions_of_others}
-use Rattle.catalogue_statements.specs.Rows.{housing_row}
 use Rattle.office_tables.specs.RowNumbers.{HoldsNumbered}
-use Rattle.office_tables.specs.Step.{OnlyTouches}
-use Rattle.office_tables.proofs.Calls.{on_ok_both}
-use Rattle.office_tables.proofs.CallEnds.{leaves_part}
-use Rattle.office_tables.proofs.Touching.{touched_wider}
-use Rattle.catalogue_statements.proofs.WritingCalls.{only_wider, writes_last, writes_not}
+use Rattle.catalogue_store.proofs.Common.{AreElements, HasDescriptions, OnlyTouches, descriptions_of_others, housing_row, leaves_part, on_ok_both, only_wider, state, touched_wider, untouched, writes_last, writes_not}
 use Rattle.catalogue_store.proofs.Telling.{same_elements, same_housed}
-use Rattle.office_tables.proofs.Sparing.{untouched}
 use Rattle.catalogue_store.proofs.descriptions.clear.Goals as goal
 
 pub returns-in_err-clear_elements : goal.returns-in_err-clear_elements

@@ -1,16 +1,7 @@
 use Rattle.office_tables.specs.Schema as tables
 use Rattle.std.proofs.Common.{refl, [], ◌∷◌}
-use Rattle.sqlite.specs.Held.{state}
-use Rattle.catalogue_statements.specs.DescriptionRows.{AddsHousings, IsDescribed}
-use Rattle.catalogue_core.specs.Descriptions.{with_boxes}
-use Rattle.catalogue_statements.specs.Representation.{housing_cells}
-use Rattle.office_tables.specs.Step.{OnlyTouches}
-use Rattle.office_tables.proofs.Calls.{on_ok_both}
-use Rattle.catalogue_statements.proofs.Untold.{unit_still}
-use Rattle.catalogue_statements.proofs.WritingCalls.{leaves_wider, only_wider, writes_last, writes_not}
+use Rattle.catalogue_store.proofs.Common.{AddsHousings, IsDescribed, OnlyTouches, housing_cells, leaves_wider, on_ok_both, only_wider, state, touched_wider, unit_still, wider_spares, with_boxes, writes_last, writes_not}
 use Rattle.catalogue_store.proofs.Telling.{same_elements, same_housed}
-use Rattle.office_tables.proofs.Sparing.{wider_spares}
-use Rattle.office_tables.proofs.Touching.{touched_wider}
 use Rattle.catalogue_store.proofs.descriptions.describe.Goals as goal
 
 pub returns-in_err-insert_texts : goal.returns-in_err-insert_texts
@@ -20,7 +11,7 @@ returns-in_err-insert_texts g c =
     let failed = c.in_err-insert_texts.ensures in
     writes_not c.in_err-insert_texts.field-0.0 c.from_residual.ensures failed.leaves.aborts
     (λ clean. wider_spares (tables.element.tree ∷ []) (tables.element.tree ∷ tables.container.tree ∷ tables.housing.tree ∷ []) a b _ refl (failed.leaves.spares clean))
-    (λ told at room. failed.faults told.elements at.texts (room.0, room.3, room.1.places))
+    (λ told at room. failed.faults told.elements at.texts (room.0, room.2, room.1.places))
 
 pub returns : goal.returns
 returns g c =
@@ -56,4 +47,4 @@ returns g c =
     let kept = first.only before in
     let known = unit_still a.now.trees b.now.trees unit (kept tables.unit.tree refl refl) room.0 in
     let here = same_housed a.now.trees b.now.trees told.housed.boxes told.housed.rows (kept tables.container.tree refl refl) (kept tables.housing.tree refl refl) at.housings in
-    last.faults told.housed here (known, room.2, room.1.once, room.4))
+    last.faults told.housed here (known, room.1.once, room.3))

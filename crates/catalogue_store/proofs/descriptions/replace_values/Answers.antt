@@ -1,27 +1,9 @@
 use Rattle.std.proofs.Common.{◌≡◌, ◌∙◌, true, refl, sym}
-use Rattle.std.proofs.lemmas.Bool.{false≢true}
-use Rattle.sqlite.specs.Held.{state}
-use Rattle.tree_core.specs.Forest.{has}
-use Rattle.catalogue_core.specs.Bounds.{IsKept}
-use Rattle.catalogue_core.specs.Descriptions.{AreWhole, MayDescribe, with_values}
-use Rattle.catalogue_core.specs.Units.{Unit, has_id}
-use Rattle.catalogue_statements.specs.Representation.{Represents, described_trees}
-use Rattle.catalogue_statements.proofs.Statuses.{each_each}
-use Rattle.office_tables.specs.Step.{Goes}
-use Rattle.office_tables.proofs.CallEnds.{same_fault}
-use Rattle.office_tables.proofs.Calls.{early, on_ok_then}
-use Rattle.office_tables.proofs.StoreCalls.{makes_not}
+use Rattle.catalogue_store.proofs.Common.{AreWhole, Goes, IsKept, MayDescribe, Represents, Unit, described_trees, each_each, early, false≢true, has, has_id, makes_not, on_ok_then, same_fault, state, with_values}
 use Rattle.catalogue_store.proofs.Accepted.{makes_after, makes_refused}
 use Rattle.catalogue_store.proofs.Entered.{makes_placed}
 use Rattle.catalogue_store.proofs.Valued.{same_id, valued}
 use Rattle.catalogue_store.proofs.descriptions.replace_values.Goals as goal
-
-pub enter_values-requires : goal.enter_values-requires
-enter_values-requires g c =
-    let v = g.P.Versioned.version in
-    let a = state g.S.Store c.args.tables.now in
-    let b = state g.S.Store c.is_there.new.tables in
-    record { small = c.requires.small }
 
 pub returns-in_err-is_there-clause-updates : goal.returns-in_err-is_there-clause-updates
 returns-in_err-is_there-clause-updates g c =

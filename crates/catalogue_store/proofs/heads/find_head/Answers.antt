@@ -1,30 +1,14 @@
 use Rattle.std.proofs.Common.{◌≡◌, ℕ, List, [], filter, map, nat_eq, refl, sym, ap, subst, ◌∙◌, arith}
-use Rattle.std.specs.Prelude.{⊤, find, option_map, unwrap_or}
-use Rattle.std.specs.List.Sorted.{IsPermutation}
-use Rattle.std.proofs.lemmas.List.Sorted.{IsPermutation-refl}
-use Rattle.sqlite.specs.Effect.{Database}
-use Rattle.sqlite.specs.Held.{state}
-use Rattle.sqlite_rules.proofs.ListLemmas.{all_has}
-use Rattle.tree_core.specs.Forest.{nodes}
-use Rattle.catalogue_core.specs.Bounds.{IsKept}
-use Rattle.catalogue_core.specs.Units.{Unit, has_id}
+use Rattle.std.specs.Prelude.{find, option_map}
 use Rattle.office_tables.specs.Schema as tables
 use Rattle.office_tables.specs.declared.fault.StoreFault.TheVariants as fault
-use Rattle.catalogue_statements.specs.Rows.{element_row}
-use Rattle.catalogue_statements.specs.Representation.{Represents, element_cells, elements_of}
 use Rattle.catalogue_statements.specs.Standings.{standing_of}
 use Rattle.catalogue_statements.specs.declared.row_types.Element.{Element}
-use Rattle.catalogue_store.specs.Heads.{head_of}
-use Rattle.office_tables.proofs.CallEnds.{same_fault}
-use Rattle.office_tables.proofs.StoreCalls.{tells_not, tells_cut}
-use Rattle.office_tables.proofs.Calls.{cut_after, early, looks_then}
-use Rattle.office_tables.proofs.numbered.OwnNumbers.{still_numbered}
 use Rattle.office_tables.proofs.Reading.{first_shown}
-use Rattle.office_tables.proofs.Sparing.{spares_full}
 use Rattle.catalogue_statements.proofs.FirstTexts.{text_among_first}
-use Rattle.catalogue_statements.proofs.FoundUnits.{none_found, one_told}
+use Rattle.catalogue_statements.proofs.FoundUnits.{one_told}
+use Rattle.catalogue_store.proofs.Common.{Database, IsKept, IsPermutation, IsPermutation-refl, Represents, Unit, all_has, cut_after, early, element_cells, element_row, elements_of, has_id, head_of, legible_units, looks_then, nodes, none_found, same_fault, spares_full, state, still_numbered, tells_cut, tells_not, unwrap_or, ⊤}
 use Rattle.catalogue_store.proofs.HeadForests.{head_told}
-use Rattle.tree_places.proofs.MarkCauses.{legible_units}
 use Rattle.catalogue_store.proofs.ValueCauses.{legible_elements}
 use Rattle.catalogue_store.proofs.heads.find_head.Goals as goal
 
@@ -115,7 +99,7 @@ returns g c =
             let u = found.0 in
             let told = subst (λ n. IsPermutation (element_cells u.values) (elements_of n texts.elements)) (sym found.2)
             (all_has (λ (u : Unit). IsPermutation (element_cells u.values) (elements_of u.id texts.elements)) (nodes k.forest) u texts.are found.1) in
-            let read = c.in_ok-elements.ensures.answers clean texts.elements (still_numbered element_row _ _ texts.elements (ap (λ (db : Database). db.trees tables.element.tree) (looked.same at_b)) texts.rows) tt in
+            let read = (rw c.from.ensures at c.in_ok-elements.ensures).answers clean texts.elements (still_numbered element_row _ _ texts.elements (ap (λ (db : Database). db.trees tables.element.tree) (looked.same at_b)) texts.rows) tt in
             let identifier = c.in_ok-identifier.ensures ∙ ap (among 1) (c.deref.ensures.value ∙ read.2) ∙ ap (λ t. unwrap_or t []) (text_among_first c.args.unit 0 2 u.values texts.elements read.0 (omega arith) told read.1.0) in
             let title = c.in_ok-title.ensures ∙ ap (among 2) (c.deref-2.ensures.value ∙ read.2) ∙ ap (λ t. unwrap_or t []) (text_among_first c.args.unit 1 2 u.values texts.elements read.0 (omega arith) told read.1.0) in
             head_told k.forest c.args.unit u c.in-Some.standing c.in_ok-identifier.identifier c.in_ok-title.title found.2 found.3 found.4 identifier title;

@@ -1,23 +1,7 @@
 use Rattle.std.proofs.Common.{◌≡◌, map, sym, subst, ap, ◌∙◌, true}
-use Rattle.std.specs.Prelude.{⊤}
-use Rattle.std.specs.List.{AllByRecursion}
-use Rattle.sqlite.specs.Effect.{Database}
-use Rattle.sqlite.specs.Held.{state}
-use Rattle.tree_core.specs.Forest.{each}
 use Rattle.tree_core.specs.Tops.{part_below, tops}
-use Rattle.catalogue_core.specs.Bounds.{IsKept}
-use Rattle.catalogue_core.specs.UnitLookup.{has_unit}
-use Rattle.catalogue_core.specs.Units.{Unit, has_id}
-use Rattle.office_tables.specs.Step.{IsAborted, LeavesUnchanged}
-use Rattle.office_tables.proofs.CallEnds.{excused_then, same_fault}
-use Rattle.office_tables.proofs.StoreCalls.{tells_not}
-use Rattle.office_tables.proofs.Calls.{early, cut_then, looks_then, on_err_then, on_ok_then}
-use Rattle.office_tables.proofs.Outcomes.{if_ok_by}
-use Rattle.std.proofs.lemmas.Result.{IfOk-weaker}
-use Rattle.catalogue_statements.specs.Representation.{Represents}
-use Rattle.catalogue_store.specs.Heads.{head_of}
+use Rattle.catalogue_store.proofs.Common.{AllByRecursion, Database, IfOk-weaker, IsAborted, IsKept, LeavesUnchanged, Represents, Unit, cut_then, each, early, excused_then, has_id, has_unit, head_of, if_ok_by, last_spares, looks_then, on_err_then, on_ok_then, same_fault, state, tells_not, ⊤}
 use Rattle.catalogue_store.proofs.HeadForests.{all_there, below_ids, below_in, heads_are}
-use Rattle.office_tables.proofs.Sparing.{last_spares}
 use Rattle.catalogue_store.proofs.heads.heads_below.Goals as goal
 
 pub returns-in_err-units : goal.returns-in_err-units

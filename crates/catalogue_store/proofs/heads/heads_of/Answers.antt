@@ -1,21 +1,7 @@
 use Rattle.std.proofs.Common.{◌≡◌, ◌++◌, ◌∷◌, [], Some, map, take, get_or, true, refl, sym, ap, ap₂, subst, ◌∙◌, arith}
-use Rattle.std.specs.List.{AllByRecursion}
-use Rattle.std.proofs.lemmas.Bool.{false≢true}
-use Rattle.std.proofs.lemmas.List.{map-append, take_more, take_all}
-use Rattle.sqlite.specs.Effect.{Database}
-use Rattle.sqlite.specs.Held.{state}
-use Rattle.sqlite_trees.proofs.ListLemmas.{all-get_or}
-use Rattle.catalogue_core.specs.Bounds.{IsKept}
-use Rattle.catalogue_core.specs.UnitLookup.{has_unit}
 use Rattle.office_tables.specs.declared.fault.StoreFault.TheVariants as fault
-use Rattle.catalogue_statements.specs.Representation.{Represents}
-use Rattle.catalogue_store.specs.Heads.{head_at}
-use Rattle.office_tables.proofs.CallEnds.{same_fault}
-use Rattle.office_tables.proofs.StoreCalls.{tells_not, tells_cut}
-use Rattle.office_tables.proofs.Calls.{cut_after, early, looks_nowhere, looks_then}
-use Rattle.catalogue_store.proofs.UnitsThere.{no_unit}
+use Rattle.catalogue_store.proofs.Common.{AllByRecursion, Database, IsKept, Represents, all-get_or, cut_after, early, get_or_default, has_unit, head_at, looks_nowhere, looks_then, map-append, same_fault, spares_full, spares_known, state, take_all, take_more, tells_cut, tells_not}
 use Rattle.catalogue_store.proofs.HeadForests.{some_head}
-use Rattle.office_tables.proofs.Sparing.{spares_full, spares_known}
 use Rattle.catalogue_store.proofs.heads.heads_of.Goals as goal
 
 pub loop-unit-init : goal.loop-unit-init
@@ -30,26 +16,17 @@ loop-unit-preserved g c =
     let d = state g.S.Store c.find_head.new.tables in
     let units = c.args.units.now in
     let i = c.loop-unit.unit-index in
+    let is : c.unit-item.result ≡ get_or units i 0 = c.unit-item.is ∙ get_or_default units i c.unit-item.result 0 c.loop-unit-test.true in
+    let told = (rw is at c.in_ok-found.ensures).answers in
     record {
       looks = looks_then a b d c.loop-unit.invariant.looks c.in_ok-found.ensures.answers.looks;
       so_far = λ clean o k it.
           let at_b = early b d _ c.in_ok-found.ensures.answers.looks.goes.on.crash clean in
           let same = c.loop-unit.invariant.looks.same at_b in
-          let this = sym c.in-Some.is ∙ c.in_ok-found.ensures.answers.answers clean o k (subst (λ (db : Database). Represents g.P.Places.represents g.P.Versioned.version db o k) (sym same) it) in
+          let this = sym c.in-Some.is ∙ told.answers clean o k (subst (λ (db : Database). Represents g.P.Places.represents g.P.Versioned.version db o k) (sym same) it) in
           ap (map Some) c.in_ok-push.ensures.items ∙ map-append Some c.loop-unit.heads.items (c.in-Some.head ∷ [])
           ∙ ap₂ ◌++◌ (c.loop-unit.invariant.so_far at_b o k it) (ap (λ h. h ∷ []) this)
           ∙ sym (ap (map (head_at k.forest)) (take_more units i 0 c.loop-unit-test.true) ∙ map-append (head_at k.forest) (take i units) (get_or units i 0 ∷ []));
-    }
-
-pub returns-then-unit-ge-NO_NUMBER : goal.returns-then-unit-ge-NO_NUMBER
-returns-then-unit-ge-NO_NUMBER g c =
-    let a = state g.S.Store c.args.tables.now in
-    let b = state g.S.Store c.loop-unit.tables in
-    record {
-      answers = tells_not g.S.Store (Represents g.P.Places.represents g.P.Versioned.version) IsKept (λ k. AllByRecursion (λ unit. has_unit k.forest unit ≡ true) c.args.units.now) c.args.tables.now c.loop-unit.tables _ (λ _ k heads. map Some heads.items ≡ map (head_at k.forest) c.args.units.now) fault.Schema refl (cut_after a b c.loop-unit.invariant.looks.goes.on) (spares_known a b c.loop-unit.invariant.looks)
-          (λ o k it there kept clean free.
-          let here = all-get_or (λ unit. has_unit k.forest unit ≡ true) c.args.units.now c.loop-unit.unit-index 0 there c.loop-unit-test.true in
-          absurd (false≢true (no_unit k (get_or c.args.units.now c.loop-unit.unit-index 0) c.if-unit-ge-NO_NUMBER.true kept ∙ here)));
     }
 
 pub returns-in_err-found : goal.returns-in_err-found
@@ -68,14 +45,18 @@ returns-in_default g c =
     let a = state g.S.Store c.args.tables.now in
     let b = state g.S.Store c.loop-unit.tables in
     let d = state g.S.Store c.find_head.new.tables in
-    let looked = looks_then a b d c.loop-unit.invariant.looks c.in_ok-found.ensures.answers.looks in
+    let units = c.args.units.now in
+    let i = c.loop-unit.unit-index in
+    let is : c.unit-item.result ≡ get_or units i 0 = c.unit-item.is ∙ get_or_default units i c.unit-item.result 0 c.loop-unit-test.true in
+    let told = (rw is at c.in_ok-found.ensures).answers in
+    let looked = looks_then a b d c.loop-unit.invariant.looks told.looks in
     record {
       answers = tells_not g.S.Store (Represents g.P.Places.represents g.P.Versioned.version) IsKept (λ k. AllByRecursion (λ unit. has_unit k.forest unit ≡ true) c.args.units.now) c.args.tables.now c.find_head.new.tables _ (λ _ k heads. map Some heads.items ≡ map (head_at k.forest) c.args.units.now) fault.Schema refl (cut_after a d looked.goes.on) (spares_known a d looked)
           (λ o k it there kept clean free.
           let here = all-get_or (λ unit. has_unit k.forest unit ≡ true) c.args.units.now c.loop-unit.unit-index 0 there c.loop-unit-test.true in
           let at_b = early b d _ c.in_ok-found.ensures.answers.looks.goes.on.crash clean in
           let shown = subst (λ (db : Database). Represents g.P.Places.represents g.P.Versioned.version db o k) (sym (c.loop-unit.invariant.looks.same at_b)) it in
-          absurd (some_head k.forest (get_or c.args.units.now c.loop-unit.unit-index 0) here (sym c.in_default.is ∙ c.in_ok-found.ensures.answers.answers clean o k shown)));
+          absurd (some_head k.forest (get_or c.args.units.now c.loop-unit.unit-index 0) here (sym c.in_default.is ∙ told.answers clean o k shown)));
     }
 
 pub returns-in_err-push : goal.returns-in_err-push

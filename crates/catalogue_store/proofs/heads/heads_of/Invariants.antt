@@ -1,11 +1,5 @@
 use Rattle.std.proofs.Common.{◌≡◌, Some, map, take}
-use Rattle.sqlite.specs.Held.{state}
-use Rattle.sqlite.specs.State.{HasCleanDisk}
-use Rattle.catalogue_core.specs.CatalogueMerge.{Catalogue}
-use Rattle.catalogue_statements.specs.Representation.{Represents}
-use Rattle.office_tables.specs.Step.{LeavesUnchanged}
-use Rattle.catalogue_statements.specs.declared.office.OfficeRow.{OfficeRow}
-use Rattle.catalogue_store.specs.Heads.{head_at}
+use Rattle.catalogue_store.proofs.Common.{Catalogue, HasCleanDisk, LeavesUnchanged, OfficeRow, Represents, head_at, state}
 use Rattle.catalogue_store.proofs.heads.heads_of.Given as goal
 
 abbrev pub invariant-loop-unit : goal.invariant-loop-unit

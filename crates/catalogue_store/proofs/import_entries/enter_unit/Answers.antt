@@ -1,26 +1,9 @@
 use Rattle.std.proofs.Common.{[], ◌∷◌, refl, sym, ◌∙◌}
-use Rattle.std.proofs.lemmas.List.Sorted.{list_any-IsPermutation}
-use Rattle.sqlite.specs.Held.{state}
-use Rattle.tree_core.specs.Forest.{nodes}
-use Rattle.catalogue_core.specs.Bounds.{IsKept}
-use Rattle.catalogue_core.specs.Descriptions.{HasPlaceFor, IsNew}
-use Rattle.catalogue_core.specs.Units.{has_id, is_from}
 use Rattle.office_tables.specs.Schema as tables
-use Rattle.office_tables.specs.Step.{Goes, IsAborted, OnlyTouches}
-use Rattle.catalogue_statements.specs.NewUnit.{unit_of}
-use Rattle.catalogue_statements.specs.DescriptionRows.{IsDescribed}
-use Rattle.catalogue_statements.specs.Rows.{ElementRow, HousingRow}
-use Rattle.catalogue_statements.specs.Representation.{RepresentsCatalogue, described_trees}
-use Rattle.office_tables.proofs.CallEnds.{excused_then, same_fault}
-use Rattle.office_tables.proofs.StoreCalls.{makes_not}
-use Rattle.office_tables.proofs.Calls.{cut_then, early, goes_then, on_err_then, on_ok_both, on_ok_then}
-use Rattle.office_tables.proofs.Outcomes.{on_ok_by}
-use Rattle.office_tables.proofs.Touching.{touched_then, touched_wider}
-use Rattle.catalogue_statements.proofs.Untold.{none_yet, unit_added}
 use Rattle.catalogue_store.specs.ImportEntries.{with_entered}
+use Rattle.catalogue_store.proofs.Common.{ElementRow, Goes, HasPlaceFor, HousingRow, IsAborted, IsDescribed, IsKept, IsNew, OnlyTouches, RepresentsCatalogue, cut_then, described_trees, early, excused_then, goes_then, has_id, is_from, last_touched, list_any-IsPermutation, makes_not, nodes, none_yet, on_err_then, on_ok_both, on_ok_by, on_ok_then, same_fault, state, touched_then, touched_wider, unit_added, unit_of, wider_last}
 use Rattle.catalogue_store.proofs.Entered.{shows_entered}
 use Rattle.catalogue_store.proofs.Telling.{descriptions_in, descriptions_shown, same_descriptions}
-use Rattle.office_tables.proofs.Sparing.{last_touched, wider_last}
 use Rattle.catalogue_store.proofs.import_entries.enter_unit.Goals as goal
 
 pub returns-in_err-insert_unit : goal.returns-in_err-insert_unit
@@ -92,7 +75,6 @@ returns g c =
             last.faults told here (
               unit,
               kept.1.whole,
-              kept.0.few_boxes,
               none_yet (λ (x : ElementRow). x.unit) u.id k.forest told.elements kept.1.number it.elements.others,
               none_yet (λ (h : HousingRow). h.unit) u.id k.forest told.housed.rows kept.1.number it.housings.others,
             ));

@@ -1,25 +1,8 @@
 use Rattle.std.proofs.Common.{[], ◌∷◌, nat_eq, refl, sym, ◌∙◌}
-use Rattle.std.specs.Prelude.{⊤}
-use Rattle.std.proofs.lemmas.List.Sorted.{list_any-IsPermutation}
-use Rattle.sqlite.specs.Held.{state}
-use Rattle.tree_core.specs.Forest.{nodes}
-use Rattle.catalogue_core.specs.Bounds.{IsKept}
-use Rattle.catalogue_core.specs.Descriptions.{with_values, AreWhole, MayDescribe}
-use Rattle.catalogue_core.specs.Units.{has_id}
 use Rattle.office_tables.specs.Schema as tables
-use Rattle.office_tables.specs.Step.{Goes, IsAborted, OnlyTouches}
-use Rattle.catalogue_statements.specs.DescriptionRows.{IsDescribed, descriptions_of_others}
-use Rattle.catalogue_statements.specs.Rows.{ElementRow, HousingRow}
-use Rattle.catalogue_statements.specs.Representation.{RepresentsCatalogue, described_trees}
-use Rattle.office_tables.proofs.CallEnds.{excused_then, same_fault}
-use Rattle.office_tables.proofs.StoreCalls.{makes_not, makes_cut}
-use Rattle.office_tables.proofs.Calls.{cut_then, early, goes_then, on_err_then, on_ok_both, on_ok_then}
-use Rattle.office_tables.proofs.Outcomes.{on_ok_by}
-use Rattle.office_tables.proofs.Touching.{touched_then, touched_wider}
-use Rattle.catalogue_statements.proofs.Untold.{none_left, unit_valued}
+use Rattle.catalogue_store.proofs.Common.{AreWhole, ElementRow, Goes, HousingRow, IsAborted, IsDescribed, IsKept, MayDescribe, OnlyTouches, RepresentsCatalogue, cut_then, described_trees, descriptions_of_others, early, excused_then, goes_then, has_id, last_touched, list_any-IsPermutation, makes_cut, makes_not, nodes, none_left, on_err_then, on_ok_both, on_ok_by, on_ok_then, same_fault, state, touched_then, touched_wider, unit_valued, wider_last, wider_spares, with_values, ⊤}
 use Rattle.catalogue_store.proofs.Telling.{descriptions_in, descriptions_shown, same_descriptions}
 use Rattle.catalogue_store.proofs.Valued.{shows_valued}
-use Rattle.office_tables.proofs.Sparing.{last_touched, wider_last, wider_spares}
 use Rattle.catalogue_store.proofs.import_entries.enter_values.Goals as goal
 
 pub returns-in_err-set_level : goal.returns-in_err-set_level
@@ -118,7 +101,6 @@ returns g c =
             last.faults (descriptions_of_others unit told) (cleared.makes before_d told here) (
               known,
               kept.1,
-              kept.0.few_boxes,
               none_left (λ (x : ElementRow). nat_eq unit x.unit) told.elements,
               none_left (λ (x : HousingRow). nat_eq unit x.unit) told.housed.rows,
             ));

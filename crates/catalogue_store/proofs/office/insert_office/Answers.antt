@@ -1,13 +1,9 @@
 use Rattle.std.proofs.Common.{rules, refl}
-use Rattle.sqlite.specs.Held.{state}
-use Rattle.sqlite.specs.State.{HasCleanDisk}
-use Rattle.office_tables.proofs.Calls.{early, office_of, in_office, write_cut, write_went}
 use Rattle.office_tables.proofs.WriteCauses.{write_disk}
 use Rattle.catalogue_statements.proofs.InsertFaults.{insert_office_cause}
 use Rattle.catalogue_statements.proofs.Inserts.{insert_office_text, insert_office_command, insert_office_is, insert_office_plain, insert_office_done, insert_office_rows, insert_office_touches, insert_office_fresh}
-use Rattle.office_tables.proofs.Sparing.{spares_stopped}
 use Rattle.office_tables.proofs.Errors.{stops}
-use Rattle.office_tables.specs.Faults.{fault_of}
+use Rattle.catalogue_store.proofs.Common.{HasCleanDisk, early, fault_of, in_office, office_of, spares_stopped, state, write_cut, write_went}
 use Rattle.catalogue_store.proofs.office.insert_office.Goals as goal
 
 pub returns-in_err-execute-clause-leaves : goal.returns-in_err-execute-clause-leaves
@@ -24,7 +20,7 @@ pub returns-clause-leaves : goal.returns-clause-leaves
 returns-clause-leaves g c inside =
     let old = state g.S.Store c.args.conn.now in
     let new = state g.S.Store c.execute.new.self in
-    let ran = λ (clean : HasCleanDisk new). rw (c.number.ensures, c.number-version.ensures, c.words.ensures, c.words-2.ensures, c.number-2.ensures, c.from.ensures, c.number-3.ensures, c.from-2.ensures, c.number-4.ensures, c.from-3.ensures, c.number-5.ensures, c.from-4.ensures, c.day.ensures, c.number-6.ensures) at (c.in_ok-execute.ensures.runs clean) in
+    let ran = λ (clean : HasCleanDisk new). rw (c.number.ensures, c.number-version.ensures, c.words.ensures, c.words-2.ensures, c.number-2.ensures, c.from.ensures, c.number-3.ensures, c.from-2.ensures, c.number-4.ensures, c.from-3.ensures, c.number-5.ensures, c.from-4.ensures, c.day.ensures, c.cell.ensures) at (c.in_ok-execute.ensures.runs clean) in
     let at = λ (clean : HasCleanDisk new). (office_of g.P.Versioned.version old inside) (early old new _ c.execute.ensures.survives clean) in
     let done = λ (clean : HasCleanDisk new). insert_office_done old new g.P.Versioned.version c.args.row.now c.in_ok-execute.field-0 (at clean).0 (at clean).1 (ran clean) in
     let known = in_office insert_office_text insert_office_command old (office_of g.P.Versioned.version old inside) insert_office_is insert_office_plain in
@@ -35,7 +31,7 @@ pub returns-clause-puts : goal.returns-clause-puts
 returns-clause-puts g c inside clean =
     let old = state g.S.Store c.args.conn.now in
     let new = state g.S.Store c.execute.new.self in
-    let ran = rw (c.number.ensures, c.number-version.ensures, c.words.ensures, c.words-2.ensures, c.number-2.ensures, c.from.ensures, c.number-3.ensures, c.from-2.ensures, c.number-4.ensures, c.from-3.ensures, c.number-5.ensures, c.from-4.ensures, c.day.ensures, c.number-6.ensures) at (c.in_ok-execute.ensures.runs clean) in
+    let ran = rw (c.number.ensures, c.number-version.ensures, c.words.ensures, c.words-2.ensures, c.number-2.ensures, c.from.ensures, c.number-3.ensures, c.from-2.ensures, c.number-4.ensures, c.from-3.ensures, c.number-5.ensures, c.from-4.ensures, c.day.ensures, c.cell.ensures) at (c.in_ok-execute.ensures.runs clean) in
     let at = (office_of g.P.Versioned.version old inside) (early old new _ c.execute.ensures.survives clean) in
     let v = g.P.Versioned.version in
     let row = c.args.row.now in
@@ -46,7 +42,7 @@ pub returns-in_err-execute-clause-faults : goal.returns-in_err-execute-clause-fa
 returns-in_err-execute-clause-faults g c inside none clean free =
     let old = state g.S.Store c.args.conn.now in
     let new = state g.S.Store c.execute.new.self in
-    let ran = rw (c.number.ensures, c.number-version.ensures, c.words.ensures, c.words-2.ensures, c.number-2.ensures, c.from.ensures, c.number-3.ensures, c.from-2.ensures, c.number-4.ensures, c.from-3.ensures, c.number-5.ensures, c.from-4.ensures, c.day.ensures, c.number-6.ensures) at (c.in_err-execute.ensures.runs clean) in
+    let ran = rw (c.number.ensures, c.number-version.ensures, c.words.ensures, c.words-2.ensures, c.number-2.ensures, c.from.ensures, c.number-3.ensures, c.from-2.ensures, c.number-4.ensures, c.from-3.ensures, c.number-5.ensures, c.from-4.ensures, c.day.ensures, c.cell.ensures) at (c.in_err-execute.ensures.runs clean) in
     let at = office_of g.P.Versioned.version old inside (early old new _ c.execute.ensures.survives clean) in
     let cause = insert_office_cause old new g.P.Versioned.version c.args.row.now at.0 at.1 c.schema.ensures.live free none c.in_err-execute.field-0.0 ran in
     search (rules, cause)

@@ -1,22 +1,12 @@
 use Rattle.std.proofs.Common.{◌≡◌, Some, None, ap, sym, ◌∙◌, refl}
-use Rattle.std.specs.Prelude.{⊤}
-use Rattle.std.proofs.lemmas.List.Sorted.{length_permutation}
-use Rattle.sqlite.specs.Effect.{Database}
-use Rattle.sqlite.specs.Held.{state}
-use Rattle.tree_core.specs.Forest.{nodes}
 use Rattle.catalogue_core.proofs.NodeLemmas.{length-nodes}
 use Rattle.office_tables.specs.RowCounts.{cap}
 use Rattle.office_tables.specs.Schema as tables
 use Rattle.office_tables.specs.declared.fault.StoreFault.TheVariants as fault
-use Rattle.catalogue_statements.specs.Rows.{counted_from}
 use Rattle.catalogue_statements.specs.Settings.{AreLegibleSettings}
-use Rattle.catalogue_statements.specs.Representation.{RepresentsSettings}
 use Rattle.catalogue_store.specs.Offices.{told_office}
-use Rattle.office_tables.proofs.CallEnds.{same_fault}
-use Rattle.office_tables.proofs.StoreCalls.{tells_not, tells_cut}
-use Rattle.office_tables.proofs.Calls.{cut_after, early, looks_then}
 use Rattle.catalogue_statements.proofs.Numbered.{length-counted}
-use Rattle.office_tables.proofs.Sparing.{spares_known}
+use Rattle.catalogue_store.proofs.Common.{Database, RepresentsSettings, counted_from, cut_after, early, length_permutation, looks_then, nodes, same_fault, spares_known, state, tells_cut, tells_not, ⊤}
 use Rattle.catalogue_store.proofs.office.office_row.Goals as goal
 
 pub returns-in_default : goal.returns-in_default

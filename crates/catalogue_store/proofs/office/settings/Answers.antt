@@ -1,13 +1,7 @@
 use Rattle.std.proofs.Common.{◌≡◌, Some, None, sym, ◌∙◌, refl}
-use Rattle.std.specs.Prelude.{⊤}
-use Rattle.sqlite.specs.Held.{state}
 use Rattle.office_tables.specs.declared.fault.StoreFault.TheVariants as fault
 use Rattle.catalogue_statements.specs.Settings.{AreLegibleSettings}
-use Rattle.catalogue_statements.specs.Representation.{RepresentsSettings}
-use Rattle.office_tables.proofs.CallEnds.{same_fault}
-use Rattle.office_tables.proofs.StoreCalls.{tells_not}
-use Rattle.office_tables.proofs.Calls.{cut_after}
-use Rattle.office_tables.proofs.Sparing.{spares_known}
+use Rattle.catalogue_store.proofs.Common.{RepresentsSettings, cut_after, same_fault, spares_known, state, tells_not, ⊤}
 use Rattle.catalogue_store.proofs.office.settings.Goals as goal
 
 pub returns-in_err-row : goal.returns-in_err-row

@@ -1,14 +1,6 @@
 use Rattle.std.proofs.Common.{refl, map, if◌then◌else◌, ◌∷◌, []}
-use Rattle.sqlite.specs.Held.{state}
-use Rattle.catalogue_core.specs.Statuses.{with_closure}
-use Rattle.catalogue_core.specs.Units.{Unit, has_id}
 use Rattle.office_tables.specs.Schema as tables
-use Rattle.office_tables.specs.Step.{Goes, HasRows}
-use Rattle.office_tables.proofs.Calls.{on_ok_both}
-use Rattle.catalogue_statements.specs.Rows.{unit_row}
-use Rattle.catalogue_statements.specs.Representation.{Represents}
-use Rattle.catalogue_statements.proofs.Statuses.{shows_changed, kept_by}
-use Rattle.office_tables.proofs.Sparing.{untouched_last}
+use Rattle.catalogue_store.proofs.Common.{Goes, HasRows, Represents, Unit, has_id, kept_by, on_ok_both, shows_changed, state, unit_row, untouched_last, with_closure}
 use Rattle.catalogue_store.proofs.status_and_closure.set_closure.Goals as goal
 
 pub returns-clause-updates : goal.returns-clause-updates

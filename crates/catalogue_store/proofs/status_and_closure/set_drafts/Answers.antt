@@ -1,21 +1,6 @@
-use Rattle.std.proofs.Common.{Err, inl, refl, ℕ, List, [], ◌∷◌, take, get_or, sym, subst, arith}
-use Rattle.std.specs.Prelude.{⊤}
-use Rattle.std.specs.List.{AllByRecursion}
-use Rattle.std.proofs.lemmas.List.{take_more, take_all}
-use Rattle.sqlite.specs.Held.{state}
-use Rattle.sqlite_trees.proofs.ListLemmas.{all-get_or}
-use Rattle.isad_core.specs.Limits.{IsNumber}
-use Rattle.catalogue_core.specs.CatalogueMerge.{Catalogue}
-use Rattle.catalogue_core.specs.Statuses.{with_status}
+use Rattle.std.proofs.Common.{◌≡◌, ◌∙◌, ℕ, List, [], ◌∷◌, take, get_or, sym, subst, arith}
 use Rattle.office_tables.specs.Schema as tables
-use Rattle.office_tables.specs.declared.fault.StoreFault.TheVariants as fault
-use Rattle.office_tables.proofs.Calls.{cut_after, early, goes_nowhere, goes_then}
-use Rattle.office_tables.proofs.CallEnds.{same_fault}
-use Rattle.office_tables.proofs.StoreCalls.{makes_cut, makes_part}
-use Rattle.office_tables.proofs.Touching.{nothing_touched, touched_again}
-use Rattle.catalogue_statements.specs.Representation.{Represents}
-use Rattle.catalogue_statements.proofs.Statuses.{draft_step, status_of_none}
-use Rattle.office_tables.proofs.Sparing.{untouched}
+use Rattle.catalogue_store.proofs.Common.{Catalogue, Represents, draft_step, early, get_or_default, goes_nowhere, goes_then, makes_cut, nothing_touched, same_fault, state, status_of_none, take_all, take_more, touched_again, untouched, with_status, ⊤}
 use Rattle.catalogue_store.proofs.status_and_closure.set_drafts.Goals as goal
 
 pub loop-unit-init : goal.loop-unit-init
@@ -35,29 +20,18 @@ loop-unit-preserved g c =
     let i = c.loop-unit.unit-index in
     let units = c.args.units.now in
     let so_far = c.loop-unit.invariant in
-    let last = c.in_ok-set_draft.ensures.leaves.goes in
+    let is : c.unit-item.result ≡ get_or units i 0 = c.unit-item.is ∙ get_or_default units i c.unit-item.result 0 c.loop-unit-test.true in
+    let drafted = rw is at c.in_ok-set_draft.ensures in
+    let last = drafted.leaves.goes in
     record {
       goes = goes_then a b d so_far.goes last;
       represents = λ clean o k it.
           let before = so_far.represents (early b d _ last.on.crash clean) o k it in
-          let wrote = c.in_ok-set_draft.ensures.rows clean before.catalogue.units.units before.catalogue.units.rows before.catalogue.units.rise in
+          let wrote = drafted.rows clean before.catalogue.units.units before.catalogue.units.rows before.catalogue.units.rise in
           subst (λ (ids : List ℕ). Represents g.P.Places.represents g.P.Versioned.version d.now o (with_status ids c.args.draft k)) (sym (take_more units i 0 c.loop-unit-test.true))
           (draft_step g.P.Versioned.version g.P.Places.represents g.met.P.Places.shows_same b.now d.now o k c.args.draft (take i units) (get_or units i 0) before (last.schema clean) wrote);
-      only = λ clean. touched_again (tables.unit.tree ∷ []) a.now b.now d.now (so_far.only (early b d _ last.on.crash clean)) (c.in_ok-set_draft.ensures.only clean);
+      only = λ clean. touched_again (tables.unit.tree ∷ []) a.now b.now d.now (so_far.only (early b d _ last.on.crash clean)) (drafted.only clean);
     }
-
-pub returns-then-unit-ge-NO_NUMBER : goal.returns-then-unit-ge-NO_NUMBER
-returns-then-unit-ge-NO_NUMBER g c =
-    let a = state g.S.Store c.args.tables.now in
-    let b = state g.S.Store c.loop-unit.tables in
-    let units = c.args.units.now in
-    let so_far = c.loop-unit.invariant in
-    makes_part g.S.Store (Represents g.P.Places.represents g.P.Versioned.version) (λ _. AllByRecursion IsNumber units) (λ _. ⊤) c.args.tables.now c.loop-unit.tables (Err fault.Schema) (with_status units c.args.draft) (tables.unit.tree ∷ []) fault.Schema refl
-    (cut_after a b so_far.goes.on) (λ clean. record { disk = tt; rows = inl (so_far.only clean) })
-    (λ o k it may numbers clean free.
-    let low = all-get_or IsNumber units c.loop-unit.unit-index 0 numbers c.loop-unit-test.true in
-    let great = c.if-unit-ge-NO_NUMBER.true in
-    absurd (omega (arith, low, great)))
 
 pub returns-in_err-set_draft : goal.returns-in_err-set_draft
 returns-in_err-set_draft g c =
@@ -69,9 +43,9 @@ returns-in_err-set_draft g c =
     let handed = c.from_residual.ensures in
     let so_far = c.loop-unit.invariant in
     let failed = c.in_err-set_draft.ensures in
-    makes_cut g.S.Store (Represents g.P.Places.represents g.P.Versioned.version) (λ _. AllByRecursion IsNumber units) (λ _. ⊤) c.args.tables.now c.loop-unit.tables c.set_draft.new.tables r (with_status units c.args.draft) (tables.unit.tree ∷ []) e (same_fault r e handed.0 handed.1)
+    makes_cut g.S.Store (Represents g.P.Places.represents g.P.Versioned.version) (λ _. ⊤) (λ _. ⊤) c.args.tables.now c.loop-unit.tables c.set_draft.new.tables r (with_status units c.args.draft) (tables.unit.tree ∷ []) e (same_fault r e handed.0 handed.1)
     so_far.goes.on so_far.only failed.leaves.aborts (λ clean. untouched (tables.unit.tree ∷ []) b d e (failed.leaves.spares clean))
-    (λ o k it may numbers before clean free.
+    (λ o k it may _ before clean free.
     let at = (so_far.represents before o k it).catalogue.units in
     failed.faults at.units at.rows at.rise clean free)
 
@@ -86,5 +60,5 @@ returns g c =
       goes = so_far.goes;
       aborts = tt;
       spares = λ clean. tt;
-      faults = λ o k it may numbers clean free. tt;
+      faults = λ o k it may kept clean free. tt;
     }

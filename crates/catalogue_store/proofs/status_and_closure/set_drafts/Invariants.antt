@@ -1,12 +1,6 @@
 use Rattle.std.proofs.Common.{take, [], ◌∷◌}
-use Rattle.sqlite.specs.Held.{state}
-use Rattle.sqlite.specs.State.{HasCleanDisk}
-use Rattle.catalogue_core.specs.CatalogueMerge.{Catalogue}
-use Rattle.catalogue_core.specs.Statuses.{with_status}
 use Rattle.office_tables.specs.Schema as tables
-use Rattle.office_tables.specs.Step.{Goes, OnlyTouches}
-use Rattle.catalogue_statements.specs.Representation.{Represents}
-use Rattle.catalogue_statements.specs.declared.office.OfficeRow.{OfficeRow}
+use Rattle.catalogue_store.proofs.Common.{Catalogue, Goes, HasCleanDisk, OfficeRow, OnlyTouches, Represents, state, with_status}
 use Rattle.catalogue_store.proofs.status_and_closure.set_drafts.Given as goal
 
 abbrev pub invariant-loop-unit : goal.invariant-loop-unit

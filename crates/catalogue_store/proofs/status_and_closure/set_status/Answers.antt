@@ -1,23 +1,7 @@
 use Rattle.std.proofs.Common.{◌≡◌, ℕ, List, [], ◌∷◌, length, ap, arith, sym, subst, ◌∙◌}
-use Rattle.std.specs.Prelude.{⊤}
-use Rattle.std.specs.List.{AllByRecursion}
-use Rattle.sqlite.specs.Effect.{Database}
-use Rattle.sqlite.specs.Held.{state}
-use Rattle.isad_core.specs.Limits.{IsNumber}
-use Rattle.tree_core.specs.Forest.{each}
-use Rattle.catalogue_core.specs.Bounds.{IsKept}
-use Rattle.catalogue_core.specs.Statuses.{chosen, with_status}
-use Rattle.catalogue_core.specs.Units.{Unit}
 use Rattle.office_tables.specs.Schema as tables
-use Rattle.office_tables.specs.Step.{OnlyTouches}
-use Rattle.office_tables.proofs.Calls.{early, cut_then, goes_then}
-use Rattle.office_tables.proofs.CallEnds.{same_fault}
-use Rattle.office_tables.proofs.StoreCalls.{makes_not, makes_part}
-use Rattle.office_tables.proofs.Causes.{still_unlimited}
 use Rattle.office_tables.proofs.LaterCauses.{next_cause}
-use Rattle.catalogue_statements.specs.Representation.{Represents}
-use Rattle.catalogue_statements.proofs.Statuses.{low_chosen}
-use Rattle.office_tables.proofs.Sparing.{looked_spares}
+use Rattle.catalogue_store.proofs.Common.{Database, IsKept, OnlyTouches, Represents, Unit, chosen, cut_then, each, early, goes_then, looked_spares, makes_not, makes_part, same_fault, state, still_unlimited, with_status, ⊤}
 use Rattle.catalogue_store.proofs.status_and_closure.set_status.Goals as goal
 
 pub returns-in_err-units-clause-updates : goal.returns-in_err-units-clause-updates
@@ -41,11 +25,8 @@ returns-in_err-set_drafts-clause-updates g c =
     (same_fault c.from_residual-in_err-set_drafts.result e last.0 last.1) (cut_then a b d told.looks.goes.on cut) (λ clean. looked_spares a b d told.looks (early b d _ cut.crash clean) e (spares clean))
     (λ o k it may kept clean free. next_cause a b d told.looks.goes.on cut clean e
     (λ before.
-    let f = each (λ (u : Unit). u.id) k.forest in
-    let ids = c.deref.ensures.value ∙ told.answers before tt f it.shown in
-    let low = subst (AllByRecursion IsNumber) (sym ids) (low_chosen c.args.whole c.args.unit f c.requires.small kept.places) in
     let shown = subst (λ (db : Database). Represents g.P.Places.represents g.P.Versioned.version db o k) (sym (told.looks.same before)) it in
-    c.in_err-set_drafts.ensures.faults o k shown tt low clean (still_unlimited a b told.looks.goes.on free)))
+    c.in_err-set_drafts.ensures.faults o k shown tt tt clean (still_unlimited a b told.looks.goes.on free)))
 
 pub returns-clause-updates : goal.returns-clause-updates
 returns-clause-updates g c =

@@ -1,14 +1,7 @@
 use Rattle.std.proofs.Common.{◌≡◌, [], ◌∷◌, ◌++◌, Bool, sym, subst, ap, ◌∙◌}
-use Rattle.std.specs.Prelude.{⊤, IfOk}
-use Rattle.sqlite.specs.Held.{state}
-use Rattle.catalogue_core.specs.Bounds.{IsBounded}
-use Rattle.catalogue_core.specs.Statuses.{chosen_units}
-use Rattle.office_tables.specs.Calls.{RepresentsAlone}
+use Rattle.std.specs.Prelude.{IfOk}
 use Rattle.office_tables.specs.declared.fault.StoreFault.TheVariants as fault
-use Rattle.office_tables.proofs.CallEnds.{same_fault}
-use Rattle.office_tables.proofs.StoreCalls.{tells_not}
-use Rattle.office_tables.proofs.Calls.{cut_after, looks_nowhere}
-use Rattle.office_tables.proofs.Sparing.{spares_full}
+use Rattle.catalogue_store.proofs.Common.{IsBounded, RepresentsAlone, chosen_units, cut_after, looks_nowhere, same_fault, spares_full, state, tells_not, ⊤}
 use Rattle.catalogue_store.proofs.status_and_closure.units_under.Goals as goal
 
 pub returns-then-whole : goal.returns-then-whole

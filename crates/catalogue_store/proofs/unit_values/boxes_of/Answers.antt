@@ -1,18 +1,8 @@
 use Rattle.std.proofs.Common.{rules, ◌≡◌, ◌<◌, ℕ, List, [], ◌∷◌, ◌++◌, length, get_or, take, sym, ap, subst, ◌∙◌}
-use Rattle.std.proofs.lemmas.List.{get_or-map, length-map, take_more}
-use Rattle.sqlite.specs.Effect.{Database}
-use Rattle.sqlite.specs.Held.{state}
-use Rattle.isad_core.specs.declared.values.BoxKey.{BoxKey}
-use Rattle.catalogue_core.specs.CatalogueMerge.{box_number}
-use Rattle.catalogue_statements.specs.Representation.{RepresentsContainers}
 use Rattle.office_tables.specs.Schema as tables
-use Rattle.office_tables.proofs.CallEnds.{same_fault, read_not, read_cut}
-use Rattle.office_tables.proofs.Calls.{early, looks_then, cut_after}
-use Rattle.office_tables.specs.Faults.{IsUnlimited}
-use Rattle.office_tables.proofs.Causes.{cause_then, still_unlimited}
-use Rattle.catalogue_store.proofs.ValueCauses.{box_at}
-use Rattle.office_tables.proofs.Sparing.{spares_full}
 use Rattle.office_tables.specs.declared.fault.StoreFault.TheVariants as fault
+use Rattle.catalogue_store.proofs.Common.{BoxKey, Database, IsUnlimited, RepresentsContainers, box_number, cause_then, cut_after, early, get_or-map, get_or_default, length-map, looks_then, read_cut, read_not, same_fault, spares_full, state, still_unlimited, take_more}
+use Rattle.catalogue_store.proofs.ValueCauses.{box_at}
 use Rattle.catalogue_store.proofs.unit_values.boxes_of.Goals as goal
 
 pub loop-number-preserved : goal.loop-number-preserved
@@ -23,14 +13,17 @@ loop-number-preserved g c =
     let i = c.loop-number.number-index in
     let key = c.in_ok-container_of.field-0 in
     let invariant = c.loop-number.invariant in
-    let last = c.in_ok-container_of.ensures.reads.looks in (
+    let numbers = c.args.numbers.now in
+    let item : c.number-item.result ≡ get_or numbers i 0 = c.number-item.is ∙ get_or_default numbers i c.number-item.result 0 c.loop-number-test.true in
+    let found = rw item at c.in_ok-container_of.ensures in
+    let last = found.reads.looks in (
       looks_then a b d invariant.0 last,
       λ clean boxes at bs is.
           let before = early b d _ last.goes.on.crash clean in
           let there : RepresentsContainers b.now.trees boxes = ap (λ (db : Database). db.trees tables.container.tree) (invariant.0.same before) ∙ at in
           let low : i < length bs = subst (λ n. i < n) (ap length is ∙ length-map bs (box_number boxes)) c.loop-number-test.true in
           let number : get_or c.args.numbers.now i 0 ≡ box_number boxes (get_or bs i key) = ap (λ (l : List ℕ). get_or l i 0) is ∙ get_or-map (box_number boxes) bs i key 0 low in
-          let same : key ≡ get_or bs i key = c.in_ok-container_of.ensures.key clean boxes there (get_or bs i key) number in
+          let same : key ≡ get_or bs i key = found.key clean boxes there (get_or bs i key) number in
           c.in_ok-push.ensures.ok ∙ ap (λ (l : List BoxKey). l ++ key ∷ []) (invariant.1 before boxes at bs is) ∙ ap (λ (x : BoxKey). take i bs ++ x ∷ []) same ∙ sym (take_more bs i key low),
     )
 
@@ -53,7 +46,7 @@ returns-in_err-push-clause-reads g c =
     read_not a d c.from_residual-in_err-push.result fault.Memory (same_fault c.from_residual-in_err-push.result fault.Memory handed.0 handed.1) (cut_after a d looked.goes.on) (spares_full a d looked)
 
 pub returns-in_err-container_of-clause-faults : goal.returns-in_err-container_of-clause-faults
-returns-in_err-container_of-clause-faults g c boxes at legible few bs known is clean free =
+returns-in_err-container_of-clause-faults g c boxes at legible bs known is clean free =
     let a = state g.S.Store c.args.tables.now in
     let b = state g.S.Store c.loop-number.tables in
     let d = state g.S.Store c.container_of.new.tables in
@@ -62,6 +55,9 @@ returns-in_err-container_of-clause-faults g c boxes at legible few bs known is c
     let free_b : IsUnlimited b = still_unlimited a b looked.goes.on free in
     let there : RepresentsContainers b.now.trees boxes = ap (λ (db : Database). db.trees tables.container.tree) (looked.same before) ∙ at in
     let box = box_at boxes bs c.args.numbers.now c.loop-number.number-index known is c.loop-number-test.true in
-    let why = c.in_err-container_of.ensures.faults boxes there legible few box.0 box.1 box.2 clean free_b in
+    let numbers = c.args.numbers.now in
+    let i = c.loop-number.number-index in
+    let item : c.number-item.result ≡ get_or numbers i 0 = c.number-item.is ∙ get_or_default numbers i c.number-item.result 0 c.loop-number-test.true in
+    let why = c.in_err-container_of.ensures.faults boxes there legible box.0 box.1 (item ∙ box.2) clean free_b in
     let whole = cause_then a b d looked.goes.on before _ why in
     search (rules, whole)

@@ -1,10 +1,5 @@
 use Rattle.std.proofs.Common.{◌≡◌, List, map, take}
-use Rattle.sqlite.specs.Held.{state}
-use Rattle.sqlite.specs.State.{HasCleanDisk}
-use Rattle.isad_core.specs.declared.values.BoxKey.{BoxKey}
-use Rattle.catalogue_core.specs.CatalogueMerge.{box_number}
-use Rattle.catalogue_statements.specs.Representation.{RepresentsContainers}
-use Rattle.office_tables.specs.Step.{LeavesUnchanged}
+use Rattle.catalogue_store.proofs.Common.{BoxKey, HasCleanDisk, LeavesUnchanged, RepresentsContainers, box_number, state}
 use Rattle.catalogue_store.proofs.unit_values.boxes_of.Given as goal
 
 abbrev pub invariant-loop-number : goal.invariant-loop-number

@@ -1,10 +1,7 @@
 use Rattle.std.proofs.Common.{rules, ◌≡◌, ℕ, map, ap, sym, ◌∙◌}
-use Rattle.sqlite_trees.proofs.ListLemmas.{map-map}
-use Rattle.catalogue_statements.specs.DescriptionRows.{housing_cell}
-use Rattle.catalogue_statements.specs.Rows.{HousingRow}
-use Rattle.catalogue_statements.specs.Representation.{housing_cells}
 use Rattle.catalogue_statements.specs.declared.row_types.Housing.{Housing}
 use Rattle.catalogue_statements.proofs.CellReads.{cells_read, housings_in_order, numbers_told}
+use Rattle.catalogue_store.proofs.Common.{HousingRow, housing_cell, housing_cells, map-map}
 use Rattle.catalogue_store.proofs.unit_values.containers_of.Goals as goal
 
 pub returns-clause-numbers : goal.returns-clause-numbers

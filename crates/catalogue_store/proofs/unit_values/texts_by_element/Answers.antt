@@ -1,11 +1,8 @@
 use Rattle.std.proofs.Common.{◌≡◌, ℕ, length, List, [], ◌∷◌, map, rules, refl, sym, ap, subst, ◌∙◌}
 use Rattle.std.proofs.lemmas.Iterator.Adapters.{YieldsList-from_vec}
 use Rattle.std.proofs.lemmas.Iterator.Consumers.{YieldsList-end, YieldsList-turn}
-use Rattle.sqlite_rules.specs.Lists.{Has}
-use Rattle.sqlite_rules.proofs.ListLemmas.{has_at}
-use Rattle.isad_core.specs.Texts.{Bytes}
-use Rattle.office_tables.proofs.Rows.{has_map}
 use Rattle.catalogue_statements.proofs.TextReads.{AreTold, cell_of, all_told, one_told}
+use Rattle.catalogue_store.proofs.Common.{Bytes, Has, has_at, has_map}
 use Rattle.catalogue_store.proofs.ValueCauses.{place_there}
 use Rattle.catalogue_store.proofs.unit_values.texts_by_element.Goals as goal
 

@@ -1,24 +1,12 @@
 use Rattle.std.proofs.Common.{◌≡◌, List, map, ap, ◌∙◌, sym, subst}
-use Rattle.std.specs.Prelude.{⊤, IsUtf8}
-use Rattle.std.specs.List.{AllByRecursion}
-use Rattle.sqlite.specs.Held.{state}
-use Rattle.sqlite.specs.State.{HasCleanDisk}
+use Rattle.std.specs.Prelude.{IsUtf8}
 use Rattle.isad_core.specs.declared.values.Values.{«Values» as Description}
-use Rattle.sqlite_trees.proofs.ListLemmas.{map-map}
-use Rattle.office_tables.specs.Faults.{HasCause}
 use Rattle.catalogue_statements.specs.DescriptionRows.{cell_of}
-use Rattle.catalogue_statements.specs.Rows.{ElementRow}
-use Rattle.catalogue_statements.specs.Representation.{element_cells}
-use Rattle.catalogue_statements.specs.Values.{TellsTexts}
 use Rattle.catalogue_statements.specs.declared.row_types.Element.{Element}
-use Rattle.office_tables.proofs.CallEnds.{same_fault}
-use Rattle.office_tables.proofs.StoreCalls.{tells_not}
-use Rattle.office_tables.proofs.Calls.{cut_looks, on_ok_from}
 use Rattle.catalogue_statements.proofs.CellReads.{cells_read, elements_in_order}
 use Rattle.catalogue_statements.proofs.TextReads.{cell_of as told_of}
+use Rattle.catalogue_store.proofs.Common.{AllByRecursion, ElementRow, HasCause, HasCleanDisk, IsSame, Spares, TellsTexts, cut_looks, element_cells, if_err_then, map-map, on_ok_from, same_fault, spares_known, state, tells_not, ⊤}
 use Rattle.catalogue_store.proofs.ValueCauses.{never_fails}
-use Rattle.office_tables.proofs.Sparing.{if_err_then, spares_known}
-use Rattle.office_tables.specs.Step.{Spares, IsSame}
 use Rattle.catalogue_store.proofs.unit_values.texts_of.Goals as goal
 
 pub returns-in_err-found : goal.returns-in_err-found

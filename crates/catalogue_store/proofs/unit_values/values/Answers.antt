@@ -1,25 +1,12 @@
 use Rattle.std.proofs.Common.{◌≡◌, map, refl, sym, ap, subst, ◌∙◌}
 use Rattle.std.specs.Prelude.{option_map}
-use Rattle.sqlite.specs.Effect.{Database}
-use Rattle.sqlite.specs.Held.{state}
-use Rattle.catalogue_core.specs.Bounds.{IsKept}
-use Rattle.catalogue_core.specs.Descriptions.{KnowsItsContainers}
-use Rattle.catalogue_core.specs.CatalogueMerge.{box_number}
-use Rattle.catalogue_core.specs.Units.{Unit}
 use Rattle.office_tables.specs.Schema as tables
-use Rattle.catalogue_statements.specs.Representation.{RepresentsContainers}
-use Rattle.catalogue_statements.specs.Values.{RepresentsValues, TellsTexts}
 use Rattle.catalogue_store.specs.UnitValues.{values_of}
 use Rattle.catalogue_store.specs.declared.unit_values.UnitValues.{UnitValues}
-use Rattle.office_tables.proofs.CallEnds.{same_fault}
-use Rattle.office_tables.proofs.StoreCalls.{tells_not, tells_cut}
-use Rattle.office_tables.proofs.Calls.{early, looks_then}
-use Rattle.catalogue_statements.proofs.FoundUnits.{none_found, one_told}
-use Rattle.tree_places.proofs.MarkCauses.{legible_units}
+use Rattle.catalogue_statements.proofs.FoundUnits.{one_told}
+use Rattle.catalogue_store.proofs.Common.{Database, IsKept, KnowsItsContainers, RepresentsContainers, RepresentsValues, TellsTexts, Unit, box_number, early, housing_row, legible_units, looks_then, none_found, same_fault, state, still_numbered, tells_cut, tells_not}
 use Rattle.catalogue_store.proofs.UnitTold.{texts_told, containers_told, boxes_known}
 use Rattle.catalogue_store.proofs.ValueCauses.{legible_elements}
-use Rattle.office_tables.proofs.numbered.OwnNumbers.{still_numbered}
-use Rattle.catalogue_statements.specs.Rows.{housing_row}
 use Rattle.catalogue_store.proofs.unit_values.values.Goals as goal
 
 pub returns-in_err-level : goal.returns-in_err-level
@@ -106,7 +93,7 @@ returns-in_err-boxes g c =
           let housed = containers_told a.now o k it c.args.unit u found.1 found.2 in
           let numbers = c.in_ok-containers.ensures.numbers at_e at.housings.housings (still_numbered housing_row _ _ at.housings.housings (ap (λ (db : Database). db.trees tables.housing.tree) (looked_d.same at_d)) at.housings.rows) k.containers u.values housed in
           let there : RepresentsContainers e.now.trees k.containers = ap (λ (db : Database). db.trees tables.container.tree) (looked.same at_e) ∙ at.containers in
-          c.in_err-boxes.ensures.faults k.containers there kept.boxes kept.few_boxes u.values.boxes (boxes_known a.now o k it c.args.unit u found.1 found.2 knows) (c.as_slice.ensures ∙ numbers) clean free);
+          c.in_err-boxes.ensures.faults k.containers there kept.boxes u.values.boxes (boxes_known a.now o k it c.args.unit u found.1 found.2 knows) (c.as_slice.ensures ∙ numbers) clean free);
     }
 
 pub returns : goal.returns

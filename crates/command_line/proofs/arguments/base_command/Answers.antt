@@ -1,6 +1,5 @@
 use Rattle.std.proofs.Common.{◌∙◌, ap, true}
-use Rattle.std.proofs.lemmas.Result.{IfOk-weaker}
-use Rattle.clap.specs.Simple.{Shape, app_of_fields, on_top}
+use Rattle.command_line.proofs.Common.{IfOk-weaker, Shape, app_of_fields, on_top}
 use Rattle.command_line.proofs.arguments.base_command.Goals as goal
 
 -- each setting is the definition's

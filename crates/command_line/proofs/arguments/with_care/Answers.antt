@@ -1,6 +1,5 @@
 use Rattle.std.proofs.Common.{◌∙◌, ap, ap₂}
-use Rattle.std.proofs.lemmas.Result.{IfOk-weaker}
-use Rattle.clap.specs.Simple.{app_of, with_subcommand}
+use Rattle.command_line.proofs.Common.{IfOk-weaker, app_of, with_subcommand}
 use Rattle.command_line.proofs.arguments.with_care.Goals as goal
 
 -- one command after another is added

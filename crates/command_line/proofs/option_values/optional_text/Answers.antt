@@ -1,7 +1,5 @@
 use Rattle.std.proofs.Common.{◌∙◌, Some, ap, sym}
-use Rattle.std.specs.Prelude.{option_map}
-use Rattle.clap.specs.Matches.{found_of}
-use Rattle.clap.proofs.WalkLemmas.{first_value-rows}
+use Rattle.command_line.proofs.Common.{first_value-rows, found_of, option_map}
 use Rattle.command_line.proofs.option_values.optional_text.Goals as goal
 
 pub returns-in_ok-new-in-Some : goal.returns-in_ok-new-in-Some

@@ -1,10 +1,5 @@
 use Rattle.std.proofs.Common.{◌≡◌, ◌∙◌, ◌≤◌, ℕ, Some, arith, refl, subst, sym, codes}
-use Rattle.std.specs.Prelude.{IsSome}
-use Rattle.std.specs.Str.Parse.{ExplainsUnsignedError, HasUnsignedDigitsIfOk, ParsesUnsigned}
-use Rattle.clap.proofs.CallerReads.{signed_reads}
-use Rattle.clap.proofs.WalkLemmas.{one_text-rows}
-use Rattle.clap.specs.Lexer.{without_minus}
-use Rattle.clap.specs.Matches.{found_of}
+use Rattle.command_line.proofs.Common.{ExplainsUnsignedError, HasUnsignedDigitsIfOk, IsSome, ParsesUnsigned, found_of, one_text-rows, signed_reads, without_minus}
 use Rattle.command_line.proofs.Bounded.{bounded}
 use Rattle.command_line.proofs.option_values.port.Goals as goal
 

@@ -1,7 +1,5 @@
 use Rattle.std.proofs.Common.{◌∙◌, ap, sym}
-use Rattle.std.specs.Prelude.{option_map}
-use Rattle.clap.specs.Matches.{found_of}
-use Rattle.clap.proofs.WalkLemmas.{first_value-rows}
+use Rattle.command_line.proofs.Common.{first_value-rows, found_of, option_map}
 use Rattle.command_line.proofs.Needs.{some_of}
 use Rattle.command_line.proofs.option_values.value_of.Goals as goal
 

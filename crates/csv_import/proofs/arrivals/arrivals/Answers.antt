@@ -1,27 +1,20 @@
-use Rattle.std.proofs.Common.{◌≡◌, ◌+◌, ◌<◌, ◌^◌, ◌∷◌, [], Some, cond, drop, length, length-append, sym, ap, subst, ◌∙◌, arith}
-use Rattle.std.specs.Prelude.{IfSome}
-use Rattle.std.specs.BTreeMap.{get_by_text}
-use Rattle.std.specs.List.{AllByRecursion}
-use Rattle.std.specs.Str.{bytes_eq}
-use Rattle.std.proofs.lemmas.List.{drop_all, drop_more}
-use Rattle.sqlite_trees.proofs.ListLemmas.{all-append}
-use Rattle.isad_core.specs.Limits.{IsNumber}
+use Rattle.std.proofs.Common.{◌≡◌, ◌+◌, ◌∷◌, [], Some, cond, drop, length, length-append, sym, ap, subst, ◌∙◌, arith}
 use Rattle.atom_csv.specs.declared.file.Row.{Row as RowTold}
-use Rattle.tree_places.specs.Arrivals.{IsNumbered}
-use Rattle.csv_import.proofs.EnteredNumbers.{number_there_small}
-use Rattle.csv_import.proofs.Arrived.{AreTold, all_told, at_number, brings_none, brings_one, low_more}
+use Rattle.csv_import.proofs.Common.{bytes_eq, drop_all, drop_more, get_by_text}
+use Rattle.csv_import.proofs.Arrived.{AreTold, all_told, at_number, brings_none, brings_one}
 use Rattle.csv_import.proofs.KnownUnits.{parent_at, told_at}
 use Rattle.csv_import.proofs.arrivals.arrivals.Goals as goal
 use Rattle.csv_import.proofs.arrivals.arrivals.Goals.{in-Some+in_ok-remember+in_ok-push, in_default}
 
-pub arrival_of-brought-requires-clause-there : goal.arrival_of-brought-requires-clause-there
-arrival_of-brought-requires-clause-there c = λ legacy. number_there_small _ (c.args.import.now.small legacy)
+pub returns-in_err-unit-clause-faults : goal.returns-in_err-unit-clause-faults
+returns-in_err-unit-clause-faults c =
+    let few = c.loop-row.invariant.few in
+    absurd (omega (arith, c.len.ensures, few, c.loop-row-test.true, c.args.import.now.few, c.in_err-unit.ensures.great))
 
 pub loop-row-preserved : goal.loop-row-preserved
 loop-row-preserved c =
     let invariant = c.loop-row.invariant in
     let few = invariant.few in
-    let made = c.arrival_of-brought.ensures in
     let rows = c.args.import.now.rows.now in
     let next = c.args.import.now.next in
     let i = c.loop-row.row-index in
@@ -29,8 +22,8 @@ loop-row-preserved c =
     let known = get_by_text c.args.import.now.catalogued.now in
     let numbers = get_by_text c.loop-row.numbers in
     let items = c.loop-row.arrivals.items in
-    let unit : next + c.len.result ≡ next + length items = omega (arith, c.len.ensures) in
-    let low : next + c.len.result < 2 ^ 63 = omega (arith, unit, few, c.loop-row-test.true, c.args.import.now.few) in
+    let same = c.in_ok-unit.ensures.same in
+    let unit : c.in_ok-unit.unit ≡ next + length items = omega (arith, same, c.len.ensures) in
     let rest : drop i rows ≡ item ∷ drop (i + 1) rows = drop_more rows i item c.loop-row-test.true ∙ ap (λ (r : RowTold). r ∷ drop (i + 1) rows) (sym c.row-item.is) in
     record {
       few = elim c.match-brought.branch [
@@ -40,23 +33,11 @@ loop-row-preserved c =
             rw (w.arrivals-is) (omega (arith, grown, longer, few))
         | in_default w ↦ rw (w.arrivals-is) (omega (arith, few))
       ];
-      numbered = elim c.match-brought.branch [
-        | in-Some+in_ok-remember+in_ok-push w ↦
-            rw (w.arrivals-is)
-            (subst (AllByRecursion IsNumbered) (sym w.in_ok-push.ensures.items) (all-append IsNumbered items (w.in-Some.arrival ∷ []) invariant.numbered (subst (λ o. IfSome o IsNumbered) w.in-Some.is made.numbered, tt)))
-        | in_default w ↦ rw (w.arrivals-is) invariant.numbered
-      ];
-      low = λ legacy. elim c.match-brought.branch [
-        | in-Some+in_ok-remember+in_ok-push w ↦
-            rw (w.numbers-is)
-            (subst (λ o. IfSome o IsNumber) (sym (w.in_ok-remember.ensures legacy)) (low_more (bytes_eq legacy item.legacy) (next + c.len.result) (numbers legacy) low (invariant.low legacy)))
-        | in_default w ↦ rw (w.numbers-is) (invariant.low legacy)
-      ];
       so_far = λ k source knows.
           let before = subst (AreTold k.forest source next numbers items rows) rest (invariant.so_far k source knows) in
           let own = told_at k source rows known i item c.loop-row-test.true (sym c.row-item.is) knows.each in
           let parent = parent_at k source rows known i item c.loop-row-test.true (sym c.row-item.is) knows.parents in
-          let is = at_number k.forest source next (next + c.len.result) numbers items rows (drop (i + 1) rows) item c.arrival_of-brought.result unit before (made.answers k source own parent) in
+          let is = at_number k.forest source next c.in_ok-unit.unit numbers items rows (drop (i + 1) rows) item c.arrival_of-brought.result unit before (c.arrival_of-brought.ensures.answers k source own parent) in
           elim c.match-brought.branch [
             | in-Some+in_ok-remember+in_ok-push w ↦
                 rw (w.numbers-is, w.arrivals-is)

@@ -1,10 +1,8 @@
 use Rattle.std.proofs.Common.{length, ap, ◌∙◌}
-use Rattle.std.specs.Prelude.{nat_lt}
-use Rattle.isad_core.specs.Limits.{most_containers}
 use Rattle.catalogue_statements.specs.Rows.{counted_from}
 use Rattle.catalogue_statements.proofs.Numbered.{length-counted}
 use Rattle.office_tables.specs.RowCounts.{cap}
-use Rattle.refinement.proofs.Doings.{tells_passed}
+use Rattle.csv_import.proofs.Common.{most_containers, nat_lt, tells_passed}
 use Rattle.csv_import.proofs.Counting.{many_counted}
 use Rattle.csv_import.proofs.Tellings.{tells_so}
 use Rattle.csv_import.proofs.catalogue_import.has_many_containers.Goals as goal

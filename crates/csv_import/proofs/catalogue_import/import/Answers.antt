@@ -1,10 +1,7 @@
 use Rattle.std.proofs.Common.{◌≡◌, Err, subst}
-use Rattle.sqlite.specs.Held.{state}
-use Rattle.atom_csv.specs.FileContents.{file_of}
 use Rattle.atom_csv.specs.ReadProgress.{IsBad}
 use Rattle.atom_csv.specs.declared.file.FileFault.{FileFault}
-use Rattle.office_tables.proofs.Calls.{looks_nowhere}
-use Rattle.refinement.proofs.Doings.{is_refused}
+use Rattle.csv_import.proofs.Common.{file_of, is_refused, looks_nowhere, state}
 use Rattle.csv_import.proofs.FileBounds.{file_bounded}
 use Rattle.csv_import.proofs.Refused.{bad}
 use Rattle.csv_import.proofs.catalogue_import.import.Goals as goal

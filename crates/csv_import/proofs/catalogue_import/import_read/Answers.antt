@@ -1,10 +1,6 @@
 use Rattle.std.proofs.Common.{◌+◌, ap, arith, length, subst}
 use Rattle.std.specs.Prelude.{◌≤◌, IfSome}
-use Rattle.sqlite.specs.Held.{state}
-use Rattle.isad_core.specs.Limits.{IsNumber, most_unit_numbers}
-use Rattle.office_core.proofs.KeptOffices.{office_settings}
-use Rattle.refinement.specs.Representation.{office_of}
-use Rattle.refinement.proofs.Doings.{catalogue_passed, does_pass}
+use Rattle.csv_import.proofs.Common.{catalogue_passed, does_pass, most_unit_numbers, office_of, office_settings, state}
 use Rattle.csv_import.proofs.Carried.{imports, ready_for, refused_full, refused_row, settings_shown, shown_legible, when_known, when_placed, when_roomy}
 use Rattle.csv_import.proofs.Frames.{entering_of}
 use Rattle.csv_import.proofs.catalogue_import.import_read.Goals as goal
@@ -46,7 +42,6 @@ invariant_of-import g c =
     let low = subst (λ o. IfSome o (λ n. n ≤ most_unit_numbers + 1)) c.in-Some.is c.in_ok-next.ensures.low in
     record {
       few = omega (arith, few, same, low);
-      small = λ legacy unit is. subst (λ o. IfSome o IsNumber) is (c.in_ok-catalogued.ensures.small legacy);
     }
 
 pub returns-in_err-outcome : goal.returns-in_err-outcome

@@ -1,21 +1,9 @@
-use Rattle.std.proofs.Common.{◌≡◌, Bool, true, false, List, [], cond, length, Err, sym, ap, subst, ◌∙◌}
-use Rattle.std.specs.Prelude.{nat_lt}
-use Rattle.std.specs.List.{AllByRecursion}
-use Rattle.sqlite.specs.Effect.{Database}
-use Rattle.sqlite.specs.Held.{state}
-use Rattle.sqlite.specs.State.{HasCleanDisk}
-use Rattle.isad_core.specs.Limits.{IsNumber, most_containers}
-use Rattle.catalogue_statements.specs.Representation.{Represents}
-use Rattle.desk_core.specs.declared.refusal.Refusal.TheVariants.{Full}
+use Rattle.std.proofs.Common.{◌≡◌, Bool, true, List, [], cond, length, Err, sym, ap, subst, ◌∙◌}
 use Rattle.office_core.specs.ImportReply as reply
 use Rattle.office_core.specs.State.{State}
 use Rattle.office_core.specs.declared.done.Done.TheVariants as done
-use Rattle.office_core.specs.declared.done.Remark.{Remark}
-use Rattle.office_tables.proofs.Calls.{early, looks_then, still}
 use Rattle.refinement.specs.Gate.{gate_reply}
-use Rattle.refinement.specs.Representation.{RepresentsState, office_of}
-use Rattle.refinement.proofs.Doings.{tells_passed}
-use Rattle.csv_import.specs.CatalogueImport.{told_of}
+use Rattle.csv_import.proofs.Common.{Database, Full, HasCleanDisk, Remark, Represents, RepresentsState, early, looks_then, most_containers, nat_lt, office_of, state, tells_passed, told_of}
 use Rattle.csv_import.proofs.Carried.{few_containers, have_units, judged_few, settings_shown}
 use Rattle.csv_import.proofs.Tellings.{tells_cut_later, tells_so, told_last}
 use Rattle.csv_import.proofs.catalogue_import.judge.Goals as goal
@@ -35,9 +23,6 @@ returns-then-branch g c =
           let many : nat_lt most_containers (length s.catalogue.containers) ≡ true = sym (told.answers clean s.catalogue (office_of s) it.catalogue) ∙ c.if-branch.true in
           sym (ap (λ (b : Bool). cond b (Err Full) (gate_reply s (told_of source c.args.file.now c.args.outcome.now.counts s))) many));
     }
-
-pub remarks-requires : goal.remarks-requires
-remarks-requires g c = record { small = subst (AllByRecursion IsNumber) (sym c.deref.ensures.value) c.requires.small }
 
 pub returns-in_err-remarks : goal.returns-in_err-remarks
 returns-in_err-remarks g c =

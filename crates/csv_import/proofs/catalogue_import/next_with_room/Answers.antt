@@ -1,10 +1,6 @@
 use Rattle.std.proofs.Common.{true, false, sym, ap, ◌∙◌}
-use Rattle.sqlite.specs.Effect.{Database}
-use Rattle.sqlite.specs.Held.{state}
-use Rattle.catalogue_statements.specs.declared.office.OfficeRow.{OfficeRow}
 use Rattle.office_tables.specs.Schema as tables
-use Rattle.office_tables.proofs.Calls.{early, looks_then}
-use Rattle.refinement.proofs.Doings.{tells_passed_later}
+use Rattle.csv_import.proofs.Common.{Database, OfficeRow, early, looks_then, state, tells_passed_later}
 use Rattle.csv_import.proofs.Counting.{next_if, number_within, units_counted}
 use Rattle.csv_import.proofs.Tellings.{tells_so}
 use Rattle.csv_import.proofs.catalogue_import.next_with_room.Goals as goal
@@ -22,12 +18,12 @@ returns-then-has_space-clause-answers g c =
     tells_so (looks_then _ b d looked_b c.in_ok-units.ensures.reads.looks) (λ clean k o it.
     let at_b = early b d _ c.in_ok-units.ensures.reads.looks.goes.on.crash clean in
     let at = it.catalogue.units in
-    let next = ap (λ (row : OfficeRow). row.next_unit) (c.in_ok-office.ensures.answers.answers at_b k o it) ∙ it.catalogue.next in
+    let next = c.get-next.ensures.same ∙ ap (λ (row : OfficeRow). row.next_unit) (c.in_ok-office.ensures.answers.answers at_b k o it) ∙ it.catalogue.next in
     let counted = c.in_ok-units.ensures.answers clean at.units (ap (λ (db : Database). db.trees tables.unit.tree) (looked_b.same at_b) ∙ at.rows) tt in
-    next_if c.args.new k c.in_ok-units.units c.in_ok-office.office.next_unit (units_counted at counted) next true (sym c.has_space.ensures ∙ c.if-has_space.true))
+    next_if c.args.new k c.in_ok-units.units c.get-next.result (units_counted at counted) next true (sym c.has_space.ensures ∙ c.if-has_space.true))
 
 pub returns-then-has_space-clause-low : goal.returns-then-has_space-clause-low
-returns-then-has_space-clause-low g c = number_within c.in_ok-units.units c.in_ok-office.office.next_unit c.args.new (sym c.has_space.ensures ∙ c.if-has_space.true)
+returns-then-has_space-clause-low g c = number_within c.in_ok-units.units c.get-next.result c.args.new (sym c.has_space.ensures ∙ c.if-has_space.true)
 
 pub returns-clause-answers : goal.returns-clause-answers
 returns-clause-answers g c =
@@ -37,6 +33,6 @@ returns-clause-answers g c =
     tells_so (looks_then _ b d looked_b c.in_ok-units.ensures.reads.looks) (λ clean k o it.
     let at_b = early b d _ c.in_ok-units.ensures.reads.looks.goes.on.crash clean in
     let at = it.catalogue.units in
-    let next = ap (λ (row : OfficeRow). row.next_unit) (c.in_ok-office.ensures.answers.answers at_b k o it) ∙ it.catalogue.next in
+    let next = c.get-next.ensures.same ∙ ap (λ (row : OfficeRow). row.next_unit) (c.in_ok-office.ensures.answers.answers at_b k o it) ∙ it.catalogue.next in
     let counted = c.in_ok-units.ensures.answers clean at.units (ap (λ (db : Database). db.trees tables.unit.tree) (looked_b.same at_b) ∙ at.rows) tt in
-    next_if c.args.new k c.in_ok-units.units c.in_ok-office.office.next_unit (units_counted at counted) next false (sym c.has_space.ensures ∙ c.if-has_space.false))
+    next_if c.args.new k c.in_ok-units.units c.get-next.result (units_counted at counted) next false (sym c.has_space.ensures ∙ c.if-has_space.false))

@@ -1,16 +1,6 @@
 use Rattle.std.proofs.Common.{◌≡◌, ◌+◌, ◌++◌, [], ◌∷◌, take, refl, sym, ap, subst, ◌∙◌, arith}
-use Rattle.std.specs.BTreeMap.{get_by_text}
-use Rattle.std.specs.BTreeSet.{contains_text}
-use Rattle.std.specs.List.{AllByRecursion}
-use Rattle.std.proofs.lemmas.List.{take_all, take_more}
-use Rattle.sqlite.specs.Effect.{Database}
-use Rattle.sqlite.specs.Held.{state}
 use Rattle.atom_csv.specs.declared.file.Row.{Row as RowTold}
-use Rattle.catalogue_core.proofs.EachOf.{all_append}
-use Rattle.office_tables.proofs.Calls.{early, looks_nowhere, looks_then}
-use Rattle.refinement.proofs.Doings.{tells_passed_later}
-use Rattle.csv_import.specs.RowEntry.{RepresentsEntering}
-use Rattle.csv_import.specs.KnownUnits.{IsAsked}
+use Rattle.csv_import.proofs.Common.{AllByRecursion, Database, IsAsked, RepresentsEntering, all_append, contains_text, early, get_by_text, looks_nowhere, looks_then, state, take_all, take_more, tells_passed_later}
 use Rattle.csv_import.proofs.KnownUnits.{all_known, asked_nothing, still_asked}
 use Rattle.csv_import.proofs.Tellings.{tells_so}
 use Rattle.csv_import.proofs.numbers.known_units.Goals as goal
@@ -20,16 +10,15 @@ loop-row-init g c =
     let a = state g.S.Store c.args.tables.now in
     record {
       looks = looks_nowhere a;
-      low = λ legacy. rw (c.new-numbers.ensures.empty) tt;
       so_far = λ clean o k it good.
           (asked_nothing k c.args.source.now (contains_text c.new-asked.result) (get_by_text c.new-numbers.result) (λ q. rw (c.new-asked.ensures.empty) refl) (λ q. rw (c.new-numbers.ensures.empty) refl), tt);
     }
 
-pub returns-in_err-look_up_row-clause-answers : goal.returns-in_err-look_up_row-clause-answers
-returns-in_err-look_up_row-clause-answers g c =
+pub returns-in_err-look_up_row : goal.returns-in_err-look_up_row
+returns-in_err-look_up_row g c =
     let looks = c.loop-row.invariant.looks in
     let told = c.in_err-look_up_row.ensures.answers in
-    tells_passed_later _ c.from_residual.ensures looks told.aborts (λ o k it good kept. told.faults o k it good tt)
+    record { answers = tells_passed_later _ c.from_residual.ensures looks told.aborts (λ o k it good kept. told.faults o k it good tt) }
 
 pub loop-row-preserved : goal.loop-row-preserved
 loop-row-preserved g c =
@@ -48,7 +37,6 @@ loop-row-preserved g c =
     let so : take (i + 1) rows ≡ take i rows ++ item ∷ [] = take_more rows i item c.loop-row-test.true ∙ ap (λ (r : RowTold). take i rows ++ r ∷ []) (sym c.row-item.is) in
     record {
       looks = looks_then a b d invariant.looks row.answers.looks;
-      low = row.small;
       so_far = λ clean o k it good.
           let at_b = early b d _ row.answers.looks.goes.on.crash clean in
           let before = invariant.so_far at_b o k it good in
@@ -57,11 +45,13 @@ loop-row-preserved g c =
           (now.0, subst (AllByRecursion (IsAsked k source later)) (sym so) (all_append (IsAsked k source later) (take i rows) (item ∷ []) (still_asked k source asked later row.more (take i rows) before.1) (now.1, tt)));
     }
 
-pub returns-clause-answers : goal.returns-clause-answers
-returns-clause-answers g c =
+pub returns : goal.returns
+returns g c =
     let rows = c.args.rows.now in
     let source = c.args.source.now in
     let asked = contains_text c.loop-row.asked in
-    tells_so c.loop-row.invariant.looks (λ clean o k it good.
-    let all = c.loop-row.invariant.so_far clean o k it good in
-    all_known k source asked (get_by_text c.loop-row.numbers) rows all.0 (subst (AllByRecursion (IsAsked k source asked)) (take_all c.loop-row.row-index rows (omega (arith, c.loop-row-test.false))) all.1))
+    record {
+      answers = tells_so c.loop-row.invariant.looks (λ clean o k it good.
+          let all = c.loop-row.invariant.so_far clean o k it good in
+          all_known k source asked (get_by_text c.loop-row.numbers) rows all.0 (subst (AllByRecursion (IsAsked k source asked)) (take_all c.loop-row.row-index rows (omega (arith, c.loop-row-test.false))) all.1));
+    }

@@ -1,12 +1,5 @@
-use Rattle.std.proofs.Common.{◌≡◌, Bool, true, false, not, refl, sym, subst, ◌∙◌}
-use Rattle.std.specs.Prelude.{IfSome}
-use Rattle.std.specs.BTreeMap.{get_by_text}
-use Rattle.std.specs.BTreeSet.{contains_text}
-use Rattle.std.specs.Str.{bytes_eq}
-use Rattle.sqlite.specs.Held.{state}
-use Rattle.isad_core.specs.Limits.{IsNumber}
-use Rattle.office_tables.proofs.Calls.{looks_nowhere}
-use Rattle.csv_import.proofs.Arrived.{low_more}
+use Rattle.std.proofs.Common.{◌≡◌, Bool, true, false, not, refl, sym, ◌∙◌}
+use Rattle.csv_import.proofs.Common.{contains_text, get_by_text, looks_nowhere, state}
 use Rattle.csv_import.proofs.KnownUnits.{asked_again, asked_and_found, asked_in_vain}
 use Rattle.csv_import.proofs.Tellings.{tells_so}
 use Rattle.csv_import.proofs.numbers.look_up.Goals as goal
@@ -36,8 +29,3 @@ returns-clause-answers g c =
     tells_so told.looks (λ clean o k it good knows.
     asked_and_found k c.args.source.now (contains_text c.args.asked.now) (contains_text c.note.new.noted) (get_by_text c.args.numbers.now) c.args.legacy.now knows c.in_ok-note.ensures.noted
     (get_by_text c.remember.new.kept) c.in-Some.unit (sym c.in-Some.is ∙ told.answers clean o k it good) c.in_ok-remember.ensures)
-
-pub returns-clause-small : goal.returns-clause-small
-returns-clause-small g c q =
-    subst (λ o. IfSome o IsNumber) (sym (c.in_ok-remember.ensures q))
-    (low_more (bytes_eq q c.args.legacy.now) c.in-Some.unit (get_by_text c.args.numbers.now q) (subst (λ o. IfSome o IsNumber) c.in-Some.is c.in_ok-unit.ensures.small) (c.requires.low q))

@@ -1,12 +1,6 @@
 use Rattle.std.proofs.Common.{◌≡◌, true, false, Option, sym, ap, subst, ◌∙◌}
-use Rattle.std.specs.Prelude.{IfSome, is_some}
-use Rattle.std.specs.BTreeSet.{contains_text}
-use Rattle.sqlite.specs.Effect.{Database}
-use Rattle.sqlite.specs.Held.{state}
-use Rattle.isad_core.specs.Texts.{Bytes}
-use Rattle.office_tables.proofs.Calls.{early, looks_then}
-use Rattle.refinement.proofs.Doings.{tells_passed_later}
-use Rattle.csv_import.specs.RowEntry.{RepresentsEntering}
+use Rattle.std.specs.Prelude.{IfSome}
+use Rattle.csv_import.proofs.Common.{Bytes, Database, RepresentsEntering, contains_text, early, is_some, looks_then, state, tells_passed_later}
 use Rattle.csv_import.proofs.Noted.{noted_itself, still_noted}
 use Rattle.csv_import.proofs.Tellings.{tells_so}
 use Rattle.csv_import.proofs.numbers.look_up_row.Goals as goal

@@ -1,12 +1,7 @@
-use Rattle.std.proofs.Common.{IfSome, map, sym, ap, subst, ◌∙◌}
+use Rattle.std.proofs.Common.{map, sym, ap, ◌∙◌}
 use Rattle.std.specs.Prelude.{nat_eq}
-use Rattle.sqlite.specs.Held.{state}
-use Rattle.isad_core.specs.Limits.{IsNumber}
-use Rattle.tree_core.specs.Forest.{each, nodes, path}
-use Rattle.catalogue_core.specs.Units.{Unit, is_from}
 use Rattle.catalogue_core.proofs.EachOf.{none_found}
-use Rattle.office_tables.proofs.Calls.{looks_nowhere}
-use Rattle.office_tables.proofs.StoreCalls.{as_answers}
+use Rattle.csv_import.proofs.Common.{Unit, as_answers, each, is_from, looks_nowhere, nodes, path, state}
 use Rattle.csv_import.proofs.FoundPaths.{none_path, path_by_number}
 use Rattle.csv_import.proofs.OneRow.{is_found, none_there}
 use Rattle.csv_import.proofs.Tellings.{told_last, tells_so}
@@ -20,9 +15,6 @@ returns-in_default g c =
           c.new.ensures.items
           ∙ sym (ap (map (λ (unit : Unit). unit.id)) (none_path (is_from source legacy) k.forest (none_found (is_from source legacy) (nodes k.forest) (none_there k source legacy (sym is ∙ c.in_default.is))))));
     }
-
-pub path-requires : goal.path-requires
-path-requires g c = record { small = subst (λ o. IfSome o IsNumber) c.in-Some.is c.requires.small }
 
 pub returns : goal.returns
 returns g c =

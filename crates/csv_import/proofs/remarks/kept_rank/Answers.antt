@@ -1,9 +1,7 @@
 use Rattle.std.proofs.Common.{◌≡◌, Some, subst}
 use Rattle.std.specs.Prelude.{IfSome}
-use Rattle.sqlite.specs.Held.{state}
-use Rattle.office_tables.proofs.Calls.{looks_nowhere}
-use Rattle.csv_import.specs.Remarks.{IsRankOf, IsRanked}
 use Rattle.csv_import.specs.declared.remarks.Ranked.{Ranked}
+use Rattle.csv_import.proofs.Common.{IsRankOf, IsRanked, looks_nowhere, state}
 use Rattle.csv_import.proofs.Tellings.{tells_so}
 use Rattle.csv_import.proofs.remarks.kept_rank.Goals as goal
 

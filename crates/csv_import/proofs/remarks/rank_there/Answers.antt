@@ -1,10 +1,8 @@
 use Rattle.std.proofs.Common.{◌≡◌, Some, None, sym, ap, ◌∙◌}
-use Rattle.sqlite.specs.Held.{state}
-use Rattle.isad_core.specs.Levels.{rank_of}
 use Rattle.catalogue_core.specs.Units.{Unit as Described}
 use Rattle.catalogue_statements.proofs.FoundUnits.{none_found, one_told}
 use Rattle.tree_places.proofs.MarkCauses.{legible_units}
-use Rattle.refinement.proofs.Doings.{tells_passed}
+use Rattle.csv_import.proofs.Common.{rank_of, state, tells_passed}
 use Rattle.csv_import.proofs.Tellings.{tells_so}
 use Rattle.csv_import.proofs.remarks.rank_there.Goals as goal
 

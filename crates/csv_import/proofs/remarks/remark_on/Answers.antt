@@ -1,30 +1,19 @@
 use Rattle.std.proofs.Common.{◌≡◌, Some, None, sym, ◌∙◌}
-use Rattle.std.specs.Prelude.{find, map}
-use Rattle.std.specs.Option.{option_to_list}
-use Rattle.isad_core.specs.Levels.{rank_of}
-use Rattle.isad_core.specs.Texts.{Bytes}
-use Rattle.tree_core.specs.Forest.{nodes, path}
-use Rattle.tree_core.specs.Tops.{last_but_one}
-use Rattle.catalogue_core.specs.CatalogueMerge.{Catalogue}
-use Rattle.catalogue_core.specs.Units.{has_id, is_from}
+use Rattle.std.specs.Prelude.{map}
 use Rattle.catalogue_core.specs.Units.{Unit as Described}
-use Rattle.office_core.specs.ImportReply.{is_level_above, remark_if}
 use Rattle.office_core.specs.ImportReply as reply
-use Rattle.office_core.specs.declared.done.Remark.TheVariants.{LevelTooHigh}
-use Rattle.office_tables.proofs.Calls.{looks_nowhere}
-use Rattle.csv_import.specs.Remarks.{HasParent, IsRanked}
+use Rattle.csv_import.proofs.Common.{Bytes, Catalogue, HasParent, IsRanked, LevelTooHigh, find, has_id, if_ok_then, is_from, is_level_above, last_but_one, looks_nowhere, nodes, option_to_list, path, rank_of, remark_if}
 use Rattle.csv_import.proofs.Remarked.{is_below, top_remark}
 use Rattle.csv_import.proofs.RightAbove.{last_number, there}
 use Rattle.csv_import.proofs.Tellings.{tells_so}
 use Rattle.csv_import.proofs.remarks.remark_on.Goals as goal
-use Rattle.refinement.proofs.Passing.{if_ok_then}
 
 pub returns-in-Some : goal.returns-in-Some
 returns-in-Some g c =
     let row = c.args.row.now in
     let parent = c.in-Some.parent in
     let told = c.remark_below.ensures.answers in
-    let below = λ (source : Bytes) (k : Catalogue) (has : HasParent source row c.args.parent k).
+    let below = λ (source : Bytes) (k : Catalogue) (has : HasParent source row c.args.parent.now k).
     (let unit = there k.forest source row has.its in
     let some : last_but_one (map (λ (u : Described). u.id) (path (is_from source row.legacy) k.forest)) ≡ Some parent =
     last_number (path (is_from source row.legacy) k.forest) ∙ (sym has.above ∙ c.in-Some.is) in
@@ -34,7 +23,7 @@ returns-in-Some g c =
         answers = λ clean o k it.
             if_ok_then c.remark_below.result
             (λ told. IsRanked k c.args.last.now → IsRanked k c.remark_below.new.last × ((unit : Described) → find (has_id parent) (nodes k.forest) ≡ Some unit → option_to_list told ≡ remark_if (is_level_above (rank_of row.values.level) (rank_of unit.values.level)) (LevelTooHigh row.row)))
-            (λ told. IsRanked k c.args.last.now → HasParent source row c.args.parent k → IsRanked k c.remark_below.new.last × (option_to_list told ≡ reply.remark_on row.row (path (is_from source row.legacy) k.forest)))
+            (λ told. IsRanked k c.args.last.now → HasParent source row c.args.parent.now k → IsRanked k c.remark_below.new.last × (option_to_list told ≡ reply.remark_on row.row (path (is_from source row.legacy) k.forest)))
             (λ remark is ranked has. (let up = below source k has in let both = is ranked in (both.0, both.1 up.above up.found_above ∙ up.remarked has.its))) (told.answers clean o k it);
         looks = told.looks;
         aborts = told.aborts;

@@ -1,14 +1,6 @@
 use Rattle.std.proofs.Common.{sym, subst, ◌∙◌}
-use Rattle.sqlite.specs.Effect.{Database}
-use Rattle.sqlite.specs.Held.{state}
-use Rattle.sqlite.specs.State.{HasCleanDisk}
-use Rattle.tree_core.specs.Forest.{each}
-use Rattle.catalogue_core.specs.CatalogueMerge.{Catalogue}
 use Rattle.catalogue_core.specs.Units.{Unit as Described}
-use Rattle.catalogue_statements.specs.Representation.{Represents}
-use Rattle.catalogue_statements.specs.declared.office.OfficeRow.{OfficeRow}
-use Rattle.refinement.proofs.Doings.{tells_passed}
-use Rattle.csv_import.specs.Remarks.{HaveParents, HaveUnits}
+use Rattle.csv_import.proofs.Common.{Catalogue, Database, HasCleanDisk, HaveParents, HaveUnits, OfficeRow, Represents, each, state, tells_passed}
 use Rattle.csv_import.proofs.RightAbove.{above_numbers}
 use Rattle.csv_import.proofs.Tellings.{told_last}
 use Rattle.csv_import.proofs.remarks.remarks.Goals as goal

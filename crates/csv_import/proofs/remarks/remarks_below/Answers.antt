@@ -1,16 +1,9 @@
 use Rattle.std.proofs.Common.{◌≡◌, ℕ, Bor, [], ◌++◌, length, Option, sym, ap, subst, ◌∙◌, append-nil}
 use Rattle.std.specs.Iterator.Adapters.{zip_first, zip_second}
-use Rattle.std.specs.Option.{option_to_list}
 use Rattle.std.specs.Slice.Iter.{iter_rest}
-use Rattle.std.proofs.lemmas.List.{length_push}
 use Rattle.std.proofs.lemmas.Slice.Zip.{zip_turn, zip_end}
-use Rattle.sqlite.specs.Effect.{Database}
-use Rattle.sqlite.specs.Held.{state}
 use Rattle.atom_csv.specs.declared.file.Row.{Row as RowTold}
-use Rattle.catalogue_statements.specs.Representation.{Represents}
-use Rattle.office_core.specs.declared.done.Remark.{Remark}
-use Rattle.office_tables.proofs.Calls.{early, looks_then}
-use Rattle.refinement.proofs.Doings.{tells_full, tells_passed_later}
+use Rattle.csv_import.proofs.Common.{Database, Remark, Represents, early, length_push, looks_then, option_to_list, state, tells_full, tells_passed_later}
 use Rattle.csv_import.proofs.RightAbove.{parent_at, told_all, told_at}
 use Rattle.csv_import.proofs.Tellings.{tells_so}
 use Rattle.csv_import.proofs.remarks.remarks_below.Goals as goal

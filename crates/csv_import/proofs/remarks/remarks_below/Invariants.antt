@@ -1,13 +1,6 @@
 use Rattle.std.proofs.Common.{◌≡◌, ◌++◌, drop, length}
-use Rattle.sqlite.specs.Held.{state}
-use Rattle.sqlite.specs.State.{HasCleanDisk}
-use Rattle.isad_core.specs.Texts.{Bytes}
-use Rattle.catalogue_core.specs.CatalogueMerge.{Catalogue}
-use Rattle.catalogue_statements.specs.Representation.{Represents}
-use Rattle.catalogue_statements.specs.declared.office.OfficeRow.{OfficeRow}
 use Rattle.office_core.specs.ImportReply as reply
-use Rattle.office_tables.specs.Step.{LeavesUnchanged}
-use Rattle.csv_import.specs.Remarks.{HaveParents, IsRanked}
+use Rattle.csv_import.proofs.Common.{Bytes, Catalogue, HasCleanDisk, HaveParents, IsRanked, LeavesUnchanged, OfficeRow, Represents, state}
 use Rattle.csv_import.proofs.remarks.remarks_below.Given as goal
 
 abbrev pub invariant-loop-row : goal.invariant-loop-row

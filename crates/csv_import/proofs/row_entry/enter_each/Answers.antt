@@ -1,17 +1,5 @@
 use Rattle.std.proofs.Common.{◌≡◌, ◌∙◌, ◌≤◌, ◌+◌, [], ◌∷◌, arith, drop, sym, subst}
-use Rattle.std.specs.Prelude.{IfSome}
-use Rattle.std.specs.BTreeMap.{get_by_text}
-use Rattle.sqlite.specs.Held.{state}
-use Rattle.isad_core.specs.Limits.{IsNumber}
-use Rattle.catalogue_core.specs.CatalogueMerge.{Catalogue}
-use Rattle.catalogue_core.specs.EntryByRow.{number_there}
-use Rattle.catalogue_statements.specs.Representation.{described_trees}
-use Rattle.office_tables.proofs.Calls.{early, goes_nowhere, goes_then}
-use Rattle.office_tables.proofs.Touching.{nothing_touched, touched_again}
-use Rattle.refinement.proofs.Doings.{makes_passed_later}
-use Rattle.csv_import.specs.RowEntry.{RepresentsEntering, catalogue_after}
-use Rattle.csv_import.specs.declared.row_entry.Counts.{Counts}
-use Rattle.csv_import.proofs.EnteredNumbers.{number_there_small}
+use Rattle.csv_import.proofs.Common.{Catalogue, Counts, RepresentsEntering, catalogue_after, cut_after, described_trees, early, get_by_text, goes_nowhere, goes_then, makes_passed_later, nothing_touched, number_there, state, touched_again}
 use Rattle.csv_import.proofs.KnownUnits.{known_still, told_here}
 use Rattle.csv_import.proofs.RowsToCome.{HaveCome, all_come, at_end, counted_few, from_here, next_comes, none_come, one_entered}
 use Rattle.csv_import.proofs.row_entry.enter_each.Goals as goal
@@ -26,9 +14,6 @@ loop-row-init g c =
       so_far = λ clean o k it come told. (k, it, none_come c.args.import.now.source.now c.args.import.now.rows.now c.args.import.now.next k come, told);
     }
 
-pub enter_row-requires-clause-low : goal.enter_row-requires-clause-low
-enter_row-requires-clause-low g c = subst (λ o. IfSome o IsNumber) (sym c.kept_number-number.ensures) (number_there_small _ (c.args.import.now.small c.row-item.result.legacy))
-
 pub loop-row-preserved : goal.loop-row-preserved
 loop-row-preserved g c =
     let a = state g.S.Store c.args.tables.now in
@@ -40,7 +25,8 @@ loop-row-preserved g c =
     let row = c.row-item.result in
     let invariant = c.loop-row.invariant in
     let numbers = get_by_text c.args.import.now.catalogued.now in
-    let step = c.in_ok-became.ensures.updates in
+    let became = rw c.in_ok-next.ensures.same at c.in_ok-became.ensures in
+    let step = became.updates in
     record {
       few = subst (λ (n : Counts). n.changed + n.new + n.same ≤ i + 1) (sym c.count-counts.ensures) (counted_few c.in_ok-became.became c.loop-row.counts i invariant.few);
       goes = goes_then a b d invariant.goes step.goes;
@@ -55,10 +41,17 @@ loop-row-preserved g c =
             catalogue_after source (row ∷ []) x.0,
             step.represents_updated clean o x.0 x.1 (turn, number),
             subst (λ (counts : Counts). HaveCome source rows (drop (i + 1) rows) c.args.import.now.next counts k (catalogue_after source (row ∷ []) x.0)) (sym c.count-counts.ensures)
-                (next_comes source rows row (drop (i + 1) rows) c.args.import.now.next c.loop-row.counts k x.0 c.in_ok-became.became have (c.in_ok-became.ensures.told clean o x.0 x.1 (turn, number))),
+                (next_comes source rows row (drop (i + 1) rows) c.args.import.now.next c.loop-row.counts k x.0 c.in_ok-became.became have (became.told clean o x.0 x.1 (turn, number))),
             known_still source row (drop (i + 1) rows) (c.args.import.now.next + c.loop-row.counts.new) x.0 numbers have.come here.1,
           );
     }
+
+pub returns-in_err-next-clause-updates : goal.returns-in_err-next-clause-updates
+returns-in_err-next-clause-updates g c =
+    let b = state g.S.Store c.loop-row.tables in
+    let few = c.loop-row.invariant.few in
+    makes_passed_later _ c.from_residual.ensures c.loop-row.tables c.loop-row.invariant.goes.on (cut_after b b (goes_nowhere b).on)
+    (λ o k it so kept before clean free. absurd (omega (arith, few, c.loop-row-test.true, c.args.import.now.few, c.in_err-next.ensures.great)))
 
 pub returns-in_err-became-clause-updates : goal.returns-in_err-became-clause-updates
 returns-in_err-became-clause-updates g c =
@@ -68,8 +61,8 @@ returns-in_err-became-clause-updates g c =
     let row = c.row-item.result in
     let invariant = c.loop-row.invariant in
     let numbers = get_by_text c.args.import.now.catalogued.now in
-    let step = c.in_err-became.ensures.updates in
-    makes_passed_later _ c.from_residual.ensures c.loop-row.tables invariant.goes.on step.aborts (λ o k it so kept before.
+    let step = (rw c.in_ok-next.ensures.same at c.in_err-became.ensures).updates in
+    makes_passed_later _ c.from_residual-in_err-became.ensures c.loop-row.tables invariant.goes.on step.aborts (λ o k it so kept before.
     let x = invariant.so_far before o k it so.0 so.1 in
     let have = from_here source rows c.args.import.now.next c.loop-row.counts k x.0 i row c.loop-row-test.true (sym c.row-item.is) x.2 in
     let turn = (one_entered source row (drop (i + 1) rows) (c.args.import.now.next + c.loop-row.counts.new) x.0 have.come).turn in

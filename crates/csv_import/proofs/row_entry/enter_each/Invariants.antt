@@ -1,14 +1,5 @@
 use Rattle.std.proofs.Common.{◌+◌, ◌≤◌, drop}
-use Rattle.std.specs.BTreeMap.{get_by_text}
-use Rattle.sqlite.specs.Held.{state}
-use Rattle.sqlite.specs.State.{HasCleanDisk}
-use Rattle.catalogue_core.specs.CatalogueMerge.{Catalogue}
-use Rattle.catalogue_statements.specs.Representation.{described_trees}
-use Rattle.catalogue_statements.specs.declared.office.OfficeRow.{OfficeRow}
-use Rattle.office_tables.specs.Step.{Goes, OnlyTouches}
-use Rattle.csv_import.specs.RowEntry.{RepresentsEntering}
-use Rattle.csv_import.specs.KnownUnits.{TellsUnits}
-use Rattle.csv_import.specs.Turns.{AreToCome}
+use Rattle.csv_import.proofs.Common.{AreToCome, Catalogue, Goes, HasCleanDisk, OfficeRow, OnlyTouches, RepresentsEntering, TellsUnits, described_trees, get_by_text, state}
 use Rattle.csv_import.proofs.RowsToCome.{HaveCome}
 use Rattle.csv_import.proofs.row_entry.enter_each.Given as goal
 

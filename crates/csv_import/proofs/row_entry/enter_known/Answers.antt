@@ -1,23 +1,11 @@
 use Rattle.std.proofs.Common.{cond, refl, sym, ap, ◌∙◌}
-use Rattle.std.specs.Prelude.{⊤}
-use Rattle.sqlite.specs.Held.{state}
-use Rattle.isad_core.specs.declared.values.Values.{Values}
-use Rattle.catalogue_core.specs.Descriptions.{with_values}
-use Rattle.catalogue_core.specs.Intake.{same_values}
-use Rattle.catalogue_core.proofs.KeptCatalogues.{all_places}
-use Rattle.catalogue_statements.specs.Representation.{described_trees}
-use Rattle.office_tables.proofs.CallEnds.{makes_not}
-use Rattle.office_tables.proofs.Calls.{cut_after, early}
 use Rattle.office_tables.specs.declared.fault.StoreFault.TheVariants as fault
-use Rattle.csv_import.specs.RowEntry.{RepresentsEntering}
-use Rattle.csv_import.specs.Turns.{MayChange}
 use Rattle.csv_import.specs.declared.row_entry.Entry.TheVariants as entry
+use Rattle.csv_import.proofs.Common.{MayChange, RepresentsEntering, Values, all_places, as_updates, cut_after, described_trees, early, makes_not, makes_passed, same_values, state, with_values, ⊤}
 use Rattle.csv_import.proofs.Afterwards.{makes_fault, makes_nothing, makes_same, makes_then}
 use Rattle.csv_import.proofs.Frames.{at_next, kept_at, knows_at, makes_valued}
 use Rattle.csv_import.proofs.OneRow.{is_valued, not_untold, told_of_it}
 use Rattle.csv_import.proofs.SameValues.{nothing_changes}
-use Rattle.office_tables.proofs.StoreCalls.{as_updates}
-use Rattle.refinement.proofs.Doings.{makes_passed}
 use Rattle.csv_import.proofs.row_entry.enter_known.Goals as goal
 
 pub returns-in_err-found-clause-updates : goal.returns-in_err-found-clause-updates

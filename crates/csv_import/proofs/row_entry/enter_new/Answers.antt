@@ -1,6 +1,6 @@
+use Rattle.csv_import.proofs.Common.{as_updates}
 use Rattle.csv_import.proofs.Afterwards.{makes_fault, makes_same}
 use Rattle.csv_import.proofs.Frames.{makes_new}
-use Rattle.office_tables.proofs.StoreCalls.{as_updates}
 use Rattle.csv_import.proofs.row_entry.enter_new.Goals as goal
 
 pub returns-in_err-enter_unit-clause-updates : goal.returns-in_err-enter_unit-clause-updates

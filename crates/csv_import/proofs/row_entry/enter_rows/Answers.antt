@@ -1,7 +1,6 @@
-use Rattle.std.proofs.Common.{◌∙◌, map, Some, refl, ap}
-use Rattle.sqlite.specs.Held.{state}
-use Rattle.office_tables.proofs.Calls.{cut_after, goes_nowhere, looks_nowhere}
-use Rattle.refinement.proofs.Doings.{makes_passed}
+use Rattle.std.proofs.Common.{◌∙◌, map, Some, refl, sym, ap, subst}
+use Rattle.office_tables.specs.Faults.{HasCause}
+use Rattle.csv_import.proofs.Common.{cut_after, goes_nowhere, looks_nowhere, makes_passed, state}
 use Rattle.csv_import.proofs.Afterwards.{makes_fault, makes_legible, makes_same, makes_then}
 use Rattle.csv_import.proofs.EnteredNumbers.{units_told}
 use Rattle.csv_import.proofs.RowsToCome.{are_brought, to_come}
@@ -10,12 +9,12 @@ use Rattle.csv_import.proofs.row_entry.enter_rows.Goals as goal
 pub returns-in_err-arrivals-clause-updates : goal.returns-in_err-arrivals-clause-updates
 returns-in_err-arrivals-clause-updates g c =
     let a = state g.S.Store c.args.tables.now in
-    makes_passed _ c.from_residual.ensures (cut_after a a (goes_nowhere a).on) (λ o k it may kept clean free. tt)
+    makes_passed _ c.from_residual.ensures (cut_after a a (goes_nowhere a).on) (λ o k it may kept clean free. subst (HasCause a a) (sym c.in_err-arrivals.ensures.faults) tt)
 
 pub returns-in_err-units-clause-updates : goal.returns-in_err-units-clause-updates
 returns-in_err-units-clause-updates g c =
     let a = state g.S.Store c.args.tables.now in
-    makes_passed _ c.from_residual-in_err-units.ensures (cut_after a a (goes_nowhere a).on) (λ o k it may kept clean free. tt)
+    makes_passed _ c.from_residual-in_err-units.ensures (cut_after a a (goes_nowhere a).on) (λ o k it may kept clean free. subst (HasCause a a) (sym c.in_err-units.ensures.faults) tt)
 
 pub returns-in_err-counts-clause-updates : goal.returns-in_err-counts-clause-updates
 returns-in_err-counts-clause-updates g c =

@@ -1,17 +1,9 @@
 use Rattle.std.proofs.Common.{◌≡◌, [], ◌∷◌, refl, sym, ap, subst, ◌∙◌, arith}
-use Rattle.sqlite.specs.Held.{state}
 use Rattle.tree_core.specs.Arrivals.{added}
-use Rattle.catalogue_core.specs.CatalogueMerge.{Catalogue}
-use Rattle.catalogue_core.proofs.KeptCatalogues.{kept_within}
 use Rattle.catalogue_statements.specs.Rows.{office_row}
-use Rattle.catalogue_statements.specs.Representation.{catalogue_trees, described_trees}
-use Rattle.catalogue_statements.specs.declared.office.OfficeRow.{OfficeRow}
 use Rattle.tree_places.specs.Arrivals.{MayJoin}
 use Rattle.office_tables.specs.Schema as tables
-use Rattle.office_tables.proofs.Calls.{early, goes_then}
-use Rattle.office_tables.proofs.Touching.{touched_then, touched_wider}
-use Rattle.refinement.proofs.Doings.{makes_passed, makes_passed_later}
-use Rattle.csv_import.specs.RowEntry.{catalogue_after}
+use Rattle.csv_import.proofs.Common.{Catalogue, OfficeRow, catalogue_after, catalogue_trees, cut_after, described_trees, early, goes_nowhere, goes_then, kept_within, makes_passed, makes_passed_later, state, touched_then, touched_wider}
 use Rattle.csv_import.proofs.ComeToStand.{come_to_stand, ids, may_join}
 use Rattle.csv_import.proofs.Frames.{at_next, described_kept}
 use Rattle.csv_import.proofs.row_entry.enter_with_places.Goals as goal
@@ -42,6 +34,14 @@ returns-in_err-counts-clause-updates g c =
     let first = described_kept a.now b.now (tables.link.tree ∷ []) only refl (placed.goes.schema at_b) v (counted o k) (counted o k) k k.next (only tables.office.tree refl refl ∙ it.catalogue.office) refl it.catalogue in
     made.faults (counted o k) k first (may.come, may.known) tt)
 
+pub returns-in_err-next-clause-updates : goal.returns-in_err-next-clause-updates
+returns-in_err-next-clause-updates g c =
+    let a = state g.S.Store c.args.tables.now in
+    let b = state g.S.Store c.add_all.new.tables in
+    let d = state g.S.Store c.enter_each.new.tables in
+    makes_passed_later _ c.from_residual-in_err-next.ensures c.enter_each.new.tables (goes_then a b d c.in_ok-add_all.ensures.updates.goes c.in_ok-counts.ensures.updates.goes).on (cut_after d d (goes_nowhere d).on)
+    (λ o k it may kept at_d clean free. absurd (omega (arith, c.in_ok-counts.ensures.few, c.args.import.now.few, c.in_err-next.ensures.great)))
+
 pub returns-in_err-set_next_unit-clause-updates : goal.returns-in_err-set_next_unit-clause-updates
 returns-in_err-set_next_unit-clause-updates g c =
     let a = state g.S.Store c.args.tables.now in
@@ -67,7 +67,7 @@ returns-clause-updates g c =
     let rows = c.args.import.now.rows.now in
     let placed = c.in_ok-add_all.ensures.updates in
     let told = c.in_ok-counts.ensures.updates in
-    let wrote = c.in_ok-set_next_unit.ensures in
+    let wrote = rw c.in_ok-next.ensures.same at c.in_ok-set_next_unit.ensures in
     record {
       represents_updated = λ clean o k it may.
           let at_d = early d e _ wrote.leaves.goes.on.crash clean in

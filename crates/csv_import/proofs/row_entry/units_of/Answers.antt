@@ -1,17 +1,11 @@
-use Rattle.std.proofs.Common.{◌≡◌, ℕ, ◌+◌, ◌<◌, ◌^◌, ◌++◌, cond, List, [], ◌∷◌, append_assoc, append-nil, drop, sym, ap, ap₂, subst, ◌∙◌, arith}
-use Rattle.std.specs.Prelude.{is_some, unwrap_or}
-use Rattle.std.specs.BTreeMap.{get_by_text}
-use Rattle.std.specs.List.{AllByRecursion}
-use Rattle.std.proofs.lemmas.List.{drop_all, drop_more}
-use Rattle.sqlite_trees.proofs.ListLemmas.{all-append}
-use Rattle.isad_core.specs.Limits.{IsNumber}
+use Rattle.std.proofs.Common.{◌≡◌, ℕ, ◌+◌, ◌++◌, cond, [], ◌∷◌, Option, append_assoc, append-nil, drop, sym, ap, ◌∙◌, arith}
 use Rattle.atom_csv.specs.declared.file.Row.{Row as RowTold}
-use Rattle.csv_import.specs.KnownUnits.{units_from}
-use Rattle.csv_import.proofs.EnteredNumbers.{number_or, number_there_small}
+use Rattle.csv_import.proofs.Common.{drop_all, drop_more, get_by_text, is_some, units_from, unwrap_or}
 use Rattle.csv_import.proofs.row_entry.units_of.Goals as goal
+use Rattle.csv_import.proofs.row_entry.units_of.Goals.{in-Some+in_ok-push-in-Some, in-None+in_ok-unit-in-None+in_ok-push-in-None}
 
-pub number_after-number-requires : goal.number_after-number-requires
-number_after-number-requires c = omega (arith, c.loop-row.invariant.few, c.loop-row-test.true, c.args.import.now.few)
+pub returns-in_err-unit-in-None-clause-faults : goal.returns-in_err-unit-in-None-clause-faults
+returns-in_err-unit-in-None-clause-faults c = absurd (omega (arith, c.loop-row.invariant.few, c.loop-row-test.true, c.args.import.now.few, c.in_err-unit-in-None.ensures.great))
 
 pub loop-row-preserved : goal.loop-row-preserved
 loop-row-preserved c =
@@ -23,24 +17,30 @@ loop-row-preserved c =
     let items = c.loop-row.units.items in
     let invariant = c.loop-row.invariant in
     let few = invariant.few in
-    let x : ℕ = unwrap_or (numbers row.legacy) n in
-    let us : List ℕ = units_from numbers (n + cond (is_some (numbers row.legacy)) 0 1) (drop (i + 1) rows) in
+    let same : n + 0 ≡ n = omega arith in
+    let later = λ (o : Option ℕ). units_from numbers (n + cond (is_some o) 0 1) (drop (i + 1) rows) in
     let rest : drop i rows ≡ row ∷ drop (i + 1) rows = drop_more rows i row c.loop-row-test.true ∙ ap (λ (r : RowTold). r ∷ drop (i + 1) rows) (sym c.row-item.is) in
-    let grown : c.push.new.self.items ≡ items ++ x ∷ [] = c.in_ok-push.ensures.items ∙ ap (λ (y : ℕ). items ++ y ∷ []) (c.unwrap_or.ensures ∙ ap (λ o. unwrap_or o n) c.kept_number-known.ensures) in
-    let on : c.number_after-number.result ≡ n + cond (is_some (numbers row.legacy)) 0 1 = c.number_after-number.ensures.value ∙ ap (λ o. n + cond (is_some o) 0 1) c.kept_number-known.ensures in
-    let low : n < 2 ^ 63 = omega (arith, few, c.loop-row-test.true, c.args.import.now.few) in
+    -- what comes next, by what is known of the row's unit
+    let split : units_from numbers n (drop i rows) ≡ unwrap_or c.kept_number.result n ∷ later c.kept_number.result =
+    ap (units_from numbers n) rest ∙ ap (λ (o : Option ℕ). unwrap_or o n ∷ later o) (sym c.kept_number.ensures) in
     record {
-      few = omega (arith, few, c.number_after-number.ensures.few);
-      small = subst (AllByRecursion IsNumber) (sym grown) (all-append IsNumber items (x ∷ []) invariant.small (number_or (numbers row.legacy) n (number_there_small (numbers row.legacy) (c.args.import.now.small row.legacy)) low, tt));
-      so_far = invariant.so_far ∙ (ap (λ l. items ++ units_from numbers n l) rest ∙ (sym (append_assoc items (x ∷ []) us) ∙ ap₂ (λ a b. a ++ b) (sym grown) (ap (λ m. units_from numbers m (drop (i + 1) rows)) (sym on))));
+      few = elim c.match-kept_number.branch [
+        | in-Some+in_ok-push-in-Some w ↦ rw (w.number-is) (omega (arith, few))
+        | in-None+in_ok-unit-in-None+in_ok-push-in-None w ↦ rw (w.number-is) (omega (arith, few))
+      ];
+      so_far = elim c.match-kept_number.branch [
+        | in-Some+in_ok-push-in-Some w ↦
+            rw (w.number-is, w.units-is, w.in_ok-push-in-Some.ensures.items)
+            (invariant.so_far ∙ ap (λ l. items ++ l) (split ∙ ap (λ (o : Option ℕ). unwrap_or o n ∷ later o) w.in-Some.is ∙ ap (λ m. w.in-Some.unit ∷ units_from numbers m (drop (i + 1) rows)) same) ∙ sym (append_assoc items (w.in-Some.unit ∷ []) (units_from numbers n (drop (i + 1) rows))))
+        | in-None+in_ok-unit-in-None+in_ok-push-in-None w ↦
+            rw (w.number-is, w.units-is, w.in_ok-push-in-None.ensures.items, w.in_ok-unit-in-None.ensures.same)
+            (invariant.so_far ∙ ap (λ l. items ++ l) (split ∙ ap (λ (o : Option ℕ). unwrap_or o n ∷ later o) w.in-None.is) ∙ sym (append_assoc items (n ∷ []) (units_from numbers (n + 1) (drop (i + 1) rows))))
+      ];
     }
 
-pub returns : goal.returns
-returns c =
+pub returns-clause-units : goal.returns-clause-units
+returns-clause-units c =
     let rows = c.args.import.now.rows.now in
     let numbers = get_by_text c.args.import.now.catalogued.now in
     let items = c.loop-row.units.items in
-    record {
-      units = sym (c.loop-row.invariant.so_far ∙ (ap (λ l. items ++ units_from numbers c.loop-row.number l) (drop_all c.loop-row.row-index rows (omega (arith, c.loop-row-test.false))) ∙ append-nil items));
-      small = c.loop-row.invariant.small;
-    }
+    sym (c.loop-row.invariant.so_far ∙ (ap (λ l. items ++ units_from numbers c.loop-row.number l) (drop_all c.loop-row.row-index rows (omega (arith, c.loop-row-test.false))) ∙ append-nil items))

@@ -1,13 +1,9 @@
 use Rattle.std.proofs.Common.{◌≡◌, ◌+◌, ◌≤◌, ◌++◌, drop}
-use Rattle.std.specs.BTreeMap.{get_by_text}
-use Rattle.std.specs.List.{AllByRecursion}
-use Rattle.isad_core.specs.Limits.{IsNumber}
-use Rattle.csv_import.specs.KnownUnits.{units_from}
+use Rattle.csv_import.proofs.Common.{get_by_text, units_from}
 use Rattle.csv_import.proofs.row_entry.units_of.Given as goal
 
 abbrev pub invariant-loop-row : goal.invariant-loop-row
 invariant-loop-row l = record {
   few : l.number ≤ l.import.next + l.row-index;
-  small : AllByRecursion IsNumber l.units.items;
   so_far : units_from (get_by_text l.import.catalogued.now) l.import.next l.import.rows.now ≡ l.units.items ++ units_from (get_by_text l.import.catalogued.now) l.number (drop l.row-index l.import.rows.now);
 }

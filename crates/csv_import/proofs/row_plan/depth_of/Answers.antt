@@ -1,24 +1,9 @@
 use Rattle.std.proofs.Common.{◌≡◌, ℕ, ◌+◌, true, false, [], length, IfSome, Option, Some, None, sym, ap, subst, ◌∙◌, arith}
-use Rattle.std.specs.BTreeMap.{get_by_text}
-use Rattle.std.proofs.lemmas.List.{length-map}
-use Rattle.isad_core.specs.Limits.{IsNumber}
-use Rattle.isad_core.specs.Texts.{Bytes}
-use Rattle.tree_core.specs.Forest.{path}
-use Rattle.catalogue_core.specs.CatalogueMerge.{depth_under}
-use Rattle.catalogue_core.specs.EntryByRow.{number_there}
-use Rattle.catalogue_core.specs.Units.{Unit, is_from}
-use Rattle.csv_import.specs.RowPlan.{or_there}
+use Rattle.csv_import.proofs.Common.{Bytes, Unit, depth_under, get_by_text, is_from, length-map, number_there, or_there, path}
 use Rattle.csv_import.proofs.FoundPaths.{depth_found}
 use Rattle.csv_import.proofs.Planned.{knows_parent}
 use Rattle.csv_import.proofs.Tellings.{tells_so}
 use Rattle.csv_import.proofs.row_plan.depth_of.Goals as goal
-
-pub path_of-requires : goal.path_of-requires
-path_of-requires g c =
-    record {
-      small =
-          subst (λ o. IfSome o IsNumber) (sym c.kept_number.ensures) (c.requires.low c.in-Some.parent);
-    }
 
 pub returns-then-is_empty : goal.returns-then-is_empty
 returns-then-is_empty g c =

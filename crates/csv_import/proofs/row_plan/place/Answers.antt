@@ -1,11 +1,6 @@
 use Rattle.std.proofs.Common.{◌≡◌, Bool, true, false, cond, sym, ap, ◌∙◌}
-use Rattle.std.specs.Prelude.{is_some}
-use Rattle.sqlite.specs.Held.{state}
-use Rattle.catalogue_core.specs.CatalogueMerge.{depth_under, is_known}
-use Rattle.catalogue_core.specs.EntryByRow.{number_there}
-use Rattle.office_tables.proofs.Calls.{looks_nowhere}
-use Rattle.csv_import.specs.RowPlan.{at_depth}
 use Rattle.csv_import.specs.declared.row_plan.Placing.TheVariants as placing
+use Rattle.csv_import.proofs.Common.{at_depth, depth_under, is_known, is_some, looks_nowhere, number_there, state}
 use Rattle.csv_import.proofs.KnownUnits.{is_known_by, none_known}
 use Rattle.csv_import.proofs.Tellings.{tells_so}
 use Rattle.csv_import.proofs.row_plan.place.Goals as goal

@@ -1,14 +1,5 @@
 use Rattle.std.proofs.Common.{◌≤◌, drop}
-use Rattle.std.specs.BTreeMap.{get_by_text}
-use Rattle.sqlite.specs.Held.{state}
-use Rattle.sqlite.specs.State.{HasCleanDisk}
-use Rattle.isad_core.specs.Texts.{Bytes}
-use Rattle.catalogue_core.specs.GoodCatalogues.{AreGoodUnits}
-use Rattle.catalogue_core.specs.CatalogueMerge.{Catalogue}
-use Rattle.catalogue_statements.specs.Representation.{Represents}
-use Rattle.catalogue_statements.specs.declared.office.OfficeRow.{OfficeRow}
-use Rattle.office_tables.specs.Step.{LeavesUnchanged}
-use Rattle.csv_import.specs.KnownUnits.{KnowsUnits}
+use Rattle.csv_import.proofs.Common.{AreGoodUnits, Bytes, Catalogue, HasCleanDisk, KnowsUnits, LeavesUnchanged, OfficeRow, Represents, get_by_text, state}
 use Rattle.csv_import.proofs.Planned.{IsPlanned}
 use Rattle.csv_import.proofs.row_plan.plan.Given as goal
 

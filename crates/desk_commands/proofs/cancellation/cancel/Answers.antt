@@ -1,12 +1,8 @@
 use Rattle.std.proofs.Common.{◌≡◌, true, false, nat_eq, Option, Err, sym, subst, ◌∙◌}
-use Rattle.sqlite.specs.Held.{state}
-use Rattle.desk_core.specs.declared.refusal.Refusal.TheVariants.{OrderNotWaiting, UnknownOrder}
-use Rattle.desk_store.specs.Orders.{IsThere, order_with, state_number}
+use Rattle.desk_store.specs.Orders.{state_number}
 use Rattle.desk_store.specs.declared.orders.PlacedOrder.{PlacedOrder}
 use Rattle.office_core.specs.declared.command.Command.TheVariants as command
-use Rattle.state_encoding.specs.OfficeRows.{tables}
-use Rattle.refinement.proofs.Doings.{desk_passed, does_refuse, does_then}
-use Rattle.refinement.proofs.OrderRows.{not_placed, was_placed}
+use Rattle.desk_commands.proofs.Common.{IsThere, OrderNotWaiting, UnknownOrder, desk_passed, does_refuse, does_then, not_placed, order_with, state, tables, was_placed}
 use Rattle.desk_commands.proofs.Cancelled.{not_waiting, unknown_order, waits_or_not}
 use Rattle.desk_commands.proofs.cancellation.cancel.Goals as goal
 

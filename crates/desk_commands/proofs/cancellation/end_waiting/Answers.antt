@@ -1,9 +1,6 @@
 use Rattle.std.proofs.Common.{arith}
+use Rattle.desk_commands.proofs.Common.{cut_after, desk_passed, does_pass, looks_nowhere, state, tables}
 use Rattle.desk_commands.proofs.KnownNumbers.{kept_waiting}
-use Rattle.office_tables.proofs.Calls.{cut_after, looks_nowhere}
-use Rattle.sqlite.specs.Held.{state}
-use Rattle.state_encoding.specs.OfficeRows.{tables}
-use Rattle.refinement.proofs.Doings.{desk_passed, does_pass}
 use Rattle.desk_commands.proofs.Cancelled.{cancels}
 use Rattle.desk_commands.proofs.cancellation.end_waiting.Goals as goal
 

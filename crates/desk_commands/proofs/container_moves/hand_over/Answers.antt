@@ -1,11 +1,8 @@
 use Rattle.std.proofs.Common.{◌∷◌, [], refl}
-use Rattle.std.specs.Prelude.{⊤}
-use Rattle.desk_store.specs.Holdings.{with_place}
-use Rattle.desk_store.specs.Orders.{with_order_state}
 use Rattle.desk_store.proofs.MadeInTurn.{legible_state, makes_then}
 use Rattle.office_tables.specs.Schema as tables
 use Rattle.office_tables.proofs.StoreCalls.{as_updates}
-use Rattle.refinement.proofs.Doings.{makes_passed}
+use Rattle.desk_commands.proofs.Common.{makes_passed, with_order_state, with_place, ⊤}
 use Rattle.desk_commands.proofs.container_moves.hand_over.Goals as goal
 
 pub set_place-requires : goal.set_place-requires

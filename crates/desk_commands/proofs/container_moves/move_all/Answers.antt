@@ -1,15 +1,8 @@
 use Rattle.std.proofs.Common.{ℕ, ◌<◌, ◌^◌, List, ◌∷◌, [], take, get_or, sym, subst, arith}
-use Rattle.std.proofs.lemmas.List.{take_more, take_all}
-use Rattle.sqlite.specs.Held.{state}
-use Rattle.isad_core.specs.Limits.{IsNumber}
-use Rattle.desk_core.specs.DeskRows.{HoldingRow}
-use Rattle.desk_store.specs.Representation.{RepresentsDesk}
 use Rattle.office_tables.specs.Schema as tables
-use Rattle.office_tables.proofs.Calls.{cut_after, cut_then, early, goes_nowhere, goes_then}
 use Rattle.office_tables.proofs.Causes.{cause_then, still_unlimited}
 use Rattle.office_tables.proofs.Touching.{nothing_touched, touched_again}
-use Rattle.refinement.proofs.Doings.{makes_passed}
-use Rattle.desk_commands.specs.ContainerMoves.{with_all_placed}
+use Rattle.desk_commands.proofs.Common.{HoldingRow, IsNumber, RepresentsDesk, cut_after, cut_then, early, goes_nowhere, goes_then, makes_passed, state, take_all, take_more, with_all_placed}
 use Rattle.desk_commands.proofs.MovedAll.{all_taken, each_of, legible_all, one_more_placed}
 use Rattle.desk_commands.proofs.container_moves.move_all.Goals as goal
 

@@ -1,15 +1,7 @@
 use Rattle.std.proofs.Common.{Option, Err, sym, ap, subst, ◌∙◌}
-use Rattle.std.specs.Prelude.{is_some}
-use Rattle.sqlite.specs.Held.{state}
-use Rattle.desk_core.specs.declared.refusal.Refusal.TheVariants.{NotIssued}
-use Rattle.desk_core.specs.declared.reader.Place.{Place}
-use Rattle.desk_store.specs.Storage.{IsHeaded, container_with}
-use Rattle.desk_store.specs.declared.queue_heads.QueueHead.{QueueHead}
-use Rattle.office_core.specs.State.{order_out}
 use Rattle.office_core.specs.declared.command.Command.TheVariants as command
 use Rattle.desk_core.proofs.UnknownContainers.{nothing_found}
-use Rattle.refinement.proofs.Doings.{does_pass, does_refuse, does_then, is_refused}
-use Rattle.refinement.proofs.StorageShown.{legible_storage, shows_storage, storage_of}
+use Rattle.desk_commands.proofs.Common.{IsHeaded, NotIssued, Place, QueueHead, container_with, does_pass, does_refuse, does_then, is_refused, is_some, legible_storage, order_out, shows_storage, state, storage_of}
 use Rattle.desk_commands.proofs.HeadTold.{none_queued, queued_at}
 use Rattle.desk_commands.proofs.Returned.{in_house, not_issued, unknown_container}
 use Rattle.desk_commands.proofs.container_return.return_container.Goals as goal

@@ -1,13 +1,5 @@
 use Rattle.std.proofs.Common.{sym, ap, subst, ◌∙◌}
-use Rattle.std.specs.Prelude.{option_map}
-use Rattle.sqlite.specs.Effect.{Database}
-use Rattle.sqlite.specs.Held.{state}
-use Rattle.desk_store.specs.declared.orders.WaitingOrder.{WaitingOrder}
-use Rattle.state_encoding.specs.OfficeRows.{tables}
-use Rattle.office_tables.proofs.Calls.{early, looks_then}
-use Rattle.refinement.specs.Representation.{RepresentsState}
-use Rattle.refinement.proofs.Doings.{after_look, desk_passed, does_then, is_refused, office_passed}
-use Rattle.refinement.proofs.Judged.{judged_now}
+use Rattle.desk_commands.proofs.Common.{Database, RepresentsState, WaitingOrder, after_look, desk_passed, does_then, early, is_refused, judged_now, looks_then, office_passed, option_map, state, tables}
 use Rattle.desk_commands.proofs.Issued.{decided_as, first_order}
 use Rattle.desk_commands.proofs.issuance.issue_known.Goals as goal
 

@@ -1,7 +1,5 @@
-use Rattle.sqlite.specs.Held.{state}
-use Rattle.state_encoding.proofs.LegibleRows.{desk_legible}
+use Rattle.desk_commands.proofs.Common.{desk_legible, does_pass, state}
 use Rattle.desk_commands.proofs.DayOpened.{house_of, opens_day, shows_house}
-use Rattle.refinement.proofs.Doings.{does_pass}
 use Rattle.desk_commands.proofs.new_day.begin_day.Goals as goal
 
 pub returns-in_err-open_day : goal.returns-in_err-open_day

@@ -1,13 +1,7 @@
 use Rattle.std.proofs.Common.{◌≡◌, Bool, true, false, not, Err, refl, sym, ap, ◌∙◌}
-use Rattle.std.specs.List.{list_any}
-use Rattle.sqlite.specs.Held.{state}
-use Rattle.office_core.specs.State.{containers, is_out}
-use Rattle.office_core.specs.Words.{is_empty}
 use Rattle.office_core.specs.declared.command.Command.TheVariants as command
-use Rattle.desk_core.specs.declared.refusal.Refusal.TheVariants.{StillIssued}
-use Rattle.state_encoding.specs.OfficeRows.{tables}
+use Rattle.desk_commands.proofs.Common.{StillIssued, containers, desk_passed, does_refuse, does_then, is_empty, is_out, list_any, state, tables}
 use Rattle.desk_commands.proofs.DayOpened.{refuses_day}
-use Rattle.refinement.proofs.Doings.{desk_passed, does_refuse, does_then}
 use Rattle.desk_commands.proofs.StillOut.{out_or_none}
 use Rattle.desk_commands.proofs.new_day.open.Goals as goal
 

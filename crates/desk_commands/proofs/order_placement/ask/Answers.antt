@@ -1,7 +1,7 @@
 use Rattle.std.proofs.Common.{nat_eq, ap, ◌∙◌}
-use Rattle.std.specs.List.{list_any}
 use Rattle.desk_core.specs.declared.order.Ask.{Ask}
 use Rattle.desk_store.specs.declared.reader_summary.LiveOrder.{LiveOrder}
+use Rattle.desk_commands.proofs.Common.{list_any}
 use Rattle.desk_commands.proofs.order_placement.ask.Goals as goal
 
 pub returns : goal.returns

@@ -1,7 +1,5 @@
 use Rattle.std.proofs.Common.{refl}
-use Rattle.sqlite.specs.Held.{state}
-use Rattle.office_tables.proofs.Calls.{looks_nowhere}
-use Rattle.refinement.proofs.Doings.{does_then, is_refused}
+use Rattle.desk_commands.proofs.Common.{does_then, is_refused, looks_nowhere, state}
 use Rattle.desk_commands.proofs.Ordered.{may_order, must_not}
 use Rattle.desk_commands.proofs.order_placement.decide.Goals as goal
 

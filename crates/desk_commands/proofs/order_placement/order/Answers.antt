@@ -1,9 +1,5 @@
 use Rattle.std.proofs.Common.{sym, ap, ◌∙◌}
-use Rattle.std.specs.Prelude.{is_some}
-use Rattle.desk_store.specs.Readers.{card_of}
-use Rattle.state_encoding.specs.OfficeRows.{tables}
-use Rattle.refinement.proofs.Doings.{desk_passed, does_then, is_refused}
-use Rattle.refinement.proofs.CardsShown.{has_card}
+use Rattle.desk_commands.proofs.Common.{card_of, desk_passed, does_then, has_card, is_refused, is_some, tables}
 use Rattle.desk_commands.proofs.Ordered.{not_known}
 use Rattle.desk_commands.proofs.order_placement.order.Goals as goal
 

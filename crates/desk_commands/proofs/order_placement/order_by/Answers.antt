@@ -1,5 +1,4 @@
-use Rattle.refinement.proofs.Doings.{does_then, office_passed}
-use Rattle.refinement.proofs.Judged.{judged_now}
+use Rattle.desk_commands.proofs.Common.{does_then, judged_now, office_passed}
 use Rattle.desk_commands.proofs.order_placement.order_by.Goals as goal
 
 pub returns-in_err-is_open : goal.returns-in_err-is_open

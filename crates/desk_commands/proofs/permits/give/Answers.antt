@@ -1,10 +1,6 @@
 use Rattle.std.proofs.Common.{arith}
+use Rattle.desk_commands.proofs.Common.{cut_after, desk_legible, does_pass, looks_nowhere, state, tables}
 use Rattle.desk_commands.proofs.KnownNumbers.{kept_permitted}
-use Rattle.office_tables.proofs.Calls.{cut_after, looks_nowhere}
-use Rattle.sqlite.specs.Held.{state}
-use Rattle.state_encoding.specs.OfficeRows.{tables}
-use Rattle.state_encoding.proofs.LegibleRows.{desk_legible}
-use Rattle.refinement.proofs.Doings.{does_pass}
 use Rattle.desk_commands.proofs.Permitted.{may_have, permits}
 use Rattle.desk_commands.proofs.permits.give.Goals as goal
 

@@ -1,7 +1,6 @@
 use Rattle.std.proofs.Common.{sym, ◌∙◌}
 use Rattle.refinement.specs.Representation.{office_of as office_row}
-use Rattle.refinement.proofs.Doings.{catalogue_passed, does_then, is_refused}
-use Rattle.refinement.proofs.Judged.{judged_now}
+use Rattle.desk_commands.proofs.Common.{catalogue_passed, does_then, is_refused, judged_now}
 use Rattle.desk_commands.proofs.Permitted.{no_unit}
 use Rattle.desk_commands.proofs.permits.give_for.Goals as goal
 

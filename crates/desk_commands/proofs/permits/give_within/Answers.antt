@@ -1,9 +1,6 @@
 use Rattle.std.proofs.Common.{true, false, sym, ap, subst, ◌∙◌}
-use Rattle.desk_store.specs.Permits.{by_unit, permits_of}
-use Rattle.state_encoding.specs.OfficeRows.{tables}
-use Rattle.office_tables.specs.Order.{IsOrdered}
-use Rattle.refinement.proofs.Doings.{desk_passed, does_then, is_refused}
 use Rattle.desk_commands.specs.Permits.{later_of}
+use Rattle.desk_commands.proofs.Common.{IsOrdered, by_unit, desk_passed, does_then, is_refused, permits_of, tables}
 use Rattle.desk_commands.proofs.Permitted.{full_is, last_check, later_read}
 use Rattle.desk_commands.proofs.permits.give_within.Goals as goal
 

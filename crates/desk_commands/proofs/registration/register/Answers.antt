@@ -1,10 +1,6 @@
 use Rattle.std.proofs.Common.{ℕ, Option, Ok, subst}
-use Rattle.std.specs.Prelude.{⊤}
-use Rattle.sqlite.specs.Held.{state}
 use Rattle.office_core.specs.declared.command.Command.TheVariants as command
-use Rattle.state_encoding.specs.OfficeRows.{tables}
-use Rattle.refinement.specs.CommandSteps.{CarriesOut}
-use Rattle.refinement.proofs.Doings.{desk_passed}
+use Rattle.desk_commands.proofs.Common.{CarriesOut, desk_passed, state, tables, ⊤}
 use Rattle.desk_commands.proofs.Registered.{reply_for, registers}
 use Rattle.desk_commands.proofs.registration.register.Goals as goal
 

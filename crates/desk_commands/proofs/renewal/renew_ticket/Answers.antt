@@ -1,10 +1,6 @@
 use Rattle.std.proofs.Common.{Err, sym, ◌∙◌}
-use Rattle.sqlite.specs.Held.{state}
-use Rattle.desk_core.specs.declared.refusal.Refusal.TheVariants.{UnknownTicket}
 use Rattle.office_core.specs.declared.command.Command.TheVariants as command
-use Rattle.state_encoding.specs.OfficeRows.{tables}
-use Rattle.refinement.proofs.CardsShown.{known_ticket}
-use Rattle.refinement.proofs.Doings.{desk_passed, does_refuse, does_then}
+use Rattle.desk_commands.proofs.Common.{UnknownTicket, desk_passed, does_refuse, does_then, known_ticket, state, tables}
 use Rattle.desk_commands.proofs.Renewed.{not_known}
 use Rattle.desk_commands.proofs.renewal.renew_ticket.Goals as goal
 

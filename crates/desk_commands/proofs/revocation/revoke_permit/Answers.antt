@@ -1,7 +1,5 @@
 use Rattle.std.proofs.Common.{sym, ◌∙◌}
-use Rattle.state_encoding.specs.OfficeRows.{tables}
-use Rattle.refinement.proofs.CardsShown.{known_ticket}
-use Rattle.refinement.proofs.Doings.{desk_passed, does_then, is_refused}
+use Rattle.desk_commands.proofs.Common.{desk_passed, does_then, is_refused, known_ticket, tables}
 use Rattle.desk_commands.proofs.Revoked.{no_ticket}
 use Rattle.desk_commands.proofs.revocation.revoke_permit.Goals as goal
 

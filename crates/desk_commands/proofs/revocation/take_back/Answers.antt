@@ -1,18 +1,12 @@
-use Rattle.desk_commands.proofs.KnownNumbers.{kept_ticket, kept_unit}
-use Rattle.office_tables.proofs.Calls.{cut_after, looks_nowhere}
-use Rattle.sqlite.specs.Held.{state}
 use Rattle.office_core.specs.declared.command.Command.TheVariants as command
-use Rattle.state_encoding.specs.OfficeRows.{tables}
 use Rattle.refinement.specs.Gate.{OthersAreOpen}
-use Rattle.refinement.proofs.Doings.{desk_passed, does_pass}
 use Rattle.refinement.proofs.Passing.{passed_where}
-use Rattle.desk_commands.proofs.Revoked.{gate_is_left, judged, revokes_near, represents}
-use Rattle.desk_commands.proofs.revocation.take_back.Goals as goal
 use Rattle.std.proofs.Common.{refl, arith}
 use Rattle.office_core.specs.declared.done.Done.TheVariants as done
-
-pub pass_near-requires : goal.pass_near-requires
-pass_near-requires g c = record { small = rw c.get.ensures.same c.get.ensures.small }
+use Rattle.desk_commands.proofs.Common.{cut_after, desk_passed, does_pass, looks_nowhere, state, tables}
+use Rattle.desk_commands.proofs.KnownNumbers.{kept_ticket, kept_unit}
+use Rattle.desk_commands.proofs.Revoked.{gate_is_left, judged, revokes_near, represents}
+use Rattle.desk_commands.proofs.revocation.take_back.Goals as goal
 
 pub returns-in_err-reader : goal.returns-in_err-reader
 returns-in_err-reader g c =
@@ -45,4 +39,4 @@ returns g c =
       last = λ s so. gate_is_left s c.args.ticket c.args.unit so.1;
       answers = λ clean s so it. refl;
     })
-    (λ s sound so. revokes_near s sound c.args.ticket c.args.unit) made.goes (rw (c.get.ensures.same, c.in_ok-read.ensures.same) at c.pass_near.ensures.answers)
+    (λ s sound so. revokes_near s sound c.args.ticket c.args.unit) made.goes (rw c.in_ok-read.ensures.same at c.pass_near.ensures.answers)

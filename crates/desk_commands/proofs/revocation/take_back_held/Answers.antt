@@ -1,9 +1,5 @@
 use Rattle.std.proofs.Common.{◌≡◌, true, false, not, sym, ap, subst, ◌∙◌}
-use Rattle.std.specs.Prelude.{is_some}
-use Rattle.desk_store.specs.Permits.{by_unit, permits_of}
-use Rattle.state_encoding.specs.OfficeRows.{tables}
-use Rattle.office_tables.specs.Order.{IsOrdered}
-use Rattle.refinement.proofs.Doings.{desk_passed, does_then, is_refused}
+use Rattle.desk_commands.proofs.Common.{IsOrdered, by_unit, desk_passed, does_then, is_refused, is_some, permits_of, tables}
 use Rattle.desk_commands.proofs.Permitted.{has_read}
 use Rattle.desk_commands.proofs.Revoked.{no_permit}
 use Rattle.desk_commands.proofs.revocation.take_back_held.Goals as goal

@@ -1,16 +1,10 @@
 use Rattle.std.proofs.Common.{ℕ, List, ◌∷◌, [], refl, sym, subst, ◌∙◌}
-use Rattle.sqlite.specs.Held.{state}
 use Rattle.desk_core.specs.declared.reader.Place.TheVariants.{Desk}
-use Rattle.desk_store.specs.Runs.{TakesEachOnce, next_run, with_run}
-use Rattle.desk_store.specs.Representation.{RepresentsDesk}
-use Rattle.state_encoding.specs.OfficeRows.{tables}
-use Rattle.state_encoding.proofs.LegibleRows.{desk_legible}
+use Rattle.desk_store.specs.Runs.{next_run}
 use Rattle.office_tables.specs.Schema as schema
-use Rattle.office_tables.proofs.Calls.{cut_then, early, goes_then}
 use Rattle.office_tables.proofs.Causes.{cause_then, still_unlimited}
 use Rattle.office_tables.proofs.Touching.{touched_again, touched_wider}
-use Rattle.refinement.proofs.Doings.{does_pass}
-use Rattle.desk_commands.specs.ContainerMoves.{with_all_placed}
+use Rattle.desk_commands.proofs.Common.{RepresentsDesk, TakesEachOnce, cut_then, desk_legible, does_pass, early, goes_then, state, tables, with_all_placed, with_run}
 use Rattle.desk_commands.proofs.Fetched.{taken_once}
 use Rattle.desk_commands.proofs.RunMade.{legible_run, runs_out, runs_with, today_legible}
 use Rattle.desk_commands.proofs.run_creation.bring.Goals as goal

@@ -1,6 +1,5 @@
 use Rattle.std.proofs.Common.{subst, sym, ◌∙◌}
-use Rattle.std.specs.List.{AllByRecursion}
-use Rattle.isad_core.specs.Limits.{IsNumber}
+use Rattle.desk_commands.proofs.Common.{AllByRecursion, IsNumber}
 use Rattle.desk_commands.proofs.run_creation.bring_due.Goals as goal
 
 pub bring-requires : goal.bring-requires

@@ -1,8 +1,5 @@
 use Rattle.std.proofs.Common.{ℕ, List, [], ◌∷◌, ◌++◌, map, take, get_or, sym, ap, subst, ◌∙◌, arith}
-use Rattle.std.specs.List.{AllByRecursion}
-use Rattle.std.proofs.lemmas.List.{map-append, take_all, take_more}
-use Rattle.isad_core.specs.Limits.{IsNumber}
-use Rattle.desk_store.specs.declared.container_orders.ContainerOrder.{ContainerOrder}
+use Rattle.desk_commands.proofs.Common.{AllByRecursion, ContainerOrder, IsNumber, map-append, take_all, take_more}
 use Rattle.desk_commands.proofs.run_creation.containers_of.Goals as goal
 
 one_more : (ns : List ℕ) (n : ℕ) → AllByRecursion IsNumber ns → IsNumber n → AllByRecursion IsNumber (ns ++ n ∷ [])

@@ -1,7 +1,5 @@
 use Rattle.std.proofs.Common.{◌≡◌, map, take}
-use Rattle.std.specs.List.{AllByRecursion}
-use Rattle.isad_core.specs.Limits.{IsNumber}
-use Rattle.desk_store.specs.declared.container_orders.ContainerOrder.{ContainerOrder}
+use Rattle.desk_commands.proofs.Common.{AllByRecursion, ContainerOrder, IsNumber}
 use Rattle.desk_commands.proofs.run_creation.containers_of.Given as goal
 
 abbrev pub invariant-loop-order : goal.invariant-loop-order

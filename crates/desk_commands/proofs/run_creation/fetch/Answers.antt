@@ -1,16 +1,6 @@
 use Rattle.std.proofs.Common.{◌≡◌, Err, sym, ap, subst, ◌∙◌}
-use Rattle.sqlite.specs.Effect.{Database}
-use Rattle.sqlite.specs.Held.{state}
-use Rattle.desk_core.specs.declared.reader.Limits.{Limits}
-use Rattle.desk_core.specs.declared.refusal.Refusal.TheVariants.{NothingToMove}
-use Rattle.office_core.specs.Words.{is_empty}
 use Rattle.office_core.specs.declared.command.Command.TheVariants as command
-use Rattle.state_encoding.specs.OfficeRows.{tables}
-use Rattle.office_tables.proofs.Calls.{early, looks_then}
-use Rattle.refinement.specs.Representation.{RepresentsState}
-use Rattle.refinement.proofs.Doings.{after_look, desk_passed, does_refuse, does_then, office_passed}
-use Rattle.refinement.proofs.Judged.{judged_now}
-use Rattle.desk_commands.specs.RunCreation.{due_of, taken_by}
+use Rattle.desk_commands.proofs.Common.{Database, Limits, NothingToMove, RepresentsState, after_look, desk_passed, does_refuse, does_then, due_of, early, is_empty, judged_now, looks_then, office_passed, state, tables, taken_by}
 use Rattle.desk_commands.proofs.RunMade.{nothing_due}
 use Rattle.desk_commands.proofs.run_creation.fetch.Goals as goal
 

@@ -1,14 +1,7 @@
 use Rattle.std.proofs.Common.{◌≡◌, ◌≤◌, cond, [], ◌∷◌, ◌++◌, length, filter, take, get_or, sym, ap, subst, ◌∙◌, arith}
-use Rattle.std.specs.Prelude.{⊤}
-use Rattle.std.proofs.lemmas.List.{append-nil, take_all}
 use Rattle.std.proofs.lemmas.List.Elements.{filter_more}
-use Rattle.sqlite.specs.Held.{state}
 use Rattle.desk_store.proofs.ToldCalls.{ends_well, shown_on}
-use Rattle.desk_store.specs.declared.container_orders.ContainerOrder.{ContainerOrder}
-use Rattle.office_core.specs.State.{opens}
-use Rattle.office_tables.proofs.Calls.{early, looks_then}
-use Rattle.refinement.specs.AccessConditions.{CanBeJudged, RepresentsWhole}
-use Rattle.refinement.proofs.Doings.{tells_full, tells_passed_later}
+use Rattle.desk_commands.proofs.Common.{CanBeJudged, ContainerOrder, RepresentsWhole, append-nil, early, looks_then, opens, state, take_all, tells_full, tells_passed_later, ⊤}
 use Rattle.desk_commands.proofs.Fetched.{enough, one_more_fits}
 use Rattle.desk_commands.proofs.run_creation.first_open.Goals.{then-branch+in_ok-push, else-branch}
 use Rattle.desk_commands.proofs.run_creation.first_open.Goals as goal

@@ -1,11 +1,6 @@
 use Rattle.std.proofs.Common.{◌≡◌, ◌≤◌, filter, take, length}
-use Rattle.sqlite.specs.Held.{state}
 use Rattle.sqlite.specs.State.{HasCleanDisk}
-use Rattle.desk_store.specs.declared.container_orders.ContainerOrder.{ContainerOrder}
-use Rattle.office_core.specs.State.{State, opens}
-use Rattle.office_tables.specs.Step.{LeavesUnchanged}
-use Rattle.refinement.specs.AccessConditions.{CanBeJudged}
-use Rattle.refinement.specs.Representation.{RepresentsState}
+use Rattle.desk_commands.proofs.Common.{CanBeJudged, ContainerOrder, LeavesUnchanged, RepresentsState, State, opens, state}
 use Rattle.desk_commands.proofs.run_creation.first_open.Given as goal
 
 abbrev pub invariant-loop-order : goal.invariant-loop-order

@@ -1,6 +1,4 @@
-use Rattle.sqlite.specs.Held.{state}
-use Rattle.state_encoding.specs.OfficeRows.{tables}
-use Rattle.refinement.proofs.Doings.{desk_passed}
+use Rattle.desk_commands.proofs.Common.{desk_passed, state, tables}
 use Rattle.desk_commands.proofs.Seated.{leaves}
 use Rattle.desk_commands.proofs.seats.free_seat.Goals as goal
 

@@ -1,7 +1,5 @@
 use Rattle.std.proofs.Common.{◌∙◌}
-use Rattle.state_encoding.specs.OfficeRows.{tables}
-use Rattle.refinement.proofs.CardsShown.{holder_shown}
-use Rattle.refinement.proofs.Doings.{desk_passed, does_then, is_refused}
+use Rattle.desk_commands.proofs.Common.{desk_passed, does_then, holder_shown, is_refused, tables}
 use Rattle.desk_commands.proofs.Seated.{may_leave, must_stay}
 use Rattle.desk_commands.proofs.seats.leave_seat.Goals as goal
 

@@ -1,4 +1,4 @@
-use Rattle.std.proofs.lemmas.List.Sorted.{IsNonDecreasingBy-from_sort}
+use Rattle.desk_commands.proofs.Common.{IsNonDecreasingBy-from_sort}
 use Rattle.desk_commands.proofs.seats.numbers_of.Goals as goal
 
 pub returns-clause-rise : goal.returns-clause-rise

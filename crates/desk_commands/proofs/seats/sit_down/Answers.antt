@@ -1,7 +1,5 @@
 use Rattle.std.proofs.Common.{nat_eq, ap, ◌∙◌}
-use Rattle.std.specs.List.{list_any}
-use Rattle.state_encoding.specs.OfficeRows.{tables}
-use Rattle.refinement.proofs.Doings.{desk_passed, does_then, is_refused}
+use Rattle.desk_commands.proofs.Common.{desk_passed, does_then, is_refused, list_any, tables}
 use Rattle.desk_commands.proofs.Seated.{may_sit, must_stand, numbers_told}
 use Rattle.desk_commands.proofs.seats.sit_down.Goals as goal
 

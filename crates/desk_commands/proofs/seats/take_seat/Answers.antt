@@ -1,7 +1,5 @@
 use Rattle.std.proofs.Common.{◌∙◌}
-use Rattle.state_encoding.specs.OfficeRows.{tables}
-use Rattle.refinement.proofs.CardsShown.{holder_shown}
-use Rattle.refinement.proofs.Doings.{desk_passed, does_then}
+use Rattle.desk_commands.proofs.Common.{desk_passed, does_then, holder_shown, tables}
 use Rattle.desk_commands.proofs.seats.take_seat.Goals as goal
 
 pub returns-in_err-who : goal.returns-in_err-who

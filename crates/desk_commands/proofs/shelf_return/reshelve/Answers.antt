@@ -1,12 +1,7 @@
 use Rattle.std.proofs.Common.{◌≡◌, true, false, Err, sym, ap, ◌∙◌}
-use Rattle.sqlite.specs.Held.{state}
 use Rattle.desk_core.specs.Runs as decided
-use Rattle.desk_core.specs.declared.refusal.Refusal.TheVariants.{NothingToMove}
-use Rattle.office_core.specs.State.{idle}
-use Rattle.office_core.specs.Words.{is_empty}
 use Rattle.office_core.specs.declared.command.Command.TheVariants as command
-use Rattle.state_encoding.specs.OfficeRows.{tables}
-use Rattle.refinement.proofs.Doings.{desk_passed, does_refuse, does_then}
+use Rattle.desk_commands.proofs.Common.{NothingToMove, desk_passed, does_refuse, does_then, idle, is_empty, state, tables}
 use Rattle.desk_commands.proofs.Reshelved.{nothing_idle, picks_idle}
 use Rattle.desk_commands.proofs.shelf_return.reshelve.Goals as goal
 

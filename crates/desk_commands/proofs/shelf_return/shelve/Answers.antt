@@ -1,16 +1,7 @@
 use Rattle.std.proofs.Common.{ℕ, List, Ok, sym, subst, ◌∙◌}
-use Rattle.std.specs.List.{AllByRecursion}
-use Rattle.sqlite.specs.Held.{state}
-use Rattle.isad_core.specs.Limits.{IsNumber}
-use Rattle.desk_core.specs.declared.reader.Place.TheVariants.{Shelf}
-use Rattle.desk_store.specs.Representation.{RepresentsDesk}
 use Rattle.office_core.specs.declared.command.Command.TheVariants as command
 use Rattle.office_core.specs.declared.done.Done.TheVariants as done
-use Rattle.state_encoding.specs.OfficeRows.{tables}
-use Rattle.state_encoding.proofs.LegibleRows.{desk_legible}
-use Rattle.refinement.specs.CommandSteps.{CarriesOutStep}
-use Rattle.refinement.proofs.Doings.{does_pass}
-use Rattle.desk_commands.specs.ContainerMoves.{with_all_placed}
+use Rattle.desk_commands.proofs.Common.{AllByRecursion, CarriesOutStep, IsNumber, RepresentsDesk, Shelf, desk_legible, does_pass, state, tables, with_all_placed}
 use Rattle.desk_commands.proofs.Reshelved.{reshelves, small_idle}
 use Rattle.desk_commands.proofs.shelf_return.shelve.Goals as goal
 

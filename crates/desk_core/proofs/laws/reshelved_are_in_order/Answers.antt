@@ -1,5 +1,5 @@
 use Rattle.std.proofs.Common.{ℕ, nat_lt}
-use Rattle.std.proofs.lemmas.List.Sorted.{IsStrictWeakOrder-by_number}
+use Rattle.desk_core.proofs.Common.{IsStrictWeakOrder-by_number}
 use Rattle.desk_core.proofs.OrderLemmas.{in_order-sorts}
 use Rattle.desk_core.proofs.laws.reshelved_are_in_order.Goals as goal
 

@@ -1,6 +1,4 @@
-use Rattle.std.proofs.lemmas.List.Sorted.{ranks_by}
-use Rattle.desk_core.specs.Slips.{is_shelved_before}
-use Rattle.desk_core.specs.declared.run.Candidate.{Candidate}
+use Rattle.desk_core.proofs.Common.{Candidate, is_shelved_before, ranks_by}
 use Rattle.desk_core.proofs.OrderLemmas.{in_order-sorts}
 use Rattle.desk_core.proofs.SlipLemmas.{shelf_order-ranks}
 use Rattle.desk_core.proofs.laws.slip_lines_are_in_order.Goals as goal

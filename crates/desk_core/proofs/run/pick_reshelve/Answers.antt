@@ -1,5 +1,5 @@
 use Rattle.std.proofs.Common.{ap, ◌∙◌, nat_lt}
-use Rattle.desk_core.specs.Orders.{in_order}
+use Rattle.desk_core.proofs.Common.{in_order}
 use Rattle.desk_core.proofs.RunLemmas.{sorted_numbers-is}
 use Rattle.desk_core.proofs.run.pick_reshelve.Goals as goal
 

@@ -1,7 +1,5 @@
 use Rattle.std.proofs.Common.{◌≡◌, map, rules, nat_lt, Bor, ◌∙◌}
-use Rattle.std.proofs.lemmas.List.Sorted.{answers_always}
-use Rattle.desk_core.specs.declared.run.Candidate.{Candidate}
-use Rattle.desk_core.specs.Orders.{in_order}
+use Rattle.desk_core.proofs.Common.{Candidate, answers_always, in_order}
 use Rattle.desk_core.proofs.OrderLemmas.{sorted_by_number-is}
 use Rattle.desk_core.proofs.RunLemmas.{run_of-copies}
 use Rattle.desk_core.proofs.run.pick_run.Goals as goal

@@ -1,6 +1,5 @@
 use Rattle.std.proofs.Common.{sym, eq-eqb, ⊎_elim, arith, nat_eq}
-use Rattle.std.proofs.lemmas.Bool.{cases_lt}
-use Rattle.std.proofs.lemmas.List.Folds.{list_any_at}
+use Rattle.desk_core.proofs.Common.{cases_lt, list_any_at}
 use Rattle.desk_core.proofs.SeatLemmas.{free_seat-at, free_seat-none}
 use Rattle.desk_core.proofs.seat.least_free_seat.Goals as goal
 

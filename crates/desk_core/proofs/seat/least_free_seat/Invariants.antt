@@ -1,5 +1,5 @@
 use Rattle.std.proofs.Common.{◌≡◌, ℕ, ◌<◌, ◌≤◌, get_or, true, nat_eq}
-use Rattle.std.specs.List.{list_any}
+use Rattle.desk_core.proofs.Common.{list_any}
 use Rattle.desk_core.proofs.seat.least_free_seat.Given as goal
 
 -- every seat below the least is taken, and none of those that were looked at is the least

@@ -1,6 +1,6 @@
 use Rattle.std.proofs.Common.{◌≡◌, ◌^◌, ◌<◌, IfOk, List, ℕ, ap, ◌∙◌, subst, rules}
-use Rattle.std.specs.Fmt.{styled_decimal}
 use Rattle.std.specs.String.{string_bytes}
+use Rattle.desk_core.proofs.Common.{styled_decimal}
 use Rattle.desk_core.proofs.SlipLemmas.{columns, slip_numbers-is, styled_decimal-at_right}
 use Rattle.desk_core.proofs.slip.numbers_of.Goals as goal
 

@@ -1,9 +1,5 @@
 use Rattle.std.proofs.Common.{◌≡◌, ◌++◌, map, take, rules, ap, ◌∙◌, Bor}
-use Rattle.std.specs.List.{flat_map}
-use Rattle.std.specs.Ordering.{is_lt}
-use Rattle.std.proofs.lemmas.List.Sorted.{answers_always, ranks_by}
-use Rattle.desk_core.specs.declared.run.Candidate.{Candidate}
-use Rattle.desk_core.specs.Slips.{shelf_order, slip_head, slip_line}
+use Rattle.desk_core.proofs.Common.{Candidate, answers_always, flat_map, is_lt, ranks_by, shelf_order, slip_head, slip_line}
 use Rattle.desk_core.proofs.SlipLemmas.{lines-of_lent, shelf_order-ranks}
 use Rattle.desk_core.proofs.slip.slip_text.Goals as goal
 

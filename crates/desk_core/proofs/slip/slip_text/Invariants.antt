@@ -1,7 +1,5 @@
 use Rattle.std.proofs.Common.{◌≡◌, ◌++◌, take, Bor}
-use Rattle.std.specs.List.{flat_map}
-use Rattle.desk_core.specs.declared.run.Candidate.{Candidate}
-use Rattle.desk_core.specs.Slips.{slip_line}
+use Rattle.desk_core.proofs.Common.{Candidate, flat_map, slip_line}
 use Rattle.desk_core.proofs.slip.slip_text.Given as goal
 
 -- the head, and a line for each of the first

@@ -1,15 +1,8 @@
 use Rattle.std.proofs.Common.{List, map, refl, ap, ◌∙◌}
-use Rattle.sqlite.specs.Held.{state}
 use Rattle.desk_store.specs.declared.container_orders.ContainerOrder.{ContainerOrder}
-use Rattle.office_core.specs.Json.{list}
-use Rattle.office_core.specs.declared.query.Answer.TheVariants.{Json}
 use Rattle.office_core.specs.declared.query.Query.TheVariants as query
-use Rattle.state_encoding.specs.OfficeRows.{tables}
-use Rattle.serde_json.specs.Written.{compact_text}
-use Rattle.refinement.proofs.Answerings.{answers_by, desk_answers_passed}
-use Rattle.desk_queries.specs.JsonValues.{loan_data}
+use Rattle.desk_queries.proofs.Common.{Json, answers_by, compact_text, desk_answers_passed, list, loan_data, no_float, state, tables}
 use Rattle.desk_queries.proofs.IssuedTold.{issued_told}
-use Rattle.replies.proofs.Lists.{no_float}
 use Rattle.desk_queries.proofs.loans.issued_now.Goals as goal
 
 pub returns-in_err-loans : goal.returns-in_err-loans

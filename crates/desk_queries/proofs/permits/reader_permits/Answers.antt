@@ -1,18 +1,10 @@
 use Rattle.std.proofs.Common.{List, map, refl, sym, ap, ◌∙◌}
-use Rattle.sqlite.specs.Held.{state}
-use Rattle.desk_core.specs.declared.refusal.Refusal.TheVariants.{UnknownTicket}
 use Rattle.desk_store.specs.declared.reader_permits.Permit.{Permit}
-use Rattle.office_core.specs.Json.{list}
-use Rattle.office_core.specs.declared.query.Answer.TheVariants.{Json, Unknown}
 use Rattle.office_core.specs.declared.query.Query.TheVariants as query
-use Rattle.state_encoding.specs.OfficeRows.{tables}
 use Rattle.state_encoding.proofs.LegibleRows.{desk_legible}
 use Rattle.office_tables.proofs.Calls.{early, looks_then}
-use Rattle.serde_json.specs.Written.{compact_text}
 use Rattle.refinement.proofs.CardsShown.{known_ticket}
-use Rattle.refinement.proofs.Answerings.{answers_by, answers_passed_later, desk_answers_passed, still_shown}
-use Rattle.desk_queries.specs.JsonValues.{permit_data}
-use Rattle.replies.proofs.Lists.{no_float}
+use Rattle.desk_queries.proofs.Common.{Json, Unknown, UnknownTicket, answers_by, answers_passed_later, compact_text, desk_answers_passed, list, no_float, permit_data, state, still_shown, tables}
 use Rattle.desk_queries.proofs.PermitsTold.{has_ticket, no_ticket, permits_told}
 use Rattle.desk_queries.proofs.permits.reader_permits.Goals as goal
 

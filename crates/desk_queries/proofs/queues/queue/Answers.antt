@@ -1,15 +1,8 @@
 use Rattle.std.proofs.Common.{Option, sym, ap, ◌∙◌}
-use Rattle.std.specs.Prelude.{option_map}
-use Rattle.sqlite.specs.Held.{state}
-use Rattle.desk_core.specs.declared.refusal.Refusal.TheVariants.{UnknownContainer}
 use Rattle.desk_store.specs.declared.queues.ContainerQueue.{ContainerQueue}
-use Rattle.office_core.specs.Queries.{known_json}
-use Rattle.office_core.specs.declared.query.Answer.TheVariants.{Json, Unknown}
 use Rattle.office_core.specs.declared.query.Query.TheVariants as query
 use Rattle.desk_core.proofs.UnknownContainers.{nothing_found}
-use Rattle.refinement.proofs.Answerings.{answers_by, answers_passed}
-use Rattle.refinement.proofs.StorageShown.{legible_storage, shows_storage, storage_of}
-use Rattle.desk_queries.specs.JsonValues.{queue_data}
+use Rattle.desk_queries.proofs.Common.{Json, Unknown, UnknownContainer, answers_by, answers_passed, known_json, legible_storage, option_map, queue_data, shows_storage, state, storage_of}
 use Rattle.desk_queries.proofs.QueueTold.{queue_answer}
 use Rattle.desk_queries.proofs.queues.queue.Goals as goal
 

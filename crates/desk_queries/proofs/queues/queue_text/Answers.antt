@@ -1,5 +1,5 @@
 use Rattle.std.proofs.Common.{ap, ◌∙◌}
-use Rattle.serde_json.specs.Written.{has_float}
+use Rattle.desk_queries.proofs.Common.{has_float}
 use Rattle.desk_queries.proofs.QueueTold.{queue_whole}
 use Rattle.desk_queries.proofs.queues.queue_text.Goals as goal
 

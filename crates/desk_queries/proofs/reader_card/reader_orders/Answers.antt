@@ -1,14 +1,7 @@
 use Rattle.std.proofs.Common.{Option, sym, ap, ◌∙◌}
-use Rattle.std.specs.Prelude.{option_map}
-use Rattle.sqlite.specs.Held.{state}
-use Rattle.desk_core.specs.declared.refusal.Refusal.TheVariants.{UnknownTicket}
 use Rattle.desk_store.specs.declared.reader_summary.ReaderCard.{ReaderCard}
-use Rattle.office_core.specs.Queries.{known_json}
-use Rattle.office_core.specs.declared.query.Answer.TheVariants.{Json, Unknown}
 use Rattle.office_core.specs.declared.query.Query.TheVariants as query
-use Rattle.state_encoding.specs.OfficeRows.{tables}
-use Rattle.refinement.proofs.Answerings.{answers_by, desk_answers_passed}
-use Rattle.desk_queries.specs.JsonValues.{card_data}
+use Rattle.desk_queries.proofs.Common.{Json, Unknown, UnknownTicket, answers_by, card_data, desk_answers_passed, known_json, option_map, state, tables}
 use Rattle.desk_queries.proofs.CardTold.{card_answer}
 use Rattle.desk_queries.proofs.reader_card.reader_orders.Goals as goal
 

@@ -1,11 +1,6 @@
 use Rattle.std.proofs.Common.{sym, ap, ◌∙◌}
-use Rattle.sqlite.specs.Held.{state}
-use Rattle.desk_core.specs.Slips.{slip}
-use Rattle.desk_core.specs.declared.refusal.Refusal.TheVariants.{UnknownRun}
-use Rattle.office_core.specs.declared.query.Answer.TheVariants.{Text, Unknown}
 use Rattle.office_core.specs.declared.query.Query.TheVariants as query
-use Rattle.refinement.proofs.Answerings.{answers_by, answers_passed}
-use Rattle.refinement.proofs.StorageShown.{legible_storage, shows_storage, storage_of}
+use Rattle.desk_queries.proofs.Common.{Text, Unknown, UnknownRun, answers_by, answers_passed, legible_storage, shows_storage, slip, state, storage_of}
 use Rattle.desk_queries.proofs.RunTold.{lines_known, run_told, told_slip}
 use Rattle.desk_queries.proofs.slips.run_slip.Goals as goal
 

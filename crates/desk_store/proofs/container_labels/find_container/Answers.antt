@@ -1,11 +1,6 @@
 use Rattle.std.proofs.Common.{Ok, [], map, filter, nat_eq, ap, ◌∙◌}
-use Rattle.std.proofs.lemmas.Result.{IfOk-weaker}
-use Rattle.sqlite_trees.proofs.ListLemmas.{ascending-filter}
-use Rattle.office_tables.proofs.Reading.{first_shown}
-use Rattle.office_tables.proofs.Sorted.{only_order}
+use Rattle.desk_store.proofs.Common.{IfOk-weaker, ascending-filter, counted_rises, first_shown, looks_up, only_order}
 use Rattle.desk_store.proofs.BoxRows.{Numbered, number_command, number_means, number_finds, number_faults, by_number, by_number_total}
-use Rattle.office_tables.proofs.numbered.Counted.{counted_rises}
-use Rattle.office_tables.proofs.StatementEnds.{looks_up}
 use Rattle.desk_store.proofs.container_labels.find_container.Goals as goal
 
 pub find_one-requires : goal.find_one-requires

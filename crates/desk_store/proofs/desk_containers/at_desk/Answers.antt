@@ -1,12 +1,5 @@
 use Rattle.std.proofs.Common.{◌≡◌, ℕ, ◌<◌, zero, suc, get_or, List, [], ◌∷◌, ◌++◌, length, refl, ap, ◌∙◌, arith}
-use Rattle.std.specs.List.{list_any}
-use Rattle.std.specs.Prelude.{⊤}
-use Rattle.sqlite.specs.Held.{state}
-use Rattle.office_tables.specs.declared.fault.StoreFault.TheVariants.{Memory}
-use Rattle.office_tables.proofs.Calls.{early, looks_then}
-use Rattle.office_tables.proofs.CallEnds.{same_fault}
-use Rattle.desk_store.specs.Holdings.{waits_for}
-use Rattle.desk_store.specs.Representation.{RepresentsDeskAlone, IsLegible}
+use Rattle.desk_store.proofs.Common.{IsLegible, Memory, RepresentsDeskAlone, early, list_any, looks_then, same_fault, state, waits_for, ⊤}
 use Rattle.desk_store.proofs.ReshelvingCalls.{told_more, told_whole}
 use Rattle.desk_store.proofs.desk_containers.at_desk.Goals as goal
 use Rattle.desk_store.proofs.ToldCalls.{shown_on}

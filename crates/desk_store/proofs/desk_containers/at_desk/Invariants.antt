@@ -1,11 +1,5 @@
 use Rattle.std.proofs.Common.{◌≡◌, map, filter, nat_eq, take}
-use Rattle.std.specs.List.{list_any}
-use Rattle.sqlite.specs.Held.{state}
-use Rattle.sqlite.specs.State.{HasCleanDisk}
-use Rattle.desk_core.specs.DeskRows.{Desk, HoldingRow}
-use Rattle.office_tables.specs.Step.{LeavesUnchanged}
-use Rattle.desk_store.specs.Holdings.{waits_for}
-use Rattle.desk_store.specs.Representation.{RepresentsDesk}
+use Rattle.desk_store.proofs.Common.{Desk, HasCleanDisk, HoldingRow, LeavesUnchanged, RepresentsDesk, list_any, state, waits_for}
 use Rattle.desk_store.proofs.desk_containers.at_desk.Given as goal
 
 abbrev pub invariant-loop-container : goal.invariant-loop-container

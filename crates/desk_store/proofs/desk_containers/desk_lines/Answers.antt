@@ -1,11 +1,7 @@
 use Rattle.std.proofs.Common.{map, filter, nat_eq, ap, ◌∙◌}
-use Rattle.std.proofs.lemmas.Result.{IfOk-weaker}
-use Rattle.sqlite_trees.proofs.ListLemmas.{ascending-filter}
-use Rattle.desk_core.specs.DeskRows.{HoldingRow}
-use Rattle.office_tables.proofs.Sorted.{only_order}
+use Rattle.desk_store.proofs.Common.{HoldingRow, IfOk-weaker, ascending-filter, looks_up, only_order}
 use Rattle.desk_store.proofs.LoanRows.{by_container, by_container_total}
 use Rattle.desk_store.proofs.ReshelvingRows.{desk_command, desk_means, desk_finds, desk_faults}
-use Rattle.office_tables.proofs.StatementEnds.{looks_up}
 use Rattle.desk_store.proofs.desk_containers.desk_lines.Goals as goal
 
 pub find-requires : goal.find-requires

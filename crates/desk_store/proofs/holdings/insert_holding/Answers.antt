@@ -1,8 +1,6 @@
 use Rattle.std.proofs.Common.{pos, refl}
-use Rattle.std.specs.Prelude.{option_map}
-use Rattle.office_tables.proofs.Casts.{bound_maybe}
+use Rattle.desk_store.proofs.Common.{bound_maybe, option_map, puts_row}
 use Rattle.desk_store.proofs.HoldingWrites.{insert_holding_command, insert_holding_means, insert_holding_puts, insert_holding_faults}
-use Rattle.office_tables.proofs.StatementEnds.{puts_row}
 use Rattle.desk_store.proofs.holdings.insert_holding.Goals as goal
 
 pub change-requires : goal.change-requires

@@ -1,11 +1,7 @@
 use Rattle.std.proofs.Common.{◌≡◌, Some, None, Ok, [], ◌∷◌, sym, subst}
-use Rattle.std.specs.Prelude.{IfSome, ⊤}
-use Rattle.isad_core.specs.Limits.{IsNumber}
-use Rattle.desk_core.specs.declared.reader.Place.{Place}
-use Rattle.office_tables.specs.Calls.{StoreUpdates}
 use Rattle.office_tables.specs.Schema as tables
-use Rattle.desk_store.specs.Holdings.{by_order, with_place}
-use Rattle.desk_store.specs.Representation.{RepresentsDeskAlone, IsLegible}
+use Rattle.desk_store.specs.Holdings.{by_order}
+use Rattle.desk_store.proofs.Common.{IfSome, IsLegible, IsNumber, Place, RepresentsDeskAlone, StoreUpdates, with_place, ⊤}
 use Rattle.desk_store.proofs.HoldingWrites.{placed, shelved}
 use Rattle.desk_store.proofs.holdings.set_place.Goals as goal
 

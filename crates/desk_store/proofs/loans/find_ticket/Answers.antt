@@ -1,13 +1,7 @@
 use Rattle.std.proofs.Common.{Ok, [], map, filter, nat_eq, ap, ◌∙◌}
-use Rattle.std.proofs.lemmas.Result.{IfOk-weaker}
-use Rattle.sqlite_trees.proofs.ListLemmas.{ascending-filter}
-use Rattle.desk_core.specs.DeskRows.{OrderRow}
-use Rattle.office_tables.proofs.Reading.{first_shown}
-use Rattle.office_tables.proofs.Sorted.{only_order}
+use Rattle.desk_store.proofs.Common.{IfOk-weaker, OrderRow, ascending-filter, counted_rises, first_shown, looks_up, only_order}
 use Rattle.desk_store.proofs.CardRows.{by_order, by_order_total}
-use Rattle.office_tables.proofs.numbered.Counted.{counted_rises}
 use Rattle.desk_store.proofs.LoanRows.{tickets_command, tickets_means, tickets_finds, tickets_faults}
-use Rattle.office_tables.proofs.StatementEnds.{looks_up}
 use Rattle.desk_store.proofs.loans.find_ticket.Goals as goal
 
 pub find_one-requires : goal.find_one-requires

@@ -1,10 +1,6 @@
 use Rattle.std.proofs.Common.{map, ap, subst, ◌∙◌}
-use Rattle.std.specs.List.Sorted.{IsPermutation}
-use Rattle.std.proofs.lemmas.Result.{IfOk-weaker}
-use Rattle.office_tables.proofs.Rows.{kept_all}
-use Rattle.office_tables.proofs.Sorted.{only_order}
+use Rattle.desk_store.proofs.Common.{IfOk-weaker, IsPermutation, kept_all, looks_up, only_order}
 use Rattle.desk_store.proofs.LoanRows.{lines_command, lines_means, lines_finds, lines_faults, line_of, by_container, by_container_total}
-use Rattle.office_tables.proofs.StatementEnds.{looks_up}
 use Rattle.desk_store.proofs.loans.holding_lines.Goals as goal
 
 pub find-requires : goal.find-requires

@@ -1,13 +1,5 @@
 use Rattle.std.proofs.Common.{Some, None, ap, sym, ◌∙◌}
-use Rattle.std.proofs.lemmas.List.{append-nil}
-use Rattle.std.specs.Prelude.{⊤}
-use Rattle.sqlite.specs.Held.{state}
-use Rattle.office_tables.specs.declared.fault.StoreFault.TheVariants.{Memory}
-use Rattle.office_tables.proofs.Calls.{early, looks_then}
-use Rattle.office_tables.proofs.CallEnds.{same_fault}
-use Rattle.desk_store.specs.Holdings.{loan_by}
-use Rattle.desk_store.specs.declared.loans.HoldingLine.{HoldingLine}
-use Rattle.desk_store.specs.Representation.{RepresentsDeskAlone, IsLegible}
+use Rattle.desk_store.proofs.Common.{HoldingLine, IsLegible, Memory, RepresentsDeskAlone, append-nil, early, loan_by, looks_then, same_fault, state, ⊤}
 use Rattle.desk_store.proofs.LoanCalls.{loans_more, loans_whole}
 use Rattle.desk_store.proofs.loans.issued.Goals.{in-Some+in_ok-push, in_default}
 use Rattle.desk_store.proofs.loans.issued.Goals as goal

@@ -1,12 +1,5 @@
 use Rattle.std.proofs.Common.{◌≡◌, map, take}
-use Rattle.std.specs.List.{filter_map}
-use Rattle.sqlite.specs.Held.{state}
-use Rattle.sqlite.specs.State.{HasCleanDisk}
-use Rattle.desk_core.specs.DeskRows.{Desk}
-use Rattle.office_tables.specs.Step.{LeavesUnchanged}
-use Rattle.desk_store.specs.Holdings.{loan_by}
-use Rattle.desk_store.specs.Representation.{RepresentsDesk}
-use Rattle.desk_store.specs.declared.loans.HoldingLine.{HoldingLine}
+use Rattle.desk_store.proofs.Common.{Desk, HasCleanDisk, HoldingLine, LeavesUnchanged, RepresentsDesk, filter_map, loan_by, state}
 use Rattle.desk_store.proofs.LoanRows.{line_of}
 use Rattle.desk_store.proofs.loans.issued.Given as goal
 

@@ -1,11 +1,5 @@
 use Rattle.std.proofs.Common.{None, sym, ap, ◌∙◌}
-use Rattle.std.specs.Prelude.{option_map, ⊤}
-use Rattle.sqlite.specs.Held.{state}
-use Rattle.office_tables.proofs.Calls.{looks_nowhere}
-use Rattle.office_tables.proofs.CallEnds.{same_fault}
-use Rattle.desk_store.specs.Holdings.{loan_by}
-use Rattle.desk_store.specs.declared.container_orders.ContainerOrder.{ContainerOrder}
-use Rattle.desk_store.specs.Representation.{RepresentsDeskAlone, IsLegible}
+use Rattle.desk_store.proofs.Common.{ContainerOrder, IsLegible, RepresentsDeskAlone, loan_by, looks_nowhere, option_map, same_fault, state, ⊤}
 use Rattle.desk_store.proofs.loans.loan_of.Goals as goal
 use Rattle.desk_store.proofs.TellingCalls.{ends_not, ends_well}
 

@@ -1,6 +1,6 @@
 use Rattle.std.proofs.Common.{refl}
+use Rattle.desk_store.proofs.Common.{thins}
 use Rattle.desk_store.proofs.OpeningRows.{free_command, free_means, free_leaves, free_only, free_faults}
-use Rattle.office_tables.proofs.StatementEnds.{thins}
 use Rattle.desk_store.proofs.office_day.free_seats.Goals as goal
 
 pub change-requires : goal.change-requires

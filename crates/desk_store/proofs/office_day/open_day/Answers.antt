@@ -1,10 +1,7 @@
 use Rattle.std.proofs.Common.{Result, [], ◌∷◌, sym, subst}
-use Rattle.std.specs.Prelude.{⊤}
-use Rattle.office_tables.specs.Calls.{StoreUpdates}
-use Rattle.office_tables.specs.declared.fault.StoreFault.{StoreFault}
 use Rattle.office_tables.specs.Schema as tables
-use Rattle.office_tables.proofs.CallEnds.{same_fault}
 use Rattle.desk_store.specs.OfficeDay.{RepresentsBoth, IsLegibleHouse, opened}
+use Rattle.desk_store.proofs.Common.{StoreFault, StoreUpdates, same_fault, ⊤}
 use Rattle.desk_store.proofs.OpeningCalls.{not_freed, opens}
 use Rattle.desk_store.proofs.office_day.open_day.Goals as goal
 

@@ -1,7 +1,6 @@
 use Rattle.std.proofs.Common.{refl}
-use Rattle.sqlite.specs.Held.{state}
+use Rattle.desk_store.proofs.Common.{caused, done, state}
 use Rattle.desk_store.proofs.OpeningRows.{set_day_command, set_day_means, set_day_leaves, set_day_only, set_day_faults}
-use Rattle.office_tables.proofs.StatementEnds.{done, caused}
 use Rattle.desk_store.proofs.office_day.set_day.Goals as goal
 
 pub change-requires : goal.change-requires

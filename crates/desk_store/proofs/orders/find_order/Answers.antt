@@ -1,13 +1,7 @@
 use Rattle.std.proofs.Common.{Ok, [], map, filter, nat_eq, ap, ◌∙◌}
-use Rattle.std.proofs.lemmas.Result.{IfOk-weaker}
-use Rattle.sqlite_trees.proofs.ListLemmas.{ascending-filter}
-use Rattle.desk_core.specs.DeskRows.{OrderRow}
-use Rattle.office_tables.proofs.Reading.{first_shown}
-use Rattle.office_tables.proofs.Sorted.{only_order}
-use Rattle.office_tables.proofs.numbered.Counted.{counted_rises}
+use Rattle.desk_store.proofs.Common.{IfOk-weaker, OrderRow, ascending-filter, counted_rises, first_shown, looks_up, only_order}
 use Rattle.desk_store.proofs.CardRows.{by_order, by_order_total}
 use Rattle.desk_store.proofs.OrderReads.{find_order_command, find_order_means, find_order_finds, find_order_faults, entry_of}
-use Rattle.office_tables.proofs.StatementEnds.{looks_up}
 use Rattle.desk_store.proofs.orders.find_order.Goals as goal
 
 pub find_one-requires : goal.find_one-requires

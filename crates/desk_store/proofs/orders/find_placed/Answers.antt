@@ -1,14 +1,6 @@
 use Rattle.std.proofs.Common.{◌≡◌, true, false, nat_eq, None, sym, subst, ◌∙◌}
-use Rattle.std.specs.Prelude.{⊤}
-use Rattle.sqlite.specs.Effect.{Database}
-use Rattle.sqlite.specs.Held.{state}
-use Rattle.desk_core.specs.DeskRows.{OrderRow}
-use Rattle.office_tables.proofs.Calls.{cut_after, looks_nowhere}
-use Rattle.office_tables.proofs.CallEnds.{same_fault}
-use Rattle.desk_store.specs.Orders.{order_with}
-use Rattle.desk_store.specs.Representation.{RepresentsDesk, RepresentsDeskAlone, IsLegible}
+use Rattle.desk_store.proofs.Common.{Database, IsLegible, OrderRow, RepresentsDesk, RepresentsDeskAlone, cut_after, looks_nowhere, order_with, same_fault, spares_own, state, ⊤}
 use Rattle.desk_store.proofs.OrderReads.{told_none, told_there, legible_there}
-use Rattle.office_tables.proofs.Sparing.{spares_own}
 use Rattle.desk_store.proofs.orders.find_placed.Goals as goal
 use Rattle.desk_store.proofs.TellingCalls.{ends_not, ends_well}
 

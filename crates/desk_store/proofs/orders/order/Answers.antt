@@ -1,11 +1,6 @@
 use Rattle.std.proofs.Common.{None, refl, sym, subst, arith}
-use Rattle.std.specs.Prelude.{⊤}
-use Rattle.sqlite.specs.Held.{state}
-use Rattle.desk_core.specs.DeskRows.{OrderRow}
-use Rattle.desk_store.specs.Orders.{IsThere}
-use Rattle.desk_store.specs.Representation.{RepresentsDeskAlone, IsLegible}
+use Rattle.desk_store.proofs.Common.{IsLegible, IsThere, OrderRow, RepresentsDeskAlone, looks_nowhere, state, ⊤}
 use Rattle.desk_store.proofs.CardCalls.{unknown}
-use Rattle.office_tables.proofs.Calls.{looks_nowhere}
 use Rattle.desk_store.proofs.TellingCalls.{ends_well}
 use Rattle.desk_store.proofs.orders.order.Goals as goal
 

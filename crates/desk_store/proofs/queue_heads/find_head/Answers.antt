@@ -1,12 +1,5 @@
 use Rattle.std.proofs.Common.{None, refl, sym, ◌∙◌}
-use Rattle.std.specs.Prelude.{⊤}
-use Rattle.sqlite.specs.Held.{state}
-use Rattle.office_tables.proofs.Calls.{early, looks_then, looks_nowhere}
-use Rattle.office_tables.proofs.CallEnds.{same_fault}
-use Rattle.office_tables.proofs.Reading.{first_shown}
-use Rattle.desk_store.specs.Holdings.{waits_for}
-use Rattle.desk_store.specs.Orders.{queue_of}
-use Rattle.desk_store.specs.Storage.{RepresentsQueues, IsLegibleStorage, container_with}
+use Rattle.desk_store.proofs.Common.{IsLegibleStorage, RepresentsQueues, container_with, early, first_shown, looks_nowhere, looks_then, queue_of, same_fault, state, waits_for, ⊤}
 use Rattle.desk_store.proofs.QueueCalls.{unknown_head, known_head}
 use Rattle.desk_store.proofs.ToldCalls.{shown_on}
 use Rattle.desk_store.proofs.TellingCalls.{ends_not, ends_well}

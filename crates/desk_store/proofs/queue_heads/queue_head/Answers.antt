@@ -1,11 +1,8 @@
 use Rattle.std.proofs.Common.{None, refl, ap, arith}
-use Rattle.std.specs.Prelude.{is_some, ⊤}
-use Rattle.sqlite.specs.Held.{state}
-use Rattle.desk_store.specs.Storage.{RepresentsQueues, IsLegibleStorage, container_with}
+use Rattle.desk_store.proofs.Common.{IsLegibleStorage, RepresentsQueues, container_with, is_some, looks_nowhere, state, ⊤}
 use Rattle.desk_store.proofs.BoxRows.{Numbered}
 use Rattle.desk_store.proofs.CardCalls.{unknown}
 use Rattle.desk_store.proofs.QueueCalls.{unknown_head}
-use Rattle.office_tables.proofs.Calls.{looks_nowhere}
 use Rattle.desk_store.proofs.TellingCalls.{ends_well}
 use Rattle.desk_store.proofs.queue_heads.queue_head.Goals as goal
 

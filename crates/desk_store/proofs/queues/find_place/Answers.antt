@@ -1,12 +1,7 @@
 use Rattle.std.proofs.Common.{Ok, [], map, filter, nat_eq, ap, ◌∙◌}
-use Rattle.std.proofs.lemmas.Result.{IfOk-weaker}
-use Rattle.sqlite_trees.proofs.ListLemmas.{ascending-filter}
-use Rattle.desk_core.specs.DeskRows.{HoldingRow}
-use Rattle.office_tables.proofs.Reading.{first_shown}
-use Rattle.office_tables.proofs.Sorted.{only_order}
+use Rattle.desk_store.proofs.Common.{HoldingRow, IfOk-weaker, ascending-filter, first_shown, looks_up, only_order}
 use Rattle.desk_store.proofs.LoanRows.{by_container, by_container_total}
 use Rattle.desk_store.proofs.PlaceRows.{place_command, place_means, place_finds, place_faults, place_entry}
-use Rattle.office_tables.proofs.StatementEnds.{looks_up}
 use Rattle.desk_store.proofs.queues.find_place.Goals as goal
 
 pub find_one-requires : goal.find_one-requires

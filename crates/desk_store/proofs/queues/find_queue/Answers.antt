@@ -1,9 +1,5 @@
 use Rattle.std.proofs.Common.{None, sym, ◌∙◌}
-use Rattle.std.specs.Prelude.{⊤}
-use Rattle.sqlite.specs.Held.{state}
-use Rattle.office_tables.proofs.Calls.{early, looks_then, looks_nowhere}
-use Rattle.office_tables.proofs.CallEnds.{same_fault}
-use Rattle.desk_store.specs.Storage.{RepresentsQueues, IsLegibleStorage, container_with}
+use Rattle.desk_store.proofs.Common.{IsLegibleStorage, RepresentsQueues, container_with, early, looks_nowhere, looks_then, same_fault, state, ⊤}
 use Rattle.desk_store.proofs.QueueCalls.{unknown_queue, known_queue}
 use Rattle.desk_store.proofs.ToldCalls.{shown_on}
 use Rattle.desk_store.proofs.TellingCalls.{ends_not, ends_well}

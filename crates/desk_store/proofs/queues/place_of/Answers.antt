@@ -1,16 +1,9 @@
 use Rattle.std.proofs.Common.{sym, ◌∙◌}
-use Rattle.std.specs.Prelude.{⊤}
-use Rattle.std.proofs.lemmas.Result.{IfOk-weaker}
-use Rattle.sqlite.specs.Held.{state}
-use Rattle.desk_core.specs.DeskRows.{HoldingRow}
 use Rattle.std.specs.Prelude.{nat_eq}
-use Rattle.office_tables.proofs.Calls.{cut_looks, on_ok_from}
-use Rattle.desk_store.specs.Orders.{holding_of}
-use Rattle.desk_store.specs.Representation.{RepresentsDeskAlone, IsLegible}
+use Rattle.desk_store.proofs.Common.{HoldingRow, IfOk-weaker, IsLegible, RepresentsDeskAlone, cut_looks, holding_of, on_ok_from, own_last, state, ⊤}
 use Rattle.desk_store.proofs.PlaceRows.{at_entry, at_shelf, legible_place}
 use Rattle.desk_store.proofs.ToldCalls.{never_fails}
 use Rattle.desk_store.proofs.TellingCalls.{ends_well}
-use Rattle.office_tables.proofs.Sparing.{own_last}
 use Rattle.desk_store.proofs.queues.place_of.Goals as goal
 
 pub returns-in-Some : goal.returns-in-Some

@@ -1,11 +1,8 @@
 use Rattle.std.proofs.Common.{None, refl, ap, arith}
-use Rattle.std.specs.Prelude.{option_map, ⊤}
-use Rattle.sqlite.specs.Held.{state}
-use Rattle.desk_store.specs.Storage.{RepresentsQueues, IsLegibleStorage, container_with}
+use Rattle.desk_store.proofs.Common.{IsLegibleStorage, RepresentsQueues, container_with, looks_nowhere, option_map, state, ⊤}
 use Rattle.desk_store.proofs.BoxRows.{Numbered}
 use Rattle.desk_store.proofs.CardCalls.{unknown}
 use Rattle.desk_store.proofs.QueueCalls.{unknown_queue}
-use Rattle.office_tables.proofs.Calls.{looks_nowhere}
 use Rattle.desk_store.proofs.TellingCalls.{ends_well}
 use Rattle.desk_store.proofs.queues.queue.Goals as goal
 

@@ -1,11 +1,6 @@
 use Rattle.std.proofs.Common.{Result, [], ◌∷◌, sym, subst}
-use Rattle.sqlite.specs.Held.{state}
-use Rattle.office_tables.specs.Calls.{StoreUpdates}
-use Rattle.office_tables.specs.declared.fault.StoreFault.{StoreFault}
 use Rattle.office_tables.specs.Schema as tables
-use Rattle.office_tables.proofs.CallEnds.{same_fault}
-use Rattle.desk_store.specs.Permits.{with_permit, MayHave}
-use Rattle.desk_store.specs.Representation.{RepresentsDeskAlone, IsLegible}
+use Rattle.desk_store.proofs.Common.{IsLegible, MayHave, RepresentsDeskAlone, StoreFault, StoreUpdates, same_fault, state, with_permit}
 use Rattle.desk_store.proofs.PermitCalls.{not_cleared, grants, rows_granted}
 use Rattle.desk_store.proofs.reader_permits.grant.Goals as goal
 

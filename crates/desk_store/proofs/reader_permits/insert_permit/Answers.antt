@@ -1,6 +1,5 @@
 use Rattle.std.proofs.Common.{refl}
-use Rattle.office_tables.proofs.StatementEnds.{puts_numbered}
-use Rattle.desk_core.specs.DeskRows.{PermitRow}
+use Rattle.desk_store.proofs.Common.{PermitRow, puts_numbered}
 use Rattle.desk_store.proofs.PermitRows.{insert_permit_command, insert_permit_means, insert_permit_puts, insert_permit_faults}
 use Rattle.desk_store.proofs.reader_permits.insert_permit.Goals as goal
 

@@ -1,10 +1,5 @@
 use Rattle.std.proofs.Common.{refl, sym, subst, arith}
-use Rattle.std.specs.Prelude.{⊤}
-use Rattle.sqlite.specs.Held.{state}
-use Rattle.office_tables.proofs.Calls.{looks_nowhere}
-use Rattle.office_tables.specs.Order.{IsOrdered}
-use Rattle.desk_store.specs.Permits.{permits_of, by_unit}
-use Rattle.desk_store.specs.Representation.{RepresentsDeskAlone, IsLegible}
+use Rattle.desk_store.proofs.Common.{IsLegible, IsOrdered, RepresentsDeskAlone, by_unit, looks_nowhere, permits_of, state, ⊤}
 use Rattle.desk_store.proofs.PermitCalls.{none_given}
 use Rattle.desk_store.proofs.reader_permits.permits.Goals as goal
 use Rattle.desk_store.proofs.TellingCalls.{ends_well}

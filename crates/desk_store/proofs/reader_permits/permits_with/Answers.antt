@@ -1,12 +1,8 @@
 use Rattle.std.proofs.Common.{sym, subst}
-use Rattle.std.proofs.lemmas.Result.{IfOk-weaker}
-use Rattle.sqlite.specs.Held.{state}
-use Rattle.office_tables.specs.Order.{IsOrdered}
 use Rattle.office_tables.specs.Schema as tables
-use Rattle.desk_store.specs.Permits.{permits_of, by_unit}
+use Rattle.desk_store.proofs.Common.{IfOk-weaker, IsOrdered, answered, by_unit, caused, permits_of, state}
 use Rattle.desk_store.proofs.PermitCalls.{told_ordered}
 use Rattle.desk_store.proofs.PermitRows.{permits_command, permits_means, permits_finds, permits_faults}
-use Rattle.office_tables.proofs.StatementEnds.{answered, caused}
 use Rattle.desk_store.proofs.reader_permits.permits_with.Goals as goal
 
 pub find-requires : goal.find-requires

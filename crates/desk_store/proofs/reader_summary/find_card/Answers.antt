@@ -1,9 +1,5 @@
 use Rattle.std.proofs.Common.{None, refl, ap, sym, ◌∙◌}
-use Rattle.std.specs.Prelude.{option_map, ⊤}
-use Rattle.sqlite.specs.Held.{state}
-use Rattle.office_tables.proofs.Calls.{early, looks_then}
-use Rattle.office_tables.proofs.CallEnds.{same_fault}
-use Rattle.desk_store.specs.Representation.{RepresentsDeskAlone, IsLegible}
+use Rattle.desk_store.proofs.Common.{IsLegible, RepresentsDeskAlone, early, looks_then, option_map, same_fault, state, ⊤}
 use Rattle.desk_store.proofs.CardCalls.{seat_told, card_with, card_told}
 use Rattle.desk_store.proofs.reader_summary.find_card.Goals as goal
 use Rattle.desk_store.proofs.ToldCalls.{shown_on}

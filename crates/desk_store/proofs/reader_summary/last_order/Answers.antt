@@ -1,5 +1,5 @@
+use Rattle.desk_store.proofs.Common.{looks_up}
 use Rattle.desk_store.proofs.CardRows.{last_order_command, last_order_means, last_order_finds, last_order_faults}
-use Rattle.office_tables.proofs.StatementEnds.{looks_up}
 use Rattle.desk_store.proofs.reader_summary.last_order.Goals as goal
 
 pub find_number-requires : goal.find_number-requires

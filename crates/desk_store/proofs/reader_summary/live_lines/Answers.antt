@@ -1,12 +1,6 @@
 use Rattle.std.proofs.Common.{map, filter, nat_eq, ◌&&◌, ap, ◌∙◌}
-use Rattle.std.proofs.lemmas.Result.{IfOk-weaker}
-use Rattle.sqlite_trees.proofs.ListLemmas.{ascending-filter}
-use Rattle.desk_core.specs.DeskRows.{OrderRow}
-use Rattle.office_tables.proofs.Sorted.{only_order}
-use Rattle.desk_store.specs.Readers.{is_live}
+use Rattle.desk_store.proofs.Common.{IfOk-weaker, OrderRow, ascending-filter, counted_rises, is_live, looks_up, only_order}
 use Rattle.desk_store.proofs.CardRows.{live_command, live_means, live_finds, live_faults, line_of, by_order, by_order_total}
-use Rattle.office_tables.proofs.numbered.Counted.{counted_rises}
-use Rattle.office_tables.proofs.StatementEnds.{looks_up}
 use Rattle.desk_store.proofs.reader_summary.live_lines.Goals as goal
 
 pub find-requires : goal.find-requires

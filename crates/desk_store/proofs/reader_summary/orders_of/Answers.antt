@@ -1,15 +1,6 @@
 use Rattle.std.proofs.Common.{◌<◌, ◌^◌, List, length, map, filter, nat_eq, ◌&&◌, refl, ap, sym, subst, ◌∙◌}
-use Rattle.std.specs.Prelude.{⊤}
-use Rattle.std.specs.List.{count_by}
-use Rattle.sqlite.specs.Held.{state}
-use Rattle.sqlite_trees.proofs.ListLemmas.{map-map}
-use Rattle.desk_core.specs.DeskRows.{OrderRow}
-use Rattle.office_tables.proofs.Calls.{early, looks_then}
-use Rattle.office_tables.proofs.CallEnds.{same_fault}
-use Rattle.desk_store.specs.Readers.{is_live}
 use Rattle.desk_store.specs.declared.reader_summary.LiveOrder.{LiveOrder}
-use Rattle.desk_store.specs.declared.reader_summary.OrderLine.{OrderLine}
-use Rattle.desk_store.specs.Representation.{RepresentsDeskAlone, IsLegible}
+use Rattle.desk_store.proofs.Common.{IsLegible, OrderLine, OrderRow, RepresentsDeskAlone, count_by, early, is_live, looks_then, map-map, same_fault, state, ⊤}
 use Rattle.desk_store.proofs.CardCalls.{out_of_lines, few_lines}
 use Rattle.desk_store.proofs.CardRows.{line_of}
 use Rattle.desk_store.proofs.reader_summary.orders_of.Goals as goal

@@ -1,5 +1,5 @@
+use Rattle.desk_store.proofs.Common.{looks_up}
 use Rattle.desk_store.proofs.CardRows.{placed_command, placed_means, placed_finds, placed_faults}
-use Rattle.office_tables.proofs.StatementEnds.{looks_up}
 use Rattle.desk_store.proofs.reader_summary.placed_on.Goals as goal
 
 pub find_number-requires : goal.find_number-requires

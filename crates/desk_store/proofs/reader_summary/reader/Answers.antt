@@ -1,11 +1,7 @@
 use Rattle.std.proofs.Common.{None, refl, sym, ap, arith}
-use Rattle.std.specs.Prelude.{option_map, ⊤}
-use Rattle.sqlite.specs.Held.{state}
-use Rattle.desk_core.specs.DeskRows.{ReaderRow}
-use Rattle.desk_store.specs.Representation.{RepresentsDeskAlone, IsLegible}
+use Rattle.desk_store.proofs.Common.{IsLegible, ReaderRow, RepresentsDeskAlone, looks_nowhere, option_map, state, ⊤}
 use Rattle.desk_store.proofs.CardCalls.{card_with, unknown}
 use Rattle.desk_store.proofs.ReaderRows.{named}
-use Rattle.office_tables.proofs.Calls.{looks_nowhere}
 use Rattle.desk_store.proofs.TellingCalls.{ends_well}
 use Rattle.desk_store.proofs.reader_summary.reader.Goals as goal
 

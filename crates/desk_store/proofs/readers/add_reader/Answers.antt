@@ -1,11 +1,6 @@
 use Rattle.std.proofs.Common.{ℕ, Option, Result, [], ◌∷◌, sym, subst, ◌∙◌}
-use Rattle.std.specs.Prelude.{⊤}
-use Rattle.office_tables.specs.Calls.{StoreUpdates}
-use Rattle.office_tables.specs.declared.fault.StoreFault.{StoreFault}
 use Rattle.office_tables.specs.Schema as tables
-use Rattle.office_tables.proofs.CallEnds.{same_fault}
-use Rattle.desk_store.specs.Readers.{next_ticket, with_reader}
-use Rattle.desk_store.specs.Representation.{RepresentsDeskAlone, IsLegible}
+use Rattle.desk_store.proofs.Common.{IsLegible, RepresentsDeskAlone, StoreFault, StoreUpdates, next_ticket, same_fault, with_reader, ⊤}
 use Rattle.desk_store.proofs.ReaderCalls.{added, failed}
 use Rattle.desk_store.proofs.readers.add_reader.Goals as goal
 

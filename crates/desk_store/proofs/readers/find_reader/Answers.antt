@@ -1,12 +1,6 @@
 use Rattle.std.proofs.Common.{Ok, [], map, filter, nat_eq, ap, ◌∙◌}
-use Rattle.std.proofs.lemmas.Result.{IfOk-weaker}
-use Rattle.sqlite_trees.proofs.ListLemmas.{ascending-filter}
-use Rattle.desk_core.specs.DeskRows.{ReaderRow}
-use Rattle.office_tables.proofs.Reading.{first_shown}
-use Rattle.office_tables.proofs.Sorted.{only_order}
-use Rattle.office_tables.proofs.numbered.Counted.{counted_rises}
+use Rattle.desk_store.proofs.Common.{IfOk-weaker, ReaderRow, ascending-filter, counted_rises, first_shown, looks_up, only_order}
 use Rattle.desk_store.proofs.ReaderRows.{find_reader_command, find_reader_means, find_reader_finds, find_reader_faults, named, by_ticket, by_ticket_total}
-use Rattle.office_tables.proofs.StatementEnds.{looks_up}
 use Rattle.desk_store.proofs.readers.find_reader.Goals as goal
 
 pub find_one-requires : goal.find_one-requires

@@ -1,7 +1,5 @@
 use Rattle.std.proofs.Common.{ap, ◌∙◌}
-use Rattle.std.specs.Prelude.{is_some, ⊤}
-use Rattle.desk_store.specs.Readers.{reader_with}
-use Rattle.desk_store.specs.Representation.{RepresentsDeskAlone, IsLegible}
+use Rattle.desk_store.proofs.Common.{IsLegible, RepresentsDeskAlone, is_some, reader_with, ⊤}
 use Rattle.desk_store.proofs.CardCalls.{some_mapped}
 use Rattle.desk_store.proofs.ReaderRows.{named}
 use Rattle.desk_store.proofs.readers.is_given.Goals as goal

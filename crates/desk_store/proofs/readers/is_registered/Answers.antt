@@ -1,10 +1,6 @@
 use Rattle.std.proofs.Common.{false, refl, sym, ap, arith}
-use Rattle.std.specs.Prelude.{is_some, ⊤}
-use Rattle.sqlite.specs.Held.{state}
-use Rattle.desk_core.specs.DeskRows.{ReaderRow}
-use Rattle.desk_store.specs.Representation.{RepresentsDeskAlone, IsLegible}
+use Rattle.desk_store.proofs.Common.{IsLegible, ReaderRow, RepresentsDeskAlone, is_some, looks_nowhere, state, ⊤}
 use Rattle.desk_store.proofs.CardCalls.{unknown}
-use Rattle.office_tables.proofs.Calls.{looks_nowhere}
 use Rattle.desk_store.proofs.TellingCalls.{ends_well}
 use Rattle.desk_store.proofs.readers.is_registered.Goals as goal
 

@@ -1,5 +1,5 @@
+use Rattle.desk_store.proofs.Common.{looks_up}
 use Rattle.desk_store.proofs.ReaderRows.{last_ticket_command, last_ticket_means, last_ticket_finds, last_ticket_faults}
-use Rattle.office_tables.proofs.StatementEnds.{looks_up}
 use Rattle.desk_store.proofs.readers.last_ticket.Goals as goal
 
 pub find_number-requires : goal.find_number-requires

@@ -1,15 +1,8 @@
 use Rattle.std.proofs.Common.{sym, subst, ◌≤◌, length, ◌∷◌, []}
-use Rattle.std.proofs.Math.Nat.{le_refl}
-use Rattle.std.proofs.lemmas.List.{length-map}
-use Rattle.sqlite.specs.Held.{state}
-use Rattle.isad_core.specs.Limits.{most_tickets}
-use Rattle.desk_core.specs.DeskRows.{ReaderRow}
-use Rattle.office_tables.proofs.Calls.{on_ok_then}
-use Rattle.office_tables.proofs.numbered.Counted.{counted_again}
+use Rattle.office_tables.specs.Schema as tables
+use Rattle.desk_store.proofs.Common.{ReaderRow, counted_again, le_refl, length-map, most_tickets, on_ok_then, state, untouched_last}
 use Rattle.desk_store.proofs.Frames.{with_readers}
 use Rattle.desk_store.proofs.ReaderRows.{same_tickets}
-use Rattle.office_tables.proofs.Sparing.{untouched_last}
-use Rattle.office_tables.specs.Schema as tables
 use Rattle.desk_store.proofs.readers.renew.Goals as goal
 
 pub returns : goal.returns

@@ -1,10 +1,5 @@
 use Rattle.std.proofs.Common.{subst, sym, ◌∙◌}
-use Rattle.std.specs.Prelude.{⊤}
-use Rattle.sqlite.specs.Held.{state}
-use Rattle.office_tables.proofs.Calls.{early, looks_then}
-use Rattle.office_tables.specs.RowNumbers.{AreByNumber}
-use Rattle.desk_store.specs.declared.container_orders.ContainerOrder.{ContainerOrder}
-use Rattle.desk_store.specs.Representation.{RepresentsDeskAlone, IsLegible}
+use Rattle.desk_store.proofs.Common.{AreByNumber, ContainerOrder, IsLegible, RepresentsDeskAlone, early, looks_then, state, ⊤}
 use Rattle.desk_store.proofs.PickingCalls.{rising, picked_are}
 use Rattle.desk_store.proofs.run_candidates.candidates.Goals as goal
 use Rattle.desk_store.proofs.ToldCalls.{shown_on}

@@ -1,6 +1,5 @@
 use Rattle.std.proofs.Common.{◌≡◌, ℕ, nat_eq, take}
-use Rattle.std.specs.List.{list_any}
-use Rattle.desk_store.specs.declared.loans.HoldingLine.{HoldingLine}
+use Rattle.desk_store.proofs.Common.{HoldingLine, list_any}
 use Rattle.desk_store.proofs.run_candidates.containers_off_shelf.Given as goal
 
 abbrev pub invariant-loop-line : goal.invariant-loop-line

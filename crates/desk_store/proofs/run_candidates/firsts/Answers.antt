@@ -1,9 +1,6 @@
 use Rattle.std.proofs.Common.{cond, not, nat_eq, ◌&&◌, ◌||◌, [], ◌∷◌, ◌++◌, ap, sym, ◌∙◌}
 use Rattle.std.specs.Prelude.{get_or}
-use Rattle.std.specs.List.{list_any}
-use Rattle.std.proofs.lemmas.List.{append-nil}
-use Rattle.desk_store.specs.RunCandidates.{is_earliest, is_new}
-use Rattle.desk_store.specs.declared.container_orders.ContainerOrder.{ContainerOrder}
+use Rattle.desk_store.proofs.Common.{ContainerOrder, append-nil, is_earliest, is_new, list_any}
 use Rattle.desk_store.proofs.PickingLists.{met_more, is_picked, kept_more}
 use Rattle.desk_store.proofs.run_candidates.firsts.Goals.{then-branch+in_ok-push, else-branch}
 use Rattle.desk_store.proofs.run_candidates.firsts.Goals as goal

@@ -1,8 +1,5 @@
 use Rattle.std.proofs.Common.{◌≡◌, ℕ, nat_eq, ◌&&◌, ◌||◌, filter, take}
-use Rattle.std.specs.List.{list_any}
-use Rattle.desk_store.specs.RunCandidates.{is_earliest, is_new}
-use Rattle.office_tables.specs.RowNumbers.{AreByNumber}
-use Rattle.desk_store.specs.declared.container_orders.ContainerOrder.{ContainerOrder}
+use Rattle.desk_store.proofs.Common.{AreByNumber, ContainerOrder, is_earliest, is_new, list_any}
 use Rattle.desk_store.proofs.run_candidates.firsts.Given as goal
 
 abbrev pub invariant-loop-order : goal.invariant-loop-order

@@ -1,12 +1,7 @@
 use Rattle.std.proofs.Common.{map, filter, nat_eq, ap, ◌∙◌}
-use Rattle.std.proofs.lemmas.Result.{IfOk-weaker}
-use Rattle.sqlite_trees.proofs.ListLemmas.{ascending-filter}
-use Rattle.desk_core.specs.DeskRows.{OrderRow}
-use Rattle.office_tables.proofs.Sorted.{only_order}
+use Rattle.desk_store.proofs.Common.{IfOk-weaker, OrderRow, ascending-filter, counted_rises, looks_up, only_order}
 use Rattle.desk_store.proofs.CardRows.{by_order, by_order_total}
-use Rattle.office_tables.proofs.numbered.Counted.{counted_rises}
 use Rattle.desk_store.proofs.PickingRows.{all_command, all_means, all_finds, all_faults, first_of}
-use Rattle.office_tables.proofs.StatementEnds.{looks_up}
 use Rattle.desk_store.proofs.run_candidates.waiting_orders.Goals as goal
 
 pub find-requires : goal.find-requires

@@ -1,13 +1,8 @@
 use Rattle.std.proofs.Common.{◌≡◌, Some, None, sym, ap, ◌∙◌, refl}
-use Rattle.std.specs.Prelude.{option_map}
-use Rattle.sqlite.specs.Held.{state}
-use Rattle.office_tables.proofs.Calls.{cut_after, looks_nowhere}
-use Rattle.office_tables.proofs.CallEnds.{same_fault}
-use Rattle.desk_store.specs.Storage.{RepresentsQueues, IsLegibleStorage, IsKnownLine, container_with}
+use Rattle.desk_store.proofs.Common.{IsKnownLine, IsLegibleStorage, RepresentsQueues, container_with, cut_after, looks_nowhere, option_map, same_fault, spares_known, state}
 use Rattle.desk_store.proofs.BoxRows.{Numbered}
 use Rattle.desk_store.proofs.BroughtRows.{line_told}
 use Rattle.desk_store.proofs.TellingCalls.{ends_not, ends_well}
-use Rattle.office_tables.proofs.Sparing.{spares_known}
 use Rattle.desk_store.proofs.run_lines.candidate.Goals as goal
 
 pub returns-in_err-written : goal.returns-in_err-written

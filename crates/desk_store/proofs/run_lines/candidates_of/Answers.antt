@@ -1,16 +1,7 @@
 use Rattle.std.proofs.Common.{take, ◌+◌, ◌++◌, [], ◌∷◌, sym, subst}
 use Rattle.std.specs.Prelude.{get_or, List}
-use Rattle.std.specs.List.{AllByRecursion, AllZip}
-use Rattle.std.proofs.lemmas.List.{take_more}
-use Rattle.sqlite.specs.Held.{state}
-use Rattle.sqlite_rules.proofs.ListLemmas.{all_has}
 use Rattle.desk_core.specs.declared.run.Candidate.{Candidate}
-use Rattle.office_tables.proofs.Calls.{early, looks_then}
-use Rattle.office_tables.proofs.Puts.{has_at}
-use Rattle.office_tables.proofs.CallEnds.{same_fault}
-use Rattle.office_tables.specs.declared.fault.StoreFault.TheVariants.{Memory}
-use Rattle.desk_store.specs.Storage.{Storage, RepresentsQueues, IsLegibleStorage, IsKnownLine, IsToldLine}
-use Rattle.desk_store.specs.declared.container_orders.ContainerOrder.{ContainerOrder}
+use Rattle.desk_store.proofs.Common.{AllByRecursion, AllZip, ContainerOrder, IsKnownLine, IsLegibleStorage, IsToldLine, Memory, RepresentsQueues, Storage, all_has, early, has_at, looks_then, same_fault, state, take_more}
 use Rattle.desk_store.proofs.BroughtRows.{zip_more}
 use Rattle.desk_store.proofs.ToldCalls.{shown_on}
 use Rattle.desk_store.proofs.TellingCalls.{ends_not, ends_full}

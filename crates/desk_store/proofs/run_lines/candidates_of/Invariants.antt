@@ -1,9 +1,5 @@
 use Rattle.std.proofs.Common.{take}
-use Rattle.std.specs.List.{AllZip}
-use Rattle.sqlite.specs.Held.{state}
-use Rattle.sqlite.specs.State.{HasCleanDisk}
-use Rattle.office_tables.specs.Step.{LeavesUnchanged}
-use Rattle.desk_store.specs.Storage.{Storage, RepresentsQueues, IsToldLine}
+use Rattle.desk_store.proofs.Common.{AllZip, HasCleanDisk, IsToldLine, LeavesUnchanged, RepresentsQueues, Storage, state}
 use Rattle.desk_store.proofs.run_lines.candidates_of.Given as goal
 
 abbrev pub invariant-loop-line : goal.invariant-loop-line

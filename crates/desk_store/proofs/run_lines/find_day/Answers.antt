@@ -1,12 +1,6 @@
 use Rattle.std.proofs.Common.{Ok, [], map, filter, nat_eq, ap, ◌∙◌}
-use Rattle.std.proofs.lemmas.Result.{IfOk-weaker}
-use Rattle.sqlite_trees.proofs.ListLemmas.{ascending-filter}
-use Rattle.desk_core.specs.DeskRows.{RunRow}
-use Rattle.office_tables.proofs.Reading.{first_shown}
-use Rattle.office_tables.proofs.Sorted.{only_order}
+use Rattle.desk_store.proofs.Common.{IfOk-weaker, RunRow, ascending-filter, counted_rises, first_shown, looks_up, only_order}
 use Rattle.desk_store.proofs.BroughtRows.{day_command, day_means, day_finds, day_faults, day_of, by_run, by_run_total}
-use Rattle.office_tables.proofs.numbered.Counted.{counted_rises}
-use Rattle.office_tables.proofs.StatementEnds.{looks_up}
 use Rattle.desk_store.proofs.run_lines.find_day.Goals as goal
 
 pub find_one-requires : goal.find_one-requires

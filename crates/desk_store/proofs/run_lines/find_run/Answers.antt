@@ -1,9 +1,5 @@
 use Rattle.std.proofs.Common.{None, refl, sym, ◌∙◌}
-use Rattle.sqlite.specs.Held.{state}
-use Rattle.office_tables.proofs.Calls.{early, looks_then}
-use Rattle.office_tables.proofs.CallEnds.{same_fault}
-use Rattle.desk_store.specs.Runs.{run_with}
-use Rattle.desk_store.specs.Storage.{RepresentsQueues, IsLegibleStorage, AreKnown}
+use Rattle.desk_store.proofs.Common.{AreKnown, IsLegibleStorage, RepresentsQueues, early, looks_then, run_with, same_fault, state}
 use Rattle.desk_store.proofs.BroughtCalls.{none_told, run_told, known_lines}
 use Rattle.desk_store.proofs.ToldCalls.{shown_on, shown_back}
 use Rattle.desk_store.proofs.TellingCalls.{ends_not, ends_well}

@@ -1,14 +1,8 @@
 use Rattle.std.proofs.Common.{ℕ, List, [], ◌∷◌, refl}
-use Rattle.sqlite.specs.Held.{state}
-use Rattle.office_tables.proofs.Calls.{on_ok_then, on_ok_both, on_err_then, goes_then, cut_then}
-use Rattle.office_tables.proofs.Causes.{still_unlimited}
-use Rattle.office_tables.proofs.LaterCauses.{last_cause}
-use Rattle.office_tables.proofs.CallEnds.{same_fault}
 use Rattle.office_tables.proofs.StoreCalls.{makes_not}
-use Rattle.desk_store.proofs.RunCalls.{both_touched, lines_still, run_free, no_line, run_shown, clean_before}
-use Rattle.office_tables.proofs.Sparing.{last_touched, wider_last}
-use Rattle.office_tables.proofs.Touching.{touched_wider}
 use Rattle.office_tables.specs.Schema as tables
+use Rattle.desk_store.proofs.Common.{cut_then, goes_then, last_cause, last_touched, on_err_then, on_ok_both, on_ok_then, same_fault, state, still_unlimited, touched_wider, wider_last}
+use Rattle.desk_store.proofs.RunCalls.{both_touched, lines_still, run_free, no_line, run_shown, clean_before}
 use Rattle.desk_store.proofs.runs.insert_all.Goals as goal
 
 abbrev both : List ℕ

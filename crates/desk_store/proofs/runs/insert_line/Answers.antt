@@ -1,6 +1,6 @@
 use Rattle.std.proofs.Common.{refl}
-use Rattle.office_tables.proofs.StatementEnds.{puts_numbered}
 use Rattle.desk_store.specs.Runs.{line_of}
+use Rattle.desk_store.proofs.Common.{puts_numbered}
 use Rattle.desk_store.proofs.RunRows.{insert_line_command, insert_line_means, insert_line_puts, insert_line_faults}
 use Rattle.desk_store.proofs.runs.insert_line.Goals as goal
 

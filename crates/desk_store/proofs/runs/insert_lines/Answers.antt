@@ -1,21 +1,8 @@
 use Rattle.std.proofs.Common.{◌≡◌, ◌<◌, false, nat_eq, ◌&&◌, ◌∷◌, [], ◌++◌, length, map, take, refl, sym, arith, subst}
-use Rattle.std.specs.List.{list_any}
-use Rattle.std.proofs.lemmas.List.{take_all}
-use Rattle.sqlite.specs.Edit.{next_rowid}
-use Rattle.sqlite.specs.Held.{state}
-use Rattle.office_tables.proofs.Calls.{early, goes_then}
-use Rattle.office_tables.proofs.Touching.{touched_again}
-use Rattle.office_tables.proofs.numbered.OwnNumbers.{one_at_end}
-use Rattle.office_tables.proofs.CallEnds.{same_fault}
-use Rattle.office_tables.proofs.StoreCalls.{makes_cut}
-use Rattle.desk_core.specs.DeskRows.{RunLineRow}
-use Rattle.desk_store.specs.Rows.{run_line_cells}
 use Rattle.desk_store.specs.Runs.{line_of}
-use Rattle.desk_store.specs.declared.container_orders.ContainerOrder.{ContainerOrder}
-use Rattle.office_tables.specs.RowNumbers.{HasNumbered}
 use Rattle.office_tables.specs.Schema as tables
+use Rattle.desk_store.proofs.Common.{ContainerOrder, HasNumbered, RunLineRow, early, goes_then, list_any, makes_cut, next_rowid, one_at_end, run_line_cells, same_fault, state, take_all, touched_again, untouched}
 use Rattle.desk_store.proofs.RunCalls.{free_line, line_more}
-use Rattle.office_tables.proofs.Sparing.{untouched}
 use Rattle.desk_store.proofs.runs.insert_lines.Goals as goal
 
 pub loop-line-preserved : goal.loop-line-preserved

@@ -1,12 +1,7 @@
 use Rattle.std.proofs.Common.{List, [], ◌∷◌, ◌++◌, map, take}
-use Rattle.sqlite.specs.Held.{state}
-use Rattle.sqlite.specs.State.{HasCleanDisk}
-use Rattle.desk_core.specs.DeskRows.{RunLineRow}
-use Rattle.office_tables.specs.Step.{Goes, OnlyTouches}
-use Rattle.desk_store.specs.Rows.{run_line_cells}
 use Rattle.desk_store.specs.Runs.{line_of}
-use Rattle.office_tables.specs.RowNumbers.{HasNumbered}
 use Rattle.office_tables.specs.Schema as tables
+use Rattle.desk_store.proofs.Common.{Goes, HasCleanDisk, HasNumbered, OnlyTouches, RunLineRow, run_line_cells, state}
 use Rattle.desk_store.proofs.runs.insert_lines.Given as goal
 
 abbrev pub invariant-loop-line : goal.invariant-loop-line

@@ -1,6 +1,6 @@
 use Rattle.std.proofs.Common.{refl}
+use Rattle.desk_store.proofs.Common.{puts_row}
 use Rattle.desk_store.proofs.RunRows.{insert_run_command, insert_run_means, insert_run_puts, insert_run_faults}
-use Rattle.office_tables.proofs.StatementEnds.{puts_row}
 use Rattle.desk_store.proofs.runs.insert_run.Goals as goal
 
 pub change-requires : goal.change-requires

@@ -1,5 +1,5 @@
+use Rattle.desk_store.proofs.Common.{looks_up}
 use Rattle.desk_store.proofs.RunRows.{last_run_command, last_run_means, last_run_finds, last_run_faults}
-use Rattle.office_tables.proofs.StatementEnds.{looks_up}
 use Rattle.desk_store.proofs.runs.last_run.Goals as goal
 
 pub find_number-requires : goal.find_number-requires

@@ -1,5 +1,5 @@
+use Rattle.desk_store.proofs.Common.{looks_up}
 use Rattle.desk_store.proofs.RunRows.{lines_with_command, lines_with_means, lines_with_finds, lines_with_faults}
-use Rattle.office_tables.proofs.StatementEnds.{looks_up}
 use Rattle.desk_store.proofs.runs.lines_with.Goals as goal
 
 pub find-requires : goal.find-requires

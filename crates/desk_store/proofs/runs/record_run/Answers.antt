@@ -1,11 +1,6 @@
-use Rattle.std.specs.Prelude.{⊤}
 use Rattle.std.proofs.Common.{ℕ, Option, Result, [], ◌∷◌, sym, subst, ◌∙◌}
-use Rattle.office_tables.specs.Calls.{StoreUpdates}
-use Rattle.office_tables.specs.declared.fault.StoreFault.{StoreFault}
 use Rattle.office_tables.specs.Schema as tables
-use Rattle.office_tables.proofs.CallEnds.{same_fault}
-use Rattle.desk_store.specs.Runs.{next_run, with_run, TakesEachOnce}
-use Rattle.desk_store.specs.Representation.{RepresentsDeskAlone, IsLegible}
+use Rattle.desk_store.proofs.Common.{IsLegible, RepresentsDeskAlone, StoreFault, StoreUpdates, TakesEachOnce, next_run, same_fault, with_run, ⊤}
 use Rattle.desk_store.proofs.RunCalls.{recorded, not_recorded}
 use Rattle.desk_store.proofs.runs.record_run.Goals as goal
 

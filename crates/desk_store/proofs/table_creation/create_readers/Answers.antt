@@ -1,5 +1,5 @@
 use Rattle.std.proofs.Common.{Ok, Err}
-use Rattle.office_tables.proofs.CallEnds.{same_fault}
+use Rattle.desk_store.proofs.Common.{same_fault}
 use Rattle.desk_store.proofs.Creations.{reader_defined, seat_defined}
 use Rattle.desk_store.proofs.TableSteps.{makes_one, makes_not, makes_next}
 use Rattle.desk_store.proofs.table_creation.create_readers.Goals as goal

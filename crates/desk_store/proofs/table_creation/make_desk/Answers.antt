@@ -1,4 +1,4 @@
-use Rattle.office_tables.proofs.CallEnds.{same_fault}
+use Rattle.desk_store.proofs.Common.{same_fault}
 use Rattle.desk_store.proofs.TableSteps.{makes_not, makes_next}
 use Rattle.desk_store.proofs.table_creation.make_desk.Goals as goal
 

@@ -1,11 +1,6 @@
 use Rattle.std.proofs.Common.{Ok, [], map, filter, nat_eq, ap, ◌∙◌}
-use Rattle.std.proofs.lemmas.Result.{IfOk-weaker}
-use Rattle.sqlite_trees.proofs.ListLemmas.{ascending-filter}
-use Rattle.desk_core.specs.DeskRows.{SeatRow}
-use Rattle.office_tables.proofs.Reading.{first_shown}
-use Rattle.office_tables.proofs.Sorted.{only_order}
+use Rattle.desk_store.proofs.Common.{IfOk-weaker, SeatRow, ascending-filter, first_shown, looks_up, only_order}
 use Rattle.desk_store.proofs.SeatRows.{find_seat_command, find_seat_means, find_seat_finds, find_seat_faults, taken, by_seat, by_seat_total}
-use Rattle.office_tables.proofs.StatementEnds.{looks_up}
 use Rattle.desk_store.proofs.taken_seats.find_seat.Goals as goal
 
 pub find_one-requires : goal.find_one-requires

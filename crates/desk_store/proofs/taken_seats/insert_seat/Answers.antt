@@ -1,6 +1,6 @@
 use Rattle.std.proofs.Common.{refl}
+use Rattle.desk_store.proofs.Common.{puts_row}
 use Rattle.desk_store.proofs.SeatRows.{insert_seat_command, insert_seat_means, insert_seat_puts, insert_seat_faults}
-use Rattle.office_tables.proofs.StatementEnds.{puts_row}
 use Rattle.desk_store.proofs.taken_seats.insert_seat.Goals as goal
 
 pub change-requires : goal.change-requires

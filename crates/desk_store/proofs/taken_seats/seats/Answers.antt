@@ -1,11 +1,6 @@
 use Rattle.std.proofs.Common.{map, ap, subst, ◌∙◌}
-use Rattle.std.specs.List.Sorted.{IsPermutation}
-use Rattle.std.proofs.lemmas.Result.{IfOk-weaker}
-use Rattle.sqlite.specs.Held.{state}
-use Rattle.office_tables.proofs.Rows.{kept_all}
-use Rattle.office_tables.proofs.Sorted.{only_order}
+use Rattle.desk_store.proofs.Common.{IfOk-weaker, IsPermutation, answered, caused, kept_all, only_order, state}
 use Rattle.desk_store.proofs.SeatRows.{seats_command, seats_means, seats_finds, seats_faults, taken, by_seat, by_seat_total}
-use Rattle.office_tables.proofs.StatementEnds.{answered, caused}
 use Rattle.desk_store.proofs.taken_seats.seats.Goals as goal
 
 pub find-requires : goal.find-requires

@@ -1,12 +1,7 @@
 use Rattle.std.proofs.Common.{ℕ, Option, [], ◌∷◌, sym, subst, OnOk}
-use Rattle.std.specs.Prelude.{IfSome}
-use Rattle.sqlite.specs.Held.{state}
-use Rattle.office_tables.specs.Calls.{StoreUpdates}
 use Rattle.office_tables.specs.Schema as tables
-use Rattle.office_tables.specs.Step.{PutsRow}
-use Rattle.desk_store.specs.Rows.{seat_cells}
 use Rattle.desk_store.specs.Seats.{MayTake, with_seat}
-use Rattle.desk_store.specs.Representation.{RepresentsDeskAlone, IsLegible}
+use Rattle.desk_store.proofs.Common.{IfSome, IsLegible, PutsRow, RepresentsDeskAlone, StoreUpdates, seat_cells, state}
 use Rattle.desk_store.proofs.SeatCalls.{takes, frees}
 use Rattle.desk_store.proofs.taken_seats.set_seat.Goals as goal
 

@@ -1,11 +1,5 @@
 use Rattle.std.proofs.Common.{◌<◌, ◌^◌, length, List, None, refl, ap, sym, subst, ◌∙◌, nat_eq}
-use Rattle.std.specs.Prelude.{option_map, ⊤}
-use Rattle.std.specs.List.{count_by}
-use Rattle.sqlite.specs.Held.{state}
-use Rattle.office_tables.proofs.Calls.{early, looks_then}
-use Rattle.office_tables.proofs.CallEnds.{same_fault}
-use Rattle.desk_store.specs.declared.reader_summary.OrderLine.{OrderLine}
-use Rattle.desk_store.specs.Representation.{RepresentsDeskAlone, IsLegible}
+use Rattle.desk_store.proofs.Common.{IsLegible, OrderLine, RepresentsDeskAlone, count_by, early, looks_then, option_map, same_fault, state, ⊤}
 use Rattle.desk_store.proofs.CardCalls.{out_of_lines, few_lines, seat_told, holder_with, holder_told}
 use Rattle.desk_store.proofs.ticket_holders.find_holder.Goals as goal
 use Rattle.desk_store.proofs.ToldCalls.{shown_on}

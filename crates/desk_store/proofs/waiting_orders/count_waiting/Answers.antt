@@ -1,5 +1,5 @@
+use Rattle.desk_store.proofs.Common.{looks_up}
 use Rattle.desk_store.proofs.WaitingRows.{count_command, count_means, waiting_count_finds, waiting_count_faults}
-use Rattle.office_tables.proofs.StatementEnds.{looks_up}
 use Rattle.desk_store.proofs.waiting_orders.count_waiting.Goals as goal
 
 pub find_number-requires : goal.find_number-requires

@@ -1,16 +1,7 @@
 use Rattle.std.proofs.Common.{Ok, List, [], map, filter, take, refl, sym, ap, ◌∙◌}
-use Rattle.std.specs.Prelude.{slice_get}
-use Rattle.std.proofs.lemmas.List.{take-map}
-use Rattle.std.proofs.lemmas.Result.{IfOk-weaker}
-use Rattle.sqlite_trees.proofs.ListLemmas.{ascending-filter}
-use Rattle.desk_core.specs.DeskRows.{OrderRow}
-use Rattle.office_tables.proofs.Reading.{first_shown}
-use Rattle.office_tables.proofs.Sorted.{only_order}
-use Rattle.desk_store.specs.Holdings.{waits_for}
+use Rattle.desk_store.proofs.Common.{IfOk-weaker, OrderRow, ascending-filter, counted_rises, first_shown, looks_up, only_order, slice_get, take-map, waits_for}
 use Rattle.desk_store.proofs.CardRows.{by_order, by_order_total}
-use Rattle.office_tables.proofs.numbered.Counted.{counted_rises}
 use Rattle.desk_store.proofs.WaitingRows.{first_command, first_means, first_finds, first_faults, first_taken, waiting_of}
-use Rattle.office_tables.proofs.StatementEnds.{looks_up}
 use Rattle.desk_store.proofs.waiting_orders.first_for.Goals as goal
 
 pub find_one-requires : goal.find_one-requires

@@ -1,6 +1,5 @@
 use Rattle.std.proofs.Common.{ap, ◌∙◌}
-use Rattle.std.specs.Prelude.{nat_lt}
-use Rattle.desk_store.specs.Holdings.{waits_for}
+use Rattle.desk_store.proofs.Common.{nat_lt, waits_for}
 use Rattle.desk_store.proofs.WaitingRows.{any_counted}
 use Rattle.desk_store.proofs.waiting_orders.is_awaited.Goals as goal
 

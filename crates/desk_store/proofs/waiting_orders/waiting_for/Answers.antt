@@ -1,13 +1,7 @@
 use Rattle.std.proofs.Common.{map, filter, ap, ◌∙◌}
-use Rattle.std.proofs.lemmas.Result.{IfOk-weaker}
-use Rattle.sqlite_trees.proofs.ListLemmas.{ascending-filter}
-use Rattle.desk_core.specs.DeskRows.{OrderRow}
-use Rattle.office_tables.proofs.Sorted.{only_order}
-use Rattle.desk_store.specs.Holdings.{waits_for}
+use Rattle.desk_store.proofs.Common.{IfOk-weaker, OrderRow, ascending-filter, counted_rises, looks_up, only_order, waits_for}
 use Rattle.desk_store.proofs.CardRows.{by_order, by_order_total}
-use Rattle.office_tables.proofs.numbered.Counted.{counted_rises}
 use Rattle.desk_store.proofs.WaitingRows.{waiting_command, waiting_means, waiting_finds, waiting_faults, waiting_of}
-use Rattle.office_tables.proofs.StatementEnds.{looks_up}
 use Rattle.desk_store.proofs.waiting_orders.waiting_for.Goals as goal
 
 pub find-requires : goal.find-requires

@@ -1,10 +1,7 @@
 use Rattle.std.proofs.Common.{◌≡◌, ◌∷◌, [], ℕ, List, Err}
 use Rattle.std.proofs.lemmas.Result.{err_from_is_err_and}
-use Rattle.catalogue_core.specs.CatalogueMerge.{empty_catalogue, merge}
-use Rattle.catalogue_core.specs.Aids.{Repository}
-use Rattle.finding_aids.specs.Places.{faults}
 use Rattle.finding_aids.specs.Preview.{after_merging}
-use Rattle.finding_aids.specs.Numbers.{number_by}
+use Rattle.finding_aids.proofs.Common.{Repository, empty_catalogue, faults, merge, number_by}
 use Rattle.finding_aids.proofs.PreviewLemmas.{bad_after, preview_refused, previewed, printed_whole}
 use Rattle.finding_aids.proofs.previews.preview_rows.Goals as goal
 

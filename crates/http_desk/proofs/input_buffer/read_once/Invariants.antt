@@ -1,7 +1,6 @@
 -- so far nothing came, and each turn was an interruption
 use Rattle.std.proofs.Common.{◌≡◌, [], false}
-use Rattle.std.specs.Io.KnownBytes.{Consumes}
-use Rattle.http_desk.specs.StreamFaults.{TakesTurns}
+use Rattle.http_desk.proofs.Common.{Consumes, TakesTurns}
 use Rattle.http_desk.proofs.input_buffer.read_once.Given as goal
 
 abbrev pub invariant-loop-reader : goal.invariant-loop-reader

@@ -1,7 +1,6 @@
 -- what came stands in the buffer; and where no call was interrupted, each turn brought a byte
 use Rattle.std.proofs.Common.{◌≡◌, ◌+◌, ◌-◌, ◌≤◌, false, length}
-use Rattle.http_desk.specs.MessageInput.{Reads}
-use Rattle.http_desk.specs.StreamFaults.{TakesTurns}
+use Rattle.http_desk.proofs.Common.{Reads, TakesTurns}
 use Rattle.http_desk.proofs.message_input.gather_body.Given as goal
 
 abbrev pub invariant-loop-reader : goal.invariant-loop-reader

@@ -1,10 +1,7 @@
 -- what came stands in the buffer; what was seen of it ends no head; and where no call was interrupted, each turn brought a byte
 use Rattle.std.proofs.Common.{◌≡◌, ◌+◌, ◌-◌, ◌≤◌, false, length, take}
-use Rattle.http_desk.specs.Messages.{longest_head}
 use Rattle.http_messages.specs.HeadScan.{scan}
-use Rattle.http_messages.specs.declared.head_scan.Scan.TheVariants.{Open}
-use Rattle.http_desk.specs.MessageInput.{Reads}
-use Rattle.http_desk.specs.StreamFaults.{TakesTurns}
+use Rattle.http_desk.proofs.Common.{Open, Reads, TakesTurns, longest_head}
 use Rattle.http_desk.proofs.message_input.gather_head.Given as goal
 
 abbrev pub invariant-loop-size : goal.invariant-loop-size

@@ -1,8 +1,6 @@
 use Rattle.std.proofs.Common.{arith, ◌≡◌, ◌≤◌, ◌+◌, take, sym, ◌∙◌}
-use Rattle.http_desk.specs.Messages.{longest_head}
 use Rattle.http_messages.specs.HeadScan.{scan}
-use Rattle.http_messages.specs.declared.head_scan.Scan.TheVariants.{Whole, Open}
-use Rattle.http_messages.proofs.Scans.{scan_go_on, scan_take_limit}
+use Rattle.http_desk.proofs.Common.{Open, Whole, longest_head, scan_go_on, scan_take_limit}
 use Rattle.http_desk.proofs.message_input.look.Goals as goal
 
 found_whole : (c : goal.In-Whole) → Whole (c.args.seen + c.in-Whole.size) ≡ scan (take longest_head c.args.buffer.now)

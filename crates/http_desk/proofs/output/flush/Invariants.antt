@@ -1,7 +1,6 @@
 -- nothing is written, and each turn was an interruption
 use Rattle.std.proofs.Common.{◌≡◌, [], false}
-use Rattle.std.specs.Io.KnownBytes.{Appends}
-use Rattle.http_desk.specs.StreamFaults.{TakesTurns}
+use Rattle.http_desk.proofs.Common.{Appends, TakesTurns}
 use Rattle.http_desk.proofs.output.flush.Given as goal
 
 abbrev pub invariant-loop-writer : goal.invariant-loop-writer

@@ -1,6 +1,6 @@
 -- the bytes so far
 use Rattle.std.proofs.Common.{◌≡◌, take, length}
-use Rattle.std.specs.List.{flat_map}
+use Rattle.http_desk.proofs.Common.{flat_map}
 use Rattle.http_desk.proofs.output.length_of.Given as goal
 
 abbrev pub invariant-loop-piece : goal.invariant-loop-piece

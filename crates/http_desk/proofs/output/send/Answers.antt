@@ -1,11 +1,7 @@
 use Rattle.std.proofs.Common.{◌≡◌, ◌<◌, ◌≤◌, ◌+◌, ◌++◌, arith, ap, sym, ◌∙◌, subst, refl, append-nil, length-append, [], length, false}
 use Rattle.std.specs.Prelude.{◌||◌}
-use Rattle.std.specs.List.{flat_map}
-use Rattle.std.specs.Io.KnownBytes.{Appends}
-use Rattle.std.proofs.KnownBytes.{Appends-trans}
-use Rattle.http_desk.specs.Session.{IsFront}
-use Rattle.http_desk.specs.StreamFaults.{send_failed}
 use Rattle.http_desk.specs.declared.output.Sent.TheVariants.{Bound}
+use Rattle.http_desk.proofs.Common.{Appends, Appends-trans, IsFront, flat_map, send_failed}
 use Rattle.http_desk.proofs.Faults.{used_up}
 use Rattle.http_desk.proofs.Sends.{one_more, all_pieces, gathers, front_of_all, front_at_end, sends, within, turns_left}
 use Rattle.http_desk.proofs.output.send.Goals as goal

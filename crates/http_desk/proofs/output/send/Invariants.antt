@@ -1,7 +1,6 @@
 -- of the pieces so far, what is no longer gathered is written, and where no call was interrupted in no more turns than bytes
 use Rattle.std.proofs.Common.{◌≡◌, ◌+◌, ◌≤◌, ◌++◌, ℕ, List, take, length, false}
-use Rattle.std.specs.List.{flat_map}
-use Rattle.std.specs.Io.KnownBytes.{Appends}
+use Rattle.http_desk.proofs.Common.{Appends, flat_map}
 use Rattle.http_desk.proofs.output.send.Given as goal
 
 abbrev pub invariant-loop-piece : goal.invariant-loop-piece

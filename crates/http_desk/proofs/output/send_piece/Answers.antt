@@ -1,5 +1,5 @@
 use Rattle.std.proofs.Common.{◌++◌, ◌∙◌, sym, take, length}
-use Rattle.std.proofs.KnownBytes.{Appends-trans}
+use Rattle.http_desk.proofs.Common.{Appends-trans}
 use Rattle.http_desk.proofs.Faults.{one_more}
 use Rattle.http_desk.proofs.Sends.{moves_front, shrinks}
 use Rattle.http_desk.proofs.output.send_piece.Goals as goal

@@ -1,7 +1,6 @@
 -- what is gone from `rest` was written, and where no call was interrupted in no more turns than bytes
 use Rattle.std.proofs.Common.{◌≡◌, ◌+◌, ◌≤◌, ℕ, List, ◌++◌, length, false}
-use Rattle.std.specs.Io.KnownBytes.{Appends}
-use Rattle.http_desk.specs.StreamFaults.{TakesTurns}
+use Rattle.http_desk.proofs.Common.{Appends, TakesTurns}
 use Rattle.http_desk.proofs.output.send_piece.Given as goal
 
 abbrev pub invariant-loop-rest : goal.invariant-loop-rest

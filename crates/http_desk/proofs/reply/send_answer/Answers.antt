@@ -1,8 +1,6 @@
 use Rattle.std.proofs.Common.{ap, ◌∙◌, length}
-use Rattle.std.specs.Prelude.{decimal}
-use Rattle.http_messages.specs.Answers.{number_of, phrase_of, type_name, body_text}
-use Rattle.http_messages.specs.Replies.{answer_of_view}
-use Rattle.http_desk.specs.AnswerOutput.{SendsAsCalled}
+use Rattle.http_messages.specs.Answers.{number_of}
+use Rattle.http_desk.proofs.Common.{SendsAsCalled, answer_of_view, body_text, decimal, phrase_of, type_name}
 use Rattle.http_desk.proofs.Printed.{of_pieces}
 use Rattle.http_desk.proofs.reply.send_answer.Goals as goal
 

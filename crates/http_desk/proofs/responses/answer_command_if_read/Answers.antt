@@ -1,7 +1,5 @@
 use Rattle.std.proofs.Common.{subst, sym}
-use Rattle.std.specs.Prelude.{⊤}
-use Rattle.http_messages.specs.Answers.{done_if_read}
-use Rattle.http_desk.specs.MachineAnswers.{AnswersAs}
+use Rattle.http_desk.proofs.Common.{AnswersAs, done_if_read, ⊤}
 use Rattle.http_desk.proofs.responses.answer_command_if_read.Goals as goal
 
 pub returns-in-Some : goal.returns-in-Some

@@ -1,10 +1,7 @@
 use Rattle.std.proofs.Common.{◌≡◌, subst, sym, true}
-use Rattle.std.specs.Prelude.{⊤}
-use Rattle.office_core.specs.declared.command.Command.{Command}
-use Rattle.http_messages.specs.Answers.{carried_out, command_answer}
+use Rattle.http_messages.specs.Answers.{carried_out}
 use Rattle.http_messages.specs.Router.{route_in}
-use Rattle.http_messages.specs.Routes.{Route, TakesFile, is_post}
-use Rattle.http_desk.specs.MachineAnswers.{AnswersAs}
+use Rattle.http_desk.proofs.Common.{AnswersAs, Command, Route, TakesFile, command_answer, is_post, ⊤}
 use Rattle.http_desk.proofs.responses.carried_out.Goals as goal
 
 pub returns-in-Ok : goal.returns-in-Ok

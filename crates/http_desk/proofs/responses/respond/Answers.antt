@@ -1,13 +1,8 @@
 use Rattle.std.proofs.Common.{◌≡◌, sym, ap, ◌∙◌, subst, Some, None, Ok, refl}
-use Rattle.std.specs.Prelude.{codes, option_map}
+use Rattle.std.specs.Prelude.{codes}
 use Rattle.http_messages.specs.declared.answers.Answered.TheVariants.{Error}
-use Rattle.http_messages.specs.declared.status.Status.TheVariants.{NotFound}
-use Rattle.http_messages.specs.Answers.{by_route}
-use Rattle.http_messages.specs.HeadVerdict.{request_in}
-use Rattle.http_messages.specs.Routes.{route_of}
 use Rattle.http_messages.specs.Router.{route_in}
-use Rattle.http_messages.specs.Targets.{path_of}
-use Rattle.http_desk.specs.MachineAnswers.{AnswersAs}
+use Rattle.http_desk.proofs.Common.{AnswersAs, NotFound, by_route, option_map, path_of, request_in, route_of}
 use Rattle.http_desk.proofs.responses.respond.Goals as goal
 
 pub returns-in-Some : goal.returns-in-Some

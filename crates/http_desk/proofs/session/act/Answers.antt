@@ -1,13 +1,6 @@
 use Rattle.std.proofs.Common.{take, refl, sym, arith, false}
-use Rattle.std.specs.Prelude.{unwrap_or}
-use Rattle.http_messages.specs.HeadVerdict.{request_in}
-use Rattle.http_messages.specs.Answers.{answer_text}
-use Rattle.http_messages.specs.Replies.{answer_in}
-use Rattle.http_messages.specs.declared.status.Status.TheVariants.{Busy}
-use Rattle.http_messages.specs.Answers.{error}
-use Rattle.http_desk.specs.Exchanges.{Replies, Refused}
-use Rattle.http_desk.specs.Session.{refusal}
-use Rattle.http_desk.specs.StreamFaults.{TellsWriteBound}
+use Rattle.http_desk.specs.Exchanges.{Refused}
+use Rattle.http_desk.proofs.Common.{Busy, Replies, TellsWriteBound, answer_in, answer_text, error, refusal, request_in, unwrap_or}
 use Rattle.http_desk.proofs.Faults.{some_bound}
 use Rattle.http_desk.proofs.Bounds.{answered_to_bound}
 use Rattle.http_desk.proofs.Turns.{answered_at, left_back}

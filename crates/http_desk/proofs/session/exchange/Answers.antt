@@ -1,16 +1,9 @@
 use Rattle.std.proofs.Common.{◌⊎◌, inl, inr, arith, ℕ, List, [], ◌++◌, append_assoc, take, drop, refl, ap, ◌∙◌, subst, false}
-use Rattle.std.proofs.KnownBytes.{Consumes-trans, Appends-nil}
-use Rattle.http_messages.specs.declared.status.Status.TheVariants.{Busy, BadRequest}
-use Rattle.http_messages.specs.Heads.{Judges}
 use Rattle.http_messages.specs.Heads as heads
-use Rattle.http_messages.specs.HeadVerdict.{request_in, verdict_in}
-use Rattle.http_desk.specs.Messages.{IsBlank, IsHeadCut, IsTooLong, NoHead, Refuses, Fails, HasHead, HeadCut, Nothing}
-use Rattle.http_desk.specs.Exchanges.{Turn, Through}
+use Rattle.http_desk.proofs.Common.{Appends-nil, BadRequest, Busy, Consumes-trans, Fails, HasHead, HeadCut, IsBlank, IsHeadCut, IsTooLong, Judges, NoHead, Nothing, Refuses, StopsBounded, TakesTurns, Through, Turn, request_in, verdict_in}
 use Rattle.http_desk.proofs.Turns.{refused, head_found, may_fail, bound_here, stops_early}
-use Rattle.http_desk.specs.StreamFaults.{TakesTurns}
 use Rattle.http_desk.proofs.Endings.{begun, came, came_then, ends_on, ran_out}
 use Rattle.http_desk.proofs.Faults.{takes_on, used_up}
-use Rattle.http_desk.specs.Bounds.{StopsBounded}
 use Rattle.http_desk.proofs.Bounds.{refused_to_bound}
 use Rattle.http_desk.proofs.session.exchange.Goals as goal
 

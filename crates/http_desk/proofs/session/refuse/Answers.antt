@@ -1,8 +1,6 @@
 use Rattle.std.proofs.Common.{◌≡◌, subst, true}
-use Rattle.http_messages.specs.Answers.{answer_text}
-use Rattle.http_desk.specs.AnswerOutput.{Sends}
-use Rattle.http_desk.specs.StreamFaults.{TextIsUsedUp}
 use Rattle.http_desk.specs.declared.output.Sent.TheVariants.{Bound}
+use Rattle.http_desk.proofs.Common.{Sends, TextIsUsedUp, answer_text}
 use Rattle.http_desk.proofs.Endings.{answered}
 use Rattle.http_desk.proofs.Faults.{closed_no_bound, tells_bound}
 use Rattle.http_desk.proofs.session.refuse.Goals as goal

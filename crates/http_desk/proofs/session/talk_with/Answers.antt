@@ -1,12 +1,7 @@
 use Rattle.std.proofs.Common.{◌≡◌, ◌+◌, arith, subst, refl, ap, ◌∙◌, inl, inr}
-use Rattle.http_desk.specs.Exchanges.{EndsAsCalled}
-use Rattle.http_desk.specs.StreamFaults.{TakesCalls}
-use Rattle.http_desk.specs.Session.{most_answers}
-use Rattle.http_desk.specs.Streams.{most_reads}
+use Rattle.http_desk.proofs.Common.{Closed, Ends, EndsAsCalled, Goes, TakesCalls, most_answers, most_reads}
 use Rattle.http_desk.proofs.Endings.{came, ends_on}
-use Rattle.http_desk.specs.declared.session_end.Ended.TheVariants.{Closed}
 use Rattle.http_desk.proofs.Sessions.{Carried, carried_none, carried_on, carried_to_end, carried_over}
-use Rattle.http_desk.specs.declared.session_end.Next.TheVariants.{Ends, Goes}
 use Rattle.http_desk.proofs.Bounds.{carried_to_bound}
 use Rattle.http_desk.proofs.session.talk_with.Goals as goal
 

@@ -5,11 +5,8 @@ use Rattle.std.proofs.Math.Utf8.{encode}
 use Rattle.serde_json.proofs.OnLiterals.{serde_json_on_literals}
 use Rattle.isad_core.specs.Days.{day_text}
 use Rattle.office_core.specs.declared.query.Query.TheVariants as query
-use Rattle.office_core.specs.MixedRuns.{ToDo, ToTell}
 use Rattle.office_core.specs.WorkedExamples.{draft}
-use Rattle.http_desk.specs.Runs.{Means, Puts}
-use Rattle.http_desk.specs.WorkedExamples.{filled_office, with_draft, fonds_list, not_found}
-use Rattle.http_desk.specs.WorkedSessions.{list_request, register_head, half_a_request, draft_head, draft_request, page_request, one_unit}
+use Rattle.http_desk.proofs.Common.{Means, Puts, ToDo, ToTell, draft_head, draft_request, filled_office, fonds_list, half_a_request, list_request, not_found, one_unit, page_request, register_head, with_draft}
 use Rattle.http_desk.proofs.Meanings.{same_answers}
 use Rattle.http_desk.proofs.WorkedHeads.{list_has, page_has, register_has, draft_has, orders_at, two_answered, one_answered}
 use Rattle.http_desk.proofs.WorkedPieces.{list_message, page_message, draft_message, list_told, list_keeps, draft_told, draft_leaves, page_told, page_keeps}

@@ -1,5 +1,5 @@
 use Rattle.std.proofs.Common.{sym}
-use Rattle.http_messages.specs.HeadScan.{scan_from}
+use Rattle.http_messages.proofs.Common.{scan_from}
 use Rattle.http_messages.proofs.Scans.{later_none}
 use Rattle.http_messages.proofs.head_scan.scan_on.Goals as goal
 

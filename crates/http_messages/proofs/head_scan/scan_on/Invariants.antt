@@ -1,6 +1,6 @@
 -- what is left gives the rest
 use Rattle.std.proofs.Common.{◌≡◌, drop}
-use Rattle.http_messages.specs.HeadScan.{scan_from}
+use Rattle.http_messages.proofs.Common.{scan_from}
 use Rattle.http_messages.proofs.Scans.{later}
 use Rattle.http_messages.proofs.head_scan.scan_on.Given as goal
 

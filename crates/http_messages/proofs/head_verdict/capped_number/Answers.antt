@@ -1,9 +1,6 @@
 use Rattle.std.proofs.Common.{◌≡◌, ◌+◌, ◌<◌, min, take, length, get_or, arith, ◌∙◌}
-use Rattle.std.specs.Char.{is_ascii_digit, digit_value}
-use Rattle.std.specs.Str.Parse.{digits_value}
 use Rattle.std.proofs.lemmas.List.Sums.{AllPass-from_list_all}
-use Rattle.std.proofs.lemmas.Int.Digits.{digits_value_more}
-use Rattle.http_messages.specs.Heads.{longest_body}
+use Rattle.http_messages.proofs.Common.{digit_value, digits_value, digits_value_more, is_ascii_digit, longest_body}
 use Rattle.http_messages.proofs.Numbers.{digit_is, digit_from, capped_more}
 use Rattle.http_messages.proofs.head_verdict.capped_number.Goals as goal
 

@@ -1,6 +1,5 @@
 use Rattle.std.proofs.Common.{◌≡◌, ◌+◌, min, take}
-use Rattle.std.specs.Str.Parse.{digits_value}
-use Rattle.http_messages.specs.Heads.{longest_body}
+use Rattle.http_messages.proofs.Common.{digits_value, longest_body}
 use Rattle.http_messages.proofs.head_verdict.capped_number.Given as goal
 
 abbrev pub invariant-loop-digit : goal.invariant-loop-digit

@@ -1,5 +1,5 @@
 use Rattle.std.proofs.Common.{◌≡◌, take, drop}
-use Rattle.http_messages.specs.Heads.{list_items}
+use Rattle.http_messages.proofs.Common.{list_items}
 use Rattle.http_messages.proofs.Options.{prepend}
 use Rattle.http_messages.proofs.head_verdict.first_comma.Given as goal
 

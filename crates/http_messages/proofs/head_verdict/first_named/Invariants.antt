@@ -1,7 +1,5 @@
 use Rattle.std.proofs.Common.{◌≡◌, drop}
-use Rattle.std.specs.List.{find}
-use Rattle.httparse.specs.Spans.{header_bytes}
-use Rattle.http_messages.specs.Heads.{is_named}
+use Rattle.http_messages.proofs.Common.{find, header_bytes, is_named}
 use Rattle.http_messages.proofs.head_verdict.first_named.Given as goal
 
 abbrev pub invariant-loop-field : goal.invariant-loop-field

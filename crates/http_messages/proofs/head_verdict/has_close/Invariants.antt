@@ -1,6 +1,5 @@
 use Rattle.std.proofs.Common.{◌≡◌, length}
-use Rattle.std.specs.List.{list_any}
-use Rattle.http_messages.specs.Heads.{is_close, list_items}
+use Rattle.http_messages.proofs.Common.{is_close, list_any, list_items}
 use Rattle.http_messages.proofs.head_verdict.has_close.Given as goal
 
 abbrev pub invariant-loop-i : goal.invariant-loop-i

@@ -1,8 +1,5 @@
 use Rattle.std.proofs.Common.{◌∙◌, sym, ap, map}
-use Rattle.std.specs.Prelude.{◌&&◌}
-use Rattle.std.specs.List.{list_all}
-use Rattle.httparse.specs.Spans.{header_bytes}
-use Rattle.http_messages.specs.Heads.{agrees}
+use Rattle.http_messages.proofs.Common.{agrees, header_bytes, list_all, ◌&&◌}
 use Rattle.http_messages.proofs.Folds.{list_all_map}
 use Rattle.http_messages.proofs.head_verdict.is_undisputed.Goals as goal
 

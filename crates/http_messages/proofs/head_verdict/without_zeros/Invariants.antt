@@ -1,5 +1,5 @@
 use Rattle.std.proofs.Common.{◌≡◌, length}
-use Rattle.http_messages.specs.Heads.{strip_zeros}
+use Rattle.http_messages.proofs.Common.{strip_zeros}
 use Rattle.http_messages.proofs.head_verdict.without_zeros.Given as goal
 
 abbrev pub invariant-loop-rest : goal.invariant-loop-rest

@@ -1,7 +1,6 @@
 use Rattle.std.proofs.Common.{◌≡◌, ◌<◌, ◌+◌, ◌*◌, ◌-◌, length, get_or, arith, sym, ◌∙◌}
-use Rattle.std.specs.Char.{is_ascii_digit, digit_value}
 use Rattle.std.proofs.lemmas.List.Sums.{AllPass-from_list_all}
-use Rattle.std.proofs.lemmas.Int.Digits.{digits_value_more, digits_more}
+use Rattle.http_messages.proofs.Common.{digit_value, digits_more, digits_value_more, is_ascii_digit}
 use Rattle.http_messages.proofs.Numbers.{small_value, digit_is, digit_below}
 use Rattle.http_messages.proofs.routes.digits_value.Goals as goal
 

@@ -1,5 +1,5 @@
 use Rattle.std.proofs.Common.{◌≡◌, take}
-use Rattle.std.specs.Str.Parse.{digits_value, AllDigits}
+use Rattle.http_messages.proofs.Common.{AllDigits, digits_value}
 use Rattle.http_messages.proofs.routes.digits_value.Given as goal
 
 abbrev pub invariant-loop-digit : goal.invariant-loop-digit

@@ -1,5 +1,5 @@
 use Rattle.std.proofs.Common.{sym, ◌∙◌}
-use Rattle.sqlite.specs.Held.{state}
+use Rattle.integrity_checks.proofs.Common.{state}
 use Rattle.integrity_checks.proofs.CatalogueDefects.{bad_containers, counted, rest_of_containers}
 use Rattle.integrity_checks.proofs.ExaminationEnds.{examined, examined_last, passes}
 use Rattle.integrity_checks.proofs.catalogue_check.containers_are_good.Goals as goal

@@ -1,13 +1,7 @@
 use Rattle.std.proofs.Common.{◌≡◌, Option, is_none, sym, ap, subst, ◌∙◌}
 use Rattle.std.specs.Prelude.{IfSome}
-use Rattle.sqlite.specs.Held.{state}
-use Rattle.catalogue_core.specs.CatalogueRows.{places_said}
 use Rattle.catalogue_core.specs.Moves.{height as height_of}
-use Rattle.office_tables.specs.Versions.{encoding}
-use Rattle.office_tables.proofs.Calls.{looks_then}
-use Rattle.row_decoding.specs.TableRows.{places_in}
-use Rattle.integrity_checks.specs.PlaceChecks.{AreUnitsPlaced}
-use Rattle.integrity_checks.specs.declared.checked_places.Placed.{Placed}
+use Rattle.integrity_checks.proofs.Common.{AreUnitsPlaced, Placed, encoding, looks_then, places_in, places_said, state}
 use Rattle.integrity_checks.proofs.CatalogueDefects.{bad_places, bad_units, good_units, units_are_read}
 use Rattle.integrity_checks.proofs.ExaminationEnds.{earlier, examined, examined_last, passes, passes_later, still}
 use Rattle.integrity_checks.proofs.catalogue_check.load_check.Goals as goal

@@ -1,7 +1,6 @@
 use Rattle.std.proofs.Common.{Some, sym, ap, ◌∙◌}
 use Rattle.sqlite.specs.Value.{owned}
-use Rattle.office_tables.specs.Cells.{text_in}
-use Rattle.office_tables.proofs.CellTexts.{says_text, says_nothing}
+use Rattle.integrity_checks.proofs.Common.{says_nothing, says_text, text_in}
 use Rattle.integrity_checks.proofs.cells.text_in.Goals as goal
 
 pub returns-in-Ok : goal.returns-in-Ok

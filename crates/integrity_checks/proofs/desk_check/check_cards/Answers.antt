@@ -1,6 +1,5 @@
 use Rattle.std.proofs.Common.{sym, ◌∙◌}
-use Rattle.sqlite.specs.Held.{state}
-use Rattle.office_tables.proofs.Calls.{looks_then}
+use Rattle.integrity_checks.proofs.Common.{looks_then, state}
 use Rattle.integrity_checks.proofs.DeskDefects.{bad_seats, bad_permits, good_cards}
 use Rattle.integrity_checks.proofs.ExaminationEnds.{earlier, examined, examined_last, passes, passes_later, still}
 use Rattle.integrity_checks.proofs.desk_check.check_cards.Goals as goal

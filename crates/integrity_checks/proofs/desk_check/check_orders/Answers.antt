@@ -1,15 +1,7 @@
 use Rattle.std.proofs.Common.{◌≡◌, false, not, List, Bool, map, ◌&&◌, sym, ap, subst, ◌∙◌}
-use Rattle.std.proofs.lemmas.Bool.{and_parts, or_parts}
-use Rattle.sqlite.specs.Held.{state}
-use Rattle.desk_core.specs.DeskCauses.{orders_are_bad}
-use Rattle.office_tables.specs.DeskCells.{read_order}
 use Rattle.office_tables.specs.Schema as tables
-use Rattle.desk_core.specs.RowRecords.{order_row}
 use Rattle.desk_core.specs.declared.consistency.rows.OrderRow.{OrderRow}
-use Rattle.row_decoding.specs.TableRows.{desk_in}
-use Rattle.integrity_checks.specs.DeskChecks.{orders_are_defective}
-use Rattle.integrity_checks.specs.DeskJudgments.{AreOrdersOf}
-use Rattle.row_decoding.specs.Readings.{AreRead, by_rowid}
+use Rattle.integrity_checks.proofs.Common.{AreOrdersOf, AreRead, and_parts, by_rowid, desk_in, or_parts, order_row, orders_are_bad, orders_are_defective, read_order, state}
 use Rattle.integrity_checks.proofs.DeskDefects.{was_good, was_bad, bad_orders, sound_orders}
 use Rattle.integrity_checks.proofs.ExaminationEnds.{examined, examined_last, is_full, passes}
 use Rattle.integrity_checks.proofs.JudgedTables.{orders_judged}

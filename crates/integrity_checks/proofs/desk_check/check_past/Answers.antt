@@ -1,6 +1,5 @@
 use Rattle.std.proofs.Common.{sym, ◌∙◌}
-use Rattle.sqlite.specs.Held.{state}
-use Rattle.office_tables.proofs.Calls.{looks_then}
+use Rattle.integrity_checks.proofs.Common.{looks_then, state}
 use Rattle.integrity_checks.proofs.DeskDefects.{bad_holdings, bad_runs, no_defect}
 use Rattle.integrity_checks.proofs.ExaminationEnds.{earlier, examined, passes, passes_later, still}
 use Rattle.integrity_checks.proofs.desk_check.check_past.Goals as goal

@@ -1,8 +1,5 @@
 use Rattle.std.proofs.Common.{◌≡◌, Some, sym, ◌∙◌}
-use Rattle.sqlite.specs.Held.{state}
-use Rattle.office_tables.proofs.Calls.{looks_then}
-use Rattle.integrity_checks.specs.DeskChecks.{around_in}
-use Rattle.integrity_checks.specs.ReaderRows.{number_registered}
+use Rattle.integrity_checks.proofs.Common.{around_in, looks_then, number_registered, state}
 use Rattle.integrity_checks.proofs.DeskDefects.{bad_readers, defect_of_cards}
 use Rattle.integrity_checks.proofs.ExaminationEnds.{earlier, examined, examined_last, passes, passes_later, still}
 use Rattle.integrity_checks.proofs.desk_check.load_check_desk.Goals as goal

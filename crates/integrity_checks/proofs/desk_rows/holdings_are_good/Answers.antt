@@ -1,6 +1,5 @@
 use Rattle.std.proofs.Common.{map, ◌&&◌, sym, ap, ◌∙◌}
-use Rattle.sqlite.specs.Held.{state}
-use Rattle.desk_core.specs.RowRecords.{holding_row, order_row}
+use Rattle.integrity_checks.proofs.Common.{holding_row, order_row, state}
 use Rattle.integrity_checks.proofs.ExaminationEnds.{examined, is_full, passes}
 use Rattle.integrity_checks.proofs.JudgedTables.{holdings_judged}
 use Rattle.integrity_checks.proofs.desk_rows.holdings_are_good.Goals as goal

@@ -1,7 +1,5 @@
 use Rattle.std.proofs.Common.{◌≡◌, map, ◌&&◌, sym, ap, ◌∙◌}
-use Rattle.sqlite.specs.Held.{state}
-use Rattle.desk_core.specs.RowRecords.{order_row, run_row, run_line_row}
-use Rattle.office_tables.proofs.Calls.{looks_then}
+use Rattle.integrity_checks.proofs.Common.{looks_then, order_row, run_line_row, run_row, state}
 use Rattle.integrity_checks.proofs.ExaminationEnds.{earlier, examined, is_full, passes, passes_later, still}
 use Rattle.integrity_checks.proofs.JudgedTables.{runs_judged}
 use Rattle.integrity_checks.proofs.desk_rows.runs_are_good.Goals as goal

@@ -1,6 +1,5 @@
 use Rattle.std.proofs.Common.{map, ◌&&◌, sym, ap, ◌∙◌}
-use Rattle.sqlite.specs.Held.{state}
-use Rattle.desk_core.specs.RowRecords.{seat_row}
+use Rattle.integrity_checks.proofs.Common.{seat_row, state}
 use Rattle.integrity_checks.proofs.ExaminationEnds.{examined, passes}
 use Rattle.integrity_checks.proofs.JudgedTables.{seats_judged}
 use Rattle.integrity_checks.proofs.desk_rows.seats_are_good.Goals as goal

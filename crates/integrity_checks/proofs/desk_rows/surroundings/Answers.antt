@@ -1,8 +1,7 @@
 use Rattle.std.proofs.Common.{◌≡◌, rules, sym, ◌∙◌, to_z, of_z, w32, w64, FitsSigned}
 use Rattle.std.proofs.lemmas.Int.{to_z-of_z}
-use Rattle.sqlite.specs.Held.{state}
 use Rattle.office_tables.specs.Schema as tables
-use Rattle.office_tables.proofs.Calls.{looks_then}
+use Rattle.integrity_checks.proofs.Common.{looks_then, state}
 use Rattle.integrity_checks.proofs.ExaminationEnds.{earlier, examined, passes, passes_later, still}
 use Rattle.integrity_checks.proofs.Surroundings.{numbers_met, surrounded}
 use Rattle.integrity_checks.proofs.desk_rows.surroundings.Goals as goal

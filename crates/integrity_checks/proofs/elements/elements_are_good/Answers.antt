@@ -1,9 +1,6 @@
 use Rattle.std.proofs.Common.{[], refl, ◌∙◌}
-use Rattle.sqlite.specs.Held.{state}
 use Rattle.office_tables.specs.Schema as tables
-use Rattle.office_tables.proofs.StatementEnds.{found_in}
-use Rattle.row_decoding.specs.Readings.{in_any_order}
-use Rattle.row_decoding.proofs.TableReads.{is_query, is_excused, in_table, was_open}
+use Rattle.integrity_checks.proofs.Common.{found_in, in_any_order, in_table, is_excused, is_query, state, was_open}
 use Rattle.integrity_checks.proofs.ExaminationEnds.{examined, passes_of}
 use Rattle.integrity_checks.proofs.JudgedElements.{elements_text, elements_terms, elements_names, elements_mean, elements_judged}
 use Rattle.integrity_checks.proofs.UnitsThere.{elements_have_units}

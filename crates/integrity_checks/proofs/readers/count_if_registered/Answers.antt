@@ -1,11 +1,6 @@
 use Rattle.std.proofs.Common.{◌≡◌, refl, ap, ◌∙◌, sym, nat_le, ◌&&◌}
-use Rattle.sqlite.specs.Held.{state}
-use Rattle.sqlite_value.proofs.OrderLemmas.{then-Equal}
-use Rattle.office_tables.specs.DeskCells.{read_reader}
 use Rattle.office_tables.specs.Schema as tables
-use Rattle.office_tables.proofs.ByNumber.{by_key}
-use Rattle.office_tables.proofs.StatementEnds.{found_in}
-use Rattle.row_decoding.proofs.TableReads.{is_query, is_excused, in_table}
+use Rattle.integrity_checks.proofs.Common.{by_key, found_in, in_table, is_excused, is_query, read_reader, state, then-Equal}
 use Rattle.integrity_checks.proofs.ExaminationEnds.{examined, passes_of}
 use Rattle.integrity_checks.proofs.JudgedReaders.{all_readers_text, all_readers_terms, by_ticket, all_readers_names, all_readers_means, ticket_of, keyed, registered_so_many, registered_badly}
 use Rattle.integrity_checks.proofs.readers.count_if_registered.Goals as goal

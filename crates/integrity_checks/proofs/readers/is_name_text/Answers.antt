@@ -1,9 +1,7 @@
 use Rattle.std.proofs.Common.{false, sym, ap, ◌∙◌}
-use Rattle.std.specs.Option.{option_map_or}
 use Rattle.sqlite.specs.Value.{owned}
 use Rattle.desk_core.specs.Names.{is_name}
-use Rattle.office_tables.specs.Cells.{text_in}
-use Rattle.office_tables.proofs.CellTexts.{says_text, says_nothing}
+use Rattle.integrity_checks.proofs.Common.{option_map_or, says_nothing, says_text, text_in}
 use Rattle.integrity_checks.proofs.readers.is_name_text.Goals as goal
 
 pub returns-in-Ok : goal.returns-in-Ok

@@ -1,9 +1,6 @@
 use Rattle.std.proofs.Common.{[], refl, ◌&&◌, sym, ap, ◌∙◌}
-use Rattle.sqlite.specs.Held.{state}
 use Rattle.office_tables.specs.Schema as tables
-use Rattle.office_tables.proofs.StatementEnds.{found_in}
-use Rattle.row_decoding.specs.Readings.{in_any_order}
-use Rattle.row_decoding.proofs.TableReads.{is_query, is_excused, in_table}
+use Rattle.integrity_checks.proofs.Common.{found_in, in_any_order, in_table, is_excused, is_query, state}
 use Rattle.integrity_checks.proofs.ExaminationEnds.{examined, passes_of}
 use Rattle.integrity_checks.proofs.JudgedUnits.{units_text, units_terms, units_names, units_mean, units_judged}
 use Rattle.integrity_checks.proofs.units.units_are_good.Goals as goal

@@ -1,6 +1,5 @@
 use Rattle.std.proofs.Common.{◌≡◌, ◌++◌, take}
-use Rattle.std.specs.List.{flat_map}
-use Rattle.isad_core.specs.PrintedDescriptions.{container_text, indent, line}
+use Rattle.isad_core.proofs.Common.{container_text, flat_map, indent, line}
 use Rattle.isad_core.proofs.aid.push_containers.Given as goal
 
 abbrev pub invariant-loop-number : goal.invariant-loop-number

@@ -1,6 +1,5 @@
 use Rattle.std.proofs.Common.{◌≡◌, ◌++◌, take}
-use Rattle.std.specs.List.{flat_map}
-use Rattle.isad_core.specs.PrintedDescriptions.{element_text, indent, line}
+use Rattle.isad_core.proofs.Common.{element_text, flat_map, indent, line}
 use Rattle.isad_core.proofs.aid.push_elements.Given as goal
 
 abbrev pub invariant-loop-element : goal.invariant-loop-element

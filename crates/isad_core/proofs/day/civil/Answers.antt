@@ -1,8 +1,6 @@
 use Rattle.std.proofs.Common.{rules, arith, ◌≡◌, ◌≤◌, pos, to_z, of_z, w16, w32, w64, FitsSigned, ◌∙◌, refl}
-use Rattle.std.proofs.lemmas.Int.{to_z-of_z, ints}
-use Rattle.isad_core.specs.Days.{date_of}
+use Rattle.isad_core.proofs.Common.{date_of, epoch_day, ints, to_z-of_z}
 use Rattle.isad_core.proofs.DateLemmas.{date_of-parts, date_of-HasNumber}
-use Rattle.jiff_core.specs.Date.{epoch_day}
 use Rattle.isad_core.proofs.day.civil.Goals as goal
 
 number_is : (c : goal.After-struct_told-1) → epoch_day c.in-Ok.date ≡ c.args.number

@@ -1,5 +1,5 @@
 use Rattle.std.proofs.Common.{◌≤◌, ◌+◌, ◌*◌, arith, rules, sym, ◌∙◌, FitsSigned, w32}
-use Rattle.std.proofs.lemmas.Int.{to_z-of_z}
+use Rattle.isad_core.proofs.Common.{to_z-of_z}
 use Rattle.isad_core.proofs.DayLemmas.{number_of_date-civil, number_of_date-none}
 use Rattle.isad_core.proofs.day.on_date.Goals as goal
 

@@ -1,4 +1,4 @@
-use Rattle.isad_core.specs.Texts.{single_breaks}
+use Rattle.isad_core.proofs.Common.{single_breaks}
 use Rattle.isad_core.proofs.TextLemmas.{spaced-no_breaks}
 use Rattle.isad_core.proofs.laws.a_printed_text_is_one_line.Goals as goal
 

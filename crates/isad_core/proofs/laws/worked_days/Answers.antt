@@ -1,7 +1,7 @@
 use Rattle.std.proofs.Common.{◌≡◌, refl, pos, codes, Some, subst, arith}
 use Rattle.jiff_core.proofs.SignedLemmas.{signed_arith}
-use Rattle.isad_core.specs.Days.{day_of, day_text, IsDayNumber}
-use Rattle.isad_core.specs.Texts.{Bytes}
+use Rattle.isad_core.specs.Days.{day_text}
+use Rattle.isad_core.proofs.Common.{Bytes, IsDayNumber, day_of}
 use Rattle.isad_core.proofs.DateLemmas.{day_of-day_text}
 use Rattle.isad_core.proofs.laws.worked_days.Goals as goal
 

@@ -1,6 +1,5 @@
 use Rattle.std.proofs.Common.{◌≡◌, take}
-use Rattle.std.specs.List.{flat_map}
-use Rattle.isad_core.specs.PrintedDescriptions.{numbered_line}
+use Rattle.isad_core.proofs.Common.{flat_map, numbered_line}
 use Rattle.isad_core.proofs.page.list_text.Given as goal
 
 abbrev pub invariant-loop-number : goal.invariant-loop-number

@@ -1,5 +1,5 @@
 use Rattle.std.proofs.Common.{arith}
-use Rattle.isad_core.specs.PrintedDescriptions.{found_container}
+use Rattle.isad_core.proofs.Common.{found_container}
 use Rattle.isad_core.proofs.PrintLemmas.{one_more}
 use Rattle.isad_core.proofs.page.push_containers.Goals as goal
 

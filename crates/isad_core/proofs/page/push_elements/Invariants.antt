@@ -1,6 +1,5 @@
 use Rattle.std.proofs.Common.{◌≡◌, ◌++◌, take}
-use Rattle.std.specs.List.{flat_map}
-use Rattle.isad_core.specs.PrintedDescriptions.{found_element}
+use Rattle.isad_core.proofs.Common.{flat_map, found_element}
 use Rattle.isad_core.proofs.page.push_elements.Given as goal
 
 abbrev pub invariant-loop-element : goal.invariant-loop-element

@@ -1,6 +1,5 @@
 use Rattle.std.proofs.Common.{◌≡◌, ◌++◌, take}
-use Rattle.std.specs.List.{flat_map}
-use Rattle.isad_core.specs.PrintedDescriptions.{unit_below}
+use Rattle.isad_core.proofs.Common.{flat_map, unit_below}
 use Rattle.isad_core.proofs.page.push_units.Given as goal
 
 abbrev pub invariant-loop-number : goal.invariant-loop-number

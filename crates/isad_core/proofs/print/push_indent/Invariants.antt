@@ -1,5 +1,5 @@
 use Rattle.std.proofs.Common.{◌≡◌, ◌++◌}
-use Rattle.isad_core.specs.PrintedDescriptions.{indent}
+use Rattle.isad_core.proofs.Common.{indent}
 use Rattle.isad_core.proofs.print.push_indent.Given as goal
 
 abbrev pub invariant-loop : goal.invariant-loop

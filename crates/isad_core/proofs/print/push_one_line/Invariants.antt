@@ -1,5 +1,5 @@
 use Rattle.std.proofs.Common.{◌≡◌, ◌++◌, length}
-use Rattle.isad_core.specs.Texts.{one_line}
+use Rattle.isad_core.proofs.Common.{one_line}
 use Rattle.isad_core.proofs.print.push_one_line.Given as goal
 
 -- what was printed, with what the rest will print

@@ -1,5 +1,4 @@
-use Rattle.std.proofs.Common.{refl}
-use Rattle.std.proofs.Common.{◌≡◌, ap, arith, codes, option_map, pos, Some, subst}
+use Rattle.std.proofs.Common.{refl, ◌≡◌, ap, arith, codes, option_map, pos, Some, subst}
 use Rattle.jiff_core.proofs.SignedLemmas.{signed_arith}
 use Rattle.isad_core.specs.Days.{IsDayNumber, day_of, day_text}
 use Rattle.isad_core.specs.Texts.{Bytes}

@@ -1,11 +1,5 @@
 use Rattle.std.proofs.Common.{◌∙◌}
-use Rattle.sqlite.specs.Held.{state}
-use Rattle.sqlite.specs.State.{HasCleanDisk}
-use Rattle.office_tables.specs.Versions.{First}
-use Rattle.office_tables.specs.Schema.{schema}
-use Rattle.office_tables.specs.Step.{Continues}
-use Rattle.office_tables.proofs.Calls.{early, known_in}
-use Rattle.office_tables.proofs.CallEnds.{making_not, same_fault}
+use Rattle.nested_sets.proofs.Common.{Continues, First, HasCleanDisk, early, known_in, making_not, same_fault, schema, state}
 use Rattle.nested_sets.proofs.Dropping.{drop_text, drop_command, drop_says, drops, drop_cause, drop_cut, drop_continues, blames}
 use Rattle.nested_sets.proofs.migration_statements.drop_links.Goals as goal
 

@@ -1,10 +1,6 @@
 use Rattle.std.proofs.Common.{◌∙◌, List, map, OnOk, refl, ap, subst, sym}
-use Rattle.sqlite.specs.Held.{state}
-use Rattle.office_tables.specs.Versions.{Second}
 use Rattle.office_tables.specs.Schema as tables
-use Rattle.office_tables.specs.Step.{HasRows}
-use Rattle.office_tables.proofs.StatementEnds.{changes_in}
-use Rattle.nested_sets.specs.Migration.{VersionedRow, in_version_2, versioned_cells}
+use Rattle.nested_sets.proofs.Common.{HasRows, Second, VersionedRow, changes_in, in_version_2, state, versioned_cells}
 use Rattle.nested_sets.proofs.Version.{set_version_command, set_version_means, set_version_leaves, set_version_only, set_version_faults}
 use Rattle.nested_sets.proofs.migration_statements.set_version.Goals as goal
 

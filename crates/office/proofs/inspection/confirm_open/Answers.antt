@@ -1,10 +1,7 @@
 use Rattle.std.proofs.Common.{[], rules}
-use Rattle.sqlite.specs.Held.{state}
-use Rattle.sqlite.specs.State.{HasCleanDisk}
-use Rattle.office_tables.specs.Faults.{fault_of}
 use Rattle.office_tables.proofs.Errors.{stops}
 use Rattle.office_tables.proofs.Transactions.{begin_cause, begin_text}
-use Rattle.office.specs.Inspection.{ConfirmsOpen}
+use Rattle.office.proofs.Common.{ConfirmsOpen, HasCleanDisk, fault_of, state}
 use Rattle.office.proofs.Adoptions.{not_prepared}
 use Rattle.office.proofs.HandedOn.{handed_on}
 use Rattle.office.proofs.inspection.confirm_open.Goals as goal

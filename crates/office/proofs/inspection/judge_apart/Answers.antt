@@ -1,12 +1,6 @@
-use Rattle.std.specs.Prelude.{IfOk}
 use Rattle.std.proofs.Common.{rules, subst}
-use Rattle.sqlite.specs.Effect.{Database}
-use Rattle.sqlite.specs.Held.{state}
-use Rattle.adoption.specs.Verdicts.{IsVerdict}
-use Rattle.office_tables.specs.Faults.{BlamesDisk}
-use Rattle.office_tables.proofs.Calls.{early}
 use Rattle.office_tables.proofs.Sparing.{if_err_then}
-use Rattle.office.specs.Inspection.{Inspects}
+use Rattle.office.proofs.Common.{BlamesDisk, Database, IfOk, Inspects, IsVerdict, early, state}
 use Rattle.office.proofs.Adoptions.{blames_outside, outer_blames}
 use Rattle.office.proofs.HandedOn.{handed_on}
 use Rattle.office.proofs.inspection.judge_apart.Goals as goal

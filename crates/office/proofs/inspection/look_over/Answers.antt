@@ -1,5 +1,5 @@
 use Rattle.std.proofs.Common.{◌∙◌, ap, not}
-use Rattle.office.specs.Inspection.{Inspects}
+use Rattle.office.proofs.Common.{Inspects}
 use Rattle.office.proofs.Adoptions.{found_open, found_shut}
 use Rattle.office.proofs.HandedOn.{handed_on}
 use Rattle.office.proofs.inspection.look_over.Goals as goal

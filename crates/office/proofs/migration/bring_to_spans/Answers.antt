@@ -1,11 +1,5 @@
 use Rattle.std.proofs.Common.{◌≡◌, rules}
-use Rattle.sqlite.specs.Held.{state}
-use Rattle.sqlite.proofs.StateLemmas.{survives_then}
-use Rattle.office_tables.specs.Versions.{First, Second}
-use Rattle.catalogue_statements.specs.Representation.{RepresentsLinkRows}
-use Rattle.office_tables.proofs.Calls.{early}
-use Rattle.nested_sets.specs.Representation.{RepresentsSpanRows}
-use Rattle.office.specs.Migration.{MayFindSpans}
+use Rattle.office.proofs.Common.{First, MayFindSpans, RepresentsLinkRows, RepresentsSpanRows, Second, early, state, survives_then}
 use Rattle.office.proofs.States.{found_committed, shown_begun}
 use Rattle.office.proofs.migration.bring_to_spans.Goals as goal
 

@@ -1,15 +1,9 @@
 use Rattle.std.proofs.Common.{[], ◌∷◌, refl}
-use Rattle.sqlite.specs.Held.{state}
-use Rattle.office_tables.specs.Versions.{First, Second}
 use Rattle.office_core.proofs.KeptOffices.{office_kept}
 use Rattle.state_encoding.specs.OfficeRows as rows
 use Rattle.office_tables.specs.Schema as tables
-use Rattle.office_tables.specs.Step.{OnlyTouches}
-use Rattle.office_tables.proofs.Calls.{on_ok_both}
-use Rattle.catalogue_statements.specs.Representation.{Represents}
-use Rattle.nested_sets.specs.Representation.{RepresentsSpanRows}
-use Rattle.refinement.specs.Representation.{RepresentsState, office_of}
 use Rattle.refinement.proofs.Frames.{desk_kept}
+use Rattle.office.proofs.Common.{First, OnlyTouches, Represents, RepresentsSpanRows, RepresentsState, Second, office_of, on_ok_both, state}
 use Rattle.office.proofs.migration.convert.Goals as goal
 
 pub returns : goal.returns

@@ -1,15 +1,7 @@
 use Rattle.std.proofs.Common.{[], ◌∷◌, ◌∙◌, subst, sym}
-use Rattle.sqlite.specs.Effect.{Database}
-use Rattle.sqlite.specs.Held.{state}
-use Rattle.office_tables.specs.Versions.{First}
-use Rattle.catalogue_statements.specs.Representation.{RepresentsLinkRows}
 use Rattle.office_tables.specs.Schema as tables
-use Rattle.office_tables.specs.Step.{OnlyTouches}
-use Rattle.office_tables.proofs.Calls.{continues_then, cut_then, early}
 use Rattle.office_tables.proofs.Causes.{outer_cause}
-use Rattle.refinement.specs.Representation.{RepresentsState}
-use Rattle.office.specs.Adoption.{state_in}
-use Rattle.office.specs.Migration.{MigratesIfSound}
+use Rattle.office.proofs.Common.{Database, First, MigratesIfSound, OnlyTouches, RepresentsLinkRows, RepresentsState, continues_then, cut_then, early, state, state_in}
 use Rattle.office.proofs.Adoptions.{store_cause}
 use Rattle.office.proofs.HandedOn.{handed_on}
 use Rattle.office.proofs.Migrations.{cause_of_call, migrated, shows_its_state}

@@ -1,12 +1,10 @@
-use Rattle.sqlite.specs.Held.{state}
 use Rattle.office_tables.proofs.CallEnds.{making_last}
-use Rattle.office_tables.proofs.Calls.{early, on_ok_both}
 use Rattle.refinement.proofs.Crashes.{continued}
-use Rattle.office.specs.NewOffice.{MakesTables}
+use Rattle.adoption.proofs.NewTables.{made_desk}
+use Rattle.office.proofs.Common.{MakesTables, early, on_ok_both, state}
 use Rattle.office.proofs.HandedOn.{handed_on}
 use Rattle.office.proofs.NewTables.{making, shows_none}
 use Rattle.office.proofs.new_office.make_tables.Goals as goal
-use Rattle.adoption.proofs.NewTables.{made_desk}
 
 pub returns-in_err-create_desk : goal.returns-in_err-create_desk
 returns-in_err-create_desk g c =

@@ -1,4 +1,4 @@
-use Rattle.office_core.specs.Rules.{state_after}
+use Rattle.office_core.proofs.Common.{state_after}
 use Rattle.office_core.proofs.SoundDesk.{always_sound_desk, open_to_holders as holders}
 use Rattle.office_core.proofs.laws.open_to_holders.Goals as goal
 

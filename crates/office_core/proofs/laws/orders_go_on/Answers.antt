@@ -1,4 +1,4 @@
-use Rattle.office_core.specs.Rules.{state_after}
+use Rattle.office_core.proofs.Common.{state_after}
 use Rattle.office_core.proofs.SoundDesk.{always_sound_desk}
 use Rattle.office_core.proofs.OrderLaws.{goes_on}
 use Rattle.office_core.proofs.laws.orders_go_on.Goals as goal

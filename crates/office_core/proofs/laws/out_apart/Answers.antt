@@ -1,4 +1,4 @@
-use Rattle.office_core.specs.Rules.{state_after}
+use Rattle.office_core.proofs.Common.{state_after}
 use Rattle.office_core.proofs.OrderLaws.{out_apart as apart}
 use Rattle.office_core.proofs.laws.out_apart.Goals as goal
 

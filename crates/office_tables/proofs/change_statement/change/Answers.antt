@@ -1,5 +1,5 @@
 use Rattle.std.proofs.Common.{rules}
-use Rattle.sqlite.specs.Held.{state}
+use Rattle.office_tables.proofs.Common.{state}
 use Rattle.office_tables.proofs.RowWrites.{went_well, was_cut, statement_spares}
 use Rattle.office_tables.proofs.change_statement.change.Goals as goal
 

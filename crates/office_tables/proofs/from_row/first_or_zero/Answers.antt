@@ -1,13 +1,8 @@
 use Rattle.std.proofs.Common.{rules, ◌≡◌, ◌≢◌, inl, inr, ◌<◌, pos, List, [], ◌∷◌, Some, None, slice_get, length, sym, ap, subst, ◌∙◌, arith}
-use Rattle.sqlite.specs.Order.{Row, column}
 use Rattle.sqlite.specs.Reading.{IsReadError}
-use Rattle.sqlite.specs.declared.types.Value.TheVariants.{Int}
-use Rattle.sqlite.specs.declared.types.Value.{Value}
-use Rattle.sqlite.specs.declared.error.Error.{Error}
-use Rattle.sqlite.specs.declared.error.Error.TheVariants.{SqliteFailure}
 use Rattle.sqlite.specs.declared.error.ErrorCode.TheVariants.{OutOfMemory}
-use Rattle.office_tables.specs.Faults.{fault_of}
 use Rattle.office_tables.specs.declared.fault.StoreFault.TheVariants as fault
+use Rattle.office_tables.proofs.Common.{Error, Int, Row, SqliteFailure, Value, column, fault_of}
 use Rattle.office_tables.proofs.from_row.first_or_zero.Goals as goal
 
 -- a cell that can be read fails for want of memory alone

@@ -1,6 +1,5 @@
 use Rattle.std.proofs.Common.{rules}
-use Rattle.sqlite.specs.Held.{state}
-use Rattle.sqlite.specs.State.{HasCleanDisk}
+use Rattle.office_tables.proofs.Common.{HasCleanDisk, state}
 use Rattle.office_tables.proofs.Sparing.{query_spares, own_last}
 use Rattle.office_tables.proofs.Calls.{early, known_in, read_cut, read_looks, cut_looks, on_ok_from}
 use Rattle.office_tables.proofs.query.find.Goals as goal

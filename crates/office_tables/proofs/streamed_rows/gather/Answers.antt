@@ -1,4 +1,4 @@
-use Rattle.sqlite.specs.Held.{state}
+use Rattle.office_tables.proofs.Common.{state}
 use Rattle.office_tables.proofs.Gatherings.{our_plain, gathered_reads}
 use Rattle.office_tables.proofs.streamed_rows.gather.Goals as goal
 

@@ -1,11 +1,6 @@
 use Rattle.std.proofs.Common.{List, [], refl, rules, arith}
-use Rattle.sqlite.specs.Order.{Row}
 use Rattle.sqlite.specs.Listing.{understood}
-use Rattle.sqlite.specs.State.{State, HasCleanDisk, Survives, CommitsShowing}
-use Rattle.sqlite.specs.Held.{state}
-use Rattle.sqlite.proofs.StateLemmas.{survives_weaker}
-use Rattle.sqlite.proofs.Callers.{IsPlain, begun_plain, never_commits}
-use Rattle.office_tables.specs.Query.{Gathers}
+use Rattle.office_tables.proofs.Common.{CommitsShowing, Gathers, HasCleanDisk, IsPlain, Row, State, Survives, begun_plain, never_commits, state, survives_weaker}
 use Rattle.office_tables.proofs.Calls.{early}
 use Rattle.office_tables.proofs.Gatherings.{shown_from, query_fails_from}
 use Rattle.office_tables.proofs.streamed_rows.take_rows.Goals as goal

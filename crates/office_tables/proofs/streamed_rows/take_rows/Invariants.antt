@@ -1,8 +1,6 @@
 use Rattle.std.proofs.Common.{◌≡◌, [], List}
-use Rattle.sqlite.specs.Order.{Row}
-use Rattle.sqlite.specs.State.{HasCleanDisk, IsUnchanged, Survives}
-use Rattle.sqlite.specs.Held.{state}
 use Rattle.sqlite.specs.Given.{HasGiven}
+use Rattle.office_tables.proofs.Common.{HasCleanDisk, IsUnchanged, Row, Survives, state}
 use Rattle.office_tables.proofs.streamed_rows.take_rows.Given as goal
 
 abbrev pub invariant-rows : goal.invariant-rows

@@ -1,8 +1,5 @@
 use Rattle.std.proofs.Common.{rules}
-use Rattle.sqlite.specs.Held.{state}
-use Rattle.office_tables.specs.Step.{Continues, IsAborted}
-use Rattle.office_tables.specs.Creation.{IsMaking}
-use Rattle.office_tables.specs.Schema.{desk_tables}
+use Rattle.office_tables.proofs.Common.{Continues, IsAborted, IsMaking, desk_tables, state}
 use Rattle.office_tables.proofs.Creations.{s3, s4, s5, container_defined, housing_defined}
 use Rattle.office_tables.proofs.Calls.{cut_then, continues_then, on_ok_then, on_err_then}
 use Rattle.office_tables.proofs.WriteCauses.{last_disk}

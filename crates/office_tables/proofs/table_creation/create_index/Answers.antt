@@ -1,7 +1,5 @@
 use Rattle.std.proofs.Common.{◌∙◌, IsUtf8, rules, refl}
-use Rattle.sqlite.specs.Held.{state}
-use Rattle.sqlite.specs.Command.TheVariants.{CreateIndex}
-use Rattle.office_tables.specs.Step.{IsAborted}
+use Rattle.office_tables.proofs.Common.{CreateIndex, IsAborted, state}
 use Rattle.office_tables.proofs.Calls.{early, known_in, write_cut, write_continues}
 use Rattle.office_tables.proofs.Creations.{indexes}
 use Rattle.office_tables.proofs.CreationCauses.{index_cause}

@@ -1,8 +1,5 @@
 use Rattle.std.proofs.Common.{rules}
-use Rattle.sqlite.specs.Held.{state}
-use Rattle.office_tables.specs.Step.{Continues, IsAborted}
-use Rattle.office_tables.specs.Creation.{IsMaking}
-use Rattle.office_tables.specs.Schema.{desk_schema, desk_tables}
+use Rattle.office_tables.proofs.Common.{Continues, IsAborted, IsMaking, desk_schema, desk_tables, state}
 use Rattle.office_tables.proofs.Creations.{s1, s2, s3, office_defined, unit_defined, element_defined}
 use Rattle.office_tables.proofs.Calls.{cut_then, continues_then, on_ok_then, on_err_then, early}
 use Rattle.office_tables.proofs.Causes.{cause_then}

@@ -1,6 +1,5 @@
 use Rattle.std.proofs.Common.{rules, Ok}
-use Rattle.sqlite.specs.Held.{state}
-use Rattle.sqlite.proofs.StateLemmas.{survives_weaker}
+use Rattle.office_tables.proofs.Common.{state, survives_weaker}
 use Rattle.office_tables.proofs.Errors.{stops}
 use Rattle.office_tables.proofs.Transactions.{begins, began_outside, begin_cause, begin_commits}
 use Rattle.office_tables.proofs.transaction.begin.Goals as goal

@@ -1,6 +1,5 @@
 use Rattle.std.proofs.Common.{rules, Ok, ◌≡◌}
-use Rattle.sqlite.specs.Held.{state}
-use Rattle.sqlite.proofs.StateLemmas.{survives_weaker}
+use Rattle.office_tables.proofs.Common.{state, survives_weaker}
 use Rattle.office_tables.proofs.Errors.{stops}
 use Rattle.office_tables.proofs.Transactions.{commits, committed_inside, commit_cause, commit_commits}
 use Rattle.office_tables.proofs.transaction.commit.Goals as goal

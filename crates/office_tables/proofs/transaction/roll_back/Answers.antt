@@ -1,5 +1,4 @@
-use Rattle.sqlite.specs.Held.{state}
-use Rattle.sqlite.proofs.StateLemmas.{survives_weaker}
+use Rattle.office_tables.proofs.Common.{state, survives_weaker}
 use Rattle.office_tables.proofs.Transactions.{rolls_back, rolls_nothing, roll_back_commits}
 use Rattle.office_tables.proofs.transaction.roll_back.Goals as goal
 

@@ -1,5 +1,5 @@
 use Rattle.std.proofs.Common.{refl}
-use Rattle.program.specs.CommandEffects.{channels}
+use Rattle.program.proofs.Common.{channels}
 use Rattle.program.proofs.StoreLemmas.{import_as_task, init_as_task, init_done, migrate_as_task}
 use Rattle.program.proofs.commands.do_task.Goals as goal
 

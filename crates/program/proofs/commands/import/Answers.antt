@@ -1,5 +1,5 @@
 use Rattle.std.proofs.Common.{inl, inr, refl}
-use Rattle.program.specs.Stores.{HasTakenIn, WasBusy}
+use Rattle.program.proofs.Common.{HasTakenIn, WasBusy}
 use Rattle.program.proofs.StoreLemmas.{import_done, import_failed}
 use Rattle.program.proofs.commands.import.Goals as goal
 

@@ -1,6 +1,6 @@
 use Rattle.std.proofs.Common.{inl, inr, refl}
+use Rattle.program.proofs.Common.{IsBroughtOver, IsNotBroughtOver}
 use Rattle.program.proofs.StoreLemmas.{failed_with, held_in, on_ok_with}
-use Rattle.program.specs.Stores.{IsBroughtOver, IsNotBroughtOver}
 use Rattle.program.proofs.commands.migrate.Goals as goal
 
 pub returns-in-Ok-brought-clause-done : goal.returns-in-Ok-brought-clause-done

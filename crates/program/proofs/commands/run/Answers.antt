@@ -1,6 +1,5 @@
 use Rattle.std.proofs.Common.{map}
-use Rattle.std.specs.String.{string_bytes}
-use Rattle.program.specs.CommandEffects.{channels}
+use Rattle.program.proofs.Common.{channels, string_bytes}
 use Rattle.program.proofs.PerformedLemmas.{task_failed, words_failed}
 use Rattle.program.proofs.commands.run.Goals as goal
 

@@ -1,5 +1,5 @@
 use Rattle.std.proofs.Common.{false, inl, inr, refl, true}
-use Rattle.program.specs.Connections.{after_listening}
+use Rattle.program.proofs.Common.{after_listening}
 use Rattle.program.proofs.ServedLemmas.{known_as, unserved}
 use Rattle.program.proofs.StoreLemmas.{failed_as}
 use Rattle.program.proofs.commands.serve_on_port.Goals as goal

@@ -1,11 +1,5 @@
 use Rattle.std.proofs.Common.{inl, refl}
-use Rattle.std.proofs.lemmas.Result.{IfErr-weaker, on_ok_weaker}
-use Rattle.sqlite.specs.Files.{over_files}
-use Rattle.nested_sets.specs.Representation.{RepresentsSpanRows}
-use Rattle.office_tables.specs.Versions.{Second}
-use Rattle.office.specs.IdleOffice.{is_clean, is_shown, is_still_open}
-use Rattle.program.specs.Connections.{after_listening}
-use Rattle.program.specs.KeptOffices.{IsRecovered}
+use Rattle.program.proofs.Common.{IfErr-weaker, IsRecovered, RepresentsSpanRows, Second, after_listening, is_clean, is_shown, is_still_open, on_ok_weaker, over_files}
 use Rattle.program.proofs.ServedLemmas.{seen_as}
 use Rattle.program.proofs.StoreLemmas.{either_so, serve_done, serve_failed}
 use Rattle.program.proofs.commands.serve_store.Goals as goal

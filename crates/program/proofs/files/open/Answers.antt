@@ -1,7 +1,6 @@
 use Rattle.std.proofs.Common.{◌≡◌, ℕ, Bool, cond, List, Option, Some, IfSome, ap₂, subst}
-use Rattle.sqlite.specs.Files.{file_state}
-use Rattle.sqlite.specs.Recovery.{Image}
 use Rattle.sqlite_disk.specs.Events.{Event, replay}
+use Rattle.program.proofs.Common.{Image, file_state}
 use Rattle.program.proofs.Ordered.{stand_in_order}
 use Rattle.program.proofs.files.open.Goals as goal
 

@@ -1,6 +1,5 @@
 use Rattle.std.proofs.Common.{map}
-use Rattle.std.specs.String.{string_bytes}
-use Rattle.program.specs.CommandEffects.{channels}
+use Rattle.program.proofs.Common.{channels, string_bytes}
 use Rattle.program.proofs.PerformedLemmas.{performs_done, performs_fault}
 use Rattle.program.proofs.perform.perform.Goals as goal
 use Rattle.program.proofs.perform.perform.Goals.{in-Ok, in-Err+in-Refused-1, in-Err+in-Words-1, in-Err+in-NotSound-1}

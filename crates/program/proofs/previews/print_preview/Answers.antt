@@ -1,7 +1,7 @@
 use Rattle.std.proofs.Common.{◌≡◌, List, ℕ, Ok, Err, subst, sym}
 use Rattle.std.specs.Option.{option_copied}
 use Rattle.atom_csv.specs.ReadProgress.{IsBad}
-use Rattle.program.specs.CommandEffects.{Reads, preview_result}
+use Rattle.program.proofs.Common.{Reads, preview_result}
 use Rattle.program.proofs.PerformedLemmas.{broken_off, refused_fails}
 use Rattle.program.proofs.previews.print_preview.Goals as goal
 

@@ -1,7 +1,6 @@
 use Rattle.std.proofs.Common.{ap, refl, subst}
-use Rattle.std.specs.Io.KnownBytes.{Appends, Consumes}
 use Rattle.http_desk.specs.declared.session_end.Next.TheVariants.{Ends}
-use Rattle.program.specs.Connections.{Connection, IsHeard}
+use Rattle.program.proofs.Common.{Appends, Connection, Consumes, IsHeard}
 use Rattle.program.proofs.ServedLemmas.{calls_of, failed_so}
 use Rattle.program.proofs.server.answer.Goals as goal
 

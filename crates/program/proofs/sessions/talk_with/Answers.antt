@@ -1,7 +1,6 @@
 use Rattle.std.proofs.Common.{subst}
-use Rattle.std.proofs.lemmas.Result.{IfErr-weaker, on_ok_weaker}
 use Rattle.http_desk.specs.Exchanges.{Talks}
-use Rattle.program.specs.Streams.{AgreesWithCalls}
+use Rattle.program.proofs.Common.{AgreesWithCalls, IfErr-weaker, on_ok_weaker}
 use Rattle.program.proofs.sessions.talk_with.Goals as goal
 
 pub returns-clause-done : goal.returns-clause-done

@@ -1,6 +1,5 @@
-use Rattle.sqlite.specs.Files.{file_state}
 use Rattle.std.proofs.Common.{inl, inr, refl}
-use Rattle.office_tables.proofs.Calls.{early}
+use Rattle.program.proofs.Common.{early, file_state}
 use Rattle.program.proofs.ClosedLemmas.{as_found}
 use Rattle.program.proofs.KeptLemmas.{opens_so}
 use Rattle.program.proofs.StoreLemmas.{held_in}

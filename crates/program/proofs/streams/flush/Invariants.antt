@@ -1,7 +1,6 @@
 -- nothing is written, and each turn was a call that did not fail
 use Rattle.std.proofs.Common.{◌≡◌, ◌+◌, []}
-use Rattle.std.specs.Io.KnownBytes.{Appends}
-use Rattle.program.specs.Streams.{HaveMade}
+use Rattle.program.proofs.Common.{Appends, HaveMade}
 use Rattle.program.proofs.streams.flush.Given as goal
 
 abbrev pub invariant-loop-flush : goal.invariant-loop-flush

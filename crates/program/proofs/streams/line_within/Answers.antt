@@ -1,5 +1,5 @@
 use Rattle.std.proofs.Common.{◌∙◌, ◌++◌, [], List, ℕ, ap, append-nil, append_assoc, codes, sym}
-use Rattle.std.proofs.KnownBytes.{Appends-trans}
+use Rattle.program.proofs.Common.{Appends-trans}
 use Rattle.program.proofs.streams.line_within.Goals as goal
 
 pub returns-in_err-left-clause-front : goal.returns-in_err-left-clause-front

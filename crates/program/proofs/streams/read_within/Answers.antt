@@ -1,5 +1,5 @@
 use Rattle.std.proofs.Common.{arith, rules}
-use Rattle.std.proofs.KnownBytes.{Consumes-kept, Consumes-trans}
+use Rattle.program.proofs.Common.{Consumes-kept, Consumes-trans}
 use Rattle.program.proofs.Calls.{made_one}
 use Rattle.program.proofs.streams.read_within.Goals as goal
 use Rattle.program.proofs.streams.read_within.Goals.{in-Ok+in_ok-extend_from_slice-in-Ok, in-Err-Interrupted}

@@ -1,7 +1,6 @@
 -- what is gone from the reader stands in `bytes`, and each turn was a call that did not fail
 use Rattle.std.proofs.Common.{◌≡◌, ◌+◌}
-use Rattle.std.specs.Io.KnownBytes.{Consumes}
-use Rattle.program.specs.Streams.{HaveMade}
+use Rattle.program.proofs.Common.{Consumes, HaveMade}
 use Rattle.program.proofs.streams.read_within.Given as goal
 
 abbrev pub invariant-loop-read : goal.invariant-loop-read

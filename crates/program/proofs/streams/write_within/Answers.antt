@@ -1,7 +1,6 @@
 use Rattle.std.proofs.Common.{◌∙◌, ◌++◌, List, ℕ, ap, append-nil, arith, rules, subst, sym, take}
-use Rattle.std.specs.Io.KnownBytes.{Appends}
-use Rattle.std.proofs.KnownBytes.{Appends-trans}
 use Rattle.http_desk.proofs.Sends.{moves_front}
+use Rattle.program.proofs.Common.{Appends, Appends-trans}
 use Rattle.program.proofs.Calls.{made_one}
 use Rattle.program.proofs.streams.write_within.Goals as goal
 use Rattle.program.proofs.streams.write_within.Goals.{in-Ok, in-Err-Interrupted}

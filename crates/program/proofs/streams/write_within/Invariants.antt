@@ -1,7 +1,6 @@
 -- what is gone from `rest` was written, and each turn was a call that did not fail
 use Rattle.std.proofs.Common.{◌≡◌, ◌++◌, ◌+◌, ℕ, List}
-use Rattle.std.specs.Io.KnownBytes.{Appends}
-use Rattle.program.specs.Streams.{HaveMade}
+use Rattle.program.proofs.Common.{Appends, HaveMade}
 use Rattle.program.proofs.streams.write_within.Given as goal
 
 abbrev pub invariant-loop-write : goal.invariant-loop-write

@@ -1,9 +1,7 @@
 use Rattle.std.proofs.Common.{◌≡◌, List, Ok, Err, codes, rules, subst, sym}
 use Rattle.clap.specs.Matches.{found_of}
-use Rattle.clap.specs.Walk.{Row, rows_of}
-use Rattle.office.specs.InitialSettings.{Founding}
 use Rattle.command_line.specs.OptionValues.{IsValue}
-use Rattle.program.specs.Tasks.{AreGiven, AreRefused}
+use Rattle.program.proofs.Common.{AreGiven, AreRefused, Founding, Row, rows_of}
 use Rattle.program.proofs.GivenSettings.{refused_are, taken_are}
 use Rattle.program.proofs.words.settings.Goals as goal
 

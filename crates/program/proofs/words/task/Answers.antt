@@ -1,16 +1,13 @@
 use Rattle.std.proofs.Common.{◌≡◌, ◌∙◌, Bool, Some, None, true, false, map, ap, sym, refl, Option, option_map, subst}
-use Rattle.std.specs.String.{string_bytes}
 use Rattle.clap.specs.Faults.{fault_of, is_simple_and_free}
 use Rattle.std.specs.Box.{box_value}
 use Rattle.clap.specs.Matches.{found_of}
 use Rattle.clap.specs.declared.parser.matches.ArgMatches.TheViews.{out-ArgMatches, out-SubCommand}
 use Rattle.clap.specs.Simple.{App, app_of, is_simple, subcommand_of, subcommand_rows_of}
 use Rattle.clap.specs.Takes.{takes}
-use Rattle.clap.specs.Walk.{rows_of}
 use Rattle.command_line.specs.CommandLine.{program}
-use Rattle.std.proofs.lemmas.Result.{IfErr-weaker, IfOk-weaker}
-use Rattle.program.specs.Tasks.{AreRefusedFor, IsTaskOf}
 use Rattle.command_line.proofs.Needs.{needs}
+use Rattle.program.proofs.Common.{AreRefusedFor, IfErr-weaker, IfOk-weaker, IsTaskOf, rows_of, string_bytes}
 use Rattle.program.proofs.words.task.Goals as goal
 
 not_true : (b : Bool) → (b ≡ true → ⊥) → b ≡ false

@@ -1,32 +1,17 @@
-use Rattle.std.proofs.Common.{◌≡◌, List, ap, ◌∙◌, sym}
-use Rattle.sqlite.specs.Held.{state}
-use Rattle.isad_core.specs.PrintedDescriptions.{aid}
-use Rattle.tree_core.specs.Forest.{tree}
-use Rattle.catalogue_core.specs.Aids.{shown_below}
-use Rattle.catalogue_core.specs.Pages.{before_last}
-use Rattle.catalogue_core.specs.PublicForest.{public_of}
-use Rattle.catalogue_core.specs.Units.{has_id}
-use Rattle.catalogue_statements.specs.declared.office.OfficeRow.{OfficeRow}
-use Rattle.desk_core.specs.declared.refusal.Refusal.TheVariants.{UnknownUnit}
+use Rattle.std.proofs.Common.{◌≡◌, List, refl, ap, ◌∙◌, sym}
 use Rattle.office_core.specs.declared.query.Query.TheVariants as query
-use Rattle.office_core.specs.declared.query.Answer.TheVariants.{Text, Unknown}
-use Rattle.office_core.proofs.KeptOffices.{office_kept}
-use Rattle.office_tables.proofs.Calls.{early, looks_nowhere, looks_then}
-use Rattle.refinement.specs.Representation.{office_of}
-use Rattle.refinement.proofs.Answerings.{still_shown}
-use Rattle.public_queries.specs.HeadLines.{ids_of, repository_of, shows_last}
-use Rattle.catalogue_store.specs.declared.heads.Head.{Head}
+use Rattle.public_queries.proofs.Common.{Head, OfficeRow, Text, Unknown, UnknownUnit, aid, before_last, early, has_id, ids_of, looks_nowhere, looks_then, office_kept, office_of, public_of, repository_of, shown_below, shows_last, state, still_shown, tree}
 use Rattle.public_queries.proofs.AidAnswers.{apart, far_off, hidden, shown, tellable}
 use Rattle.public_queries.proofs.Knowings.{catalogue_passed, knows_by, knows_passed_later}
 use Rattle.public_queries.proofs.aids.aid.Goals as goal
 
-pub returns-then-unit-ge-NO_NUMBER : goal.returns-then-unit-ge-NO_NUMBER
-returns-then-unit-ge-NO_NUMBER g c =
+pub returns-in_default : goal.returns-in_default
+returns-in_default g c =
     let v = g.P.Versioned.version in
     let a = state g.S.Store c.args.tables.now in
     knows_by g.P.Places.represents v (λ s. c.args.known.now ≡ office_of s) (query.Aid c.args.unit) a a (Unknown UnknownUnit)
     (looks_nowhere a)
-    (λ clean s sound so it. far_off s sound c.args.unit c.if-unit-ge-NO_NUMBER.true)
+    (λ clean s sound so it. far_off s sound c.args.unit (c.in_default.ensures.none refl))
 
 pub returns-in_err-way : goal.returns-in_err-way
 returns-in_err-way g c = let told = c.in_err-way.ensures.answers in catalogue_passed _ c.from_residual.ensures told.aborts told.faults
@@ -34,7 +19,7 @@ returns-in_err-way g c = let told = c.in_err-way.ensures.answers in catalogue_pa
 pub returns-then-not-shows_last : goal.returns-then-not-shows_last
 returns-then-not-shows_last g c =
     let a = state g.S.Store c.args.tables.now in
-    let told = c.in_ok-way.ensures.answers in
+    let told = (rw c.in-Some.ensures.same at c.in_ok-way.ensures).answers in
     knows_by g.P.Places.represents g.P.Versioned.version (λ s. c.args.known.now ≡ office_of s) (query.Aid c.args.unit) a _ (Unknown UnknownUnit) told.looks
     (λ clean s sound so it.
     let way = c.deref.ensures.value ∙ told.answers clean (office_of s) s.catalogue it.catalogue in
@@ -52,8 +37,8 @@ returns g c =
     let v = g.P.Versioned.version in
     let a = state g.S.Store c.args.tables.now in
     let d = state g.S.Store c.branch_text.new.tables in
-    let first = c.in_ok-way.ensures.answers in
-    let last = c.in_ok-text.ensures.answers in
+    let first = (rw c.in-Some.ensures.same at c.in_ok-way.ensures).answers in
+    let last = (rw c.in-Some.ensures.same at c.in_ok-text.ensures).answers in
     knows_by g.P.Places.represents v (λ s. c.args.known.now ≡ office_of s) (query.Aid c.args.unit) a d (Text c.in_ok-text.text) (looks_then a _ d first.looks last.looks)
     (λ clean s sound so it.
     let at_b = early _ d _ last.looks.goes.on.crash clean in

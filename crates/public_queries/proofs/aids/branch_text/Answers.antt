@@ -1,13 +1,5 @@
 use Rattle.std.proofs.Common.{length, ap, ◌∙◌, refl}
-use Rattle.sqlite.specs.Held.{state}
-use Rattle.tree_core.specs.Forest.{tree, walk}
-use Rattle.isad_core.specs.PrintedDescriptions.{aid}
-use Rattle.catalogue_core.specs.Bounds.{IsKept}
-use Rattle.catalogue_core.specs.Units.{has_id}
-use Rattle.catalogue_statements.specs.Representation.{Represents}
-use Rattle.refinement.proofs.Doings.{tells_passed}
-use Rattle.public_queries.specs.HeadLines.{repository_of}
-use Rattle.public_queries.specs.FindingAids.{public_units}
+use Rattle.public_queries.proofs.Common.{IsKept, Represents, aid, has_id, public_units, repository_of, state, tells_passed, tree, walk}
 use Rattle.public_queries.proofs.AidCalls.{tells_then}
 use Rattle.public_queries.proofs.AidPrinted.{along_all}
 use Rattle.public_queries.proofs.AidUnits.{rows_of}

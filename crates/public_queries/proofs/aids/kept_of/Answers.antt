@@ -1,10 +1,7 @@
 use Rattle.std.proofs.Common.{rules, ◌≡◌, of_z, to_z, w32, FitsSigned, ap, ◌∙◌, arith}
 use Rattle.std.proofs.lemmas.Int.{to_z-of_z}
-use Rattle.sqlite.specs.Held.{state}
-use Rattle.tree_core.specs.Forest.{tree}
 use Rattle.tree_core.specs.Marks.{public_walk as kept_on}
-use Rattle.catalogue_core.specs.Units.{has_id}
-use Rattle.office_tables.proofs.Calls.{cut_after}
+use Rattle.public_queries.proofs.Common.{cut_after, has_id, state, tree}
 use Rattle.public_queries.proofs.AidPrinted.{kept_units}
 use Rattle.public_queries.proofs.AidUnits.{few_marks}
 use Rattle.public_queries.proofs.aids.kept_of.Goals as goal

@@ -1,14 +1,5 @@
 use Rattle.std.proofs.Common.{◌≡◌, ◌≤◌, ◌+◌, ◌++◌, ◌∷◌, [], length, take, drop, sym, ap, subst, ◌∙◌, arith, append-nil}
-use Rattle.std.proofs.lemmas.List.{length-map}
-use Rattle.sqlite.specs.Effect.{Database}
-use Rattle.sqlite.specs.Held.{state}
-use Rattle.isad_core.specs.PrintedDescriptions.{aid, unit_lines}
-use Rattle.tree_core.specs.declared.marks.Kept.{Kept}
-use Rattle.catalogue_statements.specs.Representation.{Represents}
-use Rattle.office_tables.proofs.Calls.{early, looks_then}
-use Rattle.refinement.proofs.Doings.{tells_full, tells_passed_later}
-use Rattle.public_queries.specs.HeadLines.{repository_of}
-use Rattle.public_queries.specs.FindingAids.{along, kept_row, shown_at}
+use Rattle.public_queries.proofs.Common.{Database, Kept, Represents, aid, along, early, kept_row, length-map, looks_then, repository_of, shown_at, state, tells_full, tells_passed_later, unit_lines}
 use Rattle.public_queries.proofs.AidPrinted.{along_more, drop_past, row_at}
 use Rattle.public_queries.proofs.aids.units_text.Goals as goal
 

@@ -1,14 +1,5 @@
 use Rattle.std.proofs.Common.{◌≡◌, ◌++◌, List, drop}
-use Rattle.sqlite.specs.Held.{state}
-use Rattle.sqlite.specs.State.{HasCleanDisk}
-use Rattle.isad_core.specs.PrintedDescriptions.{aid}
-use Rattle.catalogue_core.specs.CatalogueMerge.{Catalogue}
-use Rattle.catalogue_statements.specs.Representation.{Represents}
-use Rattle.catalogue_statements.specs.declared.office.OfficeRow.{OfficeRow}
-use Rattle.office_tables.specs.Step.{LeavesUnchanged}
-use Rattle.public_queries.specs.HeadLines.{repository_of}
-use Rattle.public_queries.specs.FindingAids.{KeepsUnits, Walked, along}
-use Rattle.public_queries.specs.KnownPaths.{IsTellable}
+use Rattle.public_queries.proofs.Common.{Catalogue, HasCleanDisk, IsTellable, KeepsUnits, LeavesUnchanged, OfficeRow, Represents, Walked, aid, along, repository_of, state}
 use Rattle.public_queries.proofs.aids.units_text.Given as goal
 
 abbrev pub invariant-loop-unit : goal.invariant-loop-unit

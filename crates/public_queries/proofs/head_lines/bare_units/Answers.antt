@@ -1,6 +1,5 @@
 use Rattle.std.proofs.Common.{◌++◌, ◌∷◌, [], take, Some, Vec, Global, sym, ap, ◌∙◌}
-use Rattle.isad_core.specs.Texts.{Bytes}
-use Rattle.public_queries.specs.HeadLines.{all_bare, head_alone, bare_below, repository_of}
+use Rattle.public_queries.proofs.Common.{Bytes, all_bare, bare_below, head_alone, repository_of}
 use Rattle.public_queries.proofs.HeadLineLemmas.{bare_draft, bare_public}
 use Rattle.public_queries.proofs.MoreItems.{mapped_more, none_more}
 use Rattle.public_queries.proofs.head_lines.bare_units.Goals as goal
@@ -18,8 +17,9 @@ loop-head-preserved c =
     elim c.if-not-head.branch [
       | then-not-head+in_ok-bare_in+in_ok-push w ↦
           let shown = w.in_ok-bare_in.ensures.shown ∙ ap (λ l. head_alone at (l ++ head.identifier ∷ []) day head) inv.ids in
+          let pushed = rw w.get.ensures.same at w.in_ok-push.ensures.ok in
           record {
-            below = w.below-is ∙ w.in_ok-push.ensures.ok ∙ ap (λ l. l ++ (head.id, w.in_ok-bare_in.field-0) ∷ []) inv.below ∙ ap (λ x. all_bare at ids day (take i heads) ++ (head.id, x) ∷ []) shown
+            below = w.below-is ∙ pushed ∙ ap (λ l. l ++ (head.id, w.in_ok-bare_in.field-0) ∷ []) inv.below ∙ ap (λ x. all_bare at ids day (take i heads) ++ (head.id, x) ∷ []) shown
                 ∙ sym (mapped_more (bare_below at ids day) heads i head (Some (head.id, head_alone at (ids ++ head.identifier ∷ []) day head)) c.head-item.is c.loop-head-test.true (bare_public at ids day head w.if-not-head.true));
             ids = ap (λ (v : Vec Bytes Global). v.items) w.ids-is ∙ w.in_ok-bare_in.ensures.ids ∙ inv.ids;
           }

@@ -1,5 +1,5 @@
 use Rattle.std.proofs.Common.{◌≡◌, take}
-use Rattle.public_queries.specs.HeadLines.{all_bare, repository_of}
+use Rattle.public_queries.proofs.Common.{all_bare, repository_of}
 use Rattle.public_queries.proofs.head_lines.bare_units.Given as goal
 
 abbrev pub invariant-loop-head : goal.invariant-loop-head

@@ -3,7 +3,7 @@ use Rattle.std.specs.Option.{option_copied}
 use Rattle.std.proofs.lemmas.Iterator.{YieldsList-from_slice, YieldsList-from_zip}
 use Rattle.std.proofs.lemmas.Iterator.Consumers.{YieldsList-end}
 use Rattle.sqlite_trees.proofs.ListLemmas.{map-map}
-use Rattle.isad_core.specs.declared.values.BoxKey.{BoxKey}
+use Rattle.public_queries.proofs.Common.{BoxKey}
 use Rattle.public_queries.proofs.page_lines.boxes_of.Goals as goal
 
 pub returns : goal.returns

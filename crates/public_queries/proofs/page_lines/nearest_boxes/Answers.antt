@@ -1,5 +1,5 @@
 use Rattle.std.proofs.Common.{◌≡◌, ◌<◌, length, sym, subst, ◌∙◌, arith}
-use Rattle.std.specs.Prelude.{IfOk}
+use Rattle.public_queries.proofs.Common.{IfOk}
 use Rattle.public_queries.proofs.PageLineLemmas.{nearest_here}
 use Rattle.public_queries.proofs.page_lines.nearest_boxes.Goals as goal
 

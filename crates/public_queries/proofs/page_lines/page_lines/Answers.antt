@@ -1,8 +1,6 @@
 use Rattle.std.proofs.Common.{◌++◌, ◌∷◌, [], Some, None, take, map, sym, ap, ◌∙◌, append-nil}
-use Rattle.std.specs.Prelude.{filter_map}
 use Rattle.isad_core.specs.declared.element.Element.TheVariants.{ReferenceCode}
-use Rattle.catalogue_core.specs.Pages.{page_line}
-use Rattle.public_queries.specs.PathValues.{coded_of}
+use Rattle.public_queries.proofs.Common.{coded_of, filter_map, page_line}
 use Rattle.public_queries.proofs.MoreItems.{mapped_at}
 use Rattle.public_queries.proofs.page_lines.page_lines.Goals as goal
 use Rattle.public_queries.proofs.page_lines.page_lines.Goals.{in-Some+in_ok-push, in_default}

@@ -1,7 +1,5 @@
 use Rattle.std.proofs.Common.{◌≡◌, take, map}
-use Rattle.std.specs.Prelude.{filter_map}
-use Rattle.catalogue_core.specs.Pages.{page_line}
-use Rattle.public_queries.specs.PathValues.{coded_of}
+use Rattle.public_queries.proofs.Common.{coded_of, filter_map, page_line}
 use Rattle.public_queries.proofs.page_lines.page_lines.Given as goal
 
 abbrev pub invariant-loop-element : goal.invariant-loop-element

@@ -1,25 +1,18 @@
-use Rattle.std.proofs.Common.{◌≡◌, List, sym, ap, ◌∙◌}
-use Rattle.sqlite.specs.Held.{state}
-use Rattle.desk_core.specs.declared.refusal.Refusal.TheVariants.{UnknownUnit}
-use Rattle.office_core.specs.declared.query.Answer.TheVariants.{Unknown}
+use Rattle.std.proofs.Common.{◌≡◌, List, refl, sym, ap, ◌∙◌}
 use Rattle.office_core.specs.declared.query.Query.TheVariants as query
-use Rattle.office_tables.proofs.Calls.{looks_nowhere}
-use Rattle.refinement.specs.Representation.{office_of}
-use Rattle.public_queries.specs.HeadLines.{shows_last}
-use Rattle.public_queries.specs.KnownPaths.{RepresentsUnit}
-use Rattle.catalogue_store.specs.declared.heads.Head.{Head}
+use Rattle.public_queries.proofs.Common.{Head, RepresentsUnit, Unknown, UnknownUnit, looks_nowhere, office_of, shows_last, state}
 use Rattle.public_queries.proofs.Knowings.{catalogue_passed, knows_by}
 use Rattle.public_queries.proofs.LaterKnowing.{knows_then}
 use Rattle.public_queries.proofs.PageAnswers.{far, hidden, judged}
 use Rattle.public_queries.proofs.pages.page.Goals as goal
 
-pub returns-then-unit-ge-NO_NUMBER : goal.returns-then-unit-ge-NO_NUMBER
-returns-then-unit-ge-NO_NUMBER g c =
+pub returns-in_default : goal.returns-in_default
+returns-in_default g c =
     let v = g.P.Versioned.version in
     let a = state g.S.Store c.args.tables.now in
     knows_by g.P.Places.represents v (λ s. c.args.known.now ≡ office_of s) (query.Page c.args.unit) a a (Unknown UnknownUnit)
     (looks_nowhere a)
-    (λ clean s sound so it. far s sound c.args.unit c.if-unit-ge-NO_NUMBER.true)
+    (λ clean s sound so it. far s sound c.args.unit (c.in_default.ensures.none refl))
 
 pub returns-in_err-way : goal.returns-in_err-way
 returns-in_err-way g c = let told = c.in_err-way.ensures.answers in catalogue_passed _ c.from_residual.ensures told.aborts told.faults
@@ -28,7 +21,7 @@ pub returns-then-not-shows_last : goal.returns-then-not-shows_last
 returns-then-not-shows_last g c =
     let a = state g.S.Store c.args.tables.now in
     let b = state g.S.Store c.path_heads.new.tables in
-    let told = c.in_ok-way.ensures.answers in
+    let told = (rw c.in-Some.ensures.same at c.in_ok-way.ensures).answers in
     knows_by g.P.Places.represents g.P.Versioned.version (λ s. c.args.known.now ≡ office_of s) (query.Page c.args.unit) a b (Unknown UnknownUnit) told.looks
     (λ clean s sound so it.
     let way = c.as_slice.ensures.value ∙ told.answers clean (office_of s) s.catalogue it.catalogue in
@@ -40,7 +33,8 @@ returns g c =
     let a = state g.S.Store c.args.tables.now in
     let b = state g.S.Store c.path_heads.new.tables in
     let d = state g.S.Store c.shown_page.new.tables in
-    let told = c.in_ok-way.ensures.answers in
+    let told = (rw c.in-Some.ensures.same at c.in_ok-way.ensures).answers in
+    let last = rw c.in-Some.ensures.same at c.shown_page.ensures in
     knows_then g.P.Places.represents g.P.Versioned.version (λ s. c.args.known.now ≡ office_of s) (RepresentsUnit c.args.known.now c.args.unit c.as_slice-2.result.now) (query.Page c.args.unit) a b d c.shown_page.result told.looks
     (λ clean s sound so it. record {
       office = so;
@@ -49,4 +43,4 @@ returns g c =
           ap (λ (l : List Head). shows_last c.args.known.now.day l) (c.as_slice-2.ensures.value ∙ sym c.as_slice.ensures.value)
           ∙ sym c.shows_last.ensures ∙ c.if-not-shows_last.false;
     })
-    c.shown_page.ensures
+    last

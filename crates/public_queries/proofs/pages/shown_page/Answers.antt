@@ -1,21 +1,8 @@
 use Rattle.std.proofs.Common.{◌≡◌, ℕ, List, map, sym, ap, ◌∙◌}
-use Rattle.sqlite.specs.Held.{state}
-use Rattle.tree_core.specs.Forest.{path}
-use Rattle.catalogue_core.specs.Units.{has_id}
-use Rattle.office_core.proofs.KeptOffices.{office_kept, office_knows, office_places}
-use Rattle.office_core.specs.SoundOffice.{IsSoundOffice}
 use Rattle.office_core.specs.State.{State}
-use Rattle.office_core.specs.declared.query.Answer.TheVariants.{Text}
 use Rattle.office_core.specs.declared.query.Query.TheVariants as query
-use Rattle.office_tables.proofs.CallEnds.{same_fault}
-use Rattle.office_tables.proofs.Calls.{early, looks_nowhere, looks_then}
 use Rattle.office_tables.specs.declared.fault.StoreFault.TheVariants as fault
-use Rattle.refinement.specs.Representation.{office_of}
-use Rattle.refinement.proofs.Answerings.{still_shown}
-use Rattle.catalogue_store.specs.Heads.{head_of}
-use Rattle.public_queries.specs.HeadLines.{head_alone, repository_of}
-use Rattle.public_queries.specs.KnownPaths.{AreHeadsOf, IsTellable, RepresentsUnit}
-use Rattle.catalogue_store.specs.declared.heads.Head.{Head}
+use Rattle.public_queries.proofs.Common.{AreHeadsOf, Head, IsSoundOffice, IsTellable, RepresentsUnit, Text, early, has_id, head_alone, head_of, looks_nowhere, looks_then, office_kept, office_knows, office_of, office_places, path, repository_of, same_fault, state, still_shown}
 use Rattle.public_queries.proofs.Knowings.{knows_by, knows_passed, knows_passed_later, knows_short}
 use Rattle.public_queries.proofs.PageAnswers.{path_found, answers_closed, answers_told}
 use Rattle.public_queries.proofs.pages.shown_page.Goals as goal

@@ -1,13 +1,5 @@
 use Rattle.std.proofs.Common.{◌≡◌, ◌++◌, ◌∷◌, [], length, take, map, sym, ap, subst, ◌∙◌, arith}
-use Rattle.std.proofs.lemmas.List.{take_all, map-append, length-map}
-use Rattle.sqlite.specs.Effect.{Database}
-use Rattle.sqlite.specs.Held.{state}
-use Rattle.catalogue_statements.specs.Representation.{Represents}
-use Rattle.office_tables.proofs.Calls.{early, looks_nowhere, looks_then}
-use Rattle.catalogue_store.specs.Heads.{head_of}
-use Rattle.public_queries.specs.PathValues.{unit_values}
-use Rattle.catalogue_store.specs.declared.heads.Head.{Head}
-use Rattle.refinement.proofs.Doings.{tells_full, tells_passed_later}
+use Rattle.public_queries.proofs.Common.{Database, Head, Represents, early, head_of, length-map, looks_nowhere, looks_then, map-append, state, take_all, tells_full, tells_passed_later, unit_values}
 use Rattle.public_queries.proofs.FoundUnits.{HeadAt, head_at}
 use Rattle.public_queries.proofs.pages.values_of_all.Goals as goal
 

@@ -1,12 +1,5 @@
 use Rattle.std.proofs.Common.{◌≡◌, take, map}
-use Rattle.sqlite.specs.Held.{state}
-use Rattle.sqlite.specs.State.{HasCleanDisk}
-use Rattle.catalogue_core.specs.CatalogueMerge.{Catalogue}
-use Rattle.catalogue_statements.specs.Representation.{Represents}
-use Rattle.catalogue_statements.specs.declared.office.OfficeRow.{OfficeRow}
-use Rattle.office_tables.specs.Step.{LeavesUnchanged}
-use Rattle.public_queries.specs.KnownPaths.{AreHeadsOf, IsTellable}
-use Rattle.public_queries.specs.PathValues.{unit_values}
+use Rattle.public_queries.proofs.Common.{AreHeadsOf, Catalogue, HasCleanDisk, IsTellable, LeavesUnchanged, OfficeRow, Represents, state, unit_values}
 use Rattle.public_queries.proofs.pages.values_of_all.Given as goal
 
 abbrev pub invariant-loop-head : goal.invariant-loop-head

@@ -1,5 +1,5 @@
 use Rattle.std.proofs.Common.{◌≡◌, take}
-use Rattle.public_queries.specs.HeadLines.{ids_of}
+use Rattle.public_queries.proofs.Common.{ids_of}
 use Rattle.public_queries.proofs.path_heads.identifiers.Given as goal
 
 abbrev pub invariant-loop-head : goal.invariant-loop-head

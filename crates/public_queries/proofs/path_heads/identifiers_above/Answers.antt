@@ -1,9 +1,5 @@
 use Rattle.std.proofs.Common.{◌≡◌, List, [], ◌∷◌, ◌++◌, refl, sym, ap, subst, ◌∙◌}
-use Rattle.std.specs.Prelude.{IfOk}
-use Rattle.isad_core.specs.Texts.{Bytes}
-use Rattle.catalogue_core.specs.Pages.{before_last}
-use Rattle.public_queries.specs.HeadLines.{ids_of}
-use Rattle.catalogue_store.specs.declared.heads.Head.{Head}
+use Rattle.public_queries.proofs.Common.{Bytes, Head, IfOk, before_last, ids_of}
 use Rattle.public_queries.proofs.path_heads.identifiers_above.Goals as goal
 
 -- those of all but the last

@@ -1,5 +1,5 @@
 use Rattle.std.proofs.Common.{not, ◌&&◌, sym, ap, ◌∙◌}
-use Rattle.public_queries.specs.HeadLines.{shows_last}
+use Rattle.public_queries.proofs.Common.{shows_last}
 use Rattle.public_queries.proofs.HeadLineLemmas.{shows_last-push}
 use Rattle.public_queries.proofs.path_heads.shows_last.Goals as goal
 

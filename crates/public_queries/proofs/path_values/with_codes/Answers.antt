@@ -1,10 +1,5 @@
 use Rattle.std.proofs.Common.{◌≡◌, ◌++◌, ◌∷◌, [], map, sym, ap, ◌∙◌}
-use Rattle.std.proofs.lemmas.List.{map-append}
-use Rattle.std.specs.Prelude.{unwrap_or, reverse}
-use Rattle.isad_core.specs.Codes.{code_of}
-use Rattle.isad_core.specs.Values.{identifier}
-use Rattle.catalogue_store.specs.declared.unit_values.UnitValues.{UnitValues}
-use Rattle.public_queries.specs.HeadLines.{repository_of}
+use Rattle.public_queries.proofs.Common.{UnitValues, code_of, identifier, map-append, repository_of, reverse, unwrap_or}
 use Rattle.public_queries.proofs.CodedWays.{coded_more}
 use Rattle.public_queries.proofs.path_values.with_codes.Goals as goal
 

@@ -1,9 +1,5 @@
 use Rattle.std.proofs.Common.{◌≡◌, [], map}
-use Rattle.std.specs.Prelude.{reverse}
-use Rattle.isad_core.specs.Values.{identifier}
-use Rattle.catalogue_store.specs.declared.unit_values.UnitValues.{UnitValues}
-use Rattle.public_queries.specs.HeadLines.{repository_of}
-use Rattle.public_queries.specs.PathValues.{coded_way}
+use Rattle.public_queries.proofs.Common.{UnitValues, coded_way, identifier, repository_of, reverse}
 use Rattle.public_queries.proofs.path_values.with_codes.Given as goal
 
 abbrev pub invariant-loop-unit : goal.invariant-loop-unit

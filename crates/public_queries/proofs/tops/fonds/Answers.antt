@@ -1,11 +1,6 @@
 use Rattle.std.proofs.Common.{◌≡◌, [], sym, ap, ◌∙◌}
-use Rattle.sqlite.specs.Held.{state}
-use Rattle.catalogue_core.specs.Pages.{tops_text}
-use Rattle.catalogue_statements.specs.declared.office.OfficeRow.{OfficeRow}
-use Rattle.office_core.specs.declared.query.Answer.TheVariants.{Text}
 use Rattle.office_core.specs.declared.query.Query.TheVariants as query
-use Rattle.refinement.specs.Representation.{office_of}
-use Rattle.public_queries.specs.HeadLines.{all_bare, repository_of}
+use Rattle.public_queries.proofs.Common.{OfficeRow, Text, all_bare, office_of, repository_of, state, tops_text}
 use Rattle.public_queries.proofs.FondsPrinted.{fonds_printed}
 use Rattle.public_queries.proofs.Knowings.{catalogue_passed, knows_by}
 use Rattle.public_queries.proofs.tops.fonds.Goals as goal

@@ -1,10 +1,6 @@
 use Rattle.std.proofs.Common.{◌≡◌, Some, None, [], sym, ap, ◌∙◌}
-use Rattle.std.specs.Prelude.{option_map}
-use Rattle.isad_core.specs.declared.display.Body.TheVariants.{Closed}
-use Rattle.office_tables.proofs.Calls.{cut_after}
-use Rattle.catalogue_store.specs.Heads.{head_of}
-use Rattle.catalogue_store.specs.declared.heads.Head.{Head}
 use Rattle.public_queries.specs.declared.visible_unit.Seen.{Seen}
+use Rattle.public_queries.proofs.Common.{Closed, Head, cut_after, head_of, option_map}
 use Rattle.public_queries.proofs.visible_unit.seen_closed.Goals as goal
 
 none_some : {X : Type 0} (x : X) → None ≡ Some x → ⊥

@@ -1,9 +1,5 @@
 use Rattle.std.proofs.Common.{◌≡◌, Some, None, sym, ap, ◌∙◌}
-use Rattle.std.specs.Prelude.{option_map}
-use Rattle.sqlite.specs.Held.{state}
-use Rattle.office_tables.proofs.Calls.{cut_after}
-use Rattle.refinement.proofs.Doings.{tells_passed}
-use Rattle.public_queries.specs.FindingAids.{seen_values}
+use Rattle.public_queries.proofs.Common.{cut_after, option_map, seen_values, state, tells_passed}
 use Rattle.public_queries.proofs.AidUnits.{seen_read, values_read}
 use Rattle.public_queries.proofs.visible_unit.seen_open.Goals as goal
 
@@ -12,9 +8,6 @@ none_some x e = absurd (cc)
 
 same : {X : Type 0} (x y : X) → Some x ≡ Some y → x ≡ y
 same x y e = cc
-
-pub values-requires : goal.values-requires
-values-requires g c = record { small = c.requires.small }
 
 pub returns-in_err-found : goal.returns-in_err-found
 returns-in_err-found g c =

@@ -2,7 +2,7 @@ use Rattle.std.proofs.Common.{ℕ, Bor, map, ap, sym, ◌∙◌}
 use Rattle.std.proofs.lemmas.Iterator.{YieldsList-from_slice, YieldsList-from_zip}
 use Rattle.std.proofs.lemmas.Iterator.Consumers.{YieldsList-end}
 use Rattle.sqlite_trees.proofs.ListLemmas.{map-map}
-use Rattle.isad_core.specs.declared.values.BoxKey.{BoxKey}
+use Rattle.public_queries.proofs.Common.{BoxKey}
 use Rattle.public_queries.proofs.visible_unit.with_numbers.Goals as goal
 
 pub returns : goal.returns

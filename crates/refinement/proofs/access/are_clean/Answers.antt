@@ -1,22 +1,9 @@
-use Rattle.std.proofs.Common.{◌≡◌, true, false, map, refl, sym, subst, arith}
-use Rattle.std.specs.List.{AllByRecursion}
-use Rattle.std.proofs.lemmas.List.{length-map}
-use Rattle.sqlite.specs.Effect.{Database}
-use Rattle.sqlite.specs.Held.{state}
+use Rattle.std.proofs.Common.{◌≡◌, true, map, refl, sym, subst, arith}
 use Rattle.sqlite_trees.proofs.ListLemmas.{all-get_or}
-use Rattle.tree_core.specs.Forest.{each}
-use Rattle.tree_core.specs.declared.rows.Span.{Span}
-use Rattle.catalogue_core.specs.Bounds.{IsKept}
-use Rattle.catalogue_core.specs.OpenMarks.{is_clean_for}
-use Rattle.catalogue_core.specs.UnitLookup.{has_unit}
-use Rattle.catalogue_core.specs.Units.{Unit}
 use Rattle.office_tables.specs.declared.fault.StoreFault.TheVariants as fault
-use Rattle.catalogue_statements.specs.Representation.{Represents}
-use Rattle.office_tables.proofs.CallEnds.{same_fault}
 use Rattle.office_tables.proofs.StoreCalls.{tells_not, tells_cut}
-use Rattle.office_tables.proofs.Calls.{cut_after, early, looks_nowhere, looks_then}
 use Rattle.office_tables.proofs.Sparing.{spares_full}
-use Rattle.refinement.specs.Openness.{AreTheirs, allows, are_clean_for}
+use Rattle.refinement.proofs.Common.{AllByRecursion, AreTheirs, Database, IsKept, Represents, Span, Unit, allows, are_clean_for, cut_after, each, early, has_unit, is_clean_for, length-map, looks_nowhere, looks_then, same_fault, state}
 use Rattle.refinement.proofs.AllPass.{all_of, more_clean, not_clean}
 use Rattle.refinement.proofs.access.are_clean.Goals as goal
 

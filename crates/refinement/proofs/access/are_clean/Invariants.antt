@@ -1,16 +1,5 @@
 use Rattle.std.proofs.Common.{◌≡◌, true, map, take}
-use Rattle.std.specs.List.{AllByRecursion, list_all}
-use Rattle.sqlite.specs.Held.{state}
-use Rattle.sqlite.specs.State.{HasCleanDisk}
-use Rattle.tree_core.specs.Forest.{each}
-use Rattle.tree_core.specs.declared.rows.Span.{Span}
-use Rattle.catalogue_core.specs.CatalogueMerge.{Catalogue}
-use Rattle.catalogue_core.specs.OpenMarks.{is_clean_for}
-use Rattle.catalogue_core.specs.Units.{Unit}
-use Rattle.catalogue_statements.specs.Representation.{Represents}
-use Rattle.catalogue_statements.specs.declared.office.OfficeRow.{OfficeRow}
-use Rattle.office_tables.specs.Step.{LeavesUnchanged}
-use Rattle.refinement.specs.Openness.{AreTheirs, allows}
+use Rattle.refinement.proofs.Common.{AllByRecursion, AreTheirs, Catalogue, HasCleanDisk, LeavesUnchanged, OfficeRow, Represents, Span, Unit, allows, each, is_clean_for, list_all, state}
 use Rattle.refinement.proofs.access.are_clean.Given as goal
 
 abbrev pub invariant-loop-row : goal.invariant-loop-row

@@ -1,14 +1,9 @@
 use Rattle.std.proofs.Common.{rules, ◌≡◌, false, not, map, of_z, to_z, w32, FitsSigned, sym, ap, ◌∙◌}
 use Rattle.std.specs.Prelude.{◌&&◌}
-use Rattle.std.specs.List.{list_all}
 use Rattle.std.proofs.lemmas.Int.{to_z-of_z}
 use Rattle.tree_core.specs.Forest.{path as path_to}
-use Rattle.tree_core.specs.Marks.{contents_paths, withholds}
-use Rattle.catalogue_core.specs.OpenMarks.{is_opened_above, with_permit}
-use Rattle.catalogue_core.specs.UnitMarks.{mark_of}
-use Rattle.catalogue_core.specs.Units.{has_id}
 use Rattle.catalogue_core.proofs.OpenLemmas.{marks_say_clean}
-use Rattle.refinement.specs.Openness.{allows}
+use Rattle.refinement.proofs.Common.{allows, contents_paths, has_id, is_opened_above, list_all, mark_of, with_permit, withholds}
 use Rattle.refinement.proofs.UnboxedMarks.{contents_told, path_opens, path_withholds, unnumbered_units}
 use Rattle.refinement.proofs.access.is_clean.Goals.{else-clean_path, then-clean_path}
 use Rattle.refinement.proofs.access.is_clean.Goals as goal

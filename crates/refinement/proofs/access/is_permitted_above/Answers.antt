@@ -1,8 +1,6 @@
 use Rattle.std.proofs.Common.{ap, sym, ◌∙◌}
-use Rattle.std.specs.List.{list_any}
-use Rattle.tree_core.specs.declared.marks.Mark.{Mark}
-use Rattle.catalogue_core.specs.OpenMarks.{is_opened_above}
 use Rattle.catalogue_core.proofs.PublishedUnits.{before_last-push}
+use Rattle.refinement.proofs.Common.{Mark, is_opened_above, list_any}
 use Rattle.refinement.proofs.access.is_permitted_above.Goals as goal
 
 pub returns-in-Some : goal.returns-in-Some

@@ -1,37 +1,18 @@
 use Rattle.std.proofs.Common.{arith, ◌≡◌, ℕ, ℤ, true, false, List, [], length, nat_eq, refl, sym, ap, subst, ◌∙◌}
-use Rattle.std.specs.Prelude.{⊤}
-use Rattle.std.proofs.lemmas.Bool.{eqb-true}
-use Rattle.sqlite.specs.Held.{state}
-use Rattle.desk_store.proofs.ToldCalls.{ends_not, ends_well, shown_on}
 use Rattle.desk_store.specs.declared.reader_permits.Permit.{Permit}
-use Rattle.tree_core.specs.declared.rows.Span.{Span}
-use Rattle.office_core.specs.State.{State, opens}
-use Rattle.state_encoding.specs.OfficeRows.{tables}
-use Rattle.office_tables.proofs.CallEnds.{same_fault, tells_cut, tells_not}
-use Rattle.office_tables.proofs.Calls.{early, looks_nowhere, looks_then}
-use Rattle.refinement.specs.AccessConditions.{CanBeJudged, RepresentsWhole}
-use Rattle.refinement.specs.Openness.{AreClean, are_clean_for}
+use Rattle.office_core.specs.State.{State}
+use Rattle.office_tables.proofs.CallEnds.{tells_cut, tells_not}
 use Rattle.refinement.specs.declared.access.Judgement.{Judgement}
 use Rattle.refinement.specs.Representation as shown
+use Rattle.refinement.proofs.Common.{AreClean, CanBeJudged, RepresentsWhole, Span, are_clean_for, early, ends_not, ends_well, eqb-true, looks_then, opens, same_fault, shown_on, state, tables, ⊤}
 use Rattle.refinement.proofs.DiskBlames.{blames_first, blames_later}
-use Rattle.refinement.proofs.OpenByRows.{clean_open, empty_closed, opens_none, theirs}
+use Rattle.refinement.proofs.OpenByRows.{clean_open, empty_closed, theirs}
 use Rattle.refinement.proofs.access.judge.Goals as goal
 
 -- what the call tells
 abbrev Tells : ℕ → ℕ → ℤ → List Span → ⊤ → State → Judgement → Type 0
 Tells container ticket today clean _ s found =
     CanBeJudged s → today ≡ s.day → AreClean s clean → (found.is_open ≡ opens s ticket container) × AreClean s found.clean.items
-
-pub returns-then-container-ge-NO_NUMBER : goal.returns-then-container-ge-NO_NUMBER
-returns-then-container-ge-NO_NUMBER g c =
-    let v = g.P.Versioned.version in
-    let a = state g.S.Store c.args.tables.now in
-    record {
-      answers = ends_well (RepresentsWhole g.P.Places.represents v) CanBeJudged (λ _. ⊤) g.S.Store c.args.tables.now c.args.tables.now c.args.tables.now (Tells c.args.container c.args.ticket c.args.today c.args.clean.items)
-          (looks_nowhere a) (record { is_open = false; clean = c.args.clean })
-          (λ clean s it judged day kept. (opens_none s judged c.args.ticket c.args.container c.if-container-ge-NO_NUMBER.true, kept));
-      disk = λ clean. tt;
-    }
 
 pub returns-in_err-rows : goal.returns-in_err-rows
 returns-in_err-rows g c =

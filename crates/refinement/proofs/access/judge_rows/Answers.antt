@@ -1,22 +1,9 @@
 use Rattle.std.proofs.Common.{◌≡◌, ℕ, ℤ, true, List, [], sym, ap, ap₂, subst, ◌∙◌}
-use Rattle.std.specs.List.{AllByRecursion}
 use Rattle.std.specs.Cmp.Lexicographic.{pointwise}
-use Rattle.std.proofs.lemmas.Bool.{and_parts}
-use Rattle.sqlite.specs.Held.{state}
-use Rattle.tree_core.specs.Forest.{Forest, each}
-use Rattle.tree_core.specs.declared.rows.Span.{Span}
-use Rattle.catalogue_core.specs.Bounds.{IsKept}
-use Rattle.catalogue_core.specs.CatalogueMerge.{Catalogue}
-use Rattle.catalogue_core.specs.Units.{Unit}
-use Rattle.catalogue_statements.specs.Representation.{Represents}
-use Rattle.catalogue_statements.specs.declared.office.OfficeRow.{OfficeRow}
-use Rattle.office_core.specs.Words.{is_empty}
-use Rattle.office_tables.proofs.CallEnds.{same_fault}
 use Rattle.office_tables.proofs.StoreCalls.{tells_not}
-use Rattle.office_tables.proofs.Calls.{looks_nowhere}
 use Rattle.desk_store.specs.declared.reader_permits.Permit.{Permit}
-use Rattle.refinement.specs.Openness.{AreTheirs, are_clean_for, is_same_row}
 use Rattle.refinement.specs.declared.access.Judgement.{Judgement}
+use Rattle.refinement.proofs.Common.{AllByRecursion, AreTheirs, Catalogue, Forest, IsKept, OfficeRow, Represents, Span, Unit, and_parts, are_clean_for, each, is_empty, is_same_row, looks_nowhere, same_fault, state}
 use Rattle.refinement.proofs.SameRows.{nothing_in, same_rows}
 use Rattle.refinement.proofs.access.judge_rows.Goals as goal
 

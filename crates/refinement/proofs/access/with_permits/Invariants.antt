@@ -1,6 +1,5 @@
 use Rattle.std.proofs.Common.{◌≡◌, map, take}
-use Rattle.catalogue_core.specs.OpenMarks.{with_permit}
-use Rattle.refinement.specs.Openness.{allows}
+use Rattle.refinement.proofs.Common.{allows, with_permit}
 use Rattle.refinement.proofs.access.with_permits.Given as goal
 
 abbrev pub invariant-loop-mark : goal.invariant-loop-mark

@@ -1,25 +1,10 @@
 use Rattle.std.proofs.Common.{ℕ, List, Vec, Global, Result, Err, ◌++◌, nat_eq, ap, ap₂, sym, subst, ◌∙◌}
-use Rattle.std.specs.Prelude.{⊤, ◌||◌}
-use Rattle.std.specs.List.{AllByRecursion, list_any}
-use Rattle.std.proofs.lemmas.List.Folds.{list_any-append}
-use Rattle.sqlite.specs.Effect.{Database}
-use Rattle.sqlite.specs.Held.{state}
-use Rattle.isad_core.specs.Limits.{IsNumber}
-use Rattle.tree_core.specs.Forest.{branch, each}
-use Rattle.tree_core.proofs.EachLemmas.{branch-each}
-use Rattle.catalogue_core.specs.UnitMarks.{names}
-use Rattle.catalogue_core.specs.Units.{Unit, has_id}
-use Rattle.catalogue_statements.specs.Rows.{housing_row}
-use Rattle.desk_store.proofs.ToldCalls.{ends_well}
-use Rattle.office_tables.specs.RowNumbers.{HasNumbered}
+use Rattle.std.specs.Prelude.{◌||◌}
 use Rattle.office_tables.specs.Schema as tables
-use Rattle.office_tables.specs.declared.fault.StoreFault.{StoreFault}
 use Rattle.office_tables.specs.declared.fault.StoreFault.TheVariants as fault
-use Rattle.office_tables.proofs.CallEnds.{excused_then, same_fault, tells_not}
-use Rattle.office_tables.proofs.Calls.{cut_after, cut_then, early, looks_then}
-use Rattle.refinement.specs.Gate.{IsHoused, AreNear, is_one_of, nearest, says_so}
-use Rattle.refinement.specs.AccessConditions.{CanBeJudged, RepresentsWhole}
-use Rattle.refinement.proofs.NearRows.{all_branch, branch_named}
+use Rattle.office_tables.proofs.CallEnds.{tells_not}
+use Rattle.refinement.proofs.Common.{AreNear, CanBeJudged, Database, HasNumbered, IsHoused, RepresentsWhole, StoreFault, Unit, branch, branch-each, cut_after, cut_then, each, early, ends_well, excused_then, has_id, housing_row, is_one_of, list_any, list_any-append, looks_then, names, nearest, same_fault, says_so, state, ⊤}
+use Rattle.refinement.proofs.NearRows.{branch_named}
 use Rattle.refinement.proofs.branch_gate.containers_near.Goals as goal
 
 pub returns-in_err-branch : goal.returns-in_err-branch
@@ -39,7 +24,6 @@ returns-in_err-containers g c =
     let a = state g.S.Store c.args.tables.now in
     let b = state g.S.Store c.branch-alloc.new.tables in
     let d = state g.S.Store c.containers_of_each.new.tables in
-    let u = c.args.unit in
     let e = c.from_residual-in_err-containers.ensures in
     let one = c.in_ok-branch.ensures.answers in
     let each_of = c.in_err-containers.ensures in
@@ -48,11 +32,8 @@ returns-in_err-containers g c =
       answers = tells_not g.S.Store (RepresentsWhole g.P.Places.represents v) CanBeJudged (λ _. ⊤) c.args.tables.now c.containers_of_each.new.tables c.from_residual-in_err-containers.result (λ _ s found. IsHoused c.args.unit s c.args.housed.now → AreNear c.args.unit s found.items) c.in_err-containers.field-0.0
           (same_fault c.from_residual-in_err-containers.result c.in_err-containers.field-0.0 e.0 e.1) (cut_then a b d one.looks.goes.on each_of.reads.aborts)
           (λ beside s it may judged. excused_then a b d one.looks.goes.on failed each_of.reads.aborts (λ at_b.
-          let F = each (λ (u : Unit). u.id) s.catalogue.forest in
           let housings = it.catalogue.catalogue.housings in
-          let ids = c.deref.ensures.value ∙ one.answers at_b tt F it.catalogue.shown in
-          each_of.faults housings.housings (subst (λ (db : Database). HasNumbered housing_row (db.trees tables.housing.tree) housings.housings) (sym (one.looks.same at_b)) housings.rows)
-          (subst (AllByRecursion IsNumber) (sym ids) (all_branch IsNumber (nat_eq u) F judged.catalogue.places.low))));
+          each_of.faults housings.housings (subst (λ (db : Database). HasNumbered housing_row (db.trees tables.housing.tree) housings.housings) (sym (one.looks.same at_b)) housings.rows) tt));
     }
 
 pub returns-in_err-extend_from_slice : goal.returns-in_err-extend_from_slice

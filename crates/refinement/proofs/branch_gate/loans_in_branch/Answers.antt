@@ -1,11 +1,6 @@
 use Rattle.std.proofs.Common.{nat_eq, ap, sym, subst, ◌∙◌}
-use Rattle.std.specs.Prelude.{⊤}
-use Rattle.std.specs.List.Sorted.{IsNonDecreasing}
-use Rattle.std.proofs.lemmas.List.Sorted.{IsNonDecreasingBy-from_sort, list_any-IsPermutation}
-use Rattle.desk_store.proofs.ToldCalls.{ends_well}
-use Rattle.office_tables.proofs.CallEnds.{same_fault, tells_not}
-use Rattle.refinement.specs.Gate.{AreAsked, IsHoused, is_one_of}
-use Rattle.refinement.specs.AccessConditions.{CanBeJudged, RepresentsWhole}
+use Rattle.office_tables.proofs.CallEnds.{tells_not}
+use Rattle.refinement.proofs.Common.{AreAsked, CanBeJudged, IsHoused, IsNonDecreasing, IsNonDecreasingBy-from_sort, RepresentsWhole, ends_well, is_one_of, list_any-IsPermutation, same_fault, ⊤}
 use Rattle.refinement.proofs.branch_gate.loans_in_branch.Goals as goal
 
 pub returns-in_err-containers : goal.returns-in_err-containers

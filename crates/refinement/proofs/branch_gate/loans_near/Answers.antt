@@ -1,14 +1,6 @@
 use Rattle.std.proofs.Common.{List, subst}
-use Rattle.std.specs.Prelude.{⊤}
-use Rattle.sqlite.specs.Held.{state}
-use Rattle.desk_store.specs.Holdings.{issued_of}
-use Rattle.desk_store.specs.declared.container_orders.ContainerOrder.{ContainerOrder}
-use Rattle.desk_store.proofs.ToldCalls.{ends_not, shown_on}
-use Rattle.state_encoding.specs.OfficeRows.{tables}
-use Rattle.office_tables.proofs.CallEnds.{same_fault, tells_not}
-use Rattle.office_tables.proofs.Calls.{early, looks_then}
-use Rattle.refinement.specs.Gate.{AreAsked, IsHoused}
-use Rattle.refinement.specs.AccessConditions.{CanBeJudged, RepresentsWhole}
+use Rattle.office_tables.proofs.CallEnds.{tells_not}
+use Rattle.refinement.proofs.Common.{AreAsked, CanBeJudged, ContainerOrder, IsHoused, RepresentsWhole, early, ends_not, issued_of, looks_then, same_fault, shown_on, state, tables, ⊤}
 use Rattle.refinement.proofs.Tellings.{told_then}
 use Rattle.refinement.proofs.branch_gate.loans_near.Goals as goal
 
@@ -23,9 +15,6 @@ returns-in_err-loans g c =
           (λ beside s shown may judged clean free. told.faults tt (tables v s).desk shown.desk tt (judged.desk v) clean free);
     }
 
-pub housed_unit-requires : goal.housed_unit-requires
-housed_unit-requires g c = record { small = c.requires.small }
-
 pub returns-in_err-housed : goal.returns-in_err-housed
 returns-in_err-housed g c =
     let v = g.P.Versioned.version in
@@ -37,14 +26,6 @@ returns-in_err-housed g c =
           (λ s it may judged clean free. told.faults tt s it tt judged clean free)
           c.from_residual-in_err-housed.result (same_fault c.from_residual-in_err-housed.result c.in_err-housed.field-0.0 e.0 e.1);
     }
-
-pub loans_to_ask-requires : goal.loans_to_ask-requires
-loans_to_ask-requires g c =
-    let v = g.P.Versioned.version in
-    let a = state g.S.Store c.args.tables.now in
-    let b = state g.S.Store c.issued.new.tables in
-    let d = state g.S.Store c.housed_unit.new.tables in
-    record { small = c.requires.small }
 
 pub returns : goal.returns
 returns g c =

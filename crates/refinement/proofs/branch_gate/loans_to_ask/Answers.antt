@@ -1,11 +1,5 @@
 use Rattle.std.proofs.Common.{List, true, subst}
-use Rattle.std.specs.Prelude.{⊤}
-use Rattle.sqlite.specs.Held.{state}
-use Rattle.desk_store.proofs.ToldCalls.{ends_well}
-use Rattle.desk_store.specs.declared.container_orders.ContainerOrder.{ContainerOrder}
-use Rattle.office_tables.proofs.Calls.{looks_nowhere}
-use Rattle.refinement.specs.Gate.{AreAsked, IsHoused}
-use Rattle.refinement.specs.AccessConditions.{CanBeJudged, RepresentsWhole}
+use Rattle.refinement.proofs.Common.{AreAsked, CanBeJudged, ContainerOrder, IsHoused, RepresentsWhole, ends_well, looks_nowhere, state, ⊤}
 use Rattle.refinement.proofs.NearRows.{all_pass}
 use Rattle.refinement.proofs.Tellings.{told_then}
 use Rattle.refinement.proofs.branch_gate.loans_to_ask.Goals as goal

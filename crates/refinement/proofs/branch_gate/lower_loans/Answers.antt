@@ -1,10 +1,6 @@
 use Rattle.std.proofs.Common.{◌≡◌, ℕ, Bool, true, false, not, Vec, Global, Option, ap, subst, sym, refl, ◌∙◌}
-use Rattle.std.specs.Prelude.{⊤, IfSome}
-use Rattle.desk_store.proofs.ToldCalls.{ends_full, ends_well}
-use Rattle.office_tables.specs.declared.fault.StoreFault.TheVariants.{Memory}
-use Rattle.office_tables.proofs.CallEnds.{same_fault, tells_not}
-use Rattle.refinement.specs.Gate.{AreApart, AreAsked, IsHoused, is_one_of}
-use Rattle.refinement.specs.AccessConditions.{CanBeJudged, RepresentsWhole}
+use Rattle.office_tables.proofs.CallEnds.{tells_not}
+use Rattle.refinement.proofs.Common.{AreApart, AreAsked, CanBeJudged, IfSome, IsHoused, Memory, RepresentsWhole, ends_full, ends_well, is_one_of, same_fault, ⊤}
 use Rattle.refinement.proofs.Tellings.{told_then}
 use Rattle.refinement.proofs.branch_gate.lower_loans.Goals as goal
 
@@ -17,10 +13,6 @@ returns-in_err-apart g c =
       answers = tells_not g.S.Store (RepresentsWhole g.P.Places.represents v) CanBeJudged (λ _. ⊤) c.args.tables.now c.containers_apart.new.tables c.from_residual.result (λ _ s found. CanBeJudged s → IsHoused c.args.unit s c.args.housed.now → AreAsked c.args.unit s c.args.loans.now found.items) c.in_err-apart.field-0.0
           (same_fault c.from_residual.result c.in_err-apart.field-0.0 e.0 e.1) told.aborts told.faults;
     }
-
-pub loans_in_branch-requires : goal.loans_in_branch-requires
-loans_in_branch-requires g c =
-    record { small = c.requires.small }
 
 pub returns-in_default : goal.returns-in_default
 returns-in_default g c =

@@ -1,18 +1,7 @@
 use Rattle.std.proofs.Common.{◌≡◌, ℕ, List, Some, ap, sym, ◌∙◌}
-use Rattle.std.specs.Prelude.{⊤}
-use Rattle.sqlite.specs.Held.{state}
-use Rattle.desk_store.specs.Holdings.{issued_of}
-use Rattle.desk_store.specs.declared.container_orders.ContainerOrder.{ContainerOrder}
-use Rattle.desk_store.proofs.ToldCalls.{ends_not, ends_well, shown_on}
-use Rattle.office_core.specs.Rules.{lowest_withheld}
 use Rattle.office_core.specs.State.{State}
-use Rattle.state_encoding.specs.OfficeRows.{tables}
-use Rattle.office_tables.specs.Versions.{Version}
-use Rattle.office_tables.proofs.CallEnds.{same_fault, tells_not}
-use Rattle.office_tables.proofs.Calls.{early, looks_then}
-use Rattle.refinement.specs.AccessConditions.{CanBeJudged, RepresentsWhole}
-use Rattle.refinement.specs.Gate.{IsHoused, IsWithheldAt, OthersAreOpen, first_closed}
-use Rattle.refinement.specs.declared.housed_units.HousedUnit.{HousedUnit}
+use Rattle.office_tables.proofs.CallEnds.{tells_not}
+use Rattle.refinement.proofs.Common.{CanBeJudged, ContainerOrder, HousedUnit, IsHoused, IsWithheldAt, OthersAreOpen, RepresentsWhole, Version, early, ends_not, ends_well, first_closed, issued_of, looks_then, lowest_withheld, same_fault, shown_on, state, tables, ⊤}
 use Rattle.refinement.proofs.EarlyRefusals.{refused_before, refused_there}
 use Rattle.refinement.proofs.branch_gate.lowest_closed.Goals as goal
 

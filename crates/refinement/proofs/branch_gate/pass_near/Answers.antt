@@ -1,16 +1,6 @@
 use Rattle.std.proofs.Common.{◌≡◌, ◌<◌, ℕ, Ok, Err, Option, Some, List, [], ◌∷◌, length, refl, ap, subst, sym, ◌∙◌, arith}
-use Rattle.std.specs.Prelude.{⊤, IfSome, option_map}
-use Rattle.std.proofs.lemmas.Bool.{eqb-true}
-use Rattle.sqlite.specs.Held.{state}
-use Rattle.desk_core.specs.declared.refusal.Refusal.TheVariants.{WithReader}
-use Rattle.desk_store.specs.Holdings.{issued_of}
-use Rattle.desk_store.specs.declared.container_orders.ContainerOrder.{ContainerOrder}
-use Rattle.desk_store.proofs.ToldCalls.{ends_not, ends_well, shown_on}
-use Rattle.state_encoding.specs.OfficeRows.{tables}
-use Rattle.office_tables.proofs.CallEnds.{same_fault, tells_not}
-use Rattle.office_tables.proofs.Calls.{early, looks_then}
-use Rattle.refinement.specs.Gate.{AreAsked, AreEnough, IsWithheldAt, OthersAreOpen, first_closed, gate_reply, unless_refused}
-use Rattle.refinement.specs.AccessConditions.{CanBeJudged, RepresentsWhole}
+use Rattle.office_tables.proofs.CallEnds.{tells_not}
+use Rattle.refinement.proofs.Common.{AreAsked, AreEnough, CanBeJudged, ContainerOrder, IfSome, IsWithheldAt, OthersAreOpen, RepresentsWhole, WithReader, early, ends_not, ends_well, eqb-true, first_closed, gate_reply, issued_of, looks_then, option_map, same_fault, shown_on, state, tables, unless_refused, ⊤}
 use Rattle.refinement.proofs.Gates.{enough_of, kept_is}
 use Rattle.refinement.proofs.Tellings.{told_then}
 use Rattle.refinement.proofs.branch_gate.pass_near.Goals as goal
@@ -44,9 +34,6 @@ returns-then-is_empty g c =
           let none : issued_of (tables v s).desk ≡ [] = sym (told.answers clean tt (tables v s).desk shown.desk) ∙ nothing_long c.in_ok-loans.loans.items long in
           sym (ap (λ why. unless_refused (option_map WithReader why) c.args.done) (kept_is v s judged ∙ ap (first_closed s) none)));
     }
-
-pub housed_unit-requires : goal.housed_unit-requires
-housed_unit-requires g c = record { small = c.requires.small }
 
 pub returns-in_err-housed : goal.returns-in_err-housed
 returns-in_err-housed g c =
@@ -84,15 +71,6 @@ returns-in_err-place g c =
     }
 
 -- ---- the unit is withheld from none who has a container in which it lies
-
-pub loans_to_ask-requires : goal.loans_to_ask-requires
-loans_to_ask-requires g c =
-    let v = g.P.Versioned.version in
-    let a = state g.S.Store c.args.tables.now in
-    let b = state g.S.Store c.issued.new.tables in
-    let d = state g.S.Store c.housed_unit.new.tables in
-    let e = state g.S.Store c.first_withheld.new.tables in
-    record { small = c.requires.small }
 
 pub returns-in_err-asked : goal.returns-in_err-asked
 returns-in_err-asked g c =
@@ -152,7 +130,6 @@ lowest_closed-requires g c =
     let f = state g.S.Store c.first_withheld.new.tables in
     let low : IfSome (Some c.in-Some.place) (λ place. place < length c.deref.result.now) = subst (λ (o : Option ℕ). IfSome o (λ place. place < length c.deref.result.now)) c.in-Some.is c.in_ok-place.ensures.there in
     record {
-      small = c.requires.small;
       rise = c.in_ok-housed.ensures.rise;
       there = subst (λ (loans : List ContainerOrder). c.in-Some.place < length loans) (c.deref.ensures.value ∙ sym c.deref-2.ensures.value) low;
     }

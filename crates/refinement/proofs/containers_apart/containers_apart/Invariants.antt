@@ -1,10 +1,5 @@
-use Rattle.sqlite.specs.Held.{state}
-use Rattle.sqlite.specs.State.{HasCleanDisk}
 use Rattle.office_core.specs.State.{State}
-use Rattle.office_tables.specs.Step.{LeavesUnchanged}
-use Rattle.refinement.specs.AccessConditions.{CanBeJudged}
-use Rattle.refinement.specs.Gate.{AreApart, IsHoused}
-use Rattle.refinement.specs.Representation.{RepresentsState}
+use Rattle.refinement.proofs.Common.{AreApart, CanBeJudged, HasCleanDisk, IsHoused, LeavesUnchanged, RepresentsState, state}
 use Rattle.refinement.proofs.containers_apart.containers_apart.Given as goal
 
 abbrev pub invariant-loop-loan : goal.invariant-loop-loan

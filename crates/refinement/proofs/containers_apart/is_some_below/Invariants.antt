@@ -1,11 +1,6 @@
 use Rattle.std.proofs.Common.{◌≡◌, false, take}
-use Rattle.std.specs.List.{list_any}
-use Rattle.sqlite.specs.Held.{state}
-use Rattle.sqlite.specs.State.{HasCleanDisk}
 use Rattle.office_core.specs.State.{State}
-use Rattle.office_tables.specs.Step.{LeavesUnchanged}
-use Rattle.refinement.specs.Gate.{is_on_path}
-use Rattle.refinement.specs.Representation.{RepresentsState}
+use Rattle.refinement.proofs.Common.{HasCleanDisk, LeavesUnchanged, RepresentsState, is_on_path, list_any, state}
 use Rattle.refinement.proofs.containers_apart.is_some_below.Given as goal
 
 abbrev pub invariant-loop-unit : goal.invariant-loop-unit

@@ -1,30 +1,13 @@
 use Rattle.std.proofs.Common.{◌≡◌, ℕ, Bool, true, false, not, Option, Some, None, ap, subst, sym, refl, ◌∙◌}
-use Rattle.std.specs.Prelude.{⊤}
-use Rattle.std.specs.List.{list_any}
-use Rattle.std.specs.List.Sorted.{IsNonDecreasing}
-use Rattle.sqlite.specs.Held.{state}
-use Rattle.desk_store.proofs.ToldCalls.{ends_not, ends_well, shown_on}
 use Rattle.office_core.specs.State.{State}
-use Rattle.office_tables.proofs.CallEnds.{same_fault, tells_not}
-use Rattle.office_tables.proofs.Calls.{early, looks_nowhere, looks_then}
-use Rattle.refinement.specs.AccessConditions.{CanBeJudged, RepresentsWhole}
-use Rattle.refinement.specs.Gate.{IsHoused, is_named_near, is_on_path, is_one_of}
-use Rattle.refinement.specs.declared.housed_units.HousedUnit.{HousedUnit}
+use Rattle.office_tables.proofs.CallEnds.{tells_not}
+use Rattle.refinement.proofs.Common.{CanBeJudged, HousedUnit, IsHoused, IsNonDecreasing, RepresentsWhole, early, ends_not, ends_well, is_named_near, is_on_path, is_one_of, list_any, looks_nowhere, looks_then, same_fault, shown_on, state, ⊤}
 use Rattle.refinement.proofs.NamedApart.{apart_by_rows}
 use Rattle.refinement.proofs.containers_apart.lies_apart.Goals as goal
 
 -- what the call tells
 abbrev Tells : ℕ → HousedUnit → ℕ → ⊤ → State → Option Bool → Type 0
 Tells u it n _ s found = CanBeJudged s → IsHoused u s it → found ≡ Some true → is_named_near u s n ≡ false
-
-pub returns-then-container-ge-NO_NUMBER : goal.returns-then-container-ge-NO_NUMBER
-returns-then-container-ge-NO_NUMBER g c =
-    let v = g.P.Versioned.version in
-    let a = state g.S.Store c.args.tables.now in
-    record {
-      answers = ends_well (RepresentsWhole g.P.Places.represents v) CanBeJudged (λ _. ⊤) g.S.Store c.args.tables.now c.args.tables.now c.args.tables.now (Tells c.args.unit c.args.housed.now c.args.container)
-          (looks_nowhere a) None (λ clean s shown judged housed yes. absurd (cc));
-    }
 
 pub is_among-requires : goal.is_among-requires
 is_among-requires g c = record { rise = subst IsNonDecreasing (sym c.deref.ensures.value) c.requires.rise }
@@ -87,7 +70,7 @@ returns g c =
           let before = early b d _ told.looks.goes.on.crash clean in
           let housings = shown.catalogue.catalogue.housings in
           let found = read.answers before housings.housings housings.rows tt in
-          let off = told.answers clean tt s (shown_on represents a b read.reads.looks before s shown) (not_near c.in_ok-is_near.is_near yes) in
+          let off = sym (told.answers clean tt s (shown_on represents a b read.reads.looks before s shown)) ∙ not_near c.in_ok-is_near.is_near yes in
           apart_by_rows s judged c.args.unit c.args.container it housed a.now.trees housings found.0 found.1.0 outside
           (ap (list_any (is_on_path c.args.unit s)) (sym (c.deref-2.ensures.value ∙ found.2)) ∙ off));
     }

@@ -1,6 +1,5 @@
 use Rattle.std.proofs.Common.{◌≡◌, filter, not, take}
-use Rattle.desk_store.specs.declared.container_orders.ContainerOrder.{ContainerOrder}
-use Rattle.refinement.specs.Gate.{is_one_of}
+use Rattle.refinement.proofs.Common.{ContainerOrder, is_one_of}
 use Rattle.refinement.proofs.containers_apart.loans_without.Given as goal
 
 abbrev pub invariant-loop-loan : goal.invariant-loop-loan

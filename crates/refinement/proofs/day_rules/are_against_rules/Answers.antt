@@ -1,12 +1,6 @@
 use Rattle.std.proofs.Common.{◌≡◌}
-use Rattle.std.specs.Prelude.{⊤}
-use Rattle.sqlite.specs.Held.{state}
-use Rattle.desk_store.proofs.ToldCalls.{ends_not, ends_well, shown_on}
-use Rattle.state_encoding.specs.OfficeRows.{tables}
-use Rattle.office_tables.proofs.CallEnds.{same_fault, tells_not}
-use Rattle.office_tables.proofs.Calls.{early, looks_nowhere, looks_then}
-use Rattle.refinement.specs.DayRules.{are_against_rules}
-use Rattle.refinement.specs.AccessConditions.{CanBeJudged, RepresentsWhole}
+use Rattle.office_tables.proofs.CallEnds.{tells_not}
+use Rattle.refinement.proofs.Common.{CanBeJudged, RepresentsWhole, are_against_rules, early, ends_not, ends_well, looks_nowhere, looks_then, same_fault, shown_on, state, tables, ⊤}
 use Rattle.refinement.proofs.DayRules.{by_hands, by_openness, by_seats}
 use Rattle.refinement.proofs.DiskBlames.{blames_first, blames_later}
 use Rattle.refinement.proofs.day_rules.are_against_rules.Goals as goal

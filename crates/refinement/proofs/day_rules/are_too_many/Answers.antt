@@ -1,6 +1,6 @@
 use Rattle.std.proofs.Common.{map, subst, sym, ◌∙◌}
-use Rattle.std.specs.List.Sorted.{IsNonDecreasing, IsPermutation}
-use Rattle.desk_store.specs.declared.container_orders.ContainerOrder.{ContainerOrder}
+use Rattle.std.specs.List.Sorted.{IsPermutation}
+use Rattle.refinement.proofs.Common.{ContainerOrder, IsNonDecreasing}
 use Rattle.refinement.proofs.DayRules.{over_is}
 use Rattle.refinement.proofs.Standing.{over_permuted}
 use Rattle.refinement.proofs.day_rules.are_too_many.Goals as goal

@@ -1,11 +1,7 @@
 use Rattle.std.proofs.Common.{◌≡◌, ap, sym, ◌∙◌}
-use Rattle.std.specs.Prelude.{⊤}
-use Rattle.sqlite.specs.Held.{state}
-use Rattle.state_encoding.specs.OfficeRows.{tables}
-use Rattle.office_tables.proofs.CallEnds.{same_fault, tells_not}
+use Rattle.office_tables.proofs.CallEnds.{tells_not}
 use Rattle.office_tables.proofs.WriteCauses.{last_disk}
-use Rattle.refinement.specs.DayRules.{are_against_rules, breaks_day_rules}
-use Rattle.refinement.specs.AccessConditions.{CanBeJudged, RepresentsWhole}
+use Rattle.refinement.proofs.Common.{CanBeJudged, RepresentsWhole, are_against_rules, breaks_day_rules, same_fault, state, tables, ⊤}
 use Rattle.refinement.proofs.DayRules.{breaks_is}
 use Rattle.refinement.proofs.DiskBlames.{blames_first}
 use Rattle.refinement.proofs.Tellings.{told_then}

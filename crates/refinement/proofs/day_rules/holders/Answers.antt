@@ -1,4 +1,4 @@
-use Rattle.std.proofs.lemmas.List.Sorted.{IsNonDecreasingBy-from_sort}
+use Rattle.refinement.proofs.Common.{IsNonDecreasingBy-from_sort}
 use Rattle.refinement.proofs.day_rules.holders.Goals as goal
 
 pub returns-clause-rise : goal.returns-clause-rise

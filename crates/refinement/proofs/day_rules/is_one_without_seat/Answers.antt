@@ -1,11 +1,7 @@
 use Rattle.std.proofs.Common.{◌≡◌, ◌∙◌}
-use Rattle.std.specs.Prelude.{⊤}
-use Rattle.std.specs.List.{list_any}
-use Rattle.sqlite.specs.Held.{state}
-use Rattle.desk_store.proofs.ToldCalls.{ends_well}
-use Rattle.desk_store.specs.Representation.{IsLegible, RepresentsDeskAlone}
-use Rattle.office_tables.proofs.CallEnds.{same_fault, tells_not}
-use Rattle.refinement.specs.DayRules.{has_no_row}
+use Rattle.desk_store.specs.Representation.{IsLegible}
+use Rattle.office_tables.proofs.CallEnds.{tells_not}
+use Rattle.refinement.proofs.Common.{RepresentsDeskAlone, ends_well, has_no_row, list_any, same_fault, state, ⊤}
 use Rattle.refinement.proofs.DayRules.{lacks_is}
 use Rattle.refinement.proofs.DiskBlames.{blames_first}
 use Rattle.refinement.proofs.day_rules.is_one_without_seat.Goals as goal

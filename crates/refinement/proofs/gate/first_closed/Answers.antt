@@ -1,13 +1,5 @@
 use Rattle.std.proofs.Common.{◌≡◌, true, false, not, Some, refl, sym, ap, subst, ◌∙◌}
-use Rattle.std.specs.Prelude.{⊤, option_map, slice_index_or}
-use Rattle.sqlite.specs.Held.{state}
-use Rattle.desk_store.proofs.ToldCalls.{ends_not, ends_well, shown_on}
-use Rattle.desk_store.specs.declared.container_orders.ContainerOrder.{ContainerOrder}
-use Rattle.office_tables.proofs.CallEnds.{same_fault}
-use Rattle.office_tables.proofs.Calls.{early, looks_nowhere, looks_then}
-use Rattle.refinement.specs.Gate.{first_closed, is_closed_to}
-use Rattle.refinement.specs.AccessConditions.{CanBeJudged, RepresentsWhole}
-use Rattle.refinement.specs.Openness.{AreClean}
+use Rattle.refinement.proofs.Common.{AreClean, CanBeJudged, ContainerOrder, RepresentsWhole, early, ends_not, ends_well, first_closed, is_closed_to, looks_nowhere, looks_then, option_map, same_fault, shown_on, slice_index_or, state, ⊤}
 use Rattle.refinement.proofs.DiskBlames.{blames_later}
 use Rattle.refinement.proofs.Gates.{first_here, none_more}
 use Rattle.refinement.proofs.gate.first_closed.Goals as goal
@@ -45,7 +37,7 @@ returns-then-not-found g c =
     let b = state g.S.Store c.loop-loan.tables in
     let d = state g.S.Store c.judge.new.tables in
     let looks = c.loop-loan.invariant.looks in
-    let told = rw (c.get-container.ensures.same, c.get.ensures.same) at c.in_ok-found.ensures.answers in
+    let told = rw c.get-ticket.ensures.same at c.in_ok-found.ensures.answers in
     let none : ContainerOrder = c.loan-item.result in
     let i = c.loop-loan.loan-index in
     record {
@@ -56,7 +48,7 @@ returns-then-not-found g c =
           let at_b = shown_on (RepresentsWhole g.P.Places.represents v) a b looks before s it in
           let shut : is_closed_to s (slice_index_or c.args.loans.now i none) ≡ true =
           subst (λ (l : ContainerOrder). is_closed_to s l ≡ true) c.loan-item.is (ap not (sym (told.answers clean tt s at_b judged day (c.loop-loan.invariant.known before s judged it day)).0) ∙ c.if-not-found.true) in
-          ap Some (c.get-container.ensures.same ∙ ap (λ (l : ContainerOrder). l.container) c.loan-item.is)
+          ap Some (c.get.ensures.same ∙ ap (λ (l : ContainerOrder). l.container) c.loan-item.is)
           ∙ ap (option_map (λ (l : ContainerOrder). l.container)) (sym (first_here (is_closed_to s) c.args.loans.now i none (c.loop-loan.invariant.so_far before s judged it day) c.loop-loan-test.true shut)));
       disk = λ clean. tt;
     }
@@ -68,7 +60,7 @@ loop-loan-preserved g c =
     let b = state g.S.Store c.loop-loan.tables in
     let d = state g.S.Store c.judge.new.tables in
     let looks = c.loop-loan.invariant.looks in
-    let told = rw (c.get-container.ensures.same, c.get.ensures.same) at c.in_ok-found.ensures.answers in
+    let told = rw c.get-ticket.ensures.same at c.in_ok-found.ensures.answers in
     let none : ContainerOrder = c.loan-item.result in
     let i = c.loop-loan.loan-index in
     record {

@@ -1,13 +1,6 @@
 use Rattle.std.proofs.Common.{take, ◌≡◌, None}
-use Rattle.sqlite.specs.Held.{state}
-use Rattle.sqlite.specs.State.{HasCleanDisk}
 use Rattle.office_core.specs.State.{State}
-use Rattle.office_core.specs.Words.{first_that}
-use Rattle.office_tables.specs.Step.{LeavesUnchanged}
-use Rattle.refinement.specs.Gate.{is_closed_to}
-use Rattle.refinement.specs.AccessConditions.{CanBeJudged}
-use Rattle.refinement.specs.Openness.{AreClean}
-use Rattle.refinement.specs.Representation.{RepresentsState}
+use Rattle.refinement.proofs.Common.{AreClean, CanBeJudged, HasCleanDisk, LeavesUnchanged, RepresentsState, first_that, is_closed_to, state}
 use Rattle.refinement.proofs.gate.first_closed.Given as goal
 
 abbrev pub invariant-loop-loan : goal.invariant-loop-loan

@@ -1,10 +1,6 @@
 use Rattle.std.proofs.Common.{◌≡◌, ap, sym, ◌∙◌}
-use Rattle.std.specs.Prelude.{⊤}
-use Rattle.office_core.specs.Rules.{lowest_withheld}
-use Rattle.state_encoding.specs.OfficeRows.{tables}
-use Rattle.office_tables.proofs.CallEnds.{same_fault, tells_not}
-use Rattle.refinement.specs.Gate.{first_closed}
-use Rattle.refinement.specs.AccessConditions.{CanBeJudged, RepresentsWhole}
+use Rattle.office_tables.proofs.CallEnds.{tells_not}
+use Rattle.refinement.proofs.Common.{CanBeJudged, RepresentsWhole, first_closed, lowest_withheld, same_fault, tables, ⊤}
 use Rattle.refinement.proofs.Gates.{kept_is}
 use Rattle.refinement.proofs.Tellings.{told_then}
 use Rattle.refinement.proofs.gate.kept_back.Goals as goal

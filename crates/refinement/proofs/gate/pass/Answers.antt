@@ -1,10 +1,7 @@
 use Rattle.std.proofs.Common.{◌≡◌, ap, sym, ◌∙◌, Ok, Err}
-use Rattle.std.specs.Prelude.{⊤, Option, ℕ, option_map}
-use Rattle.desk_core.specs.declared.refusal.Refusal.TheVariants.{WithReader}
-use Rattle.desk_store.proofs.ToldCalls.{ends_well}
-use Rattle.office_tables.proofs.CallEnds.{same_fault, tells_not}
-use Rattle.refinement.specs.Gate.{gate_reply, unless_refused}
-use Rattle.refinement.specs.AccessConditions.{CanBeJudged, RepresentsWhole}
+use Rattle.std.specs.Prelude.{Option, ℕ}
+use Rattle.office_tables.proofs.CallEnds.{tells_not}
+use Rattle.refinement.proofs.Common.{CanBeJudged, RepresentsWhole, WithReader, ends_well, gate_reply, option_map, same_fault, unless_refused, ⊤}
 use Rattle.refinement.proofs.gate.pass.Goals as goal
 
 pub returns-in_err-container : goal.returns-in_err-container

@@ -1,8 +1,6 @@
 use Rattle.std.proofs.Common.{ap, ◌∙◌}
 use Rattle.std.specs.Prelude.{map}
-use Rattle.catalogue_statements.specs.declared.row_types.Housing.{Housing}
-use Rattle.office_tables.proofs.LookUps.{looks_full, looks_passed, looks_well}
-use Rattle.refinement.specs.Gate.{is_one_of}
+use Rattle.refinement.proofs.Common.{Housing, is_one_of, looks_full, looks_passed, looks_well}
 use Rattle.refinement.proofs.NearRows.{of_unit}
 use Rattle.refinement.proofs.housed_units.containers_of.Goals as goal
 

@@ -1,26 +1,8 @@
-use Rattle.std.proofs.Common.{ℕ, List, ◌++◌, ap, sym, subst, ◌∙◌, arith}
-use Rattle.std.specs.List.{list_any}
-use Rattle.std.proofs.lemmas.List.{take_all}
-use Rattle.sqlite.specs.Effect.{Database}
-use Rattle.sqlite.specs.Held.{state}
-use Rattle.sqlite_trees.proofs.ListLemmas.{all-get_or}
-use Rattle.isad_core.specs.Limits.{IsNumber}
-use Rattle.catalogue_statements.specs.Rows.{housing_row}
-use Rattle.office_tables.specs.RowNumbers.{HasNumbered}
+use Rattle.std.proofs.Common.{◌≡◌, ℕ, List, ◌++◌, get_or, ap, sym, subst, ◌∙◌, arith}
 use Rattle.office_tables.specs.Schema as tables
-use Rattle.office_tables.proofs.Calls.{early, looks_then}
-use Rattle.office_tables.proofs.LookUps.{looks_full, looks_ill, looks_passed_later, looks_well}
-use Rattle.refinement.specs.Gate.{is_one_of, says_so}
+use Rattle.refinement.proofs.Common.{Database, HasNumbered, early, get_or_default, housing_row, is_one_of, list_any, looks_full, looks_passed_later, looks_then, looks_well, says_so, state, take_all}
 use Rattle.refinement.proofs.NearRows.{one_more}
 use Rattle.refinement.proofs.housed_units.containers_of_each.Goals as goal
-
-pub returns-then-unit-ge-NO_NUMBER : goal.returns-then-unit-ge-NO_NUMBER
-returns-then-unit-ge-NO_NUMBER g c =
-    looks_ill c.loop-unit.invariant.looks
-    (λ clean xs stored small.
-    let low = all-get_or IsNumber c.args.units.now c.loop-unit.unit-index 0 small c.loop-unit-test.true in
-    let great = c.if-unit-ge-NO_NUMBER.true in
-    omega (arith, low, great))
 
 pub returns-in_err-named : goal.returns-in_err-named
 returns-in_err-named g c =
@@ -38,14 +20,18 @@ loop-unit-preserved g c =
     let b = state g.S.Store c.loop-unit.tables in
     let d = state g.S.Store c.containers_of.new.tables in
     let looks = c.loop-unit.invariant.looks in
+    let units = c.args.units.now in
+    let i = c.loop-unit.unit-index in
+    let is : c.unit-item.result ≡ get_or units i 0 = c.unit-item.is ∙ get_or_default units i c.unit-item.result 0 c.loop-unit-test.true in
+    let told = rw is at c.in_ok-named.ensures in
     record {
-      looks = looks_then a b d looks c.in_ok-named.ensures.reads.looks;
+      looks = looks_then a b d looks told.reads.looks;
       so_far = λ clean xs stored n.
-          let at_b = early b d _ c.in_ok-named.ensures.reads.crash clean in
+          let at_b = early b d _ told.reads.crash clean in
           let here = subst (λ (db : Database). HasNumbered housing_row (db.trees tables.housing.tree) xs) (sym (looks.same at_b)) stored in
           ap (is_one_of n) (c.in_ok-extend_from_slice.ensures.items ∙ ap (λ (l : List ℕ). c.loop-unit.all.items ++ l) c.deref.ensures.value)
-          ∙ one_more xs n c.loop-unit.unit-index c.args.units.now c.loop-unit.all.items c.in_ok-named.named.items c.loop-unit-test.true
-          (c.loop-unit.invariant.so_far at_b xs stored n) (c.in_ok-named.ensures.answers clean xs here tt n);
+          ∙ one_more xs n i units c.loop-unit.all.items c.in_ok-named.named.items c.loop-unit-test.true
+          (c.loop-unit.invariant.so_far at_b xs stored n) (told.answers clean xs here tt n);
     }
 
 pub returns : goal.returns

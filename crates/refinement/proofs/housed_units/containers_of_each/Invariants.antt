@@ -1,12 +1,6 @@
 use Rattle.std.proofs.Common.{◌≡◌, ℕ, List, take}
-use Rattle.std.specs.List.{list_any}
-use Rattle.sqlite.specs.Held.{state}
-use Rattle.sqlite.specs.State.{HasCleanDisk}
-use Rattle.catalogue_statements.specs.Rows.{HousingRow, housing_row}
-use Rattle.office_tables.specs.RowNumbers.{HoldsNumbered}
 use Rattle.office_tables.specs.Schema as tables
-use Rattle.office_tables.specs.Step.{LeavesUnchanged}
-use Rattle.refinement.specs.Gate.{is_one_of, says_so}
+use Rattle.refinement.proofs.Common.{HasCleanDisk, HoldsNumbered, HousingRow, LeavesUnchanged, housing_row, is_one_of, list_any, says_so, state}
 use Rattle.refinement.proofs.housed_units.containers_of_each.Given as goal
 
 abbrev pub invariant-loop-unit : goal.invariant-loop-unit

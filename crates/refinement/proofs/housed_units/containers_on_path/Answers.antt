@@ -1,17 +1,6 @@
-use Rattle.std.proofs.Common.{None, nat_eq, ap, sym, subst, ◌∙◌}
-use Rattle.std.specs.Prelude.{option_to_list}
-use Rattle.std.specs.List.{AllByRecursion, list_any}
-use Rattle.std.proofs.lemmas.List.Sorted.{IsNonDecreasingBy-from_sort, list_any-IsPermutation}
-use Rattle.sqlite.specs.Effect.{Database}
-use Rattle.sqlite.specs.Held.{state}
-use Rattle.isad_core.specs.Limits.{IsNumber}
-use Rattle.catalogue_statements.specs.Rows.{housing_row}
-use Rattle.office_tables.specs.RowNumbers.{HasNumbered}
+use Rattle.std.proofs.Common.{nat_eq, ap, sym, subst, ◌∙◌}
 use Rattle.office_tables.specs.Schema as tables
-use Rattle.office_tables.proofs.Calls.{early, looks_then}
-use Rattle.office_tables.proofs.LookUps.{looks_full, looks_passed, looks_passed_later, looks_well}
-use Rattle.refinement.specs.Gate.{has_row, says_so}
-use Rattle.refinement.proofs.NearRows.{all_last}
+use Rattle.refinement.proofs.Common.{Database, HasNumbered, IsNonDecreasingBy-from_sort, early, housing_row, list_any, list_any-IsPermutation, looks_full, looks_passed, looks_passed_later, looks_then, looks_well, option_to_list, says_so, state}
 use Rattle.refinement.proofs.housed_units.containers_on_path.Goals as goal
 
 pub returns-in_err-boxed-clause-finds : goal.returns-in_err-boxed-clause-finds
@@ -22,13 +11,9 @@ returns-in_err-units-clause-finds g c = looks_full c.from_residual-in_err-units.
 
 pub returns-in_err-containers-clause-finds : goal.returns-in_err-containers-clause-finds
 returns-in_err-containers-clause-finds g c =
-    let boxed = c.in_ok-boxed.ensures in
-    let looks = boxed.reads.looks in
+    let looks = c.in_ok-boxed.ensures.reads.looks in
     looks_passed_later c.from_residual-in_err-containers.ensures looks c.in_err-containers.ensures
-    (λ before xs stored small.
-    let here = subst (λ (db : Database). HasNumbered housing_row (db.trees tables.housing.tree) xs) (sym (looks.same before)) stored in
-    let units = c.deref.ensures.value ∙ c.in_ok-units.ensures ∙ ap option_to_list (boxed.answers before xs stored tt) in
-    c.in_err-containers.ensures.faults xs here (subst (AllByRecursion IsNumber) (sym units) (all_last IsNumber (has_row xs) None c.args.path.now tt small)))
+    (λ before xs stored _. c.in_err-containers.ensures.faults xs (subst (λ (db : Database). HasNumbered housing_row (db.trees tables.housing.tree) xs) (sym (looks.same before)) stored) tt)
 
 pub returns-clause-finds : goal.returns-clause-finds
 returns-clause-finds g c =

@@ -1,14 +1,6 @@
 use Rattle.std.proofs.Common.{◌≡◌, ◌<◌, length, ap, arith, sym, ◌∙◌}
-use Rattle.std.specs.Prelude.{⊤, IfSome}
 use Rattle.std.proofs.lemmas.Option.{slice_get-get_or}
-use Rattle.sqlite.specs.Held.{state}
-use Rattle.desk_store.specs.declared.container_orders.ContainerOrder.{ContainerOrder}
-use Rattle.desk_store.proofs.ToldCalls.{ends_not, ends_well, shown_on}
-use Rattle.office_core.specs.Words.{some_and}
-use Rattle.office_tables.proofs.CallEnds.{same_fault}
-use Rattle.office_tables.proofs.Calls.{early, looks_nowhere, looks_then}
-use Rattle.refinement.specs.AccessConditions.{CanBeJudged, RepresentsWhole}
-use Rattle.refinement.specs.Gate.{IsWithheldAt, is_withheld_in}
+use Rattle.refinement.proofs.Common.{CanBeJudged, ContainerOrder, IfSome, IsWithheldAt, RepresentsWhole, early, ends_not, ends_well, is_withheld_in, looks_nowhere, looks_then, same_fault, shown_on, some_and, state, ⊤}
 use Rattle.refinement.proofs.housed_units.first_withheld.Goals as goal
 
 pub loop-place-init : goal.loop-place-init

@@ -1,5 +1,4 @@
-use Rattle.sqlite.specs.Held.{state}
-use Rattle.office_tables.specs.Step.{LeavesUnchanged}
+use Rattle.refinement.proofs.Common.{LeavesUnchanged, state}
 use Rattle.refinement.proofs.housed_units.first_withheld.Given as goal
 
 abbrev pub invariant-loop-place : goal.invariant-loop-place

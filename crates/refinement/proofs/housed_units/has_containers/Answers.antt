@@ -1,7 +1,5 @@
 use Rattle.std.proofs.Common.{◌≡◌, List, length, not, nat_eq, ap, arith, sym, ◌∙◌}
-use Rattle.catalogue_statements.specs.Rows.{HousingRow}
-use Rattle.catalogue_statements.specs.declared.row_types.Housing.{Housing}
-use Rattle.office_tables.proofs.LookUps.{looks_passed, looks_well}
+use Rattle.refinement.proofs.Common.{Housing, HousingRow, looks_passed, looks_well}
 use Rattle.refinement.proofs.NearRows.{rows_of_unit, some_told}
 use Rattle.refinement.proofs.housed_units.has_containers.Goals as goal
 

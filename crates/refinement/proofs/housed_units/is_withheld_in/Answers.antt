@@ -1,19 +1,9 @@
 use Rattle.std.proofs.Common.{◌≡◌, ℕ, ℤ, Bool, true, false, not, map, of_z, to_z, w32, FitsSigned, rules, refl, ap, ap₂, subst, sym, ◌∙◌}
-use Rattle.std.specs.Prelude.{⊤, ◌&&◌}
-use Rattle.std.specs.List.Sorted.{IsNonDecreasing}
+use Rattle.std.specs.Prelude.{◌&&◌}
 use Rattle.std.proofs.lemmas.Int.{to_z-of_z}
-use Rattle.sqlite.specs.Held.{state}
-use Rattle.tree_core.specs.Marks.{withholds}
-use Rattle.catalogue_core.specs.OpenMarks.{with_permit}
-use Rattle.desk_store.proofs.ToldCalls.{ends_well}
-use Rattle.office_core.specs.State.{is_permitted}
-use Rattle.state_encoding.specs.OfficeRows.{tables}
 use Rattle.office_tables.specs.declared.fault.StoreFault.TheVariants as fault
-use Rattle.office_tables.proofs.CallEnds.{same_fault, tells_not}
-use Rattle.office_tables.proofs.Calls.{cut_after, looks_nowhere}
-use Rattle.refinement.specs.AccessConditions.{CanBeJudged, RepresentsWhole}
-use Rattle.refinement.specs.Gate.{is_one_of, is_withheld_in}
-use Rattle.refinement.specs.Openness.{allows}
+use Rattle.office_tables.proofs.CallEnds.{tells_not}
+use Rattle.refinement.proofs.Common.{CanBeJudged, IsNonDecreasing, RepresentsWhole, allows, cut_after, ends_well, is_one_of, is_permitted, is_withheld_in, looks_nowhere, same_fault, state, tables, with_permit, withholds, ⊤}
 use Rattle.refinement.proofs.DiskBlames.{blames_first}
 use Rattle.refinement.proofs.OpenByRows.{allowed}
 use Rattle.refinement.proofs.housed_units.is_withheld_in.Goals as goal
@@ -27,7 +17,7 @@ returns-then-not-is_among g c =
     let a = state g.S.Store c.args.tables.now in
     let it = c.args.unit.now in
     let loan = c.args.loan in
-    let far : is_one_of loan.container it.containers.items ≡ false = ap (is_one_of loan.container) (sym c.deref.ensures.value) ∙ sym (rw c.get.ensures.same at c.if-not-is_among.ensures) in
+    let far : is_one_of loan.container it.containers.items ≡ false = ap (is_one_of loan.container) (sym c.deref.ensures.value) ∙ sym c.if-not-is_among.ensures in
     record {
       answers = ends_well (RepresentsWhole g.P.Places.represents v) CanBeJudged (λ _. ⊤) g.S.Store c.args.tables.now c.args.tables.now c.args.tables.now (λ _ s yes. CanBeJudged s → c.args.today ≡ s.day → yes ≡ is_withheld_in s it loan)
           (looks_nowhere a) false
@@ -70,8 +60,8 @@ returns g c =
     let v = g.P.Versioned.version in
     let it = c.args.unit.now in
     let loan = c.args.loan in
-    let told = rw c.get-2.ensures.same at c.in_ok-permits.ensures.answers in
-    let near : is_one_of loan.container it.containers.items ≡ true = ap (is_one_of loan.container) (sym c.deref.ensures.value) ∙ sym (rw c.get.ensures.same at c.if-not-is_among.ensures) in
+    let told = rw c.get.ensures.same at c.in_ok-permits.ensures.answers in
+    let near : is_one_of loan.container it.containers.items ≡ true = ap (is_one_of loan.container) (sym c.deref.ensures.value) ∙ sym c.if-not-is_among.ensures in
     let fits : FitsSigned w32 c.number.result = search rules in
     let day_is : to_z w32 (of_z w32 c.number.result) ≡ c.args.today = to_z-of_z w32 c.number.result fits ∙ c.number.ensures.number in
     let permitted = allows c.args.today c.in_ok-permits.permits.items in

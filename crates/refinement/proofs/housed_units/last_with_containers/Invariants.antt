@@ -1,12 +1,6 @@
 use Rattle.std.proofs.Common.{◌≡◌, List, None, filter, take}
-use Rattle.std.specs.List.{last_or}
-use Rattle.sqlite.specs.Held.{state}
-use Rattle.sqlite.specs.State.{HasCleanDisk}
-use Rattle.catalogue_statements.specs.Rows.{HousingRow, housing_row}
-use Rattle.office_tables.specs.RowNumbers.{HoldsNumbered}
 use Rattle.office_tables.specs.Schema as tables
-use Rattle.office_tables.specs.Step.{LeavesUnchanged}
-use Rattle.refinement.specs.Gate.{has_row}
+use Rattle.refinement.proofs.Common.{HasCleanDisk, HoldsNumbered, HousingRow, LeavesUnchanged, has_row, housing_row, last_or, state}
 use Rattle.refinement.proofs.housed_units.last_with_containers.Given as goal
 
 abbrev pub invariant-loop-unit : goal.invariant-loop-unit

@@ -1,8 +1,6 @@
 use Rattle.std.proofs.Common.{[], refl}
-use Rattle.office_tables.specs.DeskCells.{read_holding}
 use Rattle.office_tables.specs.Schema as tables
-use Rattle.row_decoding.specs.Readings.{in_any_order, said_holding}
-use Rattle.desk_core.specs.RowRecords.{holding_row}
+use Rattle.row_decoding.proofs.Common.{holding_row, in_any_order, read_holding, said_holding}
 use Rattle.row_decoding.proofs.TableReads.{is_query, examines}
 use Rattle.row_decoding.proofs.TableTexts.{holdings_text, holdings_terms, holdings_names, holdings_mean}
 use Rattle.row_decoding.proofs.tables.holdings.Goals as goal

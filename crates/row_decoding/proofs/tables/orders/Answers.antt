@@ -1,9 +1,7 @@
 use Rattle.std.proofs.Common.{refl}
 use Rattle.sqlite_value.proofs.OrderLemmas.{then-Equal}
-use Rattle.office_tables.specs.DeskCells.{read_order}
 use Rattle.office_tables.specs.Schema as tables
-use Rattle.row_decoding.specs.Readings.{by_rowid, said_order}
-use Rattle.desk_core.specs.RowRecords.{order_row}
+use Rattle.row_decoding.proofs.Common.{by_rowid, order_row, read_order, said_order}
 use Rattle.row_decoding.proofs.TableReads.{is_query, examines}
 use Rattle.row_decoding.proofs.TableTexts.{by_first, orders_text, orders_terms, orders_names, orders_mean}
 use Rattle.row_decoding.proofs.tables.orders.Goals as goal

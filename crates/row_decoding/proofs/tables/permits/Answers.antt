@@ -1,8 +1,6 @@
 use Rattle.std.proofs.Common.{[], refl}
-use Rattle.office_tables.specs.DeskCells.{read_permit}
 use Rattle.office_tables.specs.Schema as tables
-use Rattle.row_decoding.specs.Readings.{in_any_order, said_permit}
-use Rattle.desk_core.specs.RowRecords.{permit_row}
+use Rattle.row_decoding.proofs.Common.{in_any_order, permit_row, read_permit, said_permit}
 use Rattle.row_decoding.proofs.TableReads.{is_query, examines}
 use Rattle.row_decoding.proofs.TableTexts.{permits_text, permits_terms, permits_names, permits_mean}
 use Rattle.row_decoding.proofs.tables.permits.Goals as goal

@@ -1,8 +1,6 @@
 use Rattle.std.proofs.Common.{[], refl}
-use Rattle.office_tables.specs.DeskCells.{read_run_line}
 use Rattle.office_tables.specs.Schema as tables
-use Rattle.row_decoding.specs.Readings.{in_any_order, said_run_line}
-use Rattle.desk_core.specs.RowRecords.{run_line_row}
+use Rattle.row_decoding.proofs.Common.{in_any_order, read_run_line, run_line_row, said_run_line}
 use Rattle.row_decoding.proofs.TableReads.{is_query, examines}
 use Rattle.row_decoding.proofs.TableTexts.{run_lines_text, run_lines_terms, run_lines_names, run_lines_mean}
 use Rattle.row_decoding.proofs.tables.run_lines.Goals as goal

@@ -1,9 +1,7 @@
 use Rattle.std.proofs.Common.{refl}
 use Rattle.sqlite_value.proofs.OrderLemmas.{then-Equal}
-use Rattle.office_tables.specs.DeskCells.{read_run}
 use Rattle.office_tables.specs.Schema as tables
-use Rattle.row_decoding.specs.Readings.{by_rowid, said_run}
-use Rattle.desk_core.specs.RowRecords.{run_row}
+use Rattle.row_decoding.proofs.Common.{by_rowid, read_run, run_row, said_run}
 use Rattle.row_decoding.proofs.TableReads.{is_query, examines}
 use Rattle.row_decoding.proofs.TableTexts.{by_first, runs_text, runs_terms, runs_names, runs_mean}
 use Rattle.row_decoding.proofs.tables.runs.Goals as goal

@@ -1,8 +1,6 @@
 use Rattle.std.proofs.Common.{[], refl}
-use Rattle.office_tables.specs.DeskCells.{read_seat}
 use Rattle.office_tables.specs.Schema as tables
-use Rattle.row_decoding.specs.Readings.{in_any_order, said_seat}
-use Rattle.desk_core.specs.RowRecords.{seat_row}
+use Rattle.row_decoding.proofs.Common.{in_any_order, read_seat, said_seat, seat_row}
 use Rattle.row_decoding.proofs.TableReads.{is_query, examines}
 use Rattle.row_decoding.proofs.TableTexts.{seats_text, seats_terms, seats_names, seats_mean}
 use Rattle.row_decoding.proofs.tables.seats.Goals as goal

@@ -1,6 +1,6 @@
 use Rattle.std.proofs.Common.{ℕ, [], refl}
 use Rattle.office_tables.specs.Schema as tables
-use Rattle.row_decoding.specs.Readings.{in_any_order, read_number}
+use Rattle.row_decoding.proofs.Common.{in_any_order, read_number}
 use Rattle.row_decoding.proofs.TableReads.{is_query, examines}
 use Rattle.row_decoding.proofs.TableTexts.{unit_numbers_text, unit_numbers_terms, unit_numbers_names, unit_numbers_mean}
 use Rattle.row_decoding.proofs.tables.unit_numbers.Goals as goal

@@ -1,4 +1,4 @@
-use Rattle.office_tables.proofs.CellTexts.{says_text, says_nothing}
+use Rattle.state_encoding.proofs.Common.{says_nothing, says_text}
 use Rattle.state_encoding.proofs.laws.texts_are_utf8.Goals as goal
 
 pub returns : goal.returns

@@ -1,5 +1,5 @@
 use Rattle.std.proofs.Common.{◌∙◌, sym}
-use Rattle.atom_csv.specs.KnownContainers.{key}
+use Rattle.atom_csv.proofs.Common.{key}
 use Rattle.atom_csv.proofs.BoxLemmas.{holds_added, holds_blank, holds_known}
 use Rattle.atom_csv.proofs.boxes.Kept.add.Goals as goal
 

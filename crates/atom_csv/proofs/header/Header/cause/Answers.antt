@@ -1,8 +1,6 @@
 use Rattle.std.proofs.Common.{◌≡◌, ◌∙◌, ◌++◌, Some, Bool, true, false, codes, sym, ap, ap₂, refl, not, Option}
-use Rattle.atom_csv.specs.Fields.{Fields, is_named, borrowed_fields}
-use Rattle.atom_csv.specs.FileContents.{has_column, has_twice, lowest, when}
-use Rattle.atom_csv.specs.declared.cause.Cause.{Cause}
 use Rattle.atom_csv.specs.declared.cause.Cause.TheVariants as cause
+use Rattle.atom_csv.proofs.Common.{Cause, Fields, borrowed_fields, has_column, has_twice, is_named, lowest, when}
 use Rattle.atom_csv.proofs.FieldLemmas.{column_seen, twice_seen}
 use Rattle.atom_csv.proofs.header.Header.cause.Goals as goal
 

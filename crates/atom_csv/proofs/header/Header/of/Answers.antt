@@ -1,8 +1,6 @@
 use Rattle.std.proofs.Common.{◌∙◌, ap, map, List, Bor}
-use Rattle.std.specs.Prelude.{position}
-use Rattle.isad_core.specs.Texts.{Bytes}
-use Rattle.atom_csv.specs.Columns.{columns, name_of}
-use Rattle.atom_csv.specs.Fields.{is_named}
+use Rattle.atom_csv.specs.Columns.{columns}
+use Rattle.atom_csv.proofs.Common.{Bytes, is_named, name_of, position}
 use Rattle.atom_csv.proofs.FieldLemmas.{places_seen}
 use Rattle.atom_csv.proofs.header.Header.of.Goals as goal
 

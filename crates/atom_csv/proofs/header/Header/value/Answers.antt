@@ -1,9 +1,5 @@
 use Rattle.std.proofs.Common.{◌≡◌, ◌∙◌, ◌<◌, sym, ap, subst, length, arith, Option, ℕ, List}
-use denote.Enum.Declared.{tag_of}
-use Rattle.atom_csv.specs.contracts.column.Column.{the_type}
-use Rattle.atom_csv.specs.Columns.{name_of}
-use Rattle.atom_csv.specs.Fields.{Fields, field_in, fields_in, place_of, places_in, borrowed_fields, value}
-use Rattle.atom_csv.specs.declared.column.Column.{Column}
+use Rattle.atom_csv.proofs.Common.{Column, Fields, borrowed_fields, field_in, fields_in, name_of, place_of, places_in, tag_of, the_type, value}
 use Rattle.atom_csv.proofs.ColumnLemmas.{place_within}
 use Rattle.atom_csv.proofs.FieldLemmas.{value_at}
 use Rattle.atom_csv.proofs.header.Header.value.Goals as goal

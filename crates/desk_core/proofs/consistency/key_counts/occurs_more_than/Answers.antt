@@ -1,5 +1,5 @@
 use Rattle.std.proofs.Common.{subst, sym, ◌∙◌}
-use Rattle.std.specs.List.Sorted.{IsSorted, IsPermutation}
+use Rattle.desk_core.proofs.Common.{IsPermutation, IsSorted}
 use Rattle.desk_core.proofs.SortedKeys.{over_permuted}
 use Rattle.desk_core.proofs.consistency.key_counts.occurs_more_than.Goals as goal
 

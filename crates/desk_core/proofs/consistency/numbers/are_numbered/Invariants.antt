@@ -1,5 +1,5 @@
 use Rattle.std.proofs.Common.{◌≡◌, ◌+◌, drop}
-use Rattle.isad_core.specs.Words.{are_numbered_from}
+use Rattle.desk_core.proofs.Common.{are_numbered_from}
 use Rattle.desk_core.proofs.consistency.numbers.are_numbered.Given as goal
 
 abbrev pub invariant-loop-number : goal.invariant-loop-number

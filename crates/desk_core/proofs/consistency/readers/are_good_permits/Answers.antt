@@ -1,5 +1,5 @@
 use Rattle.std.proofs.Common.{ap, ◌∙◌, nat_eq}
-use Rattle.std.specs.List.{count_by}
+use Rattle.desk_core.proofs.Common.{count_by}
 use Rattle.desk_core.proofs.FitReaders.{permits_told}
 use Rattle.desk_core.proofs.consistency.readers.are_good_permits.Goals as goal
 

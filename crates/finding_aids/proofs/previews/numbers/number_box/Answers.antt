@@ -1,6 +1,5 @@
 use Rattle.std.proofs.Common.{◌≡◌, ◌+◌, true, false, sym, ap, ◌∙◌}
-use Rattle.std.specs.Prelude.{is_some}
-use Rattle.finding_aids.specs.Numbers.{number_at}
+use Rattle.finding_aids.proofs.Common.{is_some, number_at}
 use Rattle.finding_aids.proofs.NumberLemmas.{none_from, numbered_again, numbered_new, on_ok_both}
 use Rattle.finding_aids.proofs.previews.numbers.number_box.Goals as goal
 

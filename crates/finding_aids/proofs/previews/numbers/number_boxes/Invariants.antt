@@ -1,7 +1,5 @@
 use Rattle.std.proofs.Common.{take}
-use Rattle.std.specs.List.{flat_map}
-use Rattle.atom_csv.specs.declared.file.Row.{Row}
-use Rattle.finding_aids.specs.Numbers.{AreNumbered}
+use Rattle.finding_aids.proofs.Common.{AreNumbered, Row, flat_map}
 use Rattle.finding_aids.proofs.previews.numbers.number_boxes.Given as goal
 
 abbrev pub invariant-loop-row : goal.invariant-loop-row

@@ -1,6 +1,5 @@
 use Rattle.std.proofs.Common.{◌++◌, List, take}
-use Rattle.isad_core.specs.declared.values.BoxKey.{BoxKey}
-use Rattle.finding_aids.specs.Numbers.{AreNumbered}
+use Rattle.finding_aids.proofs.Common.{AreNumbered, BoxKey}
 use Rattle.finding_aids.proofs.previews.numbers.number_row.Given as goal
 
 abbrev pub invariant-loop-container : goal.invariant-loop-container

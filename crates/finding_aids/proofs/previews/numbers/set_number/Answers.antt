@@ -1,6 +1,5 @@
 use Rattle.std.proofs.Common.{◌+◌, ap, ◌∙◌}
-use Rattle.std.specs.BTreeMap.{btree_map_len}
-use Rattle.std.specs.Prelude.{is_some, if◌then◌else◌}
+use Rattle.finding_aids.proofs.Common.{btree_map_len, if◌then◌else◌, is_some}
 use Rattle.finding_aids.proofs.NumberLemmas.{number_found, number_set}
 use Rattle.finding_aids.proofs.previews.numbers.set_number.Goals as goal
 

@@ -1,8 +1,5 @@
 use Rattle.std.proofs.Common.{◌≡◌, ◌<◌, ◌∷◌, List, ℕ, None, Some, length, take, drop, arith, sym, subst, ◌∙◌, ◌+◌}
-use Rattle.std.proofs.lemmas.List.{length-take-le}
-use Rattle.std.specs.BTreeMap.{get_by_text}
-use Rattle.atom_csv.specs.declared.file.Row.{Row}
-use Rattle.finding_aids.specs.Places.{faults, place_of}
+use Rattle.finding_aids.proofs.Common.{Row, faults, get_by_text, length-take-le, place_of}
 use Rattle.finding_aids.proofs.PlaceLemmas.{fault_deep, fault_missing, placing_more, rows_around, rows_to}
 use Rattle.finding_aids.proofs.previews.places.place_rows.Goals as goal
 

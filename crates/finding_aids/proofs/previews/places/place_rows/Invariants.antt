@@ -1,6 +1,5 @@
 use Rattle.std.proofs.Common.{take}
-use Rattle.std.specs.BTreeMap.{get_by_text}
-use Rattle.finding_aids.specs.Places.{IsPlacing}
+use Rattle.finding_aids.proofs.Common.{IsPlacing, get_by_text}
 use Rattle.finding_aids.proofs.previews.places.place_rows.Given as goal
 
 abbrev pub invariant-loop-index : goal.invariant-loop-index

@@ -1,6 +1,5 @@
 use Rattle.std.proofs.Common.{◌≡◌, [], map, take}
-use Rattle.std.specs.List.{All}
-use Rattle.finding_aids.specs.declared.previews.trees.Slot.{Slot}
+use Rattle.finding_aids.proofs.Common.{All, Slot}
 use Rattle.finding_aids.proofs.previews.trees.bare_slots.Given as goal
 
 abbrev pub invariant-loop-place : goal.invariant-loop-place

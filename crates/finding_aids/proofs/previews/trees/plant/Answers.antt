@@ -1,8 +1,5 @@
 use Rattle.std.proofs.Common.{◌≡◌, ℕ, suc, ◌+◌, length, get_or, List, None, refl, subst, ◌∙◌, arith}
-use Rattle.std.proofs.lemmas.List.{nil_from_length}
-use Rattle.finding_aids.specs.declared.previews.trees.Slot.{Slot}
-use Rattle.finding_aids.specs.declared.previews.trees.Tree.TheViews.{the_lemmas}
-use Rattle.finding_aids.specs.Slots.{HasGrown}
+use Rattle.finding_aids.proofs.Common.{HasGrown, Slot, nil_from_length, the_lemmas}
 use Rattle.finding_aids.proofs.PlantLemmas.{grown_all, grown_draft, grown_none, grove-reverse, grown_published, height_of_all-reverse, last_slot, parent_below}
 use Rattle.finding_aids.proofs.previews.trees.plant.Goals as goal
 

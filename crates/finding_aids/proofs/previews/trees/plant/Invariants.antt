@@ -1,5 +1,5 @@
 use Rattle.std.proofs.Common.{vec_len}
-use Rattle.finding_aids.specs.Slots.{HasGrown}
+use Rattle.finding_aids.proofs.Common.{HasGrown}
 use Rattle.finding_aids.proofs.previews.trees.plant.Given as goal
 
 abbrev pub invariant-loop-slot : goal.invariant-loop-slot

@@ -2,7 +2,7 @@ use Rattle.std.proofs.Common.{arith, ap}
 use Rattle.std.proofs.Math.Seq.{map-set_same}
 use Rattle.std.proofs.lemmas.Grind.{common_steps}
 use Rattle.std.proofs.lemmas.Option.{gets}
-use Rattle.finding_aids.specs.declared.previews.trees.Slot.{Slot}
+use Rattle.finding_aids.proofs.Common.{Slot}
 use Rattle.finding_aids.proofs.previews.trees.put_at.Goals as goal
 
 pub returns-clause-places : goal.returns-clause-places

@@ -1,5 +1,5 @@
 use Rattle.std.proofs.Common.{ap, ◌∙◌, arith}
-use Rattle.http_messages.specs.Routes.{leads_to}
+use Rattle.http_messages.proofs.Common.{leads_to}
 use Rattle.http_messages.proofs.Matched.{AllBytes}
 use Rattle.http_messages.proofs.Routed.{leads_on, leads_nowhere}
 use Rattle.http_messages.proofs.routes.Routes.lookup.Goals as goal

@@ -1,5 +1,5 @@
 use Rattle.std.proofs.Common.{ap, ◌∙◌}
-use Rattle.http_messages.specs.Routes.{route_of}
+use Rattle.http_messages.proofs.Common.{route_of}
 use Rattle.http_messages.proofs.Routed.{no_route}
 use Rattle.http_messages.proofs.routes.Routes.route_of.Goals as goal
 

@@ -1,8 +1,5 @@
 use Rattle.std.proofs.Common.{ap, ◌∙◌, subst, nat_eq, sym}
-use Rattle.std.proofs.lemmas.List.Sorted.{searched}
-use Rattle.std.specs.List.{list_any}
-use Rattle.std.specs.List.Sorted.{IsNonDecreasing}
-use Rattle.tree_core.proofs.Lists.{is_among}
+use Rattle.integrity_checks.proofs.Common.{IsNonDecreasing, is_among, list_any, searched}
 use Rattle.integrity_checks.proofs.ascending_numbers.Ascending.contains.Goals as goal
 
 pub returns : goal.returns

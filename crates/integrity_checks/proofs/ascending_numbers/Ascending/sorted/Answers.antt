@@ -1,4 +1,4 @@
-use Rattle.std.proofs.lemmas.List.Sorted.{IsNonDecreasingBy-from_sort}
+use Rattle.integrity_checks.proofs.Common.{IsNonDecreasingBy-from_sort}
 use Rattle.integrity_checks.proofs.ascending_numbers.Ascending.sorted.Goals as goal
 
 pub invariant_of-result : goal.invariant_of-result

@@ -1,7 +1,7 @@
 use Rattle.std.proofs.Common.{[], ◌∷◌, ◌++◌, Option, option_map, sym, ap, subst, ◌∙◌}
-use Rattle.integrity_checks.specs.HousingPlaces.{housing_row, AreHoused}
 use Rattle.integrity_checks.specs.declared.housing.Housed.{Housed}
 use Rattle.integrity_checks.specs.declared.housing.Housings.{Housings}
+use Rattle.integrity_checks.proofs.Common.{AreHoused, housing_row}
 use Rattle.integrity_checks.proofs.JudgedHousings.{one_unread, same_unit, next_filled, next_above}
 use Rattle.integrity_checks.proofs.housing.HousingsGathering.take.Goals as goal
 use Rattle.integrity_checks.proofs.housing.HousingsGathering.take.Goals.{then-not-is_filled, else-not-is_filled}

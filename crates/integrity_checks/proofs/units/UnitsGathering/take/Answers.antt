@@ -1,6 +1,6 @@
 use Rattle.std.proofs.Common.{ℕ, sym, ◌∙◌}
 use Rattle.row_decoding.proofs.GatheredRows.{one_read, one_unread}
-use Rattle.integrity_checks.specs.ScanAnswers.{said_described}
+use Rattle.integrity_checks.proofs.Common.{said_described}
 use Rattle.integrity_checks.proofs.units.UnitsGathering.take.Goals as goal
 
 pub returns-in_ok-push-in-Some-clause-takes : goal.returns-in_ok-push-in-Some-clause-takes

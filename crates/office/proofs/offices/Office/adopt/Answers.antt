@@ -1,6 +1,5 @@
 use Rattle.std.proofs.Common.{sym, subst, ◌∙◌}
-use Rattle.sqlite.specs.Held.{state}
-use Rattle.office.specs.Adoption.{HasAdoptCause}
+use Rattle.office.proofs.Common.{HasAdoptCause, state}
 use Rattle.office.proofs.Adoptions.{adopted, adopted_sound, adopted_shown, store_cause}
 use Rattle.office.proofs.offices.Office.adopt.Goals as goal
 

@@ -1,12 +1,6 @@
 use Rattle.std.proofs.Common.{[], ◌∷◌, rules, subst, sym}
-use Rattle.std.specs.Prelude.{IfOk}
-use Rattle.sqlite.specs.Held.{state}
-use Rattle.sqlite.specs.State.{HasCleanDisk}
 use Rattle.office_core.proofs.Texts.{always_sound_office}
-use Rattle.office_core.specs.declared.machine.Reply.{Reply}
-use Rattle.office_tables.proofs.Calls.{early}
-use Rattle.office.specs.OfficeCall.{TakesStep}
-use Rattle.office.specs.IdleOffice.{IsAtRest, IsIn}
+use Rattle.office.proofs.Common.{HasCleanDisk, IfOk, IsAtRest, IsIn, Reply, TakesStep, early, state}
 use Rattle.office.proofs.Machines.{applied_call}
 use Rattle.office.proofs.offices.Office.apply.Goals as goal
 use Rattle.office.proofs.offices.Office.apply.Goals.{in-Ok, in-Err}

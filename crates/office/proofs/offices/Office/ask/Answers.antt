@@ -1,8 +1,5 @@
 use Rattle.std.proofs.Common.{rules, subst}
-use Rattle.sqlite.specs.Held.{state}
-use Rattle.sqlite.specs.State.{HasCleanDisk}
-use Rattle.office_tables.proofs.Calls.{early}
-use Rattle.office.specs.IdleOffice.{IsAtRest}
+use Rattle.office.proofs.Common.{HasCleanDisk, IsAtRest, early, state}
 use Rattle.office.proofs.Machines.{answered_call}
 use Rattle.office.proofs.offices.Office.ask.Goals as goal
 

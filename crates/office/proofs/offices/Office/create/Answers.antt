@@ -1,9 +1,6 @@
 use Rattle.std.proofs.Common.{subst}
-use Rattle.sqlite.specs.Held.{state}
-use Rattle.sqlite.proofs.StateLemmas.{survives_weaker}
 use Rattle.catalogue_statements.specs.declared.office.OfficeRow.{OfficeRow}
-use Rattle.office_tables.specs.Schema.{schema}
-use Rattle.office.specs.NewOffice.{RepresentsNew}
+use Rattle.office.proofs.Common.{RepresentsNew, schema, state, survives_weaker}
 use Rattle.office.proofs.NewOffices.{founded_sound, shows_founded}
 use Rattle.office.proofs.offices.Office.create.Goals as goal
 

@@ -1,6 +1,5 @@
-use Rattle.nested_sets.specs.Representation.{RepresentsSpanRows}
 use Rattle.office.proofs.Machines.{busy_same, kept_open, step_told}
-use Rattle.office_tables.specs.Versions.{Second}
+use Rattle.program.proofs.Common.{RepresentsSpanRows, Second}
 use Rattle.program.proofs.CrashLemmas.{busy_found, command_found}
 use Rattle.program.proofs.durable_office.DurableOfficeMachine.apply.Goals as goal
 

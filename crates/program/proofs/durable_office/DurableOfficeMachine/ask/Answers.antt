@@ -1,6 +1,5 @@
-use Rattle.nested_sets.specs.Representation.{RepresentsSpanRows}
 use Rattle.office.proofs.Machines.{answer_told, busy_told}
-use Rattle.office_tables.specs.Versions.{Second}
+use Rattle.program.proofs.Common.{RepresentsSpanRows, Second}
 use Rattle.program.proofs.CrashLemmas.{question_found}
 use Rattle.program.proofs.durable_office.DurableOfficeMachine.ask.Goals as goal
 

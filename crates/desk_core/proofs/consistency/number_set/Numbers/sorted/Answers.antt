@@ -1,5 +1,5 @@
 use Rattle.std.proofs.Common.{nat_eq, sym}
-use Rattle.std.proofs.lemmas.List.Sorted.{IsNonDecreasingBy-from_sort, list_any-IsPermutation}
+use Rattle.desk_core.proofs.Common.{IsNonDecreasingBy-from_sort, list_any-IsPermutation}
 use Rattle.desk_core.proofs.consistency.number_set.Numbers.sorted.Goals as goal
 
 pub invariant_of-result : goal.invariant_of-result

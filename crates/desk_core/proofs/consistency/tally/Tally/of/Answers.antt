@@ -1,5 +1,5 @@
 use Rattle.std.proofs.Common.{◌≡◌, ◌+◌, ◌<◌, ◌≤◌, length, get_or, set, ap, ◌∙◌, arith}
-use Rattle.std.proofs.lemmas.List.{get_or_default, length-set}
+use Rattle.desk_core.proofs.Common.{get_or_default, length-set}
 use Rattle.desk_core.proofs.Tallies.{tally_more, tally_past, few_more}
 use Rattle.desk_core.proofs.consistency.tally.Tally.of.Goals.{then-at-len, else-at-len}
 use Rattle.desk_core.proofs.consistency.tally.Tally.of.Goals as goal

@@ -1,5 +1,5 @@
 use Rattle.std.proofs.Common.{◌≡◌, ℕ, ◌<◌, ◌≤◌, length, get_or, take, nat_eq}
-use Rattle.std.specs.List.{count_by}
+use Rattle.desk_core.proofs.Common.{count_by}
 use Rattle.desk_core.proofs.consistency.tally.Tally.of.Given as goal
 
 abbrev pub invariant-loop-number : goal.invariant-loop-number

@@ -1,10 +1,6 @@
 use Rattle.std.proofs.Common.{◌≡◌, ◌≤◌, ◌<◌, ◌+◌, ◌++◌, ◌∷◌, [], List, arith, subst, sym, ap, ◌∙◌}
-use Rattle.std.specs.Prelude.{unwrap_or}
 use Rattle.isad_core.specs.Values.{identifier}
-use Rattle.finding_aids.specs.Numbers.{number_by}
-use Rattle.finding_aids.specs.RowTrees.{height_of_all}
-use Rattle.finding_aids.specs.declared.previews.trees.Tree.{Tree}
-use Rattle.finding_aids.specs.declared.previews.trees.Tree.TheViews.{out-Tree}
+use Rattle.finding_aids.proofs.Common.{Tree, height_of_all, number_by, out-Tree, unwrap_or}
 use Rattle.finding_aids.proofs.PrintLemmas.{child_fits, child_lower, popped, tree_printed}
 use Rattle.finding_aids.proofs.previews.aid_printer.Printer.+print_trees.Goals as goal
 

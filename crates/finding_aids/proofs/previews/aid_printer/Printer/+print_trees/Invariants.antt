@@ -1,8 +1,5 @@
 use Rattle.std.proofs.Common.{◌≡◌, ◌++◌, take}
-use Rattle.isad_core.specs.PrintedDescriptions.{aid}
-use Rattle.finding_aids.specs.RowTrees.{grove, height_of_all}
-use Rattle.finding_aids.specs.Numbers.{number_by}
-use Rattle.catalogue_core.specs.Aids.{shown_by}
+use Rattle.finding_aids.proofs.Common.{aid, grove, height_of_all, number_by, shown_by}
 use Rattle.finding_aids.proofs.previews.aid_printer.Printer.+print_trees.Given as goal
 
 abbrev pub decreases-print_trees : goal.decreases-print_trees

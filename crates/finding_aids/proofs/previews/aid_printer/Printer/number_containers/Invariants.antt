@@ -1,6 +1,5 @@
 use Rattle.std.proofs.Common.{◌≡◌, map, take}
-use Rattle.isad_core.specs.declared.values.BoxKey.{BoxKey}
-use Rattle.finding_aids.specs.Numbers.{number_by}
+use Rattle.finding_aids.proofs.Common.{BoxKey, number_by}
 use Rattle.finding_aids.proofs.previews.aid_printer.Printer.number_containers.Given as goal
 
 abbrev pub invariant-loop-container : goal.invariant-loop-container
