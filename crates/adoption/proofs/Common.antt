@@ -27,7 +27,7 @@ pub use Rattle.adoption.specs.Catalogue.{RepresentsItsCatalogue, described_state
 pub use Rattle.adoption.specs.DeskCheck.{AreOfOffice, DeskChecksTellTheCause, catalogue_cell_cause, of_desk}
 pub use Rattle.adoption.specs.Judgments.{Judges}
 pub use Rattle.adoption.specs.OrderedTables.{StandInOrder, StandsInOrder}
-pub use Rattle.adoption.specs.OwnRows.{AreOwnRows, are_good_numbers, numbers_told, office_cells_back, office_is_defective, own_from, own_judged, own_of, own_row_of}
+pub use Rattle.adoption.specs.OwnRows.{AreOwnRows, are_good_numbers, office_cells_back, office_is_defective, office_numbers, own_from, own_judged, own_of, own_row_of}
 pub use Rattle.adoption.specs.SoundTables.{AreGoodTables, AreSoundTables}
 pub use Rattle.adoption.specs.Tables.{GoodTablesRepresentTheirState, IsSoundButForTheDay, RepresentsAGoodState, RepresentsItsState}
 pub use Rattle.adoption.specs.Verdicts.{IsVersionVerdict, verdict_of_version}
@@ -72,6 +72,6 @@ pub use Rattle.state_encoding.proofs.Members.{all_in, all_of_in, any_of_in, in_f
 pub use Rattle.state_encoding.proofs.SaidRuns.{RunParts, lines_again, run_days, run_parts, runs_again, said_runs}
 pub use Rattle.state_encoding.specs.Causes.{around, catalogue_cause, catalogue_tests, day_is_broken, desk_tests, first_held, is_good_office, office_is_bad}
 pub use Rattle.state_encoding.specs.CellCauses.{cell_cause, either_of, no_office, rows_in, unread}
-pub use Rattle.state_encoding.specs.OfficeRows.{OfficeRows, state_of, tables, unit_from, unit_said, values_said}
+pub use Rattle.state_encoding.specs.OfficeRows.{OfficeRows, state_of, tables, unit_from, unit_from_rows, values_from_rows}
 pub use Rattle.tree_core.proofs.Lists.{In-permutation, eqb_comm}
 pub use Rattle.tree_core.specs.Forest.{Empty, Forest, Node, each, nodes}

@@ -20,7 +20,7 @@ use Rattle.office_tables.proofs.Queries.{asking}
 use Rattle.row_decoding.proofs.TableReads.{in_table, was_open}
 use Rattle.row_decoding.specs.Readings.{by_rowid}
 use Rattle.adoption.specs.declared.own_row.Numbers.{Numbers}
-use Rattle.adoption.proofs.Common.{AllByRecursion, AreOwnRows, Database, First, Int, IsDatabase, IsLive, IsPermutation, IsTable, OfficeRow, OwnRow, Row, Schema, Second, StandInOrder, StandsInOrder, Table, Version, are_good_numbers, ascending, cases_Bool, column, cons_option, eqb-true, from, from_first, has_unread, is_between, is_country, is_good_office, is_number, is_repository, length_permutation, no_office, number_in, numbers_told, office, office_cells_back, option_map_or, or_parts, own_from, own_judged, own_of, read_office, schema, text_in, then-Equal, value_cmp, value_cmp-Int, version_number, whole_in}
+use Rattle.adoption.proofs.Common.{AllByRecursion, AreOwnRows, Database, First, Int, IsDatabase, IsLive, IsPermutation, IsTable, OfficeRow, OwnRow, Row, Schema, Second, StandInOrder, StandsInOrder, Table, Version, are_good_numbers, ascending, cases_Bool, column, cons_option, eqb-true, from, from_first, has_unread, is_between, is_country, is_good_office, is_number, is_repository, length_permutation, no_office, number_in, office, office_cells_back, office_numbers, option_map_or, or_parts, own_from, own_judged, own_of, read_office, schema, text_in, then-Equal, value_cmp, value_cmp-Int, version_number, whole_in}
 
 -- ---- one row
 
@@ -98,7 +98,7 @@ module _ (v : Version) where
       elim (nat_eq one 1) as (λ b. from (from (cond b (Some one) None) (λ _. said)) tell ≡ from (from (from (cond b (Some one) None) (λ _. numbers)) (λ n. cond texts (Some n) None)) judge)
       [ true ↦ is | false ↦ refl ]
 
-  told_so : (cells : Row) → own_told v (office_cells_back cells) ≡ own_judged (version_number v) (numbers_told cells)
+  told_so : (cells : Row) → own_told v (office_cells_back cells) ≡ own_judged (version_number v) (office_numbers cells)
   told_so cells =
       let version = number_in (column cells 1) in
       let seats = number_in (column cells 2) in
@@ -229,10 +229,10 @@ module _ (version : Version) (ys rows : List Row) (count : ℕ) (told : Option N
 -- ---- one row more
 
 pub taken_more : (rows : List Row) (row : Row) (count : ℕ) (told : Option Numbers) (new : Option Numbers)
-    → new ≡ numbers_told row → AreOwnRows rows count told → AreOwnRows (rows ++ row ∷ []) (count + 1) new
+    → new ≡ office_numbers row → AreOwnRows rows count told → AreOwnRows (rows ++ row ∷ []) (count + 1) new
 taken_more rows row count told new is held = record {
   counted = omega (arith, held.counted, length-append rows (row ∷ []));
-  is = λ cells alone. is ∙ ap numbers_told (last rows cells alone);
+  is = λ cells alone. is ∙ ap office_numbers (last rows cells alone);
 }
   where
     last : (rows : List Row) (cells : Row) → rows ++ row ∷ [] ≡ cells ∷ [] → row ≡ cells

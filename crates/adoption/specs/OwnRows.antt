@@ -44,8 +44,8 @@ office_cells_back cells =
     column cells 0 ∷ Null ∷ column cells 1 ∷ column cells 8 ∷ column cells 9 ∷ column cells 2 ∷ column cells 3 ∷ column cells 4 ∷ column cells 5
     ∷ column cells 6 ∷ column cells 7 ∷ []
 
-abbrev pub numbers_said : Row → Option Numbers
-numbers_said cells =
+abbrev pub numbers_in_row : Row → Option Numbers
+numbers_in_row cells =
     from (number_in (column cells 0)) (λ one.
     from (cond (nat_eq one 1) (Some one) None) (λ _.
     from (number_in (column cells 1)) (λ version.
@@ -74,8 +74,8 @@ are_good_texts cells =
     option_map_or is_country (text_in (column cells 8)) false && option_map_or is_repository (text_in (column cells 9)) false
 
 -- its numbers, if it has the texts of an office
-abbrev pub numbers_told : Row → Option Numbers
-numbers_told cells = from (numbers_said cells) (λ n. cond (are_good_texts cells) (Some n) None)
+abbrev pub office_numbers : Row → Option Numbers
+office_numbers cells = from (numbers_in_row cells) (λ n. cond (are_good_texts cells) (Some n) None)
 
 abbrev pub own_judged : ℕ → Option Numbers → Option OwnRow
 own_judged version told = from told (λ n. cond (are_good_numbers version n) (Some (own_from n)) None)
@@ -85,4 +85,4 @@ own_judged version told = from told (λ n. cond (are_good_numbers version n) (So
 -- `count` rows were taken; and if that was one, `told` is what it contains
 pub record AreOwnRows (rows : List Row) (count : ℕ) (told : Option Numbers) : Type 0 where
   pub counted : count ≡ length rows
-  pub is : (cells : Row) → rows ≡ cells ∷ [] → told ≡ numbers_told cells
+  pub is : (cells : Row) → rows ≡ cells ∷ [] → told ≡ office_numbers cells

@@ -10,7 +10,7 @@ ghost use Rattle.office_core.specs.Soundness.{is_country as is_country_code, is_
 ghost use Rattle.office_tables.specs.Cells.{text_in};
 ghost use Rattle.office_tables.specs.Schema.{schema};
 ghost use Rattle.adoption.specs.Judgments.{Judges};
-ghost use Rattle.adoption.specs.OwnRows.{are_good_numbers, are_good_texts, numbers_said, numbers_told};
+ghost use Rattle.adoption.specs.OwnRows.{are_good_numbers, are_good_texts, numbers_in_row, office_numbers};
 ghost use Rattle.adoption.specs.OwnRows.{own_from as own_of_numbers, own_judged, own_row_of};
 ghost use Rattle.adoption.specs.OrderedTables.{StandInOrder};
 
@@ -44,7 +44,7 @@ pub(crate) struct Numbers {
 
 /// Reads the numbers, if each can be read and the row's own number is 1.
 fn numbers_in(row: &Row) -> Option<Numbers>
-    ensures { result ≡ numbers_said row.now }
+    ensures { result ≡ numbers_in_row row.now }
 {
     let one = number_in(cell(row, 0))?;
     if one != 1 {
@@ -155,7 +155,7 @@ fn own_from(version: u64, numbers: &Numbers) -> Option<OwnRow>
 
 /// The numbers in the row, if it has the texts of an office.
 fn told_in(row: &Row) -> Option<Numbers>
-    ensures { result ≡ numbers_told row.now }
+    ensures { result ≡ office_numbers row.now }
 {
     let numbers = numbers_in(row)?;
     if !has_good_texts(row) {

@@ -49,9 +49,9 @@ fn close_known<P: Places, S: Alter>(
     pass_near(alloc, tables, today, unit, done)
 }
 
-/// Closes a unit until a day, or ends its closure. Refuses if there is no such unit, or if this
-/// would close a container to the reader who has it. After a refusal the caller must roll the
-/// transaction back. `today` must be the office's day.
+/// Closes a unit until a day, or ends its closure, and tells the unit. Refuses if there is no such unit, or if this
+/// would close a container to the reader who has it. After a refusal the caller must roll the transaction back. `today`
+/// must be the office's day.
 pub fn change_closure<P: Places, S: Alter>(
     alloc: Global,
     tables: &mut Tables<P, S>,

@@ -50,9 +50,10 @@ fn remove_known<P: Places, S: Alter>(
     remove_beside(alloc, tables, today, unit, &loans)
 }
 
-/// Removes a unit and all below it, with the permits for these units. Refuses if there is no such unit, or if this
-/// would close a container to the reader who has it. After a refusal the caller must roll the transaction back. `today`
-/// must be the office's day.
+/// Removes a unit and all below it, with the permits for these units. Containers, orders and runs stay, and no unit
+/// number is given again. Tells how many units went. Refuses if there is no such unit, or if this would close a
+/// container to the reader who has it. After a refusal the caller must roll the transaction back. `today` must be the
+/// office's day.
 pub fn remove_unit<P: Places, S: Alter>(
     alloc: Global,
     tables: &mut Tables<P, S>,

@@ -34,9 +34,9 @@ fn set_known<P: Places, S: Alter>(
     pass_near(alloc, tables, today, unit, done)
 }
 
-/// Makes a unit a draft, or publishes it, alone or with all below it. Refuses if there is no such unit, or if this
-/// would close a container to the reader who has it. After a refusal the caller must roll the transaction back. `today`
-/// must be the office's day.
+/// Makes a unit a draft, or publishes it, alone or with all below it. Tells how many units these are, also those that
+/// had the status. Refuses if there is no such unit, or if this would close a container to the reader who has it. After
+/// a refusal the caller must roll the transaction back. `today` must be the office's day.
 pub fn change_status<P: Places, S: Alter>(
     alloc: Global,
     tables: &mut Tables<P, S>,

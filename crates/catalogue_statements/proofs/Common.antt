@@ -47,10 +47,10 @@ pub use Rattle.catalogue_core.specs.CatalogueMerge.{Catalogue, box_number, numbe
 pub use Rattle.catalogue_core.specs.Descriptions.{KnowsItsContainers, with_boxes, with_numbered}
 pub use Rattle.catalogue_core.specs.Units.{Unit, has_id, is_from}
 pub use Rattle.catalogue_statements.specs.DescriptionRows.{AddsHousings, AddsTexts, AreElements, AreHoused, HasUnit, IsDescribed, WithCells, WithHousings, WithTexts, cell_of, housing_cell, text_cells}
-pub use Rattle.catalogue_statements.specs.LinkRows.{HasLinks, HaveLowPlaces, links_shifted, place_behind_all}
+pub use Rattle.catalogue_statements.specs.LinkRows.{HasLinks, HaveLowPlaces, link_with_place, links_shifted, place_behind_all}
 pub use Rattle.catalogue_statements.specs.Removals.{AreListed, AreRemoved, IsTold, unit_tables, without}
 pub use Rattle.catalogue_statements.specs.Representation.{Represents, RepresentsCatalogue, RepresentsContainers, RepresentsLinkRows, RepresentsNumbered, RepresentsUnits, element_cells, element_number, elements_of, housing_cells, housings_of, texts_from}
-pub use Rattle.catalogue_statements.specs.Rows.{ElementRow, HousingRow, by_container, by_element, by_housing, by_id, by_number, by_place, container_row, counted_from, element_row, housing_row, link_row, office_row, told_cells, unit_row}
+pub use Rattle.catalogue_statements.specs.Rows.{ElementRow, HousingRow, by_container, by_element, by_housing, by_id, by_number, by_place, container_row, counted_from, element_row, housing_row, link_row, office_row, settings_of_row, unit_row}
 pub use Rattle.catalogue_statements.specs.declared.office.OfficeRow.{OfficeRow}
 pub use Rattle.catalogue_statements.specs.declared.row_types.Element.{Element}
 pub use Rattle.desk_core.specs.DeskRows.{PermitRow}

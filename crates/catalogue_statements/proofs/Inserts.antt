@@ -5,7 +5,7 @@ use Rattle.sqlite.specs.Listing.{understood}
 use Rattle.sqlite.specs.State.{Writes}
 use Rattle.sqlite_tied.specs.Compute.{everything}
 use Rattle.office_tables.specs.Schema as tables
-use Rattle.catalogue_statements.proofs.Common.{Chosen, Command, Executes, Insert, Inserted, Int, IsPlain, Null, OfficeRow, OnlyTouches, Row, Shows, State, Term, Trees, Version, are_fresh, cast_int, cast_null, col, command_of, edit_of, edited, inserted, is_taken, left_by, lit, mode_of, not_taken, office, office_row, put_row, runs_as, schema, statement_of, told_cells, touched, version_number}
+use Rattle.catalogue_statements.proofs.Common.{Chosen, Command, Executes, Insert, Inserted, Int, IsPlain, Null, OfficeRow, OnlyTouches, Row, Shows, State, Term, Trees, Version, are_fresh, cast_int, cast_null, col, command_of, edit_of, edited, inserted, is_taken, left_by, lit, mode_of, not_taken, office, office_row, put_row, runs_as, schema, settings_of_row, statement_of, touched, version_number}
 
 abbrev pub insert_office_text : List ℕ
 insert_office_text = codes "INSERT INTO office (one, version, country, repo, seats, daily, hands, run_size, day, next_unit) VALUES (1, ?1, ?2, ?3, ?4, ?5, ?6, ?7, ?8, ?9)"
@@ -14,7 +14,7 @@ abbrev pub insert_office_terms : List Term
 insert_office_terms = lit (Int (pos 1)) ∷ lit Null ∷ col 0 0 ∷ col 0 1 ∷ col 0 2 ∷ col 0 3 ∷ col 0 4 ∷ col 0 5 ∷ col 0 6 ∷ col 0 7 ∷ col 0 8 ∷ []
 
 abbrev pub insert_office_params : Version → OfficeRow → Row
-insert_office_params version o = Int (pos (version_number version)) ∷ told_cells o
+insert_office_params version o = Int (pos (version_number version)) ∷ settings_of_row o
 
 abbrev pub insert_office_command : Command
 insert_office_command = Insert 7 (Values insert_office_terms 11)

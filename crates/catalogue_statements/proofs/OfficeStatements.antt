@@ -6,7 +6,7 @@ use Rattle.sqlite.specs.Listing.{understood}
 use Rattle.sqlite_tied.specs.Compute.{everything}
 use Rattle.catalogue_statements.specs.Settings.{AreLegibleSettings}
 use Rattle.office_tables.proofs.Counts.{summary_query, count_rows, counts}
-use Rattle.catalogue_statements.proofs.Common.{Binary, Command, Compare, Eq, Finds, FoundInside, HasCause, HasRows, IfOk-weaker, Int, IsLive, IsUnlimited, Key, Means, Misses, Null, OfficeRow, OnlyTouches, Program, Ran, Row, Select, Shown, State, StoreFault, Table, Term, Update, Version, accepts_program, all_caused, ascending, asking, by_one_int, cap, cast_int, cast_null, cast_row, caused, choosing, col, container, counts_always, end, found_in, inner, kept_all, le_refl, lit, none_refuse, office, office_kept, office_row, one_permutation, only, op2, read_cause, reads_as, same_number, schema, select_faults, select_finds, told_cells, unit, update_faults, update_leaves, update_only, version_number}
+use Rattle.catalogue_statements.proofs.Common.{Binary, Command, Compare, Eq, Finds, FoundInside, HasCause, HasRows, IfOk-weaker, Int, IsLive, IsUnlimited, Key, Means, Misses, Null, OfficeRow, OnlyTouches, Program, Ran, Row, Select, Shown, State, StoreFault, Table, Term, Update, Version, accepts_program, all_caused, ascending, asking, by_one_int, cap, cast_int, cast_null, cast_row, caused, choosing, col, container, counts_always, end, found_in, inner, kept_all, le_refl, lit, none_refuse, office, office_kept, office_row, one_permutation, only, op2, read_cause, reads_as, same_number, schema, select_faults, select_finds, settings_of_row, unit, update_faults, update_leaves, update_only, version_number}
 
 -- what a row of the table tells: the version, and the rest
 abbrev Telling : Type 0
@@ -91,18 +91,18 @@ module _ (old new : State) (v : Version) (has : old.now.schema ≡ schema v) (ve
   abbrev the_row : Telling
   the_row = (version, o)
 
-  pub office_is_finds : IfOk r (λ found. Finds told_cells office_is_text [] old new (items found))
+  pub office_is_finds : IfOk r (λ found. Finds settings_of_row office_is_text [] old new (items found))
       → IfOk r (λ found. items found ≡ o ∷ [])
   office_is_finds found =
       IfOk-weaker r _ _ (λ all it. it.2 ∙ ap (map (λ (x : Telling). x.1)) (one_permutation the_row it.0 it.1.0))
       (select_finds v office office_is_text [] office_is_columns by_one office_is_names [] (office_is_means v) old new has telling_row (the_row ∷ []) stored
-      (λ _. true) (λ _. refl) (λ x. told_cells x.1) (λ _. Int (pos 1) ∷ []) (λ _. refl) (λ _ _. Equal) (λ _. refl) (λ a b. by_one_int (pos 1) (pos 1)) told_cells items (λ x. x.1) (λ _. refl) r found)
+      (λ _. true) (λ _. refl) (λ x. settings_of_row x.1) (λ _. Int (pos 1) ∷ []) (λ _. refl) (λ _ _. Equal) (λ _. refl) (λ a b. by_one_int (pos 1) (pos 1)) settings_of_row items (λ x. x.1) (λ _. refl) r found)
 
   pub office_is_faults : AreLegibleSettings o → IsUnlimited old
-      → IfErr r (Misses told_cells AreLegibleSettings office_is_text [] old new) → IfErr r (HasCause old new)
+      → IfErr r (Misses settings_of_row AreLegibleSettings office_is_text [] old new) → IfErr r (HasCause old new)
   office_is_faults legible free =
       select_faults v office office_is_text [] office_is_columns by_one office_is_names [] (office_is_means v) old new has telling_row (the_row ∷ []) stored
-      (λ _. true) (λ _. refl) (λ x. told_cells x.1) (λ _. Int (pos 1) ∷ []) (λ _. refl) (λ _ _. Equal) (λ _. refl) (λ a b. by_one_int (pos 1) (pos 1)) told_cells items (λ x. x.1) (λ _. refl)
+      (λ _. true) (λ _. refl) (λ x. settings_of_row x.1) (λ _. Int (pos 1) ∷ []) (λ _. refl) (λ _ _. Equal) (λ _. refl) (λ a b. by_one_int (pos 1) (pos 1)) settings_of_row items (λ x. x.1) (λ _. refl)
       AreLegibleSettings refl free (legible, tt) r
 
 -- ---- how many there are

@@ -67,7 +67,7 @@ pub record Housings : Type 0 where
   pub boxes : List BoxKey
   pub rows : List HousingRow
 
--- the tables have these
+-- the tables have these containers, numbered from 1 and no two alike, and these rows
 abbrev pub HasHousings : Trees → Housings → Type 0
 HasHousings db held = AreHoused db held.boxes held.rows
 

@@ -109,7 +109,7 @@ pub record Represents (places : Trees → Forest ℕ → Type 0) (version : Vers
 abbrev pub RepresentsSettings : (Trees → Forest ℕ → Type 0) → Version → Database → Catalogue → OfficeRow → Type 0
 RepresentsSettings places version db c o = Represents places version db o c
 
--- the same, with the next unit number taken from the catalogue
+-- the same, with the next unit number taken from the catalogue: a call may change it, and all other settings stay
 abbrev pub RepresentsNumbered : (Trees → Forest ℕ → Type 0) → Version → Database → OfficeRow → Catalogue → Type 0
 RepresentsNumbered places version db o c = Represents places version db (record o { next_unit = c.next }) c
 

@@ -21,8 +21,8 @@ use Rattle.catalogue_core.specs.CatalogueRows as row
 -- ---- office
 
 -- the office's row in this version
-abbrev pub told_in : Version → OfficeRow → row.OfficeRow
-told_in version o = record {
+abbrev pub row_of_version : Version → OfficeRow → row.OfficeRow
+row_of_version version o = record {
   version = version_number version;
   country = o.country;
   repo = o.repo;
@@ -35,11 +35,11 @@ told_in version o = record {
 }
 
 abbrev pub office_row : Version → OfficeRow → Row
-office_row version o = office_cells (told_in version o)
+office_row version o = office_cells (row_of_version version o)
 
 -- the cells of the settings, which are the same in either version
-abbrev pub told_cells : OfficeRow → Row
-told_cells o = settings_cells (told_in First o)
+abbrev pub settings_of_row : OfficeRow → Row
+settings_of_row o = settings_cells (row_of_version First o)
 
 -- ---- units
 
@@ -53,7 +53,7 @@ by_number a b = int_cmp (pos a.id) (pos b.id)
 abbrev pub by_element : ElementRow → ElementRow → Ordering
 by_element a b = ordering_then (int_cmp (pos a.unit) (pos b.unit)) (int_cmp (pos a.k) (pos b.k))
 
--- ---- containers, numbered from 1
+-- ---- containers, by their numbers, which count from 1
 
 abbrev pub by_container : ℕ × BoxKey → ℕ × BoxKey → Ordering
 by_container a b = int_cmp (pos a.0) (pos b.0)

@@ -165,9 +165,9 @@ impl FromRow for LinkRow {
 
 impl FromRow for OfficeRow {
     ghost use Rattle.catalogue_statements.specs.Settings.{AreLegibleSettings};
-    ghost use Rattle.catalogue_statements.specs.Rows.{told_cells};
+    ghost use Rattle.catalogue_statements.specs.Rows.{settings_of_row};
 
-    ghost cells = { told_cells };
+    ghost cells = { settings_of_row };
 
     ghost is_legible = { AreLegibleSettings };
 

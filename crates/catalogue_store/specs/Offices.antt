@@ -7,5 +7,5 @@ use Rattle.catalogue_statements.specs.declared.office.OfficeRow.{OfficeRow}
 use Rattle.catalogue_store.specs.declared.office.Office.{Office}
 
 -- its row, and how many units and containers there are
-abbrev pub told_office : Catalogue → OfficeRow → Office
-told_office c o = record { row = o; units = cap (size c.forest); containers = cap (length c.containers) }
+abbrev pub office_with_counts : Catalogue → OfficeRow → Office
+office_with_counts c o = record { row = o; units = cap (size c.forest); containers = cap (length c.containers) }

@@ -11,7 +11,7 @@ ghost use Rattle.catalogue_statements.specs.CallClauses.{FailsWithCause};
 ghost use Rattle.catalogue_statements.specs.Rows.{office_row as row_of_office};
 ghost use Rattle.catalogue_statements.specs.Settings.{AreLegibleSettings};
 ghost use Rattle.catalogue_statements.specs.Representation.{RepresentsSettings};
-ghost use Rattle.catalogue_store.specs.Offices.{told_office};
+ghost use Rattle.catalogue_store.specs.Offices.{office_with_counts};
 
 use catalogue_statements::OfficeRow;
 use catalogue_statements::office::{count_containers, count_units, find_office};
@@ -21,7 +21,8 @@ use sqlite::{Alter, Connection};
 use std::alloc::Global;
 use tree_places::Places;
 
-/// Adds the office's row.
+/// Adds the office's row, which has the number 1. Fails if there is a row with this number. Needs an open transaction
+/// over our tables. If the table is empty and no limit on steps is set, every fault has a cause.
 pub fn insert_office<P: Places, S: Alter>(
     conn: &mut Connection<S>,
     row: &OfficeRow,
@@ -71,7 +72,7 @@ pub fn office_row<P: Places, S: Alter>(
     tables: &mut Tables<P, S>,
 ) -> Result<Office, StoreFault>
     ensures answers { StoreAnswers S.Store (RepresentsSettings P.represents P.version) AreLegibleSettings tables.old
-        tables.new result (λ _. ⊤) (λ c o office. office ≡ told_office c o) }
+        tables.new result (λ _. ⊤) (λ c o office. office ≡ office_with_counts c o) }
 {
     let Some(row) = find_office(alloc, tables)? else {
         return Err(StoreFault::Schema);

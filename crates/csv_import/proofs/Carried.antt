@@ -19,7 +19,7 @@ use Rattle.csv_import.specs.PendingImport.{ReadsCatalogue}
 use Rattle.csv_import.specs.declared.row_entry.Outcome.{Outcome}
 use Rattle.csv_import.specs.declared.row_plan.Planned.{Planned}
 use Rattle.csv_import.specs.declared.row_plan.Planned.TheVariants as plans
-use Rattle.csv_import.proofs.Common.{Answers, AreGoodUnits, BadFile, Bytes, CanBePlaced, Catalogue, Counts, Database, File, FitsIn, Forest, Full, Goes, HasCleanDisk, HasLegibleSettings, HasNumbered, HaveUnits, Held, IsAborted, IsOk, IsReady, IsSoundOffice, KnowsUnits, LeavesUnchanged, OfficeRow, Reply, Represents, RepresentsEntering, RepresentsLegible, RepresentsNumbered, RepresentsSettings, RepresentsState, Row, StoreFault, Trees, Updates, Version, accepted, after, catalogue_after, catalogue_trees, counts_of, cut_then, does_then, early, excused_then, file_of, first_that_holds, gate, goes_then, has_room, if_ok_with, is_refused, is_source, le-ltb, ltb-false, most_containers, nat_lt, next_with_room, number_there, office_of, office_settings, on_err_then, on_ok_then, plan_of, refusal, refused, reply_after, result_of, state, told_of, when, ⊤}
+use Rattle.csv_import.proofs.Common.{Answers, AreGoodUnits, BadFile, Bytes, CanBePlaced, Catalogue, Counts, Database, File, FitsIn, Forest, Full, Goes, HasCleanDisk, HasLegibleSettings, HasNumbered, HaveUnits, Held, IsAborted, IsOk, IsReady, IsSoundOffice, KnowsUnits, LeavesUnchanged, OfficeRow, Reply, Represents, RepresentsEntering, RepresentsLegible, RepresentsNumbered, RepresentsSettings, RepresentsState, Row, StoreFault, Trees, Updates, Version, accepted, after, catalogue_after, catalogue_trees, counts_of, cut_then, does_then, early, excused_then, file_of, first_that_holds, gate, goes_then, has_room, if_ok_with, import_outcome, is_refused, is_source, le-ltb, ltb-false, most_containers, nat_lt, next_with_room, number_there, office_of, office_settings, on_err_then, on_ok_then, plan_of, refusal, refused, reply_after, result_of, state, when, ⊤}
 use Rattle.csv_import.proofs.Counting.{no_room_there, room_there}
 use Rattle.csv_import.proofs.Frames.{entering_of}
 use Rattle.csv_import.proofs.Refused.{faulty, fits_planned, full}
@@ -154,7 +154,7 @@ module _ {S : Type 0} (g : kept_in.Ghosts S) (places : Trees → Forest ℕ → 
           ∙ ap (λ (k : Catalogue). map (λ (row : Row). number_there k source row.legacy) file.rows) (entered_is s source bytes file read sound so.1 so.2);
     }
 
-    imports_so : Answers g (RepresentsWhole places version) (HasNumbered source file units) mid after_it r (λ _. ⊤) (λ _ s reply. HasNumbered source file units s → today ≡ s.day → reply ≡ reply_after s (told_of source file counts s))
+    imports_so : Answers g (RepresentsWhole places version) (HasNumbered source file units) mid after_it r (λ _. ⊤) (λ _ s reply. HasNumbered source file units s → today ≡ s.day → reply ≡ reply_after s (import_outcome source file counts s))
         → CarriesOut places version (λ s. (today ≡ s.day) × (is_source source ≡ true) × FitsIn source file s × KnowsUnits s.catalogue source file.rows numbers × (next ≡ s.catalogue.next)) (command.Import source bytes) before c r
     imports_so answers =
         let asked = command.Import source bytes in
@@ -168,10 +168,10 @@ module _ {S : Type 0} (g : kept_in.Ghosts S) (places : Trees → Forest ℕ → 
               let shown = shown_now at_b s sound so it in
               let has = has_numbered at_b s sound so it in
               let counts_are = (come.1 at_b (office_of s) s.catalogue (shown_legible places version before.now s sound it) (ready s sound so)).0 in
-              if_ok_with r (LeavesUnchanged b c) (λ reply. HasNumbered source file units t → today ≡ t.day → reply ≡ reply_after t (told_of source file counts t)) (λ reply. CarriesOutStep places version s asked reply c.now)
+              if_ok_with r (LeavesUnchanged b c) (λ reply. HasNumbered source file units t → today ≡ t.day → reply ≡ reply_after t (import_outcome source file counts t)) (λ reply. CarriesOutStep places version s asked reply c.now)
               (λ reply looked is.
               judged_step places version s t asked c.now (after_is s source bytes file read sound named fits) (refusal_is s source bytes file read sound named fits) reply
-              (is has so.0 ∙ ap (reply_after t) (ap (λ (n : Counts). told_of source file n t) counts_are ∙ sym (told_is s source bytes file read sound named fits)))
+              (is has so.0 ∙ ap (reply_after t) (ap (λ (n : Counts). import_outcome source file n t) counts_are ∙ sym (told_is s source bytes file read sound named fits)))
               (subst (λ (db : Database). RepresentsState places version db t) (sym (looked.same clean)) shown))
               answers.looks (answers.answers clean tt t shown);
           goes = on_ok_then r (LeavesUnchanged b c) (Goes before c) (λ looked. goes_then before b c come.0.goes looked.goes) answers.looks;
@@ -187,7 +187,7 @@ pub imports : {S : Type 0} {g : kept_in.Ghosts S} {places : Trees → Forest ℕ
     → Updates g (RepresentsLegible places version) (λ _. ⊤) held mid (let r : Result Outcome StoreFault = Ok outcome in r) (IsReady source rows numbers next) (catalogue_after source rows) catalogue_trees
     → ReadsCatalogue g (RepresentsLegible places version) (IsReady source rows numbers next) held mid (let r : Result Outcome StoreFault = Ok outcome in r)
     (λ c made. (made.counts ≡ counts_of c.forest source rows) × (map Some made.units.items ≡ map (λ row. number_there (catalogue_after source rows c) source row.legacy) rows))
-    → Answers g (RepresentsWhole places version) (HasNumbered source file outcome.units.items) mid after_it r (λ _. ⊤) (λ _ s reply. HasNumbered source file outcome.units.items s → today ≡ s.day → reply ≡ reply_after s (told_of source file outcome.counts s))
+    → Answers g (RepresentsWhole places version) (HasNumbered source file outcome.units.items) mid after_it r (λ _. ⊤) (λ _ s reply. HasNumbered source file outcome.units.items s → today ≡ s.day → reply ≡ reply_after s (import_outcome source file outcome.counts s))
     → CarriesOut places version (IsFitting today source file numbers next) (command.Import source bytes) (state g held) (state g after_it) r
 imports {g = g} {places = places} {version = version} {today = today} {source = source} {bytes = bytes} {file = file} read {numbers = numbers} {next = next} {held = held} {mid = mid} {after_it = after_it} {r = r} {outcome = outcome} same made finds answers =
     imports_so g places version today source bytes file read numbers next held mid after_it r outcome (subst (Entered g places version source numbers next held mid outcome) same (made, finds)) answers

@@ -38,7 +38,7 @@ pub use Rattle.catalogue_statements.specs.Representation.{Represents, Represents
 pub use Rattle.catalogue_statements.specs.declared.office.OfficeRow.{OfficeRow}
 pub use Rattle.csv_import.specs.AncestorPaths.{ComeTo, IsWay, above_way, numbers_of, path_at}
 pub use Rattle.csv_import.specs.Arrivals.{BringUnits, IsReady, KnowsNumbers, arrival_at, arrival_of, arrivals_from, arrivals_of}
-pub use Rattle.csv_import.specs.CatalogueImport.{CanBePlaced, FitsIn, HasImported, HasNumbered, has_room, next_with_room, reply_after, told_of}
+pub use Rattle.csv_import.specs.CatalogueImport.{CanBePlaced, FitsIn, HasImported, HasNumbered, has_room, import_outcome, next_with_room, reply_after}
 pub use Rattle.csv_import.specs.KnownUnits.{AreRight, IsAsked, KnowsAsked, KnowsUnits, TellsParentOfNew, TellsUnits, units_from}
 pub use Rattle.csv_import.specs.Remarks.{HasEntered, HasItsUnit, HasParent, HaveParents, HaveUnits, IsRankOf, IsRanked, number_above}
 pub use Rattle.csv_import.specs.RowEntry.{CanEnter, RepresentsEntering, RepresentsLegible, boxes_named, catalogue_after, counts_of, or_as_before}

@@ -23,7 +23,7 @@ use Rattle.state_encoding.specs.OfficeRows.{tables}
 use Rattle.state_encoding.proofs.LegibleRows.{desk_legible}
 use Rattle.refinement.specs.AccessConditions.{CanBeJudged}
 use Rattle.refinement.proofs.Judged.{distinct_ids, orders_there}
-use Rattle.csv_import.proofs.Common.{AllByRecursion, AreGoodContainers, AreGoodUnits, AreTexts, BadName, BoxKey, Bytes, CanEnter, Catalogue, File, FitsIn, Full, HasEntered, HasImported, HasItsUnit, IsSomeDay, IsSoundOffice, New, Row, Taken, Unit, Version, after, all_append, all_distinct, all_so, and_parts, apart_rows, bad_file, boxes_grow, cases_Bool, catalogue_after, cons_option, counts_of, distinct, distinct_again, false≢true, file_of, filter_map, first_that_holds, flat_map, gate, has_taken, imported, intake_of, is_blank_text, is_container, is_full, is_source, kept, knows, le-ltb, leb-true, length-map, length_permutation, merge, merged, most_containers, most_unit_numbers, most_units, nat_le, nat_lt, new_boxes, new_of, new_unit, nodes, numbered_from, office_settings, option_map, option_map_or, or_as_before, or_first, refusal, result_of, revised, row_by_row, rows_same, same_values, size, taken_row_by_row, told_of, too_much, unit_of, unless, when, with_file, with_rows}
+use Rattle.csv_import.proofs.Common.{AllByRecursion, AreGoodContainers, AreGoodUnits, AreTexts, BadName, BoxKey, Bytes, CanEnter, Catalogue, File, FitsIn, Full, HasEntered, HasImported, HasItsUnit, IsSomeDay, IsSoundOffice, New, Row, Taken, Unit, Version, after, all_append, all_distinct, all_so, and_parts, apart_rows, bad_file, boxes_grow, cases_Bool, catalogue_after, cons_option, counts_of, distinct, distinct_again, false≢true, file_of, filter_map, first_that_holds, flat_map, gate, has_taken, import_outcome, imported, intake_of, is_blank_text, is_container, is_full, is_source, kept, knows, le-ltb, leb-true, length-map, length_permutation, merge, merged, most_containers, most_unit_numbers, most_units, nat_le, nat_lt, new_boxes, new_of, new_unit, nodes, numbered_from, office_settings, option_map, option_map_or, or_as_before, or_first, refusal, result_of, revised, row_by_row, rows_same, same_values, size, taken_row_by_row, too_much, unit_of, unless, when, with_file, with_rows}
 use Rattle.csv_import.proofs.FileBounds.{file_bounded}
 use Rattle.csv_import.proofs.GoodMerges.{legible_with, merged_days, merged_good}
 use Rattle.csv_import.proofs.SameValues.{one_description}
@@ -199,5 +199,5 @@ module _ (s : State) (source bytes : Bytes) (file : File) (read : file_of bytes 
       ∙ (ap (λ (b : Bool). first_that_holds (unless b BadName ∷ None ∷ when (is_full made) Full ∷ gate now ∷ [])) named
       ∙ ap (λ (b : Bool). first_that_holds (when b Full ∷ gate now ∷ [])) full_is)
 
-  pub told_is : result_of s (command.Import source bytes) ≡ told_of source file (counts_of s.catalogue.forest source file.rows) now
+  pub told_is : result_of s (command.Import source bytes) ≡ import_outcome source file (counts_of s.catalogue.forest source file.rows) now
   told_is = ap (reply.told_of s.catalogue.forest source) taken_as

@@ -38,8 +38,8 @@ pub record FitsIn (source : Bytes) (file : File) (s : State) : Type 0 where
   pub room : has_room (length (new_of s.catalogue.forest source file.rows)) s.catalogue ≡ true
 
 -- the outcome of a file whose rows were entered; their entry led to this state
-abbrev pub told_of : Bytes → File → Counts → State → Done
-told_of source file counts s = done.Import counts.changed counts.new (remarks s.catalogue.forest source file.rows) counts.same file.translations
+abbrev pub import_outcome : Bytes → File → Counts → State → Done
+import_outcome source file counts s = done.Import counts.changed counts.new (remarks s.catalogue.forest source file.rows) counts.same file.translations
 
 -- `Full` if there are more containers than an office may have; otherwise the outcome, unless the gate refuses it
 abbrev pub reply_after : State → Done → Reply

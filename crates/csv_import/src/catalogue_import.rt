@@ -11,7 +11,7 @@ ghost use Rattle.catalogue_statements.specs.Settings.{AreLegibleSettings};
 ghost use Rattle.catalogue_statements.specs.Representation.{RepresentsSettings};
 ghost use Rattle.refinement.specs.CommandSteps.{Performs};
 ghost use Rattle.refinement.specs.AccessConditions.{RepresentsWhole};
-ghost use Rattle.csv_import.specs.CatalogueImport.{HasNumbered, reply_after, told_of};
+ghost use Rattle.csv_import.specs.CatalogueImport.{HasNumbered, reply_after, import_outcome};
 ghost use Rattle.csv_import.specs.CatalogueImport as spec;
 
 use crate::numbers::known_units;
@@ -82,7 +82,7 @@ fn judge<P: Places, S: Alter>(
     ensures answers { (source : Bytes) → Answers S.Store (RepresentsWhole P.represents P.version)
         (HasNumbered source file.now outcome.now.units.items) tables.old tables.new result (λ _. ⊤)
         (λ _ s reply. HasNumbered source file.now outcome.now.units.items s → today ≡ s.day
-        → reply ≡ reply_after s (told_of source file.now outcome.now.counts s)) }
+        → reply ≡ reply_after s (import_outcome source file.now outcome.now.counts s)) }
 {
     if has_many_containers(alloc, tables)? {
         return Ok(Err(Refusal::Full));
@@ -132,9 +132,13 @@ fn import_read<P: Places, S: Alter>(
     judge(alloc, tables, today, file, &outcome)
 }
 
-/// Imports a file of a source into the catalogue: units that exist get the file's values, and new units are added.
-/// After a refusal some rows may have been entered, so the caller must roll the transaction back. `today` must be the
-/// office's day, and `source` a well-formed name.
+/// Imports a file of a source into the catalogue. A unit of this source that exists gets the file's values, blank ones
+/// too, and keeps its place, status and closure. A new unit is added as the last below its parent, or as the last top,
+/// with the status of its row and no closure. No unit is removed. Tells the remarks, and how many rows changed a unit,
+/// made a new one, left one as it was, or are translations. Refuses a bad file with its row and cause, and an import
+/// that would make the office too full, or close a container to the reader who has it. After a refusal some rows may
+/// have been entered, so the caller must roll the transaction back. `today` must be the office's day, and `source` a
+/// well-formed name.
 pub fn import<P: Places, S: Alter>(
     alloc: Global,
     tables: &mut Tables<P, S>,

@@ -13,7 +13,7 @@ pub use Rattle.catalogue_core.specs.Members.{StandsIn}
 pub use Rattle.catalogue_core.specs.UnitLookup.{has_unit}
 pub use Rattle.catalogue_core.specs.Units.{Unit, has_id}
 pub use Rattle.desk_commands.specs.ContainerMoves.{all_placed, handed_over, with_all_placed}
-pub use Rattle.desk_commands.specs.RunCreation.{due_of, taken_by}
+pub use Rattle.desk_commands.specs.RunCreation.{open_orders, taken_by}
 pub use Rattle.desk_core.specs.Checks.{IssueFacts, issue_checks, leave_seat_checks, order_checks, take_seat_checks}
 pub use Rattle.desk_core.specs.Decisions.{issue_facts, leave_seat_facts, order_facts, take_seat_facts}
 pub use Rattle.desk_core.specs.DeskRows.{HoldingRow, OrderRow, PermitRow, ReaderRow, RunLineRow, RunRow, SeatRow, with_state}

@@ -34,7 +34,8 @@ fn end_waiting<P: Places, S: Alter>(
     Ok(Ok(Done::Cancel { order }))
 }
 
-/// Cancels an order. The command is refused if the order was not placed or does not wait.
+/// Cancels an order, and tells its number. The command is refused if the order was not placed or does not wait. After a
+/// refusal the caller must roll the transaction back.
 pub fn cancel<P: Places, S: Alter>(
     alloc: Global,
     tables: &mut Tables<P, S>,

@@ -29,7 +29,8 @@ fn take_back<P: Places, S: Alter>(
     Ok(Ok(Done::Return { order }))
 }
 
-/// Takes a container back to the desk. The command is refused if the container is not known or is not out.
+/// Takes a container back to the desk, ends its order as done, and tells the order's number. The command is refused if
+/// the container is not known or is not out. After a refusal the caller must roll the transaction back.
 pub fn return_container<P: Places, S: Alter>(
     alloc: Global,
     tables: &mut Tables<P, S>,

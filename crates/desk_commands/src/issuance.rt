@@ -97,9 +97,10 @@ fn issue_known<P: Places, S: Alter>(
     }
 }
 
-/// Issues a container to a reader if it is at the desk and open to the reader, the reader's order is the first in its
-/// queue, and the reader has a valid ticket and a seat and may hold one more container. Otherwise, also if the container
-/// is not known, the command is refused.
+/// Issues a container to a reader, and tells the order's number. The container must be at the desk and open to the
+/// reader, the reader's order the first in its queue. The reader must have a valid ticket and a seat, and may hold one
+/// more container. Otherwise, also if the container is not known, the command is refused. After a refusal the caller
+/// must roll the transaction back. `today` and `limits` must be the office's.
 pub fn issue<P: Places, S: Alter>(
     alloc: Global,
     tables: &mut Tables<P, S>,

@@ -100,8 +100,11 @@ fn order_by<P: Places, S: Alter>(
     decide(tables, today, limits, card, ticket, container, is_open)
 }
 
-/// Orders a container for a ticket. The ticket must be valid, the container must be open to its reader and not already
-/// ordered by the ticket, and no limit on the number of orders may be reached. Otherwise the command is refused.
+/// Orders a container for a ticket, and tells the order's number. The ticket must be valid, and the container known and
+/// open to its reader: one that is not known is refused as not open. No order of the ticket for it may wait or be out.
+/// The ticket's orders of the day, cancelled ones too, and all orders so far must be below their limits. Otherwise the
+/// command is refused. After a refusal the caller must roll the transaction back. `today` and `limits` must be the
+/// office's.
 pub fn order<P: Places, S: Alter>(
     alloc: Global,
     tables: &mut Tables<P, S>,

@@ -107,8 +107,10 @@ fn give_for<P: Places, S: Alter>(
     give_within(alloc, tables, ticket, unit, asked)
 }
 
-/// Grants a ticket a permit for a unit up to a day. If the ticket has one up to a later day, that later day remains.
-/// The command is refused if the ticket or the unit does not exist, or if the ticket may have no further permit.
+/// Grants a ticket a permit for a unit up to a day, and tells the permit. If the ticket has one up to a later day, that
+/// later day remains. The command is refused if the ticket or the unit does not exist, or if this would be a new permit
+/// and the ticket has the most that it may have, expired ones too. After a refusal the caller must roll the transaction
+/// back.
 pub fn permit<P: Places, S: Alter>(
     alloc: Global,
     tables: &mut Tables<P, S>,

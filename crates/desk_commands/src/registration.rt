@@ -12,7 +12,8 @@ use office_core::{Done, Refusal};
 use office_tables::{StoreFault, Tables};
 use sqlite::Alter;
 
-/// Gives a reader the next ticket. The name must be a valid one. The command is refused if no ticket is left.
+/// Gives a reader the next ticket, and tells its number. The name must be a valid one. The command is refused if no
+/// ticket is left. After a refusal the caller must roll the transaction back.
 pub fn register<P: Places, S: Alter>(
     tables: &mut Tables<P, S>,
     name: &Text,

@@ -27,7 +27,8 @@ fn set_last_day<P: Places, S: Alter>(
     Ok(Ok(Done::Renew { ticket }))
 }
 
-/// Gives a ticket another last day. The command is refused if the ticket was not given.
+/// Gives a ticket another last day, and tells its number. The command is refused if the ticket was not given. After a
+/// refusal the caller must roll the transaction back.
 pub fn renew_ticket<P: Places, S: Alter>(
     alloc: Global,
     tables: &mut Tables<P, S>,

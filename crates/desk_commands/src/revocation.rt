@@ -73,8 +73,9 @@ fn take_back_for<P: Places, S: Alter>(
     take_back_held(alloc, tables, today, ticket, unit)
 }
 
-/// Revokes a ticket's permit for a unit. The command is refused if the ticket, the unit or the permit does not exist,
-/// or if it would close a container to the reader who has it; the caller then rolls back, since the permit is gone.
+/// Revokes a ticket's permit for a unit, and tells the unit. The command is refused if the ticket, the unit or the
+/// permit does not exist, or if it would close a container to the reader who has it. After a refusal the caller must
+/// roll the transaction back, since the permit may be gone. `today` must be the office's day.
 pub fn revoke_permit<P: Places, S: Alter>(
     alloc: Global,
     tables: &mut Tables<P, S>,

@@ -10,7 +10,7 @@ ghost use Rattle.office_tables.specs.Calls.{Answers};
 ghost use Rattle.refinement.specs.ReadingRoomLimits.{limits_of};
 ghost use Rattle.refinement.specs.CommandSteps.{Performs};
 ghost use Rattle.refinement.specs.AccessConditions.{CanBeJudged, RepresentsWhole};
-ghost use Rattle.desk_commands.specs.RunCreation.{due_of, taken_by};
+ghost use Rattle.desk_commands.specs.RunCreation.{open_orders, taken_by};
 
 use crate::container_moves::move_all;
 use crate::emptiness::are_none;
@@ -33,7 +33,7 @@ fn first_open<P: Places, S: Alter>(
     waiting: &[ContainerOrder],
 ) -> Result<Vec<ContainerOrder>, StoreFault>
     ensures answers { Answers S.Store (RepresentsWhole P.represents P.version) CanBeJudged tables.old tables.new result
-        (λ _. ⊤) (λ _ s due. CanBeJudged s → today ≡ s.day → due.items ≡ due_of s most waiting.now) }
+        (λ _. ⊤) (λ _ s due. CanBeJudged s → today ≡ s.day → due.items ≡ open_orders s most waiting.now) }
 {
     let mut due = Vec::new(alloc);
     for order in waiting {
@@ -100,9 +100,10 @@ fn bring_due<P: Places, S: Alter>(
     bring(tables, today, due, &containers)
 }
 
-/// Makes a run. It takes the first order for each container on the shelf if the container is open to the order's
-/// reader, the earliest orders first and no more than a run takes, and brings their containers to the desk. The command
-/// is refused if no order is due, or if no number is left for a run.
+/// Makes a run, and tells its number and how many containers it fetches. It takes the first order for each container on
+/// the shelf if the container is open to the order's reader, the earliest orders first and no more than a run takes,
+/// and brings their containers to the desk. The command is refused if no order is due, or if no number is left for a
+/// run. After a refusal the caller must roll the transaction back. `today` and `limits` must be the office's.
 pub fn fetch<P: Places, S: Alter>(
     alloc: Global,
     tables: &mut Tables<P, S>,

@@ -31,7 +31,8 @@ fn free_seat<P: Places, S: Alter>(
     Ok(Ok(Done::LeaveSeat { seat }))
 }
 
-/// Frees the seat of a ticket. The command is refused if the ticket was not given, has no seat, or has a container out.
+/// Frees the seat of a ticket, and tells it. The command is refused if the ticket was not given, has no seat, or has a
+/// container out. After a refusal the caller must roll the transaction back.
 pub fn leave_seat<P: Places, S: Alter>(
     alloc: Global,
     tables: &mut Tables<P, S>,
@@ -94,8 +95,9 @@ fn sit_down<P: Places, S: Alter>(
     }
 }
 
-/// Gives a ticket the lowest free seat. The command is refused if the ticket was not given, has expired or has a seat,
-/// or if no seat is free.
+/// Gives a ticket the lowest free seat, and tells it. The command is refused if the ticket was not given, has expired
+/// or has a seat, or if no seat is free. After a refusal the caller must roll the transaction back. `today` and
+/// `limits` must be the office's.
 pub fn take_seat<P: Places, S: Alter>(
     alloc: Global,
     tables: &mut Tables<P, S>,

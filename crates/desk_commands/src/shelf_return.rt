@@ -31,7 +31,8 @@ fn shelve<P: Places, S: Alter>(
     }))
 }
 
-/// Moves the containers at the desk that nobody waits for back to the shelf. The command is refused if there are none.
+/// Moves the containers at the desk that nobody waits for back to the shelf, and tells them. The command is refused if
+/// there are none. After a refusal the caller must roll the transaction back.
 pub fn reshelve<P: Places, S: Alter>(
     alloc: Global,
     tables: &mut Tables<P, S>,

@@ -39,8 +39,8 @@ fn insert_order<P: Versioned, S: Alter>(
     )
 }
 
-/// Places an order under the number after the last. If the call succeeds, it adds exactly this row, whatever the
-/// number.
+/// Places an order, which waits, under the number after the last. One more order must be allowed. If the call succeeds,
+/// it adds exactly this row, whatever the number, and however many orders there are.
 pub fn append_order<P: Versioned, S: Alter>(
     tables: &mut Tables<P, S>,
     order: Number,

@@ -37,7 +37,7 @@ pub use Rattle.integrity_checks.specs.DeskJudgments.{AreOrdersOf, defect_beside_
 pub use Rattle.integrity_checks.specs.HousingPlaces.{AreHoused, are_filled, higher, housing_row}
 pub use Rattle.integrity_checks.specs.PlaceChecks.{AreAscending, AreChecked, AreUnitsPlaced, places_are_defective}
 pub use Rattle.integrity_checks.specs.ReaderRows.{are_reader_answers, are_registered_well, is_reader_answer, is_reader_with, number_registered, readers_are_defective}
-pub use Rattle.integrity_checks.specs.ScanAnswers.{are_container_answers, is_container_answer, is_described, is_element_answer, is_good_value, is_placed, read_described, read_placed, said_described, said_placed}
+pub use Rattle.integrity_checks.specs.ScanAnswers.{are_container_answers, described_in_answer, housing_in_answer, is_container_answer, is_described, is_element_answer, is_good_value, is_placed, read_described, read_placed}
 pub use Rattle.integrity_checks.specs.declared.checked_places.Placed.{Placed}
 pub use Rattle.isad_core.specs.Limits.{most_deep, most_orders, most_permits, most_runs, most_tickets, most_units}
 pub use Rattle.isad_core.specs.Words.{are_numbered_from, is_between, some_and, stands}
@@ -55,7 +55,7 @@ pub use Rattle.office_tables.specs.declared.fault.StoreFault.{StoreFault}
 pub use Rattle.row_decoding.proofs.Alike.{Alike, alike_back, alike_then, all_alike, all_as_any, any_alike, filter_alike, keyed_alike, length_alike, ordered_alike, permuted, read_alike}
 pub use Rattle.row_decoding.proofs.TableReads.{examines, in_table, is_excused, is_query, same_rows, show, was_open}
 pub use Rattle.row_decoding.proofs.ToldCells.{is_number}
-pub use Rattle.row_decoding.specs.PlaceReadings.{by_first_number, good_link, good_span, said_link, said_span}
+pub use Rattle.row_decoding.specs.PlaceReadings.{by_first_number, good_link, good_span, link_in_answer, span_in_answer}
 pub use Rattle.row_decoding.specs.Readings.{AreGathered, AreRead, by_rowid, in_any_order, read_number}
 pub use Rattle.row_decoding.specs.TableRows.{catalogue_in, containers_in, desk_in, places_in, readers_in, then_by}
 pub use Rattle.tree_core.proofs.Lists.{eqb_comm, is_among, list_any-map}

@@ -6,7 +6,7 @@ use Rattle.sqlite.specs.Listing.{understood}
 use Rattle.sqlite.specs.Query.{key_cmp}
 use Rattle.sqlite_tied.specs.Compute.{everything}
 use Rattle.office_tables.specs.Schema as tables
-use Rattle.integrity_checks.proofs.Common.{Alike, AllByRecursion, AreHoused, Binary, HousingRow, Int, IsPermutation, IsSorted, Key, Means, Null, Row, Select, Term, Trees, Up, Version, alike_then, all_alike, are_filled, ascending, asking, by_rowid, cases_Bool, catalogue_in, col, column, cons_option, containers_in, eq-eqb, filter_alike, from_first, get_or-map, good_housings_in, has_unread, higher, is_between, is_good_housing, is_lt, is_placed, le_refl, length-map, list_all, list_all-append, list_any-append, ne_eqb, option_map_or, ordered_alike, ordering_then, permuted, read_alike, read_housing, read_placed, read_unit, said_placed, same_rows, show, stands, then-Equal, then_by, unit_numbers, up_read, value_cmp}
+use Rattle.integrity_checks.proofs.Common.{Alike, AllByRecursion, AreHoused, Binary, HousingRow, Int, IsPermutation, IsSorted, Key, Means, Null, Row, Select, Term, Trees, Up, Version, alike_then, all_alike, are_filled, ascending, asking, by_rowid, cases_Bool, catalogue_in, col, column, cons_option, containers_in, eq-eqb, filter_alike, from_first, get_or-map, good_housings_in, has_unread, higher, housing_in_answer, is_between, is_good_housing, is_lt, is_placed, le_refl, length-map, list_all, list_all-append, list_any-append, ne_eqb, option_map_or, ordered_alike, ordering_then, permuted, read_alike, read_housing, read_placed, read_unit, same_rows, show, stands, then-Equal, then_by, unit_numbers, up_read, value_cmp}
 use Rattle.integrity_checks.proofs.FilledUnits.{unit_of, rows_of, higher_is, filled_judged}
 use Rattle.integrity_checks.proofs.Tested.{all_same, said_shown, unread_shown, passes, judged, unread_tested, same_tested}
 use Rattle.integrity_checks.proofs.UnitsThere.{HasUnit, housing_unit, housing_has_unit}
@@ -29,35 +29,35 @@ abbrev within : ℕ → HousingRow → Bool
 within n row = nat_le row.container n
 
 module _ (rows : List Row) (row : Row) where
-  unread_more : has_unread said_placed (rows ++ row ∷ []) ≡ (has_unread said_placed rows || (is_none (said_placed row) || false))
-  unread_more = list_any-append (λ r. is_none (said_placed r)) rows (row ∷ [])
+  unread_more : has_unread housing_in_answer (rows ++ row ∷ []) ≡ (has_unread housing_in_answer rows || (is_none (housing_in_answer row) || false))
+  unread_more = list_any-append (λ r. is_none (housing_in_answer r)) rows (row ∷ [])
 
-  said_more : filter_map said_placed (rows ++ row ∷ []) ≡ filter_map said_placed rows ++ cons_option (said_placed row) []
-  said_more = filter_map-append said_placed rows (row ∷ [])
+  said_more : filter_map housing_in_answer (rows ++ row ∷ []) ≡ filter_map housing_in_answer rows ++ cons_option (housing_in_answer row) []
+  said_more = filter_map-append housing_in_answer rows (row ∷ [])
 
   module _ (good : Bool) (unit count highest last : ℕ) (so_far : AreHoused rows good unit count highest last) where
-    pub one_unread : said_placed row ≡ None → AreHoused (rows ++ row ∷ []) false unit count highest last
+    pub one_unread : housing_in_answer row ≡ None → AreHoused (rows ++ row ∷ []) false unit count highest last
     one_unread none = record {
-      filled = λ more. ap (λ b. not b && are_filled 0 0 0 (filter_map said_placed (rows ++ row ∷ []) ++ more)) (unread_more ∙ ap (λ o. has_unread said_placed rows || (is_none o || false)) none ∙ or_true (has_unread said_placed rows));
-      contained = λ n. so_far.contained n ∙ ap (list_all (within n)) (sym (said_more ∙ ap (λ o. filter_map said_placed rows ++ cons_option o []) none ∙ append-nil (filter_map said_placed rows)));
+      filled = λ more. ap (λ b. not b && are_filled 0 0 0 (filter_map housing_in_answer (rows ++ row ∷ []) ++ more)) (unread_more ∙ ap (λ o. has_unread housing_in_answer rows || (is_none o || false)) none ∙ or_true (has_unread housing_in_answer rows));
+      contained = λ n. so_far.contained n ∙ ap (list_all (within n)) (sym (said_more ∙ ap (λ o. filter_map housing_in_answer rows ++ cons_option o []) none ∙ append-nil (filter_map housing_in_answer rows)));
     }
 
-    module _ (it : HousingRow) (is : said_placed row ≡ Some it) (last_now : ℕ) (last_is : last_now ≡ higher last it.container) where
-      none_more : has_unread said_placed (rows ++ row ∷ []) ≡ has_unread said_placed rows
-      none_more = unread_more ∙ ap (λ o. has_unread said_placed rows || (is_none o || false)) is ∙ or_false (has_unread said_placed rows)
+    module _ (it : HousingRow) (is : housing_in_answer row ≡ Some it) (last_now : ℕ) (last_is : last_now ≡ higher last it.container) where
+      none_more : has_unread housing_in_answer (rows ++ row ∷ []) ≡ has_unread housing_in_answer rows
+      none_more = unread_more ∙ ap (λ o. has_unread housing_in_answer rows || (is_none o || false)) is ∙ or_false (has_unread housing_in_answer rows)
 
-      it_more : filter_map said_placed (rows ++ row ∷ []) ≡ filter_map said_placed rows ++ it ∷ []
-      it_more = said_more ∙ ap (λ o. filter_map said_placed rows ++ cons_option o []) is
+      it_more : filter_map housing_in_answer (rows ++ row ∷ []) ≡ filter_map housing_in_answer rows ++ it ∷ []
+      it_more = said_more ∙ ap (λ o. filter_map housing_in_answer rows ++ cons_option o []) is
 
       then_it : (more : List HousingRow)
-          → (not (has_unread said_placed (rows ++ row ∷ [])) && are_filled 0 0 0 (filter_map said_placed (rows ++ row ∷ []) ++ more)) ≡ (good && are_filled unit count highest (it ∷ more))
+          → (not (has_unread housing_in_answer (rows ++ row ∷ [])) && are_filled 0 0 0 (filter_map housing_in_answer (rows ++ row ∷ []) ++ more)) ≡ (good && are_filled unit count highest (it ∷ more))
       then_it more =
-          ap₂ (λ b l. not b && are_filled 0 0 0 l) none_more (ap (λ l. l ++ more) it_more ∙ put_last (filter_map said_placed rows) it more)
+          ap₂ (λ b l. not b && are_filled 0 0 0 l) none_more (ap (λ l. l ++ more) it_more ∙ put_last (filter_map housing_in_answer rows) it more)
           ∙ so_far.filled (it ∷ more)
 
-      then_contained : (n : ℕ) → nat_le last_now n ≡ list_all (within n) (filter_map said_placed (rows ++ row ∷ []))
+      then_contained : (n : ℕ) → nat_le last_now n ≡ list_all (within n) (filter_map housing_in_answer (rows ++ row ∷ []))
       then_contained n =
-          ap (λ m. nat_le m n) last_is ∙ higher_is last it.container n ∙ ap₂ ◌&&◌ (so_far.contained n) (and_true (nat_le it.container n)) ∙ sym (list_all-append (within n) (filter_map said_placed rows) (it ∷ [])) ∙ ap (list_all (within n)) (sym it_more)
+          ap (λ m. nat_le m n) last_is ∙ higher_is last it.container n ∙ ap₂ ◌&&◌ (so_far.contained n) (and_true (nat_le it.container n)) ∙ sym (list_all-append (within n) (filter_map housing_in_answer rows) (it ∷ [])) ∙ ap (list_all (within n)) (sym it_more)
         where
           and_true : (b : Bool) → b ≡ (b && true)
           and_true true = refl
@@ -150,7 +150,7 @@ same_row : (b : Bool) (y x : HousingRow) → cond b (Some y) None ≡ Some x →
 same_row true y x h = ap (λ (o : Option HousingRow). option_map_or unit_of o 0) h
 same_row false y x h = absurd cc
 
-keyed : (cells : Row) (x : HousingRow) → said_placed cells ≡ Some x → column cells 0 ≡ Int (pos x.unit)
+keyed : (cells : Row) (x : HousingRow) → housing_in_answer cells ≡ Some x → column cells 0 ≡ Int (pos x.unit)
 keyed cells x h =
     let a = from_first (read_housing (Null ∷ column cells 0 ∷ column cells 1 ∷ column cells 2 ∷ [])) _ x h in
     housing_unit (Null ∷ column cells 0 ∷ column cells 1 ∷ column cells 2 ∷ []) a.0 a.1 ∙ ap (λ n. Int (pos n)) (same_row (is_placed a.0) a.0 x a.2)
@@ -226,7 +226,7 @@ module _ (v : Version) (db : Trees) (units_read : has_unread read_unit (db table
   housings = filter_map read_housing ys
 
   abbrev said : List HousingRow
-  said = filter_map said_placed rows
+  said = filter_map housing_in_answer rows
 
   abbrev in_catalogue : List HousingRow
   in_catalogue = (catalogue_in v db).housings
@@ -273,31 +273,31 @@ module _ (v : Version) (db : Trees) (units_read : has_unread read_unit (db table
       ∙ ap (λ b. not (not b)) (all_same (passes read_housing good_row) (passes read_housing fits) table (same_tests table kept) ∙ all_alike (passes read_housing fits) table ys (permuted table ys same))
       ∙ ap not (sym (judged read_housing fits ys)) ∙ ap (λ b. not (has_unread read_housing ys || not b)) same_fits
 
-  untold : has_unread said_placed rows ≡ (has_unread read_housing ys || not (list_all is_placed housings))
+  untold : has_unread housing_in_answer rows ≡ (has_unread read_housing ys || not (list_all is_placed housings))
   untold =
-      ap (has_unread said_placed) shown ∙ unread_shown said_placed read_placed show_housing (λ _. refl) ys
+      ap (has_unread housing_in_answer) shown ∙ unread_shown housing_in_answer read_placed show_housing (λ _. refl) ys
       ∙ unread_tested read_housing is_placed (λ row. row) ys
 
-  told : has_unread said_placed rows ≡ false → said ≡ housings
+  told : has_unread housing_in_answer rows ≡ false → said ≡ housings
   told none =
-      ap (filter_map said_placed) shown ∙ said_shown said_placed read_placed show_housing (λ _. refl) ys
-      ∙ same_tested read_housing is_placed (λ row. row) ys (sym (ap (has_unread said_placed) shown ∙ unread_shown said_placed read_placed show_housing (λ _. refl) ys) ∙ none)
+      ap (filter_map housing_in_answer) shown ∙ said_shown housing_in_answer read_placed show_housing (λ _. refl) ys
+      ∙ same_tested read_housing is_placed (λ row. row) ys (sym (ap (has_unread housing_in_answer) shown ∙ unread_shown housing_in_answer read_placed show_housing (λ _. refl) ys) ∙ none)
       ∙ sym (same_rows housings)
 
   up : Up unit_of said
-  up = subst (λ rs. Up unit_of (filter_map said_placed rs)) (sym shown) (up_read said_placed unit_of keyed (map show_housing ys) (sorted_shown ys sorted))
+  up = subst (λ rs. Up unit_of (filter_map housing_in_answer rs)) (sym shown) (up_read housing_in_answer unit_of keyed (map show_housing ys) (sorted_shown ys sorted))
 
   pub housings_judged : ((good && nat_le highest count) && nat_le last containers) ≡ good_housings_in v db
-  housings_judged = elim (cases_Bool (has_unread said_placed rows)) [
+  housings_judged = elim (cases_Bool (has_unread housing_in_answer rows)) [
     | inl some ↦
         ap (λ b. b && nat_le last containers) (sym (held.filled []) ∙ ap (λ b. not b && are_filled 0 0 0 (said ++ [])) some)
         ∙ sym (judged_so ∙ never (has_unread read_housing ys) (list_all is_placed housings) (list_all (within containers) housings && list_all lies_low housings) (sym untold ∙ some))
     | inr none ↦
         let is = told none in
-        ends (has_unread said_placed rows) (has_unread read_housing ys) (list_all is_placed housings) (list_all (within containers) housings) (list_all lies_low housings) good (nat_le highest count) (nat_le last containers)
+        ends (has_unread housing_in_answer rows) (has_unread read_housing ys) (list_all is_placed housings) (list_all (within containers) housings) (list_all lies_low housings) good (nat_le highest count) (nat_le last containers)
         untold
-        (sym (held.filled []) ∙ ap (λ l. not (has_unread said_placed rows) && are_filled 0 0 0 l) (append-nil said)
-        ∙ ap (λ b. not (has_unread said_placed rows) && b) (filled_judged said up ∙ ap (λ l. list_all (λ (row : HousingRow). nat_le row.ord (rows_of row.unit l)) l) is))
+        (sym (held.filled []) ∙ ap (λ l. not (has_unread housing_in_answer rows) && are_filled 0 0 0 l) (append-nil said)
+        ∙ ap (λ b. not (has_unread housing_in_answer rows) && b) (filled_judged said up ∙ ap (λ l. list_all (λ (row : HousingRow). nat_le row.ord (rows_of row.unit l)) l) is))
         (held.contained containers ∙ ap (list_all (within containers)) is)
         ∙ sym judged_so
   ]

@@ -4,7 +4,7 @@ use Rattle.sqlite.specs.Listing.{understood}
 use Rattle.sqlite_tied.specs.Compute.{everything}
 use Rattle.office_tables.specs.Schema as tables
 use Rattle.row_decoding.specs.TableRows.{by}
-use Rattle.integrity_checks.proofs.Common.{Alike, AreGathered, AreUnitsPlaced, IsPermutation, Means, Row, Select, Term, Trees, UnitRow, Version, alike_back, alike_then, all_alike, all_stand_in, any_alike, are_good_numbers, asking, catalogue_in, col, encoding, has_unread, height, is_described, le_refl, length-map, length_alike, length_permutation, list_all, list_all-map, list_any-IsPermutation, list_any-map, most_deep, most_units, ordered_alike, permuted, place_numbers, places_in, places_said, read_alike, read_described, read_unit, said_described, same_rows, show, stands, unit_numbers, units_are_defective}
+use Rattle.integrity_checks.proofs.Common.{Alike, AreGathered, AreUnitsPlaced, IsPermutation, Means, Row, Select, Term, Trees, UnitRow, Version, alike_back, alike_then, all_alike, all_stand_in, any_alike, are_good_numbers, asking, catalogue_in, col, described_in_answer, encoding, has_unread, height, is_described, le_refl, length-map, length_alike, length_permutation, list_all, list_all-map, list_any-IsPermutation, list_any-map, most_deep, most_units, ordered_alike, permuted, place_numbers, places_in, places_said, read_alike, read_described, read_unit, same_rows, show, stands, unit_numbers, units_are_defective}
 use Rattle.integrity_checks.proofs.Tested.{said_shown, unread_shown, unread_tested, same_tested}
 
 -- ---- the text
@@ -69,7 +69,7 @@ numbers_alike next deep numbers units placed places same alike =
     (ap₂ ◌&&◌ (all_stand_alike placed places numbers units alike same) (ap₂ ◌&&◌ (all_stand_alike numbers units placed places same alike)
     (ap (λ n. nat_le n most_units && nat_le deep most_deep) (length_permutation numbers units same))))
 
-module _ (v : Version) (next : ℕ) (db : Trees) (ys rows : List Row) (numbers : List ℕ) (good : Bool) (gathered : AreGathered (λ n. n) said_described rows numbers good)
+module _ (v : Version) (next : ℕ) (db : Trees) (ys rows : List Row) (numbers : List ℕ) (good : Bool) (gathered : AreGathered (λ n. n) described_in_answer rows numbers good)
     (same : IsPermutation (db tables.unit.tree) ys) (shown : rows ≡ map show_unit ys) where
   abbrev table : List Row
   table = db tables.unit.tree
@@ -85,19 +85,19 @@ module _ (v : Version) (next : ℕ) (db : Trees) (ys rows : List Row) (numbers :
   alike = alike_back in_catalogue units
       (alike_then in_catalogue (filter_map read_unit table) units (ordered_alike (by id_of) (filter_map read_unit table)) (read_alike read_unit table ys same))
 
-  unread : has_unread said_described rows ≡ (has_unread read_unit table || not (list_all is_described in_catalogue))
+  unread : has_unread described_in_answer rows ≡ (has_unread read_unit table || not (list_all is_described in_catalogue))
   unread =
-      ap (has_unread said_described) shown ∙ unread_shown said_described read_described show_unit (λ _. refl) ys ∙ unread_tested read_unit is_described id_of ys
+      ap (has_unread described_in_answer) shown ∙ unread_shown described_in_answer read_described show_unit (λ _. refl) ys ∙ unread_tested read_unit is_described id_of ys
       ∙ ap₂ (λ a b. a || not b) (sym (list_any-IsPermutation (λ row. is_none (read_unit row)) table ys same)) (all_alike is_described units in_catalogue alike)
 
   module _ (none : has_unread read_unit table ≡ false) (all : list_all is_described in_catalogue ≡ true) where
-    all_read : has_unread said_described rows ≡ false
+    all_read : has_unread described_in_answer rows ≡ false
     all_read = unread ∙ ap₂ (λ a b. a || not b) none all
 
     are_numbers : numbers ≡ map id_of units
     are_numbers =
-        same_rows numbers ∙ gathered.are ∙ ap (filter_map said_described) shown ∙ said_shown said_described read_described show_unit (λ _. refl) ys
-        ∙ same_tested read_unit is_described id_of ys (sym (ap (has_unread said_described) shown ∙ unread_shown said_described read_described show_unit (λ _. refl) ys) ∙ all_read)
+        same_rows numbers ∙ gathered.are ∙ ap (filter_map described_in_answer) shown ∙ said_shown described_in_answer read_described show_unit (λ _. refl) ys
+        ∙ same_tested read_unit is_described id_of ys (sym (ap (has_unread described_in_answer) shown ∙ unread_shown described_in_answer read_described show_unit (λ _. refl) ys) ∙ all_read)
 
     below : list_all (λ n. nat_lt n next) numbers ≡ list_all (λ (row : UnitRow). nat_lt row.id next) in_catalogue
     below =

@@ -5,7 +5,7 @@ use Rattle.std.specs.List.{list_all}
 use Rattle.sqlite.specs.Order.{Row}
 use Rattle.catalogue_core.specs.CatalogueRows.{HousingRow}
 use Rattle.office_tables.specs.Cells.{has_unread}
-use Rattle.integrity_checks.specs.ScanAnswers.{said_placed}
+use Rattle.integrity_checks.specs.ScanAnswers.{housing_in_answer}
 use Rattle.integrity_checks.specs.declared.housing.Housed.{Housed}
 
 -- the row as the definitions of the catalogue's causes have it
@@ -29,5 +29,5 @@ are_filled unit count highest (row ∷ rows) =
 -- of all. `are_good`: the units before it are filled, and each row can be read and has numbers from 1 on.
 pub record AreHoused (rows : List Row) (are_good : Bool) (unit count highest last : ℕ) : Type 0 where
   pub filled : (more : List HousingRow)
-      → (not (has_unread said_placed rows) && are_filled 0 0 0 (filter_map said_placed rows ++ more)) ≡ (are_good && are_filled unit count highest more)
-  pub contained : (n : ℕ) → nat_le last n ≡ list_all (λ (row : HousingRow). nat_le row.container n) (filter_map said_placed rows)
+      → (not (has_unread housing_in_answer rows) && are_filled 0 0 0 (filter_map housing_in_answer rows ++ more)) ≡ (are_good && are_filled unit count highest more)
+  pub contained : (n : ℕ) → nat_le last n ≡ list_all (λ (row : HousingRow). nat_le row.container n) (filter_map housing_in_answer rows)

@@ -38,8 +38,8 @@ is_described_answer cells =
     && (option_map_or (λ t. nat_le (length t) most_bytes) (text_in (column cells 2)) false
     && option_map_or (λ t. nat_le (length t) most_bytes) (text_in (column cells 3)) false))))
 
-abbrev pub said_described : Row → Option ℕ
-said_described cells =
+abbrev pub described_in_answer : Row → Option ℕ
+described_in_answer cells =
     read_described (column cells 0 ∷ Null ∷ column cells 1 ∷ column cells 2 ∷ column cells 3 ∷ column cells 5 ∷ column cells 4 ∷ [])
 
 -- ---- elements
@@ -48,11 +48,11 @@ said_described cells =
 abbrev pub is_good_value : ElementRow → Bool
 is_good_value row = is_between 1 26 row.k && (not (nat_eq row.k 4) && not (is_blank_text row.value))
 
-abbrev pub said_element : Row → Option ElementRow
-said_element cells = read_element (Null ∷ column cells 0 ∷ column cells 1 ∷ column cells 2 ∷ [])
+abbrev pub element_in_answer : Row → Option ElementRow
+element_in_answer cells = read_element (Null ∷ column cells 0 ∷ column cells 1 ∷ column cells 2 ∷ [])
 
 abbrev pub is_element_answer : Row → Bool
-is_element_answer cells = option_map_or is_good_value (said_element cells) false
+is_element_answer cells = option_map_or is_good_value (element_in_answer cells) false
 
 -- ---- containers
 
@@ -60,11 +60,11 @@ is_element_answer cells = option_map_or is_good_value (said_element cells) false
 abbrev pub is_numbered : ℕ → ContainerRow → Bool
 is_numbered n row = nat_eq row.id n && not (is_blank_text row.name)
 
-abbrev pub said_container : Row → Option ContainerRow
-said_container cells = read_container (column cells 0 ∷ Null ∷ column cells 1 ∷ column cells 2 ∷ column cells 3 ∷ [])
+abbrev pub container_in_answer : Row → Option ContainerRow
+container_in_answer cells = read_container (column cells 0 ∷ Null ∷ column cells 1 ∷ column cells 2 ∷ column cells 3 ∷ [])
 
 abbrev pub is_container_answer : ℕ → Row → Bool
-is_container_answer n cells = option_map_or (is_numbered n) (said_container cells) false
+is_container_answer n cells = option_map_or (is_numbered n) (container_in_answer cells) false
 
 -- the rows show the containers with the numbers from this on
 abbrev pub are_container_answers : ℕ → List Row → Bool
@@ -80,5 +80,5 @@ is_placed row = nat_le 1 row.ord && nat_le 1 row.container
 abbrev pub read_placed : Row → Option HousingRow
 read_placed row = from (read_housing row) (if_passes is_placed)
 
-abbrev pub said_placed : Row → Option HousingRow
-said_placed cells = read_placed (Null ∷ column cells 0 ∷ column cells 1 ∷ column cells 2 ∷ [])
+abbrev pub housing_in_answer : Row → Option HousingRow
+housing_in_answer cells = read_placed (Null ∷ column cells 0 ∷ column cells 1 ∷ column cells 2 ∷ [])

@@ -2,7 +2,7 @@
 
 ghost use Rattle.std.specs.Prelude.{◌≡◌, nat_le, option_map};
 ghost use Rattle.row_decoding.specs.Examinations.{Examines};
-ghost use Rattle.integrity_checks.specs.ScanAnswers.{said_placed};
+ghost use Rattle.integrity_checks.specs.ScanAnswers.{housing_in_answer};
 ghost use Rattle.integrity_checks.specs.HousingPlaces.{higher as higher_of, housing_row};
 ghost use Rattle.integrity_checks.specs.CatalogueJudgments.{JudgesHousings};
 
@@ -20,7 +20,7 @@ struct Housed {
 
 /// The contents of a row, if its place and its container have numbers from 1 on.
 fn housed_in(row: &Row) -> Option<Housed>
-    ensures { option_map housing_row result ≡ said_placed row.now }
+    ensures { option_map housing_row result ≡ housing_in_answer row.now }
 {
     let unit = number_in(cell(row, 0))?;
     let ord = number_in(cell(row, 1))?;

@@ -3,7 +3,7 @@
 ghost use Rattle.std.specs.Prelude.{◌≡◌, nat_lt};
 ghost use Rattle.std.specs.List.{list_all};
 ghost use Rattle.row_decoding.specs.Examinations.{Examines};
-ghost use Rattle.integrity_checks.specs.ScanAnswers.{is_described_answer, said_described};
+ghost use Rattle.integrity_checks.specs.ScanAnswers.{is_described_answer, described_in_answer};
 ghost use Rattle.integrity_checks.specs.CatalogueJudgments.{JudgesUnits, are_good_numbers};
 
 use crate::ascending_numbers::Ascending;
@@ -31,7 +31,7 @@ fn is_described(row: &Row) -> bool
 
 /// The number of the unit in a row, if the rest of the row can be a unit's.
 fn described_in(row: &Row) -> Option<u64>
-    ensures { result ≡ said_described row.now }
+    ensures { result ≡ described_in_answer row.now }
 {
     let number = number_in(cell(row, 0))?;
     if is_described(row) {
@@ -50,10 +50,10 @@ struct Units {
 }
 
 impl Gathering for Units {
-    ghost use Rattle.integrity_checks.specs.ScanAnswers.{said_described};
+    ghost use Rattle.integrity_checks.specs.ScanAnswers.{described_in_answer};
     ghost use Rattle.row_decoding.specs.Readings.{AreGathered};
 
-    ghost holds = { λ rows all. AreGathered (λ n. n) said_described rows all.numbers.items all.are_good };
+    ghost holds = { λ rows all. AreGathered (λ n. n) described_in_answer rows all.numbers.items all.are_good };
 
     fn take(&mut self, row: &Row) -> Result<(), StoreFault> {
         match described_in(row) {

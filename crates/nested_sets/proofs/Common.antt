@@ -47,7 +47,7 @@ pub use Rattle.nested_sets.specs.KnownPaths.{AreAbove, AreOfBranch, ArePathRows,
 pub use Rattle.nested_sets.specs.Migration.{HasPlaces, VersionedRow, in_version_2, versioned_cells}
 pub use Rattle.nested_sets.specs.Ranges.{IsBetween, encloses, last_number, moved_number, moved_span, shifted, shifted_first, shifted_last, shifted_span}
 pub use Rattle.nested_sets.specs.Representation.{HoldsForest, NumbersPart, RepresentsSpanRows, same_span_rows}
-pub use Rattle.nested_sets.specs.Rows.{IsLow, by_first, by_unit, span_row, told_cells}
+pub use Rattle.nested_sets.specs.Rows.{IsLow, answer_cells, by_first, by_unit, span_row}
 pub use Rattle.nested_sets.specs.SurroundingRows.{BeginBefore, IsAbove, IsAboveFrom, IsBeside, IsReached, IsSought, SeeksFrom, StandsAt, reaches_over, surrounds}
 pub use Rattle.nested_sets.specs.declared.row_types.ToldSpan.{ToldSpan}
 pub use Rattle.office_tables.proofs.CallEnds.{excused_then, leaves_last, leaves_part, left_by, left_fault, left_well, making_last, making_not, making_then, same_fault}
@@ -87,4 +87,4 @@ pub use Rattle.tree_core.specs.Tops.{below_first, last_but_one, part_below, righ
 pub use Rattle.tree_core.specs.declared.arrivals.Arrival.{Arrival}
 pub use Rattle.tree_core.specs.declared.rows.Span.{Span}
 pub use Rattle.tree_places.proofs.MarkForests.{ids_from, marks_from, part_in, path_ids, path_in}
-pub use Rattle.tree_places.specs.Attachments.{AreBranchMarks, ArePathMarks, branch_told, is_plain_leaf, unboxed_leaf, without_containers}
+pub use Rattle.tree_places.specs.Attachments.{AreBranchMarks, ArePathMarks, branch_answer, is_plain_leaf, unboxed_leaf, without_containers}

@@ -2,7 +2,7 @@
 use Rattle.std.proofs.Common.{◌≡◌, List, [], ◌∷◌, map, Option, Some, None, refl, sym, ap, subst, ◌∙◌}
 use Rattle.office_core.specs.MixedRuns.{next_state, told_of, state_after_all, all_told}
 use Rattle.office_core.specs.State.{State}
-use Rattle.office.specs.Runs.{Call, Returned, as_returned, heard, with_heard, all_heard, with_told, Follows, AreCalls, IsAcceptance, IsMachinesRun, LeaveOpen}
+use Rattle.office.specs.Runs.{Call, Returned, as_returned, heard, with_heard, all_heard, with_first, Follows, AreCalls, IsAcceptance, IsMachinesRun, LeaveOpen}
 
 module _ {M : Type 0} (represents : M → State → Type 0) (is_intact is_open : M → Type 0) where
   intact_before : (calls : List Call) (old new : M) → AreCalls represents is_intact is_open old new calls
@@ -30,7 +30,7 @@ module _ {M : Type 0} (represents : M → State → Type 0) (is_intact is_open :
     where
       at : (told : Option Returned) → Follows represents is_intact is_open s call.asked told it.0
           → ((t : State) → represents it.0 t → represents new (state_after_all t (heard later)) × (all_heard later ≡ map as_returned (all_told t (heard later))))
-          → represents new (state_after_all s (with_heard call.asked told (heard later))) × (with_told told (all_heard later) ≡ map as_returned (all_told s (with_heard call.asked told (heard later))))
+          → represents new (state_after_all s (with_heard call.asked told (heard later))) × (with_first told (all_heard later) ≡ map as_returned (all_told s (with_heard call.asked told (heard later))))
       at (Some told) follows on =
           let rest = on (next_state s call.asked) follows.0 in
           (rest.0, ap (λ (t : Returned). t ∷ all_heard later) follows.1 ∙ ap (λ (ts : List Returned). as_returned (told_of s call.asked) ∷ ts) rest.1)

@@ -44,13 +44,13 @@ heard [] = []
 heard (call ∷ later) = with_heard call.asked call.told (heard later)
 
 -- the replies with their JSON, and the answers
-abbrev pub with_told : Option Returned → List Returned → List Returned
-with_told (Some told) later = told ∷ later
-with_told None later = later
+abbrev pub with_first : Option Returned → List Returned → List Returned
+with_first (Some told) later = told ∷ later
+with_first None later = later
 
 abbrev pub all_heard : List Call → List Returned
 all_heard [] = []
-all_heard (call ∷ later) = with_told call.told (all_heard later)
+all_heard (call ∷ later) = with_first call.told (all_heard later)
 
 -- a command was accepted
 abbrev pub IsAcceptance : Option Returned → Type 0

@@ -3,7 +3,7 @@
 ghost use Rattle.std.specs.Prelude.{◌≡◌, ⊤};
 ghost use Rattle.office_core.specs.SoundOffice.{IsSoundOffice};
 ghost use Rattle.office_tables.specs.Calls.{Answers};
-ghost use Rattle.office.specs.Rows.{limits_told};
+ghost use Rattle.office.specs.Rows.{limits_of_row};
 ghost use Rattle.refinement.specs.AccessConditions.{RepresentsWhole};
 ghost use Rattle.refinement.specs.Representation.{office_of};
 
@@ -27,7 +27,7 @@ pub(crate) fn own_row<P: Places, S: Alter>(
 
 /// The settings in the row, as the desk's limits.
 pub(crate) fn limits_in(row: &OfficeRow) -> Limits
-    ensures { result ≡ limits_told row.now }
+    ensures { result ≡ limits_of_row row.now }
 {
     Limits {
         seats: row.seats,

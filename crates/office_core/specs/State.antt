@@ -25,7 +25,7 @@ pub record Reader : Type 0 where
 pub record Order : Type 0 where
   pub ticket : ℕ
   pub container : ℕ
-  pub day : ℤ  -- when it was orders_placed
+  pub day : ℤ  -- when it was placed
 
 -- a line of a run: a container that it fetches, the first order for it, and the ticket of that order
 pub record Line : Type 0 where

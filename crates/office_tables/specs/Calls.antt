@@ -39,7 +39,7 @@ module _ {S X Stays Model : Type 0} (g : store.Ghosts S) (represents : Database 
     pub faults : (s : Stays) (m : Model) → represents old.now s m → may m → kept m → FaultsHaveCause old new r
 
   -- The same as `Updates`, for a call of a store. If it fails and the transaction goes on, it has touched these tables
-  -- only, whatever the rows are; and it blames the disk for its own failures only.
+  -- only, whatever the rows are; and it says `Disk` only if the disk failed, now or earlier.
   pub record StoreUpdates (may : Model → Type 0) (made : Model → Model) (touched : List ℕ) : Type 0 where
     pub represents_updated : HasCleanDisk new → (s : Stays) (m : Model) → represents old.now s m → may m → OnOk r (represents new.now s (made m))
     pub only : HasCleanDisk new → OnOk r (OnlyTouches touched old.now new.now)
@@ -49,7 +49,7 @@ module _ {S X Stays Model : Type 0} (g : store.Ghosts S) (represents : Database 
     pub faults : (s : Stays) (m : Model) → represents old.now s m → may m → kept m → FaultsHaveCause old new r
 
   -- The same as `Answers`, for a call of a store. If it fails and the transaction goes on, every row is as it was,
-  -- whatever the rows are; and it blames the disk for its own failures only.
+  -- whatever the rows are; and it says `Disk` only if the disk failed, now or earlier.
   pub record StoreAnswers (may : Model → Type 0) (answer : Stays → Model → X → Type 0) : Type 0 where
     pub answers : HasCleanDisk new → (s : Stays) (m : Model) → represents old.now s m → IfOk r (answer s m)
     pub looks : OnOk r (LeavesUnchanged old new)

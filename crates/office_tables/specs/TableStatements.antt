@@ -11,8 +11,8 @@ use Rattle.office_tables.specs.Query.{Reads}
 use Rattle.office_tables.specs.Step.{Holds, HasRows, OnlyTouches, PutsRow}
 use Rattle.office_tables.specs.declared.fault.StoreFault.{StoreFault}
 
--- A query answers this of what the tables hold, the records of one of them or a whole model, if that is `orderly`. If it is
--- `kept`, every fault has a cause.
+-- A query answers this of what the tables hold, the records of one of them or a whole model, if that is `orderly`. It
+-- changes no row. If what they hold is `kept`, every fault has a cause; otherwise it may also be `Schema`.
 pub record LooksUp {S M X : Type 0} (g : store.Ghosts S) (holds : State → M → Type 0) (before after : Held S) (r : Result X StoreFault) (orderly kept : M → Type 0) (answer : M → X → Type 0) : Type 0 where
   pub reads : Reads (state g before) (state g after) r
   pub answers : HasCleanDisk (state g after) → (m : M) → holds (state g before) m → orderly m → IfOk r (answer m)

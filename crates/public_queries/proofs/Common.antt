@@ -38,7 +38,7 @@ pub use Rattle.office_tables.specs.declared.fault.StoreFault.{StoreFault}
 pub use Rattle.public_queries.specs.FindingAids.{IsOf, KeepsUnits, Walked, along, kept_row, public_units, seen_of, seen_values, shown_at, with_numbers}
 pub use Rattle.public_queries.specs.HeadLines.{all_bare, are_open, bare_below, bare_body, head_alone, ids_of, is_open_on, repository_of, shows_last}
 pub use Rattle.public_queries.specs.KnownPaths.{AreHeadsOf, IsTellable, RepresentsUnit}
-pub use Rattle.public_queries.specs.PageLines.{box_lines, closed_page, housed_lines, lines_or, nearest_lines, told_page}
+pub use Rattle.public_queries.specs.PageLines.{box_lines, closed_page, housed_lines, lines_or, nearest_lines, page_of_units}
 pub use Rattle.public_queries.specs.PathValues.{coded_of, coded_way, unit_values}
 pub use Rattle.public_queries.specs.declared.path_values.OnPath.{OnPath}
 pub use Rattle.refinement.proofs.Answerings.{still_shown}

@@ -4,7 +4,7 @@ use Rattle.std.specs.Prelude.{map}
 use Rattle.std.specs.List.{IsDistinct, find}
 use Rattle.office_core.specs.State.{State}
 use Rattle.office_core.specs.declared.query.Query.TheVariants as query
-use Rattle.public_queries.proofs.Common.{AllByRecursion, Bytes, HasDistinctIds, Head, IsSoundOffice, OfficeRow, Shown, Text, Unit, UnitValues, Unknown, UnknownUnit, all_bare, answer, closed_page, coded_way, each, has_id, head_alone, head_of, ids_of, is_closed, is_later, map-append, no_unit, nodes, nodes-each, office_kept, office_of, page, part_below, path, press, repository_of, shows_last, told_page, tops, unit_values}
+use Rattle.public_queries.proofs.Common.{AllByRecursion, Bytes, HasDistinctIds, Head, IsSoundOffice, OfficeRow, Shown, Text, Unit, UnitValues, Unknown, UnknownUnit, all_bare, answer, closed_page, coded_way, each, has_id, head_alone, head_of, ids_of, is_closed, is_later, map-append, no_unit, nodes, nodes-each, office_kept, office_of, page, page_of_units, part_below, path, press, repository_of, shows_last, tops, unit_values}
 use Rattle.public_queries.proofs.FoundUnits.{path_all, found_each}
 use Rattle.public_queries.proofs.Standing.{shown_in, nowhere, Stands, stands}
 use Rattle.public_queries.proofs.PagePrinted.{page_hidden, page_closed, page_told, is_there, last_same}
@@ -62,14 +62,14 @@ module _ (s : State) (sound : IsSoundOffice s) where
         → is_later row.day last.until ≡ false
         → units ≡ map (unit_values s.catalogue.containers) (path (has_id u) s.catalogue.forest)
         → heads ≡ map head_of (tops (part_below has_id (Some u) s.catalogue.forest))
-        → text ≡ page (told_page head (coded_way (repository_of row) [] [] units) (all_bare (repository_of row) ids row.day heads))
+        → text ≡ page (page_of_units head (coded_way (repository_of row) [] [] units) (all_bare (repository_of row) ids row.day heads))
         → Text text ≡ answer s (query.Page u)
     answers_told ids head units heads text e h c us hs is =
         let way_ids = ids_of (map head_of (path (has_id u) s.catalogue.forest)) in
         let H = head_alone (press s).at way_ids s.day (head_of it.node) in
-        ap Text (is ∙ ap (λ x. page (told_page x (coded_way (repository_of row) [] [] units) (all_bare (repository_of row) ids row.day heads))) (h ∙ head_is ids e)
-        ∙ ap (λ (o : OfficeRow). page (told_page H (coded_way (repository_of o) [] [] units) (all_bare (repository_of o) ids o.day heads))) row_is
-        ∙ ap (λ x. page (told_page H (coded_way (press s).at [] [] x) (all_bare (press s).at ids s.day heads))) us
-        ∙ ap (λ x. page (told_page H (coded_way (press s).at [] [] (map (unit_values s.catalogue.containers) (path (has_id u) s.catalogue.forest))) (all_bare (press s).at x s.day heads))) (e ∙ ap ids_of way_is)
-        ∙ ap (λ x. page (told_page H (coded_way (press s).at [] [] (map (unit_values s.catalogue.containers) (path (has_id u) s.catalogue.forest))) (all_bare (press s).at way_ids s.day x))) hs)
+        ap Text (is ∙ ap (λ x. page (page_of_units x (coded_way (repository_of row) [] [] units) (all_bare (repository_of row) ids row.day heads))) (h ∙ head_is ids e)
+        ∙ ap (λ (o : OfficeRow). page (page_of_units H (coded_way (repository_of o) [] [] units) (all_bare (repository_of o) ids o.day heads))) row_is
+        ∙ ap (λ x. page (page_of_units H (coded_way (press s).at [] [] x) (all_bare (press s).at ids s.day heads))) us
+        ∙ ap (λ x. page (page_of_units H (coded_way (press s).at [] [] (map (unit_values s.catalogue.containers) (path (has_id u) s.catalogue.forest))) (all_bare (press s).at x s.day heads))) (e ∙ ap ids_of way_is)
+        ∙ ap (λ x. page (page_of_units H (coded_way (press s).at [] [] (map (unit_values s.catalogue.containers) (path (has_id u) s.catalogue.forest))) (all_bare (press s).at way_ids s.day x))) hs)
         ∙ sym (page_told (press s) s.day u s.catalogue.forest distinct it shown (sym closes ∙ c))

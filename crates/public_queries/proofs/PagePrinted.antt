@@ -3,7 +3,7 @@ use Rattle.std.proofs.Common.{◌≡◌, ℕ, Bool, true, false, not, ◌&&◌, 
 use Rattle.std.specs.Prelude.{map}
 use Rattle.std.specs.Fmt.{decimal}
 use Rattle.isad_core.specs.declared.display.Page.{Page}
-use Rattle.public_queries.proofs.Common.{AllByRecursion, BoxKey, Bytes, Empty, Forest, HasDistinctIds, Head, Node, OnPath, PageBox, Press, PublicUnit, Repository, Shown, Text, Told, Unit, Unknown, UnknownUnit, all_bare, are_open, below_first, box_lines, box_number, boxes_on_page, boxes_or, closed_page, code_of, coded_below, coded_of, coded_way, codes, each, false≢true, filter_map, flat_map, found_container, found_element, has, has_id, head_alone, head_line, head_of, housed_lines, identifier, identifier_of, ids_of, indent, is_closed, is_later, is_numbered, known_of, line, line_elements, lines_or, map-append, nearest_boxes, nearest_lines, page, page_answer, page_at, page_boxes, page_line, page_of, part_below, path, public_of, reverse, reverse-append, shown_unit, shows_last, side_by_side, stub_of, told_page, tops, tree, unit_below, unit_values, with_codes, ℤ}
+use Rattle.public_queries.proofs.Common.{AllByRecursion, BoxKey, Bytes, Empty, Forest, HasDistinctIds, Head, Node, OnPath, PageBox, Press, PublicUnit, Repository, Shown, Text, Told, Unit, Unknown, UnknownUnit, all_bare, are_open, below_first, box_lines, box_number, boxes_on_page, boxes_or, closed_page, code_of, coded_below, coded_of, coded_way, codes, each, false≢true, filter_map, flat_map, found_container, found_element, has, has_id, head_alone, head_line, head_of, housed_lines, identifier, identifier_of, ids_of, indent, is_closed, is_later, is_numbered, known_of, line, line_elements, lines_or, map-append, nearest_boxes, nearest_lines, page, page_answer, page_at, page_boxes, page_line, page_of, page_of_units, part_below, path, public_of, reverse, reverse-append, shown_unit, shows_last, side_by_side, stub_of, tops, tree, unit_below, unit_values, with_codes, ℤ}
 use Rattle.public_queries.proofs.Standing.{seen_below, public_node, Stands, nowhere, seen, shown_in}
 use Rattle.public_queries.proofs.HeadsPrinted.{known_ids, same_head, same_beside}
 use Rattle.public_queries.proofs.HeadLineLemmas.{shows_last-push}
@@ -159,7 +159,7 @@ module _ (press : Press) (day : ℤ) (u : ℕ) (f : Forest Unit) (distinct : Has
 
     pub page_told : is_closed day it.node ≡ false
         → page_answer (page_of press u (public_of day f))
-        ≡ Text (page (told_page (head_alone press.at (ids_of (map head_of (path (has_id u) f))) day (head_of it.node)) (coded_way press.at [] [] (map (unit_values press.containers) (path (has_id u) f))) (all_bare press.at (ids_of (map head_of (path (has_id u) f))) day (map head_of (tops (part_below has_id (Some u) f))))))
+        ≡ Text (page (page_of_units (head_alone press.at (ids_of (map head_of (path (has_id u) f))) day (head_of it.node)) (coded_way press.at [] [] (map (unit_values press.containers) (path (has_id u) f))) (all_bare press.at (ids_of (map head_of (path (has_id u) f))) day (map head_of (tops (part_below has_id (Some u) f))))))
     page_told c =
         let way = path (has_id u) f in
         let units = coded_way press.at [] [] (map (unit_values press.containers) way) in
@@ -172,7 +172,7 @@ module _ (press : Press) (day : ℤ) (u : ℕ) (f : Forest Unit) (distinct : Has
         in
         ap page_answer (page_found e ∙ ap (page_at press (map (known_of day) way)) shown_tree ∙ told_at (map (known_of day) way) (seen_below day (is_closed day it.node) it.children) c)
         ∙ ap Text
-        (printed_alike (record { head = shown_unit press.at press.containers (map identifier_of (map (known_of day) way)) 0 (known_of day it.node); lines = filter_map (page_line (with_codes press (map (known_of day) way))) line_elements; boxes = boxes_on_page press (with_codes press (map (known_of day) way)); below = side_by_side press (map identifier_of (map (known_of day) way)) (seen_below day (is_closed day it.node) it.children) }) (told_page (head_alone press.at (ids_of (map head_of way)) day (head_of it.node)) units (all_bare press.at (ids_of (map head_of way)) day (map head_of (tops (part_below has_id (Some u) f)))))
+        (printed_alike (record { head = shown_unit press.at press.containers (map identifier_of (map (known_of day) way)) 0 (known_of day it.node); lines = filter_map (page_line (with_codes press (map (known_of day) way))) line_elements; boxes = boxes_on_page press (with_codes press (map (known_of day) way)); below = side_by_side press (map identifier_of (map (known_of day) way)) (seen_below day (is_closed day it.node) it.children) }) (page_of_units (head_alone press.at (ids_of (map head_of way)) day (head_of it.node)) units (all_bare press.at (ids_of (map head_of way)) day (map head_of (tops (part_below has_id (Some u) f)))))
         head_same
         (ap (λ l. filter_map (page_line l) line_elements) same)
         (ap (boxes_on_page press) same ∙ same_housed press units (are_numbered press.at press.containers [] [] way tt))

@@ -37,8 +37,8 @@ abbrev pub closed_page : Shown → Page
 closed_page head = record { head = head; lines = []; boxes = []; below = [] }
 
 -- the page of the first of these units
-abbrev pub told_page : Shown → List OnPath → List (ℕ × Shown) → Page
-told_page head units below = record {
+abbrev pub page_of_units : Shown → List OnPath → List (ℕ × Shown) → Page
+page_of_units head units below = record {
   head = head;
   lines = filter_map (page_line (map coded_of units)) line_elements;
   boxes = housed_lines units;

@@ -3,7 +3,7 @@
 ghost use Rattle.std.specs.Prelude.{◌≡◌, filter_map, map, option_copied, IfOk};
 ghost use Rattle.isad_core.specs.PrintedDescriptions.{page as printed};
 ghost use Rattle.catalogue_core.specs.Pages.{nearest_value as nearest_of, page_line as line_of};
-ghost use Rattle.public_queries.specs.PageLines.{box_lines, closed_page, housed_lines, nearest_lines, told_page};
+ghost use Rattle.public_queries.specs.PageLines.{box_lines, closed_page, housed_lines, nearest_lines, page_of_units};
 ghost use Rattle.public_queries.specs.PathValues.{coded_of};
 
 use crate::path_values::OnPath;
@@ -140,7 +140,7 @@ pub(crate) fn print_told(
     units: &[OnPath],
     below: List<(u64, Shown)>,
 ) -> Result<List<u8>, AllocError>
-    ensures { IfOk result (λ text. text ≡ printed (told_page head units.now below)) }
+    ensures { IfOk result (λ text. text ≡ printed (page_of_units head units.now below)) }
 {
     let page = Page {
         head,

@@ -12,7 +12,7 @@ ghost use Rattle.refinement.specs.Representation.{office_of};
 ghost use Rattle.public_queries.specs.HeadLines.{all_bare, repository_of};
 ghost use Rattle.public_queries.specs.InformedAnswers.{RespondsKnowing};
 ghost use Rattle.public_queries.specs.KnownPaths.{AreHeadsOf, IsTellable, RepresentsUnit};
-ghost use Rattle.public_queries.specs.PageLines.{told_page};
+ghost use Rattle.public_queries.specs.PageLines.{page_of_units};
 ghost use Rattle.public_queries.specs.PathValues.{coded_way, unit_values};
 
 use crate::head_lines::{bare_units, head_alone};
@@ -71,7 +71,7 @@ fn print_way(
     way: Vec<UnitValues>,
     heads: &[Head],
 ) -> Result<List<u8>, AllocError>
-    ensures { IfOk result (λ text. text ≡ printed (told_page head (coded_way (repository_of known.now) [] [] way.items)
+    ensures { IfOk result (λ text. text ≡ printed (page_of_units head (coded_way (repository_of known.now) [] [] way.items)
         (all_bare (repository_of known.now) ids.items known.now.day heads.now))) }
 {
     let mut ids = ids;

@@ -4,7 +4,7 @@ use Rattle.std.proofs.Common.{◌≡◌, ◌∙◌, ◌&&◌, ◌||◌, ◌+◌,
 use Rattle.tree_core.specs.Marks.{is_closed}
 use Rattle.tree_core.specs.Visibility.{sharing_paths}
 use Rattle.tree_core.proofs.MarkWalks.{list_all-append}
-use Rattle.tree_places.specs.Attachments.{ArePathMarks, branch_told, is_plain_leaf, without_containers, unboxed_leaf}
+use Rattle.tree_places.specs.Attachments.{ArePathMarks, branch_answer, is_plain_leaf, without_containers, unboxed_leaf}
 use Rattle.refinement.proofs.Common.{Empty, Forest, IsNumbered, Mark, Node, Unit, cases_Bool, contents_paths, each, eqb-true, false≢true, is_none, is_opened_above, list_all, list_any, list_any-append, map-append, mark_of, nodes, size, size-each, with_permit, withholds, without_number}
 
 -- ---- the marks of a path
@@ -252,7 +252,7 @@ module _ (today : ℤ) (above : Bool) where
 
   -- an answer by the marks of a branch is one by all that there is to tell
   pub contents_told : (permitted : ℕ → Bool) (whole branch : List Mark) (answer : Bool)
-      → branch_told branch ≡ branch_told whole
+      → branch_answer branch ≡ branch_answer whole
       → ((k : ℕ) (first : Mark) (below : Forest Mark) → IsNumbered k (Node first below Empty) → map (with_permit permitted) branch ≡ nodes (Node first below Empty) → answer ≡ list_all (λ way. not (withholds today above way)) (contents_paths first below))
       → (k : ℕ) (first : Mark) (below : Forest Mark) → IsNumbered k (Node first below Empty)
       → map (with_permit permitted) whole ≡ nodes (Node first below Empty)

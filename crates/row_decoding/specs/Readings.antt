@@ -20,23 +20,23 @@ pub record AreGathered {X Told : Type 0} (told : X → Told) (says : Row → Opt
 
 -- ---- the record in the cells that a query shows of a row: the cells are put back in their places in the table's row
 
-abbrev pub said_seat : Row → Option SeatRow
-said_seat cells = read_seat (column cells 0 ∷ Null ∷ column cells 1 ∷ [])
+abbrev pub seat_in_answer : Row → Option SeatRow
+seat_in_answer cells = read_seat (column cells 0 ∷ Null ∷ column cells 1 ∷ [])
 
-abbrev pub said_order : Row → Option OrderRow
-said_order cells = read_order (column cells 0 ∷ Null ∷ column cells 1 ∷ column cells 2 ∷ column cells 3 ∷ column cells 4 ∷ [])
+abbrev pub order_in_answer : Row → Option OrderRow
+order_in_answer cells = read_order (column cells 0 ∷ Null ∷ column cells 1 ∷ column cells 2 ∷ column cells 3 ∷ column cells 4 ∷ [])
 
-abbrev pub said_holding : Row → Option HoldingRow
-said_holding cells = read_holding (column cells 0 ∷ Null ∷ column cells 2 ∷ column cells 1 ∷ [])
+abbrev pub holding_in_answer : Row → Option HoldingRow
+holding_in_answer cells = read_holding (column cells 0 ∷ Null ∷ column cells 2 ∷ column cells 1 ∷ [])
 
-abbrev pub said_run : Row → Option RunRow
-said_run cells = read_run (column cells 0 ∷ Null ∷ column cells 1 ∷ [])
+abbrev pub run_in_answer : Row → Option RunRow
+run_in_answer cells = read_run (column cells 0 ∷ Null ∷ column cells 1 ∷ [])
 
-abbrev pub said_run_line : Row → Option RunLineRow
-said_run_line cells = read_run_line (Null ∷ column cells 0 ∷ column cells 1 ∷ column cells 2 ∷ column cells 3 ∷ [])
+abbrev pub run_line_in_answer : Row → Option RunLineRow
+run_line_in_answer cells = read_run_line (Null ∷ column cells 0 ∷ column cells 1 ∷ column cells 2 ∷ column cells 3 ∷ [])
 
-abbrev pub said_permit : Row → Option PermitRow
-said_permit cells = read_permit (Null ∷ column cells 0 ∷ column cells 1 ∷ column cells 2 ∷ [])
+abbrev pub permit_in_answer : Row → Option PermitRow
+permit_in_answer cells = read_permit (Null ∷ column cells 0 ∷ column cells 1 ∷ column cells 2 ∷ [])
 
 -- the number of a row whose key is a number
 abbrev pub read_number : Row → Option ℕ

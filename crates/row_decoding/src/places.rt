@@ -67,13 +67,13 @@ fn span_of(id: u64, lft: u64, rgt: u64) -> Option<Span>
 
 impl FromCells for Link {
     ghost use Rattle.tree_core.specs.declared.rows.Link.{Link as ToldLink};
-    ghost use Rattle.row_decoding.specs.PlaceReadings.{said_link};
+    ghost use Rattle.row_decoding.specs.PlaceReadings.{link_in_answer};
 
     ghost Told = { ToldLink };
 
     ghost told = { λ link. link };
 
-    ghost says = { said_link };
+    ghost says = { link_in_answer };
 
     fn read(row: &Row) -> Option<Link> {
         let id = number_in(cell(row, 0))?;
@@ -85,13 +85,13 @@ impl FromCells for Link {
 
 impl FromCells for Span {
     ghost use Rattle.tree_core.specs.declared.rows.Span.{Span as ToldSpan};
-    ghost use Rattle.row_decoding.specs.PlaceReadings.{said_span};
+    ghost use Rattle.row_decoding.specs.PlaceReadings.{span_in_answer};
 
     ghost Told = { ToldSpan };
 
     ghost told = { λ span. span };
 
-    ghost says = { said_span };
+    ghost says = { span_in_answer };
 
     fn read(row: &Row) -> Option<Span> {
         let id = number_in(cell(row, 0))?;

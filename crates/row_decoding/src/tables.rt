@@ -30,14 +30,14 @@ impl FromCells for u64 {
 
 impl FromCells for SeatRow {
     ghost use Rattle.desk_core.specs.DeskRows.{SeatRow as ToldSeatRow};
-    ghost use Rattle.row_decoding.specs.Readings.{said_seat};
+    ghost use Rattle.row_decoding.specs.Readings.{seat_in_answer};
     ghost use Rattle.desk_core.specs.RowRecords.{seat_row};
 
     ghost Told = { ToldSeatRow };
 
     ghost told = { seat_row };
 
-    ghost says = { said_seat };
+    ghost says = { seat_in_answer };
 
     fn read(row: &Row) -> Option<SeatRow> {
         let seat = number_in(cell(row, 0))?;
@@ -48,14 +48,14 @@ impl FromCells for SeatRow {
 
 impl FromCells for PermitRow {
     ghost use Rattle.desk_core.specs.DeskRows.{PermitRow as ToldPermitRow};
-    ghost use Rattle.row_decoding.specs.Readings.{said_permit};
+    ghost use Rattle.row_decoding.specs.Readings.{permit_in_answer};
     ghost use Rattle.desk_core.specs.RowRecords.{permit_row};
 
     ghost Told = { ToldPermitRow };
 
     ghost told = { permit_row };
 
-    ghost says = { said_permit };
+    ghost says = { permit_in_answer };
 
     fn read(row: &Row) -> Option<PermitRow> {
         let ticket = number_in(cell(row, 0))?;
@@ -71,14 +71,14 @@ impl FromCells for PermitRow {
 
 impl FromCells for OrderRow {
     ghost use Rattle.desk_core.specs.DeskRows.{OrderRow as ToldOrderRow};
-    ghost use Rattle.row_decoding.specs.Readings.{said_order};
+    ghost use Rattle.row_decoding.specs.Readings.{order_in_answer};
     ghost use Rattle.desk_core.specs.RowRecords.{order_row};
 
     ghost Told = { ToldOrderRow };
 
     ghost told = { order_row };
 
-    ghost says = { said_order };
+    ghost says = { order_in_answer };
 
     fn read(row: &Row) -> Option<OrderRow> {
         let id = number_in(cell(row, 0))?;
@@ -98,14 +98,14 @@ impl FromCells for OrderRow {
 
 impl FromCells for HoldingRow {
     ghost use Rattle.desk_core.specs.DeskRows.{HoldingRow as ToldHoldingRow};
-    ghost use Rattle.row_decoding.specs.Readings.{said_holding};
+    ghost use Rattle.row_decoding.specs.Readings.{holding_in_answer};
     ghost use Rattle.desk_core.specs.RowRecords.{holding_row};
 
     ghost Told = { ToldHoldingRow };
 
     ghost told = { holding_row };
 
-    ghost says = { said_holding };
+    ghost says = { holding_in_answer };
 
     fn read(row: &Row) -> Option<HoldingRow> {
         let container = number_in(cell(row, 0))?;
@@ -121,14 +121,14 @@ impl FromCells for HoldingRow {
 
 impl FromCells for RunRow {
     ghost use Rattle.desk_core.specs.DeskRows.{RunRow as ToldRunRow};
-    ghost use Rattle.row_decoding.specs.Readings.{said_run};
+    ghost use Rattle.row_decoding.specs.Readings.{run_in_answer};
     ghost use Rattle.desk_core.specs.RowRecords.{run_row};
 
     ghost Told = { ToldRunRow };
 
     ghost told = { run_row };
 
-    ghost says = { said_run };
+    ghost says = { run_in_answer };
 
     fn read(row: &Row) -> Option<RunRow> {
         let id = number_in(cell(row, 0))?;
@@ -139,14 +139,14 @@ impl FromCells for RunRow {
 
 impl FromCells for RunLineRow {
     ghost use Rattle.desk_core.specs.DeskRows.{RunLineRow as ToldRunLineRow};
-    ghost use Rattle.row_decoding.specs.Readings.{said_run_line};
+    ghost use Rattle.row_decoding.specs.Readings.{run_line_in_answer};
     ghost use Rattle.desk_core.specs.RowRecords.{run_line_row};
 
     ghost Told = { ToldRunLineRow };
 
     ghost told = { run_line_row };
 
-    ghost says = { said_run_line };
+    ghost says = { run_line_in_answer };
 
     fn read(row: &Row) -> Option<RunLineRow> {
         let run = number_in(cell(row, 0))?;

@@ -62,7 +62,7 @@ pub use Rattle.state_encoding.specs.CellSoundness.{AreLegibleRows, CellsDescribe
 pub use Rattle.state_encoding.specs.CellsOfOffices.{HasPlaces, HasTables, IsRead, IsRepresentedByTrees, IsTold, SoundOfficesAreRead, SoundOfficesAreTold, container_cells, element_cells, holding_cells, housing_cells, link_cells, order_cells, reader_cells, run_cells, run_line_cells, seat_cells, span_cells, unit_cells}
 pub use Rattle.state_encoding.specs.DeskEncoding.{OneRowChanges, ReadsBack, end_of, holding_row, holding_rows, lines_from, order_from, order_row, order_rows, past_in, permit_row, permit_rows, place_from, place_in, reader_from, reader_row, reader_rows, rows_from, run_line_row, run_line_rows, run_row, run_rows, seat_rows, seat_rows_from, state_number}
 pub use Rattle.state_encoding.specs.DeskSoundness.{HasGoodCatalogue, HasNoDeskCause, PassesAtTheDesk, PassingRowsAreSound, SoundTablesPass}
-pub use Rattle.state_encoding.specs.OfficeRows.{OfficeRows, SaysAllButUnits, SaysUnits, box_at, boxes_from, boxes_said, line_from, number_of, permits_said, run_from, seats_said, state_of, tables, unit_from, unit_said, values_said}
+pub use Rattle.state_encoding.specs.OfficeRows.{OfficeRows, SaysAllButUnits, SaysUnits, box_at, boxes_from, boxes_from_rows, line_from, number_of, permits_from_rows, run_from, seats_from_rows, state_of, tables, unit_from, unit_from_rows, values_from_rows}
 pub use Rattle.state_encoding.specs.RowSoundness.{HasNoCatalogueCause, HasNoCause, IsCatalogueOf, IsSoundCatalogue, SaysASoundState, SaysTheCatalogue}
 pub use Rattle.tree_core.proofs.EachLemmas.{nodes-each}
 pub use Rattle.tree_core.proofs.Linking.{held_without_fault, link_faultless, no_link_fault}

@@ -3,7 +3,7 @@ use Rattle.std.proofs.Common.{◌≡◌, ℕ, zero, suc, ◌<◌, ◌≤◌, Boo
 use Rattle.std.specs.Prelude.{nat_eq, map}
 use Rattle.std.proofs.lemmas.Grind.{flat_map-append}
 use Rattle.office_core.specs.Words.{stands}
-use Rattle.state_encoding.proofs.Common.{AllByRecursion, AreGoodPermits, IsSoundDesk, Line, Permit, PermitRow, Run, RunLineRow, SaysAllButUnits, SeatRow, State, Version, all_append, append-nil, box_from, cases_Bool, cases_eq, container_row, eq-eqb, false≢true, filter, filter-append, find, flat_map, flat_map-cons, fun_ext, is_some, line_from, lines_from, map-append, none_to, nth, numbered_from_one, numbered_within, numbers_to, option_map, other_number, permit_row, permit_rows, permits_said, rows_from, run_from, run_line_row, run_row, same_number, seat_rows_from, seats_said, stands-push}
+use Rattle.state_encoding.proofs.Common.{AllByRecursion, AreGoodPermits, IsSoundDesk, Line, Permit, PermitRow, Run, RunLineRow, SaysAllButUnits, SeatRow, State, Version, all_append, append-nil, box_from, cases_Bool, cases_eq, container_row, eq-eqb, false≢true, filter, filter-append, find, flat_map, flat_map-cons, fun_ext, is_some, line_from, lines_from, map-append, none_to, nth, numbered_from_one, numbered_within, numbers_to, option_map, other_number, permit_row, permit_rows, permits_from_rows, rows_from, run_from, run_line_row, run_row, same_number, seat_rows_from, seats_from_rows, stands-push}
 use Rattle.state_encoding.proofs.TableLaws.{rows_back, reads_back}
 
 -- ---- seats
@@ -33,19 +33,19 @@ nobody_at n (row ∷ rows) h =
     ap (λ b. cond b (Some row) (find (sits_at n) rows)) (other_number row.seat n (λ e. omega (arith, l, e))) ∙ nobody_at n rows h.1
 
 lower_row : (more m : ℕ) (row : SeatRow) (rows : List SeatRow) → row.seat < m
-    → seats_said more m (row ∷ rows) ≡ seats_said more m rows
+    → seats_from_rows more m (row ∷ rows) ≡ seats_from_rows more m rows
 lower_row zero m row rows h = refl
 lower_row (suc more) m row rows h =
-    ap (λ b. option_map (λ (r : SeatRow). r.ticket) (cond b (Some row) (find (sits_at m) rows)) ∷ seats_said more (suc m) (row ∷ rows)) (other_number row.seat m (λ e. omega (arith, h, e)))
+    ap (λ b. option_map (λ (r : SeatRow). r.ticket) (cond b (Some row) (find (sits_at m) rows)) ∷ seats_from_rows more (suc m) (row ∷ rows)) (other_number row.seat m (λ e. omega (arith, h, e)))
     ∙ ap (λ l. option_map (λ (r : SeatRow). r.ticket) (find (sits_at m) rows) ∷ l) (lower_row more (suc m) row rows (omega (arith, h)))
 
-pub seats_back : (n : ℕ) (seats : List (Option ℕ)) → seats_said (length seats) n (seat_rows_from n seats) ≡ seats
+pub seats_back : (n : ℕ) (seats : List (Option ℕ)) → seats_from_rows (length seats) n (seat_rows_from n seats) ≡ seats
 seats_back n [] = refl
 seats_back n (None ∷ seats) =
-    ap (λ r. option_map (λ (row : SeatRow). row.ticket) r ∷ seats_said (length seats) (suc n) (seat_rows_from (suc n) seats)) (nobody_at n (seat_rows_from (suc n) seats) (from_on (suc n) seats))
+    ap (λ r. option_map (λ (row : SeatRow). row.ticket) r ∷ seats_from_rows (length seats) (suc n) (seat_rows_from (suc n) seats)) (nobody_at n (seat_rows_from (suc n) seats) (from_on (suc n) seats))
     ∙ ap (λ l. None ∷ l) (seats_back (suc n) seats)
 seats_back n (Some t ∷ seats) =
-    ap (λ b. option_map (λ (row : SeatRow). row.ticket) (cond b (Some (record { seat = n; ticket = t })) (find (sits_at n) (seat_rows_from (suc n) seats))) ∷ seats_said (length seats) (suc n) (seat_rows_from n (Some t ∷ seats))) (same_number n)
+    ap (λ b. option_map (λ (row : SeatRow). row.ticket) (cond b (Some (record { seat = n; ticket = t })) (find (sits_at n) (seat_rows_from (suc n) seats))) ∷ seats_from_rows (length seats) (suc n) (seat_rows_from n (Some t ∷ seats))) (same_number n)
     ∙ ap (λ l. Some t ∷ l) (lower_row (length seats) (suc n) (record { seat = n; ticket = t }) (seat_rows_from (suc n) seats) (omega arith) ∙ seats_back (suc n) seats)
 
 -- ---- runs
@@ -111,7 +111,7 @@ permits_of : (permits : ℕ → List Permit) → ℕ → List PermitRow
 permits_of permits n = flat_map (λ t. map (permit_row t) (permits t)) (numbers_to n)
 
 own_permits : (t u : ℕ) (ps : List Permit) (b : Bool) → nat_eq u t ≡ b
-    → permits_said (map (permit_row u) ps) t ≡ cond b ps []
+    → permits_from_rows (map (permit_row u) ps) t ≡ cond b ps []
 own_permits t u [] true e = refl
 own_permits t u [] false e = refl
 own_permits t u (p ∷ ps) true e =
@@ -127,7 +127,7 @@ past_all (suc n) m h =
     stands-push m (suc n) (numbers_to n)
     ∙ (ap (λ b. b || nat_eq m (suc n)) (past_all n m (omega arith)) ∙ other_number m (suc n) (λ e. omega (arith, h, e)))
 
-said_parts : (xs ys : List PermitRow) (t : ℕ) → permits_said (xs ++ ys) t ≡ permits_said xs t ++ permits_said ys t
+said_parts : (xs ys : List PermitRow) (t : ℕ) → permits_from_rows (xs ++ ys) t ≡ permits_from_rows xs t ++ permits_from_rows ys t
 said_parts xs ys t =
     ap (map (λ (row : PermitRow). record { unit = row.unit; until = row.until })) (filter-append (of_ticket t) xs ys)
     ∙ map-append (λ (row : PermitRow). record { unit = row.unit; until = row.until }) (filter (of_ticket t) xs) (filter (of_ticket t) ys)
@@ -140,16 +140,16 @@ one_more permits n =
     ∙ ap (λ l. permits_of permits n ++ l) (flat_map-cons (λ t. map (permit_row t) (permits t)) (suc n) [] ∙ append-nil (map (permit_row (suc n)) (permits (suc n))))
 
 permits_all : (permits : ℕ → List Permit) (n t : ℕ)
-    → permits_said (permits_of permits n) t ≡ cond (stands t (numbers_to n)) (permits t) []
+    → permits_from_rows (permits_of permits n) t ≡ cond (stands t (numbers_to n)) (permits t) []
 unfolding permits_of
 permits_all permits zero t = refl
 permits_all permits (suc n) t =
-    ap (λ rows. permits_said rows t) (one_more permits n)
+    ap (λ rows. permits_from_rows rows t) (one_more permits n)
     ∙ (said_parts (permits_of permits n) (map (permit_row (suc n)) (permits (suc n))) t
-    ∙ (ap (λ l. l ++ permits_said (map (permit_row (suc n)) (permits (suc n))) t) (permits_all permits n t)
+    ∙ (ap (λ l. l ++ permits_from_rows (map (permit_row (suc n)) (permits (suc n))) t) (permits_all permits n t)
     ∙ elim (cases_eq t (suc n)) [
       | inl e ↦
-          ap (λ b. cond b (permits t) [] ++ permits_said (map (permit_row (suc n)) (permits (suc n))) t) (past_all n t (omega (arith, e)))
+          ap (λ b. cond b (permits t) [] ++ permits_from_rows (map (permit_row (suc n)) (permits (suc n))) t) (past_all n t (omega (arith, e)))
           ∙ (own_permits t (suc n) (permits (suc n)) true (eq-eqb (suc n) t (sym e))
           ∙ (ap permits (sym e) ∙ sym (ap (λ b. cond b (permits t) []) (stands-push t (suc n) (numbers_to n) ∙ (ap (λ b. b || nat_eq t (suc n)) (past_all n t (omega (arith, e))) ∙ eq-eqb t (suc n) e)))))
       | inr ne ↦
@@ -178,11 +178,11 @@ ticket_permits s t false e none = none_either (stands t (numbers_to (length s.re
 
 -- where only readers have permits
 pub permits_known : (s : State) → ((t : ℕ) → is_some (nth s.readers t) ≡ false → s.permits t ≡ [])
-    → permits_said (permit_rows s) ≡ s.permits
+    → permits_from_rows (permit_rows s) ≡ s.permits
 unfolding permits_of
 permits_known s none = fun_ext (λ t. permits_all s.permits (length s.readers) t ∙ ticket_permits s t (is_some (nth s.readers t)) refl (none t))
 
-pub permits_back : (s : State) → AreGoodPermits s → permits_said (permit_rows s) ≡ s.permits
+pub permits_back : (s : State) → AreGoodPermits s → permits_from_rows (permit_rows s) ≡ s.permits
 permits_back s g = permits_known s g.known
 
 -- ---- all of it but the forest
@@ -196,7 +196,7 @@ says_all_but_units version s g =
       next = refl;
       boxes = rows_back container_row box_from (λ n box. refl) 1 s.catalogue.containers;
       readers = r.readers;
-      seats = ap (λ n. seats_said n 1 (seat_rows_from 1 s.seats)) (sym g.seats.count) ∙ seats_back 1 s.seats;
+      seats = ap (λ n. seats_from_rows n 1 (seat_rows_from 1 s.seats)) (sym g.seats.count) ∙ seats_back 1 s.seats;
       orders = r.orders;
       runs = runs_back s.runs;
       places = r.places;

@@ -1,7 +1,7 @@
 -- Readers, seats and permits whose rows pass are sound, and show those rows again.
 use Rattle.std.proofs.Common.{◌≡◌, ◌≢◌, ℕ, zero, suc, ◌<◌, ◌≤◌, true, List, [], ◌∷◌, length, Option, Some, None, refl, sym, ap, ◌∙◌, subst, inl, inr, arith}
 use Rattle.std.specs.Prelude.{map, filter_map, nat_eq}
-use Rattle.state_encoding.proofs.Common.{AllByRecursion, AreGoodPermits, AreGoodReaders, AreGoodSeats, AreInOrder, ArePermitsOfUnits, ByUnit, IsDayNumber, MeetsDeskKeys, OfficeRows, Permit, PermitRow, Reader, ReaderRow, SeatRow, SitOnce, StandsIn, cons_option, count_by, eqb-true, false_from_ne_true, false≢true, filter, find, flat_map, fun_ext, has_unit, is_name, is_registered, is_seat_of, is_unit_there, length-filter, length-map, list_any, most_permits, numbered_from_one, numbered_within, numbers_from, numbers_to, option_map, permit_row, permit_rows, permits_said, reader_from, reader_row, reader_rows, seat_rows, seat_rows_from, seats_said, state_of}
+use Rattle.state_encoding.proofs.Common.{AllByRecursion, AreGoodPermits, AreGoodReaders, AreGoodSeats, AreInOrder, ArePermitsOfUnits, ByUnit, IsDayNumber, MeetsDeskKeys, OfficeRows, Permit, PermitRow, Reader, ReaderRow, SeatRow, SitOnce, StandsIn, cons_option, count_by, eqb-true, false_from_ne_true, false≢true, filter, find, flat_map, fun_ext, has_unit, is_name, is_registered, is_seat_of, is_unit_there, length-filter, length-map, list_any, most_permits, numbered_from_one, numbered_within, numbers_from, numbers_to, option_map, permit_row, permit_rows, permits_from_rows, reader_from, reader_row, reader_rows, seat_rows, seat_rows_from, seats_from_rows, state_of}
 use Rattle.state_encoding.proofs.Members.{all_of_in, some_in, in_map, in_filter, to_from}
 use Rattle.state_encoding.proofs.NumberedRows.{rows_again, numbered_in}
 use Rattle.state_encoding.proofs.DeskKeys.{PermitBefore}
@@ -10,7 +10,7 @@ use Rattle.state_encoding.proofs.DeskParts.{ReaderParts, said_ticket, said_by}
 
 -- ---- seats
 
-length-seats : (more n : ℕ) (rows : List SeatRow) → length (seats_said more n rows) ≡ more
+length-seats : (more n : ℕ) (rows : List SeatRow) → length (seats_from_rows more n rows) ≡ more
 length-seats zero n rows = refl
 length-seats (suc more) n rows = ap suc (length-seats more (suc n) rows)
 
@@ -23,7 +23,7 @@ ticket_found n u rows (Some row) e q =
     (row, f.0, eqb-true row.seat n f.1, cc)
 
 -- who sits has a row
-in_seats_said : (more n u : ℕ) (rows : List SeatRow) → StandsIn (Some u) (seats_said more n rows)
+in_seats_said : (more n u : ℕ) (rows : List SeatRow) → StandsIn (Some u) (seats_from_rows more n rows)
     → (row : SeatRow) × StandsIn row rows × (n ≤ row.seat) × (row.ticket ≡ u)
 in_seats_said zero n u rows k = absurd k
 in_seats_said (suc more) n u rows k =
@@ -42,23 +42,23 @@ is_their_seat : (u : ℕ) (x : Option ℕ) → is_seat_of u x ≡ true → x ≡
 is_their_seat u None e = absurd (false≢true e)
 is_their_seat u (Some v) e = ap Some (sym (eqb-true u v e))
 
-seated_row : (more n u : ℕ) (rows : List SeatRow) → list_any (is_seat_of u) (seats_said more n rows) ≡ true
+seated_row : (more n u : ℕ) (rows : List SeatRow) → list_any (is_seat_of u) (seats_from_rows more n rows) ≡ true
     → (row : SeatRow) × StandsIn row rows × (n ≤ row.seat) × (row.ticket ≡ u)
 seated_row more n u rows h =
-    let i = some_in (is_seat_of u) (seats_said more n rows) h in
-    in_seats_said more n u rows (subst (λ x. StandsIn x (seats_said more n rows)) (is_their_seat u i.0 i.2) i.1)
+    let i = some_in (is_seat_of u) (seats_from_rows more n rows) h in
+    in_seats_said more n u rows (subst (λ x. StandsIn x (seats_from_rows more n rows)) (is_their_seat u i.0 i.2) i.1)
 
 sit_once : (more n : ℕ) (rows : List SeatRow) → AreInOrder (λ (a b : SeatRow). a.ticket ≢ b.ticket) rows
-    → SitOnce (seats_said more n rows)
+    → SitOnce (seats_from_rows more n rows)
 sit_once zero n rows h = tt
 sit_once (suc more) n rows h = at (find (λ (row : SeatRow). nat_eq row.seat n) rows) refl (sit_once more (suc n) rows h)
   where
     at : (r : Option SeatRow) → find (λ (row : SeatRow). nat_eq row.seat n) rows ≡ r
-        → SitOnce (seats_said more (suc n) rows)
-        → SitOnce (option_map (λ (row : SeatRow). row.ticket) r ∷ seats_said more (suc n) rows)
+        → SitOnce (seats_from_rows more (suc n) rows)
+        → SitOnce (option_map (λ (row : SeatRow). row.ticket) r ∷ seats_from_rows more (suc n) rows)
     at None e k = k
     at (Some row) e k = (
-      false_from_ne_true (list_any (is_seat_of row.ticket) (seats_said more (suc n) rows)) (λ q.
+      false_from_ne_true (list_any (is_seat_of row.ticket) (seats_from_rows more (suc n) rows)) (λ q.
           let f = found (λ (row : SeatRow). nat_eq row.seat n) rows row e in
           let i = seated_row more (suc n) row.ticket rows q in
           let same = same_row (λ (row : SeatRow). row.ticket) rows row i.0 h f.0 i.1 (sym i.3) in
@@ -70,18 +70,18 @@ sit_once (suc more) n rows h = at (find (λ (row : SeatRow). nat_eq row.seat n) 
     )
 
 seats_found : (more n : ℕ) (rows : List SeatRow)
-    → seat_rows_from n (seats_said more n rows) ≡ filter_map (λ m. find (λ (row : SeatRow). nat_eq row.seat m) rows) (numbers_from n more)
+    → seat_rows_from n (seats_from_rows more n rows) ≡ filter_map (λ m. find (λ (row : SeatRow). nat_eq row.seat m) rows) (numbers_from n more)
 seats_found zero n rows = refl
 seats_found (suc more) n rows =
     at (find (λ (row : SeatRow). nat_eq row.seat n) rows) refl (seats_found more (suc n) rows)
   where
     at : (r : Option SeatRow) → find (λ (row : SeatRow). nat_eq row.seat n) rows ≡ r
-        → seat_rows_from (suc n) (seats_said more (suc n) rows) ≡ filter_map (λ m. find (λ (row : SeatRow). nat_eq row.seat m) rows) (numbers_from (suc n) more)
-        → seat_rows_from n (option_map (λ (row : SeatRow). row.ticket) r ∷ seats_said more (suc n) rows) ≡ cons_option r (filter_map (λ m. find (λ (row : SeatRow). nat_eq row.seat m) rows) (numbers_from (suc n) more))
+        → seat_rows_from (suc n) (seats_from_rows more (suc n) rows) ≡ filter_map (λ m. find (λ (row : SeatRow). nat_eq row.seat m) rows) (numbers_from (suc n) more)
+        → seat_rows_from n (option_map (λ (row : SeatRow). row.ticket) r ∷ seats_from_rows more (suc n) rows) ≡ cons_option r (filter_map (λ m. find (λ (row : SeatRow). nat_eq row.seat m) rows) (numbers_from (suc n) more))
     at None e ih = ih
     at (Some row) e ih =
         let f = found (λ (row : SeatRow). nat_eq row.seat n) rows row e in
-        ap (λ m. record { seat = m; ticket = row.ticket } ∷ seat_rows_from (suc n) (seats_said more (suc n) rows)) (sym (eqb-true row.seat n f.1))
+        ap (λ m. record { seat = m; ticket = row.ticket } ∷ seat_rows_from (suc n) (seats_from_rows more (suc n) rows)) (sym (eqb-true row.seat n f.1))
         ∙ ap (λ l. row ∷ l) ih
 
 -- ---- permits
@@ -167,7 +167,7 @@ module _ (t : OfficeRows) (k : MeetsDeskKeys t.desk) (p : ReaderParts t) where
         known = λ n e. ap (map (λ (row : PermitRow). (let permit : Permit = record { unit = row.unit; until = row.until } in permit))) (filter_none (λ (row : PermitRow). nat_eq row.ticket n) t.desk.permits (λ row l.
             false_from_ne_true (nat_eq row.ticket n) (λ q.
             false≢true (sym e ∙ (said_ticket t n p.numbered ∙ (ap (is_registered t.desk) (sym (eqb-true row.ticket n q)) ∙ (p.permits row l).ticket))))));
-        by_unit = λ n. by_unit (permits_said t.desk.permits n) (order-map PermitBefore (λ (a b : Permit). a.unit < b.unit) (λ (row : PermitRow). record { unit = row.unit; until = row.until }) (mine n) (λ a b l m h. elim h [
+        by_unit = λ n. by_unit (permits_from_rows t.desk.permits n) (order-map PermitBefore (λ (a b : Permit). a.unit < b.unit) (λ (row : PermitRow). record { unit = row.unit; until = row.until }) (mine n) (λ a b l m h. elim h [
           | inl less ↦ (let x = (is_mine n a l).1 in let y = (is_mine n b m).1 in absurd (omega (arith, x, y, less)))
           | inr same ↦ same.1
         ]) (order-filter PermitBefore (λ (row : PermitRow). nat_eq row.ticket n) t.desk.permits k.permits));
@@ -179,9 +179,9 @@ module _ (t : OfficeRows) (k : MeetsDeskKeys t.desk) (p : ReaderParts t) where
 
   each_permit : (P : Permit → Type 0)
       → ((row : PermitRow) → StandsIn row t.desk.permits → P (record { unit = row.unit; until = row.until }))
-      → (ticket : ℕ) → AllByRecursion P (permits_said t.desk.permits ticket)
+      → (ticket : ℕ) → AllByRecursion P (permits_from_rows t.desk.permits ticket)
   each_permit P f ticket =
-      all_of_in P (permits_said t.desk.permits ticket) (λ permit l.
+      all_of_in P (permits_from_rows t.desk.permits ticket) (λ permit l.
       let i = in_map (λ (row : PermitRow). (let permit : Permit = record { unit = row.unit; until = row.until } in permit)) (mine ticket) permit l in
       subst P (sym i.2) (f i.0 (is_mine ticket i.0 i.1).0))
 

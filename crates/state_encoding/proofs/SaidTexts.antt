@@ -4,7 +4,7 @@ use Rattle.std.specs.Prelude.{unwrap_or, false}
 use Rattle.std.proofs.lemmas.Str.{IsUtf8-nil}
 use Rattle.isad_core.specs.LegibleValues.{IsLegibleBox, AreLegibleValues}
 use Rattle.catalogue_core.specs.LegibleCatalogues.{HasLegibleTexts}
-use Rattle.state_encoding.proofs.Common.{AllByRecursion, AreLegibleRows, AreTexts, BoxKey, Bytes, ContainerRow, ElementRow, HousingRow, IfSome, In, IsLegibleContainerRow, IsLegibleUnitRow, OfficeRows, ReaderRow, UnitRow, after_level, box_at, box_from, boxes_from, cons_option, find, find_some, housings_of, nodes, nodes-each, nth, numbers_from, option_map, places_said, reader_from, state_of, text_said, unit_from, unit_said, values_said}
+use Rattle.state_encoding.proofs.Common.{AllByRecursion, AreLegibleRows, AreTexts, BoxKey, Bytes, ContainerRow, ElementRow, HousingRow, IfSome, In, IsLegibleContainerRow, IsLegibleUnitRow, OfficeRows, ReaderRow, UnitRow, after_level, box_at, box_from, boxes_from, cons_option, find, find_some, housings_of, nodes, nodes-each, nth, numbers_from, option_map, places_said, reader_from, state_of, text_said, unit_from, unit_from_rows, values_from_rows}
 use Rattle.state_encoding.proofs.RowsByNumber.{each_in}
 use Rattle.state_encoding.proofs.NumberedRows.{numbered_in}
 
@@ -57,7 +57,7 @@ module _ (t : OfficeRows) (l : AreLegibleRows t) where
   boxes : AllByRecursion IsLegibleBox (map box_from t.catalogue.containers)
   boxes = boxes_legible t.catalogue.containers l.containers
 
-  values_legible : (u : ℕ) (level : Bytes) → IsUtf8 level → AreLegibleValues (values_said t.catalogue u level)
+  values_legible : (u : ℕ) (level : Bytes) → IsUtf8 level → AreLegibleValues (values_from_rows t.catalogue u level)
   values_legible u level h =
       record {
         level = h;
@@ -65,17 +65,17 @@ module _ (t : OfficeRows) (l : AreLegibleRows t) where
         boxes = own_boxes_legible (map box_from t.catalogue.containers) (housings_of u t.catalogue.housings) 1 (length (housings_of u t.catalogue.housings)) boxes;
       }
 
-  unit_legible : (u : ℕ) → HasLegibleTexts (unit_said t.catalogue u)
+  unit_legible : (u : ℕ) → HasLegibleTexts (unit_from_rows t.catalogue u)
   unit_legible u = at (find (λ (row : UnitRow). nat_eq row.id u) t.catalogue.units) refl
     where
       at : (r : Option UnitRow) → find (λ (row : UnitRow). nat_eq row.id u) t.catalogue.units ≡ r
-          → HasLegibleTexts (unwrap_or (option_map (unit_from t.catalogue) r) (record { id = u; source = []; legacy = []; values = values_said t.catalogue u []; draft = false; until = None }))
+          → HasLegibleTexts (unwrap_or (option_map (unit_from t.catalogue) r) (record { id = u; source = []; legacy = []; values = values_from_rows t.catalogue u []; draft = false; until = None }))
       at None e = record { source = IsUtf8-nil; legacy = IsUtf8-nil; values = values_legible u [] IsUtf8-nil }
       at (Some row) e =
           let texts = each_in IsLegibleUnitRow t.catalogue.units row l.units (find_some (λ (row : UnitRow). nat_eq row.id u) t.catalogue.units row e).0 in
           record { source = texts.source; legacy = texts.legacy; values = values_legible row.id row.level texts.level }
 
-  units_legible : (us : List ℕ) → AllByRecursion HasLegibleTexts (map (unit_said t.catalogue) us)
+  units_legible : (us : List ℕ) → AllByRecursion HasLegibleTexts (map (unit_from_rows t.catalogue) us)
   units_legible [] = tt
   units_legible (u ∷ us) = (unit_legible u, units_legible us)
 
@@ -85,7 +85,7 @@ module _ (t : OfficeRows) (l : AreLegibleRows t) where
         country = l.country;
         repo = l.repo;
         catalogue = record {
-          units = subst (AllByRecursion HasLegibleTexts) (sym (nodes-each (unit_said t.catalogue) (places_said t.catalogue.places))) (units_legible (nodes (places_said t.catalogue.places)));
+          units = subst (AllByRecursion HasLegibleTexts) (sym (nodes-each (unit_from_rows t.catalogue) (places_said t.catalogue.places))) (units_legible (nodes (places_said t.catalogue.places)));
           containers = boxes;
         };
         readers = readers_said t.desk.readers l.readers;

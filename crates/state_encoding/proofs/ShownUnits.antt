@@ -9,7 +9,7 @@ use Rattle.catalogue_core.proofs.NodeLemmas.{length-nodes}
 use Rattle.office_core.specs.Words.{stands}
 use Rattle.catalogue_core.specs.Sources.{is_between}
 use Rattle.catalogue_core.proofs.Heights.{height-each}
-use Rattle.state_encoding.proofs.Common.{AllByRecursion, Forest, In, IsGoodUnit, IsPermutation-refl, IsSomeDay, IsSoundCatalogue, Links, OfficeRow, Spans, State, TreeEncoding, Unit, UnitRow, Version, all_stand_in, and_from, any_from_In, are_good_places, are_good_units, each, encoding, faultless, height, is_blank_text, is_country, is_day_number, is_day_number-true, is_good_link, is_good_office, is_good_span, is_good_unit_row, is_named_alike, is_repository, is_same_unit, is_some, is_some_day, is_source, is_unit_number, le-leb, leb-true, length-map, link_faultless, list_all, list_all-map, lt-ltb, most_bytes, most_daily, most_deep, most_hands, most_run_size, most_seats, most_unit_numbers, most_units, nat_le, no_fault, no_link_fault, nodes, nodes-each, not_from_false, number, number_of, place_numbers, place_rows, places_said, same_number, siblings, size, tables, unit_numbers, unit_row, unit_said, version_number}
+use Rattle.state_encoding.proofs.Common.{AllByRecursion, Forest, In, IsGoodUnit, IsPermutation-refl, IsSomeDay, IsSoundCatalogue, Links, OfficeRow, Spans, State, TreeEncoding, Unit, UnitRow, Version, all_stand_in, and_from, any_from_In, are_good_places, are_good_units, each, encoding, faultless, height, is_blank_text, is_country, is_day_number, is_day_number-true, is_good_link, is_good_office, is_good_span, is_good_unit_row, is_named_alike, is_repository, is_same_unit, is_some, is_some_day, is_source, is_unit_number, le-leb, leb-true, length-map, link_faultless, list_all, list_all-map, lt-ltb, most_bytes, most_daily, most_deep, most_hands, most_run_size, most_seats, most_unit_numbers, most_units, nat_le, no_fault, no_link_fault, nodes, nodes-each, not_from_false, number, number_of, place_numbers, place_rows, places_said, same_number, siblings, size, tables, unit_from_rows, unit_numbers, unit_row, version_number}
 use Rattle.state_encoding.proofs.UnitRows.{units_back}
 use Rattle.state_encoding.proofs.RowsByNumber.{in_all, each_in, in_map}
 use Rattle.state_encoding.proofs.PlaceNumbers.{links_numbered, spans_numbered}
@@ -123,7 +123,7 @@ units_shown version s g =
     subst (λ n. is_unit_number n ≡ true) r.is (between 1 most_unit_numbers r.it.id given.0 (omega (arith, given, next))) in
     let t = tables version s in
     let same_height : height (places_said t.catalogue.places) ≡ height s.catalogue.forest =
-    sym (height-each (unit_said t.catalogue) (places_said t.catalogue.places))
+    sym (height-each (unit_from_rows t.catalogue) (places_said t.catalogue.places))
     ∙ ap (λ g. height g) (units_back version s g.units.ids g.units.each) in
     let deep : height (places_said t.catalogue.places) ≤ most_deep =
     subst (λ n. n ≤ most_deep) (sym same_height) g.units.depth in

@@ -4,7 +4,7 @@ use Rattle.std.specs.Prelude.{nat_eq, nat_lt, map, filter_map, unwrap_or}
 use Rattle.std.specs.List.{IsDistinct}
 use Rattle.isad_core.specs.Boxes.{is_same as is_same_box}
 use Rattle.catalogue_core.specs.CatalogueMerge.{number_in}
-use Rattle.state_encoding.proofs.Common.{AllByRecursion, BoxKey, Bytes, ElementRow, Empty, Forest, HousingRow, IsGoodUnit, IsPermutation-refl, Links, Node, OfficeRows, SaysUnits, Spans, State, TreeEncoding, Unit, UnitRow, Version, after_level, and_parts, box_at, box_from, box_itself, box_number, boxes_from, boxes_said, cons_option, container_row, each, element_rows_from, encoding, false≢true, filter, filter-append, find, flat_map, flat_map-cons, fun_ext, housing_row, list_all, list_any, nodes, nodes-each, nth, number_of, numbers_from, option_map, or_cases, other_number, place_rows, places_said, rows_from, same_box, same_number, siblings, slice_get, tables, text_said, unit_from, unit_row, unit_said, values_said}
+use Rattle.state_encoding.proofs.Common.{AllByRecursion, BoxKey, Bytes, ElementRow, Empty, Forest, HousingRow, IsGoodUnit, IsPermutation-refl, Links, Node, OfficeRows, SaysUnits, Spans, State, TreeEncoding, Unit, UnitRow, Version, after_level, and_parts, box_at, box_from, box_itself, box_number, boxes_from, boxes_from_rows, cons_option, container_row, each, element_rows_from, encoding, false≢true, filter, filter-append, find, flat_map, flat_map-cons, fun_ext, housing_row, list_all, list_any, nodes, nodes-each, nth, number_of, numbers_from, option_map, or_cases, other_number, place_rows, places_said, rows_from, same_box, same_number, siblings, slice_get, tables, text_said, unit_from, unit_from_rows, unit_row, values_from_rows}
 use Rattle.state_encoding.proofs.TableLaws.{rows_back}
 use Rattle.state_encoding.proofs.Nested.{spans_say}
 use Rattle.state_encoding.proofs.Linked.{links_say}
@@ -205,18 +205,18 @@ pub record HasRows (t : OfficeRows) (boxes : List BoxKey) (u : Unit) : Type 0 wh
   pub housings : filter (λ (r : HousingRow). nat_eq r.unit u.id) t.catalogue.housings ≡ rows_from (housing_row boxes u.id) 1 u.values.boxes
 
 pub unit_back : (t : OfficeRows) (boxes : List BoxKey) (u : Unit) → map box_from t.catalogue.containers ≡ boxes
-    → HasRows t boxes u → IsGoodUnit boxes u → unit_said t.catalogue u.id ≡ u
+    → HasRows t boxes u → IsGoodUnit boxes u → unit_from_rows t.catalogue u.id ≡ u
 unit_back t boxes u c h g =
     let texts : map (text_said t.catalogue.elements u.id) (numbers_from 1 25) ≡ u.values.texts =
     ap (λ f. map f (numbers_from 1 25)) (fun_ext (λ k. ap (option_map (λ (row : ElementRow). row.value)) (found_kept (λ (row : ElementRow). nat_eq row.unit u.id) (λ (row : ElementRow). nat_eq row.k (after_level k)) t.catalogue.elements) ∙ ap (value_at k) h.elements))
     ∙ (ap (λ n. map (λ m. value_at m (element_rows_from u.id 1 u.values.texts)) (numbers_from 1 n)) (sym g.texts_count) ∙ texts_back u.id 1 u.values.texts) in
-    let bs : boxes_said (map box_from t.catalogue.containers) t.catalogue.housings u.id ≡ u.values.boxes =
-    ap (λ k. boxes_said k t.catalogue.housings u.id) c
+    let bs : boxes_from_rows (map box_from t.catalogue.containers) t.catalogue.housings u.id ≡ u.values.boxes =
+    ap (λ k. boxes_from_rows k t.catalogue.housings u.id) c
     ∙ (ap (λ mine. boxes_from boxes mine 1 (length mine)) h.housings
     ∙ (ap (λ n. boxes_from boxes (rows_from (housing_row boxes u.id) 1 u.values.boxes) 1 n) (length-rows boxes u.id 1 u.values.boxes) ∙ boxes_back boxes u.id 1 u.values.boxes g.known)) in
-    let none : Unit = record { id = u.id; source = []; legacy = []; values = values_said t.catalogue u.id []; draft = false; until = None } in
+    let none : Unit = record { id = u.id; source = []; legacy = []; values = values_from_rows t.catalogue u.id []; draft = false; until = None } in
     ap (λ r. unwrap_or (option_map (unit_from t.catalogue) r) none) h.row
-    ∙ (ap (λ x. record u { values = record { level = u.values.level; texts = x; boxes = boxes_said (map box_from t.catalogue.containers) t.catalogue.housings u.id } }) texts
+    ∙ (ap (λ x. record u { values = record { level = u.values.level; texts = x; boxes = boxes_from_rows (map box_from t.catalogue.containers) t.catalogue.housings u.id } }) texts
     ∙ ap (λ x. record u { values = record { level = u.values.level; texts = u.values.texts; boxes = x } }) bs)
 
 -- ---- all of them
@@ -265,7 +265,7 @@ pub units_back : (version : Version) (s : State) → IsDistinct nat_eq (map numb
 units_back version s d g =
     let t = tables version s in
     let c = rows_back container_row box_from (λ n box. refl) 1 s.catalogue.containers in
-    ap (each (unit_said t.catalogue)) (places_back (encoding version) s.catalogue.forest d)
-    ∙ (each_each number_of (unit_said t.catalogue) s.catalogue.forest
-    ∙ each_same (λ u. unit_said t.catalogue u.id) s.catalogue.forest
-    (all_two (HasRows t s.catalogue.containers) (IsGoodUnit s.catalogue.containers) (λ u. unit_said t.catalogue u.id ≡ u) (λ u h k. unit_back t s.catalogue.containers u c h k) (nodes s.catalogue.forest) (all_rows version s d) g))
+    ap (each (unit_from_rows t.catalogue)) (places_back (encoding version) s.catalogue.forest d)
+    ∙ (each_each number_of (unit_from_rows t.catalogue) s.catalogue.forest
+    ∙ each_same (λ u. unit_from_rows t.catalogue u.id) s.catalogue.forest
+    (all_two (HasRows t s.catalogue.containers) (IsGoodUnit s.catalogue.containers) (λ u. unit_from_rows t.catalogue u.id ≡ u) (λ u h k. unit_back t s.catalogue.containers u c h k) (nodes s.catalogue.forest) (all_rows version s d) g))

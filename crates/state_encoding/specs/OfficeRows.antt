@@ -71,15 +71,15 @@ boxes_from boxes mine n more =
     filter_map (λ m. box_at boxes (find (λ (row : HousingRow). nat_eq row.ord m) mine)) (numbers_from n more)
 
 -- the containers of a unit, in the unit's order
-abbrev pub boxes_said : List BoxKey → List HousingRow → ℕ → List BoxKey
-boxes_said boxes housings u = boxes_from boxes (housings_of u housings) 1 (length (housings_of u housings))
+abbrev pub boxes_from_rows : List BoxKey → List HousingRow → ℕ → List BoxKey
+boxes_from_rows boxes housings u = boxes_from boxes (housings_of u housings) 1 (length (housings_of u housings))
 
-abbrev pub values_said : CatalogueRows → ℕ → Bytes → Values
-values_said c u level =
+abbrev pub values_from_rows : CatalogueRows → ℕ → Bytes → Values
+values_from_rows c u level =
     record {
       level = level;
       texts = map (text_said c.elements u) (numbers_from 1 25);
-      boxes = boxes_said (map box_from c.containers) c.housings u;
+      boxes = boxes_from_rows (map box_from c.containers) c.housings u;
     }
 
 abbrev pub unit_from : CatalogueRows → UnitRow → Unit
@@ -88,22 +88,22 @@ unit_from c row =
       id = row.id;
       source = row.source;
       legacy = row.legacy;
-      values = values_said c row.id row.level;
+      values = values_from_rows c row.id row.level;
       draft = row.draft;
       until = row.until;
     }
 
 -- the unit with this number, or an empty one if no row has the number
-abbrev pub unit_said : CatalogueRows → ℕ → Unit
-unit_said c u =
+abbrev pub unit_from_rows : CatalogueRows → ℕ → Unit
+unit_from_rows c u =
     unwrap_or (option_map (unit_from c) (find (λ (row : UnitRow). nat_eq row.id u) c.units))
-    (record { id = u; source = []; legacy = []; values = values_said c u []; draft = false; until = None })
+    (record { id = u; source = []; legacy = []; values = values_from_rows c u []; draft = false; until = None })
 
 -- who sits on each seat from n on; the first number is the count of seats
-abbrev pub seats_said : ℕ → ℕ → List SeatRow → List (Option ℕ)
-seats_said zero n rows = []
-seats_said (suc more) n rows =
-    option_map (λ (row : SeatRow). row.ticket) (find (λ (row : SeatRow). nat_eq row.seat n) rows) ∷ seats_said more (suc n) rows
+abbrev pub seats_from_rows : ℕ → ℕ → List SeatRow → List (Option ℕ)
+seats_from_rows zero n rows = []
+seats_from_rows (suc more) n rows =
+    option_map (λ (row : SeatRow). row.ticket) (find (λ (row : SeatRow). nat_eq row.seat n) rows) ∷ seats_from_rows more (suc n) rows
 
 abbrev pub line_from : RunLineRow → Line
 line_from row = record { container = row.container; order = row.order_no; ticket = row.ticket }
@@ -112,8 +112,8 @@ abbrev pub run_from : List RunLineRow → RunRow → Run
 run_from lines row =
     record { day = row.day; lines = map line_from (filter (λ (line : RunLineRow). nat_eq line.run row.id) lines) }
 
-abbrev pub permits_said : List PermitRow → ℕ → List Permit
-permits_said rows t =
+abbrev pub permits_from_rows : List PermitRow → ℕ → List Permit
+permits_from_rows rows t =
     map (λ (row : PermitRow). record { unit = row.unit; until = row.until }) (filter (λ (row : PermitRow). nat_eq row.ticket t) rows)
 
 abbrev pub state_of : OfficeRows → State
@@ -129,18 +129,18 @@ state_of t =
       };
       day = t.office.day;
       catalogue = record {
-        forest = each (unit_said t.catalogue) (places_said t.catalogue.places);
+        forest = each (unit_from_rows t.catalogue) (places_said t.catalogue.places);
         containers = map box_from t.catalogue.containers;
         next = t.office.next_unit;
       };
       readers = map reader_from t.desk.readers;
-      seats = seats_said t.office.seats 1 t.desk.seats;
+      seats = seats_from_rows t.office.seats 1 t.desk.seats;
       orders = map order_from t.desk.orders;
       runs = map (run_from t.desk.run_lines) t.desk.runs;
       place = place_in t.desk.holdings;
       queue = λ c. waiting_for c t.desk.orders;
       past = past_in t.desk.orders;
-      permits = permits_said t.desk.permits;
+      permits = permits_from_rows t.desk.permits;
     }
 
 -- ---- what is read back from the rows of a state: all of it but the forest

@@ -55,12 +55,12 @@ abbrev pub worked_cause : OfficeRows → Option ℕ
 worked_cause t = cause First t
 
 -- the first cause if the office's catalogue has these rows
-abbrev pub told_with : CatalogueRows → Option ℕ
-told_with rows = worked_cause (record sound { catalogue = rows })
+abbrev pub cause_with : CatalogueRows → Option ℕ
+cause_with rows = worked_cause (record sound { catalogue = rows })
 
 -- the same in version 2
-abbrev pub told_of_spans : CatalogueRows → Option ℕ
-told_of_spans rows = cause Second (record nested_rows { catalogue = rows })
+abbrev pub cause_of_spans : CatalogueRows → Option ℕ
+cause_of_spans rows = cause Second (record nested_rows { catalogue = rows })
 
 pub record Told : Type 0 where
   pub nothing : worked_cause sound ≡ None
@@ -73,39 +73,39 @@ pub record Told : Type 0 where
   pub day_after_the_last : worked_cause (record sound { office = record sound.office { day = year_10000 } }) ≡ Some 1
   pub next_past_the_last : worked_cause (record sound { office = record sound.office { next_unit = 100000002 } }) ≡ Some 1
   -- the places
-  pub not_from_one : told_with (record catalogue { places = LinkRows (link 1 None 2 ∷ []) }) ≡ Some 2
-  pub no_parent : told_with (record catalogue { places = LinkRows (link 1 (Some 9) 1 ∷ []) }) ≡ Some 2
-  pub gap : told_of_spans (record catalogue { places = SpanRows (span 1 1 3 ∷ []) }) ≡ Some 2
-  pub places_of_the_other_version : told_of_spans (record catalogue { places = LinkRows (link 1 None 1 ∷ []) }) ≡ Some 2
-  pub place_number_0 : told_with (record catalogue { units = record plans { id = 0 } ∷ []; places = LinkRows (link 0 None 1 ∷ []); elements = []; housings = [] }) ≡ Some 2
-  pub place_past_the_last_number : told_with (record catalogue { places = LinkRows (link (suc most_unit_numbers) None 1 ∷ []) }) ≡ Some 2
-  pub below_number_0 : told_with (record catalogue { places = LinkRows (link 1 (Some 0) 1 ∷ []) }) ≡ Some 2
-  pub ord_past_32_bits : told_with (record catalogue { places = LinkRows (link 1 None (2 ^ 32) ∷ []) }) ≡ Some 2
-  pub span_number_0 : told_of_spans (record catalogue { units = record plans { id = 0 } ∷ []; places = SpanRows (span 0 1 2 ∷ []); elements = []; housings = [] }) ≡ Some 2
-  pub span_past_the_last_number : told_of_spans (record catalogue { places = SpanRows (span (suc most_unit_numbers) 1 2 ∷ []) }) ≡ Some 2
-  pub lft_past_32_bits : told_of_spans (record catalogue { places = SpanRows (span 1 (2 ^ 32) (2 ^ 32 + 1) ∷ []) }) ≡ Some 2
-  pub rgt_past_32_bits : told_of_spans (record catalogue { places = SpanRows (span 1 1 (2 ^ 32) ∷ []) }) ≡ Some 2
+  pub not_from_one : cause_with (record catalogue { places = LinkRows (link 1 None 2 ∷ []) }) ≡ Some 2
+  pub no_parent : cause_with (record catalogue { places = LinkRows (link 1 (Some 9) 1 ∷ []) }) ≡ Some 2
+  pub gap : cause_of_spans (record catalogue { places = SpanRows (span 1 1 3 ∷ []) }) ≡ Some 2
+  pub places_of_the_other_version : cause_of_spans (record catalogue { places = LinkRows (link 1 None 1 ∷ []) }) ≡ Some 2
+  pub place_number_0 : cause_with (record catalogue { units = record plans { id = 0 } ∷ []; places = LinkRows (link 0 None 1 ∷ []); elements = []; housings = [] }) ≡ Some 2
+  pub place_past_the_last_number : cause_with (record catalogue { places = LinkRows (link (suc most_unit_numbers) None 1 ∷ []) }) ≡ Some 2
+  pub below_number_0 : cause_with (record catalogue { places = LinkRows (link 1 (Some 0) 1 ∷ []) }) ≡ Some 2
+  pub ord_past_32_bits : cause_with (record catalogue { places = LinkRows (link 1 None (2 ^ 32) ∷ []) }) ≡ Some 2
+  pub span_number_0 : cause_of_spans (record catalogue { units = record plans { id = 0 } ∷ []; places = SpanRows (span 0 1 2 ∷ []); elements = []; housings = [] }) ≡ Some 2
+  pub span_past_the_last_number : cause_of_spans (record catalogue { places = SpanRows (span (suc most_unit_numbers) 1 2 ∷ []) }) ≡ Some 2
+  pub lft_past_32_bits : cause_of_spans (record catalogue { places = SpanRows (span 1 (2 ^ 32) (2 ^ 32 + 1) ∷ []) }) ≡ Some 2
+  pub rgt_past_32_bits : cause_of_spans (record catalogue { places = SpanRows (span 1 1 (2 ^ 32) ∷ []) }) ≡ Some 2
   -- the units
-  pub unit_without_a_place : told_with (record catalogue { places = LinkRows [] }) ≡ Some 3
-  pub place_without_a_unit : told_with (record catalogue { places = LinkRows (link 1 None 1 ∷ link 2 (Some 1) 1 ∷ []) }) ≡ Some 3
+  pub unit_without_a_place : cause_with (record catalogue { places = LinkRows [] }) ≡ Some 3
+  pub place_without_a_unit : cause_with (record catalogue { places = LinkRows (link 1 None 1 ∷ link 2 (Some 1) 1 ∷ []) }) ≡ Some 3
   pub next_is_there : worked_cause (record sound { office = record sound.office { next_unit = 1 } }) ≡ Some 3
-  pub no_source : told_with (record catalogue { units = record plans { source = codes "a b" } ∷ [] }) ≡ Some 3
-  pub blank_number : told_with (record catalogue { units = record plans { legacy = codes " " } ∷ [] }) ≡ Some 3
-  pub number_too_long : told_with (record catalogue { units = record plans { legacy = replicate (suc most_bytes) 49 } ∷ [] }) ≡ Some 3
-  pub level_too_long : told_with (record catalogue { units = record plans { level = replicate (suc most_bytes) 49 } ∷ [] }) ≡ Some 3
-  pub closed_until_no_day : told_with (record catalogue { units = record plans { until = Some year_10000 } ∷ [] }) ≡ Some 3
+  pub no_source : cause_with (record catalogue { units = record plans { source = codes "a b" } ∷ [] }) ≡ Some 3
+  pub blank_number : cause_with (record catalogue { units = record plans { legacy = codes " " } ∷ [] }) ≡ Some 3
+  pub number_too_long : cause_with (record catalogue { units = record plans { legacy = replicate (suc most_bytes) 49 } ∷ [] }) ≡ Some 3
+  pub level_too_long : cause_with (record catalogue { units = record plans { level = replicate (suc most_bytes) 49 } ∷ [] }) ≡ Some 3
+  pub closed_until_no_day : cause_with (record catalogue { units = record plans { until = Some year_10000 } ∷ [] }) ≡ Some 3
   pub as_deep_as_may_be : worked_cause (deep most_deep) ≡ None
   pub too_deep : worked_cause (deep (suc most_deep)) ≡ Some 3
   -- the elements
-  pub level_as_an_element : told_with (record catalogue { elements = record title { k = 4 } ∷ [] }) ≡ Some 4
-  pub after_the_last : told_with (record catalogue { elements = record title { k = 27 } ∷ [] }) ≡ Some 4
-  pub blank_title : told_with (record catalogue { elements = record title { value = codes "  " } ∷ [] }) ≡ Some 4
-  pub title_of_no_unit : told_with (record catalogue { elements = title ∷ record title { unit = 2 } ∷ [] }) ≡ Some 4
+  pub level_as_an_element : cause_with (record catalogue { elements = record title { k = 4 } ∷ [] }) ≡ Some 4
+  pub after_the_last : cause_with (record catalogue { elements = record title { k = 27 } ∷ [] }) ≡ Some 4
+  pub blank_title : cause_with (record catalogue { elements = record title { value = codes "  " } ∷ [] }) ≡ Some 4
+  pub title_of_no_unit : cause_with (record catalogue { elements = title ∷ record title { unit = 2 } ∷ [] }) ≡ Some 4
   -- the containers
-  pub container_left_out : told_with (record catalogue { containers = box_1 ∷ box_2 ∷ record { id = 4; name = codes "Box 4"; location = []; kind = [] } ∷ [] }) ≡ Some 5
-  pub container_without_a_name : told_with (record catalogue { containers = box_1 ∷ record box_2 { name = codes " " } ∷ [] }) ≡ Some 5
-  pub in_no_container : told_with (record catalogue { housings = in_box_1 ∷ record in_box_2 { container = 3 } ∷ [] }) ≡ Some 5
-  pub of_no_unit : told_with (record catalogue { housings = in_box_1 ∷ in_box_2 ∷ record { unit = 2; ord = 1; container = 2 } ∷ [] }) ≡ Some 5
-  pub place_left_out : told_with (record catalogue { housings = in_box_1 ∷ record in_box_2 { ord = 3 } ∷ [] }) ≡ Some 5
+  pub container_left_out : cause_with (record catalogue { containers = box_1 ∷ box_2 ∷ record { id = 4; name = codes "Box 4"; location = []; kind = [] } ∷ [] }) ≡ Some 5
+  pub container_without_a_name : cause_with (record catalogue { containers = box_1 ∷ record box_2 { name = codes " " } ∷ [] }) ≡ Some 5
+  pub in_no_container : cause_with (record catalogue { housings = in_box_1 ∷ record in_box_2 { container = 3 } ∷ [] }) ≡ Some 5
+  pub of_no_unit : cause_with (record catalogue { housings = in_box_1 ∷ in_box_2 ∷ record { unit = 2; ord = 1; container = 2 } ∷ [] }) ≡ Some 5
+  pub place_left_out : cause_with (record catalogue { housings = in_box_1 ∷ record in_box_2 { ord = 3 } ∷ [] }) ≡ Some 5
   -- of two causes, the first is found
-  pub two_causes : told_with (record catalogue { elements = []; units = record plans { source = [] } ∷ []; containers = [] }) ≡ Some 3
+  pub two_causes : cause_with (record catalogue { elements = []; units = record plans { source = [] } ∷ []; containers = [] }) ≡ Some 3

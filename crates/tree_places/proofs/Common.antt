@@ -45,7 +45,7 @@ pub use Rattle.tree_core.specs.Tops.{below_first, last_but_one, part_below, righ
 pub use Rattle.tree_core.specs.declared.marks.Mark.{Mark}
 pub use Rattle.tree_core.specs.declared.rows.Link.{Link}
 pub use Rattle.tree_core.specs.declared.rows.Span.{Span}
-pub use Rattle.tree_places.specs.Attachments.{AreBranchMarks, AreMarksOf, AreMarksOfEach, ArePathMarks, AreRowsOf, AreThere, IsOfUnit, NeedsNoPath, branch_told, is_plain_leaf, unboxed_leaf, without_containers}
+pub use Rattle.tree_places.specs.Attachments.{AreBranchMarks, AreMarksOf, AreMarksOfEach, ArePathMarks, AreRowsOf, AreThere, IsOfUnit, NeedsNoPath, branch_answer, is_plain_leaf, unboxed_leaf, without_containers}
 pub use Rattle.tree_places.specs.LastPlaces.{KnowsLast, last_known, taken_below}
 pub use Rattle.tree_places.specs.LinkForests.{HoldsForest}
 pub use Rattle.tree_places.specs.MarkLookUps.{HoldsHousedUnits, HoldsUnits, Members, ids_of}

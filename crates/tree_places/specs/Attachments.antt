@@ -36,12 +36,12 @@ AreAttachedRows stands c container rows = AreRowsOf stands (each (λ (u : Unit).
 abbrev pub without_containers : Mark → Mark
 without_containers mark = record mark { boxed = false }
 
--- The marks of a path, in order. Neither their numbers nor `boxed` have a meaning: what withholds the last unit of a path
+-- The marks of a path, in order. `lft`, `rgt` and `boxed` have no meaning: what withholds the last unit of a path
 -- is on the path, whatever lies in which container.
 abbrev pub ArePathMarks : List Unit → List Mark → Type 0
 ArePathMarks units marks = map without_containers (map without_number marks) ≡ map without_containers (map mark_of units)
 
--- Whether nothing is below its unit, which is neither a draft nor closed. What withholds such a unit withholds the one
+-- Whether nothing is below its unit, which is no draft and has no closure. What withholds such a unit withholds the one
 -- above it, too.
 abbrev pub is_plain_leaf : Mark → Bool
 is_plain_leaf mark = not mark.draft && (is_none mark.until && nat_eq (mark.rgt - mark.lft) 1)
@@ -52,14 +52,14 @@ unboxed_leaf mark = if is_plain_leaf mark then without_containers mark else mark
 
 -- The same marks without `boxed` where it has no meaning: the question is which units take their containers from the
 -- first, and of a plain leaf it does not matter whether it does.
-abbrev pub branch_told : List Mark → List Mark
-branch_told [] = []
-branch_told (mark ∷ marks) = without_containers mark ∷ map unboxed_leaf marks
+abbrev pub branch_answer : List Mark → List Mark
+branch_answer [] = []
+branch_answer (mark ∷ marks) = without_containers mark ∷ map unboxed_leaf marks
 
 -- The marks of a unit and of all below it in walk order. `boxed` of the first has no meaning, nor has that of a plain
 -- leaf.
 abbrev pub AreBranchMarks : Forest Unit → List Mark → Type 0
-AreBranchMarks f marks = (whole : List Mark) × AreWalkMarks f whole × (branch_told marks ≡ branch_told whole)
+AreBranchMarks f marks = (whole : List Mark) × AreWalkMarks f whole × (branch_answer marks ≡ branch_answer whole)
 
 -- the marks of the path and of the branch of a unit
 abbrev pub AreMarksOf : Forest Unit → ℕ → Attached → Type 0

@@ -12,7 +12,7 @@ use Rattle.state_encoding.proofs.told.ToldCatalogue.{HasNoCause, no_cause, catal
 use Rattle.state_encoding.proofs.told.ToldUnits.{said_id}
 use Rattle.refinement.specs.Representation.{office_of}
 use Rattle.row_completeness.specs.WholePlaces.{RepresentsWhatItDescribes, places_are_defective}
-use Rattle.adoption.proofs.Common.{AllByRecursion, AreGoodTables, ContainerRow, Database, ElementRow, Empty, First, Forest, HousingRow, IsPermutation, IsPermutation-map, IsPermutation-sym, IsPermutation-trans, Node, OfficeRows, RepresentsCatalogue, RepresentsContainers, RepresentsElements, RepresentsHousings, RepresentsItsCatalogue, RepresentsOffice, RepresentsUnits, Second, Trees, Unit, Version, all_weaker, and_parts, are_good_places, are_numbered_from, container_cells, each, element_rows_from, elements_of, encoding, eqb-true, flat_map, has_numbered, has_unread, housing_row, housings_of, in_order, in_order-permutation, nodes, office_cells, or_from, or_parts, places_said, read_container, read_element, read_housing, read_unit, rows_in, rows_kept, state_of, then_by, unit_cells, unit_said, unread, version_number}
+use Rattle.adoption.proofs.Common.{AllByRecursion, AreGoodTables, ContainerRow, Database, ElementRow, Empty, First, Forest, HousingRow, IsPermutation, IsPermutation-map, IsPermutation-sym, IsPermutation-trans, Node, OfficeRows, RepresentsCatalogue, RepresentsContainers, RepresentsElements, RepresentsHousings, RepresentsItsCatalogue, RepresentsOffice, RepresentsUnits, Second, Trees, Unit, Version, all_weaker, and_parts, are_good_places, are_numbered_from, container_cells, each, element_rows_from, elements_of, encoding, eqb-true, flat_map, has_numbered, has_unread, housing_row, housings_of, in_order, in_order-permutation, nodes, office_cells, or_from, or_parts, places_said, read_container, read_element, read_housing, read_unit, rows_in, rows_kept, state_of, then_by, unit_cells, unit_from_rows, unread, version_number}
 use Rattle.adoption.proofs.tables.Causeless.{ArePassed, are_passed}
 use Rattle.adoption.proofs.catalogue.Rules.{IsKeyed, IsNumbered, office_whole, office_keyed, unit_keyed, container_keyed, element_whole, element_numbered, housing_whole, housing_numbered}
 use Rattle.adoption.proofs.catalogue.Readings.{is_unit, is_element, is_container, is_housing}
@@ -28,10 +28,10 @@ no_defect First db read good = or_from _ _ read.1.0 (ap not good)
 no_defect Second db read good = or_from _ _ read.1.0 (ap not good)
 
 -- the numbers of the units that are said
-numbers_back : (t : OfficeRows) (f : Forest ℕ) → each (λ (u : Unit). u.id) (each (unit_said t.catalogue) f) ≡ f
+numbers_back : (t : OfficeRows) (f : Forest ℕ) → each (λ (u : Unit). u.id) (each (unit_from_rows t.catalogue) f) ≡ f
 numbers_back t Empty = refl
 numbers_back t (Node u children others) =
-    ap (λ n. Node n (each (λ (u : Unit). u.id) (each (unit_said t.catalogue) children)) (each (λ (u : Unit). u.id) (each (unit_said t.catalogue) others))) (said_id t u)
+    ap (λ n. Node n (each (λ (u : Unit). u.id) (each (unit_from_rows t.catalogue) children)) (each (λ (u : Unit). u.id) (each (unit_from_rows t.catalogue) others))) (said_id t u)
     ∙ ap₂ (Node u) (numbers_back t children) (numbers_back t others)
 
 module _ (v : Version) (db : Database) (it : AreGoodTables v db) where

@@ -4,7 +4,7 @@ use Rattle.std.specs.Prelude.{filter_map, unwrap_or}
 use Rattle.std.specs.List.{IsDistinct}
 use Rattle.isad_core.specs.Words.{is_between, stands}
 use Rattle.isad_core.specs.declared.values.Values.{Values}
-use Rattle.state_encoding.proofs.Common.{BoxKey, Bytes, CatalogueRows, ContainerRow, ElementRow, HousingRow, In, In-permutation, IsDistinct-IsPermutation, IsPermutation, IsPermutation-map, IsPermutation-sym, MeetsCatalogueKeys, Unit, UnitRow, after_level, all_stand_in, and_from, and_parts, any_passes, are_good_units, box_at, box_from, boxes_from, boxes_said, each, eq-eqb, eqb-true, eqb_comm, false≢true, filter, find, find_none, find_some, fun_ext, height, housings_of, is_blank_text, is_good_element, is_good_housing, is_good_unit_row, is_housed_alike, is_named_alike, is_same_container, is_same_element, is_same_place, length-filter, length_permutation, list_all, list_any, list_any-IsPermutation, most_deep, most_units, nat_le, numbers_from, option_map, place_numbers, places_said, sum_by-IsPermutation, text_said, unit_from, unit_numbers, unit_said, values_said}
+use Rattle.state_encoding.proofs.Common.{BoxKey, Bytes, CatalogueRows, ContainerRow, ElementRow, HousingRow, In, In-permutation, IsDistinct-IsPermutation, IsPermutation, IsPermutation-map, IsPermutation-sym, MeetsCatalogueKeys, Unit, UnitRow, after_level, all_stand_in, and_from, and_parts, any_passes, are_good_units, box_at, box_from, boxes_from, boxes_from_rows, each, eq-eqb, eqb-true, eqb_comm, false≢true, filter, find, find_none, find_some, fun_ext, height, housings_of, is_blank_text, is_good_element, is_good_housing, is_good_unit_row, is_housed_alike, is_named_alike, is_same_container, is_same_element, is_same_place, length-filter, length_permutation, list_all, list_any, list_any-IsPermutation, most_deep, most_units, nat_le, numbers_from, option_map, place_numbers, places_said, sum_by-IsPermutation, text_said, unit_from, unit_from_rows, unit_numbers, values_from_rows}
 use Rattle.state_encoding.proofs.RowsByNumber.{all_in, in_all, each_in, found_by}
 use Rattle.state_encoding.proofs.UnitRows.{found_kept}
 use Rattle.state_encoding.proofs.told.ToldCatalogue.{alike_flips}
@@ -158,28 +158,28 @@ module _ (c d : CatalogueRows) (r : IsReordered c d) where
         ∙ found_kept (λ (row : HousingRow). nat_eq row.unit u) (λ (row : HousingRow). nat_eq row.ord m) c.housings)
 
     boxes_too : (u : ℕ)
-        → boxes_said (map box_from d.containers) d.housings u ≡ boxes_said (map box_from c.containers) c.housings u
+        → boxes_from_rows (map box_from d.containers) d.housings u ≡ boxes_from_rows (map box_from c.containers) c.housings u
     boxes_too u =
         let boxes : List BoxKey = map box_from c.containers in
-        ap (λ l. boxes_said (map box_from l) d.housings u) r.containers
+        ap (λ l. boxes_from_rows (map box_from l) d.housings u) r.containers
         ∙ (ap (λ n. boxes_from boxes (housings_of u d.housings) 1 n) (as_many (λ (row : HousingRow). nat_eq row.unit u) c.housings d.housings r.housings)
         ∙ ap (λ f. filter_map (λ m. box_at boxes (f m)) (numbers_from 1 (length (housings_of u c.housings)))) (fun_ext (box_too u)))
 
-    values_too : (u : ℕ) (level : Bytes) → values_said d u level ≡ values_said c u level
+    values_too : (u : ℕ) (level : Bytes) → values_from_rows d u level ≡ values_from_rows c u level
     values_too u level =
-        ap (λ f. record { level = level; texts = map f (numbers_from 1 25); boxes = boxes_said (map box_from d.containers) d.housings u }) (fun_ext (text_too u))
+        ap (λ f. record { level = level; texts = map f (numbers_from 1 25); boxes = boxes_from_rows (map box_from d.containers) d.housings u }) (fun_ext (text_too u))
         ∙ ap (λ l. record { level = level; texts = map (text_said c.elements u) (numbers_from 1 25); boxes = l }) (boxes_too u)
 
     from_too : (row : UnitRow) → unit_from d row ≡ unit_from c row
     from_too row = ap (λ v. record { id = row.id; source = row.source; legacy = row.legacy; values = v; draft = row.draft; until = row.until }) (values_too row.id row.level)
 
-    unit_too : (u : ℕ) → unit_said d u ≡ unit_said c u
+    unit_too : (u : ℕ) → unit_from_rows d u ≡ unit_from_rows c u
     unit_too u =
         let none : Values → Unit =
         λ v. record { id = u; source = []; legacy = []; values = v; draft = false; until = None } in
-        ap (λ o. unwrap_or (option_map (unit_from d) o) (none (values_said d u []))) (number_too (λ (row : UnitRow). row.id) c.units d.units r.units ids u)
-        ∙ (ap (λ f. unwrap_or (option_map f (find (λ (row : UnitRow). nat_eq row.id u) c.units)) (none (values_said d u []))) (fun_ext from_too)
+        ap (λ o. unwrap_or (option_map (unit_from d) o) (none (values_from_rows d u []))) (number_too (λ (row : UnitRow). row.id) c.units d.units r.units ids u)
+        ∙ (ap (λ f. unwrap_or (option_map f (find (λ (row : UnitRow). nat_eq row.id u) c.units)) (none (values_from_rows d u []))) (fun_ext from_too)
         ∙ ap (λ v. unwrap_or (option_map (unit_from c) (find (λ (row : UnitRow). nat_eq row.id u) c.units)) (none v)) (values_too u []))
 
-    pub forest_too : each (unit_said d) (places_said d.places) ≡ each (unit_said c) (places_said c.places)
-    forest_too = ap (λ f. each f (places_said d.places)) (fun_ext unit_too) ∙ ap (each (unit_said c)) r.places
+    pub forest_too : each (unit_from_rows d) (places_said d.places) ≡ each (unit_from_rows c) (places_said c.places)
+    forest_too = ap (λ f. each f (places_said d.places)) (fun_ext unit_too) ∙ ap (each (unit_from_rows c)) r.places

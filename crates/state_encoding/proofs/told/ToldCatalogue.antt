@@ -8,7 +8,7 @@ use Rattle.catalogue_core.proofs.NodeLemmas.{length-nodes}
 use Rattle.office_core.specs.Words.{stands}
 use Rattle.catalogue_core.specs.Sources.{is_between}
 use Rattle.catalogue_core.proofs.Heights.{height-each}
-use Rattle.state_encoding.proofs.Common.{AllByRecursion, AreGoodSettings, AreGoodUnits, ArePlacesOf, BoxKey, ContainerRow, ElementRow, Empty, Forest, HousingRow, In, In-map, IsCatalogueOf, IsDayNumber, IsDistinct-IsPermutation, IsGoodUnit, IsPermutation, IsPermutation-refl, IsPermutation-sym, IsSomeDay, IsSoundCatalogue, MeetsCatalogueKeys, Node, OfficeRow, OfficeRows, SaysTheCatalogue, Unit, UnitRow, Version, all_stand_in, and_parts, are_good_container_rows, are_good_places, are_good_units, are_numbered_from, box_from, boxes_said, catalogue_cause, containers_are_bad, distinct, each, elements_are_bad, encoding, eqb-true, height, housings_of, is_blank_text, is_country, is_day_number, is_day_number-so, is_good_element, is_good_housing, is_good_office, is_good_unit_row, is_named_alike, is_repository, is_same_unit, is_some_day, is_source, is_unit_number, leb-true, length-map, length_permutation, list_all, list_all-map, ltb-true, most_bytes, most_containers, most_daily, most_deep, most_hands, most_run_size, most_seats, most_unit_numbers, most_units, nat_le, nodes, nodes-each, not-false, not-true, number_of, numbers_from, office_is_bad, place_numbers, place_rows, places_are_bad, places_said, size, state_of, text_said, unit_from, unit_numbers, unit_row, unit_said, units_are_bad, version_number}
+use Rattle.state_encoding.proofs.Common.{AllByRecursion, AreGoodSettings, AreGoodUnits, ArePlacesOf, BoxKey, ContainerRow, ElementRow, Empty, Forest, HousingRow, In, In-map, IsCatalogueOf, IsDayNumber, IsDistinct-IsPermutation, IsGoodUnit, IsPermutation, IsPermutation-refl, IsPermutation-sym, IsSomeDay, IsSoundCatalogue, MeetsCatalogueKeys, Node, OfficeRow, OfficeRows, SaysTheCatalogue, Unit, UnitRow, Version, all_stand_in, and_parts, are_good_container_rows, are_good_places, are_good_units, are_numbered_from, box_from, boxes_from_rows, catalogue_cause, containers_are_bad, distinct, each, elements_are_bad, encoding, eqb-true, height, housings_of, is_blank_text, is_country, is_day_number, is_day_number-so, is_good_element, is_good_housing, is_good_office, is_good_unit_row, is_named_alike, is_repository, is_same_unit, is_some_day, is_source, is_unit_number, leb-true, length-map, length_permutation, list_all, list_all-map, ltb-true, most_bytes, most_containers, most_daily, most_deep, most_hands, most_run_size, most_seats, most_unit_numbers, most_units, nat_le, nodes, nodes-each, not-false, not-true, number_of, numbers_from, office_is_bad, place_numbers, place_rows, places_are_bad, places_said, size, state_of, text_said, unit_from, unit_from_rows, unit_numbers, unit_row, units_are_bad, version_number}
 use Rattle.state_encoding.proofs.Judging.{none_held}
 use Rattle.state_encoding.proofs.RowsByNumber.{in_map, all_in, stands_in}
 use Rattle.state_encoding.proofs.told.ToldPlaces.{ArePlaced, good_places, numbers_given}
@@ -125,7 +125,7 @@ good_rows version t p h =
       placed = b.0;
       told = c.0;
       few = leb-true (length t.catalogue.units) most_units d.0;
-      depth = subst (λ n. n ≤ most_deep) (sym (height-each (unit_said t.catalogue) (places_said t.catalogue.places))) (leb-true (height (places_said t.catalogue.places)) most_deep d.1);
+      depth = subst (λ n. n ≤ most_deep) (sym (height-each (unit_from_rows t.catalogue) (places_said t.catalogue.places))) (leb-true (height (places_said t.catalogue.places)) most_deep d.1);
     }
 
 units_of : (version : Version) (t : OfficeRows)
@@ -157,7 +157,7 @@ alike_flips a b = grind (arith, bytes_eq-Decides a.source b.source, bytes_eq-Dec
 
 good_unit : (t : OfficeRows) (row : UnitRow) → IsGoodRow t.office.next_unit row
     → ((e : ElementRow) → In e t.catalogue.elements → is_blank_text e.value ≡ false)
-    → distinct (boxes_said (map box_from t.catalogue.containers) t.catalogue.housings row.id) ≡ boxes_said (map box_from t.catalogue.containers) t.catalogue.housings row.id
+    → distinct (boxes_from_rows (map box_from t.catalogue.containers) t.catalogue.housings row.id) ≡ boxes_from_rows (map box_from t.catalogue.containers) t.catalogue.housings row.id
     → IsGoodUnit (map box_from t.catalogue.containers) (unit_from t.catalogue row)
 good_unit t row g e d =
     record {
@@ -176,10 +176,10 @@ all_mapped : (P : Unit → Type 0) (g : ℕ → Unit) (us : List ℕ) → ((u : 
 all_mapped P g [] h = tt
 all_mapped P g (u ∷ us) h = (h u (inl refl), all_mapped P g us (λ v i. h v (inr i)))
 
-ids_said : (t : OfficeRows) (us : List ℕ) → map (λ (unit : Unit). unit.id) (map (unit_said t.catalogue) us) ≡ us
+ids_said : (t : OfficeRows) (us : List ℕ) → map (λ (unit : Unit). unit.id) (map (unit_from_rows t.catalogue) us) ≡ us
 ids_said t [] = refl
 ids_said t (u ∷ us) =
-    ap (λ v. v ∷ map (λ (unit : Unit). unit.id) (map (unit_said t.catalogue) us)) (said_id t u)
+    ap (λ v. v ∷ map (λ (unit : Unit). unit.id) (map (unit_from_rows t.catalogue) us)) (said_id t u)
     ∙ ap (λ l. u ∷ l) (ids_said t us)
 
 -- ---- the containers
@@ -240,7 +240,7 @@ module _ (version : Version) (t : OfficeRows) (k : MeetsCatalogueKeys t.catalogu
   -- what is so of each unit of a row is so of each unit
   of_units : (P : Unit → Type 0) → ((row : UnitRow) → In row t.catalogue.units → P (unit_from t.catalogue row))
       → AllByRecursion P (nodes (state_of t).catalogue.forest)
-  of_units P h = subst (AllByRecursion P) (sym (nodes-each (unit_said t.catalogue) (places_said t.catalogue.places))) (all_mapped P (unit_said t.catalogue) (nodes (places_said t.catalogue.places)) (each_said t (places_said t.catalogue.places) P k.units units h))
+  of_units P h = subst (AllByRecursion P) (sym (nodes-each (unit_from_rows t.catalogue) (places_said t.catalogue.places))) (all_mapped P (unit_from_rows t.catalogue) (nodes (places_said t.catalogue.places)) (each_said t (places_said t.catalogue.places) P k.units units h))
 
   sound_units : AreGoodUnits (state_of t).catalogue
   sound_units =
@@ -252,7 +252,7 @@ module _ (version : Version) (t : OfficeRows) (k : MeetsCatalogueKeys t.catalogu
       record {
         each = of_units (IsGoodUnit (map box_from t.catalogue.containers)) (λ row i. good_unit t row (rows.each row i) (λ e j. (element e j).filled)
             (said_apart (map box_from t.catalogue.containers) t.catalogue.housings (nodes (places_said t.catalogue.places)) boxes_differ k.housings housing k.housed_once row.id));
-        ids = subst (IsDistinct nat_eq) (sym (ap (map (λ (unit : Unit). unit.id)) (nodes-each (unit_said t.catalogue) (places_said t.catalogue.places)) ∙ ids_said t (nodes (places_said t.catalogue.places)))) placed.apart;
+        ids = subst (IsDistinct nat_eq) (sym (ap (map (λ (unit : Unit). unit.id)) (nodes-each (unit_from_rows t.catalogue) (places_said t.catalogue.places)) ∙ ids_said t (nodes (places_said t.catalogue.places)))) placed.apart;
         pairs = names_apart (nodes f) (IsDistinct-IsPermutation is_named_alike alike_flips t.catalogue.units (map unit_row (nodes f)) (IsPermutation-sym (map unit_row (nodes f)) t.catalogue.units reordered) k.names);
         given = of_units (λ (unit : Unit). (1 ≤ unit.id) × (unit.id < t.office.next_unit)) (λ row i. (rows.each row i).given);
         next = office.next;
@@ -289,11 +289,11 @@ module _ (version : Version) (t : OfficeRows) (k : MeetsCatalogueKeys t.catalogu
         housings = housings_are_said t f placed.apart boxes_differ k.housings housing;
       }
     where
-      numbers_back : (g : Forest ℕ) → each number_of (each (unit_said t.catalogue) g) ≡ g
+      numbers_back : (g : Forest ℕ) → each number_of (each (unit_from_rows t.catalogue) g) ≡ g
       numbers_back Empty = refl
       numbers_back (Node u c o) =
-          ap (λ v. Node v (each number_of (each (unit_said t.catalogue) c)) (each number_of (each (unit_said t.catalogue) o))) (said_id t u)
-          ∙ (ap (λ x. Node u x (each number_of (each (unit_said t.catalogue) o))) (numbers_back c) ∙ ap (λ x. Node u c x) (numbers_back o))
+          ap (λ v. Node v (each number_of (each (unit_from_rows t.catalogue) c)) (each number_of (each (unit_from_rows t.catalogue) o))) (said_id t u)
+          ∙ (ap (λ x. Node u x (each number_of (each (unit_from_rows t.catalogue) o))) (numbers_back c) ∙ ap (λ x. Node u c x) (numbers_back o))
 
 pub catalogue_is_said : (version : Version) (t : OfficeRows) → SaysTheCatalogue version t
 catalogue_is_said version t k h = let n = no_cause version t h in (sound version t k n, shown version t k n)

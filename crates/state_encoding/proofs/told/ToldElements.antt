@@ -4,7 +4,7 @@ use Rattle.std.specs.List.{IsDistinct}
 use Rattle.tree_core.proofs.Repeats.{distinct_repeats}
 use Rattle.office_core.specs.Words.{stands}
 use Rattle.catalogue_core.specs.Sources.{is_between}
-use Rattle.state_encoding.proofs.Common.{Bytes, ElementRow, Forest, In, In-map, IsPermutation, IsPermutation-trans, OfficeRows, Unit, after_level, and_from, and_parts, cases_eq, cases_lt, each, element_rows_from, eq-eqb, eqb-true, false≢true, filter, find, find_some, flat_map, flat_map-cons, flat_map-map, is_blank_text, is_good_element, is_good_text, is_same_element, le-ltb, leb-true, list_all, lt-ltb, nat_le, nodes, nodes-each, not-true, numbers_from, option_map, option_to_list, text_said, unit_said}
+use Rattle.state_encoding.proofs.Common.{Bytes, ElementRow, Forest, In, In-map, IsPermutation, IsPermutation-trans, OfficeRows, Unit, after_level, and_from, and_parts, cases_eq, cases_lt, each, element_rows_from, eq-eqb, eqb-true, false≢true, filter, find, find_some, flat_map, flat_map-cons, flat_map-map, is_blank_text, is_good_element, is_good_text, is_same_element, le-ltb, leb-true, list_all, lt-ltb, nat_le, nodes, nodes-each, not-true, numbers_from, option_map, option_to_list, text_said, unit_from_rows}
 use Rattle.state_encoding.proofs.UnitRows.{found_kept}
 use Rattle.state_encoding.proofs.RowsByNumber.{in_filter, flat_map_same, flat_map_reordered, grouped, one_kept, in_numbers, own_apart}
 use Rattle.state_encoding.proofs.told.ToldUnits.{said_id, said_texts}
@@ -95,16 +95,16 @@ good_element units row h =
 pub elements_are_said : (t : OfficeRows) (f : Forest ℕ) → IsDistinct nat_eq (nodes f)
     → IsDistinct is_same_element t.catalogue.elements
     → ((row : ElementRow) → In row t.catalogue.elements → (In row.k numbers) × (In row.unit (nodes f)))
-    → IsPermutation (flat_map (λ (unit : Unit). element_rows_from unit.id 1 unit.values.texts) (nodes (each (unit_said t.catalogue) f))) t.catalogue.elements
+    → IsPermutation (flat_map (λ (unit : Unit). element_rows_from unit.id 1 unit.values.texts) (nodes (each (unit_from_rows t.catalogue) f))) t.catalogue.elements
 elements_are_said t f a d h =
     let key : ElementRow → ℕ = λ row. row.unit in
     let shown : Unit → List ElementRow = λ unit. element_rows_from unit.id 1 unit.values.texts in
     let of : ℕ → List ElementRow =
     λ u. element_rows_from u 1 (map (text_said t.catalogue.elements u) (numbers_from 1 25)) in
-    let same : flat_map shown (nodes (each (unit_said t.catalogue) f)) ≡ flat_map of (nodes f) =
-    ap (flat_map shown) (nodes-each (unit_said t.catalogue) f)
-    ∙ (flat_map-map shown (unit_said t.catalogue) (nodes f)
-    ∙ flat_map_same (λ u. shown (unit_said t.catalogue u)) of (nodes f) (λ u i. ap (λ n. element_rows_from n 1 (unit_said t.catalogue u).values.texts) (said_id t u) ∙ ap (element_rows_from u 1) (said_texts t u))) in
+    let same : flat_map shown (nodes (each (unit_from_rows t.catalogue) f)) ≡ flat_map of (nodes f) =
+    ap (flat_map shown) (nodes-each (unit_from_rows t.catalogue) f)
+    ∙ (flat_map-map shown (unit_from_rows t.catalogue) (nodes f)
+    ∙ flat_map_same (λ u. shown (unit_from_rows t.catalogue u)) of (nodes f) (λ u i. ap (λ n. element_rows_from n 1 (unit_from_rows t.catalogue u).values.texts) (said_id t u) ∙ ap (element_rows_from u 1) (said_texts t u))) in
     subst (λ l. IsPermutation l t.catalogue.elements) (sym same)
     (IsPermutation-trans (flat_map of (nodes f)) (flat_map (λ u. mine u t.catalogue.elements) (nodes f)) t.catalogue.elements
     (flat_map_reordered of (λ u. mine u t.catalogue.elements) (nodes f) (λ u i.

@@ -2,7 +2,7 @@
 use Rattle.std.proofs.Common.{◌≡◌, ℕ, zero, suc, ◌+◌, ◌<◌, ◌≤◌, true, List, [], ◌∷◌, ◌++◌, length, Option, Some, None, refl, sym, ap, ◌∙◌, subst, nat_eq, arith, map}
 use Rattle.std.specs.List.{IsDistinct}
 use Rattle.isad_core.specs.Boxes.{is_same as is_same_box}
-use Rattle.state_encoding.proofs.Common.{BoxKey, Forest, HousingRow, In, IsDistinct-IsPermutation, IsPermutation, IsPermutation-map, IsPermutation-sym, IsPermutation-trans, OfficeRows, Unit, and_from, box_at, box_from, box_number, boxes_from, boxes_said, cons_option, distinct, each, eqb-true, eqb_comm, fills, filter, find, flat_map, flat_map-cons, flat_map-map, housing_row, housings_of, is_housed_alike, is_same_place, length-map, list_all, list_any, nodes, nodes-each, nth, numbers_from, option_to_list, rows_from, unit_said}
+use Rattle.state_encoding.proofs.Common.{BoxKey, Forest, HousingRow, In, IsDistinct-IsPermutation, IsPermutation, IsPermutation-map, IsPermutation-sym, IsPermutation-trans, OfficeRows, Unit, and_from, box_at, box_from, box_number, boxes_from, boxes_from_rows, cons_option, distinct, each, eqb-true, eqb_comm, fills, filter, find, flat_map, flat_map-cons, flat_map-map, housing_row, housings_of, is_housed_alike, is_same_place, length-map, list_all, list_any, nodes, nodes-each, nth, numbers_from, option_to_list, rows_from, unit_from_rows}
 use Rattle.state_encoding.proofs.RowsByNumber.{in_map, in_filter, flat_map_same, flat_map_reordered, grouped, found_by, one_kept, in_numbers, numbers_length, numbers_apart, own_apart}
 use Rattle.state_encoding.proofs.told.ToldUnits.{said_id, said_boxes}
 use Rattle.state_encoding.proofs.NumberedRows.{numbered_in}
@@ -90,7 +90,7 @@ module _ (boxes : List BoxKey) (rows : List HousingRow) (units : List ℕ) (b : 
 
   -- the rows of the containers that are said of one unit are its rows
   pub own_housings : (u : ℕ)
-      → IsPermutation (rows_from (housing_row boxes u) 1 (boxes_said boxes rows u)) (housings_of u rows)
+      → IsPermutation (rows_from (housing_row boxes u) 1 (boxes_from_rows boxes rows u)) (housings_of u rows)
   own_housings u =
       let mine : List HousingRow = housings_of u rows in
       subst (λ l. IsPermutation l mine) (sym (shown_from u 1 (length mine) (omega arith) (omega arith)))
@@ -98,10 +98,10 @@ module _ (boxes : List BoxKey) (rows : List HousingRow) (units : List ℕ) (b : 
 
   -- and they are all different
   pub said_apart : IsDistinct is_housed_alike rows → (u : ℕ)
-      → distinct (boxes_said boxes rows u) ≡ boxes_said boxes rows u
+      → distinct (boxes_from_rows boxes rows u) ≡ boxes_from_rows boxes rows u
   said_apart once u =
       let mine : List HousingRow = housings_of u rows in
-      let bs : List BoxKey = boxes_said boxes rows u in
+      let bs : List BoxKey = boxes_from_rows boxes rows u in
       let container : HousingRow → ℕ = λ row. row.container in
       let shown : List HousingRow = rows_from (housing_row boxes u) 1 bs in
       let d : IsDistinct nat_eq (map container mine) =
@@ -139,15 +139,15 @@ said_known boxes mine n (suc more) = at (at_place n mine) (said_known boxes mine
 pub housings_are_said : (t : OfficeRows) (f : Forest ℕ) → IsDistinct nat_eq (nodes f)
     → IsDistinct is_same_box (map box_from t.catalogue.containers) → IsDistinct is_same_place t.catalogue.housings
     → ((row : HousingRow) → In row t.catalogue.housings → IsGoodHousing (map box_from t.catalogue.containers) (nodes f) t.catalogue.housings row)
-    → IsPermutation (flat_map (λ (unit : Unit). rows_from (housing_row (map box_from t.catalogue.containers) unit.id) 1 unit.values.boxes) (nodes (each (unit_said t.catalogue) f))) t.catalogue.housings
+    → IsPermutation (flat_map (λ (unit : Unit). rows_from (housing_row (map box_from t.catalogue.containers) unit.id) 1 unit.values.boxes) (nodes (each (unit_from_rows t.catalogue) f))) t.catalogue.housings
 housings_are_said t f a b p h =
     let boxes : List BoxKey = map box_from t.catalogue.containers in
     let shown : Unit → List HousingRow = λ unit. rows_from (housing_row boxes unit.id) 1 unit.values.boxes in
-    let of : ℕ → List HousingRow = λ u. rows_from (housing_row boxes u) 1 (boxes_said boxes t.catalogue.housings u) in
-    let same : flat_map shown (nodes (each (unit_said t.catalogue) f)) ≡ flat_map of (nodes f) =
-    ap (flat_map shown) (nodes-each (unit_said t.catalogue) f)
-    ∙ (flat_map-map shown (unit_said t.catalogue) (nodes f)
-    ∙ flat_map_same (λ u. shown (unit_said t.catalogue u)) of (nodes f) (λ u i. ap (λ n. rows_from (housing_row boxes n) 1 (unit_said t.catalogue u).values.boxes) (said_id t u) ∙ ap (rows_from (housing_row boxes u) 1) (said_boxes t u))) in
+    let of : ℕ → List HousingRow = λ u. rows_from (housing_row boxes u) 1 (boxes_from_rows boxes t.catalogue.housings u) in
+    let same : flat_map shown (nodes (each (unit_from_rows t.catalogue) f)) ≡ flat_map of (nodes f) =
+    ap (flat_map shown) (nodes-each (unit_from_rows t.catalogue) f)
+    ∙ (flat_map-map shown (unit_from_rows t.catalogue) (nodes f)
+    ∙ flat_map_same (λ u. shown (unit_from_rows t.catalogue u)) of (nodes f) (λ u i. ap (λ n. rows_from (housing_row boxes n) 1 (unit_from_rows t.catalogue u).values.boxes) (said_id t u) ∙ ap (rows_from (housing_row boxes u) 1) (said_boxes t u))) in
     subst (λ l. IsPermutation l t.catalogue.housings) (sym same)
     (IsPermutation-trans (flat_map of (nodes f)) (flat_map (λ u. housings_of u t.catalogue.housings) (nodes f)) t.catalogue.housings
     (flat_map_reordered of (λ u. housings_of u t.catalogue.housings) (nodes f) (λ u i. own_housings boxes t.catalogue.housings (nodes f) b p h u))

@@ -4,7 +4,7 @@ use Rattle.office_tables.specs.RowCounts.{cap}
 use Rattle.office_tables.specs.Schema as tables
 use Rattle.office_tables.specs.declared.fault.StoreFault.TheVariants as fault
 use Rattle.catalogue_statements.specs.Settings.{AreLegibleSettings}
-use Rattle.catalogue_store.specs.Offices.{told_office}
+use Rattle.catalogue_store.specs.Offices.{office_with_counts}
 use Rattle.catalogue_statements.proofs.Numbered.{length-counted}
 use Rattle.catalogue_store.proofs.Common.{Database, RepresentsSettings, counted_from, cut_after, early, length_permutation, looks_then, nodes, same_fault, spares_known, state, tells_cut, tells_not, ⊤}
 use Rattle.catalogue_store.proofs.office.office_row.Goals as goal
@@ -14,7 +14,7 @@ returns-in_default g c =
     let a = state g.S.Store c.args.tables.now in
     let b = state g.S.Store c.find_office.new.tables in
     record {
-      answers = tells_not g.S.Store (RepresentsSettings g.P.Places.represents g.P.Versioned.version) AreLegibleSettings (λ _. ⊤) c.args.tables.now c.find_office.new.tables _ (λ k o office. office ≡ told_office k o) fault.Schema
+      answers = tells_not g.S.Store (RepresentsSettings g.P.Places.represents g.P.Versioned.version) AreLegibleSettings (λ _. ⊤) c.args.tables.now c.find_office.new.tables _ (λ k o office. office ≡ office_with_counts k o) fault.Schema
           refl (cut_after a b c.in_ok-row.ensures.reads.looks.goes.on) (spares_known a b c.in_ok-row.ensures.reads.looks)
           (λ k o it may legible clean free. let clash : None ≡ Some o = sym c.in_default.is ∙ c.in_ok-row.ensures.row clean g.P.Versioned.version o it.catalogue.office in absurd (cc));
     }
@@ -25,7 +25,7 @@ returns-in_err-units g c =
     let e = c.in_err-units.field-0.0 in
     let looked = c.in_ok-row.ensures.reads.looks in
     record {
-      answers = tells_cut g.S.Store (RepresentsSettings g.P.Places.represents g.P.Versioned.version) AreLegibleSettings (λ _. ⊤) c.args.tables.now c.find_office.new.tables c.count_units.new.tables c.from_residual-in_err-units.result (λ k o office. office ≡ told_office k o) e
+      answers = tells_cut g.S.Store (RepresentsSettings g.P.Places.represents g.P.Versioned.version) AreLegibleSettings (λ _. ⊤) c.args.tables.now c.find_office.new.tables c.count_units.new.tables c.from_residual-in_err-units.result (λ k o office. office ≡ office_with_counts k o) e
           (same_fault c.from_residual-in_err-units.result e handed.0 handed.1) looked c.in_err-units.ensures.reads.aborts c.in_err-units.ensures.reads.spares
           (λ k o it may legible at_b clean free.
           let at = it.catalogue.units in
@@ -41,7 +41,7 @@ returns-in_err-containers g c =
     let e = c.in_err-containers.field-0.0 in
     let looked = looks_then a b d c.in_ok-row.ensures.reads.looks c.in_ok-units.ensures.reads.looks in
     record {
-      answers = tells_cut g.S.Store (RepresentsSettings g.P.Places.represents g.P.Versioned.version) AreLegibleSettings (λ _. ⊤) c.args.tables.now c.count_units.new.tables c.count_containers.new.tables c.from_residual-in_err-containers.result (λ k o office. office ≡ told_office k o) e
+      answers = tells_cut g.S.Store (RepresentsSettings g.P.Places.represents g.P.Versioned.version) AreLegibleSettings (λ _. ⊤) c.args.tables.now c.count_units.new.tables c.count_containers.new.tables c.from_residual-in_err-containers.result (λ k o office. office ≡ office_with_counts k o) e
           (same_fault c.from_residual-in_err-containers.result e handed.0 handed.1) looked c.in_err-containers.ensures.reads.aborts c.in_err-containers.ensures.reads.spares
           (λ k o it may legible at_d clean free.
           c.in_err-containers.ensures.faults (counted_from 1 k.containers) (ap (λ (db : Database). db.trees tables.container.tree) (looked.same at_d) ∙ it.catalogue.containers) tt clean free);

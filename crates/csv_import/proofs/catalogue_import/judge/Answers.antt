@@ -3,7 +3,7 @@ use Rattle.office_core.specs.ImportReply as reply
 use Rattle.office_core.specs.State.{State}
 use Rattle.office_core.specs.declared.done.Done.TheVariants as done
 use Rattle.refinement.specs.Gate.{gate_reply}
-use Rattle.csv_import.proofs.Common.{Database, Full, HasCleanDisk, Remark, Represents, RepresentsState, early, looks_then, most_containers, nat_lt, office_of, state, tells_passed, told_of}
+use Rattle.csv_import.proofs.Common.{Database, Full, HasCleanDisk, Remark, Represents, RepresentsState, early, import_outcome, looks_then, most_containers, nat_lt, office_of, state, tells_passed}
 use Rattle.csv_import.proofs.Carried.{few_containers, have_units, judged_few, settings_shown}
 use Rattle.csv_import.proofs.Tellings.{tells_cut_later, tells_so, told_last}
 use Rattle.csv_import.proofs.catalogue_import.judge.Goals as goal
@@ -21,7 +21,7 @@ returns-then-branch g c =
     record {
       answers = λ source. tells_so told.looks (λ clean beside s it has day.
           let many : nat_lt most_containers (length s.catalogue.containers) ≡ true = sym (told.answers clean s.catalogue (office_of s) it.catalogue) ∙ c.if-branch.true in
-          sym (ap (λ (b : Bool). cond b (Err Full) (gate_reply s (told_of source c.args.file.now c.args.outcome.now.counts s))) many));
+          sym (ap (λ (b : Bool). cond b (Err Full) (gate_reply s (import_outcome source c.args.file.now c.args.outcome.now.counts s))) many));
     }
 
 pub returns-in_err-remarks : goal.returns-in_err-remarks
@@ -61,5 +61,5 @@ returns g c =
           is (has.imported.judged few) day
           ∙ (ap (λ (marks : List Remark). gate_reply s (done.Import n.changed n.new marks n.same c.from.result)) remarked
           ∙ ap (λ k. gate_reply s (done.Import n.changed n.new (reply.remarks s.catalogue.forest source c.args.file.now.rows) n.same k)) c.from.ensures
-          ∙ sym (judged_few s (told_of source c.args.file.now n s) few)));
+          ∙ sym (judged_few s (import_outcome source c.args.file.now n s) few)));
     }
