@@ -71,7 +71,8 @@ fn print_way(
     way: Vec<UnitValues>,
     heads: &[Head],
 ) -> Result<List<u8>, AllocError>
-    ensures { IfOk result (λ text. text ≡ printed (page_of_units head (coded_way (repository_of known.now) [] [] way.items)
+    ensures { IfOk result (λ text. text ≡ printed (page_of_units head
+        (coded_way (repository_of known.now) [] [] way.items)
         (all_bare (repository_of known.now) ids.items known.now.day heads.now))) }
 {
     let mut ids = ids;
