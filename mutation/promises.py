@@ -1,12 +1,12 @@
 #!/usr/bin/env python3
-"""Looks whether the documents agree with the code: names and lines of PROMISES, excerpts of WALK, and all links.
+"""Looks whether the documents agree with the code: names and lines of PROMISES, excerpts, and all links.
 
     mutation/promises.py [--write] [--list CRATE] [TREE]
 
 What PROMISES has between `<!-- laws: CRATE .. -->` and `<!-- end -->` must be what the comments of the code give
-(code_rows.py); `--write` writes it. WALK's excerpts must be lines of their files, and each link of a page must lead to
-a file and a heading (document_links.py). `--list` prints each public function of a crate with its sentence and its
-clauses.
+(code_rows.py); `--write` writes it. The excerpts of WALK and HEADLINE must be lines of their files, and each link of a
+page must lead to a file and a heading (document_links.py). `--list` prints each public function of a crate with its
+sentence and its clauses.
 
 In the column "Clause" `crate::module::function`: `clause` names a clause of that function; a function that follows
 without a path is in the same module, or of the same type; names in parentheses are definitions. Each function must be
@@ -26,7 +26,8 @@ import document_links
 from clauses import Source
 
 TOP = os.path.dirname(os.path.dirname(os.path.abspath(__file__)))
-PROMISES, WALK = "docs/PROMISES.md", "docs/WALK.md"
+PROMISES = "docs/PROMISES.md"
+WITH_EXCERPTS = "docs/WALK.md", "docs/HEADLINE.md"
 PIECE = re.compile(r"`[^`]+`|[:;()]|[^\s`:;()]+")
 
 
@@ -150,7 +151,8 @@ def problems(tree, pages):
     for number, name in wrong_names(tree, text):
         yield f"{PROMISES}:{number}: no such thing: {name}"
     yield from document_links.differences(PROMISES, text, code_rows.with_laws(tree.top, text))
-    yield from document_links.wrong_excerpts(tree.top, WALK, pages[WALK])
+    for page in WITH_EXCERPTS:
+        yield from document_links.wrong_excerpts(tree.top, page, pages[page])
     yield from document_links.wrong_links(tree.top, pages)
 
 
