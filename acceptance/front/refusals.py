@@ -27,7 +27,7 @@ UNREACHED = {26}  # the program answers an unknown run with 404, which has words
 def read_list():
     """The refusals of docs/RULES.md, by number."""
     text = (TOP / "docs/RULES.md").read_text().split("### Refusals\n", 1)[1].split("\n### ", 1)[0]
-    return {int(number): name for number, name in re.findall(r"\b(\d+) ([A-Z][A-Za-z]+)", text)}
+    return {int(number): name for number, name in re.findall(r"^\| (\d+) \| ([A-Z][A-Za-z]+) \|", text, re.M)}
 
 
 class Refusals:
