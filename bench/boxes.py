@@ -18,15 +18,25 @@ the rounds; both programs and this script are bound to one processor.
     spread    10,000 items in 1,000 sub-series; a box has one item of each; ten out
     series    ten series in a box each, with 1,000 items, of which every other one has a box of its own; the ten out
 
+Other offices are full. In the first ones boxes are out: all lie in one series, and neighbours in two others in turns; or
+each is that of one item. Readers have no permits, permits that are no longer valid, or permits for the closed fonds. In
+the last ones a run finds only orders for closed boxes.
+
+    out-half, out, out-expired, out-permits    1,000 or 2,000 boxes in turns, with 2,000 or 4,000 items in all
+    items, items-expired                       2,000 items out of 20,000 that lie side by side
+    waiting, waiting-many, waiting-items       1,000 or 10,000 boxes with 10,000 items, 10,000 items side by side
+
 A cell of the first table has our figure, the other program's, and the ratio. The second table has our figures with the
 boxes out and with none, and the third says how many times as long an answer takes with 4,000 items in a box as with
-1,000. What misses its goal is in bold and listed at the end; then the script ends with 1.
+1,000. The fourth table is of full offices: a change may take twice as long as the opening there, and the fifth has runs.
+What misses its goal is in bold and listed at the end; then the script ends with 1.
 """
 import datetime
 import os
 import sys
 import time
 
+import crowds
 import measure
 from beside import Side
 from measure import OK, REFUSED, client, get, post, say
@@ -309,6 +319,34 @@ def print_growth(goals, few, many):
     say("one box", *cells)
 
 
+def print_crowds(given, goals, names):
+    """What changes and openings take while many boxes are out."""
+    say("Ours; the other; times our opening", "opening", *crowds.CHANGES.values())
+    say(*["---"] * (2 + len(crowds.CHANGES)))
+    for name in names:
+        it = crowds.measure_crowd(crowds.OUT[name](), (given.program, given.other), given.room, given.rounds)
+        ours, other = it.took["opening"]
+        cells = [f"{milliseconds(ours)}; {milliseconds(other)}"]
+        for kind, what in crowds.CHANGES.items():
+            mine, theirs = it.took[kind]
+            times = goals.judge(f"{what}, {name}", mine / ours, crowds.MOST)
+            cells.append(f"{milliseconds(mine)}; {milliseconds(theirs)}; {times}")
+        say(it.crowd.name, *cells)
+    print()
+
+
+def print_runs(given, goals, names):
+    """What a run takes that finds only orders for closed boxes."""
+    say("Ours; the other; of what is allowed", "run that finds none to fetch")
+    say(*["---"] * 2)
+    for name in names:
+        it = crowds.measure_crowd(crowds.WAITING[name](), (given.program, given.other), given.room, given.rounds)
+        ours, other = it.took["run"]
+        part = goals.judge(f"run, {it.crowd.name}", ours / it.crowd.most, 1)
+        say(it.crowd.name, f"{milliseconds(ours)}; {milliseconds(other)}; {part}")
+    print()
+
+
 def options():
     """Reads the command line."""
     words = client.options(__doc__, in_memory=False)
@@ -316,16 +354,17 @@ def options():
     words.add_argument("--cpu", type=int, default=last, metavar="N", help="a processor; else the last")
     words.add_argument("--rounds", type=int, default=5, metavar="N", help="how many rounds; else 5")
     words.add_argument("other", type=client.Program, metavar="OTHER")
-    words.add_argument("shapes", nargs="*", type=client.one_of(SHAPES), metavar="SHAPE", help=", ".join(SHAPES))
+    shapes = {**SHAPES, **crowds.OUT, **crowds.WAITING}
+    words.add_argument("shapes", nargs="*", type=client.one_of(shapes), metavar="SHAPE", help=", ".join(shapes))
     return words.parse_args()
 
 
-def print_tables(given, goals):
+def print_tables(given, goals, names):
     """Measures the offices, and prints the tables."""
     say("Ours; the other; ratio", *COLUMNS.values())
     say(*["---"] * (1 + len(COLUMNS)))
     offices = {}
-    for name in given.shapes or SHAPES:
+    for name in names:
         offices[name] = measure_shape(SHAPES[name](), (given.program, given.other), given.room, given.rounds)
         print_row(goals, offices[name])
     print()
@@ -333,6 +372,15 @@ def print_tables(given, goals):
     if {"1000", "4000"} <= set(offices):
         print()
         print_growth(goals, offices["1000"], offices["4000"])
+    print()
+
+
+def print_all(given, goals):
+    """The tables of those offices that are asked for."""
+    for offices, show in (SHAPES, print_tables), (crowds.OUT, print_crowds), (crowds.WAITING, print_runs):
+        names = [name for name in offices if not given.shapes or name in given.shapes]
+        if names:
+            show(given, goals, names)
 
 
 def main():
@@ -340,8 +388,8 @@ def main():
     given, goals = options(), Goals()
     os.sched_setaffinity(0, {given.cpu})
     print(f"{time.strftime('%Y-%m-%d %H:%M')}, load {os.getloadavg()[0]:.1f}\n")
-    print_tables(given, goals)
-    print(f"\n{time.strftime('%H:%M')}, load {os.getloadavg()[0]:.1f}")
+    print_all(given, goals)
+    print(f"{time.strftime('%H:%M')}, load {os.getloadavg()[0]:.1f}")
     for it in goals.missed:
         print(f"missed: {it}")
     return bool(goals.missed)

@@ -118,21 +118,25 @@ RUNS = {
 # ---- programs that are compiled without proof
 
 
-def copy_sources(tree, names):
-    """A copy of the sources, with the wrong bodies of these edits."""
+def copy_sources(tree, files):
+    """A copy of the sources, with the wrong bodies of these edits: pairs of a crate and a file."""
     shutil.copytree(TOP / "crates", tree / "crates", ignore=shutil.ignore_patterns("out"))
     for name in ("crates.txt", "HANDLES"):
         shutil.copy(TOP / name, tree)
-    for name in names:
-        crate, _ = RUNS[name]
+    for crate, file in files:
         folder = tree / "crates" / crate
-        gate, others = folder / "must-fail", TOP / "mutation" / "edits" / crate
-        kept = gate if (gate / f"{name}.edit").exists() else others
-        edit = edits.Edit(kept / f"{name}.edit", crate, folder)
+        edit = edits.Edit(file, crate, folder)
         if edit.verdict:
-            raise RuntimeError(f"{name}: {edit.why}")
+            raise RuntimeError(f"{file}: {edit.why}")
         for path, text in edits.apply_edits([edit], folder).items():
             (folder / path).write_text(text)
+
+
+def edit_file(name):
+    """The crate of an edit of RUNS, and its file."""
+    crate, _ = RUNS[name]
+    gate = TOP / "crates" / crate / "must-fail" / f"{name}.edit"
+    return crate, gate if gate.exists() else TOP / "mutation" / "edits" / crate / gate.name
 
 
 def open_pipe(pipe, tried, until):
@@ -144,10 +148,10 @@ def open_pipe(pipe, tried, until):
     return None
 
 
-def compile_program(tree, names, until):
+def compile_program(tree, files, until):
     """The program with the wrong bodies of these edits. `rt try` removes it when it has ended. So it is copied while it
     waits for its file, which is a pipe."""
-    copy_sources(tree, names)
+    copy_sources(tree, files)
     pipe, own, said = tree / "pipe", tree / "own", tree / "said"
     os.mkfifo(pipe)
     own.mkdir()
@@ -189,7 +193,7 @@ def main():
     until, checks, is_there = time.monotonic() + LIMIT, client.Checks(), given.program.path.is_file()
     names = given.names or list(RUNS)
     with client.temporary(given.room) as room, ThreadPoolExecutor() as pool:
-        wrong = pool.submit(compile_program, room / "wrong", [] if given.right else names, until)
+        wrong = pool.submit(compile_program, room / "wrong", [] if given.right else map(edit_file, names), until)
         right = given.program if is_there else compile_program(room / "right", [], until)
         for name in names:
             compare_run(checks, room, name, "right", right, "kept")

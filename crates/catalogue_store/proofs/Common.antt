@@ -3,16 +3,16 @@ pub use Rattle.std.proofs.lemmas.Bool.{cases_Bool, eq-eqb, eqb-true, false≢tru
 pub use Rattle.std.proofs.lemmas.List.{get_or-map, get_or_default, length-map, map-append, take_all, take_more}
 pub use Rattle.std.proofs.lemmas.List.Sorted.{IsPermutation-map, IsPermutation-refl, IsPermutation-sym, IsPermutation-trans, length_permutation, list_any-IsPermutation}
 pub use Rattle.std.proofs.lemmas.Result.{IfOk-weaker}
-pub use Rattle.std.specs.List.{AllByRecursion, AllPairs, dedup, list_all, list_any}
-pub use Rattle.std.specs.List.Sorted.{IsPermutation, IsSorted}
+pub use Rattle.std.specs.List.{AllByRecursion, list_all, list_any}
+pub use Rattle.std.specs.List.Sorted.{IsPermutation}
 pub use Rattle.std.specs.Prelude.{IfErr, IsOk, is_some, unwrap_or, ⊤}
 pub use Rattle.sqlite.specs.Effect.{Database}
 pub use Rattle.sqlite.specs.Held.{Held, state}
 pub use Rattle.sqlite.specs.State.{HasCleanDisk, State}
 pub use Rattle.sqlite.specs.Tree.{Trees, put_row}
-pub use Rattle.sqlite_rules.proofs.ListLemmas.{all_from, all_has, has_at, has_filtered, has_kept, some_from, some_has, test_from, test_has}
+pub use Rattle.sqlite_rules.proofs.ListLemmas.{all_from, all_has, has_at, has_filtered, has_kept, some_has, test_from, test_has}
 pub use Rattle.sqlite_rules.specs.Lists.{Has}
-pub use Rattle.sqlite_trees.proofs.ListLemmas.{IsPermutation-filter, all-append, all-get_or, all_both, all_weaker, ascending-filter, ascending-map, map-map}
+pub use Rattle.sqlite_trees.proofs.ListLemmas.{all-append, all-get_or, all_both, all_weaker, map-map}
 pub use Rattle.catalogue_core.specs.Bounds.{IsBounded, IsKept, IsLegibleUnit}
 pub use Rattle.catalogue_core.specs.CatalogueMerge.{Catalogue, box_number, number_in}
 pub use Rattle.catalogue_core.specs.Descriptions.{AreWhole, HasAllPlaces, HasPlaceFor, IsNew, KnowsItsContainers, MayDescribe, with_boxes, with_numbered, with_unit, with_values}
@@ -26,10 +26,11 @@ pub use Rattle.catalogue_statements.proofs.Untold.{none_left, none_yet, numbered
 pub use Rattle.catalogue_statements.proofs.WritingCalls.{leaves_wider, only_cut, only_not, only_well, only_wider, writes_last, writes_not}
 pub use Rattle.catalogue_statements.specs.DescriptionRows.{AddsHousings, AreElements, AreHoused, Descriptions, HasDescriptions, IsDescribed, WithHousings, WithTexts, descriptions_of_others, housing_cell}
 pub use Rattle.catalogue_statements.specs.NewUnit.{unit_of}
-pub use Rattle.catalogue_statements.specs.Representation.{Represents, RepresentsCatalogue, RepresentsContainers, RepresentsElements, RepresentsHousings, RepresentsLinkRows, RepresentsNumbered, RepresentsSettings, RepresentsUnits, catalogue_trees, described_trees, element_cells, element_number, elements_of, housing_cells, housings_of, texts_from}
-pub use Rattle.catalogue_statements.specs.Rows.{ElementRow, HousingRow, by_housing, by_number, counted_from, element_row, housing_row, office_row, unit_row}
+pub use Rattle.catalogue_statements.specs.Representation.{Represents, RepresentsCatalogue, RepresentsContainers, RepresentsElements, RepresentsLinkRows, RepresentsNumbered, RepresentsSettings, RepresentsUnits, catalogue_trees, described_trees, element_cells, element_number, elements_of, housing_cells, housings_of, texts_from}
+pub use Rattle.catalogue_statements.specs.Rows.{ElementRow, HousingRow, counted_from, element_row, housing_row, office_row, unit_row}
 pub use Rattle.catalogue_statements.specs.Values.{RepresentsValues, TellsTexts}
 pub use Rattle.catalogue_statements.specs.declared.office.OfficeRow.{OfficeRow}
+pub use Rattle.catalogue_store.specs.ContentsMarks.{AreContentsMarks, AreWholeMarksOfEach}
 pub use Rattle.catalogue_store.specs.Heads.{head_at, head_of}
 pub use Rattle.isad_core.specs.Boxes.{distinct, is_same}
 pub use Rattle.isad_core.specs.Texts.{Bytes}
@@ -51,7 +52,4 @@ pub use Rattle.office_tables.specs.Versions.{First, Version}
 pub use Rattle.office_tables.specs.declared.fault.StoreFault.{StoreFault}
 pub use Rattle.tree_core.proofs.EachLemmas.{cut-each, has-each, has_place-each, nodes-each}
 pub use Rattle.tree_core.specs.Forest.{Empty, Forest, HasDistinctIds, Node, add, branch, cut, each, has, has_place, join, move_last, nodes, path, put_below, tree}
-pub use Rattle.tree_core.specs.declared.rows.Span.{Span}
 pub use Rattle.tree_places.proofs.MarkCauses.{legible_units}
-pub use Rattle.tree_places.proofs.MarkForests.{all_here, has_right, path_ids, path_in, rows_more, tree_in}
-pub use Rattle.tree_places.specs.Attachments.{AreAttached, AreAttachedRows, AreMarksOfContents, AreMarksOfEach, AreRowsOf, AreThere, named_by}

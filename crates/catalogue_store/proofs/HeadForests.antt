@@ -9,7 +9,8 @@ use Rattle.catalogue_core.proofs.EachOf.{all_split}
 use Rattle.catalogue_statements.specs.Standings.{standing_of}
 use Rattle.catalogue_statements.specs.declared.row_types.Standing.{Standing}
 use Rattle.catalogue_store.specs.declared.heads.Head.{Head}
-use Rattle.catalogue_store.proofs.Common.{AllByRecursion, Bytes, Empty, Forest, Has, Node, RepresentsUnits, Trees, Unit, all_has, all_here, all_weaker, cases_Bool, each, eq-eqb, false≢true, found_one, has_id, has_right, has_unit, head_at, head_of, list_any, nodes, tree, tree_in}
+use Rattle.tree_places.proofs.MarkForests.{all_here, has_right, tree_in}
+use Rattle.catalogue_store.proofs.Common.{AllByRecursion, Bytes, Empty, Forest, Has, Node, RepresentsUnits, Trees, Unit, all_has, all_weaker, cases_Bool, each, eq-eqb, false≢true, found_one, has_id, has_unit, head_at, head_of, list_any, nodes, tree}
 
 abbrev id_of : Unit → ℕ
 id_of u = u.id

@@ -4,7 +4,6 @@ pub mod Telling
 pub mod Valued
 pub mod BoxReads
 pub mod KnownBoxes
-pub mod Attachments
 pub mod ValueCauses
 pub mod WorkedLemmas
 pub mod UnitTold
@@ -14,4 +13,4 @@ pub mod Entered
 pub mod OutsideBranch
 pub mod Accepted
 pub mod LaterAnswers
-pub mod AttachedRows
+pub mod ContentsMarks

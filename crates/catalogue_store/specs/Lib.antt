@@ -34,3 +34,4 @@ pub use Rattle.catalogue_statements.specs.DescriptionRows
 pub use Rattle.catalogue_statements.specs.Removals
 pub use Rattle.catalogue_statements.specs.Values
 pub use Rattle.catalogue_statements.specs.NewUnit
+pub mod ContentsMarks

@@ -1,5 +1,6 @@
 -- What a run takes, by the rows of the desk and in the state: its lines, its containers and its number.
-use Rattle.std.proofs.Common.{◌≡◌, ℕ, zero, suc, ◌+◌, ◌<◌, ◌≤◌, Bool, true, false, cond, ◌&&◌, ◌||◌, nat_eq, List, [], ◌∷◌, ◌++◌, length, map, filter, take, Option, Some, None, inl, inr, refl, sym, ap, subst, ◌∙◌, arith}
+use Rattle.std.proofs.Common.{◌≡◌, ℕ, zero, suc, ◌+◌, ◌-◌, ◌<◌, ◌≤◌, drop, Bool, true, false, cond, ◌&&◌, ◌||◌, nat_eq, List, [], ◌∷◌, ◌++◌, length, map, filter, take, Option, Some, None, inl, inr, refl, sym, ap, subst, ◌∙◌, arith}
+use Rattle.std.proofs.lemmas.List.Elements.{filter-append}
 use Rattle.std.specs.List.{IsDistinct}
 use Rattle.desk_core.specs.Orders.{in_order}
 use Rattle.desk_core.proofs.OrderLemmas.{in_order-permutation}
@@ -7,28 +8,45 @@ use Rattle.desk_store.specs.Runs.{next_run}
 use Rattle.office_core.specs.State as state
 use Rattle.office_core.proofs.Counts.{numbered_from_one}
 use Rattle.office_core.proofs.LineOrder.{any-in_order}
-use Rattle.desk_commands.proofs.Common.{AllByRecursion, ContainerOrder, IsAscending, IsPermutation, IsPermutation-append_right, IsPermutation-map, IsSoundOffice, Line, Order, OrderRow, Run, RunLineRow, StandsIn, State, TakesEachOnce, Version, all_of_in, and_parts, append-nil, append_assoc, brings, candidates_of, cases_Bool, cons_option, eqb-true, false≢true, filter_map, first, flipped, in_filter, in_map, in_rows, is_due, is_empty, is_first, is_line_before, is_on_shelf, is_shelf, length-append, length-map, length-rows, line_for, line_of, lines_from, list_any, most_runs, nat_le, nat_lt, nat_tests, nth, numbered_within, numbers_to, opens, option_map, order_row, order_rows, orders_of_run, picked_due, run_line_row, run_line_rows, run_row, some_and, stands, tables, take-map, taken_by}
+use Rattle.desk_commands.proofs.Common.{AllByRecursion, ContainerOrder, IsAscending, IsPermutation, IsPermutation-append_right, IsPermutation-map, IsSoundOffice, Line, Order, OrderRow, Run, RunLineRow, StandsIn, State, TakesEachOnce, Version, all_of_in, and_parts, append-nil, append_assoc, brings, candidates_of, cases_Bool, cons_option, eqb-true, false≢true, filter_map, first, flipped, in_filter, in_map, in_rows, is_due, is_empty, is_first, is_line_before, is_on_shelf, is_shelf, length-map, length-rows, line_for, line_of, lines_from, list_any, most_runs, nat_le, nat_lt, nat_tests, nth, numbered_within, numbers_to, opens, option_map, order_row, order_rows, orders_of_run, picked_due, run_line_row, run_line_rows, run_row, some_and, stands, tables, take-map, taken_by}
 use Rattle.desk_commands.proofs.MovedAll.{AreWithin, all_taken}
 use Rattle.desk_commands.proofs.Picked.{due_shown, is_open_for}
 use Rattle.desk_commands.proofs.Reshelved.{all_left, rising_left, rising_to}
 
 -- ---- the first of a list that pass
 
--- of those that pass, the first that pass are the first
-pub enough : {X : Type 0} (test : X → Bool) (i : ℕ) (xs : List X)
-    → take (length (filter test (take i xs))) (filter test xs) ≡ filter test (take i xs)
-enough test zero xs = refl
-enough test (suc i) [] = refl
-enough test (suc i) (x ∷ xs) = at (test x) (enough test i xs)
+-- enough of them pass, so the first that pass are found
+pub enough : {X : Type 0} (test : X → Bool) (most i : ℕ) (xs : List X) → most ≤ length (filter test (take i xs))
+    → take most (filter test (take i xs)) ≡ take most (filter test xs)
+enough test zero i xs low = refl
+enough test (suc most) zero xs low = absurd (omega (arith, low))
+enough test (suc most) (suc i) [] low = refl
+enough test (suc most) (suc i) (x ∷ xs) low = at (test x) low (enough test most i xs) (enough test (suc most) i xs)
   where
-    at : (b : Bool) → take (length (filter test (take i xs))) (filter test xs) ≡ filter test (take i xs)
-        → take (length (cond b (x ∷ filter test (take i xs)) (filter test (take i xs)))) (cond b (x ∷ filter test xs) (filter test xs)) ≡ cond b (x ∷ filter test (take i xs)) (filter test (take i xs))
-    at true rest = ap (λ l. x ∷ l) rest
-    at false rest = rest
+    at : (b : Bool) → suc most ≤ length (cond b (x ∷ filter test (take i xs)) (filter test (take i xs)))
+        → (most ≤ length (filter test (take i xs)) → take most (filter test (take i xs)) ≡ take most (filter test xs))
+        → (suc most ≤ length (filter test (take i xs)) → take (suc most) (filter test (take i xs)) ≡ take (suc most) (filter test xs))
+        → take (suc most) (cond b (x ∷ filter test (take i xs)) (filter test (take i xs))) ≡ take (suc most) (cond b (x ∷ filter test xs) (filter test xs))
+    at true low one same = ap (λ l. x ∷ l) (one (omega (arith, low)))
+    at false low one same = same low
 
-pub one_more_fits : {X : Type 0} (xs ys : List X) (x : X) (most : ℕ) → ys ≡ xs ++ x ∷ [] → length xs < most
-    → length ys ≤ most
-one_more_fits xs ys x most is room = let e = ap length is ∙ length-append xs (x ∷ []) in omega (arith, e, room)
+nothing_taken : {X : Type 0} (n : ℕ) (xs : List X) → xs ≡ [] → take n xs ≡ []
+nothing_taken zero xs e = refl
+nothing_taken (suc n) xs e = rw e refl
+
+split_at : {X : Type 0} (xs : List X) (i j : ℕ) → i ≤ j → take i xs ++ take (j - i) (drop i xs) ≡ take j xs
+split_at xs zero j low = let e : j - 0 ≡ j = omega arith in ap (λ n. take n xs) e
+split_at xs (suc i) zero low = absurd (omega (arith, low))
+split_at [] (suc i) (suc j) low = nothing_taken (suc j - suc i) [] refl
+split_at (x ∷ xs) (suc i) (suc j) low =
+    let e : suc j - suc i ≡ j - i = omega arith in
+    ap (λ l. x ∷ l) (ap (λ n. take i xs ++ take n (drop i xs)) e ∙ split_at xs i j (omega (arith, low)))
+
+-- those of one more part
+pub part_more : {X : Type 0} (test : X → Bool) (xs : List X) (i j : ℕ) → i ≤ j
+    → filter test (take i xs) ++ filter test (take (j - i) (drop i xs)) ≡ filter test (take j xs)
+part_more test xs i j low =
+    sym (filter-append test (take i xs) (take (j - i) (drop i xs))) ∙ ap (filter test) (split_at xs i j low)
 
 rising_taken : (k : ℕ) (ns : List ℕ) → IsAscending ns → IsAscending (take k ns)
 rising_taken zero ns h = tt

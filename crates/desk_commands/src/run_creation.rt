@@ -20,11 +20,13 @@ use desk_store::{ContainerOrder, candidates, record_run};
 use isad_core::Day;
 use office_core::{Done, Refusal};
 use office_tables::{StoreFault, Tables};
-use refinement::is_open_to;
+use refinement::open_among;
 use sqlite::Alter;
 use std::alloc::{AllocError, Global};
+use std::collections::BTreeMap;
 
-/// The first `most` of these orders whose containers are open to their readers.
+/// The first `most` of these orders whose containers are open to their readers. They are judged in parts, each in one
+/// walk: first as many orders as a run takes, then twice as many as before.
 fn first_open<P: Places, S: Alter>(
     alloc: Global,
     tables: &mut Tables<P, S>,
@@ -36,17 +38,18 @@ fn first_open<P: Places, S: Alter>(
         (λ _. ⊤) (λ _ s due. CanBeJudged s → today ≡ s.day → due.items ≡ open_orders s most waiting.now) }
 {
     let mut due = Vec::new(alloc);
-    for order in waiting {
-        let order = *order;
-        if due.len() >= most as usize {
-            return Ok(due);
-        }
-        let container = order.container.get();
-        let ticket = order.ticket.get();
-        if is_open_to(alloc, tables, container, ticket, today)? {
-            due.push(order)?;
-        }
+    let mut known = BTreeMap::new(alloc);
+    let mut place = 0;
+    let mut part = most as usize;
+    while place < waiting.len() && due.len() < most as usize {
+        let end = waiting.len().min(place.saturating_add(part));
+        let found = open_among(alloc, tables, &waiting[place..end], known, today)?;
+        due.extend_from_slice(&found.orders)?;
+        known = found.known;
+        place = end;
+        part = part.saturating_mul(2);
     }
+    due.truncate(most as usize);
     Ok(due)
 }
 

@@ -1,12 +1,13 @@
 -- Sessions that a bound ended in a text.
 use Rattle.std.proofs.Common.{◌≡◌, ◌≤◌, ◌+◌, ℕ, List, [], ◌++◌, length, take, drop, refl, sym, ap, ◌∙◌, subst, true, false, Bool, append_assoc, inl, inr, Option}
-use Rattle.std.specs.Prelude.{◌||◌, Ok}
+use Rattle.std.specs.Prelude.{◌||◌, Ok, Err}
 use Rattle.http_desk.specs.declared.session_end.Ended.TheVariants.{Bound}
 use Rattle.http_desk.specs.declared.output.Sent.TheVariants.{All, Failed, Bound as OutOfTurns}
 use Rattle.http_messages.specs.Answers.{continue_text}
 use Rattle.http_desk.specs.Session.{state_after}
 use Rattle.http_desk.specs.Exchanges.{Refused}
-use Rattle.http_desk.proofs.Common.{Accepted, Answer, Answers, Appends, Appends-trans, Busy, Bytes, Closed, Command, Consumes, Consumes-nil, Consumes-trans, Ends, Err, ExchangeBounded, Fails, HasHead, IfOk, IsFront, IsLastAnswer, Last, MatchResult, Message, Next, OnErr, Replies, Request, Result, Sends, Sent, SessionBounded, Stands, State, Status, StopsBounded, Stream, TellsWriteBound, TextIsUsedUp, Through, after_answer, after_sending, answer_text, body_length, closes, continue_if, error, is_head, last_text, leave_of, message_answer, most_answers, nat_eq, refusal, response, state_after_all, state_after_last}
+use Rattle.http_messages.specs.declared.status.Status.TheVariants.{Busy}
+use Rattle.http_desk.proofs.Common.{Accepted, Answer, Answers, Appends, Appends-trans, Bytes, Closed, Command, Consumes, Consumes-nil, Consumes-trans, Ends, ExchangeBounded, Fails, HasHead, IfOk, IsFront, IsLastAnswer, Last, MatchResult, Message, Next, OnErr, Replies, Request, Result, Sends, Sent, SessionBounded, Stands, State, Status, StopsBounded, Stream, TellsWriteBound, TextIsUsedUp, Through, after_answer, after_sending, answer_text, body_length, closes, continue_if, error, is_head, last_text, leave_of, message_answer, most_answers, nat_eq, refusal, response, state_after_all, state_after_last}
 use Rattle.http_desk.proofs.Faults.{bound_sent, closed_no_bound, goes_no_bound}
 use Rattle.http_desk.proofs.Turns.{front_after, head_more, may_fail_after, message_at}
 use Rattle.http_desk.proofs.Sessions.{Begun, Carried, cuts_longer}

@@ -22,5 +22,6 @@ pub mod Options
 pub mod Strings
 pub mod Values
 pub mod Named
+pub mod Purposes
 pub mod Meanings
 pub mod OneRun

@@ -6,8 +6,7 @@ use Rattle.office_core.specs.declared.command.Command.TheVariants.{Import}
 use Rattle.office_core.specs.Rules as machine
 use Rattle.http_messages.specs.Answers as answers
 use Rattle.http_desk.specs.Session.{state_after}
-use Rattle.http_desk.specs.Runs.{carried_out}
-use Rattle.http_desk.proofs.Common.{AllByRecursion, AllMean, Answer, Answers, Asks, BadRequest, BodyCut, Bytes, Command, Does, Ended, Fails, Fixed, HasCarriedOut, HeadCut, IfSome, Last, LengthRequired, Meaning, Message, NamesDays, NamesTexts, NoHead, NotFound, Nothing, Puts, Refuses, Request, Route, Session, State, TakesFile, TakesForm, ToDo, ToTell, all_messages, answers_of, by_route, bytes_eq, command_in, commands_among, done_if_read, error, is_none, is_post, machines_answers, message_in, method_of, not, not_allowed, path_of, route_of, state_after_all, state_after_last}
+use Rattle.http_desk.proofs.Common.{AllByRecursion, AllMean, Answer, Answers, Asks, BadRequest, BodyCut, Bytes, Command, Does, Ended, Fails, Fixed, HasCarriedOut, HeadCut, IfSome, Last, LengthRequired, Meaning, Message, NamesDays, NamesTexts, NoHead, NotFound, Nothing, Puts, Refuses, Request, Route, Session, State, TakesFile, TakesForm, ToDo, ToTell, all_messages, answers_of, by_route, bytes_eq, carried_out, command_in, commands_among, done_if_read, error, is_none, is_post, machines_answers, message_in, method_of, not, not_allowed, path_of, route_of, state_after_all, state_after_last}
 use Rattle.http_desk.proofs.Named.{Names, IsNamed, bodies_name, routes_named}
 
 -- ---- one message

@@ -10,9 +10,8 @@ use Rattle.office_core.proofs.Published.{only_published}
 use Rattle.http_messages.specs.declared.body_form.Form.TheVariants as form
 use Rattle.http_messages.specs.Answers as answers
 use Rattle.http_desk.specs.PublicSessions.{IsBelowPublic, IsForThePublic, IsAnsweredInPublic, AreAnsweredInPublic}
-use Rattle.http_desk.specs.Runs.{carried_out}
 use Rattle.http_desk.specs.Session.{state_after}
-use Rattle.http_desk.proofs.Common.{Answer, Asks, BadRequest, Bytes, Command, Does, Ended, Fixed, IfSome, LengthRequired, Meaning, Message, NotFound, PrintsPublished, Puts, Request, Route, Session, State, TakesFile, TakesForm, ToDo, ToTell, all_messages, by_route, bytes_eq, command_in, command_of, done_if_read, error, is_none, is_post, method_of, not, not_allowed, number_at, of_told, path_of, route_of, value_of}
+use Rattle.http_desk.proofs.Common.{Answer, Asks, BadRequest, Bytes, Command, Does, Ended, Fixed, IfSome, LengthRequired, Meaning, Message, NotFound, PrintsPublished, Puts, Request, Route, Session, State, TakesFile, TakesForm, ToDo, ToTell, all_messages, by_route, bytes_eq, carried_out, command_in, command_of, done_if_read, error, is_none, is_post, method_of, not, not_allowed, number_at, of_told, path_of, route_of, value_of}
 use Rattle.http_desk.proofs.Options.{each_then, each_map}
 use Rattle.http_desk.proofs.Public.{IsOpen, public_routes}
 

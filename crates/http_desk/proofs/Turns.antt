@@ -1,12 +1,13 @@
 -- Lemmas on one message's place.
 use Rattle.std.proofs.Common.{◌≡◌, ◌<◌, ◌≤◌, ◌+◌, ◌⊎◌, inl, inr, ℕ, List, [], ◌++◌, length, take, drop, refl, sym, ap, ◌∙◌, subst, arith, true, false, Bool, codes, append_assoc, Option, length-take, length-drop, length-append, take-append-drop, drop-drop}
-use Rattle.std.specs.Prelude.{◌||◌, Ok}
+use Rattle.std.specs.Prelude.{◌||◌, Ok, Err}
 use Rattle.http_desk.specs.declared.session_end.Ended.TheVariants.{Cut, Bound}
 use Rattle.http_desk.specs.declared.output.Sent.TheVariants.{All, Failed, Bound as OutOfTurns}
 use Rattle.http_messages.specs.HeadScan.{scan}
 use Rattle.http_desk.specs.Session.{state_after}
 use Rattle.http_desk.specs.Exchanges.{Refused}
-use Rattle.http_desk.proofs.Common.{Accepted, Answer, Answers, AnswersTo, Appends, Begins, BodyCut, Busy, Bytes, Closed, Command, Consumes-nil, Ended, Ends, Err, Exchange, Fails, Fine, Goes, HasHead, HeadCut, IfOk, IsAccepted, IsBlank, IsBusyWith, IsClosing, IsFront, IsHeadCut, Judges, Last, LastLeavesOpen, MatchResult, MayFail, Message, Next, Nothing, OnErr, OnOk, ReadFault, Replies, Request, Result, Sends, Sent, Stands, State, Status, StaysFound, StaysFoundOrBusy, Stops, Through, Turn, Verdict, Whole, after_sending, answer_text, body_length, closes, continue_if, drop-append-le, error, is_head, last_text, longest_head, message_text, most_answers, nat_eq, refusal, response, scan_take_more, state_after_last, take-append-le}
+use Rattle.http_messages.specs.declared.status.Status.TheVariants.{Busy}
+use Rattle.http_desk.proofs.Common.{Accepted, Answer, Answers, AnswersTo, Appends, Begins, BodyCut, Bytes, Closed, Command, Consumes-nil, Ended, Ends, Exchange, Fails, Fine, Goes, HasHead, HeadCut, IfOk, IsAccepted, IsBlank, IsBusyWith, IsClosing, IsFront, IsHeadCut, Judges, Last, LastLeavesOpen, MatchResult, MayFail, Message, Next, Nothing, OnErr, OnOk, ReadFault, Replies, Request, Result, Sends, Sent, Stands, State, Status, StaysFound, StaysFoundOrBusy, Stops, Through, Turn, Verdict, Whole, after_sending, answer_text, body_length, closes, continue_if, drop-append-le, error, is_head, last_text, longest_head, message_text, most_answers, nat_eq, refusal, response, scan_take_more, state_after_last, take-append-le}
 
 -- ---- heads
 

@@ -12,6 +12,7 @@ pub mod Exchanges
 pub mod MachineAnswers
 pub mod Bounds
 pub mod Runs
+pub mod Purposes
 pub mod Headline
 pub mod PublicSessions
 pub mod WorkedExamples

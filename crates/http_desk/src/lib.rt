@@ -4,8 +4,10 @@
 pub mod input_buffer;
 pub mod laws;
 pub mod message_input;
+pub mod office_call;
 pub mod output;
 pub mod reply;
+pub mod requests;
 pub mod responses;
 pub mod session;
 pub mod session_end;

@@ -22,7 +22,8 @@ ghost use Rattle.http_desk.specs.StreamFaults.{TellsWriteBound, TextIsUsedUp, se
 use crate::message_input::{FoundBody, FoundHead, body_len, gather_body, gather_head};
 use crate::output::Sent;
 use crate::reply::{send_answer, send_continue};
-use crate::responses::{Means, prepare};
+use crate::requests::Means;
+use crate::responses::prepare;
 use crate::session_end::{Ended, Next};
 use crate::streams::{Sink, Source};
 use http_messages::answers::AnswerView;

@@ -8,3 +8,4 @@ pub mod Members
 pub mod Answers
 pub mod Replies
 pub mod WorkedExamples
+pub mod WorkedTable

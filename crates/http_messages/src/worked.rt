@@ -1,5 +1,6 @@
 //! Small cases of the definitions, computed.
 ghost use Rattle.http_messages.specs.WorkedExamples.{Paths, Read, Weighed};
+ghost use Rattle.http_messages.specs.WorkedTable.{Tabled};
 
 /// Paths of targets.
 pub fn worked_paths()
@@ -14,4 +15,9 @@ pub fn worked_heads()
 /// Bodies and the commands that they give.
 pub fn worked_bodies()
     ensures { Read }
+{}
+
+/// All routes: the table has these and no others.
+pub fn worked_table()
+    ensures { Tabled }
 {}

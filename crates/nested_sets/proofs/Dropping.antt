@@ -24,7 +24,8 @@ use Rattle.office_tables.proofs.Creations.{naming}
 use Rattle.office_tables.proofs.Errors.{stops}
 use Rattle.office_tables.proofs.Failures.{IsWhole, fails_as}
 use Rattle.office_tables.proofs.Steps.{went, same_value}
-use Rattle.nested_sets.proofs.Common.{AllByRecursion, BlamesDisk, Command, Continues, Database, DropTable, Executes, First, HasCause, HasCleanDisk, HasMade, IsAborted, IsDatabase, IsLive, IsMisplaced, KeepsRows, Knows, MayCommit, Says, Shows, State, StoreFault, Survives, Table, Trees, Writes, all_weaker, catalogue_schema, early, edit_of, element, failed_cause, fault_of, housing, le_refl, link, list_all, mode_of, permit, schema, stopped, to_unit}
+use Rattle.sqlite.specs.Table.{Table}
+use Rattle.nested_sets.proofs.Common.{AllByRecursion, BlamesDisk, Command, Continues, Database, DropTable, Executes, First, HasCause, HasCleanDisk, HasMade, IsAborted, IsDatabase, IsLive, IsMisplaced, KeepsRows, Knows, MayCommit, Says, Shows, State, StoreFault, Survives, Trees, Writes, all_weaker, catalogue_schema, early, edit_of, element, failed_cause, fault_of, housing, le_refl, link, list_all, mode_of, permit, schema, stopped, to_unit}
 
 abbrev pub drop_text : List ℕ
 drop_text = codes "DROP TABLE link"

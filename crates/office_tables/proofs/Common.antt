@@ -55,7 +55,7 @@ pub use Rattle.sqlite_schema.specs.declared.schema.Constraint.TheVariants.{Check
 pub use Rattle.sqlite_schema.specs.declared.schema.Keys.{Keys}
 pub use Rattle.sqlite_schema.specs.declared.schema.Keys.TheVariants.{Enforced}
 pub use Rattle.sqlite_schema.specs.declared.schema.Reference.{Reference}
-pub use Rattle.sqlite_trees.proofs.ListLemmas.{IsPermutation-filter, all-append, all-map, all-permutation, all_both, all_from_map, all_of, all_weaker, ascending-filter, ascending-map, ascending_from_map, ascending_weaker, filter-map, filter_all, filter_none, filter_same, map-map, pull_back}
+pub use Rattle.sqlite_trees.proofs.ListLemmas.{IsPermutation-filter, all-append, all-map, all-permutation, all_both, all_from_map, all_of, all_weaker, ascending-filter, ascending-map, ascending_from_map, ascending_weaker, filter-map, filter_all, filter_none, filter_same, flat_map-map, flat_map_same_on, map-flat_map, map-map, pull_back}
 pub use Rattle.sqlite_trees.specs.View.{is_int}
 pub use Rattle.sqlite_trees.specs.declared.error.StoreError.{StoreError}
 pub use Rattle.sqlite_trees.specs.declared.error.StoreError.TheVariants.{Broken, Corrupt, Full, Io, Unstorable}

@@ -42,3 +42,4 @@ pub mod StatementEnds
 pub mod LookUps
 pub mod StoreCalls
 pub mod statements
+pub mod TwoTables

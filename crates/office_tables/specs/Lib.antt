@@ -24,3 +24,4 @@ pub mod RowNumbers
 pub mod Permits
 pub mod SharedRows
 pub mod RowCells
+pub mod JoinedRows

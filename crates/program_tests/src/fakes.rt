@@ -164,7 +164,8 @@ impl Write for Page {
 }
 
 /// A port with a queue of clients, each with the text that it sends. The answers to all clients go to one pipe, with a
-/// bar after each client. It notes the number that it was bound to, and counts the clients that were taken and left.
+/// bar after each client. It notes the number that it was bound to, and counts the clients that were taken and left. Once
+/// it is shut, none can be taken.
 #[derive(Drop)]
 pub struct Queue<'a> {
     clients: &'a [&'a str],
@@ -218,6 +219,9 @@ impl<'a> Port for Queue<'a> {
     }
 
     fn take(&mut self) -> Option<(Pieces<'a>, PipeWriter)> {
+        if self.is_shut {
+            return None;
+        }
         let clients = self.clients;
         let client = clients.get(self.taken)?;
         let writer = self.line.try_clone().ok()?;

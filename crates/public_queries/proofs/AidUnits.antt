@@ -7,9 +7,8 @@ use Rattle.tree_core.specs.declared.marks.Mark.{Mark}
 use Rattle.catalogue_core.specs.UnitMarks.{AreWalkMarks, mark_of, without_number}
 use Rattle.catalogue_core.proofs.DistinctLists.{all_so}
 use Rattle.catalogue_core.proofs.EachAfter.{all_tree}
-use Rattle.catalogue_core.proofs.EachOf.{all_append, all_split}
 use Rattle.catalogue_core.proofs.NodeLemmas.{length-nodes}
-use Rattle.public_queries.proofs.Common.{AllByRecursion, BoxKey, Catalogue, Empty, Forest, Full, HasDistinctIds, IsKept, IsOf, Node, Told, Unit, UnitValues, Walked, box_number, each, false≢true, has, has_id, identifier, is_closed, is_later, nodes, nodes-each, numbered_boxes, own_lines, public_unit, public_units, seen_of, seen_values, size, size-each, stub_of, title, tree, walk, with_numbers, ℤ}
+use Rattle.public_queries.proofs.Common.{AllByRecursion, BoxKey, Catalogue, Empty, Forest, Full, HasDistinctIds, IsKept, IsOf, Node, Told, Unit, UnitValues, Walked, all_append, all_split, box_number, each, false≢true, has, has_id, identifier, is_closed, is_later, nodes, nodes-each, numbered_boxes, own_lines, public_unit, public_units, seen_of, seen_values, size, size-each, stub_of, title, tree, walk, with_numbers, ℤ}
 use Rattle.public_queries.proofs.FoundUnits.{found_each}
 
 -- ---- what is read of one unit

@@ -6,6 +6,7 @@ pub use Rattle.std.specs.Prelude.{IfOk, IsErr, IsErrAnd, codes, filter_map, int_
 pub use Rattle.sqlite.specs.Effect.{Database}
 pub use Rattle.sqlite.specs.Held.{Held, state}
 pub use Rattle.sqlite.specs.State.{HasCleanDisk, Survives}
+pub use Rattle.catalogue_core.proofs.EachOf.{all_append, all_split, some_found}
 pub use Rattle.catalogue_core.proofs.PublicPaths.{known_of, number_known}
 pub use Rattle.catalogue_core.specs.Aids.{Repository, identifier_of, numbered_boxes, shown_below, shown_unit}
 pub use Rattle.catalogue_core.specs.Bounds.{IsKept}
@@ -38,6 +39,7 @@ pub use Rattle.office_tables.specs.declared.fault.StoreFault.{StoreFault}
 pub use Rattle.public_queries.specs.FindingAids.{IsOf, KeepsUnits, Walked, along, kept_row, public_units, seen_of, seen_values, shown_at, with_numbers}
 pub use Rattle.public_queries.specs.HeadLines.{all_bare, are_open, bare_below, bare_body, head_alone, ids_of, is_open_on, repository_of, shows_last}
 pub use Rattle.public_queries.specs.KnownPaths.{AreHeadsOf, IsTellable, RepresentsUnit}
+pub use Rattle.public_queries.specs.OwnRows.{is_no_draft}
 pub use Rattle.public_queries.specs.PageLines.{box_lines, closed_page, housed_lines, lines_or, nearest_lines, page_of_units}
 pub use Rattle.public_queries.specs.PathValues.{coded_of, coded_way, unit_values}
 pub use Rattle.public_queries.specs.declared.path_values.OnPath.{OnPath}

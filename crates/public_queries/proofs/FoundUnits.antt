@@ -3,8 +3,7 @@ use Rattle.std.proofs.Common.{◌≡◌, ℕ, zero, suc, ◌+◌, ◌<◌, ◌^�
 use Rattle.std.specs.Prelude.{map}
 use Rattle.std.specs.List.{IsDistinct, find}
 use Rattle.tree_core.proofs.Lists.{eqb_comm}
-use Rattle.catalogue_core.proofs.EachOf.{all_split, some_found}
-use Rattle.public_queries.proofs.Common.{AllByRecursion, Catalogue, Empty, Forest, Head, IsKept, Node, Unit, cases_lt, false≢true, has, has_id, head_of, length-map, no_unit, nodes, path}
+use Rattle.public_queries.proofs.Common.{AllByRecursion, Catalogue, Empty, Forest, Head, IsKept, Node, Unit, all_split, cases_lt, false≢true, has, has_id, head_of, length-map, no_unit, nodes, path, some_found}
 
 pub path_all : (P : Unit → Type 0) (is : Unit → Bool) (f : Forest Unit) → AllByRecursion P (nodes f)
     → AllByRecursion P (path is f)

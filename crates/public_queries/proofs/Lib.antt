@@ -13,5 +13,6 @@ pub mod FoundUnits
 pub mod HeadsPrinted
 pub mod FondsPrinted
 pub mod PagePrinted
+pub mod OwnRows
 pub mod PageAnswers
 pub mod LaterKnowing

@@ -4,8 +4,9 @@ use Rattle.std.specs.Prelude.{map}
 use Rattle.std.specs.List.{IsDistinct, find}
 use Rattle.office_core.specs.State.{State}
 use Rattle.office_core.specs.declared.query.Query.TheVariants as query
-use Rattle.public_queries.proofs.Common.{AllByRecursion, Bytes, HasDistinctIds, Head, IsSoundOffice, OfficeRow, Shown, Text, Unit, UnitValues, Unknown, UnknownUnit, all_bare, answer, closed_page, coded_way, each, has_id, head_alone, head_of, ids_of, is_closed, is_later, map-append, no_unit, nodes, nodes-each, office_kept, office_of, page, page_of_units, part_below, path, press, repository_of, shows_last, tops, unit_values}
+use Rattle.public_queries.proofs.Common.{AllByRecursion, Bytes, HasDistinctIds, Head, IsSoundOffice, OfficeRow, Shown, Text, Unit, UnitValues, Unknown, UnknownUnit, all_bare, answer, closed_page, coded_way, each, has_id, head_alone, head_of, ids_of, is_closed, is_later, is_no_draft, map-append, no_unit, nodes, nodes-each, office_kept, office_of, page, page_of_units, part_below, path, press, repository_of, shows_last, tops, unit_values}
 use Rattle.public_queries.proofs.FoundUnits.{path_all, found_each}
+use Rattle.public_queries.proofs.OwnRows.{not_shown}
 use Rattle.public_queries.proofs.Standing.{shown_in, nowhere, Stands, stands}
 use Rattle.public_queries.proofs.PagePrinted.{page_hidden, page_closed, page_told, is_there, last_same}
 
@@ -16,6 +17,10 @@ module _ (s : State) (sound : IsSoundOffice s) where
   pub path_found : (u : ℕ)
       → AllByRecursion (λ (x : Unit). find (has_id x.id) (nodes s.catalogue.forest) ≡ Some x) (path (has_id u) s.catalogue.forest)
   path_found u = path_all _ (has_id u) s.catalogue.forest (found_each (nodes s.catalogue.forest) sound.sound.units.ids)
+
+  pub alone : (u : ℕ) → is_no_draft (find (has_id u) (nodes s.catalogue.forest)) ≡ false
+      → shown_in s.day u s.catalogue.forest ≡ false
+  alone u e = not_shown s.day u s.catalogue.forest (path_found u) e
 
   -- a number that a table cannot keep is no unit's
   pub far : (u : ℕ) → 2 ^ 63 ≤ u → Unknown UnknownUnit ≡ answer s (query.Page u)

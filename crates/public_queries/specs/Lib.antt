@@ -1,6 +1,7 @@
 pub mod InformedAnswers
 pub mod KnownPaths
 pub mod HeadLines
+pub mod OwnRows
 pub mod FindingAids
 pub mod PathValues
 pub mod PageLines

@@ -16,6 +16,7 @@ ghost use Rattle.public_queries.specs.InformedAnswers.{RespondsKnowing};
 ghost use Rattle.public_queries.specs.FindingAids.{KeepsUnits, Walked, along, kept_row, public_units, shown_at};
 ghost use Rattle.public_queries.specs.KnownPaths.{IsTellable};
 
+use crate::own_rows::is_published;
 use crate::path_heads::{identifiers_above, shows_last};
 use crate::visible_unit::{Seen, seen_unit};
 use catalogue_store::{OfficeRow, Places, branch_marks, path_heads};
@@ -118,8 +119,27 @@ fn branch_text<P: Places, S: Alter>(
     units_text(alloc, tables, known, above, &kept)
 }
 
-/// Answers with the finding aid of a unit, or with `UnknownUnit` if the public is shown no such
-/// unit. `known` must be the office's row.
+/// Answers with the finding aid of a unit, or with `UnknownUnit` if its path says that the public is not shown it.
+fn aid_on_path<P: Places, S: Alter>(
+    alloc: Global,
+    tables: &mut Tables<P, S>,
+    known: &OfficeRow,
+    unit: Number,
+) -> Result<Answer, StoreFault>
+    ensures { RespondsKnowing P.represents P.version S.Store (λ s. known.now ≡ office_of s) (query.Aid unit)
+        tables.old tables.new result }
+{
+    let way = path_heads(alloc, tables, unit)?;
+    if !shows_last(&way, known.day) {
+        return Ok(Answer::Unknown(Refusal::UnknownUnit));
+    }
+    let above = identifiers_above(alloc, &way)?;
+    let text = branch_text(alloc, tables, known, unit, above)?;
+    Ok(Answer::Text(text))
+}
+
+/// Answers with the finding aid of a unit, or with `UnknownUnit` if the public is shown no such unit. The unit's own
+/// row is read first. `known` must be the office's row.
 pub fn aid<P: Places, S: Alter>(
     alloc: Global,
     tables: &mut Tables<P, S>,
@@ -132,11 +152,9 @@ pub fn aid<P: Places, S: Alter>(
     let Some(number) = Number::of(unit) else {
         return Ok(Answer::Unknown(Refusal::UnknownUnit));
     };
-    let way = path_heads(alloc, tables, number)?;
-    if !shows_last(&way, known.day) {
+    let published = is_published(alloc, tables, number)?;
+    if !published {
         return Ok(Answer::Unknown(Refusal::UnknownUnit));
     }
-    let above = identifiers_above(alloc, &way)?;
-    let text = branch_text(alloc, tables, known, number, above)?;
-    Ok(Answer::Text(text))
+    aid_on_path(alloc, tables, known, number)
 }

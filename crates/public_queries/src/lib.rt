@@ -4,6 +4,7 @@
 
 mod aids;
 mod head_lines;
+mod own_rows;
 mod page_lines;
 mod pages;
 mod path_heads;

@@ -16,6 +16,7 @@ ghost use Rattle.public_queries.specs.PageLines.{page_of_units};
 ghost use Rattle.public_queries.specs.PathValues.{coded_way, unit_values};
 
 use crate::head_lines::{bare_units, head_alone};
+use crate::own_rows::is_published;
 use crate::page_lines::{print_closed, print_told};
 use crate::path_heads::{identifiers, shows_last};
 use crate::path_values::with_codes;
@@ -107,8 +108,25 @@ fn shown_page<P: Places, S: Alter>(
     Ok(Answer::Text(text))
 }
 
-/// Answers with the page of a unit, or with `UnknownUnit` if the public is shown no such unit.
-/// `known` must be the office's row.
+/// Answers with the page of a unit, or with `UnknownUnit` if its path says that the public is not shown it.
+fn page_on_path<P: Places, S: Alter>(
+    alloc: Global,
+    tables: &mut Tables<P, S>,
+    known: &OfficeRow,
+    unit: Number,
+) -> Result<Answer, StoreFault>
+    ensures { RespondsKnowing P.represents P.version S.Store (λ s. known.now ≡ office_of s) (query.Page unit)
+        tables.old tables.new result }
+{
+    let way = path_heads(alloc, tables, unit)?;
+    if !shows_last(way.as_slice(), known.day) {
+        return Ok(Answer::Unknown(Refusal::UnknownUnit));
+    }
+    shown_page(alloc, tables, known, unit, way.as_slice())
+}
+
+/// Answers with the page of a unit, or with `UnknownUnit` if the public is shown no such unit. The unit's own row is
+/// read first. `known` must be the office's row.
 pub fn page<P: Places, S: Alter>(
     alloc: Global,
     tables: &mut Tables<P, S>,
@@ -121,9 +139,9 @@ pub fn page<P: Places, S: Alter>(
     let Some(number) = Number::of(unit) else {
         return Ok(Answer::Unknown(Refusal::UnknownUnit));
     };
-    let way = path_heads(alloc, tables, number)?;
-    if !shows_last(way.as_slice(), known.day) {
+    let published = is_published(alloc, tables, number)?;
+    if !published {
         return Ok(Answer::Unknown(Refusal::UnknownUnit));
     }
-    shown_page(alloc, tables, known, number, way.as_slice())
+    page_on_path(alloc, tables, known, number)
 }

@@ -1,11 +1,11 @@
 -- Numbers that are looked at one by one.
 use Rattle.std.proofs.Common.{◌≡◌, ◌∙◌, ℕ, zero, suc, ◌+◌, ◌<◌, ◌≤◌, Bool, true, false, List, [], ◌∷◌, length, map, take, get_or, refl, sym, ap, subst, arith}
 use Rattle.std.specs.Prelude.{◌&&◌}
-use Rattle.refinement.proofs.Common.{Span, get_or-map, length-map, list_all}
+use Rattle.refinement.proofs.Common.{Mark, get_or-map, length-map, list_all}
 
 -- ---- one more of those that pass
 
-all_more : (p : ℕ → Bool) (xs : List ℕ) (i : ℕ) → i < length xs → list_all p (take i xs) ≡ true
+pub all_more : (p : ℕ → Bool) (xs : List ℕ) (i : ℕ) → i < length xs → list_all p (take i xs) ≡ true
     → p (get_or xs i 0) ≡ true → list_all p (take (i + 1) xs) ≡ true
 all_more p [] i low so here = absurd (omega (arith, low))
 all_more p (x ∷ xs) zero low so here = rw here refl
@@ -40,16 +40,16 @@ all_of p (x ∷ xs) (suc i) high so = at (p x) so (all_of p xs i (omega (arith, 
 
 -- ---- the units of rows
 
-module _ (p : ℕ → Bool) (rows : List Span) (i : ℕ) (d : Span) (low : i < length rows) (answer : Bool) (here : answer ≡ p (get_or rows i d).id) where
+module _ (p : ℕ → Bool) (rows : List Mark) (i : ℕ) (d : Mark) (low : i < length rows) (answer : Bool) (here : answer ≡ p (get_or rows i d).id) where
   abbrev ids : List ℕ
-  ids = map (λ (row : Span). row.id) rows
+  ids = map (λ (row : Mark). row.id) rows
 
   at : answer ≡ p (get_or ids i 0)
-  at = here ∙ ap p (sym (get_or-map (λ (row : Span). row.id) rows i d 0 low))
+  at = here ∙ ap p (sym (get_or-map (λ (row : Mark). row.id) rows i d 0 low))
 
   pub more_clean : answer ≡ true → list_all p (take i ids) ≡ true → list_all p (take (i + 1) ids) ≡ true
   more_clean held so_far =
-      all_more p ids i (omega (arith, low, length-map rows (λ (row : Span). row.id))) so_far (sym at ∙ held)
+      all_more p ids i (omega (arith, low, length-map rows (λ (row : Mark). row.id))) so_far (sym at ∙ held)
 
   pub not_clean : answer ≡ false → false ≡ list_all p ids
-  not_clean fails = not_all p ids i (omega (arith, low, length-map rows (λ (row : Span). row.id))) (sym at ∙ fails)
+  not_clean fails = not_all p ids i (omega (arith, low, length-map rows (λ (row : Mark). row.id))) (sym at ∙ fails)

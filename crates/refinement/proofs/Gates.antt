@@ -1,9 +1,9 @@
 -- The gate as it is read from tables, and as the rules have it.
 use Rattle.std.proofs.Common.{◌≡◌, ℕ, zero, suc, ◌+◌, ◌<◌, Bool, true, false, not, cond, List, [], ◌∷◌, length, take, Option, Some, None, refl, sym, ap, subst, ◌∙◌, arith}
-use Rattle.std.specs.Prelude.{filter, filter_map}
+use Rattle.std.specs.Prelude.{◌||◌, filter, filter_map}
 use Rattle.desk_core.specs.declared.reader.Place.TheVariants.{Desk}
 use Rattle.office_core.specs.State.{State}
-use Rattle.refinement.proofs.Common.{AreEnough, CanBeJudged, ContainerOrder, HoldingRow, Order, OrderRow, Out, Place, Shelf, Version, cons_option, containers, first_closed, first_that, holding_row, is_closed_to, is_kept_from_holder, is_some, issued_by, issued_of, lowest_withheld, nth, opens, option_map, order_out, order_row, order_rows, slice_index_or, some_and, tables, ticket_of}
+use Rattle.refinement.proofs.Common.{AreEnough, CanBeJudged, ContainerOrder, HoldingRow, Order, OrderRow, Out, Place, Shelf, Version, cons_option, containers, first_closed, first_that, holding_row, is_closed_to, is_kept_from_holder, is_some, issued_by, issued_of, list_any, lowest_withheld, nth, opens, option_map, order_out, order_row, order_rows, slice_index_or, some_and, tables, ticket_of}
 use Rattle.refinement.proofs.RowsOfLists.{found_row}
 
 -- ---- the first that passes, found one by one
@@ -31,6 +31,17 @@ none_more p (x ∷ xs) (suc i) d none low so = let e : suc (i + 1) ≡ suc i + 1
         → cond b (Some x) (first_that p (take (i + 1) xs)) ≡ None
     at true none later = absurd (cc)
     at false none later = later none (omega (arith, low)) so
+
+-- one of these is closed to its reader
+pub some_closed : (s : State) (loans : List ContainerOrder)
+    → is_some (first_closed s loans) ≡ list_any (is_closed_to s) loans
+some_closed s [] = refl
+some_closed s (loan ∷ loans) = at (is_closed_to s loan) (some_closed s loans)
+  where
+    at : (b : Bool) → is_some (first_closed s loans) ≡ list_any (is_closed_to s) loans
+        → is_some (option_map (λ (l : ContainerOrder). l.container) (cond b (Some loan) (first_that (is_closed_to s) loans))) ≡ (b || list_any (is_closed_to s) loans)
+    at true rest = refl
+    at false rest = rest
 
 module _ (version : Version) (s : State) where
   abbrev orders : List OrderRow

@@ -32,7 +32,6 @@ pub mod OpenedUnits
 pub mod Passing
 pub mod PermitFrames
 pub mod RowsOfLists
-pub mod SameRows
 pub mod Tellings
 pub mod WithheldUnits
 pub mod Paths
@@ -40,4 +39,6 @@ pub mod BranchMembers
 pub mod NamedApart
 pub mod EarlyRefusals
 pub mod JointWalks
-pub mod UnboxedMarks
+pub mod UnnumberedMarks
+pub mod MorePermits
+pub mod TellingUnits

@@ -1,9 +1,8 @@
 -- The containers that the units near a unit name, as they are read from rows.
 use Rattle.std.proofs.Common.{◌≡◌, ℕ, ◌+◌, ◌<◌, Bool, true, false, cond, not, List, [], ◌∷◌, ◌++◌, length, map, filter, take, get_or, nat_eq, refl, sym, ap, ap₂, subst, ◌∙◌, arith}
 use Rattle.std.specs.Prelude.{◌&&◌, ◌||◌, IsPermutation, Option, Some, None}
-use Rattle.std.proofs.lemmas.List.{append-nil}
 use Rattle.catalogue_core.proofs.DistinctLists.{all_so}
-use Rattle.refinement.proofs.Common.{AllByRecursion, BoxKey, Empty, Forest, Housing, HousingRow, Node, RepresentsHousings, Trees, Unit, all_append, all_split, any_agree, box_number, branch, counted_from, eqb_comm, filter_more, has, has_id, has_row, housing_cells, housings_of, is_one_of, is_some_there, last_or, list_any, list_any-IsPermutation, list_any-append, list_any-map, names, names_some, nat_tests, near, nearest, nodes, option_map, option_to_list, or-false, path, says_so, take_more, tree}
+use Rattle.refinement.proofs.Common.{AllByRecursion, BoxKey, Empty, Forest, Housing, HousingRow, Node, RepresentsHousings, Trees, Unit, all_append, all_split, any_agree, append-nil, box_number, branch, counted_from, eqb_comm, filter_more, has, has_id, has_row, housing_cells, housings_of, is_one_of, is_some_there, last_or, list_any, list_any-IsPermutation, list_any-append, list_any-map, names, names_some, nat_tests, near, nearest, nodes, option_map, option_to_list, or-false, path, says_so, take_more, tree}
 
 -- ---- lists
 

@@ -2,16 +2,14 @@
 use Rattle.std.proofs.Common.{◌≡◌, ℕ, ℤ, ◌<◌, ◌≤◌, ◌^◌, zero, suc, Bool, true, false, not, ◌&&◌, List, [], ◌∷◌, length, map, Option, Some, None, refl, sym, ap, ap₂, subst, ◌∙◌, nat_eq, arith}
 use Rattle.std.specs.Prelude.{◌||◌, filter, IsPermutation}
 use Rattle.desk_core.specs.DeskRows.{Desk}
-use Rattle.desk_store.specs.Permits.{permits_of}
 use Rattle.desk_store.specs.declared.reader_permits.Permit.{Permit}
 use Rattle.catalogue_core.specs.ContainerContents.{is_open}
 use Rattle.catalogue_core.proofs.OpenLemmas.{open_by_marks}
 use Rattle.catalogue_core.proofs.UnitsAfter.{each_there}
-use Rattle.tree_places.specs.Attachments.{AreAttachedRows}
 use Rattle.office_core.specs.State as office
 use Rattle.office_core.specs.State.{State}
 use Rattle.state_encoding.proofs.ReadBack.{permits_known}
-use Rattle.refinement.proofs.Common.{All-from_recursion, All-permutation, AllByRecursion, AreTheirs, BoxKey, CanBeJudged, Forest, IsPermutation-refl, PermitRow, Span, Unit, all_filtered, allows, are_clean_for, eqb_comm, false≢true, fun_ext, has_unit, int_le, is_clean_for, is_permitted, is_some_there, list_all, list_all-map, list_any, list_any-IsPermutation, list_any-map, names, naming, nodes, nth, opens, permit_rows, recursion_from_All, slice_get, some_and}
+use Rattle.refinement.proofs.Common.{All-from_recursion, All-permutation, AllByRecursion, AreAttachedMarks, AreTheirs, BoxKey, CanBeJudged, Catalogue, Forest, IsPermutation-refl, Mark, PermitRow, Unit, all_filtered, allows, are_clean_for, eqb_comm, false≢true, fun_ext, has_unit, int_le, is_clean_for, is_permitted, is_some_there, list_all, list_all-map, list_any, list_any-IsPermutation, list_any-map, names, naming, nodes, nth, opens, permit_rows, permits_of, recursion_from_All, slice_get, some_and}
 use Rattle.refinement.proofs.NamedContainers.{named, names_it}
 
 -- ---- lists
@@ -108,11 +106,11 @@ some_mapped : (units : List Unit) → is_some_there units ≡ is_some_there (map
 some_mapped [] = refl
 some_mapped (unit ∷ units) = refl
 
-abbrev row_ids : List Span → List ℕ
-row_ids rows = map (λ (row : Span). row.id) rows
+abbrev row_ids : List Mark → List ℕ
+row_ids rows = map (λ (row : Mark). row.id) rows
 
-rows_there : (f : Forest Unit) (rows : List Span) → AllByRecursion (λ id. has_unit f id ≡ true) (row_ids rows)
-    → AllByRecursion (λ (row : Span). has_unit f row.id ≡ true) rows
+rows_there : (f : Forest Unit) (rows : List Mark) → AllByRecursion (λ id. has_unit f id ≡ true) (row_ids rows)
+    → AllByRecursion (λ (row : Mark). has_unit f row.id ≡ true) rows
 rows_there f [] all = tt
 rows_there f (row ∷ rows) all = (all.0, rows_there f rows all.1)
 
@@ -121,7 +119,19 @@ mapped : (P : ℕ → Type 0) (units : List Unit) → AllByRecursion (λ (unit :
 mapped P [] h = tt
 mapped P (unit ∷ units) h = (h.0, mapped P units h.1)
 
-module _ (stands : Forest ℕ → Span → Type 0) (s : State) (judged : CanBeJudged s) (t n : ℕ) (rows : List Span) (at : AreAttachedRows stands s.catalogue n rows) where
+-- the rows are those of units of the catalogue
+pub theirs : (tells : Catalogue → Mark → Type 0) (c : Catalogue) (n : ℕ) (rows : List Mark)
+    → AreAttachedMarks tells c n rows → AreTheirs tells c rows
+theirs tells c n rows at =
+    let f = c.forest in
+    let units = filter (names c.containers n) (nodes f) in
+    let P : ℕ → Type 0 = λ id. has_unit f id ≡ true in
+    let all_there = each_there (nodes f) (nodes f) (λ v h. h) in
+    let here = mapped P units (all_filtered (λ (unit : Unit). P unit.id) (names c.containers n) (nodes f) all_there) in
+    let there = recursion_from_All P (row_ids rows) (All-permutation P (map (λ (unit : Unit). unit.id) units) (row_ids rows) at.0 (All-from_recursion P (map (λ (unit : Unit). unit.id) units) here)) in
+    (at.1, rows_there f rows there)
+
+module _ (tells : Catalogue → Mark → Type 0) (s : State) (judged : CanBeJudged s) (t n : ℕ) (rows : List Mark) (at : AreAttachedMarks tells s.catalogue n rows) where
   abbrev naming_it : List Unit
   naming_it = filter (names s.catalogue.containers n) (nodes s.catalogue.forest)
 
@@ -134,19 +144,9 @@ module _ (stands : Forest ℕ → Span → Type 0) (s : State) (judged : CanBeJu
       let none : is_some_there naming_it ≡ false = some_row ∙ nothing rows empty in
       sym (opens_by s judged t n naming_it (IsPermutation-refl naming_it) ∙ ap (λ b. b && list_all (λ (unit : Unit). is_clean_for (is_permitted s.day (s.permits t)) s.day s.catalogue.forest unit.id) naming_it) none)
     where
-      nothing : (rows : List Span) → length rows ≡ 0 → is_some_there (row_ids rows) ≡ false
+      nothing : (rows : List Mark) → length rows ≡ 0 → is_some_there (row_ids rows) ≡ false
       nothing [] e = refl
       nothing (row ∷ rows) e = absurd (omega (arith, e))
-
-  -- the rows are those of units of the catalogue
-  pub theirs : AreTheirs stands s.catalogue rows
-  theirs =
-      let f = s.catalogue.forest in
-      let all_there = each_there (nodes f) (nodes f) (λ v h. h) in
-      let P : ℕ → Type 0 = λ id. has_unit f id ≡ true in
-      let here = mapped P naming_it (all_filtered (λ (unit : Unit). P unit.id) (names s.catalogue.containers n) (nodes f) all_there) in
-      let there = recursion_from_All P (row_ids rows) (All-permutation P (map (λ (unit : Unit). unit.id) naming_it) (row_ids rows) at.0 (All-from_recursion P (map (λ (unit : Unit). unit.id) naming_it) here)) in
-      (at.1, rows_there f rows there)
 
   -- the answer is whether their units are clean
   pub clean_open : (d : Desk) → d.permits ≡ permit_rows s → (permits : List Permit)
@@ -162,6 +162,6 @@ module _ (stands : Forest ℕ → Span → Type 0) (s : State) (judged : CanBeJu
       ∙ sym (ap (λ b. b && list_all (λ (unit : Unit). is_clean_for permitted s.day f unit.id) naming_it) any)
       ∙ sym (opens_by s judged t n naming_it (IsPermutation-refl naming_it))
     where
-      something : (rows : List Span) → nat_eq (length rows) 0 ≡ false → is_some_there (row_ids rows) ≡ true
+      something : (rows : List Mark) → nat_eq (length rows) 0 ≡ false → is_some_there (row_ids rows) ≡ true
       something [] e = absurd (false≢true (sym e))
       something (row ∷ rows) e = refl

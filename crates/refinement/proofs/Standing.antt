@@ -4,8 +4,7 @@ use Rattle.std.proofs.Common.{◌≡◌, ℕ, zero, suc, ◌+◌, ◌-◌, ◌<�
 use Rattle.std.specs.List.{count_by}
 use Rattle.std.specs.List.Sorted.{IsPermutation}
 use Rattle.std.proofs.lemmas.List.Sums.{sum_by-cons}
-use Rattle.std.proofs.lemmas.Option.{slice_get-get_or, slice_get_past}
-use Rattle.refinement.proofs.Common.{IsNonDecreasing, any_agree, cases_Bool, cases_eq, eq-eqb, le-ltb, length-drop, list_any, list_any-IsPermutation, lt-ltb, ltb-false, nat_tests, ne_eqb, occurs_more_than, slice_get, some_and, sum_by-IsPermutation}
+use Rattle.refinement.proofs.Common.{IsNonDecreasing, any_agree, cases_Bool, cases_eq, eq-eqb, le-ltb, length-drop, list_any, list_any-IsPermutation, lt-ltb, ltb-false, nat_tests, ne_eqb, occurs_more_than, slice_get, slice_get-get_or, slice_get_past, some_and, sum_by-IsPermutation}
 
 -- ---- one number
 

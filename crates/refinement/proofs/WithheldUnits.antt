@@ -5,8 +5,8 @@ use Rattle.tree_core.specs.Marks.{is_closed as is_mark_closed}
 use Rattle.tree_core.specs.Members.{StandsIn}
 use Rattle.catalogue_core.specs.ContainerContents.{is_open}
 use Rattle.catalogue_core.specs.Units.{is_closed}
-use Rattle.tree_places.proofs.MarkForests.{path_ids}
 use Rattle.office_core.specs.State.{State}
+use Rattle.tree_places.proofs.MarkForests.{path_ids}
 use Rattle.refinement.proofs.Common.{AreMarks, BoxKey, CanBeJudged, ContainerOrder, Empty, Forest, HousedUnit, IsHoused, Mark, Node, Unit, Withholds, and_parts, any_agree, cases_Bool, each, false≢true, has, has-each, has_id, has_unit, is_later, is_one_of, is_permitted, is_some_there, is_withheld_from, is_withheld_in, last_or, list_all, list_any, list_any-map, mark_of, names, names_some, nearest, nodes, nth, opens, option_to_list, path, path_none, paths_below, some_and, with_permit, withholds, without_number}
 use Rattle.refinement.proofs.BranchesApart.{by_nearest, lies, lying}
 use Rattle.refinement.proofs.NearRows.{all_last, all_path}

@@ -1,16 +1,12 @@
 -- The rules of the day about the containers that are out. A reader who has one must have a seat, must not have more
 -- containers than are allowed at once, and must be allowed to see what lies in it.
-use Rattle.std.specs.Global.{Global}
-use Rattle.std.specs.Prelude.{◌≡◌, ℕ, Bool, true, false, not, ◌||◌, List, [], Vec, Option, Some, None, IfSome, nat_eq, nat_lt}
+use Rattle.std.specs.Prelude.{ℕ, Bool, not, ◌||◌, List, nat_eq, nat_lt}
 use Rattle.std.specs.List.{count_by, list_any}
 use Rattle.desk_core.specs.DeskRows.{Desk, SeatRow}
 use Rattle.desk_store.specs.declared.container_orders.ContainerOrder.{ContainerOrder}
-use Rattle.office_core.specs.State.{State, containers, is_seated, opens}
+use Rattle.office_core.specs.State.{State, containers, is_seated}
 use Rattle.state_encoding.specs.Causes.{is_held_against_rules}
-use Rattle.tree_core.specs.Forest.{Forest}
-use Rattle.tree_core.specs.declared.rows.Span.{Span}
 use Rattle.refinement.specs.Gate.{is_closed_to}
-use Rattle.refinement.specs.Openness.{AreTheirs, are_clean_for}
 
 -- some container is out against a rule of the day
 abbrev pub breaks_day_rules : State → Bool
@@ -33,23 +29,6 @@ is_against_rules s loans loan = has_too_many s.settings.hands loans loan || (is_
 -- one of these containers is out against a rule of the day, given that no others are out
 abbrev pub are_against_rules : State → List ContainerOrder → Bool
 are_against_rules s loans = list_any (is_against_rules s loans) loans
-
--- ---- all that is out, judged in one walk
-
--- the rows that are left to be judged are those of units of the catalogue
-abbrev pub AreUnitsLeft : (Forest ℕ → Span → Type 0) → State → Option (Vec Span Global) → Type 0
-AreUnitsLeft stands s found = IfSome found (λ rows. AreTheirs stands s.catalogue rows.items)
-
--- The container is open to the reader, if nothing withholds the units of the rows that are left from a reader without
--- permits. If there are no such rows at all, it is closed.
-abbrev pub TellsOpen : State → ℕ → ℕ → Option (Vec Span Global) → Type 0
-TellsOpen s t c None = opens s t c ≡ false
-TellsOpen s t c (Some rows) = opens s t c ≡ are_clean_for s.day [] s.catalogue rows.items
-
--- the same of loans: one of them is closed to its reader
-abbrev pub TellsClosed : State → List ContainerOrder → Option (Vec Span Global) → Type 0
-TellsClosed s loans None = list_any (is_closed_to s) loans ≡ true
-TellsClosed s loans (Some rows) = list_any (is_closed_to s) loans ≡ not (are_clean_for s.day [] s.catalogue rows.items)
 
 -- ---- numbers and rows
 

@@ -7,3 +7,4 @@ pub mod AccessConditions
 pub mod Openness
 pub mod Gate
 pub mod DayRules
+pub mod KnownUnits

@@ -1,29 +1,26 @@
 //! Whether a container is open to a reader.
 
-ghost use Rattle.std.specs.Cmp.Lexicographic.{pointwise};
-ghost use Rattle.std.specs.Prelude.{◌≡◌, ◌&&◌, ⊤, IfErr, IfOk, [], map, true};
+ghost use Rattle.std.specs.Prelude.{◌≡◌, ⊤, IfErr, IfOk, map};
 ghost use Rattle.std.specs.List.{AllByRecursion, list_any};
 ghost use Rattle.sqlite.specs.Held.{state};
 ghost use Rattle.sqlite.specs.State.{HasCleanDisk};
 ghost use Rattle.catalogue_core.specs.OpenMarks.{is_opened_above, with_permit};
 ghost use Rattle.office_core.specs.State.{opens};
-ghost use Rattle.office_core.specs.Words.{is_empty};
-ghost use Rattle.tree_core.specs.Forest.{each};
 ghost use Rattle.catalogue_core.specs.Bounds.{IsKept};
-ghost use Rattle.catalogue_core.specs.Units.{«Unit» as Described, is_later};
+ghost use Rattle.catalogue_core.specs.Units.{is_later};
 ghost use Rattle.catalogue_statements.specs.Representation.{Represents};
 ghost use Rattle.office_tables.specs.Calls.{Answers, StoreAnswers};
 ghost use Rattle.office_tables.specs.Faults.{BlamesDisk};
 ghost use Rattle.refinement.specs.AccessConditions.{CanBeJudged, RepresentsWhole};
-ghost use Rattle.refinement.specs.Openness.{AreClean, AreTheirs, TellsClean, allows, are_clean_for, is_same_row};
+ghost use Rattle.refinement.specs.Openness.{AreTheirs, TellsClean, allows, are_clean_for};
 
-use catalogue_store::{Attached, Places, attached_rows};
+use catalogue_store::{Attached, Places, attached_marks};
 use desk_store::{Permit, permits};
 use isad_core::Day;
 use office_tables::{Number, StoreFault, Tables};
 use sqlite::Alter;
 use std::alloc::{AllocError, Global};
-use tree_core::{Mark, Span, clean_contents, clean_path};
+use tree_core::{Mark, clean_contents, clean_path};
 
 /// Whether a closure lasts beyond this day.
 pub fn is_closed(until: Option<Day>, today: Day) -> bool
@@ -77,7 +74,7 @@ fn is_permitted_above(path: &[Mark]) -> bool
 }
 
 /// Whether nothing withholds the unit with these marks, nor the units that take their containers from it.
-fn is_clean(
+pub(crate) fn is_clean(
     alloc: Global,
     attached: &Attached,
     permits: &[Permit],
@@ -95,20 +92,20 @@ fn is_clean(
 
 /// Whether nothing withholds the units of these rows, nor the units that take their containers from them. The first
 /// that is withheld ends the reading. Of each path only what the one before lacks is read.
-pub(crate) fn are_clean<P: Places, S: Alter>(
+fn are_clean<P: Places, S: Alter>(
     alloc: Global,
     tables: &mut Tables<P, S>,
-    rows: &[Span],
+    rows: &[Mark],
     permits: &[Permit],
     today: Day,
 ) -> Result<bool, StoreFault>
     ensures answers { StoreAnswers S.Store (Represents P.represents P.version) IsKept tables.old tables.new result
-        (λ c. AllByRecursion (P.stands (each (λ (u : Described). u.id) c.forest)) rows.now)
-        (λ _ c yes. AreTheirs P.stands c rows.now → yes ≡ are_clean_for today permits.now c rows.now) }
+        (λ c. AllByRecursion (P.tells c) rows.now)
+        (λ _ c yes. AreTheirs P.tells c rows.now → yes ≡ are_clean_for today permits.now c rows.now) }
 {
     let mut known = Vec::new(alloc);
     for row in rows {
-        let found = P::marks_after(alloc, tables, &known, *row)?;
+        let found = P::marks_about(alloc, tables, &known, *row)?;
         if !is_clean(alloc, &found, permits, today)? {
             return Ok(false);
         }
@@ -117,89 +114,26 @@ pub(crate) fn are_clean<P: Places, S: Alter>(
     Ok(true)
 }
 
-/// What is known of a container once it is judged for a reader.
-#[derive(Debug, PartialEq, Drop)]
-pub(crate) struct Judgement {
-    /// Whether it is open to the reader.
-    pub(crate) is_open: bool,
-    /// Rows of units that nothing withholds from a reader without permits.
-    pub(crate) clean: Vec<Span>,
-}
-
-/// Whether a reader without permits asks for the units of rows that are known to be clean.
-fn are_known(permits: &[Permit], rows: &[Span], clean: &[Span]) -> bool
-    ensures { result ≡ (is_empty permits.now && pointwise is_same_row rows.now clean.now) }
-{
-    permits.is_empty() && rows == clean
-}
-
-/// Whether a container is open to a reader because it is open to all.
-fn is_for_all(is_open: bool, permits: &[Permit]) -> bool
-    ensures { result ≡ (is_open && is_empty permits.now) }
-{
-    is_open && permits.is_empty()
-}
-
-/// Judges whether nothing withholds the units of these rows, nor the units that take their containers from them.
-/// `clean` are rows that are known to be clean for a reader without permits. For such a reader they are not judged
-/// again.
-fn judge_rows<P: Places, S: Alter>(
-    alloc: Global,
-    tables: &mut Tables<P, S>,
-    rows: Vec<Span>,
-    permits: &[Permit],
-    today: Day,
-    clean: Vec<Span>,
-) -> Result<Judgement, StoreFault>
-    ensures answers { StoreAnswers S.Store (Represents P.represents P.version) IsKept tables.old tables.new result
-        (λ c. AllByRecursion (P.stands (each (λ (u : Described). u.id) c.forest)) rows.items)
-        (λ _ c found. AreTheirs P.stands c rows.items → are_clean_for today [] c clean.items ≡ true
-        → (found.is_open ≡ are_clean_for today permits.now c rows.items)
-        × (are_clean_for today [] c found.clean.items ≡ true)) }
-{
-    if are_known(permits, &rows, &clean) {
-        return Ok(Judgement {
-            is_open: true,
-            clean,
-        });
-    }
-    let is_open = are_clean(alloc, tables, &rows, permits, today)?;
-    if is_for_all(is_open, permits) {
-        return Ok(Judgement {
-            is_open,
-            clean: rows,
-        });
-    }
-    Ok(Judgement { is_open, clean })
-}
-
-/// Judges whether a container is open on this day to the reader with this ticket. `clean` are rows of units that
-/// nothing withholds from a reader without permits. A container in just these units is not judged again for such a
-/// reader.
-pub(crate) fn judge<P: Places, S: Alter>(
+/// Whether a container is open on this day to the reader with this ticket.
+fn is_open<P: Places, S: Alter>(
     alloc: Global,
     tables: &mut Tables<P, S>,
     container: Number,
     ticket: u64,
     today: Day,
-    clean: Vec<Span>,
-) -> Result<Judgement, StoreFault>
+) -> Result<bool, StoreFault>
     ensures answers { Answers S.Store (RepresentsWhole P.represents P.version) CanBeJudged tables.old tables.new result
-        (λ _. ⊤) (λ _ s found. CanBeJudged s → today ≡ s.day → AreClean s clean.items
-        → (found.is_open ≡ opens s ticket container) × AreClean s found.clean.items) }
+        (λ _. ⊤) (λ _ s yes. CanBeJudged s → today ≡ s.day → yes ≡ opens s ticket container) }
     ensures disk { HasCleanDisk (state S.Store tables.new)
         → IfErr result (BlamesDisk (state S.Store tables.old) (state S.Store tables.new)) }
 {
-    let rows = attached_rows(alloc, tables, container)?;
+    let rows = attached_marks(alloc, tables, container)?;
     if rows.is_empty() {
-        return Ok(Judgement {
-            is_open: false,
-            clean,
-        });
+        return Ok(false);
     }
     let permits = permits(alloc, tables, ticket)?;
-    let judged = judge_rows(alloc, tables, rows, &permits, today, clean)?;
-    Ok(judged)
+    let is_open = are_clean(alloc, tables, &rows, &permits, today)?;
+    Ok(is_open)
 }
 
 /// Whether a container is open on this day to the reader with this ticket. A ticket that was not given stands for the
@@ -219,6 +153,5 @@ pub fn is_open_to<P: Places, S: Alter>(
     let Some(number) = Number::of(container) else {
         return Ok(false);
     };
-    let found = judge(alloc, tables, number, ticket, today, Vec::new(alloc))?;
-    Ok(found.is_open)
+    is_open(alloc, tables, number, ticket, today)
 }

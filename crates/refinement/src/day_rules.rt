@@ -15,7 +15,7 @@ ghost use Rattle.refinement.specs.DayRules.{are_against_rules as are_against_rul
 ghost use Rattle.refinement.specs.DayRules.{has_no_row, has_too_many, occurs_more_than};
 ghost use Rattle.refinement.specs.AccessConditions.{CanBeJudged, RepresentsWhole};
 
-use crate::joint_walk::is_one_closed;
+use crate::gate::first_closed;
 use catalogue_store::Places;
 use desk_store::{ContainerOrder, TakenSeat, issued, seats};
 use isad_core::Day;
@@ -107,8 +107,8 @@ fn are_against_rules<P: Places, S: Alter>(
     if is_one_without_seat(alloc, tables, loans)? {
         return Ok(true);
     }
-    let closed = is_one_closed(alloc, tables, loans, today)?;
-    Ok(closed)
+    let closed = first_closed(alloc, tables, loans, today)?;
+    Ok(closed.is_some())
 }
 
 /// Whether some container is out against a rule of the day.

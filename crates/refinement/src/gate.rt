@@ -9,7 +9,7 @@ ghost use Rattle.office_tables.specs.Faults.{BlamesDisk};
 ghost use Rattle.refinement.specs.Gate.{first_closed as first_closed_of, gate_reply};
 ghost use Rattle.refinement.specs.AccessConditions.{CanBeJudged, RepresentsWhole};
 
-use crate::access::judge;
+use crate::joint_walk::{is_open_at, walk_orders};
 use catalogue_store::Places;
 use desk_store::{ContainerOrder, issued};
 use isad_core::Day;
@@ -17,9 +17,10 @@ use office_core::{Done, Refusal};
 use office_tables::{StoreFault, Tables};
 use sqlite::Alter;
 use std::alloc::Global;
+use std::collections::BTreeMap;
 
-/// The first of these containers that is not open on this day to the reader who has it. Containers that follow one
-/// another and lie in the same units are judged once.
+/// The first of these containers that is not open on this day to the reader who has it. Their units are read in one
+/// walk.
 pub(crate) fn first_closed<P: Places, S: Alter>(
     alloc: Global,
     tables: &mut Tables<P, S>,
@@ -31,15 +32,11 @@ pub(crate) fn first_closed<P: Places, S: Alter>(
     ensures disk { HasCleanDisk (state S.Store tables.new)
         → IfErr result (BlamesDisk (state S.Store tables.old) (state S.Store tables.new)) }
 {
-    let mut clean = Vec::new(alloc);
-    for loan in loans {
-        let loan = *loan;
-        let ticket = loan.ticket.get();
-        let found = judge(alloc, tables, loan.container, ticket, today, clean)?;
-        if !found.is_open {
-            return Ok(Some(loan.container.get()));
+    let walked = walk_orders(alloc, tables, loans, BTreeMap::new(alloc), today)?;
+    for place in 0..loans.len() {
+        if !is_open_at(alloc, tables, &walked, loans, place, today)? {
+            return Ok(Some(loans[place].container.get()));
         }
-        clean = found.clean;
     }
     Ok(None)
 }

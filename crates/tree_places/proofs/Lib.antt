@@ -1,5 +1,7 @@
 pub mod Common
+pub mod AttachedMarks
 pub mod BareRows
+pub mod ContainerUnits
 pub mod BoundLemmas
 pub mod Children
 pub mod Climbing

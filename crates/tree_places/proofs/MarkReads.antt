@@ -1,15 +1,11 @@
 -- What the rows of a unit say of its mark.
-use Rattle.std.proofs.Common.{◌≡◌, inl, inr, ℕ, zero, suc, pos, ◌+◌, ◌<◌, ◌≤◌, List, [], ◌∷◌, ◌++◌, map, filter, length, take, get_or, Some, None, option_map, Bool, true, false, not, ◌==◌, nat_eq, Less, Equal, refl, sym, ap, ap₂, ◌∙◌, arith}
+use Rattle.std.proofs.Common.{◌≡◌, inl, inr, ℕ, zero, suc, pos, ◌+◌, ◌<◌, ◌≤◌, List, [], ◌∷◌, ◌++◌, map, filter, length, take, get_or, Some, None, option_map, false, not, ◌==◌, nat_eq, Less, Equal, refl, sym, ap, ap₂, ◌∙◌, arith}
 use Rattle.std.specs.List.{find}
-use Rattle.std.specs.Ordering.{int_cmp}
-use Rattle.std.specs.Cmp.{tied_itself, int_cmp_total}
 use Rattle.isad_core.specs.declared.values.BoxKey.{BoxKey}
 use Rattle.catalogue_core.specs.ContainerContents.{is_some_there}
-use Rattle.office_tables.specs.Order.{Rises}
 use Rattle.catalogue_statements.specs.declared.row_types.Status.{Status}
 use Rattle.catalogue_statements.proofs.Numbered.{length-counted}
-use Rattle.office_tables.proofs.Rows.{had}
-use Rattle.tree_places.proofs.Common.{AllByRecursion, Forest, Has, HousingRow, IsPermutation, IsPermutation-sym, Mark, RepresentsHousings, RepresentsUnits, Span, Trees, Unit, all_has, box_number, by_number, cases_Bool, counted_from, eq-eqb, eqb-true, get_or-map, housing_cells, housings_of, is_plain_leaf, length-map, length-take-le, length_permutation, map-append, mark_at, marks_at, ne_eqb, nodes, take_all, take_more, unboxed_leaf, without_containers}
+use Rattle.tree_places.proofs.Common.{AllByRecursion, Forest, Has, HousingRow, IsPermutation, IsPermutation-sym, Mark, RepresentsHousings, RepresentsUnits, Rises, Span, Trees, Unit, all_has, box_number, by_number, cases_Bool, counted_from, eq-eqb, eqb-true, get_or-map, had, housing_cells, housings_of, int_cmp, int_cmp_total, length-map, length-take-le, length_permutation, mark_at, marks_at, ne_eqb, nodes, take_all, take_more, tied_itself}
 
 -- ---- the status
 
@@ -67,22 +63,6 @@ boxes_read db f containers at id n u ys there same perm long =
     let e = length-counted 1 u.values.boxes in
     let k = length-map (counted_from 1 u.values.boxes) (λ (box : ℕ × BoxKey). (let c : ℕ × ℕ = (box.0, box_number containers box.1) in c)) in
     some_if_long n u.values.boxes (long ∙ c ∙ d ∙ sym b ∙ a ∙ k ∙ e)
-
--- ---- a unit below the one in question
-
--- of a plain leaf the status is enough
-pub leaf_read : (mark status : Mark) → status ≡ without_containers mark → is_plain_leaf status ≡ true
-    → status ≡ unboxed_leaf mark
-leaf_read mark status is leaf =
-    let same : is_plain_leaf mark ≡ true = ap is_plain_leaf (sym is) ∙ leaf in
-    is ∙ sym (rw same refl)
-
--- else it is asked what it names
-pub below_read : (mark status : Mark) (boxed : Bool) → status ≡ without_containers mark → boxed ≡ mark.boxed
-    → is_plain_leaf status ≡ false → record status { boxed = boxed } ≡ unboxed_leaf mark
-below_read mark status boxed is names more =
-    let same : is_plain_leaf mark ≡ false = ap is_plain_leaf (sym is) ∙ more in
-    ap₂ (λ (m : Mark) (b : Bool). (let with : Mark = record m { boxed = b } in with)) is names ∙ sym (rw same refl)
 
 -- ---- mark by mark
 
@@ -143,30 +123,3 @@ pub marks_all : (spans : List Span) (units : List Unit) (i : ℕ) (marks : List 
     → map (λ (s : Span). s.id) spans ≡ map (λ (u : Unit). u.id) units → length spans ≤ i
     → marks ≡ marks_at (take i spans) (take i units) → marks ≡ marks_at spans units
 marks_all spans units i marks same high so_far = so_far ∙ all_marks spans units i same high
-
--- the same without what some marks say of containers
-pub told_more : (tell : Mark → Mark) (f : Forest Unit) (spans : List Span) (units : List Unit) (i : ℕ) (d : Span) (mark : Mark) (marks more : List Mark)
-    → AllByRecursion (Has (nodes f)) units → map (λ (s : Span). s.id) spans ≡ map (λ (u : Unit). u.id) units
-    → i < length spans
-    → ((u : Unit) → Has (nodes f) u → (get_or spans i d).id ≡ u.id → mark ≡ tell (mark_at (get_or spans i d) u))
-    → marks ≡ map tell (marks_at (take i spans) (take i units)) → more ≡ marks ++ mark ∷ []
-    → more ≡ map tell (marks_at (take (i + 1) spans) (take (i + 1) units))
-told_more tell f spans units i d mark marks more all same low answers so_far pushed =
-    let next = next_mark f spans units i d all same low in
-    pushed ∙ ap₂ (λ l m. l ++ m ∷ []) so_far (answers next.0 next.1 next.2) ∙ sym (map-append tell (marks_at (take i spans) (take i units)) (mark_at (get_or spans i d) next.0 ∷ [])) ∙ ap (map tell) next.3
-
-pub told_all : (tell : Mark → Mark) (spans : List Span) (units : List Unit) (i : ℕ) (marks : List Mark)
-    → map (λ (s : Span). s.id) spans ≡ map (λ (u : Unit). u.id) units → length spans ≤ i
-    → marks ≡ map tell (marks_at (take i spans) (take i units)) → marks ≡ map tell (marks_at spans units)
-told_all tell spans units i marks same high so_far = so_far ∙ ap (map tell) (all_marks spans units i same high)
-
--- the unit of the first row, and those of the others
-pub first_unit : (first : Span) (below : List Span) (units : List Unit)
-    → map (λ (s : Span). s.id) (first ∷ below) ≡ map (λ (u : Unit). u.id) units
-    → (u : Unit) × (us : List Unit) × (units ≡ u ∷ us) × (first.id ≡ u.id) × (map (λ (s : Span). s.id) below ≡ map (λ (u : Unit). u.id) us)
-first_unit first below [] same = absurd (let k : first.id ∷ map (λ (s : Span). s.id) below ≡ [] = same in cc)
-first_unit first below (u ∷ us) same =
-    let both : first.id ∷ map (λ (s : Span). s.id) below ≡ u.id ∷ map (λ (u : Unit). u.id) us = same in
-    let here : first.id ≡ u.id = cc in
-    let rest : map (λ (s : Span). s.id) below ≡ map (λ (u : Unit). u.id) us = cc in
-    (u, us, refl, here, rest)

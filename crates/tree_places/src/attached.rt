@@ -2,8 +2,7 @@
 
 use tree_core::Mark;
 
-/// The marks that bear on a unit: those of its path, and those of its branch. Of these only the units below it tell by
-/// `boxed` whether they name containers, and leaves only if they are drafts or closed.
+/// The marks that bear on a unit: those of its path, from the top down, and those of its branch, in walk order.
 #[derive(Debug, PartialEq, Drop)]
 pub struct Attached {
     pub path: Vec<Mark>,

@@ -10,7 +10,8 @@ use Rattle.office_tables.proofs.Queries.{plain_query, asking, answers}
 use Rattle.office_tables.proofs.Reading.{all_found}
 use Rattle.office_tables.proofs.RowReads.{all_caused}
 
-each_legible : {A B : Type 0} (tell : A → B) (P : B → Type 0) (xs : List A) → AllByRecursion (λ x. P (tell x)) xs
+-- what is told of legible records is legible
+pub each_legible : {A B : Type 0} (tell : A → B) (P : B → Type 0) (xs : List A) → AllByRecursion (λ x. P (tell x)) xs
     → AllByRecursion P (map tell xs)
 each_legible tell P [] h = tt
 each_legible tell P (x ∷ xs) h = (h.0, each_legible tell P xs h.1)

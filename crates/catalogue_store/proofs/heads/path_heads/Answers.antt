@@ -1,5 +1,6 @@
 use Rattle.std.proofs.Common.{◌≡◌, map, sym, subst, ap, ◌∙◌, true}
-use Rattle.catalogue_store.proofs.Common.{AllByRecursion, Database, IfOk-weaker, IsAborted, IsKept, LeavesUnchanged, Represents, Unit, cut_then, each, early, excused_then, has_id, has_unit, head_of, if_ok_by, last_spares, looks_then, on_err_then, on_ok_then, path, path_ids, path_in, same_fault, state, tells_not, ⊤}
+use Rattle.tree_places.proofs.MarkForests.{path_ids, path_in}
+use Rattle.catalogue_store.proofs.Common.{AllByRecursion, Database, IfOk-weaker, IsAborted, IsKept, LeavesUnchanged, Represents, Unit, cut_then, each, early, excused_then, has_id, has_unit, head_of, if_ok_by, last_spares, looks_then, on_err_then, on_ok_then, path, same_fault, state, tells_not, ⊤}
 use Rattle.catalogue_store.proofs.HeadForests.{all_there, heads_are}
 use Rattle.catalogue_store.proofs.heads.path_heads.Goals as goal
 

@@ -1,12 +1,18 @@
-use Rattle.std.proofs.Common.{◌≡◌, ◌≤◌, filter, take, length}
+use Rattle.std.proofs.Common.{◌≡◌, ◌≤◌, ◌-◌, filter, take, length}
 use Rattle.sqlite.specs.State.{HasCleanDisk}
+use Rattle.refinement.specs.KnownUnits.{AreTold}
 use Rattle.desk_commands.proofs.Common.{CanBeJudged, ContainerOrder, LeavesUnchanged, RepresentsState, State, opens, state}
 use Rattle.desk_commands.proofs.run_creation.first_open.Given as goal
 
-abbrev pub invariant-loop-order : goal.invariant-loop-order
-invariant-loop-order g l = record {
+abbrev pub invariant-loop-place : goal.invariant-loop-place
+invariant-loop-place g l = record {
   looks : LeavesUnchanged (state g.S.Store l.fn.tables) (state g.S.Store l.tables);
-  few : length l.due.items ≤ l.most;
+  room : l.most ≤ l.part;
+  within : l.place ≤ length l.waiting;
   so_far : HasCleanDisk (state g.S.Store l.tables) → (s : State) → CanBeJudged s → RepresentsState g.P.Places.represents g.P.Versioned.version (state g.S.Store l.fn.tables).now s → l.today ≡ s.day
-      → l.due.items ≡ filter (λ (o : ContainerOrder). opens s o.ticket o.container) (take l.order-index l.waiting);
+      → AreTold l.today s.catalogue.forest l.known × (l.due.items ≡ filter (λ (o : ContainerOrder). opens s o.ticket o.container) (take l.place l.waiting));
 }
+
+-- the orders that are left to be judged
+abbrev pub decreases-loop-place : goal.decreases-loop-place
+decreases-loop-place g l = length l.waiting - l.place

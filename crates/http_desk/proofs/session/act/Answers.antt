@@ -1,6 +1,7 @@
 use Rattle.std.proofs.Common.{take, refl, sym, arith, false}
 use Rattle.http_desk.specs.Exchanges.{Refused}
-use Rattle.http_desk.proofs.Common.{Busy, Replies, TellsWriteBound, answer_in, answer_text, error, refusal, request_in, unwrap_or}
+use Rattle.http_messages.specs.declared.status.Status.TheVariants.{Busy}
+use Rattle.http_desk.proofs.Common.{Replies, TellsWriteBound, answer_in, answer_text, error, refusal, request_in, unwrap_or}
 use Rattle.http_desk.proofs.Faults.{some_bound}
 use Rattle.http_desk.proofs.Bounds.{answered_to_bound}
 use Rattle.http_desk.proofs.Turns.{answered_at, left_back}

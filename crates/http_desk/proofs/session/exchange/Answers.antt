@@ -1,6 +1,7 @@
 use Rattle.std.proofs.Common.{◌⊎◌, inl, inr, arith, ℕ, List, [], ◌++◌, append_assoc, take, drop, refl, ap, ◌∙◌, subst, false}
 use Rattle.http_messages.specs.Heads as heads
-use Rattle.http_desk.proofs.Common.{Appends-nil, BadRequest, Busy, Consumes-trans, Fails, HasHead, HeadCut, IsBlank, IsHeadCut, IsTooLong, Judges, NoHead, Nothing, Refuses, StopsBounded, TakesTurns, Through, Turn, request_in, verdict_in}
+use Rattle.http_messages.specs.declared.status.Status.TheVariants.{Busy}
+use Rattle.http_desk.proofs.Common.{Appends-nil, BadRequest, Consumes-trans, Fails, HasHead, HeadCut, IsBlank, IsHeadCut, IsTooLong, Judges, NoHead, Nothing, Refuses, StopsBounded, TakesTurns, Through, Turn, request_in, verdict_in}
 use Rattle.http_desk.proofs.Turns.{refused, head_found, may_fail, bound_here, stops_early}
 use Rattle.http_desk.proofs.Endings.{begun, came, came_then, ends_on, ran_out}
 use Rattle.http_desk.proofs.Faults.{takes_on, used_up}

@@ -1,8 +1,10 @@
-use Rattle.std.proofs.Common.{◌≡◌, List, refl, ap, ◌∙◌, sym}
+use Rattle.std.proofs.Common.{◌≡◌, refl, sym, ◌∙◌}
 use Rattle.office_core.specs.declared.query.Query.TheVariants as query
-use Rattle.public_queries.proofs.Common.{Head, OfficeRow, Text, Unknown, UnknownUnit, aid, before_last, early, has_id, ids_of, looks_nowhere, looks_then, office_kept, office_of, public_of, repository_of, shown_below, shows_last, state, still_shown, tree}
-use Rattle.public_queries.proofs.AidAnswers.{apart, far_off, hidden, shown, tellable}
-use Rattle.public_queries.proofs.Knowings.{catalogue_passed, knows_by, knows_passed_later}
+use Rattle.public_queries.proofs.Common.{Unknown, UnknownUnit, looks_nowhere, office_of, state}
+use Rattle.public_queries.proofs.Knowings.{catalogue_passed, knows_by}
+use Rattle.public_queries.proofs.LaterKnowing.{knows_then}
+use Rattle.public_queries.proofs.AidAnswers.{far_off, hidden}
+use Rattle.public_queries.proofs.PageAnswers.{alone}
 use Rattle.public_queries.proofs.aids.aid.Goals as goal
 
 pub returns-in_default : goal.returns-in_default
@@ -13,42 +15,24 @@ returns-in_default g c =
     (looks_nowhere a)
     (λ clean s sound so it. far_off s sound c.args.unit (c.in_default.ensures.none refl))
 
-pub returns-in_err-way : goal.returns-in_err-way
-returns-in_err-way g c = let told = c.in_err-way.ensures.answers in catalogue_passed _ c.from_residual.ensures told.aborts told.faults
+pub returns-in_err-published : goal.returns-in_err-published
+returns-in_err-published g c = let told = c.in_err-published.ensures.answers in catalogue_passed _ c.from_residual.ensures told.aborts told.faults
 
-pub returns-then-not-shows_last : goal.returns-then-not-shows_last
-returns-then-not-shows_last g c =
+pub returns-then-not-published : goal.returns-then-not-published
+returns-then-not-published g c =
     let a = state g.S.Store c.args.tables.now in
-    let told = (rw c.in-Some.ensures.same at c.in_ok-way.ensures).answers in
-    knows_by g.P.Places.represents g.P.Versioned.version (λ s. c.args.known.now ≡ office_of s) (query.Aid c.args.unit) a _ (Unknown UnknownUnit) told.looks
+    let b = state g.S.Store c.is_published.new.tables in
+    let told = (rw c.in-Some.ensures.same at c.in_ok-published.ensures).answers in
+    knows_by g.P.Places.represents g.P.Versioned.version (λ s. c.args.known.now ≡ office_of s) (query.Aid c.args.unit) a b (Unknown UnknownUnit) told.looks
     (λ clean s sound so it.
-    let way = c.deref.ensures.value ∙ told.answers clean (office_of s) s.catalogue it.catalogue in
-    hidden s sound c.args.unit
-    (ap (λ (l : List Head). shows_last s.day l) (sym way) ∙ ap (λ (o : OfficeRow). shows_last o.day c.deref.result.now) (sym so) ∙ sym c.shows_last.ensures ∙ c.if-not-shows_last.true))
-
-pub returns-in_err-text : goal.returns-in_err-text
-returns-in_err-text g c =
-    let last = c.in_err-text.ensures.answers in
-    knows_passed_later _ c.from_residual-in_err-text.ensures c.in_ok-way.ensures.answers.looks last.aborts
-    (λ s sound so it. last.faults (office_of s) s.catalogue it.catalogue (tellable s sound, apart s sound) (office_kept s sound))
+    hidden s sound c.args.unit (alone s sound c.args.unit (sym (told.answers clean (office_of s) s.catalogue it.catalogue) ∙ c.if-not-published.true)))
 
 pub returns : goal.returns
 returns g c =
-    let v = g.P.Versioned.version in
     let a = state g.S.Store c.args.tables.now in
-    let d = state g.S.Store c.branch_text.new.tables in
-    let first = (rw c.in-Some.ensures.same at c.in_ok-way.ensures).answers in
-    let last = (rw c.in-Some.ensures.same at c.in_ok-text.ensures).answers in
-    knows_by g.P.Places.represents v (λ s. c.args.known.now ≡ office_of s) (query.Aid c.args.unit) a d (Text c.in_ok-text.text) (looks_then a _ d first.looks last.looks)
-    (λ clean s sound so it.
-    let at_b = early _ d _ last.looks.goes.on.crash clean in
-    let told = first.answers at_b (office_of s) s.catalogue it.catalogue in
-    let way = c.deref.ensures.value ∙ told in
-    let represents = ap (λ (l : List Head). shows_last s.day l) (sym way) ∙ ap (λ (o : OfficeRow). shows_last o.day c.deref.result.now) (sym so) ∙ sym c.shows_last.ensures ∙ c.if-not-shows_last.false in
-    let it_b = still_shown g.P.Places.represents v a _ first.looks at_b s it in
-    let text = last.answers clean (office_of s) s.catalogue it_b.catalogue (tellable s sound) (apart s sound) in
-    let above = c.in_ok-above.ensures ∙ ap (λ (l : List Head). before_last (ids_of l)) (c.deref-2.ensures.value ∙ told) in
-    ap Text (text
-    ∙ ap (λ (o : OfficeRow). aid (shown_below (repository_of o) s.catalogue.containers c.in_ok-above.above.items 0 (public_of o.day (tree (has_id c.args.unit) s.catalogue.forest)))) so
-    ∙ ap (λ ids. aid (shown_below (repository_of (office_of s)) s.catalogue.containers ids 0 (public_of s.day (tree (has_id c.args.unit) s.catalogue.forest)))) above)
-    ∙ shown s sound c.args.unit represents)
+    let b = state g.S.Store c.is_published.new.tables in
+    let d = state g.S.Store c.aid_on_path.new.tables in
+    let told = c.in_ok-published.ensures.answers in
+    let last = rw c.in-Some.ensures.same at c.aid_on_path.ensures in
+    knows_then g.P.Places.represents g.P.Versioned.version (λ s. c.args.known.now ≡ office_of s) (λ s. c.args.known.now ≡ office_of s) (query.Aid c.args.unit) a b d c.aid_on_path.result told.looks
+    (λ clean s sound so it. so) last

@@ -1,9 +1,9 @@
-use Rattle.std.proofs.Common.{◌≡◌, List, refl, sym, ap, ◌∙◌}
+use Rattle.std.proofs.Common.{◌≡◌, refl, sym, ◌∙◌}
 use Rattle.office_core.specs.declared.query.Query.TheVariants as query
-use Rattle.public_queries.proofs.Common.{Head, RepresentsUnit, Unknown, UnknownUnit, looks_nowhere, office_of, shows_last, state}
+use Rattle.public_queries.proofs.Common.{Unknown, UnknownUnit, looks_nowhere, office_of, state}
 use Rattle.public_queries.proofs.Knowings.{catalogue_passed, knows_by}
 use Rattle.public_queries.proofs.LaterKnowing.{knows_then}
-use Rattle.public_queries.proofs.PageAnswers.{far, hidden, judged}
+use Rattle.public_queries.proofs.PageAnswers.{alone, far, hidden}
 use Rattle.public_queries.proofs.pages.page.Goals as goal
 
 pub returns-in_default : goal.returns-in_default
@@ -14,33 +14,24 @@ returns-in_default g c =
     (looks_nowhere a)
     (λ clean s sound so it. far s sound c.args.unit (c.in_default.ensures.none refl))
 
-pub returns-in_err-way : goal.returns-in_err-way
-returns-in_err-way g c = let told = c.in_err-way.ensures.answers in catalogue_passed _ c.from_residual.ensures told.aborts told.faults
+pub returns-in_err-published : goal.returns-in_err-published
+returns-in_err-published g c = let told = c.in_err-published.ensures.answers in catalogue_passed _ c.from_residual.ensures told.aborts told.faults
 
-pub returns-then-not-shows_last : goal.returns-then-not-shows_last
-returns-then-not-shows_last g c =
+pub returns-then-not-published : goal.returns-then-not-published
+returns-then-not-published g c =
     let a = state g.S.Store c.args.tables.now in
-    let b = state g.S.Store c.path_heads.new.tables in
-    let told = (rw c.in-Some.ensures.same at c.in_ok-way.ensures).answers in
+    let b = state g.S.Store c.is_published.new.tables in
+    let told = (rw c.in-Some.ensures.same at c.in_ok-published.ensures).answers in
     knows_by g.P.Places.represents g.P.Versioned.version (λ s. c.args.known.now ≡ office_of s) (query.Page c.args.unit) a b (Unknown UnknownUnit) told.looks
     (λ clean s sound so it.
-    let way = c.as_slice.ensures.value ∙ told.answers clean (office_of s) s.catalogue it.catalogue in
-    hidden s sound c.args.unit
-    (judged s sound c.args.unit c.args.known.now c.as_slice.result.now so way ∙ sym c.shows_last.ensures ∙ c.if-not-shows_last.true))
+    hidden s sound c.args.unit (alone s sound c.args.unit (sym (told.answers clean (office_of s) s.catalogue it.catalogue) ∙ c.if-not-published.true)))
 
 pub returns : goal.returns
 returns g c =
     let a = state g.S.Store c.args.tables.now in
-    let b = state g.S.Store c.path_heads.new.tables in
-    let d = state g.S.Store c.shown_page.new.tables in
-    let told = (rw c.in-Some.ensures.same at c.in_ok-way.ensures).answers in
-    let last = rw c.in-Some.ensures.same at c.shown_page.ensures in
-    knows_then g.P.Places.represents g.P.Versioned.version (λ s. c.args.known.now ≡ office_of s) (RepresentsUnit c.args.known.now c.args.unit c.as_slice-2.result.now) (query.Page c.args.unit) a b d c.shown_page.result told.looks
-    (λ clean s sound so it. record {
-      office = so;
-      way_is = c.as_slice-2.ensures.value ∙ told.answers clean (office_of s) s.catalogue it.catalogue;
-      shown =
-          ap (λ (l : List Head). shows_last c.args.known.now.day l) (c.as_slice-2.ensures.value ∙ sym c.as_slice.ensures.value)
-          ∙ sym c.shows_last.ensures ∙ c.if-not-shows_last.false;
-    })
-    last
+    let b = state g.S.Store c.is_published.new.tables in
+    let d = state g.S.Store c.page_on_path.new.tables in
+    let told = c.in_ok-published.ensures.answers in
+    let last = rw c.in-Some.ensures.same at c.page_on_path.ensures in
+    knows_then g.P.Places.represents g.P.Versioned.version (λ s. c.args.known.now ≡ office_of s) (λ s. c.args.known.now ≡ office_of s) (query.Page c.args.unit) a b d c.page_on_path.result told.looks
+    (λ clean s sound so it. so) last

@@ -1,10 +1,10 @@
 use Rattle.std.proofs.Common.{rules, ◌≡◌, false, not, map, of_z, to_z, w32, FitsSigned, sym, ap, ◌∙◌}
-use Rattle.std.specs.Prelude.{◌&&◌}
+use Rattle.std.specs.Prelude.{◌&&◌, ℕ}
 use Rattle.std.proofs.lemmas.Int.{to_z-of_z}
 use Rattle.tree_core.specs.Forest.{path as path_to}
 use Rattle.catalogue_core.proofs.OpenLemmas.{marks_say_clean}
-use Rattle.refinement.proofs.Common.{allows, contents_paths, has_id, is_opened_above, list_all, mark_of, with_permit, withholds}
-use Rattle.refinement.proofs.UnboxedMarks.{contents_told, path_opens, path_withholds, unnumbered_units}
+use Rattle.refinement.proofs.Common.{Empty, Forest, IsNumbered, Mark, Node, allows, contents_paths, has_id, is_opened_above, list_all, mark_of, nodes, with_permit, withholds}
+use Rattle.refinement.proofs.UnnumberedMarks.{path_opens, path_withholds, unnumbered_units}
 use Rattle.refinement.proofs.access.is_clean.Goals.{else-clean_path, then-clean_path}
 use Rattle.refinement.proofs.access.is_clean.Goals as goal
 
@@ -28,10 +28,10 @@ returns c = λ f u there marks.
     let read = map (with_permit permitted) path in
     let above = is_opened_above read in
     let is_above : c.is_permitted_above-above.result ≡ above = c.is_permitted_above-above.ensures ∙ ap is_opened_above (c.deref-3.ensures.value ∙ path_is) in
-    let says = contents_told today above permitted marks.1.0 branch within marks.1.2 (λ k first below numbered is.
-    c.clean_contents-is_within.ensures.branch k first below numbered (c.deref-4.ensures.value ∙ branch_is ∙ is)
+    let says = λ (k : ℕ) (first : Mark) (below : Forest Mark) (numbered : IsNumbered k (Node first below Empty)) (is : map (with_permit permitted) branch ≡ nodes (Node first below Empty)).
+    (c.clean_contents-is_within.ensures.branch k first below numbered (c.deref-4.ensures.value ∙ branch_is ∙ is)
     ∙ ap (λ t. list_all (λ way. not (withholds t c.is_permitted_above-above.result way)) (contents_paths first below)) same
     ∙ ap (λ b. list_all (λ way. not (withholds today b way)) (contents_paths first below)) is_above) in
-    both ∙ marks_say_clean f u permitted today (map mark_of units) marks.1.0 c.clean_path.result within there (unnumbered_units units) marks.1.1
+    both ∙ marks_say_clean f u permitted today (map mark_of units) branch c.clean_path.result within there (unnumbered_units units) marks.1
     (c.clean_path.ensures ∙ ap (λ t. not (withholds t false c.deref-5.result.now)) same ∙ ap (λ l. not (withholds today false l)) (c.deref-5.ensures.value ∙ path_is) ∙ ap not (path_withholds permitted today false units path marks.0))
     (λ k first below numbered is. says k first below numbered is ∙ ap (λ b. list_all (λ way. not (withholds today b way)) (contents_paths first below)) (path_opens permitted units path marks.0))

@@ -1,6 +1,7 @@
 use Rattle.std.proofs.Common.{◌≡◌, ℕ, Bool, true, false, not, Vec, Global, Option, ap, subst, sym, refl, ◌∙◌}
 use Rattle.office_tables.proofs.CallEnds.{tells_not}
-use Rattle.refinement.proofs.Common.{AreApart, AreAsked, CanBeJudged, IfSome, IsHoused, Memory, RepresentsWhole, ends_full, ends_well, is_one_of, same_fault, ⊤}
+use Rattle.office_tables.specs.declared.fault.StoreFault.TheVariants.{Memory}
+use Rattle.refinement.proofs.Common.{AreApart, AreAsked, CanBeJudged, IfSome, IsHoused, RepresentsWhole, ends_full, ends_well, is_one_of, same_fault, ⊤}
 use Rattle.refinement.proofs.Tellings.{told_then}
 use Rattle.refinement.proofs.branch_gate.lower_loans.Goals as goal
 

@@ -1,7 +1,8 @@
 use Rattle.std.proofs.Common.{◌≡◌, ℕ, true, false, List, [], ◌∷◌, ◌++◌, Vec, Global, None, Some, inl, inr, nat_eq, ap, subst, sym, ◌∙◌}
 use Rattle.std.specs.Prelude.{◌||◌}
 use Rattle.office_core.specs.State.{State}
-use Rattle.refinement.proofs.Common.{AreApart, CanBeJudged, IfSome, IsHoused, Memory, RepresentsWhole, cases_Bool, early, ends_full, ends_not, ends_well, eqb-true, false≢true, is_named_near, is_one_of, list_any-append, looks_nowhere, looks_then, or-false, same_fault, shown_on, state, ⊤}
+use Rattle.office_tables.specs.declared.fault.StoreFault.TheVariants.{Memory}
+use Rattle.refinement.proofs.Common.{AreApart, CanBeJudged, IfSome, IsHoused, RepresentsWhole, cases_Bool, early, ends_full, ends_not, ends_well, eqb-true, false≢true, is_named_near, is_one_of, list_any-append, looks_nowhere, looks_then, or-false, same_fault, shown_on, state, ⊤}
 use Rattle.refinement.proofs.containers_apart.containers_apart.Goals.{then-is_apart+in_ok-push, else-is_apart}
 use Rattle.refinement.proofs.containers_apart.containers_apart.Goals as goal
 

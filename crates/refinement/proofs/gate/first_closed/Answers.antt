@@ -1,78 +1,87 @@
-use Rattle.std.proofs.Common.{◌≡◌, true, false, not, Some, refl, sym, ap, subst, ◌∙◌}
-use Rattle.refinement.proofs.Common.{AreClean, CanBeJudged, ContainerOrder, RepresentsWhole, early, ends_not, ends_well, first_closed, is_closed_to, looks_nowhere, looks_then, option_map, same_fault, shown_on, slice_index_or, state, ⊤}
-use Rattle.refinement.proofs.DiskBlames.{blames_later}
+use Rattle.std.proofs.Common.{◌≡◌, ◌<◌, true, false, not, Option, Some, get_or, length, sym, ap, subst, ◌∙◌, arith}
+use Rattle.refinement.specs.Representation as shown
+use Rattle.refinement.proofs.Common.{CanBeJudged, ContainerOrder, IfSome, RepresentsWhole, early, ends_well, first_closed, first_that, is_closed_to, looks_then, opens, option_map, shown_on, slice_get-get_or, state, take_all, ⊤}
+use Rattle.refinement.proofs.Doings.{tells_passed, tells_passed_later}
 use Rattle.refinement.proofs.Gates.{first_here, none_more}
+use Rattle.refinement.proofs.TellingUnits.{nothing_told}
 use Rattle.refinement.proofs.gate.first_closed.Goals as goal
 
-pub loop-loan-init : goal.loop-loan-init
-loop-loan-init g c =
+pub returns-in_err-walked-clause-answers : goal.returns-in_err-walked-clause-answers
+returns-in_err-walked-clause-answers g c =
+    let told = c.in_err-walked.ensures.answers in
+    tells_passed _ c.from_residual.ensures told.aborts (λ beside s it may judged. told.faults (shown.office_of s) s.catalogue it.catalogue tt judged.catalogue)
+
+pub returns-in_err-is_open_at-clause-answers : goal.returns-in_err-is_open_at-clause-answers
+returns-in_err-is_open_at-clause-answers g c =
+    let told = c.in_err-is_open_at.ensures.answers in
+    tells_passed_later _ c.from_residual-in_err-is_open_at.ensures (looks_then _ _ _ c.in_ok-walked.ensures.answers.looks c.loop-place.invariant.since) told.aborts
+    (λ beside s it may judged. told.faults tt s it tt judged)
+
+-- the first that is closed
+pub returns-then-not-branch-clause-answers : goal.returns-then-not-branch-clause-answers
+returns-then-not-branch-clause-answers g c =
+    let represents = RepresentsWhole g.P.Places.represents g.P.Versioned.version in
     let a = state g.S.Store c.args.tables.now in
+    let w = state g.S.Store c.walk_orders.new.tables in
+    let b = state g.S.Store c.loop-place.tables in
+    let d = state g.S.Store c.is_open_at.new.tables in
+    let walk = c.in_ok-walked.ensures.answers in
+    let told = c.in_ok-is_open_at.ensures.answers in
+    let since = c.loop-place.invariant.since in
+    let looked = looks_then a w b walk.looks since in
+    let loans = c.args.loans.now in
+    let i = c.loop-place.place in
+    let none : ContainerOrder = c.index-loans-place.result in
+    let low : i < length loans = omega arith in
+    ends_well represents CanBeJudged (λ _. ⊤) g.S.Store c.args.tables.now c.args.tables.now c.is_open_at.new.tables (λ _ s found. CanBeJudged s → c.args.today ≡ s.day → found ≡ first_closed s loans)
+    (looks_then a b d looked told.looks) _
+    (λ clean s it judged day.
+    let at_b = early b d _ told.looks.goes.on.crash clean in
+    let at_w = early w b _ since.goes.on.crash at_b in
+    let it_w = shown_on represents a w walk.looks at_w s it in
+    let it_b = shown_on represents a b looked at_b s it in
+    let walked = walk.answers at_w (shown.office_of s) s.catalogue it.catalogue (nothing_told c.args.today s.catalogue.forest c.new.result c.new.ensures.empty) in
+    let is = subst (λ (o : Option ContainerOrder). IfSome o (λ (order : ContainerOrder). c.in_ok-is_open_at.field-0 ≡ opens s order.ticket order.container)) (slice_get-get_or loans i none low) (told.answers clean tt s it_b judged day walked) in
+    let shut : is_closed_to s (get_or loans i none) ≡ true = ap not (sym is ∙ c.if-not-branch.true) in
+    ap Some c.get.ensures.same
+    ∙ ap (option_map (λ (l : ContainerOrder). l.container)) (sym (first_here (is_closed_to s) loans i none (c.loop-place.invariant.so_far at_b s judged it_w day walked) low shut)))
+
+pub loop-place-preserved : goal.loop-place-preserved
+loop-place-preserved g c =
+    let represents = RepresentsWhole g.P.Places.represents g.P.Versioned.version in
+    let w = state g.S.Store c.walk_orders.new.tables in
+    let b = state g.S.Store c.loop-place.tables in
+    let d = state g.S.Store c.is_open_at.new.tables in
+    let told = c.in_ok-is_open_at.ensures.answers in
+    let since = c.loop-place.invariant.since in
+    let loans = c.args.loans.now in
+    let i = c.loop-place.place in
+    let none : ContainerOrder = record { container = 0; order = 0; ticket = 0 } in
+    let low : i < length loans = omega arith in
     record {
-      looks = looks_nowhere a;
-      so_far = λ clean s judged it day. refl;
-      known = λ clean s judged it day. subst (AreClean s) (sym c.new-clean.ensures.items) refl;
+      since = looks_then w b d since told.looks;
+      so_far = λ clean s judged it_w day walked.
+          let at_b = early b d _ told.looks.goes.on.crash clean in
+          let it_b = shown_on represents w b since at_b s it_w in
+          let is = subst (λ (o : Option ContainerOrder). IfSome o (λ (order : ContainerOrder). c.in_ok-is_open_at.field-0 ≡ opens s order.ticket order.container)) (slice_get-get_or loans i none low) (told.answers clean tt s it_b judged day walked) in
+          let free : is_closed_to s (get_or loans i none) ≡ false = ap not (sym is ∙ c.if-not-branch.false) in
+          none_more (is_closed_to s) loans i none (c.loop-place.invariant.so_far at_b s judged it_w day walked) low free;
     }
 
-pub returns-in_err-found : goal.returns-in_err-found
-returns-in_err-found g c =
-    let v = g.P.Versioned.version in
-    let e = c.from_residual.ensures in
-    let told = c.in_err-found.ensures.answers in
-    let looked = c.loop-loan.invariant.looks in
-    let same = same_fault c.from_residual.result c.in_err-found.field-0.0 e.0 e.1 in
-    record {
-      answers = ends_not (RepresentsWhole g.P.Places.represents v) CanBeJudged (λ _. ⊤) g.S.Store c.args.tables.now c.loop-loan.tables c.judge.new.tables (λ _ s found. CanBeJudged s → c.args.today ≡ s.day → found ≡ first_closed s c.args.loans.now)
-          looked c.in_err-found.field-0.0 told.aborts
-          (λ s it may judged clean free. told.faults tt s it tt judged clean free)
-          c.from_residual.result same;
-      disk = λ clean.
-          blames_later (state g.S.Store c.args.tables.now) (state g.S.Store c.loop-loan.tables) (state g.S.Store c.judge.new.tables) c.from_residual.result c.in_err-found.field-0.0 same looked told.aborts clean
-          (c.in_err-found.ensures.disk clean);
-    }
-
-pub returns-then-not-found : goal.returns-then-not-found
-returns-then-not-found g c =
-    let v = g.P.Versioned.version in
+pub returns-clause-answers : goal.returns-clause-answers
+returns-clause-answers g c =
+    let represents = RepresentsWhole g.P.Places.represents g.P.Versioned.version in
     let a = state g.S.Store c.args.tables.now in
-    let b = state g.S.Store c.loop-loan.tables in
-    let d = state g.S.Store c.judge.new.tables in
-    let looks = c.loop-loan.invariant.looks in
-    let told = rw c.get-ticket.ensures.same at c.in_ok-found.ensures.answers in
-    let none : ContainerOrder = c.loan-item.result in
-    let i = c.loop-loan.loan-index in
-    record {
-      answers = ends_well (RepresentsWhole g.P.Places.represents v) CanBeJudged (λ _. ⊤) g.S.Store c.args.tables.now c.args.tables.now c.judge.new.tables (λ _ s found. CanBeJudged s → c.args.today ≡ s.day → found ≡ first_closed s c.args.loans.now)
-          (looks_then a b d looks told.looks) _
-          (λ clean s it judged day.
-          let before = early b d _ told.looks.goes.on.crash clean in
-          let at_b = shown_on (RepresentsWhole g.P.Places.represents v) a b looks before s it in
-          let shut : is_closed_to s (slice_index_or c.args.loans.now i none) ≡ true =
-          subst (λ (l : ContainerOrder). is_closed_to s l ≡ true) c.loan-item.is (ap not (sym (told.answers clean tt s at_b judged day (c.loop-loan.invariant.known before s judged it day)).0) ∙ c.if-not-found.true) in
-          ap Some (c.get.ensures.same ∙ ap (λ (l : ContainerOrder). l.container) c.loan-item.is)
-          ∙ ap (option_map (λ (l : ContainerOrder). l.container)) (sym (first_here (is_closed_to s) c.args.loans.now i none (c.loop-loan.invariant.so_far before s judged it day) c.loop-loan-test.true shut)));
-      disk = λ clean. tt;
-    }
-
-pub loop-loan-preserved : goal.loop-loan-preserved
-loop-loan-preserved g c =
-    let v = g.P.Versioned.version in
-    let a = state g.S.Store c.args.tables.now in
-    let b = state g.S.Store c.loop-loan.tables in
-    let d = state g.S.Store c.judge.new.tables in
-    let looks = c.loop-loan.invariant.looks in
-    let told = rw c.get-ticket.ensures.same at c.in_ok-found.ensures.answers in
-    let none : ContainerOrder = c.loan-item.result in
-    let i = c.loop-loan.loan-index in
-    record {
-      looks = looks_then a b d looks told.looks;
-      so_far = λ clean s judged it day.
-          let before = early b d _ told.looks.goes.on.crash clean in
-          let at_b = shown_on (RepresentsWhole g.P.Places.represents v) a b looks before s it in
-          let open_to : is_closed_to s (slice_index_or c.args.loans.now i none) ≡ false =
-          subst (λ (l : ContainerOrder). is_closed_to s l ≡ false) c.loan-item.is (ap not (sym (told.answers clean tt s at_b judged day (c.loop-loan.invariant.known before s judged it day)).0) ∙ c.if-not-found.false) in
-          none_more (is_closed_to s) c.args.loans.now i none (c.loop-loan.invariant.so_far before s judged it day) c.loop-loan-test.true open_to;
-      known = λ clean s judged it day.
-          let before = early b d _ told.looks.goes.on.crash clean in
-          let at_b = shown_on (RepresentsWhole g.P.Places.represents v) a b looks before s it in
-          (told.answers clean tt s at_b judged day (c.loop-loan.invariant.known before s judged it day)).1;
-    }
+    let w = state g.S.Store c.walk_orders.new.tables in
+    let b = state g.S.Store c.loop-place.tables in
+    let walk = c.in_ok-walked.ensures.answers in
+    let since = c.loop-place.invariant.since in
+    let loans = c.args.loans.now in
+    ends_well represents CanBeJudged (λ _. ⊤) g.S.Store c.args.tables.now c.args.tables.now c.loop-place.tables (λ _ s found. CanBeJudged s → c.args.today ≡ s.day → found ≡ first_closed s loans)
+    (looks_then a w b walk.looks since) _
+    (λ clean s it judged day.
+    let at_w = early w b _ since.goes.on.crash clean in
+    let it_w = shown_on represents a w walk.looks at_w s it in
+    let walked = walk.answers at_w (shown.office_of s) s.catalogue it.catalogue (nothing_told c.args.today s.catalogue.forest c.new.result c.new.ensures.empty) in
+    let so = c.loop-place.invariant.so_far clean s judged it_w day walked in
+    ap (option_map (λ (l : ContainerOrder). l.container)) (sym so ∙ ap (first_that (is_closed_to s)) (take_all c.loop-place.place loans (omega arith))))

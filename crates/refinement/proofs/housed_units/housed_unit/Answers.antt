@@ -1,9 +1,9 @@
 use Rattle.std.proofs.Common.{ℕ, List, Vec, Global, None, Result, Err, filter, map, nat_eq, ap, subst, sym, ◌∙◌}
 use Rattle.isad_core.specs.Limits.{IsNumber}
-use Rattle.tree_places.proofs.MarkForests.{path_ids}
 use Rattle.office_tables.specs.Schema as tables
 use Rattle.office_tables.proofs.CallEnds.{tells_not}
 use Rattle.refinement.specs.Representation as shown
+use Rattle.tree_places.proofs.MarkForests.{path_ids}
 use Rattle.refinement.proofs.Common.{AllByRecursion, CanBeJudged, Database, HasCause, HasNumbered, IsHoused, Mark, RepresentsWhole, StoreFault, Unit, cut_after, cut_then, each, early, ends_well, excused_then, has_id, has_row, housing_row, last_or, list_any, looks_then, option_to_list, path, same_fault, says_so, state, ⊤}
 use Rattle.refinement.proofs.NearRows.{all_path, last_with_rows, nearest_named}
 use Rattle.refinement.proofs.WithheldUnits.{ids_of_marks}
