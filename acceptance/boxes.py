@@ -9,6 +9,9 @@ forty sessions there are thousands of units without a box between them. Then box
 while units in and above them are closed, withdrawn, moved, removed, imported again and opened to readers. `trial` must
 answer to the byte as acceptance/plain does.
 
+As many sessions again have more boxes, most of which go out at once: neighbours lie in different units, and readers have
+permits that are valid, that are for other units or that are no longer valid.
+
 The script prints how many sessions were equal, how often each command was accepted or refused, and what was so of the
 boxes that an order, a run, an issue or the gate judged. It ends with 1 and the first different answer if a session
 differs, and also if, in a hundred sessions or more, something came less often than LEAST says. The sessions of KEPT
@@ -37,6 +40,7 @@ ORDERS = ["side by side", "in turns", "anyhow"]
 TICKETS = range(1, 4)
 WIDE, BETWEEN = 40, 2100
 FAR = ["2024-03-04", "2030-01-01", "2030-01-01", "2030-01-01"]
+ENDED = ["2024-02-29", "2030-01-01"]
 KINDS = [
     "eight units or more",
     "not in the order of their numbers",
@@ -51,7 +55,9 @@ KINDS = [
     "only the last is withheld",
     "only one between is withheld",
     "only contents that name no box are withheld",
+    "a permit that is no longer valid",
 ]
+GATES = ["nothing is withheld", "one box is withheld", "several are withheld", "a lower one is open"]
 
 
 class Watched(plain.Office):
@@ -65,6 +71,15 @@ class Watched(plain.Office):
         told = super().post(path, body)
         self.is_judging = False
         return told
+
+    def gate(self):
+        """Refuses a change as the plain office does; counts what was so of the boxes that are out."""
+        out = self.out()
+        closed = [box for box, ticket in out.items() if not super(Watched, self).is_open(box, ticket)]
+        kind = ["nothing is withheld", "one box is withheld"][len(closed)] if len(closed) < 2 else "several are withheld"
+        count["gate", kind] += bool(out)
+        count["gate", "a lower one is open"] += bool(closed) and closed[0] != min(out)
+        super().gate()
 
     def is_open(self, container, ticket):
         """Whether a box may go to a reader; counts its kinds while a command is carried out."""
@@ -100,6 +115,7 @@ def kinds(office, container, ticket):
         "contents that name no box": bool(lower),
         "opened by a permit": bool(contents) and not withheld and any(office.is_withheld(it, 0) for it in contents),
         "only contents that name no box are withheld": bool(withheld) and set(withheld) <= set(lower),
+        "a permit that is no longer valid": any(has_ended(office, unit, ticket) for unit in withheld),
         **{kind: len(contents) > 2 and bool(it) and withheld == it for kind, it in held_back.items()},
     }
     for one, other in itertools.pairwise(naming):
@@ -109,6 +125,11 @@ def kinds(office, container, ticket):
         ends = any(office.is_permitted(it, ticket) for it in gone) and other in withheld
         so["a permit ends before a unit that is closed"] = so.get("a permit ends before a unit that is closed") or ends
     return [kind for kind, is_so in so.items() if is_so]
+
+
+def has_ended(office, unit, ticket):
+    """Whether the reader had a permit for the unit or one above it."""
+    return any(office.permits.get((ticket, it), office.day) < office.day for it in office.path(unit))
 
 
 class BoxSession(sessions.Session):
@@ -253,17 +274,64 @@ class BoxSession(sessions.Session):
     }
 
 
+class CrowdSession(BoxSession):
+    """The requests of a session in which many boxes are out at once."""
+
+    def some_settings(self):
+        """Settings with which ten boxes may be out with each reader."""
+        return super().some_settings() | {"hands": "10"}
+
+    def beginning(self):
+        """A catalogue, readers with permits, and boxes that go out, most to the reader of the one before."""
+        boxes = self.random.randint(6, 16)
+        yield "/desk/import/a", self.boxes_in_turns(boxes)
+        for ticket in TICKETS:
+            yield "/desk/register", json.dumps({"name": f"Reader {ticket}", "until": "2030-01-01"})
+            yield "/desk/seat", json.dumps({"ticket": ticket})
+            for unit in self.random.sample(range(1, 13), self.random.choice([0, 1, 2, 4])):
+                yield "/desk/permit", json.dumps({"ticket": ticket, "unit": unit, "until": self.random.choice(ENDED)})
+        for unit in self.random.sample(range(1, 13), self.random.choice([0, 0, 1, 2])):
+            yield "/desk/closure", json.dumps({"unit": unit, "until": "2030-01-01"})
+        loans = [json.dumps({"ticket": self.random.choice(TICKETS), "container": box + 1}) for box in range(boxes)]
+        yield from (("/public/orders", loan) for loan in loans)
+        yield from [("/desk/run", "")] * self.random.choice([2, 6, boxes])
+        yield from (("/desk/issue", loan) for loan in loans)
+
+    def boxes_in_turns(self, boxes):
+        """A file of units that name some of the boxes in turns, at the same depth or below one another."""
+        rows = ["1,,Published,"]
+        for unit in range(2, self.random.randint(2 * boxes, 3 * boxes)):
+            parent = self.random.choice([1, 1, max(1, unit - boxes), self.random.randint(1, min(unit - 1, 12))])
+            named = {unit % boxes + 1, self.random.choice([unit % boxes, (unit + boxes // 2) % boxes]) + 1}
+            named = [] if self.happens(0.3) else [f"Box {box}" for box in sorted(named)]
+            rows.append(f"{unit},{parent},Published,{'|'.join(named)}")
+        return plain.text(["legacyId,parentId,publicationStatus,physicalObjectName", *rows])
+
+    def permit(self):
+        """A permit as in the other sessions; one of two ended before the day."""
+        path, body = super().permit()
+        return path, body | {"until": self.random.choice(ENDED)}
+
+    OFTEN = BoxSession.OFTEN | {permit: 12}
+    del OFTEN[BoxSession.permit]
+
+
 def main():
     """Compares the sessions, prints the counts, and returns whether something is wrong."""
     given = client.seeded_options(__doc__, 200).parse_args()
     seeds = sorted(set(KEPT) | set(range(given.first, given.first + given.count)))
     held = sum(sessions.is_held(given.program, BoxSession(seed)) for seed in seeds)
+    crowds = range(given.first, given.first + given.count)
+    held_crowds = sum(sessions.is_held(given.program, CrowdSession(seed)) for seed in crowds)
     sums = f"of {len(seeds)} random sessions about boxes, {len(KEPT)} of kept seeds, {held}"
-    print(f"{sums} were answered as by a plain office")
+    print(f"{sums} were answered as by a plain office, and {held_crowds} of {len(crowds)} with many boxes out")
     judged = {kind: count.pop(("judged", kind), 0) for kind in KINDS}
+    gates = {kind: count.pop(("gate", kind), 0) for kind in GATES}
     sessions.print_commands()
     print(f"what was so of boxes that were judged: {sessions.join_counts(judged.items())}")
-    return not sessions.is_enough(judged, LEAST, given.count) or held != len(seeds)
+    print(f"what was so of the boxes out after a change: {sessions.join_counts(gates.items())}")
+    is_enough = sessions.is_enough(judged | gates, LEAST, given.count)
+    return not is_enough or (held, held_crowds) != (len(seeds), len(crowds))
 
 
 if __name__ == "__main__":

@@ -432,7 +432,8 @@ class Commands(Test):
             verdict, _, statement = line.partition("|")
             changed = self.copy_office(office.store, "changed.db")
             sqlite3(changed.store, statement)
-            self.check_end(statement, changed.check(), (0 if verdict == "sound" else 1, f"{verdict}\n", ""))
+            wanted = (0 if verdict == "sound" else 1, f"{verdict}\n", "")
+            self.check_end(statement, changed.check(), STORE_FAULT if verdict == "store fault" else wanted)
             ended = DONE if verdict == "sound" else STORE_FAULT
             self.check_end(f"a session after {statement}", changed.talk(), ended)
             for it in self.room.glob("changed.db*"):

@@ -6,6 +6,8 @@
 NAME is a command or a kind of session; without one, all are tried. Each is performed again and again on copies of the
 same files. First its request for memory with the number K + 1 is refused, then each N-th from there; each is refused
 alone, and then with all requests after it. K is another one each time, and is printed, so that a run can be repeated.
+Of the short ones each request is refused alone in turn: of previews, of `init` and `check`, and of an import, of two
+registrations in one piece and of three days after the office was made or opened.
 
 The program must end by itself in one of three ways. A command ends with `no memory` and 3, has printed nothing, and has
 not been done. A session ends with 503 in place of an answer, or after the last one, since the program takes memory
@@ -37,7 +39,8 @@ from stopped import copy_office
 
 HERE = Path(__file__).resolve().parent
 SHIM = client.TOP / "mutation" / "faults" / "shim.c"
-NAMES = ["preview", "file", "init", "check", "import", "migrate", "trial", "talk", "refusals", "serve"]
+DAYS = {"issues": "first_come", "runs": "runs", "moves": "moves"}
+NAMES = ["preview", "file", "init", "check", "import", "migrate", "trial", "talk", "refusals", "serve", *DAYS]
 EACH = 20
 UNTOLD, TOLD, LOG_LEFT = "as if none was refused", "no memory", "no memory, and the log is left"
 ALONE, LASTING = {}, {"LASTS": "1"}
@@ -65,6 +68,7 @@ class Tries:
 
     def __init__(self, name, room, before, perform):
         self.name, self.room, self.before, self.perform = name, room, before, perform
+        self.looks, self.begin = {}, None
         whole, left = self.run_on_copy(perform)
         if (whole.status, whole.message) != (0, b""):
             raise RuntimeError(f"{name}: {whole}")
@@ -75,14 +79,20 @@ class Tries:
         """How something ends on a copy of the office, and a look at it afterwards."""
         office = copy_office(self.before, self.room)
         ended = perform(office, **memory)
-        seen = look(office)
+        files = tuple((it.name, it.read_bytes()) for it in sorted(office.store.parent.iterdir()))
+        if files not in self.looks:
+            self.looks[files] = look(office)
         shutil.rmtree(office.store.parent)
-        return ended, seen
+        return ended, self.looks[files]
 
-    def requests(self, shim):
-        """How many requests for memory it makes."""
-        ended, _ = self.run_on_copy(self.perform, LD_PRELOAD=shim, SHOW="1")
+    def requests(self, shim, perform=None):
+        """How many requests for memory it makes, or something else on the same files."""
+        ended, _ = self.run_on_copy(perform or self.perform, LD_PRELOAD=shim, SHOW="1")
         return int(re.search(rb"allocs=(\d+)", ended.message)[1])
+
+    def in_turn(self, shim):
+        """The requests that are refused alone in turn: none, or those after the ones that `begin` counts."""
+        return range(self.begin(shim) + 1, self.requests(shim) + 1) if self.begin else range(0)
 
     def ending(self, shim, number, how):
         """How it ends without that request, in words, or what is wrong."""
@@ -177,8 +187,15 @@ class Kinds:
             "talk": (self.new, run_talk, [*catalogue, *desk, *questions]),
             "refusals": (self.new, run_talk, requests_of_day("first_refusal")),
             "serve": (self.new, run_serve, catalogue, desk, questions),
+            **{it: (self.new, run_talk, requests_of_day(day)) for it, day in DAYS.items()},
         }
-        return Sessions(name, self.room, *sessions[name]) if name in sessions else self.make_command(name)
+        if name not in sessions:
+            return self.make_command(name)
+        before, play, *asked = sessions[name]
+        made = Sessions(name, self.room, before, play, *asked)
+        if name in ("trial", *DAYS):
+            made.begin = lambda shim: made.requests(shim, lambda office, **memory: play(office, [[]], **memory))
+        return made
 
     def make_command(self, name):
         """The command of that name, on the files that it needs."""
@@ -194,6 +211,10 @@ class Kinds:
         made = Tries(name, self.room, *commands[name])
         if name == "init":
             made.lasting[NO_MEMORY, (("office.db-wal",),)] = LOG_LEFT
+        if name in ("preview", "file", "init", "check"):
+            made.begin = lambda _: 0
+        if name == "import":
+            made.begin = lambda shim: made.requests(shim, commands["check"][1])
         return made
 
 
@@ -206,13 +227,15 @@ def build_shim(room):
 def refuse(it, shim, each, offset):
     """Refuses each of these requests of a command or a session; prints how it ended. Returns how often, or 0 if one end
     is wrong or all are as if none was refused."""
-    last = it.requests(shim)
+    last, in_turn = it.requests(shim), it.in_turn(shim)
     runs = [(number, how) for number in range(offset + 1, last + 1, each) for how in (ALONE, LASTING)]
+    runs += [(number, ALONE) for number in in_turn if (number, ALONE) not in runs]
     with ThreadPoolExecutor(os.cpu_count()) as pool:
         ends = list(pool.map(lambda run: it.ending(shim, *run), runs))
     wrong = [end for end in ends if end.startswith("WRONG")]
     told = Counter("WRONG" if end in wrong else end for end in ends)
-    print(f"{it.name}, {last} requests: {', '.join(f'{count} {end}' for end, count in told.most_common())}")
+    which = f"{last} requests, {len(in_turn)} of them in turn" if in_turn else f"{last} requests"
+    print(f"{it.name}, {which}: {', '.join(f'{count} {end}' for end, count in told.most_common())}")
     print("".join(f"{end[:LONGEST]}\n" for end in wrong[:MOST]), end="", flush=True)
     return 0 if wrong or set(told) <= {UNTOLD} else len(runs)
 
