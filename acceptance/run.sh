@@ -67,7 +67,7 @@ tries 300 boxes.py --count 40
 tries 120 large_box.py
 tries 600 ample.py
 turned_rules
-if [ $cc = yes ]; then tries 900 refused.py; fi
+if [ $cc = yes ]; then tries 1800 refused.py; fi
 if [ $sqlite3 = yes ]; then tries 300 rewritten.py; fi
 if [ $sqlite3 = yes ] && [ $cc = yes ]; then
     tries 300 migrating.py --room "$fast" 2000
