@@ -1,5 +1,7 @@
 // Barcodes in Code 39, which every barcode reader knows: each character is nine bars and spaces, three of them wide.
 
+import { text } from '../shared/language.js';
+
 const SVG = 'http://www.w3.org/2000/svg';
 const WIDE = 3;
 
@@ -16,7 +18,7 @@ export function widthsOf(code) {
 
 /** A picture of a code; what it says stands below it. */
 export function barcode(code) {
-  const svg = node('svg', { class: 'barcode', role: 'img', 'aria-label': `Barcode ${code}`, preserveAspectRatio: 'none' });
+  const svg = node('svg', { class: 'barcode', role: 'img', 'aria-label': text('Barcode {code}', { code }), preserveAspectRatio: 'none' });
   let place = 10; // a margin of ten narrow bars
   let bars = '';
   widthsOf(code).forEach((width, turn) => {
@@ -27,7 +29,7 @@ export function barcode(code) {
   svg.setAttribute('width', `${(place + 9) * 0.3}mm`);
   svg.append(node('path', { d: bars }));
   const figure = document.createElement('figure');
-  figure.className = 'code';
+  figure.className = 'barcode';
   const words = document.createElement('figcaption');
   words.textContent = code;
   figure.append(svg, words);

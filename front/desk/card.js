@@ -3,6 +3,7 @@
 import { el, table, words } from '../shared/dom.js';
 import { dayField, numberField } from '../shared/fields.js';
 import { commandForm, note } from '../shared/form.js';
+import { phrase, text, textAs } from '../shared/language.js';
 import { numberOf } from '../shared/numbers.js';
 import { deskWords } from '../shared/refusals.js';
 import * as routes from '../shared/routes.js';
@@ -12,20 +13,21 @@ import { boxLink, readCard } from './names.js';
 import { card, heldContainer, notDone, problem, said, unitLink } from './parts.js';
 import { boxField, boxOf } from './scans.js';
 
-const PERMIT = 'A permit opens a closed unit to this reader, with the closed units above and below it. It does not open drafts.';
+const STATES = { waiting: text('waiting'), out: text('out') };
+const PERMIT = text('A permit opens a closed unit to this reader, with the closed units above and below it. It does not open drafts.');
 
 export async function cardPage(ticket) {
   const view = {
     ticket, name: el('p', { class: 'big-name' }), head: el('div', { class: 'reader' }), told: el('div', { role: 'status' }),
   };
   const isThere = await show(view);
-  return { title: `Ticket ${ticket}`, content: [
-    el('h1', {}, `Ticket ${ticket}`), view.name, view.told, view.head,
+  return { title: text('Ticket {ticket}', { ticket }), content: [
+    el('h1', {}, text('Ticket {ticket}', { ticket })), view.name, view.told, view.head,
     isThere && el('div', { class: 'cards four' },
-      card('Seat', seatForm(view), leaveForm(view)),
-      card('Order a container', orderForm(view)),
-      card('Renew', renewForm(view)),
-      card('Give a permit', el('p', { class: 'quiet' }, PERMIT), permitForm(view))),
+      card(text('Seat'), seatForm(view), leaveForm(view)),
+      card(text('Order a container'), orderForm(view)),
+      card(text('Renew'), renewForm(view)),
+      card(text('Give a permit'), el('p', { class: 'quiet' }, PERMIT), permitForm(view))),
   ] };
 }
 
@@ -34,6 +36,8 @@ async function show(view) {
   const reader = await readCard(view.ticket);
   const permits = await routes.permits(view.ticket);
   view.name.replaceChildren(...(reader.ok ? [words(reader.value.name)] : []));
+  view.isSeated = reader.ok && reader.value.seat !== null;
+  markSeatButton(view);
   view.head.replaceChildren(...(reader.ok ? readerParts(view, reader.value) : [problem(reader)]),
     ...(permits.ok && permits.value.length > 0 ? [permitTable(view, permits.value)] : []));
   return reader.kind !== 'missing';
@@ -47,21 +51,22 @@ async function after(view, ...sentence) {
 
 function readerParts(view, { until, seat, orders }) {
   return [
-    el('p', {}, `Ticket good until ${until}. `, seat === null ? 'No seat. ' : `Seat ${seat}. `,
-      el('a', { href: `#/readers/${view.ticket}/ticket`, class: 'no-print' }, 'The ticket to print')),
-    orders.length > 0 ? orderTable(view, orders) : el('p', { class: 'quiet' }, 'No order is waiting, and nothing is out.'),
+    el('p', {}, text('Ticket good until {until}.', { until }), ' ', seat === null ? text('No seat.') : text('Seat {seat}.', { seat }), ' ',
+      el('a', { href: `#/readers/${view.ticket}/ticket`, class: 'no-print' }, text('The ticket to print'))),
+    orders.length > 0 ? orderTable(view, orders) : el('p', { class: 'quiet' }, text('No order is waiting, and nothing is out.')),
   ];
 }
 
 function orderTable(view, orders) {
-  return table('Orders', ['Order', 'Container', 'State', 'Cancel'], orders.map(({ order, container, state }) =>
-    [String(order), boxLink(container), state, state === 'waiting' ? cancelForm(view, order) : '']));
+  const heads = [textAs('noun', 'Order'), text('Container'), text('State'), text('Cancel')];
+  return table(text('Orders'), heads, orders.map(({ order, container, state }) =>
+    [String(order), boxLink(container), STATES[state] ?? state, state === 'waiting' ? cancelForm(view, order) : '']));
 }
 
 function cancelForm(view, order) {
   return rowForm(view, {
-    key: `cancel ${order}`, button: 'Cancel', what: `order ${order}`, send: () => routes.cancel(order),
-    sentence: [`Order ${order} is cancelled.`], look: () => lookAtReader(view.ticket),
+    key: `cancel ${order}`, button: text('Cancel'), what: text('order {order}', { order }), send: () => routes.cancel(order),
+    sentence: [text('Order {order} is cancelled.', { order })], look: () => lookAtReader(view.ticket),
   });
 }
 
@@ -78,42 +83,51 @@ function rowForm(view, { key, button, what, send, sentence, look }) {
   });
 }
 
-function command(view, button, send, done, more = {}) {
+function command(view, key, button, send, done, more = {}) {
   return commandForm({
-    key: `${button} ${view.ticket}`, button, send, explain: notDone, look: () => lookAtReader(view.ticket),
+    key: `${key} ${view.ticket}`, button, send, explain: notDone, look: () => lookAtReader(view.ticket),
     done: (value, values) => after(view, ...done(value, values)), ...more,
   });
 }
 
-const seatForm = (view) => command(view, 'Give a seat', () => routes.takeSeat(view.ticket), ({ seat }) => [`Seat ${seat}.`]);
+function seatForm(view) {
+  const form = command(view, 'seat of', text('Give a seat'), () => routes.takeSeat(view.ticket),
+    ({ seat }) => [text('Seat {seat}.', { seat })]);
+  view.seatButton = form.querySelector('button');
+  markSeatButton(view);
+  return form;
+}
 
-const leaveForm = (view) => command(view, 'Free the seat', () => routes.leaveSeat(view.ticket),
-  ({ seat }) => [`Seat ${seat} is free.`], { kind: 'plain' });
+/** Who has a seat needs no other: then this is no main button. */
+const markSeatButton = (view) => view.seatButton?.classList.toggle('plain', view.isSeated);
 
-const orderForm = (view) => command(view, 'Order', ({ container }) => routes.order(view.ticket, boxOf(container)),
-  ({ order }, { container }) => [`Order ${order} for `, boxLink(boxOf(container)), '.'], { fields: [boxField()] });
+const leaveForm = (view) => command(view, 'leave of', text('Free the seat'), () => routes.leaveSeat(view.ticket),
+  ({ seat }) => [text('Seat {seat} is free.', { seat })], { kind: 'plain' });
 
-const renewForm = (view) => command(view, 'Renew', ({ until }) => routes.renew(view.ticket, until),
-  (value, { until }) => [`Good until ${until}.`], {
-    fields: [dayField('until', 'New last day')], before: ({ until }) => askIfPast(until, 'The ticket then has expired.') });
+const orderForm = (view) => command(view, 'order of', text('Order'), ({ container }) => routes.order(view.ticket, boxOf(container)),
+  ({ order }, { container }) => phrase('Order {order} for {container}.', { order, container: boxLink(boxOf(container)) }), { fields: [boxField()] });
 
-const permitForm = (view) => command(view, 'Give a permit', ({ unit, until }) => routes.permit(view.ticket, numberOf(unit), until),
-  (value) => ['Permit for ', unitLink(value.unit), ` until ${value.until}.`], {
-    fields: [numberField('unit', 'Unit'),
-      dayField('until', 'Last day of the permit', { hint: 'If there is a permit already, the later day counts.' })],
-    before: ({ until }) => askIfPast(until, 'A permit that ends on a past day opens nothing.'),
+const renewForm = (view) => command(view, 'renewal of', text('Renew'), ({ until }) => routes.renew(view.ticket, until),
+  (value, { until }) => [text('Good until {until}.', { until })], {
+    fields: [dayField('until', text('New last day'))], before: ({ until }) => askIfPast(until, text('The ticket then has expired.')) });
+
+const permitForm = (view) => command(view, 'permit of', text('Give a permit'), ({ unit, until }) => routes.permit(view.ticket, numberOf(unit), until),
+  (value) => phrase('Permit for {unit} until {until}.', { unit: unitLink(value.unit), until: value.until }), {
+    fields: [numberField('unit', text('Unit')),
+      dayField('until', text('Last day of the permit'), { hint: text('If there is a permit already, the later day counts.') })],
+    before: ({ until }) => askIfPast(until, text('A permit that ends on a past day opens nothing.')),
     explain: (answer) => notDone(answer, 'permit'), look: () => lookAtPermits(view.ticket),
   });
 
 function permitTable(view, permits) {
-  return table('Permits', ['Unit', 'Good until', 'Take away'], permits.map(({ unit, until }) =>
+  return table(text('Permits'), [text('Unit'), text('Good until'), text('Take away')], permits.map(({ unit, until }) =>
     [unitLink(unit), el('span', { class: 'whole' }, until), revokeForm(view, unit)]));
 }
 
 function revokeForm(view, unit) {
   return rowForm(view, {
-    key: `revoke ${view.ticket} ${unit}`, button: 'Take away', what: `the permit for unit ${unit}`,
-    send: () => routes.revoke(view.ticket, unit), sentence: ['The permit for ', unitLink(unit), ' is taken away.'],
+    key: `revoke ${view.ticket} ${unit}`, button: text('Take away'), what: text('the permit for unit {unit}', { unit }),
+    send: () => routes.revoke(view.ticket, unit), sentence: phrase('The permit for {unit} is taken away.', { unit: unitLink(unit) }),
     look: () => lookAtPermits(view.ticket),
   });
 }

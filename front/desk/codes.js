@@ -1,6 +1,7 @@
 // Reference codes of containers, from the public finding aids: an aid names a container below the unit that lies in it.
-// Reading all aids of a large office takes a while, so it is done when somebody asks for it, and kept in this page.
+// Reading all aids of a large office takes a while, so they are kept in this page.
 
+import { counted } from '../shared/language.js';
 import { aid, fonds } from '../shared/routes.js';
 import { containersOfAid, readFonds, readHead } from '../shared/texts.js';
 
@@ -11,7 +12,7 @@ const SHOWN = 3; // the most codes of a container that are shown
 export function codesOf(container) {
   const heads = known.get(String(container)) ?? [];
   const codes = heads.slice(0, SHOWN).map((head) => readHead(head)?.code ?? head);
-  return heads.length > SHOWN ? [...codes, `and ${heads.length - SHOWN} more`] : codes;
+  return heads.length > SHOWN ? [...codes, counted(heads.length - SHOWN, 'and {number} more', 'and {number} more')] : codes;
 }
 
 /** Reads the aids of all fonds if one of these containers is not known yet. Returns how many are still not known. */

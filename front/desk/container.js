@@ -2,6 +2,7 @@
 
 import { el, link, table, words } from '../shared/dom.js';
 import { commandForm } from '../shared/form.js';
+import { phrase, text, textAs } from '../shared/language.js';
 import { deskWords } from '../shared/refusals.js';
 import { giveBack, issue, issued, order, queue } from '../shared/routes.js';
 import { lookAtContainer, lookAtReader } from './looks.js';
@@ -12,11 +13,12 @@ import { ticketField, ticketOf } from './scans.js';
 export async function containerPage(number) {
   const view = { number, told: el('div', { role: 'status' }), panel: el('div', { class: 'panel' }) };
   await show(view);
-  return { title: `Container ${number}`, content: [
-    el('h1', {}, `Container ${number}`),
-    el('p', { class: 'links no-print' }, link('#/counter', 'Back to the counter'), ' ', link(`#/counter/${number}/label`, 'A label to print')),
+  return { title: text('Container {number}', { number }), content: [
+    el('h1', {}, text('Container {number}', { number })),
+    el('p', { class: 'links no-print' }, link('#/counter', text('Back to the counter')), ' ',
+      link(`#/counter/${number}/label`, text('A label to print'))),
     view.told, view.panel,
-    card('Order it for a reader', orderForm(view)),
+    card(text('Order it for a reader'), orderForm(view)),
   ] };
 }
 
@@ -36,22 +38,23 @@ function panel(view, box, holder) {
     words(box.name, 'p', { class: 'big-name' }),
     el('p', { class: 'place' }, place(box, holder)),
     next(view, box),
-    box.waiting.length > 0 && table('Who waits, first to last', ['Order', 'Reader'],
+    box.waiting.length > 0 && table(text('Who waits, first to last'), [textAs('noun', 'Order'), text('Reader')],
       box.waiting.map((one) => [String(one.order), readerLink(one.ticket)])),
   ].filter(Boolean);
 }
 
 function place(box, holder) {
-  if (box.place === 'shelf') return 'It is on its shelf.';
-  if (box.place === 'desk') return 'It is at the desk.';
-  return ['It is out', ...(holder ? [' with ', readerLink(holder)] : []), `, order ${box.out}.`];
+  if (box.place === 'shelf') return text('It is on its shelf.');
+  if (box.place === 'desk') return text('It is at the desk.');
+  if (!holder) return text('It is out, order {order}.', { order: box.out });
+  return phrase('It is out with {reader}, order {order}.', { reader: readerLink(holder), order: box.out });
 }
 
 function next(view, box) {
   if (box.place === 'out') return returnForm(view);
-  if (box.waiting.length === 0) return el('p', { class: 'quiet' }, 'Nobody is waiting for it.');
+  if (box.waiting.length === 0) return el('p', { class: 'quiet' }, text('Nobody is waiting for it.'));
   if (box.place === 'desk') return issueForm(view, box.waiting[0].ticket);
-  return el('p', {}, 'A ', link('#/runs', 'run'), ' fetches it if it is open to the first who waits.');
+  return el('p', {}, phrase('A {run} fetches it if it is open to the first who waits.', { run: link('#/runs', text('run')) }));
 }
 
 function after(view, sentence) {
@@ -60,28 +63,31 @@ function after(view, sentence) {
 
 function issueForm(view, ticket) {
   return commandForm({
-    key: `issue ${view.number}`, button: `Issue to ticket ${ticket}, the first who waits`,
+    key: `issue ${view.number}`, button: text('Issue to ticket {ticket}, the first who waits', { ticket }),
     send: () => issue(view.number, ticket),
-    done: after(view, (value) => `Issued to ticket ${ticket}, order ${value.order}.`),
+    done: after(view, ({ order: number }) => text('Issued to ticket {ticket}, order {order}.', { ticket, order: number })),
     explain: deskWords, look: () => lookAtContainer(view.number),
-    help: () => el('p', {}, 'The card: ', readerLink(ticket), '.'),
+    help: () => el('p', {}, phrase('The card: {reader}.', { reader: readerLink(ticket) })),
   });
 }
 
 function returnForm(view) {
   return commandForm({
-    key: `return ${view.number}`, button: 'Take back',
+    key: `return ${view.number}`, button: text('Take back'),
     send: () => giveBack(view.number),
-    done: after(view, (value) => `Taken back. Order ${value.order} is done.`),
+    done: after(view, ({ order: number }) => text('Taken back. Order {order} is done.', { order: number })),
     explain: deskWords, look: () => lookAtContainer(view.number),
   });
 }
 
 function orderForm(view) {
   return commandForm({
-    key: `order of container ${view.number}`, fields: [ticketField()], button: 'Order', kind: 'plain',
+    key: `order of container ${view.number}`, fields: [ticketField()], button: text('Order'), kind: 'plain',
     send: ({ ticket }) => order(ticketOf(ticket), view.number),
-    done: async (value, { ticket }) => { await show(view); return said(`Order ${value.order} for `, readerLink(ticketOf(ticket)), '.'); },
+    done: async (value, { ticket }) => {
+      await show(view);
+      return said(phrase('Order {order} for {reader}.', { order: value.order, reader: readerLink(ticketOf(ticket)) }));
+    },
     explain: deskWords, look: ({ ticket }) => lookAtReader(ticketOf(ticket)),
   });
 }

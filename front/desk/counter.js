@@ -3,6 +3,7 @@
 
 import { el } from '../shared/dom.js';
 import { commandForm, note } from '../shared/form.js';
+import { phrase, text } from '../shared/language.js';
 import { deskWords } from '../shared/refusals.js';
 import { go } from '../shared/router.js';
 import { giveBack, issue, leaveSeat, queue, takeSeat } from '../shared/routes.js';
@@ -13,19 +14,19 @@ import { showReader } from './reader_at_counter.js';
 import { boxField, boxOf, ticketField, ticketOf } from './scans.js';
 
 const KEPT = 12; // the most containers that are listed after they came back
-const UNKNOWN_SEAT = 'The office did not say whether the seat was given. Press the button again, which does no harm: nobody gets two seats.';
+const UNKNOWN_SEAT = text('The office did not say whether the seat was given. Press the button again, which does no harm: nobody gets two seats.');
 
 export function counterPage() {
-  const ticket = ticketField({ hint: 'Scan or type, then Enter.' });
+  const ticket = ticketField({ hint: text('Scan or type, then Enter.') });
   const counter = el('div', { class: 'cards counter' },
-    card('Issue', issueForm(ticket)),
-    card('Take back', returnForm()),
-    card('A reader arrives', seatForm()),
-    card('A reader leaves', leaveForm()),
-    card('Where is a container?', lookUp(boxField(), 'Look it up', (number) => go(`#/counter/${number}`))));
+    card(text('Issue'), issueForm(ticket)),
+    card(text('Take back'), returnForm()),
+    card(text('A reader arrives'), seatForm()),
+    card(text('A reader leaves'), leaveForm()),
+    card(text('Where is a container?'), lookUp(boxField(), text('Look it up'), (number) => go(`#/counter/${number}`))));
   const input = ticket.querySelector('input');
   counter.addEventListener('keydown', (event) => digitsGoTo(event));
-  return { title: 'Counter', focus: input, content: [el('h1', {}, 'Counter'), counter] };
+  return { title: text('Counter'), focus: input, content: [el('h1', {}, text('Counter')), counter] };
 }
 
 /** What a barcode reader sends (a letter or a digit first) while a button or a link has the focus goes to the first field of the same card. */
@@ -38,10 +39,10 @@ function digitsGoTo(event) {
 }
 
 function issueForm(ticketRow) {
-  const containerRow = boxField({ hint: 'Scan or type, then Enter to issue.' });
+  const containerRow = boxField({ hint: text('Scan or type, then Enter to issue.') });
   const about = el('div', { class: 'about', role: 'status' });
   const form = commandForm({
-    key: 'issue', fields: [ticketRow, about, containerRow], button: 'Issue',
+    key: 'issue', fields: [ticketRow, about, containerRow], button: text('Issue'),
     send: ({ ticket, container }) => issue(boxOf(container), ticketOf(ticket)),
     done: (value, { ticket, container }) => {
       showReader(about, null);
@@ -80,17 +81,18 @@ function focusOfIssue(form, answer) {
 }
 
 function issued(value, ticket, container) {
-  return said('Issued: ', boxLink(container), ' to ', readerLink(ticket), `. Order ${value.order}.`);
+  return said(phrase('Issued: {container} to {reader}. Order {order}.', {
+    container: boxLink(container), reader: readerLink(ticket), order: value.order }));
 }
 
 function readerOf(answer, ticket) {
-  return [4, 16].includes(answer.code) ? el('p', {}, 'The card: ', readerLink(ticket), '.') : null;
+  return [4, 16].includes(answer.code) ? el('p', {}, phrase('The card: {reader}.', { reader: readerLink(ticket) })) : null;
 }
 
 function seatButton(ticket, again) {
   const place = el('div', {});
   const give = el('button', { type: 'button', class: 'plain', click: () => seat(ticket, give, place, again) },
-    `Give ticket ${ticket} a seat and issue`);
+    text('Give ticket {ticket} a seat and issue', { ticket }));
   place.append(give);
   return place;
 }
@@ -112,10 +114,10 @@ async function seat(ticket, give, place, again) {
 }
 
 function returnForm() {
-  const list = el('ul', { class: 'back', 'aria-label': 'Taken back just now' });
+  const list = el('ul', { class: 'back', 'aria-label': text('Taken back just now') });
   const form = commandForm({
-    key: 'return', button: 'Take back',
-    fields: [boxField({ hint: 'Scan or type, then Enter. One after the other.' })],
+    key: 'return', button: text('Take back'),
+    fields: [boxField({ hint: text('Scan or type, then Enter. One after the other.') })],
     send: ({ container }) => giveBack(boxOf(container)),
     done: (value, { container }) => cameBack(list, boxOf(container), value.order),
     explain: deskWords,
@@ -127,7 +129,8 @@ function returnForm() {
 
 async function cameBack(list, container, order) {
   const answer = await queue(container);
-  const line = () => ['Back: ', boxLink(container), `. Order ${order} is done. `, el('span', {}, whereNext(answer))];
+  const line = () => [phrase('Back: {container}. Order {order} is done.', { container: boxLink(container), order }), ' ',
+    el('span', {}, whereNext(answer))];
   list.prepend(el('li', {}, line()));
   while (list.children.length > KEPT) list.lastChild.remove();
   return said(line());
@@ -136,25 +139,27 @@ async function cameBack(list, container, order) {
 function whereNext(answer) {
   if (!answer.ok) return '';
   const [first] = answer.value.waiting;
-  return first ? ['Keep it at the desk for ', readerLink(first.ticket), '.'] : 'Nobody is waiting for it.';
+  return first ? phrase('Keep it at the desk for {reader}.', { reader: readerLink(first.ticket) }) : text('Nobody is waiting for it.');
 }
 
 function seatForm() {
   return commandForm({
-    key: 'seat', fields: [ticketField()], button: 'Give a seat', kind: 'plain',
+    key: 'seat', fields: [ticketField()], button: text('Give a seat'), kind: 'plain',
     send: ({ ticket }) => takeSeat(ticketOf(ticket)),
-    done: ({ seat: number }, { ticket }) => said(`Seat ${number} for `, readerLink(ticketOf(ticket)), '.'),
+    done: ({ seat: number }, { ticket }) => said(phrase('Seat {seat} for {reader}.', { seat: number, reader: readerLink(ticketOf(ticket)) })),
     explain: deskWords, look: ({ ticket }) => lookAtReader(ticketOf(ticket)),
   });
 }
 
 function leaveForm() {
   return commandForm({
-    key: 'leave', fields: [ticketField()], button: 'Free the seat', kind: 'plain',
+    key: 'leave', fields: [ticketField()], button: text('Free the seat'), kind: 'plain',
     send: ({ ticket }) => leaveSeat(ticketOf(ticket)),
-    done: ({ seat: number }, { ticket }) => said(`Seat ${number} is free. `, readerLink(ticketOf(ticket)), ' has left.'),
+    done: ({ seat: number }, { ticket }) =>
+      said(phrase('Seat {seat} is free. {reader} has left.', { seat: number, reader: readerLink(ticketOf(ticket)) })),
     explain: deskWords,
-    help: (answer, { ticket }) => (answer.code === 11 ? el('p', {}, 'What is out: ', readerLink(ticketOf(ticket)), '.') : null),
+    help: (answer, { ticket }) => (answer.code === 11
+      ? el('p', {}, phrase('What is out: {reader}.', { reader: readerLink(ticketOf(ticket)) })) : null),
     look: ({ ticket }) => lookAtReader(ticketOf(ticket)),
   });
 }

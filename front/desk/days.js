@@ -2,6 +2,7 @@
 
 import { lastNumber } from '../shared/asking.js';
 import { el } from '../shared/dom.js';
+import { locale, text } from '../shared/language.js';
 import { slip } from '../shared/routes.js';
 import { readRun } from '../shared/texts.js';
 import { isSure, STAYED } from './sure.js';
@@ -15,9 +16,9 @@ export function dayOfThisComputer() {
 
 /** When something was read, by the clock of this computer: a time of today, or of another day. */
 export function asOf(moment = new Date()) {
-  const time = moment.toLocaleTimeString('en-GB', { hour: '2-digit', minute: '2-digit' });
+  const time = moment.toLocaleTimeString(locale, { hour: '2-digit', minute: '2-digit' });
   const isToday = moment.toDateString() === new Date().toDateString();
-  return isToday ? `As of ${time}.` : `As of ${moment.toLocaleDateString('sv')}, ${time}.`;
+  return isToday ? text('As of {time}.', { time }) : text('As of {day}, {time}.', { day: moment.toLocaleDateString('sv'), time });
 }
 
 /** The newest run as { run, day, lines }; run is 0 if there was none; null if the office does not answer. */
@@ -32,10 +33,10 @@ export async function newestRun() {
 export async function askIfPast(day, means) {
   const today = dayOfThisComputer();
   if (day >= today) return null;
-  return sureOrStayed(`${day} is past`, `Go on with ${day}`,
-    el('p', {}, `By the clock of this computer today is ${today}. ${means}`));
+  return sureOrStayed(text('{day} is past', { day }), text('Go on with {day}', { day }),
+    el('p', {}, text('By the clock of this computer today is {today}.', { today }), ' ', means));
 }
 
 export async function sureOrStayed(title, go, content) {
-  return await isSure({ title, stay: 'Go back', go, content }) ? null : STAYED;
+  return await isSure({ title, stay: text('Go back'), go, content }) ? null : STAYED;
 }

@@ -2,11 +2,12 @@
 // the file, and what the public sees of them must agree.
 
 import { askEach } from '../shared/asking.js';
-import { count, el, table, words } from '../shared/dom.js';
+import { el, table, words } from '../shared/dom.js';
 import { commandForm } from '../shared/form.js';
+import { counted, text } from '../shared/language.js';
 import { deskWords } from '../shared/refusals.js';
 import { setStatus, unit as askUnit } from '../shared/routes.js';
-import { isDraft } from './look/look.js';
+import { isDraft } from './look/units.js';
 import { lookAtUnit } from './looks.js';
 import { firstOfNew } from './newest_unit.js';
 import { heldContainer, unitLink } from './parts.js';
@@ -18,7 +19,7 @@ const CHECKED = 200; // the most units that are checked against what the public 
 export function newDrafts(added, { seen, newest }) {
   const units = [...(seen?.reader?.units.values() ?? [])];
   if (added === 0 || !units.some(isDraft)) return null;
-  const place = el('div', {}, el('p', { class: 'waiting' }, 'Looking for the numbers of the new drafts …'));
+  const place = el('div', {}, el('p', { class: 'waiting' }, text('Looking for the numbers of the new drafts …')));
   listOf(units, added, newest).then((list) => place.replaceChildren(...[list].filter(Boolean)));
   return place;
 }
@@ -26,7 +27,7 @@ export function newDrafts(added, { seen, newest }) {
 async function listOf(units, added, newest) {
   const first = newest === null ? null : await firstOfNew(newest, added);
   const drafts = first === null ? null : await draftsOf(units, first, added);
-  if (drafts === null) return el('p', {}, 'The file has new drafts, but their numbers cannot be told for certain.');
+  if (drafts === null) return el('p', {}, text('The file has new drafts, but their numbers cannot be told for certain.'));
   return drafts.length === 0 ? null : draftTable(drafts);
 }
 
@@ -62,25 +63,27 @@ function agrees({ unit }, page) {
 function draftTable(drafts) {
   const rest = drafts.slice(SHOWN);
   return el('div', { class: 'drafts' },
-    el('p', {}, el('strong', {}, `${count(drafts.length, 'new unit is a draft', 'new units are drafts')}.`),
-      ' The public sees a draft when it is published, with all that is above it.'),
-    table('New drafts, in the order of the file', ['Unit', 'legacyId', 'Title', 'Publish it'], drafts.slice(0, SHOWN).map(draftCells)),
+    el('p', {}, el('strong', {}, counted(drafts.length, '{number} new unit is a draft.', '{number} new units are drafts.')), ' ',
+      text('The public sees a draft when it is published, with all that is above it.')),
+    table(text('New drafts, in the order of the file'), [text('Unit'), 'legacyId', text('Title'), text('Publish it')],
+      drafts.slice(0, SHOWN).map(draftCells)),
     rest.length > 0
-      && el('p', {}, `And ${rest.length.toLocaleString('en-GB')} more: ${rest[0].number} to ${rest.at(-1).number}.`));
+      && el('p', {}, counted(rest.length, 'And {number} more: {first} to {last}.', 'And {number} more: {first} to {last}.',
+        { first: rest[0].number, last: rest.at(-1).number })));
 }
 
 function draftCells({ number, unit }) {
   const link = el('span', { class: 'whole' }, unitLink(number));
   const forms = [publishForm(number, false), publishForm(number, true)];
-  return unit ? [link, words(unit.legacy), words(unit.title || '-'), forms] : [link, '', 'not shown to the public', forms];
+  return unit ? [link, words(unit.legacy), words(unit.title || '-'), forms] : [link, '', text('not shown to the public'), forms];
 }
 
 function publishForm(number, branch) {
   return commandForm({
     key: `publish ${number} ${branch}`, kind: 'plain small',
-    button: [branch ? 'Publish with all below' : 'Publish', el('span', { class: 'unseen' }, ` unit ${number}`)],
+    button: [branch ? text('Publish with all below') : text('Publish'), el('span', { class: 'unseen' }, ' ', text('unit {unit}', { unit: number }))],
     send: () => setStatus(number, 'published', branch),
-    done: ({ units }) => el('p', {}, `${count(units, 'unit was', 'units were')} set to published.`),
+    done: ({ units }) => el('p', {}, counted(units, '{number} unit was set to published.', '{number} units were set to published.')),
     explain: deskWords, help: heldContainer, look: () => lookAtUnit(number),
     focus: (form) => form.querySelector('button').focus(),
   });

@@ -1,5 +1,6 @@
 // The desk's pages, by the address after the #.
 
+import { languageLinks, text, translatePage } from '../shared/language.js';
 import { start } from '../shared/router.js';
 import { todayPage } from './today.js';
 import { counterPage } from './counter.js';
@@ -10,10 +11,14 @@ import { ordersPage } from './orders.js';
 import { runsPage } from './runs.js';
 import { slipPage } from './slip.js';
 import { callSlipsPage, labelPage, ticketPage } from './prints.js';
+import { oldPage } from './old.js';
 import { outPage } from './out.js';
 import { unitsPage } from './units.js';
 import { importPage } from './import.js';
 import { forgetReaders } from './kept.js';
+
+translatePage();
+document.querySelector('.languages').append(...languageLinks());
 
 const NUMBER = '([1-9][0-9]{0,9})';
 const at = (path) => new RegExp(`^#/${path}$`);
@@ -27,13 +32,14 @@ start([
   [at(`readers/${NUMBER}`), cardPage],
   [at(`readers/${NUMBER}/ticket`), ticketPage],
   [at('orders'), ordersPage],
+  [at('orders/old'), oldPage],
   [at('runs'), runsPage],
   [at(`runs/${NUMBER}`), slipPage],
   [at(`runs/${NUMBER}/slips`), callSlipsPage],
   [at('out'), outPage],
   [at(`units(?:/${NUMBER})?`), unitsPage],
   [at('import'), importPage],
-], 'The desk');
+], text('The desk'));
 
 /** Who signs out leaves no readers in the tab. */
 document.querySelector('a[href="/sign-out"]').addEventListener('click', forgetReaders);

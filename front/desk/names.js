@@ -5,6 +5,7 @@
 import { el, link, words } from '../shared/dom.js';
 import { queue, reader } from '../shared/routes.js';
 import { askEach, lastNumber } from '../shared/asking.js';
+import { text } from '../shared/language.js';
 import { keep, kept } from './kept.js';
 
 const CARDS = 'cards';
@@ -32,22 +33,23 @@ export async function containerName(container) {
 }
 
 /** A link to a reader's card, with the name as soon as it is known. */
-export const readerLink = (ticket) => named(`#/readers/${ticket}`, `ticket ${ticket}`, readerName(Number(ticket)));
+export const readerLink = (ticket) => named(`#/readers/${ticket}`, text('ticket {ticket}', { ticket }), readerName(Number(ticket)));
 
 /** A link to a container, with its name as soon as it is known. */
-export const boxLink = (container) => named(`#/counter/${container}`, `container ${container}`, containerName(Number(container)));
+export const boxLink = (container) =>
+  named(`#/counter/${container}`, text('container {number}', { number: container }), containerName(Number(container)));
 
 function named(hash, number, promised) {
   const name = el('span', {});
   const whole = link(hash, name, number);
-  promised.then((text) => text !== null && name.replaceChildren(words(text), ', '));
+  promised.then((found) => found !== null && name.replaceChildren(words(found), ', '));
   return whole;
 }
 
 /** A reader's name as soon as it is known. */
 export function readerWords(ticket, tag = 'span') {
   const name = el(tag, {});
-  readerName(Number(ticket)).then((text) => text !== null && name.replaceChildren(words(text)));
+  readerName(Number(ticket)).then((found) => found !== null && name.replaceChildren(words(found)));
   return name;
 }
 

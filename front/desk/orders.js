@@ -1,8 +1,9 @@
 // Orders: placing one for a reader, cancelling one, and what waits.
 
-import { el } from '../shared/dom.js';
+import { el, link } from '../shared/dom.js';
 import { numberField } from '../shared/fields.js';
 import { commandForm } from '../shared/form.js';
+import { phrase, text, textAs } from '../shared/language.js';
 import { numberOf } from '../shared/numbers.js';
 import { deskWords } from '../shared/refusals.js';
 import { cancel, order } from '../shared/routes.js';
@@ -13,20 +14,22 @@ import { boxField, boxOf, ticketField, ticketOf } from './scans.js';
 import { waitingList } from './waiting.js';
 
 export function ordersPage() {
-  return { title: 'Orders', content: [
-    el('h1', {}, 'Orders'),
-    el('div', { class: 'cards' }, card('Place an order', placeForm()), card('Cancel an order', cancelForm())),
+  return { title: text('Orders'), content: [
+    el('h1', {}, text('Orders')),
+    el('div', { class: 'cards' }, card(text('Place an order'), placeForm()), card(text('Cancel an order'), cancelForm())),
     waitingList(),
+    el('p', { class: 'no-print' }, link('#/orders/old', text('Orders that wait long, and boxes that nobody has asked for'))),
   ] };
 }
 
 function placeForm() {
   return commandForm({
     key: 'order', fields: [ticketField(), boxField()],
-    button: 'Order',
+    button: text('Order'),
     send: ({ ticket, container }) => order(ticketOf(ticket), boxOf(container)),
     done: (value, { ticket, container }) =>
-      said(`Order ${value.order}: `, boxLink(boxOf(container)), ' for ', readerLink(ticketOf(ticket)), '.'),
+      said(phrase('Order {order}: {container} for {reader}.', {
+        order: value.order, container: boxLink(boxOf(container)), reader: readerLink(ticketOf(ticket)) })),
     explain: deskWords,
     look: ({ ticket }) => lookAtReader(ticketOf(ticket)),
   });
@@ -34,11 +37,11 @@ function placeForm() {
 
 function cancelForm() {
   return commandForm({
-    key: 'cancel', fields: [numberField('order', 'Order', { hint: 'The reader’s card and the container’s page show it.' })],
-    button: 'Cancel the order', kind: 'plain',
+    key: 'cancel', fields: [numberField('order', textAs('noun', 'Order'), { hint: text('The reader’s card and the container’s page show it.') })],
+    button: text('Cancel the order'), kind: 'plain',
     send: (values) => cancel(numberOf(values.order)),
-    done: (value) => said(`Order ${value.order} is cancelled.`),
+    done: (value) => said(text('Order {order} is cancelled.', { order: value.order })),
     explain: deskWords,
-    look: onceMore('“no longer waiting” means that it was cancelled.'),
+    look: onceMore(text('“no longer waiting” means that it was cancelled.')),
   });
 }

@@ -2,6 +2,7 @@
 
 import { el, printButton, table } from '../shared/dom.js';
 import { commandForm } from '../shared/form.js';
+import { text, textAs } from '../shared/language.js';
 import { deskWords } from '../shared/refusals.js';
 import { issued, reshelve } from '../shared/routes.js';
 import { onceMore } from './looks.js';
@@ -11,36 +12,37 @@ import { card, problem } from './parts.js';
 
 export async function outPage() {
   const answer = await issued();
-  return { title: 'Out now', content: [
-    el('h1', {}, 'Out now'),
+  return { title: text('Out now'), content: [
+    el('h1', {}, text('Out now')),
     el('p', { class: 'quiet' }, asOf()),
     answer.ok ? outTable(answer.value) : problem(answer),
-    card('Reshelve', el('p', {}, 'Every container at the desk that nobody is waiting for goes back to its shelf. You get a list of them.'),
+    card(text('Reshelve'),
+      el('p', {}, text('Every container at the desk that nobody is waiting for goes back to its shelf. You get a list of them.')),
       reshelveForm()),
   ] };
 }
 
 function outTable(rows) {
-  if (rows.length === 0) return el('p', {}, 'Nothing is out.');
-  return table('With readers', ['Container', 'Order', 'Reader'], rows.map(({ container, order, ticket }) =>
+  if (rows.length === 0) return el('p', {}, text('Nothing is out.'));
+  return table(text('With readers'), [text('Container'), textAs('noun', 'Order'), text('Reader')], rows.map(({ container, order, ticket }) =>
     [boxLink(container), String(order), readerLink(ticket)]));
 }
 
 function reshelveForm() {
   return commandForm({
-    key: 'reshelve', button: 'Reshelve',
+    key: 'reshelve', button: text('Reshelve'),
     send: reshelve,
     done: ({ containers }) => shelfList(containers),
     explain: (answer) => deskWords(answer, 'reshelve'),
-    look: onceMore('“nothing to take back” means that it was done. Its list is lost then: carry back every container at the desk '
-      + 'for which the counter shows that nobody is waiting.'),
+    look: onceMore(text('“nothing to take back” means that it was done. Its list is lost then: carry back every container at the desk '
+      + 'for which the counter shows that nobody is waiting.')),
   });
 }
 
 function shelfList(containers) {
   return [
-    el('p', {}, el('strong', {}, 'Take these back to their shelves:')),
+    el('p', {}, el('strong', {}, text('Take these back to their shelves:'))),
     el('ul', {}, containers.map((container) => el('li', {}, boxLink(container)))),
-    el('p', { class: 'buttons' }, printButton('Print this list')),
+    el('p', { class: 'buttons' }, printButton(text('Print this list'))),
   ];
 }

@@ -1,5 +1,7 @@
 // What a page shows while it asks for many cards.
 
+import { text, written } from '../shared/language.js';
+
 const PAUSE = 500; // milliseconds between two looks at a list that still grows
 
 /** Calls `show` at most twice a second. */
@@ -13,4 +15,4 @@ export function paced(show) {
 }
 
 /** How many cards have been read. */
-export const progress = (done, all) => `${done.toLocaleString('en-GB')} of ${all.toLocaleString('en-GB')} cards read …`;
+export const progress = (done, all) => text('{done} of {all} cards read …', { done: written(done), all: written(all) });

@@ -2,18 +2,19 @@
 
 import { el, link } from '../shared/dom.js';
 import { note } from '../shared/form.js';
+import { phrase, text } from '../shared/language.js';
 import { numberOf } from '../shared/numbers.js';
 import { deskWords } from '../shared/refusals.js';
 import { STAYED } from './sure.js';
 
-const containerLink = (container) => link(`#/counter/${container}`, `container ${container}`);
-export const runLink = (run) => link(`#/runs/${run}`, `run ${run}`);
-export const unitLink = (unit) => link(`#/units/${unit}`, `unit ${unit}`);
+const containerLink = (container) => link(`#/counter/${container}`, text('container {number}', { number: container }));
+export const runLink = (run) => link(`#/runs/${run}`, text('run {run}', { run }));
+export const unitLink = (unit) => link(`#/units/${unit}`, text('unit {unit}', { unit }));
 
 export const said = (...children) => el('p', {}, el('strong', {}, ...children));
 
 /** What a refusal means, or that somebody decided not to go on. */
-export const notDone = (answer, command) => (answer === STAYED ? ['Nothing was done.', ''] : deskWords(answer, command));
+export const notDone = (answer, command) => (answer === STAYED ? [text('Nothing was done.'), ''] : deskWords(answer, command));
 
 let last = 0;
 
@@ -31,7 +32,8 @@ export function problem(answer) {
 
 /** Below a refusal that names a container: the way to it. */
 export function heldContainer(answer) {
-  return answer.code === 21 ? el('p', {}, 'Its page at the counter: ', containerLink(answer.container), '.') : null;
+  return answer.code === 21
+    ? el('p', {}, phrase('Its page at the counter: {container}.', { container: containerLink(answer.container) })) : null;
 }
 
 /** A form that looks something up by its number: it changes nothing, so it may be sent any number of times. */

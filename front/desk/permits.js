@@ -1,9 +1,10 @@
 // Permits for a unit: giving one, and who has one.
 
 import { askEach } from '../shared/asking.js';
-import { count, el, table } from '../shared/dom.js';
+import { el, table } from '../shared/dom.js';
 import { dayField } from '../shared/fields.js';
 import { commandForm } from '../shared/form.js';
+import { counted, phrase, text } from '../shared/language.js';
 import { permit, permits } from '../shared/routes.js';
 import { asOf, askIfPast } from './days.js';
 import { lookAtPermits } from './looks.js';
@@ -12,38 +13,44 @@ import { paced, progress } from './pace.js';
 import { notDone, said } from './parts.js';
 import { ticketField, ticketOf } from './scans.js';
 
+const FEW = 200; // tickets whose cards are asked for without a wish
+
 export function permitForm(unit) {
   return commandForm({
     key: `permit for ${unit}`,
     fields: [ticketField(),
-      dayField('until', 'Last day of the permit', { hint: 'It opens what is closed here to that reader, and no draft.' })],
-    button: 'Give a permit', kind: 'plain',
-    before: ({ until }) => askIfPast(until, 'A permit that ends on a past day opens nothing.'),
+      dayField('until', text('Last day of the permit'), { hint: text('It opens what is closed here to that reader, and no draft.') })],
+    button: text('Give a permit'), kind: 'plain',
+    before: ({ until }) => askIfPast(until, text('A permit that ends on a past day opens nothing.')),
     send: ({ ticket, until }) => permit(ticketOf(ticket), unit, until),
-    done: (value) => said('Permit for ', readerLink(value.ticket), ` until ${value.until}.`),
+    done: (value) => said(phrase('Permit for {reader} until {until}.', { reader: readerLink(value.ticket), until: value.until })),
     explain: (answer) => notDone(answer, 'permit'),
     look: ({ ticket }) => lookAtPermits(ticketOf(ticket)),
   });
 }
 
-/** Who has a permit for exactly this unit. Permits are on the readers' cards, so every card is asked for. */
+/** Who has a permit for exactly this unit. Permits are on the readers' cards, so every card is asked for: at once if there are few. */
 export function permitList(unit) {
   const told = el('p', { class: 'told', role: 'status' });
   const list = el('div', {});
-  const ask = el('button', { type: 'button', class: 'plain', click: () => gather(Number(unit), told, list) }, 'Who has a permit for it?');
+  let asked = null;
+  const begin = () => { asked ??= gather(Number(unit), told, list).finally(() => { asked = null; }); };
+  const ask = el('button', { type: 'button', class: 'plain', click: begin }, text('Who has a permit for it?'));
+  newestTicket().then((newest) => newest !== null && newest <= FEW && begin());
   return [el('p', { class: 'buttons' }, ask), told, list];
 }
 
 async function gather(unit, told, list) {
-  told.textContent = 'Asking the office for the readers’ cards …';
+  told.textContent = text('Asking the office for the readers’ cards …');
   const found = await holdersOf(unit, (some, done, all) => { told.textContent = progress(done, all); showHolders(list, some); });
-  if (found === null) { told.textContent = 'The office did not answer for all cards. Try again in a minute.'; return; }
-  told.textContent = found.length === 0 ? 'Nobody has a permit for this very unit.' : `${count(found.length, 'permit', 'permits')}. ${asOf()}`;
+  if (found === null) { told.textContent = text('The office did not answer for all cards. Try again in a minute.'); return; }
+  told.textContent = found.length === 0 ? text('Nobody has a permit for this very unit.')
+    : `${counted(found.length, '{number} permit.', '{number} permits.')} ${asOf()}`;
   showHolders(list, found);
 }
 
 function showHolders(list, found) {
-  list.replaceChildren(...(found.length === 0 ? [] : [table('Permits for this unit', ['Reader', 'Good until'],
+  list.replaceChildren(...(found.length === 0 ? [] : [table(text('Permits for this unit'), [text('Reader'), text('Good until')],
     found.map((one) => [readerLink(one.ticket), el('span', { class: 'whole' }, one.until)]))]));
 }
 

@@ -2,6 +2,7 @@
 
 import { askEach } from '../shared/asking.js';
 import { el, link, printButton, words } from '../shared/dom.js';
+import { phrase, text } from '../shared/language.js';
 import { queue, reader, slip } from '../shared/routes.js';
 import { locationIn, readRun } from '../shared/texts.js';
 import { barcode } from './barcode.js';
@@ -12,13 +13,14 @@ import { boxCode, ticketCode } from './scans.js';
 /** The call slips of a run: one for each order. */
 export async function callSlipsPage(run) {
   const answer = await slip(run);
-  if (!answer.ok) return { title: `Run ${run}`, content: [el('h1', {}, `Run ${run}`), problem(answer)] };
+  if (!answer.ok) return failed(text('Run {run}', { run }), answer);
   const { day, lines } = readRun(answer.value);
   const names = await namesOf(lines);
-  const print = printButton('Print the call slips');
-  return { title: `Call slips of run ${run}`, focus: print, content: [
-    el('h1', { class: 'no-print' }, `Call slips of run ${run}`),
-    el('p', { class: 'buttons no-print' }, print, link(`#/runs/${run}`, 'Back to the run')),
+  const print = printButton(text('Print the call slips'));
+  const title = text('Call slips of run {run}', { run });
+  return { title, focus: print, content: [
+    el('h1', { class: 'no-print' }, title),
+    el('p', { class: 'buttons no-print' }, print, link(`#/runs/${run}`, text('Back to the run'))),
     el('div', { class: 'call-slips' }, lines.map((line) => callSlip(line, names.get(line.container), run, day))),
   ] };
 }
@@ -35,28 +37,33 @@ function callSlip(line, name, run, day) {
   const location = name === undefined ? null : locationIn(line.place, name);
   return el('section', { class: 'call-slip' },
     location === null ? words(line.place, 'p', { class: 'from-where' })
-      : [words(location || '-', 'p', { class: 'from-where' }), el('p', { class: 'what' }, words(name), el('small', {}, ` container ${line.container}`))],
-    el('p', {}, readerWords(line.ticket, 'strong'), `, ticket ${line.ticket}`),
-    el('p', { class: 'quiet' }, `Order ${line.order}, run ${run}, ${day}`),
+      : [words(location || '-', 'p', { class: 'from-where' }),
+        el('p', { class: 'what' }, words(name), el('small', {}, ' ', text('container {number}', { number: line.container })))],
+    el('p', {}, phrase('{reader}, ticket {ticket}', { reader: readerWords(line.ticket, 'strong'), ticket: line.ticket })),
+    el('p', { class: 'quiet' }, text('Order {order}, run {run}, {day}', { order: line.order, run, day })),
     el('div', { class: 'codes-of' }, barcode(boxCode(line.container)), barcode(ticketCode(line.ticket))));
 }
 
 export async function ticketPage(ticket) {
   const answer = await reader(ticket);
-  if (!answer.ok) return { title: `Ticket ${ticket}`, content: [el('h1', {}, `Ticket ${ticket}`), problem(answer)] };
+  const title = text('Ticket {ticket}', { ticket });
+  if (!answer.ok) return failed(title, answer);
   const { name, until } = answer.value;
-  return toPrint(`Ticket ${ticket}`, 'Print the ticket', link(`#/readers/${ticket}`, 'Back to the card'), [
-    el('p', {}, 'Reader’s ticket ', el('strong', {}, ticket)), words(name, 'p', { class: 'what' }),
-    el('p', { class: 'quiet' }, `Good until ${until}`), barcode(ticketCode(ticket))]);
+  return toPrint(title, text('Print the ticket'), link(`#/readers/${ticket}`, text('Back to the card')), [
+    el('p', {}, phrase('Reader’s ticket {ticket}', { ticket: el('strong', {}, ticket) })), words(name, 'p', { class: 'what' }),
+    el('p', { class: 'quiet' }, text('Good until {until}', { until })), barcode(ticketCode(ticket))]);
 }
 
 export async function labelPage(container) {
   const answer = await queue(container);
-  const title = `Container ${container}`;
-  if (!answer.ok) return { title, content: [el('h1', {}, title), problem(answer)] };
-  return toPrint(`Label of container ${container}`, 'Print the label', link(`#/counter/${container}`, 'Back to the container'),
+  const title = text('Container {number}', { number: container });
+  if (!answer.ok) return failed(title, answer);
+  const back = link(`#/counter/${container}`, text('Back to the container'));
+  return toPrint(text('Label of container {number}', { number: container }), text('Print the label'), back,
     [words(answer.value.name, 'p', { class: 'what' }), el('p', { class: 'quiet' }, title), barcode(boxCode(container))]);
 }
+
+const failed = (title, answer) => ({ title, content: [el('h1', {}, title), problem(answer)] });
 
 function toPrint(title, button, back, content) {
   const print = printButton(button);

@@ -1,6 +1,7 @@
 // The reader at the counter: the name, the seat, the containers in hand, and those that are ready at the desk.
 
 import { el, words } from '../shared/dom.js';
+import { phrase, text } from '../shared/language.js';
 import { queue } from '../shared/routes.js';
 import { boxLink, readCard } from './names.js';
 import { problem } from './parts.js';
@@ -17,16 +18,18 @@ export async function showReader(place, ticket) {
 }
 
 function none(answer) {
-  return answer.kind === 'missing' ? el('p', {}, 'There is no ticket with this number.') : problem(answer);
+  return answer.kind === 'missing' ? el('p', {}, text('There is no ticket with this number.')) : problem(answer);
 }
 
 async function summary({ name, seat, until, orders }) {
   const ready = await readyFor(orders);
   const inHand = orders.filter((order) => order.state === 'out');
   return [
-    el('p', {}, words(name, 'strong'), seat === null ? ', no seat yet' : `, seat ${seat}`, `, ticket good until ${until}.`),
-    inHand.length > 0 && el('p', {}, 'Has now: ', listed(inHand), '.'),
-    el('p', {}, ready.length > 0 ? ['Ready at the desk: ', listed(ready), '.'] : 'Nothing is ready at the desk for this reader.'),
+    el('p', {}, seat === null ? phrase('{name}, no seat yet, ticket good until {until}.', { name: words(name, 'strong'), until })
+      : phrase('{name}, seat {seat}, ticket good until {until}.', { name: words(name, 'strong'), seat, until })),
+    inHand.length > 0 && el('p', {}, phrase('Has now: {containers}.', { containers: listed(inHand) })),
+    el('p', {}, ready.length > 0 ? phrase('Ready at the desk: {containers}.', { containers: listed(ready) })
+      : text('Nothing is ready at the desk for this reader.')),
   ].filter(Boolean);
 }
 

@@ -1,9 +1,10 @@
 // Readers: found by name or number, and registered.
 
-import { count, el, table, words, link } from '../shared/dom.js';
+import { el, table, words, link } from '../shared/dom.js';
 import { dayField, textField } from '../shared/fields.js';
-import { folded } from '../shared/folding.js';
+import { isSameName, partsOf } from '../shared/folding.js';
 import { commandForm } from '../shared/form.js';
+import { counted, phrase, text, written } from '../shared/language.js';
 import { LONGEST_NAME } from '../shared/limits.js';
 import { numberOf } from '../shared/numbers.js';
 import { go } from '../shared/router.js';
@@ -19,10 +20,10 @@ const LOOKED_AT = 400; // the most cards that are read before a reader is regist
 const MOST = 20000; // the most cards that are asked for before somebody must say to go on
 
 export function readersPage() {
-  const field = textField('who', 'Name or ticket number', { maxlength: LONGEST_NAME, hint: 'Any part of the name will do.' });
-  return { title: 'Readers', focus: field.querySelector('input'), content: [
-    el('h1', {}, 'Readers'),
-    el('div', { class: 'cards' }, card('Find a reader', findForm(field)), card('Register a reader', registerForm())),
+  const field = textField('who', text('Name or ticket number'), { maxlength: LONGEST_NAME, hint: text('Any part of the name will do.') });
+  return { title: text('Readers'), focus: field.querySelector('input'), content: [
+    el('h1', {}, text('Readers')),
+    el('div', { class: 'cards' }, card(text('Find a reader'), findForm(field)), card(text('Register a reader'), registerForm())),
   ] };
 }
 
@@ -30,7 +31,7 @@ function findForm(field) {
   const told = el('p', { class: 'told', role: 'status' });
   const found = el('div', {});
   const form = el('form', { class: 'find' }, field,
-    el('p', { class: 'buttons' }, el('button', { type: 'submit', class: 'plain' }, 'Find')), told, found);
+    el('p', { class: 'buttons' }, el('button', { type: 'submit', class: 'plain' }, text('Find'))), told, found);
   form.addEventListener('submit', (event) => {
     event.preventDefault();
     const who = form.elements.who.value;
@@ -48,33 +49,36 @@ async function findByName(form, who, told, found) {
   const mine = ++turn;
   const goesOn = () => mine === turn && form.isConnected;
   const show = (end) => showFound(who, told, found, end);
-  show('Asking the office for the readers’ cards …');
+  show(text('Asking the office for the readers’ cards …'));
   const newest = await newestTicket();
-  if (newest === null) return goesOn() && show('The office did not answer. Try again in a minute.');
+  if (newest === null) return goesOn() && show(text('The office did not answer. Try again in a minute.'));
   const showSome = paced((done, all) => show(progress(done, all)));
   const whole = await readCards(newest, (done, all) => {
     if (goesOn()) showSome(done, all);
     return goesOn() && done < MOST;
   });
-  const known = knownCards().size.toLocaleString('en-GB');
-  if (goesOn()) show(whole ? asOf() : `The newest ${known} cards were searched. Choose Find again to search older ones.`);
+  const known = written(knownCards().size);
+  if (goesOn()) show(whole ? asOf() : text('The newest {known} cards were searched. Choose Find again to search older ones.', { known }));
 }
 
 function showFound(who, told, found, end) {
   const tickets = matching(who);
-  told.textContent = `${count(tickets.length, 'reader', 'readers')} with “${who.trim()}”. ${end}`;
+  const many = counted(tickets.length, '{number} reader with “{who}”.', '{number} readers with “{who}”.', { who: who.trim() });
+  told.textContent = `${many} ${end}`;
   found.replaceChildren(...(tickets.length === 0 ? [] : [
-    table('Readers found', ['Name', 'Ticket'],
+    table(text('Readers found'), [text('Name'), text('Ticket')],
       tickets.slice(0, SHOWN).map(([ticket, name]) => [link(`#/readers/${ticket}`, words(name)), String(ticket)])),
-    tickets.length > SHOWN ? el('p', {}, `And ${tickets.length - SHOWN} more: type more of the name.`) : '']));
+    tickets.length > SHOWN ? el('p', {}, more(tickets.length - SHOWN)) : '']));
 }
+
+const more = (number) => counted(number, 'And {number} more: type more of the name.', 'And {number} more: type more of the name.');
 
 const namesOf = () => [...knownCards()].map(([ticket, { name }]) => [ticket, name]);
 
 /** The readers whose names have every word that was typed, whatever its case and accents. */
 function matching(who) {
-  const parts = folded(who).split(/\s+/).filter(Boolean);
-  return namesOf().filter(([, name]) => parts.every((part) => folded(name).includes(part)))
+  const has = partsOf(who);
+  return namesOf().filter(([, name]) => has(name))
     .sort((a, b) => a[1].localeCompare(b[1]) || a[0] - b[0]);
 }
 
@@ -82,13 +86,13 @@ function registerForm() {
   return commandForm({
     key: 'register',
     fields: [
-      textField('name', 'Name', { maxlength: LONGEST_NAME }),
-      dayField('until', 'Last day of the ticket', { hint: 'The ticket is good on that day too.' }),
+      textField('name', text('Name'), { maxlength: LONGEST_NAME }),
+      dayField('until', text('Last day of the ticket'), { hint: text('The ticket is good on that day too.') }),
     ],
-    button: 'Register',
+    button: text('Register'),
     before: askFirst,
     send: ({ name, until }) => register(oneSpaced(name), until),
-    done: ({ ticket }, { until }) => said('Registered: ', readerLink(ticket), `, good until ${until}.`),
+    done: ({ ticket }, { until }) => said(phrase('Registered: {reader}, good until {until}.', { reader: readerLink(ticket), until })),
     explain: notDone,
     look: lookAtNewestTicket,
   });
@@ -99,15 +103,15 @@ const oneSpaced = (name) => name.trim().replace(/\s+/g, ' ');
 
 /** Asks about a last day that is past, and about a reader who has a ticket already. */
 async function askFirst({ name, until }) {
-  return await askIfPast(until, 'Such a ticket has expired already.') ?? askIfKnown(oneSpaced(name));
+  return await askIfPast(until, text('Such a ticket has expired already.')) ?? askIfKnown(oneSpaced(name));
 }
 
 async function askIfKnown(name) {
   const newest = await newestTicket();
   if (newest !== null) await readCards(newest, (done) => done < LOOKED_AT);
-  const same = namesOf().filter(([, known]) => folded(known) === folded(name)).map(([ticket]) => ticket);
+  const same = namesOf().filter(([, known]) => isSameName(known, name)).map(([ticket]) => ticket);
   if (name === '' || same.length === 0) return null;
-  return sureOrStayed('There is a reader of this name', 'Register another reader of this name', [
+  return sureOrStayed(text('There is a reader of this name'), text('Register another reader of this name'), [
     el('ul', {}, same.slice(0, SHOWN).map((ticket) => el('li', {}, readerLink(ticket)))),
-    el('p', {}, 'A reader who has a ticket keeps it: renew it on the reader’s card.')]);
+    el('p', {}, text('A reader who has a ticket keeps it: renew it on the reader’s card.'))]);
 }

@@ -1,7 +1,8 @@
 // Containers of a file that other archives in the office name too. The public finding aids have a container's name alone, so
 // whether its location and kind are the same, too, somebody has to see.
 
-import { count, el, words } from '../shared/dom.js';
+import { el, words } from '../shared/dom.js';
+import { counted, text } from '../shared/language.js';
 import { aid, fonds } from '../shared/routes.js';
 import { namesInAid, readFonds } from '../shared/texts.js';
 
@@ -12,25 +13,25 @@ export function sameBoxes(units) {
   const told = el('p', { class: 'told', role: 'status' });
   const list = el('ul', { class: 'same-boxes' });
   const ask = el('button', { type: 'button', class: 'plain', click: () => show(units, told, list, ask) },
-    'Do other archives in the office name these containers?');
+    text('Do other archives in the office name these containers?'));
   return el('div', {}, el('p', { class: 'buttons' }, ask), told, list);
 }
 
 async function show(units, told, list, ask) {
   if (ask.getAttribute('aria-disabled') === 'true') return;
   ask.setAttribute('aria-disabled', 'true');
-  told.textContent = 'Reading the public finding aids …';
+  told.textContent = text('Reading the public finding aids …');
   const found = await otherArchives(units);
   ask.removeAttribute('aria-disabled');
-  told.textContent = found === null ? 'The office did not answer. Try again in a minute.' : sentence(found);
+  told.textContent = found === null ? text('The office did not answer. Try again in a minute.') : sentence(found);
   list.replaceChildren(...(found ?? []).slice(0, SHOWN).map(([name, heads]) =>
     el('li', {}, words(name, 'strong'), ': ', words(heads.join('; ')))));
 }
 
 function sentence(found) {
-  if (found.length === 0) return 'No other archive that the public sees names one of them.';
-  return `${count(found.length, 'name is', 'names are')} in other archives too. With the same location and kind it is the same `
-    + 'container: closing one unit in it closes all. Make names unique first.';
+  if (found.length === 0) return text('No other archive that the public sees names one of them.');
+  const same = text('With the same location and kind it is the same container: closing one unit in it closes all. Make names unique first.');
+  return `${counted(found.length, '{number} name is in other archives too.', '{number} names are in other archives too.')} ${same}`;
 }
 
 /** The names of the file's containers that archives not in this file have too, with the archives' head lines. */
@@ -42,9 +43,9 @@ async function otherArchives(units) {
   const found = new Map();
   for (const { number, rest } of readFonds(answer.value)) {
     if (!number || own.some((end) => rest.endsWith(end))) continue;
-    const text = await aid(number);
-    if (!text.ok && text.kind !== 'missing') return null;
-    for (const name of text.ok ? namesInAid(text.value) : []) {
+    const read = await aid(number);
+    if (!read.ok && read.kind !== 'missing') return null;
+    for (const name of read.ok ? namesInAid(read.value) : []) {
       if (names.has(name)) found.set(name, [...(found.get(name) ?? []), rest]);
     }
   }

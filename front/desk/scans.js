@@ -3,10 +3,17 @@
 
 import { el } from '../shared/dom.js';
 import { numberField } from '../shared/fields.js';
+import { text } from '../shared/language.js';
 import { numberOf } from '../shared/numbers.js';
 
-const TICKET = { letter: 'T', name: 'ticket', other: 'B', wrong: 'This is the code of a container. Scan a ticket.' };
-const BOX = { letter: 'B', name: 'container', other: 'T', wrong: 'This is the code of a ticket. Scan a container.' };
+const TICKET = {
+  letter: 'T', other: 'B', wrong: text('This is the code of a container. Scan a ticket.'), none: text('Scan or type the number of a ticket.'),
+  form: text('A ticket’s number has digits alone. Its code has the letter T before them.'),
+};
+const BOX = {
+  letter: 'B', other: 'T', wrong: text('This is the code of a ticket. Scan a container.'), none: text('Scan or type the number of a container.'),
+  form: text('A container’s number has digits alone. Its code has the letter B before them.'),
+};
 
 export const ticketCode = (ticket) => `${TICKET.letter}${ticket}`;
 export const boxCode = (container) => `${BOX.letter}${container}`;
@@ -14,8 +21,8 @@ export const boxCode = (container) => `${BOX.letter}${container}`;
 export const ticketOf = (typed) => numberOf(typed.replace(/^\s*T/i, ''));
 export const boxOf = (typed) => numberOf(typed.replace(/^\s*B/i, ''));
 
-export const ticketField = (options) => scanField(TICKET, 'ticket', 'Ticket', options);
-export const boxField = (options) => scanField(BOX, 'container', 'Container', options);
+export const ticketField = (options) => scanField(TICKET, 'ticket', text('Ticket'), options);
+export const boxField = (options) => scanField(BOX, 'container', text('Container'), options);
 
 function scanField(kind, name, label, options) {
   const row = numberField(name, label, options);
@@ -39,7 +46,7 @@ function tellWrong(kind, input, told) {
 }
 
 function wrongWords(kind, typed) {
-  if (typed.trim() === '') return `Scan or type the number of a ${kind.name}.`;
+  if (typed.trim() === '') return kind.none;
   if (typed.trim().toUpperCase().startsWith(kind.other)) return kind.wrong;
-  return `A ${kind.name}’s number has digits alone. Its code has the letter ${kind.letter} before them.`;
+  return kind.form;
 }

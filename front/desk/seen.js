@@ -3,30 +3,34 @@
 
 import { el, table } from '../shared/dom.js';
 import { note } from '../shared/form.js';
+import { text, written } from '../shared/language.js';
 import { LARGEST_FILE } from '../shared/limits.js';
 import { DESK, deskWords } from '../shared/refusals.js';
+import { convert } from './look/convert.js';
 import { aboutRow, adviceWords, longColumn, look, readRules } from './look/look.js';
 import { sameBoxes } from './same_boxes.js';
 
 const LEVELS = { stop: 'refused', ask: 'warns', note: 'quiet-note' };
 const COUNTS = {
-  rows: 'Rows', units: 'Units', drafts: 'Drafts', translations: 'Translations', tops: 'Top units', containers: 'Containers',
+  rows: text('Rows'), units: text('Units'), drafts: text('Drafts'), translations: text('Translations'),
+  tops: text('Top units'), containers: text('Containers'),
 };
 const UNREAD = { ok: false, kind: 'unread here' };
 const STOPPED = { ok: false, kind: 'stopped' };
 const UNCONFIRMED = { ok: false, kind: 'unconfirmed' };
 
 const WORDS = {
-  'unread here': ['The file was not sent: it cannot be read here.', 'Choose it again.'],
-  stopped: ['The file was not sent: the office would refuse it.', 'Correct what is said above, and choose the file again.'],
-  unconfirmed: ['The file was not sent.', 'Read what is said above. If it is meant so, tick “Take it in all the same”.'],
+  'unread here': [text('The file was not sent: it cannot be read here.'), text('Choose it again.')],
+  stopped: [text('The file was not sent: the office would refuse it.'), text('Correct what is said above, and choose the file again.')],
+  unconfirmed: [text('The file was not sent.'), text('Read what is said above. If it is meant so, tick “Take it in all the same”.')],
 };
 
 /** Reads the file of an input whenever one is chosen. */
 export function fileReader(input) {
   const reader = {
     panel: el('div', { class: 'seen-in-file', role: 'status' }), reading: Promise.resolve(),
-    seen: null, rules: null, advice: [], newest: null,
+    seen: null, rules: null, advice: [], newest: null, converted: null,
+    toSend: (file) => (reader.converted ? new File([reader.converted.bytes], file.name) : file),
     objection: (file) => objectionTo(reader, file),
     words: (answer) => WORDS[answer.kind] ?? refusalOfRow(reader, answer),
     hasDrafts: () => reader.seen?.counts?.drafts > 0,
@@ -38,19 +42,30 @@ export function fileReader(input) {
 }
 
 async function read(reader, file) {
-  Object.assign(reader, { seen: null, advice: [], name: file?.name, size: file?.size });
+  Object.assign(reader, { seen: null, advice: [], converted: null, name: file?.name, size: file?.size });
   reader.panel.replaceChildren();
   if (!file || file.size > LARGEST_FILE) return reader.panel.replaceChildren(...(file ? [tooLarge()] : []));
-  reader.panel.replaceChildren(el('p', { class: 'waiting' }, 'Reading the file …'));
+  reader.panel.replaceChildren(el('p', { class: 'waiting' }, text('Reading the file …')));
   try {
     reader.rules ??= await readRules();
-    reader.seen = look(new Uint8Array(await file.arrayBuffer()), reader.rules);
+    lookAtBytes(reader, new Uint8Array(await file.arrayBuffer()));
   } catch {
     return reader.panel.replaceChildren();
   }
   reader.advice = reader.seen.advice.map((one) => adviceWords(reader.rules, one));
   return reader.panel.replaceChildren(...panelParts(reader));
 }
+
+/** A file that a program saved otherwise is looked at as it would be sent, and what it was taken for is told first. */
+function lookAtBytes(reader, bytes) {
+  reader.converted = convert(bytes, reader.rules);
+  reader.seen = look(reader.converted?.bytes ?? bytes, reader.rules);
+  const { advice } = reader.seen;
+  if (reader.converted?.lost) advice.unshift(['lost_quote', reader.converted.lost]);
+  if (reader.converted) advice.unshift(['converted', { ...reader.converted, letters: orNone(reader.converted.letters) }]);
+}
+
+const orNone = (list) => (list.length > 0 ? list : [text('none')]);
 
 function tooLarge() {
   const [means, todo] = deskWords({ ok: false, kind: 'large' });
@@ -72,13 +87,13 @@ function noteOf(level, advice) {
 
 function confirmation() {
   return el('p', { class: 'field check' }, el('input', { id: 'confirmed', type: 'checkbox' }),
-    el('label', { for: 'confirmed' }, 'Take it in all the same'));
+    el('label', { for: 'confirmed' }, text('Take it in all the same')));
 }
 
 function countTable(counts) {
-  const row = Object.keys(COUNTS).map((name) => counts[name].toLocaleString('en-GB'));
-  return [table('What the file has', Object.values(COUNTS), [row]),
-    el('p', { class: 'hint' }, 'Which of its units are new, only the office knows: it tells it after the import.')];
+  const row = Object.keys(COUNTS).map((name) => written(counts[name]));
+  return [table(text('What the file has'), Object.values(COUNTS), [row]),
+    el('p', { class: 'hint' }, text('Which of its units are new, only the office knows: it tells it after the import.'))];
 }
 
 /** Why a file is not sent, as an answer of the form, or null. */
@@ -101,10 +116,10 @@ function focusAfter(form, answer, reader) {
 function refusalOfRow({ seen, rules }, answer) {
   if (answer.code !== 22 || !rules) return null;
   const [means] = DESK[answer.code];
-  const [cause, todo] = rules.causes[answer.cause] ?? [`cause ${answer.cause}`, ''];
+  const [cause, todo] = rules.causes[answer.cause]?.map((words) => text(words)) ?? [text('cause {number}', { number: answer.cause }), ''];
   const row = seen?.rows?.[answer.row - 1];
   if (!row) return [`${means} ${cause[0].toUpperCase()}${cause.slice(1)}.`, todo];
   const column = answer.cause === 10 ? longColumn(seen.reader, row) : null;
-  const where = `Row ${answer.row} (${row.sheet} in the spreadsheet)${aboutRow(seen.reader, row, column)}`;
-  return [`${means} ${where}: ${cause}.`, todo];
+  const where = { row: answer.row, sheet: row.sheet, unit: aboutRow(seen.reader, row, column), cause };
+  return [`${means} ${text('Row {row} ({sheet} in the spreadsheet){unit}: {cause}.', where)}`, todo];
 }

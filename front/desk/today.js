@@ -1,38 +1,41 @@
 // The day: opening it, and the way through it.
 
-import { count, el, link } from '../shared/dom.js';
+import { el, link } from '../shared/dom.js';
 import { dayField } from '../shared/fields.js';
 import { commandForm } from '../shared/form.js';
+import { counted, phrase, text } from '../shared/language.js';
 import { deskWords } from '../shared/refusals.js';
 import { issued, openDay } from '../shared/routes.js';
 import { onceMore } from './looks.js';
 import { asOf, dayOfThisComputer, newestRun } from './days.js';
 import { card, problem, runLink, said } from './parts.js';
+import { redCard } from './red.js';
 import { isSure, STAYED } from './sure.js';
 
 const KEPT = 'last day opened here';
 
 export async function todayPage() {
-  return { title: 'Today', content: [
-    el('h1', {}, 'Today'),
+  return { title: text('Today'), content: [
+    el('h1', {}, text('Today')),
     el('div', { class: 'cards' },
-      card('Open a new day', await whichDay(), lastDay(), dayForm()),
-      card('Still out', await stillOut()),
-      card('The course of a day', course())),
+      await redCard(),
+      card(text('Open a new day'), await whichDay(), lastDay(), dayForm()),
+      card(text('Still out'), await stillOut()),
+      card(text('The course of a day'), course())),
   ] };
 }
 
 function dayForm() {
   return commandForm({
     key: 'day',
-    fields: [dayField('day', 'The new day', { value: dayOfThisComputer(), hint: 'All seats become free. Nothing may be out.' })],
-    button: 'Open the day',
+    fields: [dayField('day', text('The new day'), { value: dayOfThisComputer(), hint: text('All seats become free. Nothing may be out.') })],
+    button: text('Open the day'),
     before: ({ day }) => askFirst(day),
     send: ({ day }) => openDay(day),
     done: opened,
-    explain: (answer) => (answer === STAYED ? ['No day was opened.', ''] : deskWords(answer)),
+    explain: (answer) => (answer === STAYED ? [text('No day was opened.'), ''] : deskWords(answer)),
     focus: (form, answer) => { if (answer === null) form.elements.day.value = ''; form.elements.day.focus(); },
-    look: onceMore('“not later than the day that is open” means that it was done.'),
+    look: onceMore(text('“not later than the day that is open” means that it was done.')),
   });
 }
 
@@ -41,9 +44,9 @@ async function askFirst(day) {
   const today = dayOfThisComputer();
   if (day === today) return null;
   const question = {
-    title: `Open ${day}?`, stay: 'Open no day', go: `Open ${day}`,
-    content: el('p', {}, `By the clock of this computer today is ${today}. A day that has been opened cannot be taken back: `
-      + 'tickets that end before it expire, and what is closed until then opens.'),
+    title: text('Open {day}?', { day }), stay: text('Open no day'), go: text('Open {day}', { day }),
+    content: el('p', {}, text('By the clock of this computer today is {today}.', { today }), ' ', text('A day that has been opened cannot '
+      + 'be taken back: tickets that end before it expire, and what is closed until then opens.')),
   };
   return await isSure(question) ? null : STAYED;
 }
@@ -51,36 +54,39 @@ async function askFirst(day) {
 function opened({ day }) {
   localStorage.setItem(KEPT, day);
   document.querySelector('.last-day')?.replaceWith(lastDay());
-  return said(`${day} is open.`);
+  return said(text('{day} is open.', { day }));
 }
 
 /** The program does not say which day is open; the newest run shows that no earlier day is. */
 async function whichDay() {
   const newest = await newestRun();
-  if (!newest?.day) return el('p', { class: 'quiet' }, 'These pages cannot know which day is open: there has been no run yet.');
-  return el('p', { class: 'quiet' }, 'The newest is ', runLink(newest.run), ` of ${newest.day}: this day is open, or a later one.`);
+  if (!newest?.day) return el('p', { class: 'quiet' }, text('These pages cannot know which day is open: there has been no run yet.'));
+  return el('p', { class: 'quiet' },
+    phrase('The newest is {run} of {day}: this day is open, or a later one.', { run: runLink(newest.run), day: newest.day }));
 }
 
 /** This browser knows the days that were opened in it. */
 function lastDay() {
   const day = localStorage.getItem(KEPT);
   return el('p', { class: 'last-day quiet' },
-    day ? `The day opened last in this browser is ${day}.` : 'No day has been opened in this browser yet.');
+    day ? text('The day opened last in this browser is {day}.', { day }) : text('No day has been opened in this browser yet.'));
 }
 
 async function stillOut() {
   const answer = await issued();
   if (!answer.ok) return problem(answer);
   const number = answer.value.length;
-  return [el('p', {}, number === 0 ? 'Nothing is out.' : link('#/out', `${count(number, 'container is', 'containers are')} out.`)),
+  return [el('p', {}, number === 0 ? text('Nothing is out.')
+    : link('#/out', counted(number, '{number} container is out.', '{number} containers are out.'))),
     el('p', { class: 'quiet' }, asOf())];
 }
 
 function course() {
   return el('ol', {},
-    el('li', {}, 'In the morning, open the day.'),
-    el('li', {}, link('#/runs', 'Fetch'), ' what readers are waiting for, and take the slip to the shelves.'),
-    el('li', {}, 'At the ', link('#/counter', 'counter'), ', give each reader a seat, issue containers and take them back.'),
-    el('li', {}, link('#/orders', 'Orders'), ' that come in during the day are fetched by further runs.'),
-    el('li', {}, 'In the evening, take back what is ', link('#/out', 'out'), ', and reshelve.'));
+    el('li', {}, text('In the morning, open the day.')),
+    el('li', {}, phrase('{runs} what readers are waiting for, and take the slip to the shelves.', { runs: link('#/runs', text('Fetch')) })),
+    el('li', {}, phrase('At the {counter}, give each reader a seat, issue containers and take them back.', {
+      counter: link('#/counter', text('counter')) })),
+    el('li', {}, phrase('{orders} that come in during the day are fetched by further runs.', { orders: link('#/orders', text('Orders')) })),
+    el('li', {}, phrase('In the evening, take back what is {out}, and reshelve.', { out: link('#/out', text('out')) })));
 }

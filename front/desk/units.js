@@ -1,13 +1,14 @@
 // Units: what the public sees of one, its status, closure and place, permits for it, and its removal.
 
-import { count, el, link } from '../shared/dom.js';
+import { el, link } from '../shared/dom.js';
 import { checkField, choiceField, dayField, numberField } from '../shared/fields.js';
 import { commandForm } from '../shared/form.js';
 import { numberOf } from '../shared/numbers.js';
 import { go } from '../shared/router.js';
 import { headLine } from '../shared/heads.js';
+import { counted, phrase, text } from '../shared/language.js';
 import { fonds, move, setClosure, setStatus, unit as askUnit } from '../shared/routes.js';
-import { readFonds, readPage } from '../shared/texts.js';
+import { readFonds, readHead, readPage } from '../shared/texts.js';
 import { askIfPast } from './days.js';
 import { lookAtUnit } from './looks.js';
 import { card, heldContainer, lookUp, notDone, problem, said, unitLink } from './parts.js';
@@ -15,38 +16,46 @@ import { permitForm, permitList } from './permits.js';
 import { removeForm } from './removal.js';
 
 export async function unitsPage(number) {
-  const field = numberField('unit', 'Unit', {
-    hint: 'The number at the end of the address of its public page. A draft is found by its number alone.',
+  const field = numberField('unit', text('Unit'), {
+    hint: text('The number at the end of the address of its public page. A draft is found by its number alone.'),
   });
-  const look = lookUp(field, 'Open the unit', (typed) => go(`#/units/${typed}`));
-  if (!number) return { title: 'Units', focus: field.querySelector('input'), content: [el('h1', {}, 'Units'), look, await tops()] };
-  const page = el('div', { role: 'region', 'aria-label': 'What the public sees', tabindex: 0 });
+  const look = lookUp(field, text('Open the unit'), (typed) => go(`#/units/${typed}`));
+  if (!number) return { title: text('Units'), focus: field.querySelector('input'), content: [el('h1', {}, text('Units')), look, await tops()] };
+  const page = el('div', { role: 'region', 'aria-label': text('What the public sees'), tabindex: 0 });
   const view = { number, head: el('div', {}), page };
   await show(view);
-  return { title: `Unit ${number}`, content: [
-    el('h1', {}, `Unit ${number}`), view.head,
+  return { title: text('Unit {unit}', { unit: number }), content: [
+    el('h1', {}, text('Unit {unit}', { unit: number })), view.head,
     el('div', { class: 'cards' },
-      card('Status', statusForm(view)), card('Closure', closureForm(view), endForm(view)), card('Move', moveForm(view), topForm(view)),
-      card('Remove', removeForm(number, () => show(view))),
-      card('Permits', permitForm(number), permitList(number)),
-      card('Another unit', look)),
-    el('h2', {}, 'What the public sees'), view.page,
+      card(text('Status'), statusForm(view)), card(text('Closure'), closureForm(view), endForm(view)),
+      card(text('Move'), moveForm(view), topForm(view)),
+      card(text('Remove'), removeForm(number, () => show(view))),
+      card(text('Permits'), permitForm(number), permitList(number)),
+      card(text('Another unit'), look)),
+    el('h2', {}, text('What the public sees')), view.page,
   ] };
 }
 
 async function show(view) {
   const answer = await askUnit(view.number);
-  view.head.replaceChildren(answer.ok ? headLine(readPage(answer.value).head, 'p') : nothing(answer));
+  view.head.replaceChildren(...(answer.ok ? [headLine(readPage(answer.value).head, 'p'), stateOf(answer.value)] : [nothing(answer)]));
   view.page.replaceChildren(answer.ok
-    ? el('pre', { class: 'page' }, pageLines(answer.value)) : el('p', { class: 'quiet' }, 'Nothing.'));
+    ? el('pre', { class: 'page' }, pageLines(answer.value)) : el('p', { class: 'quiet' }, text('Nothing.')));
+}
+
+/** The status and the closure of a unit that the public sees. Of others the office tells nothing. */
+function stateOf(page) {
+  const [, until] = /^closed until (\d{4}-\d{2}-\d{2})$/.exec(readHead(readPage(page).head)?.title ?? '') ?? [];
+  const isClosed = until && page.split('\n').length === 2; // an open one may have this title, but has no such page
+  return el('p', { class: 'state' }, isClosed ? text('Published, and closed until {until}.', { until }) : text('Published and open.'));
 }
 
 /** The page to the letter, where the units right below are links to their pages here. */
-function pageLines(text) {
-  const units = readPage(text).units;
+function pageLines(page) {
+  const { units } = readPage(page);
   const list = units.map(({ number, rest }) => `  Unit ${number}: ${rest}\n`).join('');
-  if (!text.endsWith(list)) return text;
-  return [text.slice(0, text.length - list.length), ...units.flatMap(({ number, rest }) =>
+  if (!page.endsWith(list)) return page;
+  return [page.slice(0, page.length - list.length), ...units.flatMap(({ number, rest }) =>
     [`  Unit ${number}: `, link(`#/units/${number}`, rest), '\n'])];
 }
 
@@ -54,60 +63,66 @@ function pageLines(text) {
 function unitList(units) {
   const shown = units.filter(({ number }) => number !== null);
   return shown.length > 0 && el('ul', { class: 'lower' }, shown.map(({ number, rest }) =>
-    el('li', {}, link(`#/units/${number}`, headLine(rest)), ` (unit ${number})`)));
+    el('li', {},
+      phrase('{head} (unit {unit})', { head: link(`#/units/${number}`, headLine(rest)), unit: number }))));
 }
 
 async function tops() {
   const answer = await fonds();
   if (!answer.ok) return problem(answer);
-  return [el('h2', {}, 'Top units that the public sees'), unitList(readFonds(answer.value)) || el('p', {}, 'None yet.')];
+  return [el('h2', {}, text('Top units that the public sees')), unitList(readFonds(answer.value)) || el('p', {}, text('None yet.'))];
 }
 
 function nothing(answer) {
   if (answer.kind !== 'missing') return problem(answer);
-  return el('p', { class: 'quiet' }, 'Nothing: it is a draft, lies below a draft or a closed unit, or there is no unit with this number.');
+  return el('p', { class: 'quiet' }, text('Nothing: it is a draft, lies below a draft or a closed unit, or there is no unit with this number.'));
 }
 
 function change(view, parts) {
   return commandForm({
-    ...parts, key: `${parts.button} ${view.number}`, explain: notDone, help: heldContainer, look: () => lookAtUnit(view.number),
+    ...parts, key: `${parts.key} ${view.number}`, explain: notDone, help: heldContainer, look: () => lookAtUnit(view.number),
     done: async (value, values) => { await show(view); return said(...parts.done(value, values)); },
   });
 }
 
 function statusForm(view) {
   return change(view, {
-    fields: [choiceField('status', 'Set it to', [['published', 'Published'], ['draft', 'Draft']]), checkField('branch', 'With everything below it')],
-    button: 'Set the status',
+    fields: [choiceField('status', text('Set it to'), [['published', text('Published')], ['draft', text('Draft')]]),
+      checkField('branch', text('With everything below it'))],
+    key: 'status of', button: text('Set the status'),
     send: ({ status, branch }) => setStatus(view.number, status, branch !== undefined),
-    done: ({ units }, { status }) => [`${count(units, 'unit was', 'units were')} set to ${status}.`],
+    done: ({ units }, { status }) => [status === 'published'
+      ? counted(units, '{number} unit was set to published.', '{number} units were set to published.')
+      : counted(units, '{number} unit was set to draft.', '{number} units were set to draft.')],
   });
 }
 
 function closureForm(view) {
   return change(view, {
-    fields: [dayField('until', 'Closed until', { hint: 'It opens on that day.' })],
-    button: 'Set the closure',
-    before: ({ until }) => askIfPast(until, 'A unit that is closed until a past day is open.'),
+    fields: [dayField('until', text('Closed until'), { hint: text('It opens on that day.') })],
+    key: 'closure of', button: text('Set the closure'),
+    before: ({ until }) => askIfPast(until, text('A unit that is closed until a past day is open.')),
     send: ({ until }) => setClosure(view.number, until),
-    done: (value, { until }) => [`Closed until ${until}.`],
+    done: (value, { until }) => [text('Closed until {until}.', { until })],
   });
 }
 
 /** A button of its own: a field that was left empty by mistake must not open what is closed. */
 const endForm = (view) => change(view, {
-  button: 'End the closure', kind: 'plain', send: () => setClosure(view.number, null), done: () => ['No longer closed.'],
+  key: 'end of closure of', button: text('End the closure'), kind: 'plain', send: () => setClosure(view.number, null),
+  done: () => [text('No longer closed.')],
 });
 
 function moveForm(view) {
   return change(view, {
-    fields: [numberField('parent', 'Below which unit', { hint: 'It becomes the last one there, with everything below it.' })],
-    button: 'Move',
+    fields: [numberField('parent', text('Below which unit'), { hint: text('It becomes the last one there, with everything below it.') })],
+    key: 'move of', button: text('Move'),
     send: ({ parent }) => move(view.number, numberOf(parent)),
-    done: (value, { parent }) => ['It is now the last below ', unitLink(numberOf(parent)), '.'],
+    done: (value, { parent }) => phrase('It is now the last below {unit}.', { unit: unitLink(numberOf(parent)) }),
   });
 }
 
 const topForm = (view) => change(view, {
-  button: 'Make it a top unit', kind: 'plain', send: () => move(view.number, null), done: () => ['It is now the last of the top units.'],
+  key: 'top of', button: text('Make it a top unit'), kind: 'plain', send: () => move(view.number, null),
+  done: () => [text('It is now the last of the top units.')],
 });

@@ -1,8 +1,9 @@
 // Every order that waits, gathered from the readers' cards, with the place of its container and, as far as it can be known,
 // why no run has fetched it. What was read is kept in the tab.
 
-import { count, el, printButton, table } from '../shared/dom.js';
+import { el, printButton, table } from '../shared/dom.js';
 import { askEach } from '../shared/asking.js';
+import { counted, phrase, text, textAs, written } from '../shared/language.js';
 import { queue } from '../shared/routes.js';
 import { asOf, newestRun } from './days.js';
 import { keep, kept } from './kept.js';
@@ -36,12 +37,12 @@ export function waitingList() {
   const told = el('p', { class: 'told', role: 'status' });
   const list = el('div', {});
   const view = { told, list, buttons: [] };
-  const button = (text, all) =>
-    el('button', { type: 'button', class: 'plain', click: () => gather(view, Infinity, all) }, text);
-  view.buttons = [button('Show what waits now', false), button('Read every card again', true)];
+  const button = (name, all) =>
+    el('button', { type: 'button', class: 'plain', click: () => gather(view, Infinity, all) }, name);
+  view.buttons = [button(text('Show what waits now'), false), button(text('Read every card again'), true)];
   if (last) showGathered(view, last);
   if (!last || isOld) gather(view, FEW, false);
-  return card('What waits', el('p', { class: 'quiet' }, 'Gathered from the readers’ cards.'),
+  return card(text('What waits'), el('p', { class: 'quiet' }, text('Gathered from the readers’ cards.')),
     el('p', { class: 'buttons no-print' }, view.buttons), told, list);
 }
 
@@ -53,14 +54,14 @@ async function gather(view, most, all) {
 }
 
 async function gatherNow(view, most, all) {
-  const tell = (text) => { view.told.textContent = text; };
-  tell('Asking the office …');
+  const tell = (told) => { view.told.textContent = told; };
+  tell(text('Asking the office …'));
   const [newest, run] = [await newestTicket(), await newestRun()];
-  if (newest === null || run === null) return tell('The office did not answer. Try again in a minute.');
+  if (newest === null || run === null) return tell(text('The office did not answer. Try again in a minute.'));
   const tickets = ticketsToRead(newest, all ? null : run.day);
-  const many = tickets.length.toLocaleString('en-GB');
-  if (tickets.length > most) return last ? showGathered(view, last) : tell(`There are ${many} cards to ask for, which takes a while.`);
-  if (!await readThese(tickets, view, run)) return tell('The office stopped answering. Try again in a minute.');
+  const many = text('There are {number} cards to ask for, which takes a while.', { number: written(tickets.length) });
+  if (tickets.length > most) return last ? showGathered(view, last) : tell(many);
+  if (!await readThese(tickets, view, run)) return tell(text('The office stopped answering. Try again in a minute.'));
   const orders = waitingOrders();
   last = { orders, places: await placesOf(orders), run, moment: new Date(), skipped: newest - tickets.length };
   isOld = false;
@@ -105,9 +106,10 @@ async function placesOf(orders) {
 }
 
 function showGathered(view, { orders, places, run, moment, skipped }) {
-  const few = orders.length === 0 ? 'No order is waiting.' : `${count(orders.length, 'order waits', 'orders wait')}.`;
-  const old = ` Not read again: ${count(skipped, 'expired ticket', 'expired tickets')} without an order.`;
-  view.told.textContent = `${few} ${asOf(moment)}${skipped > 0 ? old : ''}`;
+  const few = orders.length === 0 ? text('No order is waiting.') : counted(orders.length, '{number} order waits.', '{number} orders wait.');
+  const old = counted(skipped, 'Not read again: {number} expired ticket without an order.',
+    'Not read again: {number} expired tickets without an order.');
+  view.told.textContent = `${few} ${asOf(moment)}${skipped > 0 ? ` ${old}` : ''}`;
   showOrders(view, orders, places, run);
 }
 
@@ -115,19 +117,19 @@ function showOrders(view, orders, places, run) {
   const rows = orders.map((order) => [String(order.order), boxLink(order.container), readerLink(order.ticket),
     whereFor(order, places.get(order.container), run)]);
   view.list.replaceChildren(...(rows.length === 0 ? [] : [
-    table('Orders that wait, the oldest first', ['Order', 'Container', 'Reader', 'Where it is'], rows),
-    el('p', {}, printButton('Print this list'))]));
+    table(text('Orders that wait, the oldest first'), [textAs('noun', 'Order'), text('Container'), text('Reader'), text('Where it is')], rows),
+    el('p', {}, printButton(text('Print this list')))]));
 }
 
 function whereFor(order, box, run) {
   if (!box) return '…';
-  if (box.place === 'out') return 'out with another reader';
-  const where = box.place === 'desk' ? 'at the desk' : 'on its shelf';
-  if (box.waiting[0]?.order !== order.order) return `${where}, for another reader first`;
-  if (box.place === 'desk') return 'at the desk, ready if it is open to this reader';
-  if (!wasPassedOver(order, run)) return 'on its shelf: a run fetches it if it is open to this reader';
-  return ['on its shelf: ', runLink(run.run), ' passed it over. Probably it is not open to this reader: closed, a draft, or no '
-    + 'longer in any unit'];
+  if (box.place === 'out') return text('out with another reader');
+  const isFirst = box.waiting[0]?.order === order.order;
+  if (box.place === 'desk') return isFirst ? text('at the desk, ready if it is open to this reader') : text('at the desk, for another reader first');
+  if (!isFirst) return text('on its shelf, for another reader first');
+  if (!wasPassedOver(order, run)) return text('on its shelf: a run fetches it if it is open to this reader');
+  return phrase('on its shelf: {run} passed it over. Probably it is not open to this reader: closed, a draft, or no longer in any unit', {
+    run: runLink(run.run) });
 }
 
 /** A run takes the oldest orders that it can: what is older than one of them, and still on its shelf, it could not take. */

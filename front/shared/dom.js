@@ -13,9 +13,9 @@ function put(node, name, value) {
   else node.setAttribute(name, value === true ? '' : String(value));
 }
 
-/** A text of the office, with its own direction of writing and its own spaces, never shortened. */
+/** A text of the office, in a language that nobody knows, with its own direction of writing and its own spaces, never shortened. */
 export function words(text, tag = 'span', attributes = {}) {
-  return el(tag, { dir: 'auto', ...attributes, class: `words ${attributes.class ?? ''}`.trim() }, text);
+  return el(tag, { dir: 'auto', lang: '', ...attributes, class: `words ${attributes.class ?? ''}`.trim() }, text);
 }
 
 export function link(hash, ...children) {
@@ -28,10 +28,6 @@ export function table(caption, heads, rows) {
     el('caption', {}, caption),
     el('thead', {}, el('tr', {}, heads.map((head) => el('th', { scope: 'col' }, head)))),
     el('tbody', {}, rows.map((row) => el('tr', {}, row.map((cell) => el('td', {}, cell)))))));
-}
-
-export function count(number, one, many) {
-  return number === 1 ? `1 ${one}` : `${number.toLocaleString('en-GB')} ${many}`;
 }
 
 export function printButton(text) {

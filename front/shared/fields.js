@@ -1,6 +1,7 @@
 // The fields of forms: each is one row with its label, its input and, if it has one, its hint.
 
 import { el } from './dom.js';
+import { text } from './language.js';
 import { TYPED } from './numbers.js';
 
 let last = 0;
@@ -8,7 +9,7 @@ let last = 0;
 export function numberField(name, label, { hint, value = '', required = true } = {}) {
   return field(label, hint, el('input', {
     name, value, required, type: 'text', inputmode: 'numeric', autocomplete: 'off', maxlength: 32,
-    pattern: TYPED, title: 'A number above 0, in digits alone', class: 'short',
+    pattern: TYPED, title: text('A number above 0, in digits alone'), class: 'short',
   }));
 }
 

@@ -4,6 +4,7 @@
 
 import { el } from './dom.js';
 import { heldValues, keepHeld, releaseHeld } from './held.js';
+import { text } from './language.js';
 
 const PAUSE = 600; // milliseconds after an answer in which a repeated command counts as a mistake
 
@@ -75,7 +76,7 @@ function begin(state) {
 }
 
 function showWaiting(state) {
-  state.slow = setTimeout(() => state.outcome.replaceChildren(el('p', { class: 'waiting' }, 'Waiting for the office …')), 400);
+  state.slow = setTimeout(() => state.outcome.replaceChildren(el('p', { class: 'waiting' }, text('Waiting for the office …'))), 400);
 }
 
 function stop(state, ended, values) {
@@ -117,12 +118,12 @@ async function whatWasDone(state, value, values) {
     return await state.parts.done(value, values);
   } catch (mistake) {
     console.warn(mistake);
-    return el('p', {}, el('strong', {}, 'It was done, but this page cannot show it.'), ' Load the page again.');
+    return el('p', {}, el('strong', {}, text('It was done, but this page cannot show it.')), ' ', text('Load the page again.'));
   }
 }
 
 const missed = (state) => state.missed
-  && el('p', {}, 'A number was typed or scanned while the office was busy. It was not taken: please do it again.');
+  && el('p', {}, text('A number was typed or scanned while the office was busy. It was not taken: please do it again.'));
 
 function fail(state, answer, values) {
   state.outcome.replaceChildren(note('refused', [
@@ -172,20 +173,20 @@ function hold(state, answer, values) {
   shut(state, true);
   if (state.parts.key) keepHeld(state.parts.key, values);
   const seen = el('div', {});
-  const look = el('button', { type: 'button', click: () => showWhatIs(state, values, seen) }, 'Look now');
+  const look = el('button', { type: 'button', click: () => showWhatIs(state, values, seen) }, text('Look now'));
   state.outcome.replaceChildren(note('refused', [refusal(state.parts, answer), el('p', { class: 'buttons' }, look), seen]));
   look.focus();
 }
 
 async function showWhatIs(state, values, seen) {
-  seen.replaceChildren(el('p', { class: 'waiting' }, 'Looking …'));
+  seen.replaceChildren(el('p', { class: 'waiting' }, text('Looking …')));
   const what = await (state.parts.look?.(values) ?? null);
   if (what === null) {
-    seen.replaceChildren(el('p', {}, 'This cannot be seen now, so the form stays shut. Try again in a minute.'));
+    seen.replaceChildren(el('p', {}, text('This cannot be seen now, so the form stays shut. Try again in a minute.')));
     return;
   }
-  const done = el('button', { type: 'button', class: 'plain', click: () => release(state, true) }, 'It was done');
-  const undone = el('button', { type: 'button', class: 'plain', click: () => release(state, false) }, 'It was not done: open the form');
+  const done = el('button', { type: 'button', class: 'plain', click: () => release(state, true) }, text('It was done'));
+  const undone = el('button', { type: 'button', class: 'plain', click: () => release(state, false) }, text('It was not done: open the form'));
   seen.replaceChildren(el('div', { class: 'seen' }, what), el('p', { class: 'buttons' }, done, undone));
 }
 

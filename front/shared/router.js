@@ -1,20 +1,19 @@
 // Shows the page that the address names, and takes care of the title, the focus, the place on the page and the back button.
 
-import { byHash } from './addresses.js';
 import { el } from './dom.js';
+import { text } from './language.js';
 
-const site = { pages: [], name: '', addresses: byHash, main: null };
+const site = { pages: [], name: '', main: null };
 let shown = null; // the page that is shown
 let turn = 0;
 let later = 0;
 
 /**
- * pages: [pattern, page]; a page gets what the pattern matched and promises { title, content, focus, shown, place, restore }.
- * place(): what to keep in the history besides how far the page was scrolled; restore(kept): whether it went back there.
+ * pages: [pattern, page]; a page gets what the pattern matched and promises { title, content, focus, shown }.
  */
-export function start(pages, name, addresses = byHash) {
-  Object.assign(site, { pages, name, addresses, main: document.querySelector('main') });
-  addresses.listen(showAgain, (address) => pages.some(([pattern]) => pattern.test(address)));
+export function start(pages, name) {
+  Object.assign(site, { pages, name, main: document.querySelector('main') });
+  window.addEventListener('hashchange', showAgain);
   window.addEventListener('scroll', keepPlaceSoon, { passive: true });
   window.addEventListener('pagehide', keepPlace);
   document.addEventListener('click', keepPlace, true); // before a link that was clicked leads away
@@ -25,21 +24,17 @@ export function start(pages, name, addresses = byHash) {
 
 /** Shows the page of this address, even if it is already shown. */
 export async function go(address) {
-  if (!site.addresses.turn(address)) await showAgain();
+  if (location.hash === address) await showAgain();
+  else location.hash = address; // the browser then calls it
 }
 
-/** Keeps something in the history entry of the page that is shown; with an address, that of the entry is changed too. */
-export function keep(members, address = undefined) {
-  history.replaceState({ ...history.state, ...members }, '', address);
-}
-
-export async function showAgain() {
+async function showAgain() {
   clearTimeout(later);
   const mine = ++turn;
   const kept = history.state;
   shown = null;
   const slow = setTimeout(() => site.main.replaceChildren(waiting()), 400);
-  const page = await pageOrFailure(site.addresses.here());
+  const page = await pageOrFailure(location.hash);
   clearTimeout(slow);
   if (mine !== turn) return;
   shown = page;
@@ -48,7 +43,7 @@ export async function showAgain() {
   markCurrent();
   const target = page.focus ?? (mine > 1 ? heading() : null);
   target?.focus({ preventScroll: true });
-  if (!(kept && page.restore?.(kept))) window.scrollTo(0, kept?.place ?? 0);
+  window.scrollTo(0, kept?.place ?? 0);
   page.shown?.();
 }
 
@@ -58,8 +53,8 @@ async function pageOrFailure(address) {
     return await pageAt(address);
   } catch (mistake) {
     console.warn(mistake);
-    return { title: 'This page failed', content: [el('h1', {}, 'This page failed'),
-      el('p', {}, 'There is a mistake in it, and it cannot be shown. Load it again. If it fails again, tell whoever runs the office: ',
+    return { title: text('This page failed'), content: [el('h1', {}, text('This page failed')),
+      el('p', {}, text('There is a mistake in it, and it cannot be shown. Load it again. If it fails again, tell whoever runs the office:'), ' ',
         el('code', {}, String(mistake)))] };
   }
 }
@@ -69,7 +64,8 @@ function pageAt(address) {
     const found = pattern.exec(address);
     if (found) return page(...found.slice(1));
   }
-  return { title: 'No such page', content: [el('h1', {}, 'No such page'), el('p', {}, 'Please choose one from the list at the top.')] };
+  const title = text('No such page');
+  return { title, content: [el('h1', {}, title), el('p', {}, text('Please choose one from the list at the top.'))] };
 }
 
 function heading() {
@@ -79,13 +75,15 @@ function heading() {
 }
 
 function waiting() {
-  return el('p', { class: 'waiting', role: 'status' }, 'Waiting for the office …');
+  return el('p', { class: 'waiting', role: 'status' }, text('Waiting for the office …'));
 }
 
+const section = (place) => place.hash.split('/')[1] ?? '';
+
 function markCurrent() {
-  const here = site.addresses.section(location);
+  const here = section(location);
   for (const item of document.querySelectorAll('header nav a')) {
-    if (site.addresses.section(item) === here) item.setAttribute('aria-current', 'page');
+    if (section(item) === here) item.setAttribute('aria-current', 'page');
     else item.removeAttribute('aria-current');
   }
 }
@@ -97,7 +95,7 @@ function keepPlaceSoon() {
 }
 
 function keepPlace() {
-  if (shown) keep({ place: Math.round(window.scrollY), ...shown.place?.() });
+  if (shown) history.replaceState({ ...history.state, place: Math.round(window.scrollY) }, '');
 }
 
 function skip(event) {

@@ -1,12 +1,7 @@
 // Reads the program's texts line by line, and never guesses. A line feed always ends a line; a value may hold anything
 // else. So a line is recognised by its beginning, and the rest of it is shown as it is.
 
-/** The areas of ISAD(G), second edition, and its elements that a line may have. */
-export const AREAS = {
-  '3.1': 'Identity statement', '3.2': 'Context', '3.3': 'Content and structure',
-  '3.4': 'Conditions of access and use', '3.5': 'Allied materials', '3.6': 'Notes', '3.7': 'Description control',
-};
-
+/** The elements of ISAD(G) that a line may have; some are also found above a unit. */
 const ELEMENTS = [
   ['3.1.3', 'Date(s)'],
   ['3.1.5', 'Extent and medium of the unit of description'],
@@ -64,12 +59,9 @@ export function readPage(text) {
   return page;
 }
 
-/** A finding aid: each line with its depth, and whether it is a unit's head line. */
-export function readAid(text) {
-  return linesOf(text).map((line) => {
-    const own = line.trimStart();
-    return { text: own, depth: (line.length - own.length) / 2, isHead: isHeadLine(own) };
-  });
+/** A finding aid: each line, and whether it is a unit's head line. */
+function readAid(text) {
+  return linesOf(text).map((line) => line.trimStart()).map((line) => ({ text: line, isHead: isHeadLine(line) }));
 }
 
 /** Only head lines begin with a country's two capitals: other lines begin with a digit or with `Container`. */
@@ -105,36 +97,6 @@ export function namesInAid(text) {
 export function dayOfClosure(head) {
   return /\] closed until (\d{4}-\d\d-\d\d)$/.exec(head)?.[1] ?? null;
 }
-
-/** The ways to the units of a finding aid: for each head line, the places among their siblings of the units down to it. */
-export function waysOfAid(lines) {
-  const counts = [];
-  return lines.map(({ depth, isHead }) => {
-    if (!isHead) return null;
-    counts.length = depth + 1;
-    counts[depth] = (counts[depth] ?? 0) + 1;
-    return counts.slice(1);
-  });
-}
-
-/** The units of a finding aid as a tree, from its own unit down: { head, way, dates, extent, below } each. */
-export function treeOfAid(text) {
-  const lines = readAid(text);
-  const ways = waysOfAid(lines);
-  const path = [];
-  lines.forEach(({ text: line, depth, isHead }, at) => {
-    if (isHead) {
-      path.length = depth;
-      path.push({ head: line, way: ways[at], dates: '', extent: '', below: [] });
-      path.at(-2)?.below.push(path.at(-1));
-    } else if (line.startsWith(DATES)) path.at(-1).dates = line.slice(DATES.length);
-    else if (line.startsWith(EXTENT)) path.at(-1).extent = line.slice(EXTENT.length);
-  });
-  return path[0];
-}
-
-const DATES = '3.1.3 Date(s): ';
-const EXTENT = '3.1.5 Extent and medium of the unit of description: ';
 
 /** The lines of a slip. Each ends with three numbers, whatever comes before them: the location and the container's name. */
 export function readSlip(text) {
@@ -195,6 +157,6 @@ function placesOf(part, text) {
 }
 
 /** Whether a unit above the one with this head line may have this code. */
-export function isCodeAbove(code, head) {
+function isCodeAbove(code, head) {
   return /^[A-Z]{2} [!-~]+/.test(code) && (head.startsWith(`${code}/`) || head.startsWith(`${code} `));
 }

@@ -4,18 +4,24 @@ const BLANK = /^[ \t\r\n]+|[ \t\r\n]+$/g;
 
 export const trimmed = (text) => text.replace(BLANK, '');
 
+/** The entries of a split column; `NULL` is blank. */
+export const entries = (text) => text.split('|').map(trimmed).map((one) => (one === 'NULL' ? '' : one));
+
 /**
- * { rows, isOpen }: the records of a text, at most so many, and whether a quotation mark is open at its end. A row is
+ * { rows, isOpen, lost }: the records of a text, at most so many, whether a quotation mark is open at its end, and the first
+ * field that loses one, as { row, sheet, found }: it begins with a mark, and goes on after the next single one. A row is
  * { number, sheet, fields }: its number as the office counts it, and as a spreadsheet does, which counts empty lines too.
  */
 export function records(text, separator = ',', most = Infinity) {
   const rows = [];
-  const at = { text, separator, place: 0, isOpen: false };
+  const at = { text, separator, place: 0, isOpen: false, lost: null };
+  let lost = null;
   for (let sheet = 1; at.place < text.length && rows.length < most; sheet += 1) {
     const fields = nextRecord(at);
     if (fields) rows.push({ number: rows.length + 1, sheet, fields: fields.map(trimmed) });
+    if (at.lost !== null) lost ??= { row: rows.length, sheet, found: [...trimmed(at.lost)].slice(0, 40).join('') };
   }
-  return { rows, isOpen: at.isOpen };
+  return { rows, isOpen: at.isOpen, lost };
 }
 
 /** The fields of the record that begins at a place, or null for an empty line. */
@@ -51,7 +57,11 @@ function quotedField(at) {
     if (at.isOpen) { at.place = at.text.length; return field + at.text.slice(begin); }
     field += at.text.slice(begin, end);
     at.place = end + 1;
-    if (at.text[at.place] !== '"') return field + plainField(at);
+    if (at.text[at.place] !== '"') {
+      const rest = plainField(at);
+      if (trimmed(rest) !== '') at.lost ??= field + rest;
+      return field + rest;
+    }
     field += '"';
   }
 }

@@ -1,0 +1,24 @@
+// The service that tries imports on the copy of the night, and keeps the last file of each source. It may be away: then these
+// pages do without it.
+
+/** { ok: true, value: { copy, answer, refused, kinds, differences } }, or { ok: false, kind }: `away`, `no copy` or `failed`. */
+export async function differencesFrom(source, file) {
+  const response = await post('differences', source, file);
+  if (response === null || [404, 502, 503].includes(response.status)) return { ok: false, kind: 'away' };
+  if (response.status === 409) return { ok: false, kind: 'no copy' };
+  return response.ok ? { ok: true, value: await response.json() } : { ok: false, kind: 'failed' };
+}
+
+/** Whether the service has kept a file that was imported as the last one of its source. */
+export async function keepLastFile(source, file) {
+  const response = await post('imported', source, file);
+  return response !== null && response.ok;
+}
+
+async function post(what, source, file) {
+  try {
+    return await fetch(`/try/${what}/${encodeURIComponent(source)}`, { method: 'POST', body: file, cache: 'no-store', redirect: 'error' });
+  } catch {
+    return null;
+  }
+}

@@ -1,0 +1,106 @@
+"""Makes of a file that a program saved otherwise the file that an office reads: UTF-8, and commas between the columns."""
+
+import re
+from dataclasses import dataclass
+
+from csv_records import BLANK, lost_quote, records
+from look_at_values import GARBLED
+
+SEP = re.compile("sep=(.)?(\r\n|\n|\r|$)", re.I)
+QUOTED = re.compile('[",\r\n]')
+UNDEFINED = re.compile("[\u0081\u008d\u008f\u0090\u009d]")  # not used by Windows-1252
+FOREIGN = re.compile("[^ \t\r\n\";,|]*[^\x00-\x7f][^ \t\r\n\";,|]*")
+SHOWN = 5
+
+
+@dataclass
+class Converted:
+    """What a file was taken for, and what it becomes: its encoding, the name of its separator, its first values, words
+    with letters beyond ASCII, the first field that loses a quotation mark, and the new bytes."""
+
+    encoding: str
+    separator: str
+    values: list
+    letters: list
+    lost: dict
+    data: bytes
+
+
+def convert(data, rules):
+    """The file as an office reads it; None if it is so already, or if it is not clear what it is."""
+    decoded = decode(data)
+    if not decoded:
+        return None
+    text, encoding = decoded
+    text, separator = split_by(text.removeprefix("\ufeff"), rules)
+    if not separator or (encoding == "UTF-8" and separator == "," and text == decoded[0].removeprefix("\ufeff")):
+        return None
+    rows, is_open = records(text, separator)
+    if not rows or is_open:
+        return None
+    name = {",": "commas", **rules["separators"]}[separator]
+    return Converted(encoding, name, first_values(rows), foreign_words(text), lost_quote(text, separator),
+                     write(rows).encode())
+
+
+def decode(data):
+    """The text of the bytes and the name of its encoding; None if it is no text, or not clearly of one encoding."""
+    first = data[:2]
+    if first in (b"\xff\xfe", b"\xfe\xff") or first.count(0) == 1 < len(first):
+        is_little = first == b"\xff\xfe" or first[1] == 0
+        return decoded_as(data, "utf-16-le" if is_little else "utf-16-be", "UTF-16")
+    if b"\0" in data or not data:
+        return None
+    return decoded_as(data, "utf-8", "UTF-8") or decoded_as(data, "cp1252", "Windows-1252")
+
+
+def decoded_as(data, codec, name):
+    """The text and the name; None if the bytes do not fit. UTF-8 with a fault in it does not count as Windows-1252."""
+    try:
+        text = data.decode(codec)
+    except UnicodeDecodeError:
+        return None
+    if text.lstrip(BLANK).startswith(("<", "PK\x03\x04", "%PDF", "{\\rtf")):
+        return None
+    is_mixed = name == "Windows-1252" and (UNDEFINED.search(text) or GARBLED.search(text))
+    return None if is_mixed else (text, name)
+
+
+def split_by(text, rules):
+    """The text without Excel's line about its separator, and the separator; None if there is no sign of one."""
+    if found := SEP.match(text):
+        mark = found[1] or ","
+        return text[found.end():], mark if mark == "," or mark in rules["separators"] else None
+    for mark in (",", *rules["separators"]):
+        rows, _ = records(text, mark, 1)
+        if rows and any(re.sub("[^a-z0-9]", "", name.lower()) == "legacyid" for name in rows[0].fields):
+            return text, mark
+    return text, ","
+
+
+def first_values(rows):
+    """The first values below the header, each after its column."""
+    header = rows[0].fields
+    values = [f"{name}: {value}" for name, value in zip(header, rows[1].fields) if value] if len(rows) > 1 else header
+    return [one[:60] for one in values[:SHOWN]]
+
+
+def foreign_words(text):
+    """The first words that have letters beyond ASCII: these show whether the encoding is right."""
+    words = dict.fromkeys(FOREIGN.findall(text))
+    return [one[:40] for one in list(words)[:SHOWN]]
+
+
+def write(rows):
+    """The records as a CSV file. Empty lines stay, so that a row keeps its number in the spreadsheet."""
+    lines, sheet = [], 0
+    for row in rows:
+        lines += [""] * (row.sheet - sheet - 1)
+        lines.append(",".join(map(quoted, row.fields)) if row.fields != [""] else '""')
+        sheet = row.sheet
+    return "".join(f"{line}\r\n" for line in lines)
+
+
+def quoted(field):
+    """A field, between quotation marks where it needs them."""
+    return '"' + field.replace('"', '""') + '"' if QUOTED.search(field) else field

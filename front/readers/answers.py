@@ -1,0 +1,190 @@
+"""The index proposes, the office decides. A candidate is shown only if its page, as it is now, has the words; all that
+is shown or counted is of pages that were read for this very answer. There is `more` only if one more was verified."""
+
+import sqlite3
+import time
+from dataclasses import dataclass
+
+import folding
+import index
+from asking import Slow, Unreached
+from texts import Page, name_of, own_digest, read_fonds, value_of, years_of
+
+SHOWN, COUNTED = 20, 300  # of one answer: units shown, units counted
+LOOKS, SECONDS, COUNTING = 2000, 5, 1  # candidates looked at, time, time after which no more are counted
+LINES, WIDTH, BEFORE = 2, 240, 60  # of one unit: lines shown, characters of a line, of these before the first mark
+START = (0, 0)  # the place before all others
+
+
+@dataclass
+class Query:
+    """What is asked for. within: a unit that has it; first, last: years; after: the place of the unit that was shown last;
+    by_date: earliest first."""
+
+    phrases: list
+    within: int | None = None
+    first: int | None = None
+    last: int | None = None
+    after: tuple = START
+    by_date: bool = False
+
+    def meets(self, years):
+        """Whether the span from the least to the greatest year of a unit meets the years that are asked for."""
+        if self.first is None and self.last is None:
+            return True
+        begins, ends = years
+        return (begins is not None and (self.first is None or self.first <= ends)
+                and (self.last is None or begins <= self.last))
+
+    def holds(self, head, lines):
+        """Whether each phrase occurs in the head or in a value."""
+        texts = [reading for text in (head, *map(value_of, lines)) for reading in folding.readings_of(text)]
+        return all(folding.occurs(phrase, texts) for phrase in self.phrases)
+
+
+class Finder:
+    """find() answers once. state: done; late (the time or the looks are over); unreached. count: how many units were
+    verified, or None; exact: whether these are all. after: how to ask for more. doubts: units that the index has
+    otherwise than the office; gone: those of them that are shown no more. These are for the next round, not for the
+    reader."""
+
+    def __init__(self, db, ask, query, shown=SHOWN):
+        self.db, self.ask, self.query, self.shown = db, ask, query, shown
+        self.state, self.units, self.more, self.after, self.count, self.exact = "done", [], False, query.after, 0, True
+        self.doubts, self.gone, self.pages, self.fonds, self.tops, self.looked = set(), set(), {}, [], set(), 0
+
+    def find(self, seconds=SECONDS):
+        """Answers, within so many seconds; returns itself."""
+        began = time.monotonic()
+        self.ask.until, self.counting = began + seconds, began + COUNTING
+        self.db.set_progress_handler(lambda: time.monotonic() > self.ask.until, 10_000)
+        self.db.execute("BEGIN")  # the index stays as it is for this answer
+        try:
+            self._find()
+        except Slow:
+            self.state = "late"
+        except Unreached:
+            self.state = "unreached"
+        except sqlite3.OperationalError:
+            if time.monotonic() < self.ask.until:
+                raise
+            self.state = "late"
+        finally:
+            self.db.set_progress_handler(None, 0)
+            self.db.execute("ROLLBACK")
+        return self
+
+    def _find(self):
+        """Looks at one candidate after the other. Raises Slow or Unreached."""
+        if not self.query.phrases:
+            return
+        # Always asked: if only candidates were, an office that is away would tell whether the index has any.
+        self.fonds = read_fonds(self.ask("/public/fonds") or "")
+        self.tops = {top for top, _ in self.fonds}
+        for place, number in index.propose(self.db, self.query):
+            if self._is_enough():
+                self.count, self.exact = self.count - 1, False  # more than these
+                return
+            hit = self._hit(place, number, self.count < self.shown)
+            if hit:
+                self.count += 1
+                self.more = self.count > self.shown
+            if hit and not self.more:
+                self.units.append(hit)
+                self.after = place
+
+    def _is_enough(self):
+        """Whether no more are looked at: whoever goes on is told no number, and nobody waits long for one."""
+        return self.more and (self.query.after != START or self.count > max(COUNTED, self.shown)
+                              or time.monotonic() > self.counting)
+
+    def _hit(self, place, number, shown):
+        """The unit as it is shown, or only that it is one; None if its page, as it is now, has not what was asked
+        for."""
+        if self.looked == LOOKS:
+            raise Slow(number)
+        self.looked += 1
+        page, (own, odd) = self._page(number), index.find_known(self.db, number)
+        lines = page and page.own_lines(odd)
+        if page is None:
+            self.gone.add(number)
+        elif own_digest(page.head, lines) != own:
+            self.doubts.add(number)
+        if page is None or not self.query.holds(page.head, lines) or not self._is_at(place, years_of(lines)):
+            return None
+        way = self._way(number) if shown or self.query.within is not None else None
+        if self.query.within is not None and (way is None or self.query.within not in [
+                *(step["unit"] for step in way), number]):
+            return None
+        if not shown:
+            return {"unit": number}
+        return {"unit": number, "way": way, "head": mark(page.head, folding.places_of(self.query.phrases, page.head)),
+                "lines": excerpt(self.query.phrases, page.head, lines)}
+
+    def _is_at(self, place, years):
+        """Whether the years are those that were asked for and, in order of dates, those of the unit's place."""
+        first = index.UNDATED if years[0] is None else years[0]
+        return self.query.meets(years) and not (self.query.by_date and first != place[0])
+
+    def _page(self, number):
+        """The page of a unit, read once, or None."""
+        if number not in self.pages:
+            text = self.ask(f"/public/units/{number}")
+            self.pages[number] = text and Page(text)
+        return self.pages[number]
+
+    def _way(self, number):
+        """The units above, from the top down, if the pages name each other so now; else None. The index only proposes
+        it."""
+        way, at = [], number
+        for above in index.above(self.db, number):
+            page = self._page(above)
+            if page is None or all(below != at for below, _ in page.units):
+                return None
+            way.insert(0, {"unit": above, "head": page.head})
+            at = above
+        return way if at in self.tops else None
+
+
+def excerpt(phrases, head, lines):
+    """Some lines: those with the most phrases that the head and the lines before lack, or else the first line. Their
+    texts are in pieces, of which every second is marked."""
+    shown, rest = phrases_in(phrases, head), {place: phrases_in(phrases, value_of(line))
+                                              for place, line in enumerate(lines)}
+    best = []
+    while len(best) < LINES and any(rest.values()):
+        best.append(max(rest, key=lambda place: (len(rest[place] - shown), len(rest[place]), -place)))
+        shown |= rest.pop(best[-1])
+    return [{"name": name_of(lines[place]), "text": shorten(value_of(lines[place]), phrases)} for place in best
+            or [0] * bool(lines)]
+
+
+def phrases_in(phrases, text):
+    """The phrases that a text has."""
+    readings = folding.readings_of(text)
+    return {phrase for phrase in phrases if folding.occurs(phrase, readings)}
+
+
+def shorten(text, phrases):
+    """The text in pieces, from a little before the first mark on."""
+    places = folding.places_of(phrases, text)
+    begin = max(0, places[0][0] - BEFORE) if places else 0
+    if begin and " " in text[begin:places[0][0]]:
+        begin = text.index(" ", begin) + 1
+    end = begin + WIDTH
+    pieces = mark(text[begin:end], [(first - begin, min(last, end) - begin) for first, last in places if first < end])
+    if begin:
+        pieces[0] = "… " + pieces[0]
+    if end < len(text):
+        pieces.append("") if len(pieces) % 2 == 0 else None
+        pieces[-1] += " …"
+    return pieces
+
+
+def mark(text, places):
+    """A text in pieces, of which every second is marked."""
+    pieces, at = [], 0
+    for begin, end in places:
+        pieces += [text[at:begin], text[begin:end]]
+        at = end
+    return [*pieces, text[at:]] if at < len(text) or not pieces else pieces

@@ -1,0 +1,297 @@
+"""Which words count as the same in a search, and where they stand in a text. Case, accents and other marks on letters
+make no difference, nor do the kinds of apostrophes, hyphens and digits, full and half width, simplified and traditional
+letters. Apostrophes and hyphens part words; so does the border of digits and letters.
+
+A text can be read in several ways: as it stands; with umlauts spelled out and Arabic words without their article; with
+words joined that only an apostrophe, a hyphen or the points of initials part; or both. What was typed is read in the
+same ways. It is found if one of its readings stands in one of the text's.
+
+Scripts without spaces between words are cut into pairs of letters, so that any part of a text is found.
+
+front/shared/words.json has the tables; front/shared/folding.js reads names by them too."""
+
+import functools
+import json
+import pathlib
+import re
+import sys
+import unicodedata
+from typing import NamedTuple
+
+import snowballstemmer
+
+LONGEST = 1000  # characters that are read of what was typed
+MOST = 64  # words or phrases
+SHORTEST_STEM = 3  # letters
+STEMMERS = {"da": "danish", "de": "german", "el": "greek", "en": "english", "es": "spanish", "fi": "finnish",
+            "fr": "french", "it": "italian", "nl": "dutch", "no": "norwegian", "pt": "portuguese", "ru": "russian",
+            "sv": "swedish"}
+
+_HERE = pathlib.Path(__file__).resolve().parent.parent  # the tables are served with the pages
+TABLES = json.loads(next(path for path in (_HERE / "shared/words.json", _HERE / "front/shared/words.json")
+                         if path.exists()).read_text("utf-8"))
+LETTERS = str.maketrans(TABLES["letters"] | dict(zip(TABLES["traditional"], TABLES["simplified"]))
+                        | {chr(katakana): chr(katakana - 0x60) for katakana in range(0x30a1, 0x30f7)})
+OTHER = str.maketrans(TABLES["other"])
+MARKS, UNSEEN, APOSTROPHES, PAIRED = (TABLES[name] for name in ("marks", "unseen", "apostrophes", "paired"))
+QUOTES = re.compile("[\"“”„‟«»＂]")
+SPACES = re.compile(r"[\s\x00-\x1f\x85\ufeff]+")
+
+
+def _ranges(codes):
+    """A regular expression's class, without its brackets, of these code points, which are in order."""
+    ranges = []
+    for code in codes:
+        if ranges and ranges[-1][1] == code - 1:
+            ranges[-1][1] = code
+        else:
+            ranges.append([code, code])
+    return "".join(f"\\U{begin:08x}-\\U{end:08x}" for begin, end in ranges)
+
+
+def _classes():
+    """The classes of letters, digits, marks and fractions."""
+    kinds = {"L": [], "D": [], "M": [], "F": []}
+    for code in range(sys.maxunicode + 1):
+        letter = chr(code)
+        category = unicodedata.category(letter)
+        if category[0] in "LM" and letter not in APOSTROPHES or category == "Nl" or letter == "№":
+            kinds["M" if category[0] == "M" else "L"].append(code)
+        elif category == "Nd":
+            kinds["D"].append(code)
+        elif category == "No" and "\u2044" in unicodedata.normalize("NFKD", letter):
+            kinds["F"].append(code)
+    return [_ranges(codes) for codes in kinds.values()]
+
+
+_LETTERS, _DIGITS, _ALL_MARKS, _FRACTIONS = _classes()
+_PAIR = f"[{PAIRED}][{_ALL_MARKS}{UNSEEN}\uff9e\uff9f]*"
+_WORD = re.compile(f"(?P<paired>(?:{_PAIR})+)|(?P<fraction>[{_FRACTIONS}])"
+                   f"|(?P<digits>[{_DIGITS}][{_DIGITS}{_ALL_MARKS}{UNSEEN}]*)"
+                   f"|(?P<letters>(?:(?![{PAIRED}])[{_LETTERS}{_ALL_MARKS}{UNSEEN}])+)")
+_ASCII_WORD = re.compile("[a-z]+|[0-9]+")
+_PAIRS = re.compile(_PAIR)
+_HAS_LETTER = re.compile(f"[{_LETTERS}]")
+_DROPPED = re.compile(f"[{MARKS}{UNSEEN}]|[^{_LETTERS}{_DIGITS}{_ALL_MARKS}]")
+_DEGREE = re.compile("(?<=[Nn])°")
+_JOINING = re.compile(f"[{TABLES['joining']}]")
+_INITIALS = re.compile(r"\. ?")
+_INITIAL = re.compile(r"[^\W\d_]\.")
+_MAY_JOIN = re.compile(r"[a-z][-'`][a-z]|(?<![a-z])[a-z]\. ?[a-z](?![a-z])")
+_ARTICLE = re.compile(f"(?:{'|'.join(TABLES['articles'])})(?=...)")
+
+
+class Word(NamedTuple):
+    """A word of a text, folded, and its place there. other: its other spelling, which may be the same; kind: paired,
+    last (the last letter of a part that is cut into pairs), digits, fraction or letters."""
+
+    word: str
+    begin: int
+    end: int
+    other: str
+    kind: str
+
+
+class Phrase(NamedTuple):
+    """What must stand together, in one of its readings, each of which has its words; begins: the last one may go on.
+    language: other forms of a word of this language count too."""
+
+    readings: tuple
+    begins: bool = False
+    language: str | None = None
+
+
+def fold(word):
+    """A word as it is compared."""
+    if word.isascii():
+        return word.lower()
+    return _DROPPED.sub("", unicodedata.normalize("NFKD", word)).lower().translate(LETTERS)
+
+
+def words_of(text):
+    """The words of a text, in order."""
+    text = _DEGREE.sub("º", text)
+    return [word for found in _WORD.finditer(text) for word in _READERS[found.lastgroup](found) if word.word]
+
+
+def _letters(found):
+    """What was found as letters may be marks only; then it is no word."""
+    seen, (begin, end) = found[0], found.span()
+    if seen.isascii():
+        return [Word(seen.lower(), begin, end, seen.lower(), "letters")]
+    if not _HAS_LETTER.search(seen):
+        return []
+    word = fold(seen)
+    other = fold(unicodedata.normalize("NFC", seen).lower().translate(OTHER))
+    return [Word(word, begin, end, _ARTICLE.sub("", other, 1) if _ARTICLE.match(other) else other, "letters")]
+
+
+def _digits(found):
+    """Digits of any script."""
+    word = "".join(str(unicodedata.decimal(digit)) for digit in found[0] if digit.isdecimal())
+    return [Word(word, *found.span(), word, "digits")]
+
+
+def _fraction(found):
+    """Two numbers at one place."""
+    parts = unicodedata.normalize("NFKD", found[0]).split("\u2044")
+    return [Word(part, *found.span(), part, "fraction") for part in parts]
+
+
+def _paired(found):
+    """Each letter with the next one, and the last one by itself."""
+    letters = [(fold(letter[0]), letter.start() + found.start(), letter.end() + found.start())
+               for letter in _PAIRS.finditer(found[0])]
+    pairs = zip(letters, [*letters[1:], ("", 0, letters[-1][2])])
+    return [Word(word + after, begin, end, word + after, "paired" if after else "last")
+            for (word, begin, _), (after, _, end) in pairs]
+
+
+_READERS = {"letters": _letters, "digits": _digits, "fraction": _fraction, "paired": _paired}
+
+
+def readings_of(text):
+    """The readings of a text: in each, its words in order, folded. The first is the text as it stands."""
+    if text.isascii():
+        text = text.lower()
+        if not _MAY_JOIN.search(text):
+            return [_ASCII_WORD.findall(text)]
+    return [[word for word, *_ in reading] for reading in _readings(text)]
+
+
+def _readings(text):
+    """The readings of a text: in each, a word, begin and end of each of its words."""
+    text = _DEGREE.sub("º", text)
+    words, readings = words_of(text), []
+    spelled = [[word.word for word in words], [word.other for word in words]]
+    for spellings in spelled if spelled[0] != spelled[1] else spelled[:1]:
+        apart = [(spelling, word.begin, word.end) for spelling, word in zip(spellings, words)]
+        joined = _join(text, words, apart)
+        readings += [apart, joined] if len(joined) < len(apart) else [apart]
+    return readings
+
+
+def _join(text, words, apart):
+    """The words of a reading, joined where only an apostrophe, a hyphen or the points of initials part letters."""
+    kinds = ["", *(_kind_of_gap(text, *pair) for pair in zip(words, words[1:])), ""]
+    joined = []
+    for place, (spelling, begin, end) in enumerate(apart):
+        # Of `W. O'Brien` the O is no initial.
+        if kinds[place] == "joining" or kinds[place] == "initials" and "joining" not in (kinds[place - 1], kinds[place + 1]):
+            joined[-1] = (joined[-1][0] + spelling, joined[-1][1], end)
+        else:
+            joined.append((spelling, begin, end))
+    return joined
+
+
+def _kind_of_gap(text, before, word):
+    """What stands between two words, if it may join them."""
+    between = text[before.end:word.begin]
+    if (before.kind, word.kind) != ("letters", "letters"):
+        return ""
+    if _JOINING.fullmatch(between):
+        return "joining"
+    return "initials" if len(before.word) == len(word.word) == 1 and _INITIALS.fullmatch(between) else ""
+
+
+def folded_words(text):
+    """The words of a text as it stands, folded, in order."""
+    return readings_of(text)[0]
+
+
+def read_typed(typed, language=None):
+    """What was typed, as phrases. A word is a phrase of one; quotation marks, hyphens and apostrophes make longer ones,
+    and initials with points are one. A word that ends with * may go on. What has no letter and no digit is left out."""
+    phrases = []
+    for place, piece in enumerate(QUOTES.split(_shortened(typed))):
+        for text in [piece] if place % 2 else _with_initials(SPACES.split(piece)):
+            if folded_words(text):
+                phrases.append(_phrase(text, bool(place % 2), language))
+    return list(dict.fromkeys(phrases))[:MOST]
+
+
+def _phrase(text, quoted, language):
+    """One phrase. Of a script without spaces its last letter is not by itself in a text where it goes on."""
+    kinds = [word.kind for word in words_of(text)]
+    cut = kinds[-2:] == ["paired", "last"]
+    readings = tuple(dict.fromkeys(tuple(reading[:-1] if cut else reading) for reading in readings_of(text)))
+    begins = kinds[-1] == "last" and not cut or text.endswith("*") and not quoted
+    return Phrase(readings, begins, language if kinds == ["letters"] and not begins and not quoted else None)
+
+
+def is_cut(typed):
+    """Whether more was typed than is read."""
+    return len(typed) > LONGEST or sum(bool(folded_words(piece)) for piece in SPACES.split(typed)) > MOST
+
+
+def _shortened(typed):
+    """What is read of what was typed: whole words of it."""
+    if len(typed) <= LONGEST:
+        return typed
+    last = max((found.start() for found in SPACES.finditer(typed, 0, LONGEST)), default=LONGEST)
+    return typed[:last]
+
+
+def _with_initials(pieces):
+    """The pieces, of which initials that follow each other are one."""
+    together = []
+    for piece in pieces:
+        if together and _INITIAL.fullmatch(piece) and _INITIAL.fullmatch(together[-1][-2:]):
+            together[-1] = f"{together[-1]} {piece}"
+        else:
+            together.append(piece)
+    return together
+
+
+def stem(word, language):
+    """What the forms of a word of this language have in common; the word itself if that is short."""
+    short = _stem(word, language)
+    return short if len(short) >= SHORTEST_STEM else word
+
+
+@functools.lru_cache(20_000)
+def _stem(word, language):
+    """As the stemmer of the language has it. A stemmer keeps its place in the word, so each has its own."""
+    return snowballstemmer.stemmer(STEMMERS[language]).stemWord(word) if language in STEMMERS else word
+
+
+def is_kin(word, other, language):
+    """Whether two words are forms of one."""
+    return word[:SHORTEST_STEM] == other[:SHORTEST_STEM] and stem(word, language) == stem(other, language)
+
+
+def stands(phrase, words, at):
+    """How many words of a list of folded words the phrase takes at this place; 0 if it does not stand there."""
+    for wanted in phrase.readings:
+        last = at + len(wanted) - 1
+        if last < len(words) and list(wanted[:-1]) == words[at:last] and _ends(phrase, wanted[-1], words[last]):
+            return len(wanted)
+    return 0
+
+
+def _ends(phrase, wanted, word):
+    """Whether a word may be the last one of a phrase."""
+    return (word == wanted or phrase.begins and word.startswith(wanted)
+            or phrase.language is not None and is_kin(wanted, word, phrase.language))
+
+
+def occurs(phrase, readings):
+    """Whether the phrase stands somewhere in a text of these readings."""
+    return any(stands(phrase, words, at) for words in readings for at in range(len(words)))
+
+
+def places_of(phrases, text):
+    """Where the phrases stand in a text: pairs of begin and end, in order, none touching another's letters."""
+    places = set()
+    for reading in _readings(text):
+        words = [word for word, *_ in reading]
+        for phrase in phrases:
+            many = [stands(phrase, words, at) for at in range(len(words))]
+            places |= {(reading[at][1], reading[at + length - 1][2]) for at, length in enumerate(many) if length}
+    joined = []
+    for begin, end in sorted(places):
+        if joined and joined[-1][1] > begin:
+            joined[-1] = (joined[-1][0], max(joined[-1][1], end))
+        else:
+            joined.append((begin, end))
+    return joined

@@ -1,0 +1,93 @@
+"""The languages of the pages: one catalog of texts (po/LANGUAGE.po) each, read at the start; English is in the code, and
+en.po translates none of it. The archive's own texts are in no catalog and stay as they are."""
+
+import gettext
+import io
+import json
+import pathlib
+from datetime import date
+
+from babel import Locale
+from babel.dates import format_date
+from babel.messages.mofile import write_mo
+from babel.messages.pofile import read_po
+from babel.numbers import format_decimal
+
+HERE = pathlib.Path(__file__).resolve().parent
+LONG = {"en": "d MMMM y"}  # where the locale's own long form is another country's
+
+
+class Language:
+    """code: as in `lang`; name: in itself; direction: of its writing; catalog: its texts as they were read; texts: the same, to be asked."""
+
+    def __init__(self, code, catalog):
+        self.code, self.catalog, self.texts, self.locale = code, catalog, compiled(catalog), Locale(code)
+        self.name, self.direction = self.locale.get_language_name(code).capitalize(), self.locale.text_direction
+
+    def say(self, text):
+        """A text of the pages in this language."""
+        return self.texts.gettext(text) if text else ""
+
+    def day(self, text):
+        """2040-01-01 as people write it. What is no day stays as it is."""
+        try:
+            return format_date(date.fromisoformat(text), LONG.get(self.code, "long"), self.locale)
+        except ValueError:
+            return text
+
+    def number(self, number):
+        """1234 as people write it."""
+        return format_decimal(number, locale=self.locale)
+
+    def for_scripts(self):
+        """The texts by their keys, as shared/language.js reads them; one with forms has them by the kinds of numbers."""
+        kinds = {self.locale.plural_form(number): self.texts.plural(number) for number in range(200)}
+        found = {}
+        for one in self.catalog:
+            key = f"{one.context}\4{one.id}" if one.context else one.id
+            if isinstance(key, tuple):
+                if all(one.string):
+                    found[key[0]] = {kind: one.string[form] for kind, form in kinds.items()}
+            elif key and one.string:
+                found[key] = one.string
+        return found
+
+
+def compiled(catalog):
+    """A catalog as gettext asks it."""
+    file = io.BytesIO()
+    write_mo(file, catalog)
+    file.seek(0)
+    return gettext.GNUTranslations(file)
+
+
+def load(folder=HERE / "po"):
+    """All languages by their codes, English first."""
+    paths = sorted(folder.glob("*.po"), key=lambda path: (path.stem != "en", path.stem))
+    return {path.stem: Language(path.stem, read_po(io.BytesIO(path.read_bytes()), path.stem)) for path in paths}
+
+
+def write(languages, folder):
+    """Writes a file of each language for the scripts of the desk, which nginx sends."""
+    folder.mkdir(exist_ok=True)
+    folder.chmod(0o755)
+    names = {one.code: one.name for one in languages.values()}
+    for one in languages.values():
+        new = folder / f"{one.code}.new"
+        told = {"code": one.code, "direction": one.direction, "languages": names, "texts": one.for_scripts()}
+        new.write_text(json.dumps(told, ensure_ascii=False), "utf-8")
+        new.chmod(0o644)
+        new.rename(folder / f"{one.code}.json")
+
+
+def choose(languages, header):
+    """The language that a reader prefers by an Accept-Language, else English."""
+    wished = []
+    for place, wish in enumerate(header.split(",")[:20]):
+        code, _, quality = wish.partition(";q=")
+        try:
+            weight = float(quality or 1)
+        except ValueError:
+            continue
+        wished.append((-weight, place, code.strip().lower().split("-")[0]))
+    return next((languages[code] for weight, _, code in sorted(wished) if weight and code in languages), languages["en"])

@@ -1,0 +1,122 @@
+"""How pages are laid out: Jinja2 templates, one environment a language, in which all that they are given is escaped."""
+
+import contextlib
+import json
+import threading
+from typing import NamedTuple
+
+import jinja2
+
+from aids import mark
+from asking import Asking
+from languages import HERE, Language
+from texts import AREAS, DATES, ELEMENTS, EXTENT, N_, read_head, value_of
+
+SHORT = 48  # characters of a title where it only says where something stands
+WORDS = {"name": N_("Record office"), "address": "", "hours": "",
+         "ordered": N_("Ask for it at the desk in the reading room.")}  # what an office says that says nothing itself
+
+
+class Request(NamedTuple):
+    """method, path and args of what came; language; site: the address of the readers' site; address: of the reader;
+    ask: asks the office; form: what was sent, in pairs."""
+
+    method: str
+    path: str
+    args: dict
+    language: Language
+    site: str
+    address: str
+    ask: Asking
+    form: list
+
+
+class Answer(NamedTuple):
+    """status; body: a text, or pieces of one; kind of text; size: how many bytes, where the pieces are not counted."""
+
+    status: int
+    body: object
+    kind: str = "text/html"
+    size: int | None = None
+
+
+class Layouts:
+    """words: the file of the office's own words, which is read for each page."""
+
+    def __init__(self, languages, words):
+        self.words, self.lock = words, threading.Lock()
+        self.env = {code: environment(one, languages) for code, one in languages.items()}
+
+    def template(self, request, name):
+        """A template, and what each page has."""
+        template = self.env[request.language.code].get_template(name)
+        return template, {"request": request, "here": request.site + request.path,
+                          "office": self.own_words(request.language)}
+
+    def render(self, request, name, status=200, kind="text/html", **values):
+        """A page."""
+        template, given = self.template(request, name)
+        return Answer(status, template.render(**given, **values), kind)
+
+    def stream(self, request, name, **values):
+        """A page in pieces."""
+        template, given = self.template(request, name)
+        stream = template.stream(**given, **values)
+        stream.enable_buffering(400)
+        return stream
+
+    def own_words(self, language):
+        """The office's own words: each is a text, or texts by language."""
+        own = {}
+        with contextlib.suppress(OSError, ValueError, TypeError):
+            own = dict(json.loads(self.words.read_text("utf-8")))
+        plain = {name: language.say(text) for name, text in WORDS.items()}
+        chosen = {name: (text.get(language.code) or next(iter(text.values()), "")) if isinstance(text, dict) else text
+                  for name, text in own.items()}
+        return {**plain, **{name: text for name, text in chosen.items() if isinstance(text, str)}}
+
+
+def environment(language, languages):
+    """The templates in a language."""
+    env = jinja2.Environment(loader=jinja2.FileSystemLoader(HERE / "templates"), autoescape=True, trim_blocks=True,
+                             lstrip_blocks=True, undefined=jinja2.StrictUndefined, extensions=["jinja2.ext.i18n"])
+    env.install_gettext_translations(language.texts, newstyle=True)
+    env.globals.update(say=language.say, day=language.day, number_of=language.number, language=language,
+                       languages=languages.values(), AREAS=AREAS, ELEMENTS=ELEMENTS, mark=mark, read_head=read_head,
+                       facts=facts)
+    env.filters.update(filled=filled, short=short)
+    return env
+
+
+def filled(members):
+    """The members that have something."""
+    return {name: value for name, value in members.items() if value}
+
+
+def short(text):
+    """The beginning of a text."""
+    return text if len(text) <= SHORT else text[:SHORT - 1].rstrip() + "…"
+
+
+def facts(node):
+    """Dates and extent of a unit in a finding aid."""
+    return [value_of(line) for line in node.lines if line.startswith((DATES, EXTENT))]
+
+
+def pieces_of_head(pieces):
+    """A head line with its marks: its parts, or itself, in pieces of which every second is marked."""
+    head = read_head("".join(pieces))
+    if not head.code:
+        return head, [pieces]
+    level = len(head.code) + 2
+    title = level + len(head.level) + 2
+    return head, [between(pieces, *cut) for cut in ((0, level - 2), (level, title - 2), (title, None))]
+
+
+def between(pieces, begin, end):
+    """A part of a text in pieces, in as many pieces."""
+    found, at = [], 0
+    for piece in pieces:
+        found.append(piece[max(begin - at, 0):None if end is None else max(end - at, 0)])
+        at += len(piece)
+    return found

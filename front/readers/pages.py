@@ -1,0 +1,333 @@
+"""The readers' pages. Each is made of what the office answers now, for this page alone: the index only proposes where to
+look, as for answers."""
+
+import contextlib
+import re
+import sqlite3
+import threading
+import time
+from typing import NamedTuple
+from urllib.parse import urlencode
+
+import folding
+import index
+import languages
+import orders
+from aids import LARGE, Aids, aid_lines, mark, size_and_head
+from asking import Asking, Unreached
+from layouts import Answer, Layouts, pieces_of_head
+from texts import AREAS, ELEMENTS, N_, Page, read_aid, read_fonds, read_head, read_line
+
+SHOWN = 100  # units of a level at a time
+WIDE = 1000  # units right below one: the office takes long to write its page, which is not asked for to show the way
+FEW = 500  # units: contents that have no more show their dates, and what is further down
+PATIENCE = 150  # seconds for a page: the queue waits 120 while the program is opened
+AHEAD = 8  # units above, of which the pages are asked for at once
+HIGHEST = 32  # units above that are asked for
+
+NONE_SUCH = (N_("Not found"),
+             N_("Nothing is shown under this number. There may be no such unit, or it may not be published."))
+NO_PAGE = (N_("No such page"), N_("Please choose one from the list at the top."))
+CHANGED = (N_("This finding aid has changed"),
+           N_("The unit that you chose is no longer at this place. Please choose it there again."))
+AWAY = (N_("The office does not answer"), N_("Please try again in a minute."))
+
+
+class Missing(Exception):
+    """Not there, or not shown: the heading, the text, and where to go on."""
+
+    def __init__(self, texts=NONE_SUCH, way=None):
+        super().__init__(texts[0])
+        self.texts, self.way = texts, way
+
+
+class Way(NamedTuple):
+    """above: number and head of each unit above, from the top down; more: the number of the highest one that was asked
+    for, if there are others above it; beside: the units at the same level."""
+
+    above: list
+    more: int | None
+    beside: list
+
+
+class Pages:
+    """queue: the socket of the queue; path: the index, in whose folder finding aids are kept while they are sent; words:
+    the file of the office's own words; find: answers a search; rest: how many times as long as an aid took the next one
+    waits; a_minute: orders that an address may give."""
+
+    def __init__(self, queue, path, words, find, rest, a_minute):
+        self.queue, self.path, self.find, self.languages = queue, path, find, languages.load()
+        self.layouts, self.row = Layouts(self.languages, words), orders.Row(a_minute)
+        self.aids, self.mine = Aids(queue, path.parent, rest), threading.local()
+
+    def asking(self, crawls):
+        """How this thread asks the office."""
+        name = "crawler" if crawls else "page"
+        if not hasattr(self.mine, name):
+            setattr(self.mine, name, Asking(self.queue, kind=name))
+        ask = getattr(self.mine, name)
+        ask.until, ask.known = time.monotonic() + PATIENCE, {}
+        return ask
+
+    def choose(self, args, header):
+        """The language that a reader wants."""
+        return self.languages.get(args.get("lang")) or languages.choose(self.languages, header)
+
+    def answer(self, request):
+        """The answer to a request."""
+        try:
+            return self.page(request)
+        except Missing as missing:
+            return self.render(request, "message.html", 404, texts=missing.texts, way=missing.way)
+        except Unreached:
+            return self.render(request, "message.html", 503, texts=AWAY, again=request.path)
+
+    def page(self, request):
+        """Finds the page of an address."""
+        pages = [(found, method, page) for pattern, method, page in ROUTES if (found := pattern.fullmatch(request.path))]
+        for found, method, page in pages:
+            if method == request.method:
+                return page(self, request, *map(int, found.groups()[:1]), *found.groups()[1:])
+            if method == "POST":  # the address of an answer that was loaded again
+                return Answer(302, request.path.removesuffix("/order"))
+        return self.render(request, "message.html", 405 if pages else 404, texts=NO_PAGE, way=None)
+
+    def render(self, request, name, *status, **values):
+        """A page."""
+        return self.layouts.render(request, name, *status, **values)
+
+    # A unit
+
+    def unit(self, request, number, outcome=None):
+        """A unit: where it stands, its contents, its containers and the order, its description."""
+        above, more, small = self.propose(number)
+        request.ask.ahead([f"/public/units/{number}", *([] if more else ["/public/fonds"]),
+                           *(f"/public/units/{n}" for n in above[:AHEAD]), *([f"/public/aid/{number}"] if small else [])])
+        text = request.ask(f"/public/units/{number}")
+        if text is None and outcome is None:
+            raise Missing
+        page = Page(text or "-\n")
+        if request.args.get("only") == "contents":
+            return self.render(request, "contents_alone.html", number=number,
+                               **self.contents(request, number, page, small))
+        head, lines = read_head(page.head), [read_line(line, page.head) for line in page.lines]
+        closed = bool(head.until) and not lines and not page.units
+        head = head if closed else head._replace(until="")  # a title may look like that of a closed unit
+        way = self.way(request, number, above, more)
+        return self.render(
+            request, "unit.html", number=number, head=head, outcome=outcome, gone=text is None, way=way,
+            closed=closed, **self.described(lines),
+            **self.level(number, way), **self.contents(request, number, page, small))
+
+    def propose(self, number):
+        """The units above, as the index has them, from the nearest on, up to one with so many right below that its page
+        would keep the office for long; whether there are more; and whether the finding aid of the unit is small, which
+        without the index nobody knows."""
+        try:
+            with contextlib.closing(index.open_index(self.path)) as db:
+                above = index.above(db, number)
+                wide = (place for place, n in enumerate(above) if index.count_below(db, n, WIDE + 1) > WIDE)
+                asked = above[:min(HIGHEST, next(wide, HIGHEST))]
+                return asked, len(asked) < len(above), 1 < len(index.branch_numbers(db, number, FEW + 1)) <= FEW
+        except sqlite3.Error:
+            return [], False, False
+
+    def described(self, lines):
+        """The lines of a page by what they are."""
+        elements = [one for one in lines if one.kind in ELEMENTS]
+        boxes = [one for one in lines if one.kind == "Container"]
+        own = [one for one in elements if not one.mark]
+        return {"boxes": boxes, "names": {box.number: box.text for box in boxes},
+                "others": [line for line in lines if not line.kind],
+                "areas": [(area, [one for one in own if one.kind.startswith(area)]) for area in AREAS],
+                "inherited": [one for one in elements if one.mark], "own": {one.kind: one.text for one in own}}
+
+    def contents(self, request, number, page, small):
+        """A hundred of the units right below, with what their finding aid says of them, unless it is large."""
+        wanted = request.args.get("has", "")
+        phrases, first = folding.read_typed(wanted), whole(request.args.get("from", ""), 1)
+        found = [(place, *unit) for place, unit in enumerate(page.units) if has_all(phrases, unit[1])]
+        nodes = self.nodes(request, number, page) if small and page.units else None
+        units = [(n, read_head(text), nodes[place] if nodes else None, [place + 1])
+                 for place, n, text in found[first - 1:first - 1 + SHOWN]]
+        turns = {turn: at for turn, at in (("prev", first - SHOWN), ("next", first + SHOWN)) if 0 < at <= len(found)}
+        return {"units": units, "many": len(page.units), "found": len(found), "first": first, "has": wanted,
+                "turns": turns, "shown": SHOWN}
+
+    def nodes(self, request, number, page):
+        """The units right below as the finding aid has them, or None if page and aid do not agree."""
+        text = request.ask(f"/public/aid/{number}")
+        nodes = read_aid(text).units if text else []
+        return nodes if [node.head for node in nodes] == [head for _, head in page.units] else None
+
+    def way(self, request, number, proposed, more):
+        """The units above, from the top down, if their pages name each other now; else none. And the units beside."""
+        way, at, beside = [], number, None
+        for above in proposed:
+            text = request.ask(f"/public/units/{above}")
+            if not names(text, at):
+                return Way([], None, [])
+            beside = beside or Page(text).units
+            way.insert(0, (above, read_head(text.split("\n", 1)[0])))
+            at = above
+        if more:
+            return Way(way, at, beside or [])
+        tops = read_fonds(request.ask("/public/fonds") or "")
+        return Way(way, None, beside or tops) if any(top == at for top, _ in tops) else Way([], None, [])
+
+    def level(self, number, way):
+        """The units beside this one: up to a hundred around it, and those right before and after it."""
+        place = next((place for place, (n, _) in enumerate(way.beside) if n == number), None)
+        if place is None:
+            return {"level": [], "level_first": 1, "turn": {}}
+        first = max(0, min(place - SHOWN // 2, len(way.beside) - SHOWN))
+        turn = {name: heads(way.beside[at:at + 1])[0] for name, at in (("prev", place - 1), ("next", place + 1))
+                if 0 <= at < len(way.beside)}
+        return {"level": heads(way.beside[first:first + SHOWN]), "level_first": first + 1, "turn": turn}
+
+    def above(self, number):
+        """The units above, as the index has them."""
+        try:
+            with contextlib.closing(index.open_index(self.path)) as db:
+                return index.above(db, number)
+        except sqlite3.Error:
+            return []
+
+    def up(self, request, number):
+        """To the unit above, if its page names this one now."""
+        for above in self.above(number)[:1]:
+            if names(request.ask(f"/public/units/{above}"), number):
+                return Answer(302, f"/unit/{above}")
+        raise Missing
+
+    # Orders
+
+    def order(self, request, number):
+        """Orders the chosen containers of a unit, and shows its page with what came of it."""
+        return self.unit(request, number, self.outcome(request, number))
+
+    def ordered(self, request):
+        """What was collected and ordered in this tab, which only the tab knows."""
+        return self.render(request, "ordered.html", outcome=None, units={})
+
+    def order_list(self, request):
+        """Orders what was collected, and shows what came of it, with the units as they are now."""
+        outcome = self.outcome(request)
+        numbers = {done.unit for done in outcome["done"]}
+        pages = {n: Page(request.ask(f"/public/units/{n}") or "-\n") for n in sorted(numbers)}
+        units = {n: (read_head(page.head), {line.number: line.text for line in map(read_line, page.lines)})
+                 for n, page in pages.items()}
+        return self.render(request, "ordered.html", outcome=outcome, units=units)
+
+    def outcome(self, request, unit=None):
+        """What came of a form."""
+        ticket, items = orders.read_ticket(request.form), orders.read_items(request.form, unit)
+        if not ticket or not items:
+            return {"wrong": orders.NO_BOX if ticket else orders.NO_TICKET, "done": [], "taken": [],
+                    "typed": dict(request.form).get("ticket", "")}
+        done = orders.give(self.queue, self.row, request.address, ticket, items)
+        return {"done": done, "taken": [one for one in done if one.order], "ticket": ticket}
+
+    # Finding aids
+
+    def aid(self, request, number):
+        """A finding aid, line by line, from a file: none is held as a whole."""
+        file = self.aids.spool(number)
+        if file is None:
+            raise Missing
+        size, head = size_and_head(file)
+        large = size > LARGE
+        stream = self.layouts.stream(request, "aid.html", number=number, head=head, large=large,
+                                     lines=aid_lines(file, number, large))
+        return Answer(200, self.aids.laid_out(file, stream))
+
+    def plain_aid(self, _, number):
+        """A finding aid as the program answers it."""
+        try:
+            file = self.aids.spool(number)
+        except Unreached:
+            return Answer(503, '{"error":"not reached"}', "application/json")
+        if file is None:
+            return Answer(404, '{"error":"not found"}', "application/json")
+        return Answer(200, self.aids.plain(file), "text/plain", size_and_head(file)[0])
+
+    def place(self, request, number, way):
+        """From a line of a finding aid to its unit."""
+        text = ""
+        for step in way.split("."):
+            below = Page(request.ask(f"/public/units/{number}") or "-\n").units
+            if not 0 < int(step or 0) <= len(below):
+                raise Missing(CHANGED, request.path.rsplit("/", 1)[0])
+            number, text = below[int(step) - 1]
+        if request.args.get("head", mark(text)) != mark(text):
+            raise Missing(CHANGED, request.path.rsplit("/", 1)[0])
+        return Answer(302, f"/unit/{number}")
+
+    # Others
+
+    def fonds(self, request):
+        """The list of fonds."""
+        return self.render(request, "fonds.html", tops=heads(read_fonds(request.ask("/public/fonds") or "")))
+
+    def search(self, request):
+        """What was found. The office is asked for the list of fonds, and for the page of each candidate."""
+        told, fonds = self.find(request.args, request.language.code, request.address)
+        within = whole(request.args.get("in", ""), 0)
+        scopes = [(n, read_head(text).title or text) for n, text in fonds]
+        if within and all(n != within for n, _ in fonds):
+            text = request.ask(f"/public/units/{within}")
+            scopes += [(within, read_head(text.split("\n", 1)[0]).name)] if text else []
+        units = [{**unit, "head": pieces_of_head(unit["head"]),
+                  "way": [(read_head(step["head"]).title or step["head"]) for step in unit["way"] or []],
+                  "lines": [(read_line(f"{line['name']}: "), line["text"]) for line in unit["lines"]]}
+                 for unit in told["units"]]
+        kept = {name: value for name, value in request.args.items() if name in ("q", "in", "from", "to", "order")}
+        offers = [(text, urlencode({**kept, "q": text})) for text in told.get("offers", ())]
+        return self.render(request, "search.html", told=told, units=units, scopes=scopes, within=within, offers=offers,
+                           more=urlencode({**kept, "after": told.get("after", "0-0")}),
+                           typed=bool(folding.read_typed(request.args.get("q", ""))))
+
+    def help(self, request):
+        """How a reader orders, and where and when."""
+        return self.render(request, "help.html")
+
+    def sitemap(self, request):
+        """The archives, from where links lead to all that is published."""
+        tops = [n for n, _ in read_fonds(request.ask("/public/fonds") or "")]
+        return self.render(request, "sitemap.xml", kind="application/xml", tops=tops)
+
+    def robots(self, request):
+        """What crawlers should leave out."""
+        return self.render(request, "robots.txt", kind="text/plain")
+
+
+def names(text, number):
+    """Whether a page has this unit right below its own."""
+    return text is not None and f"\n  Unit {number}: " in text
+
+
+def heads(units):
+    """Units with their heads in parts."""
+    return [(number, read_head(text)) for number, text in units]
+
+
+def has_all(phrases, text):
+    """Whether a text has each phrase, whose last word may go on."""
+    readings = folding.readings_of(text) if phrases else []
+    return all(folding.occurs(phrase._replace(begins=True), readings) for phrase in phrases)
+
+
+def whole(text, otherwise):
+    """The number that a text has."""
+    return int(text) if re.fullmatch("[1-9][0-9]{0,9}", text) else otherwise
+
+
+NUMBER = "([1-9][0-9]{0,9})"
+ROUTES = [(re.compile(pattern), method, page) for pattern, method, page in (
+    ("/(?:index[.]html)?", "GET", Pages.fonds), (f"/unit/{NUMBER}", "GET", Pages.unit),
+    (f"/unit/{NUMBER}/order", "POST", Pages.order), (f"/unit/{NUMBER}/above", "GET", Pages.up),
+    (f"/aid/{NUMBER}", "GET", Pages.aid), (f"/public/aid/{NUMBER}", "GET", Pages.plain_aid),
+    (f"/aid/{NUMBER}/((?:[1-9][0-9]{{0,9}}[.]?){{1,64}})", "GET", Pages.place),
+    ("/search", "GET", Pages.search), ("/help", "GET", Pages.help), ("/ordered", "GET", Pages.ordered),
+    ("/ordered/order", "POST", Pages.order_list), ("/sitemap[.]xml", "GET", Pages.sitemap),
+    ("/robots[.]txt", "GET", Pages.robots))]

@@ -1,0 +1,238 @@
+"""The readers' service: pages and the search in all archives for nginx, and rounds in a process of their own.
+
+    service.py --queue SOCKET --index FILE --listen SOCKET [--words FILE] [--every SECONDS] [--rest TIMES]
+               [--orders MANY]
+
+GET /public/search?q=WORDS[&in=UNIT][&from=YEAR][&to=YEAR][&order=date][&after=PLACE][&lang=LANGUAGE] is answered with JSON:
+state, units, count, exact, more, after; unread: names of values that cannot be read, so that nothing was looked for; cut:
+whether more was typed than is read; offers: what finds something, if that found nothing."""
+
+import argparse
+import contextlib
+import json
+import pathlib
+import re
+import signal
+import socket
+import sqlite3
+import subprocess
+import sys
+import threading
+import time
+from http import HTTPStatus
+from urllib.parse import parse_qs, parse_qsl
+
+import waitress
+
+import index
+import languages
+from answers import START, Finder, Query
+from asking import Asking
+from folding import is_cut, read_typed
+from layouts import Answer, Request
+from offers import offers
+from pages import Pages
+from turns import Late, Turns, is_costly
+
+LARGEST = 2**63 - 1  # of SQLite's numbers
+NOTHING = {"state": "done", "units": [], "more": False}
+THREADS = 40  # most wait for the office: nginx lets 12 finding aids and 16 searches in
+LONGEST = 65_536  # bytes of a form
+
+
+class Rounds(threading.Thread):
+    """Keeps a process that makes rounds."""
+
+    def __init__(self, words):
+        super().__init__(daemon=True)
+        self.tell, self.told = socket.socketpair(socket.AF_UNIX, socket.SOCK_SEQPACKET)
+        self.tell.setblocking(False)
+        self.words = [*words, "--told", str(self.told.fileno())]
+
+    def run(self):
+        """Begins the process again whenever it ends."""
+        while True:
+            here = pathlib.Path(__file__).resolve().parent
+            words = [sys.executable, "-B", "-E", "-s", here / "rounds.py", *self.words]
+            done = subprocess.run(words, pass_fds=[self.told.fileno()], check=False)
+            print(f"rounds ended with {done.returncode}", flush=True)
+            time.sleep(5)
+
+    def say(self, number):
+        """That a unit is otherwise than the index has it, or (-number) shown no more, or (0) that the index cannot be read.
+        If nobody listens for long, what is more than the socket holds is lost, and found again by a later answer."""
+        try:
+            self.tell.send(b"%d" % number)
+        except OSError:
+            pass
+
+
+class Room(str):
+    """An address behind which many readers are."""
+
+
+def whose(environ):
+    """The address of a reader, as nginx has told it."""
+    address = environ.get("REMOTE_ADDR", "")
+    return Room(address) if environ.get("HTTP_RECORD_OFFICE_ROOM") == "1" else address
+
+
+class Service:
+    """queue: the socket of the queue; path: the index; pages: the readers' pages; say: tells the rounds what was found
+    late."""
+
+    def __init__(self, queue, path, say):
+        self.queue, self.path, self.say, self.mine, self.pages = queue, path, say, threading.local(), None
+        self.turns = Turns()
+
+    def app(self, environ, start):
+        """Answers a request, as WSGI asks for."""
+        method, path, args = environ["REQUEST_METHOD"], environ["PATH_INFO"], members(environ.get("QUERY_STRING", ""))
+        if path == "/public/search" and method == "GET":
+            told = self.find(args, args.get("lang"), whose(environ))[0]
+            answer, headers = Answer(200, json.dumps(told, ensure_ascii=False), "application/json"), []
+        else:
+            answer, headers = self.page(environ, method, path, args)
+        charset = "" if answer.kind == "application/json" else "; charset=utf-8"
+        headers.append(("Content-Type", answer.kind + charset))
+        body, size = answer.body, answer.size
+        if isinstance(body, str):
+            body = [body.encode()]
+            size = len(body[0])
+        if size is not None:
+            headers.append(("Content-Length", str(size)))
+        pieces = (piece if isinstance(piece, bytes) else piece.encode() for piece in body)
+        status = HTTPStatus(answer.status)
+        start(f"{status.value} {status.phrase}", headers)
+        return pieces
+
+    def page(self, environ, method, path, args):
+        """A page, and what its head says besides."""
+        form = []
+        if method == "POST":
+            sent = environ["wsgi.input"].read(min(int(environ.get("CONTENT_LENGTH") or 0), LONGEST))
+            form = fields(sent.decode("utf-8", "replace"))
+        language = self.pages.choose(args, environ.get("HTTP_ACCEPT_LANGUAGE", ""))
+        answer = self.pages.answer(Request(
+            method, path, args, language, f"{environ['wsgi.url_scheme']}://{environ.get('HTTP_HOST', 'localhost')}",
+            whose(environ), self.pages.asking("HTTP_RECORD_OFFICE_CRAWLER" in environ), form))
+        headers = [] if path.startswith("/public/") else [
+            ("Content-Language", language.code), ("Vary", "Accept-Language, Cookie")]
+        if args.get("lang") == language.code:
+            headers.append(("Set-Cookie", f"lang={language.code}; Path=/; SameSite=Lax; HttpOnly"))
+        if answer.status == 503:
+            headers.append(("Retry-After", "60"))
+        if answer.status == 302:
+            headers.append(("Location", answer.body))
+        return answer, headers
+
+    def find(self, values, language, address):
+        """What was found, and the list of fonds, once it is this reader's turn."""
+        query, unread = query_of(values, language)
+        if unread:
+            return {**NOTHING, "state": "unread", "unread": unread}, []
+        try:
+            with self.turns.turn(address, isinstance(address, Room), is_costly(query.phrases)):
+                return self.found(values, language, query)
+        except Late:
+            return {**NOTHING, "state": "late", "after": "{}-{}".format(*query.after)}, []
+
+    def found(self, values, language, query):
+        """What was found, and the list of fonds. While the first round goes on, the answer says how far it is."""
+        if not hasattr(self.mine, "ask"):
+            self.mine.ask = Asking(self.queue, kind="search")
+        try:
+            with contextlib.closing(index.open_index(self.path)) as db:
+                finished, done, tops = db.execute("SELECT finished, done, tops FROM round").fetchone()
+                found = Finder(db, self.mine.ask, query).find()
+                told = self.told(found, values)
+                if found.state == "done" and query.phrases and not found.units and query.after == START:
+                    told["offers"] = offers(db, self.mine.ask, values["q"], language, query)
+        except (sqlite3.Error, AttributeError, TypeError, ValueError) as broken:  # not there yet, or damaged
+            print(f"answer: {type(broken).__name__} {broken}", flush=True)
+            self.say(0)
+            return {**NOTHING, "state": "begins", "done": 0, "tops": 0}, []
+        if not finished and found.state == "done":
+            told |= {"state": "begins", "done": done, "tops": tops}
+        return told, found.fonds
+
+    def told(self, found, values):
+        """What an answer says. What it has found late goes to the rounds."""
+        for number in (*found.doubts, *(-number for number in found.gone)):
+            self.say(number)
+        told = {**NOTHING, "state": found.state, "units": found.units, "more": found.more,
+                "cut": is_cut(values.get("q", ""))}
+        if found.more or found.state != "done":
+            told["after"] = "{}-{}".format(*found.after)
+        if found.state == "done" and found.query.after == START:
+            told |= {"count": found.count, "exact": found.exact}
+        return told
+
+
+def query_of(values, language):
+    """What is asked for, and the names of the values that cannot be read."""
+    asked, unread = {}, []
+    for name in ("in", "from", "to"):
+        text = values.get(name, "").strip()
+        asked[name] = int(text) if re.fullmatch(r"\d{1,10}", text) else None
+        unread += [name] if text and asked[name] is None else []
+    order, after = values.get("order", ""), re.fullmatch("([0-9]{1,6})-([0-9]{1,19})", values.get("after", ""))
+    unread += ["order"] * (order not in ("", "date")) + ["after"] * bool(values.get("after") and not after)
+    place = (int(after[1]), min(int(after[2]), LARGEST)) if after else START
+    return Query(read_typed(values.get("q", ""), language), asked["in"], asked["from"], asked["to"], place,
+                 order == "date"), unread
+
+
+def fields(text):
+    """The fields of a form, in pairs; none if there are too many."""
+    try:
+        return parse_qsl(text, max_num_fields=200)
+    except ValueError:
+        return []
+
+
+def members(text):
+    """The last value of each name of a query string."""
+    try:
+        text = text.encode("latin-1").decode("utf-8", "replace")
+        found = parse_qs(text, keep_blank_values=True, max_num_fields=8, errors="replace")
+    except ValueError:
+        return {}
+    return {name: values[-1] for name, values in found.items()}
+
+
+def options():
+    """The command line."""
+    words = argparse.ArgumentParser(description=__doc__, formatter_class=argparse.RawDescriptionHelpFormatter)
+    words.add_argument("--queue", required=True, help="the queue's socket for this service")
+    words.add_argument("--index", required=True, type=pathlib.Path,
+                       help="the file of the index, which may be deleted at any time")
+    words.add_argument("--listen", required=True, help="the socket for nginx")
+    words.add_argument("--words", type=pathlib.Path, default=pathlib.Path("/etc/record-office/office.json"),
+                       help="the office's own words")
+    words.add_argument("--texts", type=pathlib.Path, help="a folder for the desk's texts in each language")
+    words.add_argument("--every", type=float, default=60, help="seconds from the end of a round to the next")
+    words.add_argument("--rest", type=float, default=4,
+                       help="how many times as long as the office took rounds and finding aids rest after a question")
+    words.add_argument("--orders", type=float, default=6, help="orders a minute that one address may give")
+    return words.parse_args()
+
+
+def main():
+    """Serves as the command line says."""
+    given = options()
+    rounds = Rounds(["--queue", given.queue, "--index", str(given.index), "--every", str(given.every), "--rest",
+                     str(given.rest)])
+    rounds.start()
+    signal.signal(signal.SIGTERM, lambda *_: sys.exit(0))
+    service = Service(given.queue, given.index, rounds.say)
+    service.pages = Pages(given.queue, given.index, given.words, service.find, given.rest, given.orders)
+    if given.texts:
+        languages.write(service.pages.languages, given.texts)
+    waitress.serve(service.app, unix_socket=given.listen, unix_socket_perms="666", threads=THREADS, ident=None,
+                   channel_timeout=30, trusted_proxy="*", trusted_proxy_count=1,
+                   trusted_proxy_headers={"x-forwarded-for", "x-forwarded-proto"}, clear_untrusted_proxy_headers=True)
+
+
+if __name__ == "__main__":
+    main()

@@ -1,0 +1,92 @@
+"""What an import would change, for the desk's page: answers for nginx.
+
+    service.py --copies FOLDER --files FOLDER --listen SOCKET [--program PROGRAM]
+
+POST /try/differences/SOURCE, with a file as its body, is answered with JSON: copy, answer, refused, differences.
+POST /try/imported/SOURCE keeps the file, which was imported, as the last one of its source."""
+
+import argparse
+import json
+import pathlib
+import re
+import signal
+import subprocess
+import sys
+import threading
+import time
+
+sys.path.append(str(pathlib.Path(__file__).resolve().parent.parent / "look"))
+import waitress  # noqa: E402
+
+from differences import Trial  # noqa: E402
+from kept_files import is_source, keep_file, last_file, newest_copy  # noqa: E402
+from wording import read_rules  # noqa: E402
+
+LARGEST_FILE = 8 * 1024 * 1024
+PATH = re.compile("/try/(differences|imported)/([^/]+)")
+
+
+class Service:
+    """Answers one try after the other. copies: the folder of the backup; files: where the last files are kept."""
+
+    def __init__(self, copies, files, program):
+        self.copies, self.files, self.program, self.rules = copies, files, program, read_rules()
+        self.one = threading.Lock()
+
+    def app(self, environ, start):
+        """Answers a request, as WSGI asks for."""
+        begun = time.monotonic()
+        status, answer = self.answer(environ)
+        print(f"{status} {environ.get('PATH_INFO', '')} {time.monotonic() - begun:.1f} s", flush=True)
+        body = json.dumps(answer, ensure_ascii=False).encode()
+        start(status, [("Content-Type", "application/json"), ("Content-Length", str(len(body)))])
+        return [body]
+
+    def answer(self, environ):
+        """The status and the answer."""
+        found = PATH.fullmatch(environ.get("PATH_INFO", ""))
+        if not found or not is_source(found[2]):
+            return "404 Not Found", {"error": "not found"}
+        if environ["REQUEST_METHOD"] != "POST":
+            return "405 Method Not Allowed", {"error": "method not allowed"}
+        data = environ["wsgi.input"].read()
+        try:
+            with self.one:
+                return "200 OK", self.tried(found[2], data) if found[1] == "differences" else self.kept(found[2], data)
+        except FileNotFoundError as missing:
+            print(f"{missing.filename}: {missing.strerror}", flush=True)
+            return "409 Conflict", {"error": "no copy"}
+        except (OSError, subprocess.SubprocessError, ValueError) as wrong:
+            print(f"{type(wrong).__name__} {wrong}", flush=True)
+            return "500 Internal Server Error", {"error": "failed"}
+
+    def tried(self, source, data):
+        """What an import of these bytes would change."""
+        copy, last = newest_copy(self.copies), last_file(self.files, source)
+        tried = Trial(self.program, copy, self.rules, last and last.read_bytes()).of(source, data)
+        made = time.strftime("%Y-%m-%d, %H:%M", time.localtime(copy.stat().st_mtime))
+        return {"copy": made, "answer": tried.answer, "refused": tried.refused, "differences": tried.differences}
+
+    def kept(self, source, data):
+        """Keeps the file, if the office can read it."""
+        data.decode("utf-8")
+        keep_file(self.files, source, data)
+        return {"kept": source}
+
+
+def main():
+    """Serves as the command line says."""
+    words = argparse.ArgumentParser(description=__doc__, formatter_class=argparse.RawDescriptionHelpFormatter)
+    words.add_argument("--copies", type=pathlib.Path, required=True, help="the folder of the backup's copies")
+    words.add_argument("--files", type=pathlib.Path, required=True, help="where the last file of each source is kept")
+    words.add_argument("--listen", required=True, help="the socket for nginx")
+    words.add_argument("--program", default="record_office", help="default: record_office")
+    given = words.parse_args()
+    signal.signal(signal.SIGTERM, lambda *_: sys.exit(0))
+    service = Service(given.copies, given.files, given.program)
+    waitress.serve(service.app, unix_socket=given.listen, unix_socket_perms="666", threads=4, ident=None,
+                   channel_timeout=120, max_request_body_size=LARGEST_FILE + 1, clear_untrusted_proxy_headers=True)
+
+
+if __name__ == "__main__":
+    main()
