@@ -3,8 +3,10 @@
 #
 #     packaging/deb.sh PROGRAM [OUT]
 #
-# OUT is the folder for the package, by default packaging/out. DEBFULLNAME and DEBEMAIL name the maintainer. Two packages from one
-# program and one tree are equal byte for byte: all files have the day of the version, and nothing depends on where it is made.
+# OUT is the folder for the package, by default packaging/out. DEBFULLNAME and DEBEMAIL name the maintainer. The version is the
+# first one in CHANGELOG at its tag or without git; any other commit has one of its own, which is greater. VERSION and
+# SOURCE_DATE_EPOCH may give both. Two packages from one program and one tree are equal byte for byte: nothing depends on where it
+# is made.
 set -euo pipefail
 umask 022
 export LC_ALL=C.UTF-8 TZ=UTC
@@ -13,10 +15,15 @@ top=$(cd "$(dirname "$0")/.." && pwd)
 program=$1
 out=${2:-$top/packaging/out}
 maintainer="${DEBFULLNAME:-Record Office} <${DEBEMAIL:-office@record-office.invalid}>"
-version=$(sed -n 's/^## \[\([0-9.]*\)\].*/\1/p' "$top/CHANGELOG.md" | head -1)
+released=$(sed -n 's/^## \[\([0-9.]*\)\].*/\1/p' "$top/CHANGELOG.md" | head -1)
 day=$(sed -n 's/^## \[[0-9.]*\] - \([0-9-]*\)$/\1/p' "$top/CHANGELOG.md" | head -1)
-SOURCE_DATE_EPOCH=$(date -d "$day 12:00" +%s)
-export SOURCE_DATE_EPOCH
+version=$released epoch=$(date -d "$day 12:00" +%s)
+if [ -e "$top/.git" ] && [ "$(git -C "$top" tag --points-at HEAD --list "v$released")" = '' ]; then
+    epoch=$(git -C "$top" log -1 --format=%ct)
+    version=$released+git$(date -d "@$epoch" +%Y%m%d.%H%M%S).$(git -C "$top" rev-parse --short=8 HEAD)
+fi
+version=${VERSION:-$version}
+export SOURCE_DATE_EPOCH=${SOURCE_DATE_EPOCH:-$epoch}
 arch=$(dpkg --print-architecture)
 root=$(mktemp -d)
 trap 'rm -rf "$root"' EXIT
@@ -42,17 +49,24 @@ place 755 usr/bin "$program"
 [ "$(basename "$program")" = record_office ] || mv "$root/usr/bin/$(basename "$program")" "$root/usr/bin/record_office"
 strip --strip-unneeded --remove-section=.comment "$root/usr/bin/record_office"
 place 755 usr/bin "$top/front/look/record_office_look.py" && mv "$root"/usr/bin/{record_office_look.py,record-office-look}
+find "$top/front/look" -name '*.py' ! -name record_office_look.py | while read -r file; do
+    place 644 usr/share/record-office/look "$file"
+done
 for part in public desk shared; do
     (cd "$top/front" && find "$part" -type f ! -name '.*') | while read -r file; do
         place 644 "usr/share/record-office/front/$(dirname "$file")" "$top/front/$file"
     done
 done
-place 644 usr/share/record-office/search "$top"/front/search/*.py
+(cd "$top/front" && find readers -type f \( -name '*.py' -o -name '*.po' -o -path 'readers/templates/*' \)) | while read -r file; do
+    place 644 "usr/share/record-office/$(dirname "$file")" "$top/front/$file"
+done
+place 755 usr/bin "$top/front/try/record_office_try.py" && mv "$root"/usr/bin/{record_office_try.py,record-office-try}
+place 644 usr/share/record-office/try "$top"/front/try/{catalogues,differences,kept_files,service}.py
 for file in "$top"/front/server/*; do
     case ${file##*/} in
     nginx.conf) place 644 usr/share/record-office "$file" && mv "$root"/usr/share/record-office/{nginx.conf,site} ;;
-    tls.conf) place 644 usr/share/doc/record-office/examples "$file" ;;
-    orders-from.conf) own "$file" ;;
+    tls.conf) place 644 usr/share/record-office "$file" && mv "$root"/usr/share/record-office/{tls.conf,site-tls} ;;
+    desk-nginx.conf | desk-tls.conf | orders-from.conf | rooms.conf | strangers.nft) own "$file" ;;
     *)
         place 644 etc/record-office "$file"
         place 644 usr/share/record-office/server "$file" # for the offices that are added
@@ -60,17 +74,12 @@ for file in "$top"/front/server/*; do
     esac
 done
 place 644 lib/systemd/system "$top"/packaging/*.service "$top"/packaging/*.timer
-for unit in "$root"/lib/systemd/system/*; do sed -f "$top/packaging/template.sed" "$unit" >"${unit%.*}@.${unit##*.}"; done
+for unit in "$root"/lib/systemd/system/*[!@].*; do sed -f "$top/packaging/template.sed" "$unit" >"${unit%.*}@.${unit##*.}"; done
 place 755 usr/sbin "$top"/packaging/tools/record-office-*
 place 644 usr/share/record-office/tools "$top"/packaging/tools/*.py
-place 755 usr/bin "$top/packaging/lists/record-office-lists"
+place 755 usr/bin "$top"/packaging/lists/record-office-{lists,register}
 place 644 usr/share/record-office/lists "$top/packaging/lists/lists.sql"
-own "$top/packaging/backup.conf"
-words=usr/share/record-office/front/public/office.json
-if [ -e "$root/$words" ]; then
-    own "$root/$words"
-    ln -sf /etc/record-office/office.json "$root/$words"
-fi
+own "$top"/packaging/{backup,alarm}.conf "$top/front/readers/office.json"
 place 644 usr/share/man/man1 "$top"/packaging/*.1
 place 644 usr/share/man/man8 "$top"/packaging/*.8
 place 644 usr/share/doc/record-office "$top/packaging/copyright" "$top/docs/OPERATING.md" "$top/docs/RULES.md" "$top/CHANGELOG.md"
@@ -80,12 +89,14 @@ mv "$root/usr/share/lintian/overrides/lintian-overrides" "$root/usr/share/lintia
 (
     cd "$root/usr/share/doc/record-office"
     mv CHANGELOG.md changelog
-    python3 "$top/packaging/debian_changelog.py" "$top/CHANGELOG.md" "$maintainer" >changelog.Debian
+    python3 "$top/packaging/debian_changelog.py" "$top/CHANGELOG.md" "$maintainer" "$version" "$SOURCE_DATE_EPOCH" >changelog.Debian
     gzip -9n changelog changelog.Debian OPERATING.md RULES.md
 )
 if [ -d "$top/docs/pictures" ]; then place 644 usr/share/doc/record-office/pictures "$top"/docs/pictures/*.png; fi
 gzip -9n "$root"/usr/share/man/man*/*
 ln -s record-office-backup.8.gz "$root/usr/share/man/man8/record-office-restore.8.gz"
+ln -s record-office-erase.8.gz "$root/usr/share/man/man8/record-office-relocate.8.gz"
+ln -s record-office-status.8.gz "$root/usr/share/man/man8/record-office-alarm.8.gz"
 
 install -d -m 755 "$root/DEBIAN"
 install -m 755 "$top"/packaging/{postinst,prerm,postrm} "$root/DEBIAN"
@@ -97,8 +108,8 @@ Version: $version-1
 Architecture: $arch
 Maintainer: $maintainer
 Installed-Size: $(find "$root" -path "$root/DEBIAN" -prune -o -type f -printf '%s\n' | awk '{ sum += int(($1 + 1023) / 1024) } END { print sum }')
-Depends: adduser, libc6 (>= $(needed_libc "$program")), python3 (>= 3.9), sqlite3
-Recommends: haproxy (>= 2.4), nginx (>= 1.19.4), openssl, python3-waitress
+Depends: adduser, libc6 (>= $(needed_libc "$program")), python3 (>= 3.11), sqlite3
+Recommends: haproxy (>= 2.4), nftables, nginx (>= 1.19.4), openssl, python3-babel, python3-jinja2, python3-snowballstemmer, python3-waitress
 Section: database
 Priority: optional
 Description: public side of a record office: catalogue and reading room
@@ -107,11 +118,16 @@ Description: public side of a record office: catalogue and reading room
  slips, seats, closures and permits. One file keeps the office.
  .
  Pages for readers and for staff come with it, the configuration of nginx and
- of an HAProxy of its own before the program, a search in all archives, and
- units for systemd. Nothing is started before an office has been made.
+ of an HAProxy of its own before the program, the service of the readers' pages
+ with its search, and units for systemd, which back up the office and call for
+ help. Nothing is started before an office has been made.
 END
 chmod 644 "$root"/DEBIAN/{control,conffiles,md5sums}
 find "$root" -exec touch --no-dereference --date "@$SOURCE_DATE_EPOCH" {} +
+# nginx makes a page's ETag of its time and size, so the time follows the content: a browser takes each file that has changed.
+find "$root/usr/share/record-office/front" -type f | while read -r file; do
+    touch --date "@$((SOURCE_DATE_EPOCH - 0x$(sha256sum "$file" | head -c 6)))" "$file"
+done
 mkdir -p "$out"
 dpkg-deb --root-owner-group -Zgzip --build "$root" "$out/record-office_$version-1_$arch.deb" >/dev/null
 echo "$out/record-office_$version-1_$arch.deb"

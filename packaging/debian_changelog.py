@@ -1,4 +1,6 @@
-"""Prints Debian's changelog of a CHANGELOG.md: debian_changelog.py FILE 'NAME <ADDRESS>'"""
+"""Prints Debian's changelog of a CHANGELOG.md: debian_changelog.py FILE 'NAME <ADDRESS>' VERSION SECONDS
+
+If VERSION is none of the file, what is unreleased is that version, of that time in seconds since 1970."""
 
 import datetime
 import email.utils
@@ -8,21 +10,24 @@ import textwrap
 
 
 def entries(text):
-    """Each version with its day and its lines."""
+    """What is unreleased, and each version with its time and its lines."""
     parts = re.split(r"^## \[([0-9.]+)\] - (\d{4}-\d\d-\d\d)$", text, flags=re.M)
-    return zip(parts[1::3], parts[2::3], parts[3::3])
+    noons = [datetime.datetime.fromisoformat(f"{day}T12:00:00+00:00") for day in parts[2::3]]
+    return parts[0], list(zip(parts[1::3], noons, parts[3::3]))
 
 
-def entry(version, day, body, maintainer):
-    noon = datetime.datetime.fromisoformat(f"{day}T12:00:00+00:00")
+def entry(version, when, body, maintainer):
     lines = [line[2:].replace("`", "") for line in body.splitlines() if line.startswith("- ")]
     told = "\n".join(textwrap.fill(line, 78, initial_indent="  * ", subsequent_indent="    ") for line in lines)
-    return f"record-office ({version}-1) unstable; urgency=medium\n\n{told}\n\n -- {maintainer}  {email.utils.format_datetime(noon)}\n"
+    return f"record-office ({version}-1) unstable; urgency=medium\n\n{told}\n\n -- {maintainer}  {email.utils.format_datetime(when)}\n"
 
 
-def main(file, maintainer):
+def main(file, maintainer, version, seconds):
     with open(file, encoding="utf-8") as it:
-        print("\n".join(entry(*one, maintainer) for one in entries(it.read())), end="")
+        unreleased, released = entries(it.read())
+    if version not in [one for one, _, _ in released]:
+        released.insert(0, (version, datetime.datetime.fromtimestamp(int(seconds), datetime.timezone.utc), unreleased))
+    print("\n".join(entry(*one, maintainer) for one in released), end="")
 
 
 if __name__ == "__main__":

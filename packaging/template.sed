@@ -2,11 +2,13 @@
 s/^Description=Record office:/Description=Record office %i:/
 s#/var/lib/record-office\>#&-%i#g
 s#/etc/record-office/#&%i/#
-s#/run/record-office-\(queue\|search\)\>#&-%i#
-s#%t/record-office-backup\>#&-%i#
+s/record_office_strangers/record_office_%i_strangers/
+s#/run/record-office-\(queue\|readers\|desk\|try\)\>#&-%i#
+s#/var/backups/record-office\>#&-%i#g
+s/^User=record-office-pages$/&-%i/
 s/^\(State\|Cache\|Runtime\)Directory=.*/&-%i/
-s/\<\(record-office\(-queue\|-search\|-backup\)\?\)\.\(service\|timer\)\>/\1@%i.\3/g
-s/^ExecStart=.*-backup$/& --office %i/
+s/\<\(record-office\(-[a-z]*\)\?\)\.\(service\|timer\)\>/\1@%i.\3/g
+s/^ExecStart=.*-\(backup\|status\)\>.*/& --office %i/
 # record-office-add gives the port of the program to the unit, and lets it listen there.
 s/--port 8090/--port ${PORT}/
 /^SocketBindAllow=/d

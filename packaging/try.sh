@@ -2,14 +2,14 @@
 # Makes the package, calls lintian, installs the package on a clean Debian root, boots systemd there in namespaces of its own,
 # runs an office by the lines of OPERATING, upgrades, removes and purges the package, and prints each result:
 #
-#     packaging/try.sh PROGRAM [ROOT.tar]
+#     packaging/try.sh PROGRAM [ROOT.tar [SUITE]]
 #
-# ROOT.tar is the clean root; the script makes it if it does not exist (some two minutes). It needs root, mmdebstrap, lintian and
-# the network for Debian's packages. It changes nothing outside its folder except a control group of its own, which it removes.
+# ROOT.tar is the clean root; the script makes it if it does not exist (some two minutes), of bookworm unless SUITE says trixie. It
+# needs root, git, mmdebstrap, lintian and the network for Debian's packages. It changes nothing outside its folder except a control group of its own, which it removes.
 # Its last line is `N passed, M failed`; if systemd cannot be started, it says so and counts that as failed.
 set -euo pipefail
 here=$(cd "$(dirname "$0")" && pwd)
-[ $# -ge 1 ] || { echo "usage: packaging/try.sh PROGRAM [ROOT.tar]" >&2; exit 2; }
+[ $# -ge 1 ] || { echo "usage: packaging/try.sh PROGRAM [ROOT.tar [SUITE]]" >&2; exit 2; }
 program=$(realpath "$1")
 room=$(mktemp -d)
 chmod 755 "$room"
@@ -47,7 +47,8 @@ lintian --fail-on error,warning "$deb" >"$room/lintian" 2>&1 && is "lintian find
     is "lintian finds no error and no warning" 1
 }
 
-mkdir "$room/copy"
+git clone -q --no-checkout "$here/.." "$room/copy"
+git -C "$room/copy" remote remove origin
 cp -r "$here/../front" "$here/../packaging" "$here/../docs" "$here/../examples" "$here/../CHANGELOG.md" "$room/copy"
 again=$(umask 077 && cd / && LC_ALL=C TZ=Asia/Tokyo "$room/copy/packaging/deb.sh" "$program" "$room/copy/out")
 how=0
@@ -61,19 +62,24 @@ for page in "$here"/*.[18]; do
     is "man finds nothing wrong with ${page##*/}${said:+: $said}" "$how"
 done
 
-[ -s "$tar" ] || mmdebstrap --quiet --variant=minbase --include=systemd-sysv,dbus,curl,iproute2,ca-certificates bookworm "$tar"
+[ -s "$tar" ] || mmdebstrap --quiet --variant=minbase --include=systemd-sysv,dbus,curl,iproute2,ca-certificates "${3:-bookworm}" "$tar"
 root=$room/root
 mkdir "$root"
 tar -C "$root" -xf "$tar" --exclude='./dev/*'
 cp /etc/resolv.conf "$root/etc/resolv.conf"
 cp "$deb" "$root/root/record-office.deb"
-cp "$here"/{try_checks.sh,try_inside.sh,try_search.sh,try_busy.py} "$root/root"
+cp "$here/../acceptance/version1.db" "$here"/{try_back.sh,try_alarms.sh,try_registers.sh,try_limits.sh,try_checks.sh,try_inside.sh,try_readers.sh,try_busy.py} "$root/root"
 cp "$here/../examples/archives.csv" "$root/root"
-# A next version, in which each file that the package brings to /etc has changed.
+# The next commit, in which each file that the package brings to /etc has changed, and a page without another size.
 mv "$room/copy" "$room/next"
-sed -i '0,/^## \[\([0-9.]*\)\]/s//## [\1.1]/' "$room/next/CHANGELOG.md"
-for file in "$room"/next/front/server/*.{conf,cfg} "$room/next/packaging/backup.conf"; do echo '# of the next version' >>"$file"; done
-cp "$("$room/next/packaging/deb.sh" "$program" "$room/next")" "$root/root/next.deb"
+for file in "$room"/next/front/server/*.{conf,cfg} "$room"/next/packaging/{backup,alarm}.conf; do echo '# of the next version' >>"$file"; done
+sed -i 's/The desk/the Desk/' "$room/next/front/desk/index.html"
+git -C "$room/next" -c user.name=try -c user.email=try@localhost commit -q --allow-empty -m 'the next commit'
+next=$("$room/next/packaging/deb.sh" "$program" "$room/next")
+how=0
+dpkg --compare-versions "$(dpkg-deb -f "$next" Version)" gt "$(dpkg-deb -f "$deb" Version)" || how=1
+is "a build of the next commit has a greater version" "$how"
+cp "$next" "$root/root/next.deb"
 mkdir -p "$root/root/top/crates/record_office/out"
 cp -r "$here/../front" "$here/../packaging" "$root/root/top"
 cp "$program" "$root/root/top/crates/record_office/out/record_office"
@@ -87,14 +93,15 @@ install >"$room/install" 2>&1 && is "apt installs the package, with nginx and HA
     is "apt installs the package, with nginx and HAProxy, on a clean root" 1
 }
 
-# systemd as the first process of its own namespaces, in a control group of its own, with only loopback as network. This machine
+# systemd as the first process of its own namespaces, in a control group of its own. Its network is loopback and a bridge to
+# nowhere, which shows what has no network. This machine
 # may run other such systems: `booted` is the child of the process that was begun here, and it has the root that was made here.
 boot() {
     mkdir "$group"
     setsid bash -c "echo \$\$ >'$group/cgroup.procs'; exec unshare -mpfCn --kill-child bash -c '
         mount --bind $root $root; cd $root
         mount -t proc proc proc; mount -t sysfs -o ro sysfs sys; mount -t tmpfs none run; mount -t tmpfs none tmp; mount --rbind /dev dev
-        mount -t cgroup2 none sys/fs/cgroup; ip link set lo up
+        mount -t cgroup2 none sys/fs/cgroup; ip link set lo up; ip link add outside type bridge
         pivot_root . mnt; umount -l /mnt; exec env container=other /lib/systemd/systemd'" <"/dev/null" >"$room/boot" 2>&1 &
     local began=$!
     for _ in $(seq 30); do
@@ -105,9 +112,9 @@ boot() {
     return 1
 }
 
-# inside COMMAND ..: runs it there, and counts the results that it prints
+# inside COMMAND ..: runs it there, without this environment, and counts the results that it prints
 inside() {
-    nsenter -t "$booted" -m -p -n -C "$@" >"$room/inside" 2>&1 || true
+    nsenter -t "$booted" -m -p -n -C env -i PATH=/usr/local/sbin:/usr/local/bin:/usr/sbin:/usr/bin:/sbin:/bin HOME=/root "$@" >"$room/inside" 2>&1 || true
     cat "$room/inside"
     passed=$((passed + $(grep -c '^passed: ' "$room/inside" || true)))
     failed=$((failed + $(grep -c '^FAILED: ' "$room/inside" || true)))
@@ -125,7 +132,7 @@ if boot && sleep 3; then
     is "systemd begins there" 0
     inside bash /root/try_inside.sh before
     operating package /root
-    inside bash /root/try_search.sh
+    inside bash /root/try_readers.sh
     inside bash /root/try_inside.sh after
     grep -q '^to the end$' "$room/inside" || is "the trial inside came to its end" 1
     operating hand /root/top

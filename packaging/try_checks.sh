@@ -12,4 +12,19 @@ same() {
     if [ "$2" = "$3" ]; then echo "passed: $1"; else echo "FAILED: $1: '$2' is not '$3'"; fi
 }
 
+# answered URL ..: whether each is answered with 200
+answered() {
+    local url
+    for url in "$@"; do [ "$(status -m 5 "$url")" = 200 ] || return 1; done
+}
+
 status() { curl -s -o /dev/null -m 30 -w '%{http_code}' "$@"; }
+
+# waits COMMAND ..: until the command succeeds, or for a minute
+waits() {
+    local end=$((SECONDS + 60))
+    until "$@" >/dev/null 2>&1; do
+        [ $SECONDS -lt $end ] || return
+        sleep 0.2
+    done
+}

@@ -8,9 +8,11 @@ copies=/var/backups/record-office
 today=$(date +%F)
 readers=http://127.0.0.1:8080
 desk=http://127.0.0.1:8081
-units='record-office record-office-queue record-office-search'
+units='record-office record-office-queue record-office-readers record-office-desk record-office-try'
+timers='record-office-backup.timer record-office-probe.timer record-office-status.timer'
 harbour=http://127.0.0.1:8180
-harbour_units='record-office@harbour record-office-queue@harbour record-office-search@harbour record-office-backup@harbour.timer'
+harbour_units='record-office@harbour record-office-queue@harbour record-office-readers@harbour record-office-desk@harbour record-office-try@harbour'
+harbour_timers='record-office-backup@harbour.timer record-office-probe@harbour.timer record-office-status@harbour.timer'
 
 . "$(dirname "$0")/try_checks.sh"
 
@@ -26,12 +28,15 @@ before() {
         systemctl is-system-running 2>/dev/null | grep -q 'running\|degraded' && break
         sleep 1
     done
-    same 'without an office no unit runs' "$(systemctl is-active $units | xargs)" 'inactive inactive inactive'
-    same 'all are enabled' "$(systemctl is-enabled $units | xargs)" 'enabled enabled enabled'
+    same 'without an office no unit runs' "$(systemctl is-active $units | sort | uniq -c | xargs)" '5 inactive'
+    same 'all are enabled' "$(systemctl is-enabled $units $timers | sort | uniq -c | xargs)" '8 enabled'
     is 'systemd finds nothing wrong with the units' sh -c \
-        'test -z "$(systemd-analyze verify --man=no record-office.service record-office-queue.service record-office-search.service 2>&1 | tee /dev/stderr)"'
+        'test -z "$(cd /lib/systemd/system && systemd-analyze verify --man=no record-office*[!@].service record-office*[!@].timer record-office-alarm@x.service 2>&1 | tee /dev/stderr)"'
     is 'the manual page is there' test -s /usr/share/man/man1/record_office.1.gz -o -e /etc/dpkg/dpkg.cfg.d/excludes
 }
+
+# The ETag of the desk's first page
+etag() { curl -s -o /dev/null -D - -u desk:quiet-paper $desk/ | grep -i '^etag'; }
 
 # What the packaged OPERATING links to is in the package.
 links() {
@@ -44,31 +49,43 @@ links() {
 # Another port, by the site; and the site with TLS, with the certificate of OPERATING.
 sites() {
     local site=/etc/nginx/sites-available/record-office ask='curl -s --cacert /etc/record-office/certificate.pem --connect-to ::localhost:'
-    sed 's/listen 8080/listen 8070/; s/8081/8071/' $site >$site-moved
+    sed 's/8080/8070/' $site >$site-moved
+    sed -i 's/8081/8071/' /etc/record-office/desk-nginx.conf
+    systemctl restart record-office-desk
     serve record-office-moved
     same 'readers and staff at other ports' "$(status http://127.0.0.1:8070/public/fonds) $(status -u desk:quiet-paper -d '{}' \
         -H 'Origin: http://localhost:8071' http://localhost:8071/desk/seat) $(status $readers/public/fonds) $(status $desk/desk/issued)" '200 400 000 000'
     rm $site-moved
+    cp /etc/record-office/desk-tls.conf /etc/record-office/desk-nginx.conf
+    systemctl restart record-office-desk
+    mkdir -p /var/www/html/.well-known/acme-challenge && echo token >/var/www/html/.well-known/acme-challenge/proof
     serve record-office-tls
+    same 'a certificate can be renewed over port 80' "$(curl -s --connect-to ::localhost: http://archive.example.org/.well-known/acme-challenge/proof)" token
+    same 'HTTP/2 is spoken' "$($ask -o /dev/null -w '%{http_version}' https://archive.example.org/)" 2
     same 'without TLS readers are sent on' "$($ask -o /dev/null -w '%{http_code} %{redirect_url}' http://archive.example.org/)" '301 https://archive.example.org/'
     same 'a browser keeps to TLS' "$($ask -o /dev/null -D - https://archive.example.org/ | grep -o 'strict.*=[0-9]*')" 'strict-transport-security: max-age=31536000'
+    same 'of an address the network alone is logged, at port 80 too' "$(grep -cv '^\(127\.0\.0\|0\.0\.0\)\.0 ' /var/log/nginx/access.log)" 0
     is 'another name gets no certificate' sh -c "$ask -S -k https://other.example.org:8443/ 2>&1 | grep 'unrecognized name'"
+    cp /usr/share/record-office/own/desk-nginx.conf /etc/record-office/
+    systemctl restart record-office-desk
     serve record-office
 }
 
 # The second office, which the lines of OPERATING added.
 second() {
     local before settings=/etc/record-office/harbour second_copies=/var/backups/record-office-harbour
-    same 'the units of the second office run' "$(systemctl is-active $harbour_units | xargs)" 'active active active active'
+    same 'the units of the second office run' "$(systemctl is-active $harbour_units $harbour_timers | sort | uniq -c | xargs)" '8 active'
     is 'systemd finds nothing wrong with them' sh -c 'test -z "$(systemd-analyze verify --man=no record-office@harbour.service \
-        record-office-queue@harbour.service record-office-search@harbour.service record-office-backup@harbour.timer 2>&1 | tee /dev/stderr)"'
+        record-office-queue@harbour.service record-office-readers@harbour.service record-office-backup@harbour.timer record-office-probe@harbour.timer \
+        record-office-status@harbour.timer 2>&1 | tee /dev/stderr)"'
     same 'each office answers for itself' "$(curl -s $harbour/public/fonds)" '1 GB 0998 HUL [Fonds] Hull Dock Company'
     same 'each has a password of its own' "$(status -u desk:quiet-water http://127.0.0.1:8181/desk/issued) \
 $(status -u desk:quiet-paper http://127.0.0.1:8181/desk/issued) $(status -u desk:quiet-water $desk/desk/issued)" '200 401 401'
     is 'its units are found' sh -c "for i in \$(seq 90); do curl -s '$harbour/public/search?q=minutes' | grep -q 'GB 0998' && exit 0; sleep 1; done; exit 1"
     sed -i 's/"name": .*/"name": "Harbour office",/' $settings/office.json
-    is 'it has words of its own' sh -c "curl -s $harbour/office.json | grep 'Harbour office' && ! curl -s $readers/office.json | grep 'Harbour office'"
-    for wrong in 'harbour 8280' 'search 8280' 'Other 8280' 'other 8180' 'other 8170' 'other 8068' 'other 80' 'other 70000' 'other'; do
+    systemctl restart record-office-readers@harbour
+    is 'it has words of its own' sh -c "curl -s $harbour/ | grep 'Harbour office' && ! curl -s $readers/ | grep 'Harbour office'"
+    for wrong in 'harbour 8280' 'readers 8280' 'Other 8280' 'other 8180' 'other 8170' 'other 8068' 'other 80' 'other 70000' 'other'; do
         is "record-office-add $wrong is refused" sh -c "! record-office-add $wrong && test ! -e /etc/record-office/other"
     done
     systemctl stop record-office
@@ -114,7 +131,7 @@ backups() {
     is 'the timer made a backup' test -s "$copies/office-$today.db"
     is 'beside it each question and each command was answered' sh -c '! grep -v "^[a-z]* [0-9]* of 200$" /tmp/busy | grep -v ^longest'
     rm -r "${timer%/*}" && systemctl daemon-reload && systemctl restart record-office-backup.timer
-    same 'what is kept of a year' "$(cd $copies && ls | grep -v "$today" | sed 's/office-2020-//; s/.db//' | xargs)" \
+    same 'what is kept of a year' "$(cd $copies && ls office-*.db | grep -v "$today" | sed 's/office-2020-//; s/.db//' | xargs)" \
         '02-29 03-31 04-30 05-31 06-30 07-31 08-31 09-30 10-31 11-30 12-20 12-26 12-27 12-28 12-29 12-30 12-31'
 
     mkdir /srv/other
@@ -149,7 +166,7 @@ backups() {
     is 'the copy of before stays' cmp "$copies/office-$today.db" /root/copy.db
     is 'no old log would be left' test -e $office-wal
     is 'the restore of a file that is no office is refused' sh -c '! record-office-restore /etc/hostname'
-    is 'a restore' record-office-restore /root/copy.db
+    is 'a restore' record-office-restore --yes /root/copy.db
     same 'after it readers get an answer' "$(status $readers/public/fonds)" 200
     same 'the office is its user'"'"'s' "$(stat -c '%U %a' $office)" 'record-office 600'
     is 'what stood there is kept with its log' sh -c "ls ${office%/*}/replaced-*/office.db-wal"
@@ -166,13 +183,15 @@ backups() {
 
 # An upgrade whose files have all changed, after the operator has edited the files that are the operator's; removed, and installed again.
 upgrades() {
-    local file edited="/etc/nginx/sites-available/record-office /etc/nginx/sites-available/record-office-tls /etc/record-office/backup.conf"
+    local tag file edited="/etc/nginx/sites-available/record-office /etc/nginx/sites-available/record-office-tls /etc/record-office/backup.conf"
     for file in $edited; do echo '# our own' >>$file; done
     sed 's/rate=50r/rate=40r/' /etc/record-office/common.conf >/etc/record-office/our-common.conf
     sed -i 's/common.conf/our-common.conf/' /etc/nginx/sites-available/record-office
     is 'a limit of our own' nginx -t -q
     systemctl stop record-office
-    is 'an upgrade asks nothing' sh -c 'dpkg -i /root/next.deb </dev/null'
+    tag=$(etag)
+    is 'an upgrade by apt asks nothing' sh -c 'apt-get install -qq -y /root/next.deb </dev/null'
+    is 'a page that has changed, but not its size, has another ETag' test "$tag" != "$(etag)"
     same 'what was stopped stays stopped' "$(systemctl is-active record-office record-office-queue record-office-backup.timer | xargs)" 'inactive active active'
     is 'what was edited stays' grep -c '^# our own' $edited
     is 'the rest is new' grep '^# of the next version' /etc/record-office/readers.conf /usr/share/record-office/site
@@ -184,11 +203,11 @@ upgrades() {
     same 'after that too' "$(status $readers/public/fonds)" 200
 
     is 'removal' dpkg --remove record-office
-    same 'nothing runs any more' "$(systemctl is-active $units record-office-backup.timer $harbour_units | sort | uniq -c | xargs)" '8 inactive'
+    same 'nothing runs any more' "$(systemctl is-active $units $timers $harbour_units $harbour_timers | sort | uniq -c | xargs)" '16 inactive'
     is 'nginx goes on' nginx -t -q
     same 'nothing answers readers' "$(status $readers/public/fonds) $(status $harbour/public/fonds)" '000 000'
     is 'installed again' sh -c 'dpkg -i /root/next.deb </dev/null'
-    same 'readers get an answer as before' "$(status $readers/public/fonds) $(status $harbour/public/fonds)" '200 200'
+    is 'readers get an answer as before, once nginx has read its sites' waits answered $readers/public/fonds $harbour/public/fonds
     same 'and the desk' "$(status -u desk:quiet-paper $desk/desk/issued)" 200
 
     chown root $office && systemctl restart record-office
@@ -206,11 +225,12 @@ after() {
     same 'another site is turned away' "$(status -H 'Origin: http://other.example.org' -u desk:quiet-paper -d '' $desk/desk/run)" 403
     same 'readers do not reach the desk' "$(status $readers/desk/issued)" 404
     is 'a file is looked at' record-office-look /root/archives.csv
+    is 'by somebody who stops reading early, too' sh -c 'record-office-look /root/archives.csv 2>/tmp/said | head -c 0; test ! -s /tmp/said'
     same 'an import at the desk' "$(status -u desk:quiet-paper --data-binary @/root/archives.csv $desk/desk/import/archives)" 200
     is 'an archive of the second file is told' sh -c "curl -s $readers/public/fonds | grep -q 'Hull Dock Company'"
     is 'and its units are found, within two rounds' sh -c \
         "for i in \$(seq 150); do curl -s '$readers/public/search?q=kingsford' | grep -q Kingsford && exit 0; sleep 1; done; exit 1"
-    is 'the search has no network' sh -c "nsenter -t $(systemctl show -p MainPID --value record-office-search) -n ip -br link 2>/dev/null | grep -vq '^lo' && exit 1; exit 0"
+    is 'the search has no network' sh -c "nsenter -t $(systemctl show -p MainPID --value record-office-readers) -n ip -br link 2>/dev/null | grep -vq '^lo' && exit 1; exit 0"
     same 'the office is its user'"'"'s alone, by its folder' "$(stat -c '%U %a' /var/lib/record-office)" 'record-office 700'
 
     restarts=$(systemctl show -p NRestarts --value record-office)
@@ -220,14 +240,18 @@ after() {
     same 'no process may get new rights' "$(grep -h NoNewPrivs "/proc/$(systemctl show -p MainPID --value record-office)/status" | cut -f2)" 1
     systemd-analyze security --no-pager $units 2>/dev/null | grep -i overall || true
 
-    same 'each end of the program was asked for' "$(journalctl --no-pager -o cat -u record-office | grep -c 'Main process exited.*KILL')" \
-        "$(journalctl --no-pager -o cat -u record-office | grep -c 'Main process exited')"
+    same 'each end of the program was asked for' "$(journalctl --no-pager -o cat -u record-office | grep -c '^the program ended: killed KILL')" \
+        "$(journalctl --no-pager -o cat -u record-office | grep -c '^the program ended: ')"
 
     links
     sites
     second
     upgrades
     backups
+    bash /root/try_back.sh
+    bash /root/try_alarms.sh
+    bash /root/try_registers.sh
+    bash /root/try_limits.sh
     packs
     purges
     moves
@@ -252,6 +276,7 @@ answers() {
 }
 
 purges() {
+    rm -rf /var/www/html/.well-known
     rm -f /etc/record-office/*.pem /etc/record-office/our-common.conf /etc/nginx/sites-available/record-office-tls
     is 'purge' dpkg --purge record-office
     is 'the office and its copies stay' sh -c "test -s $office && ls $copies/office-$today.db"
@@ -269,7 +294,7 @@ moves() {
     is 'the office is restored there' record-office-restore "/root/moved/office-$today.db"
     ln -s ../sites-available/record-office /etc/nginx/sites-enabled/
     nginx -t -q && systemctl reload-or-restart nginx
-    systemctl enable --quiet --now record-office record-office-queue record-office-search record-office-backup.timer
+    systemctl enable --quiet --now $units $timers
     same 'it answers' "$(status -m 60 $readers/public/fonds)" 200
     same 'as it did on the first' "$(answers)" "$(cat /root/moved/answers)"
     systemctl start record-office-backup

@@ -10,6 +10,9 @@
 -- record-office-lists adds two tables: place has, for each unit, its `number` in the order of the catalogue, its `archive` (the
 -- unit at the top), its reference `code`, whether it or a unit above it is a draft, until when it or a unit above it is closed
 -- (0: open), and its `home`, the unit whose containers it lies in; above has each unit with itself and all units above it.
+-- `place.parent` is the unit right above. last_row has the first row of each unit in the last file of its source (draft and
+-- parent are NULL if the file has no such column), and event what the desk's log has of seats, issues, returns and days: `what`,
+-- when (`time`, and `at` in seconds), by whom of the `staff`, and whether it was surely done (is_sure).
 -- The function day() writes a day as a date, and title() finds the title of a unit.
 
 -- list: drafts
@@ -34,11 +37,15 @@ ORDER BY unit.until, place.number;
 
 -- list: permits
 -- title: Permits that end soon, with readers' names
--- about: Permits for closed units whose last day is within 30 days from the office's day.
+-- about: Permits whose last day is within 30 days from the office's day, for units that are closed or have a closed one below.
+WITH below AS (
+    SELECT above.higher AS unit, max(unit.until) AS closed FROM unit JOIN above ON above.unit = unit.id, office
+    WHERE unit.until > office.day GROUP BY above.higher
+)
 SELECT day(permit.until) AS "Last day", permit.ticket AS "Ticket", reader.name AS "Reader", permit.unit AS "Unit",
-    place.code AS "Code", title(permit.unit) AS "Title", day(place.closed) AS "Closed until"
-FROM permit JOIN reader USING (ticket) JOIN place USING (unit), office
-WHERE permit.until BETWEEN office.day AND office.day + 30 AND place.closed > office.day
+    place.code AS "Code", title(permit.unit) AS "Title", day(max(place.closed, coalesce(below.closed, 0))) AS "Closed until"
+FROM permit JOIN reader USING (ticket) JOIN place USING (unit) LEFT JOIN below USING (unit), office
+WHERE permit.until BETWEEN office.day AND office.day + 30 AND max(place.closed, coalesce(below.closed, 0)) > office.day
 ORDER BY permit.until, permit.ticket, place.number;
 
 -- list: waiting
@@ -91,6 +98,16 @@ FROM container JOIN named ON named.container = container.id JOIN place ON place.
 WHERE (SELECT count(*) FROM named AS other WHERE other.container = container.id) > 1
 ORDER BY container.id, place.number;
 
+-- list: unnamed
+-- title: Boxes that no unit names
+-- about: A file named each of them at this place once. If the box has moved, its units name another number. Numbers are never
+--     used again; record-office-relocate, before an import, lets a box that moves keep its own.
+SELECT id AS "Container", name AS "Name", location AS "Location", kind AS "Kind",
+    (SELECT count(*) FROM orders WHERE orders.container = container.id) AS "Orders"
+FROM container
+WHERE NOT EXISTS (SELECT 1 FROM housing WHERE housing.container = container.id)
+ORDER BY id;
+
 -- list: readers
 -- title: Who had a box, with readers' names
 -- about: Each order whose container was given out, the newest first. The page shows 1,000; the CSV file has all.
@@ -135,6 +152,93 @@ SELECT month AS "Month", coalesce(place.code, '') AS "Archive", coalesce(title(a
 FROM event JOIN archives USING (container) LEFT JOIN place ON place.unit = archives.archive
 GROUP BY month, archives.archive
 ORDER BY month DESC, place.number;
+
+-- list: long-waiting
+-- title: Orders that wait long, with readers' names
+-- about: Orders that have waited for a week or more. The desk's page of old orders cancels those that are ticked there.
+SELECT orders.id AS "Order", day(orders.day) AS "Ordered on", office.day - orders.day AS "Days", orders.ticket AS "Ticket",
+    reader.name AS "Reader", orders.container AS "Container", container.name AS "Name", container.location AS "Location",
+    CASE coalesce(holding.place, 0) WHEN 0 THEN 'on its shelf' WHEN 1 THEN 'at the desk' ELSE 'out' END AS "Where"
+FROM orders JOIN reader USING (ticket) JOIN container ON container.id = orders.container
+LEFT JOIN holding ON holding.container = orders.container, office
+WHERE orders.state = 1 AND office.day - orders.day >= 7
+ORDER BY orders.id;
+
+-- list: idle
+-- title: Boxes at the desk that nobody has asked for lately
+-- about: Boxes that stand at the desk, and for which the newest order is a week old or older. Orders that still wait for one
+--     keep it there: the desk's page of old orders cancels them and takes the box back to its shelf.
+SELECT container.id AS "Container", container.name AS "Name", container.location AS "Location", day(max(orders.day)) AS "Last ordered on",
+    office.day - max(orders.day) AS "Days", sum(orders.state = 1) AS "Orders that wait",
+    max(orders.id) AS "Newest order"
+FROM holding JOIN container ON container.id = holding.container JOIN orders ON orders.container = container.id, office
+WHERE holding.place = 1
+GROUP BY container.id HAVING office.day - max(orders.day) >= 7
+ORDER BY container.id;
+
+-- list: visits
+-- title: Who was here, with readers' names
+-- about: Each seat that was taken and left, the newest first, by the clock of the front. A new day frees all seats. What the
+--     desk was not answered, and may not have been done, has a question mark.
+WITH seat AS (
+    SELECT event.*, (SELECT min(at) FROM event AS later WHERE later.at > event.at
+        AND ((later.what = 'leave' AND later.ticket = event.ticket) OR later.what = 'day')) AS until
+    FROM event WHERE what = 'seat'
+)
+SELECT substr(seat.time, 1, 10) AS "Day", seat.ticket AS "Ticket", reader.name AS "Reader",
+    substr(seat.time, 12, 5) || CASE seat.is_sure WHEN 1 THEN '' ELSE '?' END AS "Came", seat.staff AS "Seat given by",
+    substr(gone.time, 12, 5) || CASE gone.is_sure WHEN 1 THEN '' ELSE '?' END AS "Left", gone.staff AS "Seat freed by"
+FROM seat LEFT JOIN reader USING (ticket) LEFT JOIN event AS gone ON gone.at = seat.until
+ORDER BY seat.at DESC;
+
+-- list: handed
+-- title: Who gave what to whom, with readers' names
+-- about: Each issue and its return, the newest first, with the time by the clock of the front and the member of staff.
+WITH issue AS (
+    SELECT event.*, (SELECT min(at) FROM event AS later
+        WHERE later.at > event.at AND later.what = 'return' AND later.container = event.container) AS until
+    FROM event WHERE what = 'issue'
+)
+SELECT substr(issue.time, 1, 10) AS "Day", issue.container AS "Container", container.name AS "Name", issue.ticket AS "Ticket",
+    reader.name AS "Reader", substr(issue.time, 12, 5) || CASE issue.is_sure WHEN 1 THEN '' ELSE '?' END AS "Issued",
+    issue.staff AS "Issued by", substr(back.time, 1, 10) AS "Returned on",
+    substr(back.time, 12, 5) || CASE back.is_sure WHEN 1 THEN '' ELSE '?' END AS "Returned", back.staff AS "Taken back by"
+FROM issue LEFT JOIN reader USING (ticket) LEFT JOIN container ON container.id = issue.container
+LEFT JOIN event AS back ON back.at = issue.until
+ORDER BY issue.at DESC;
+
+-- list: visit-months
+-- title: Visits by month
+-- about: Seats that were taken, different tickets, and containers that were issued.
+SELECT substr(time, 1, 7) AS "Month", sum(what = 'seat') AS "Visits",
+    count(DISTINCT CASE what WHEN 'seat' THEN ticket END) AS "Tickets", sum(what = 'issue') AS "Issues"
+FROM event WHERE is_sure AND what IN ('seat', 'issue')
+GROUP BY substr(time, 1, 7)
+ORDER BY 1 DESC;
+
+-- list: differs
+-- title: Status or place differs from the last file
+-- about: Units whose status or place is another than in the file that was imported last from their source on the desk's page. An
+--     import changes neither of a unit that it knows: change it at the desk, or in the catalogue.
+WITH parent AS (
+    SELECT place.unit, unit.source, unit.legacy FROM place LEFT JOIN unit ON unit.id = place.parent
+),
+known AS (
+    SELECT unit.id, unit.source, unit.legacy, unit.draft, last_row.draft AS draft_of_file, last_row.parent AS parent_of_file,
+        CASE WHEN parent.legacy IS NULL OR parent.source = unit.source THEN coalesce(parent.legacy, '')
+            ELSE parent.legacy || ' of ' || parent.source END AS above
+    FROM unit JOIN last_row USING (source, legacy) JOIN parent ON parent.unit = unit.id
+),
+found AS (
+    SELECT id, 'status' AS what, iif(draft, 'draft', 'published') AS office, iif(draft_of_file, 'draft', 'published') AS file
+    FROM known WHERE draft <> draft_of_file
+    UNION ALL
+    SELECT id, 'parentId', above, parent_of_file FROM known WHERE above <> parent_of_file
+)
+SELECT unit.source AS "Source", unit.legacy AS "legacyId", unit.id AS "Unit", place.code AS "Code", title(unit.id) AS "Title",
+    found.what AS "What", found.office AS "In the office", found.file AS "In the file"
+FROM found JOIN unit USING (id) JOIN place ON place.unit = unit.id
+ORDER BY place.number, found.what;
 
 -- The lists from here on need a file of a source: record-office-lists --source SOURCE --file FILE. The tables row_of_file
 -- (legacy) and box_of_file (name, location, kind) have what the file names, and source has the name of the source.

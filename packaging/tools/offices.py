@@ -5,12 +5,15 @@ import fcntl
 import os
 import pathlib
 import pwd
+import shlex
 import subprocess
 import sys
 
 SETTINGS = pathlib.Path("/etc/record-office")
+SITES = pathlib.Path("/etc/nginx/sites-available")
 FIRST_PORT = 8080  # of the first office's pages for readers
 PROGRAM, TO_DESK, TO_GATE = 10, 12, 13  # the ports of the program and of its queue, counted from that
+MARKS = pathlib.Path("/run/record-office")  # notes that are gone when the machine starts again
 
 
 class Trouble(Exception):
@@ -22,29 +25,49 @@ class Office:
 
     def __init__(self, name=None):
         named = f"record-office-{name}" if name else "record-office"
+        self.name = name
+        self.settings = SETTINGS / name if name else SETTINGS
         self.folder = pathlib.Path("/var/lib", named)
         self.store = self.folder / "office.db"
         self.copies = pathlib.Path("/var/backups", named)
         self.lists = pathlib.Path("/var/cache", named, "lists")
+        self.index = pathlib.Path(f"/var/cache/record-office-readers{f'-{name}' if name else ''}/index.db")  # of the search
+        self.register = self.folder / "register.db"
+        self.log = pathlib.Path(f"/var/log/nginx/record-office-desk{f'-{name}' if name else ''}.log")
+        self.files = pathlib.Path(f"/var/lib/record-office-try{f'-{name}' if name else ''}")  # the last file of each source
         self.unit = f"record-office@{name}.service" if name else "record-office.service"
+        self.resume = MARKS / f"resume-{self.unit}"  # while it is there, a tool has stopped the program and owes its start
         if not self.folder.is_dir():
             raise Trouble(f"there is no folder {self.folder}")
         self.owner = pwd.getpwuid(self.folder.stat().st_uid)
         self.port = port_of(name) if name else FIRST_PORT
 
-    def as_owner(self, *words):
-        """Runs a command as the user of the office, in the folder of the office, and returns what it printed."""
+    def as_owner(self, *words, said=None):
+        """Runs a command that reads `said` as the user of the office, in its folder, and returns what it printed."""
         words = [str(word) for word in words]
         command = ["runuser", "-u", self.owner.pw_name, "--", *words]
-        done = subprocess.run(command, cwd=self.folder, text=True, capture_output=True)
-        said = (done.stdout + done.stderr).strip()
+        done = subprocess.run(command, cwd=self.folder, input=said, text=True, capture_output=True)
+        told = (done.stdout + done.stderr).strip()
         if done.returncode:
-            raise Trouble(f"{' '.join(words)}: {said or done.returncode}")
-        return said
+            raise Trouble(f"{' '.join(words)}: {told or done.returncode}")
+        return told
 
     def make_folder(self, path):
         """Makes a folder that only the user of the office can read."""
         subprocess.run(["install", "-d", "-o", self.owner.pw_name, "-g", str(self.owner.pw_gid), "-m", "700", path], check=True)
+
+    def unit_of(self, part):
+        """The unit of another part of the office, such as `queue`."""
+        return self.unit.replace("record-office", f"record-office-{part}", 1)
+
+    def told(self, part):
+        """The mark that it was told that a part has failed."""
+        return MARKS / f"told-{self.unit_of(part)}"
+
+    def make_lists_folder(self):
+        """Makes the folder whose files the desk's site shows."""
+        subprocess.run(["install", "-d", "-m", "755", self.lists.parent], check=True)
+        subprocess.run(["install", "-d", "-o", self.owner.pw_name, "-g", "www-data", "-m", "2750", self.lists], check=True)
 
     def check(self, path):
         """Checks that a file is a sound office. Leaves no log beside it."""
@@ -59,7 +82,7 @@ class Office:
         try:
             fcntl.flock(self.locked, fcntl.LOCK_EX | fcntl.LOCK_NB)
         except BlockingIOError:
-            raise Trouble(f"a backup or a restore of {self.folder} is running") from None
+            raise Trouble(f"another tool is at work on {self.folder}") from None
 
     def state(self):
         """The state of the unit, such as `active` or `inactive`."""
@@ -82,12 +105,30 @@ def added():
     return sorted(path.parent.name for path in SETTINGS.glob("*/port"))
 
 
+def name_of(unit):
+    """The name of the office that a unit belongs to; None for the first one."""
+    return unit.partition("@")[2].removesuffix(".service") or None
+
+
 def port_of(name):
     """The port of an added office's pages for readers."""
     try:
         return int((SETTINGS / name / "port").read_text(encoding="ascii"))
     except FileNotFoundError:
         raise Trouble(f"there is no office {name}: {SETTINGS / name / 'port'} is not there") from None
+
+
+def conf_of(office, name, file="alarm.conf"):
+    """A setting of the operator's, from a file of NAME=VALUE as systemd reads them; None if it is not set."""
+    path = office.settings / file
+    for line in path.read_text(encoding="utf-8").splitlines() if path.exists() else ():
+        try:
+            words = shlex.split(line, comments=True)
+        except ValueError as wrong:
+            raise Trouble(f"{path}: {wrong}: {line}") from None
+        if words and words[0].startswith(f"{name}="):
+            return words[0].partition("=")[2] or None
+    return None
 
 
 def log_of(store):
@@ -108,10 +149,15 @@ def of_an_office(text):
 
 
 def run(main):
-    """Runs the tool. What went wrong is printed on standard error, and the status is 1."""
+    """Runs the tool, which may return its exit status. What went wrong is printed on standard error, and the status is 1."""
     if os.geteuid() != 0:
         sys.exit("run this as root")
+    status = 0
     try:
-        main()
+        status = main()
+        sys.stdout.flush()
+    except BrokenPipeError:  # whoever reads has seen enough
+        os.dup2(os.open(os.devnull, os.O_WRONLY), sys.stdout.fileno())
     except (Trouble, OSError, subprocess.CalledProcessError) as wrong:
         sys.exit(f"{pathlib.Path(sys.argv[0]).name}: {wrong}")
+    sys.exit(status)

@@ -1,10 +1,10 @@
 #!/usr/bin/env bash
-# try.sh calls this inside its booted root once there is an office: the unit of the search in all archives. It answers by the site;
-# stopped, nothing else changes; and what its hardening promises holds for a process that is begun as the service is.
+# try.sh calls this inside its booted root once there is an office: the service of the readers' pages and their search. It answers
+# by the site; stopped, nothing else changes; and what its hardening promises holds for a process that is begun as the service is.
 set -uo pipefail
 readers=http://127.0.0.1:8080
 desk=http://127.0.0.1:8081
-unit=record-office-search
+unit=record-office-readers
 drop_in=/run/systemd/system/$unit.service.d
 
 . "$(dirname "$0")/try_checks.sh"
@@ -25,14 +25,16 @@ answers() {
     is 'the search finds a word of the first archive' found "$(word)"
     same 'the box is there: a question without words is answered' "$(status "$readers/public/search?")" 200
     same 'nginx logs no search' "$(grep -c /public/search /var/log/nginx/access.log)" 0
+    same 'of an address it logs the network' "$(grep -cv '^\(127\.0\.0\|0\.0\.0\)\.0 ' /var/log/nginx/access.log)" 0
 }
 
 stops() {
     systemctl stop $unit
     same 'stopped it is not there' "$(systemctl is-active $unit)" inactive
-    same 'then a search is not reached, and the pages have no box' "$(curl -s "$readers/public/search?q=x")" '{"error":"not reached"}'
-    same 'pages, questions and the desk go on' \
-        "$(status $readers/) $(status $readers/public/fonds) $(status $readers/public/units/1) $(status -u desk:quiet-paper $desk/desk/issued)" '200 200 200 200'
+    same 'then pages and searches are away, and readers are told so' \
+        "$(status $readers/) $(status "$readers/public/search?q=x") $(curl -s $readers/ | grep -q 'not there just now' && echo told)" '503 503 told'
+    same 'questions of other programs and the desk go on' \
+        "$(status $readers/public/fonds) $(status $readers/public/units/1) $(status -u desk:quiet-paper $desk/desk/issued)" '200 200 200'
     same 'so do program and queue' "$(systemctl is-active record-office record-office-queue | xargs)" 'active active'
     systemctl start $unit
     is 'begun again it answers' found "$(word)"
@@ -46,7 +48,7 @@ stops() {
 
 # What a process may do that is begun as the service is: a line each.
 probe() {
-    cat >/usr/local/lib/try_search_probe.py <<'PROBE'
+    cat >/usr/local/lib/try_readers_probe.py <<'PROBE'
 import ctypes, mmap, os, pathlib, socket
 
 def tried(what, act):
@@ -70,20 +72,21 @@ tried("home", lambda: len(os.listdir("/root")) > 0)
 tried("execute", lambda: mmap.mmap(-1, 4096, prot=mmap.PROT_READ | mmap.PROT_WRITE | mmap.PROT_EXEC).close())
 tried("unshare", lambda: ctypes.CDLL(None).unshare(0x10000000) == 0)
 tried("root", lambda: os.getuid() == 0)
-tried("queue", lambda: socket.socket(socket.AF_UNIX).connect("/run/record-office-queue/search.sock"))
-print("interfaces", *sorted(os.listdir("/sys/class/net")))
+tried("queue", lambda: socket.socket(socket.AF_UNIX).connect("/run/record-office-queue/readers.sock"))
+print("interfaces", *(line.split(":")[0].strip() for line in open("/proc/self/net/dev").readlines()[2:]))
 PROBE
     mkdir -p $drop_in
-    printf '[Service]\nExecStartPre=/bin/sh -c "/usr/bin/python3 /usr/local/lib/try_search_probe.py >${CACHE_DIRECTORY}/probe"\n' >$drop_in/probe.conf
+    printf '[Service]\nExecStartPre=/bin/sh -c "/usr/bin/python3 /usr/local/lib/try_readers_probe.py >${CACHE_DIRECTORY}/probe"\n' >$drop_in/probe.conf
     systemctl daemon-reload
     systemctl restart $unit
     cp /var/cache/$unit/probe /tmp/probe
-    rm -r $drop_in /usr/local/lib/try_search_probe.py /var/cache/$unit/probe
+    rm -r $drop_in /usr/local/lib/try_readers_probe.py /var/cache/$unit/probe
     systemctl daemon-reload
     systemctl restart $unit
 }
 
 hardened() {
+    is 'there is more of a network than loopback' ip link show outside
     probe
     same 'of sockets it may make those of the file system alone' "$(grep -E '^(unix|inet|inet6|netlink|packet) ' /tmp/probe | xargs)" \
         'unix may inet may not inet6 may not netlink may not packet may not'

@@ -1,0 +1,99 @@
+#!/usr/bin/env bash
+# try.sh calls this inside its booted root once there is an office: a reader is erased, and boxes get other places.
+set -uo pipefail
+office=/var/lib/record-office/office.db
+copy=/var/backups/record-office/office-$(date +%F).db
+lists=/var/cache/record-office/lists
+desk=http://127.0.0.1:8081
+
+. "$(dirname "$0")/try_checks.sh"
+
+# ask PATH [BODY]: the answer at the desk
+ask() { curl -s -u desk:quiet-paper ${2+-d "$2"} "$desk/desk/$1"; }
+
+# What the newest copy tells: query SQL
+query() {
+    systemctl start record-office-backup
+    sqlite3 "$copy" "$1"
+}
+
+# A reader who has a closed box by a permit, and whose name stands in a list, a copy and an office that was put aside.
+reader() {
+    local ticket
+    ticket=$(ask register '{"name":"Zephyrine","until":"2030-12-31"}' | tr -cd 0-9)
+    ask closure '{"unit":2,"until":"2030-01-01"}' >/tmp/said
+    ask permit "{\"ticket\":$ticket,\"unit\":2,\"until\":\"2030-01-01\"}" >/tmp/said
+    curl -s -u desk:quiet-paper -d "{\"ticket\":$ticket,\"container\":1}" $desk/public/orders >/tmp/said
+    ask run '' >/tmp/said
+    ask seat "{\"ticket\":$ticket}" >/tmp/said
+    same 'the box is out by permit' "$(ask issue "{\"ticket\":$ticket,\"container\":1}" | cut -c1-9)" '{"order":'
+    is 'then the reader is not erased' sh -c "! record-office-erase $ticket"
+    cp /tmp/out /tmp/said
+    is 'and it is said why' grep "ticket $ticket has containers out.*: 1$" /tmp/said
+    same 'the office is as it was' "$(ask "readers/$ticket" | grep -c Zephyrine)" 1
+    is 'a ticket that is not there is none to erase' sh -c '! record-office-erase 900'
+    ask return '{"container":1}' >/tmp/said
+    ask reshelve '' >/tmp/said
+    systemctl start record-office-backup
+    record-office-restore "$copy" >/tmp/said
+    is 'the reader is erased' record-office-erase "$ticket"
+    cp /tmp/out /tmp/said
+    for place in "$copy " "$lists/readers.html " "${office%/*}/replaced-"; do is "it is said that the name is in $place" grep "the name is still in $place" /tmp/said; done
+    same 'the file has the name no more' "$(cat $office* | grep -c Zephyrine)" 0
+    same 'nor a permit' "$(ask "permits/$ticket")" '[]'
+    same 'with the ticket nobody can order' "$(curl -s -u desk:quiet-paper -d "{\"ticket\":$ticket,\"container\":2}" $desk/public/orders | grep -o '"code":[0-9]*')" '"code":4'
+    rm -r "${office%/*}"/replaced-*
+    same 'the next backup has it no more, nor have its lists' "$(query "SELECT name FROM reader WHERE ticket = $ticket") $(grep -l Zephyrine $lists/* | wc -l)" 'erased 0'
+    is 'what is in the folder of the office is the office and its register' sh -c "! ls ${office%/*} | grep -v '^office.db\|^register.db\$'"
+    is 'who was here, by the log of the front' grep -q "^$(date +%F),$ticket,erased,..:..,desk," $lists/visits.csv
+    is 'who gave what to whom' grep -q "^$(date +%F),1,Box 1,$ticket,erased,..:..,desk,$(date +%F),..:..,desk" $lists/handed.csv
+    ask closure '{"unit":2,"until":null}' >/tmp/said
+}
+
+# What an import would change is answered at the desk, by a service that cannot reach the office; a file that was imported is kept,
+# and the next lists tell what differs from it.
+tries() {
+    local answer pid
+    sed 's/Minutes/Minute books/; s/,Letters of the secretary,Series,Draft,/,Letters of the secretary,Series,Published,/' /root/boxes.csv >/root/tried.csv
+    answer=$(curl -s -u desk:quiet-paper --data-binary @/root/tried.csv $desk/try/differences/catalogue)
+    is 'a changed title is told' sh -c "printf %s '$answer' | grep '\"Title\", \"Minutes\", \"Minute books\"'"
+    is 'so is a status that stays' sh -c "printf %s '$answer' | grep '\"publicationStatus\", \"draft\", \"published\"'"
+    is 'the office is as it was' sh -c "curl -s $desk/public/units/2 -u desk:quiet-paper | grep Minutes"
+    pid=$(systemctl show -p MainPID --value record-office-try)
+    is 'the service does not see the office' sh -c "test ! -e /proc/$pid/root$office"
+    is 'it has no network' sh -c "nsenter -t $pid -n ip -br link 2>/dev/null | grep -vq '^lo' && exit 1; exit 0"
+    same 'a file is kept' "$(curl -s -u desk:quiet-paper --data-binary @/root/tried.csv $desk/try/imported/catalogue)" '{"kept": "catalogue"}'
+    systemctl start record-office-backup
+    is 'the list of what differs from it' grep -q '^catalogue,4,4,.*,status,draft,published' $lists/differs.csv
+}
+
+# Boxes keep their numbers when a file of old and new places is given before the import.
+boxes() {
+    local before
+    before=$(query 'SELECT count(*) FROM container')
+    printf 'name,location,newName,newLocation\nBox 1,Strongroom 2,Box 2,Strongroom 1\nBox 2,Strongroom 1,Box 1,Strongroom 2\nBox 3,Strongroom 1,,Strongroom 8\n' >/root/moved.csv
+    is 'boxes get new places, two of them each other'"'s" record-office-relocate /root/moved.csv
+    same 'under their numbers' "$(query 'SELECT id, name, location FROM container WHERE id < 4' | xargs)" \
+        '1|Box 2|Strongroom 1 2|Box 1|Strongroom 2 3|Box 3|Strongroom 8'
+    sed 's/Box 3,Strongroom 1/Box 3,Strongroom 8/; s/Box 1,Strongroom 2/Box 9,x/; s/Box 2,Strongroom 1/Box 1,Strongroom 2/; s/Box 9,x/Box 2,Strongroom 1/' /root/boxes.csv >/root/now.csv
+    same 'an import with these places changes nothing' "$(curl -s -u desk:quiet-paper --data-binary @/root/now.csv $desk/desk/import/catalogue | grep -o '"new":0')" '"new":0'
+    same 'and makes no new number' "$(query 'SELECT count(*) FROM container')" "$before"
+    printf 'name,location,newLocation\nBox 3,Strongroom 8,Strongroom 1\nBox 3,Strongroom 7,Strongroom 1\n' >/root/wrong.csv
+    is 'a box that is not there: no row is done' sh -c '! record-office-relocate /root/wrong.csv && grep -q "row 3: there is no box" /tmp/out'
+    printf 'name,location,newName,newLocation\nBox 3,Strongroom 8,Box 1,Strongroom 2\n' >/root/wrong.csv
+    is 'a place that another box has is refused' sh -c '! record-office-relocate /root/wrong.csv && grep -q "row 2: box 2 is at the new place" /tmp/out'
+    for wrong in 'name,place\nx,y\n' 'name,location,newName\n\377\n' ''; do
+        # shellcheck disable=SC2059
+        printf "$wrong" >/root/wrong.csv
+        is 'a file of another kind is refused in a sentence' sh -c '! record-office-relocate /root/wrong.csv && test "$(wc -l </tmp/out)" = 1'
+    done
+    same 'nothing was changed' "$(query 'SELECT location FROM container WHERE id = 3')" 'Strongroom 8'
+    record-office-relocate /root/missing.csv >/tmp/said 2>&1
+    same 'a file that is missing is said too' "$(cat /tmp/said)" "record-office-relocate: [Errno 2] No such file or directory: '/root/missing.csv'"
+    printf 'newName,newLocation,name,location\nBox 1,Strongroom 2,Box 2,Strongroom 1\nBox 2,Strongroom 1,Box 1,Strongroom 2\nBox 3,Strongroom 1,Box 3,Strongroom 8\n' >/root/back.csv
+    is 'all goes back' record-office-relocate /root/back.csv
+}
+
+reader
+tries
+boxes
