@@ -312,11 +312,14 @@ def program_options(text):
     return words
 
 
+def usual_room(in_memory=True):
+    """Where stores are made: in memory, where no sync waits for a disk, or where temporary files are."""
+    return MEMORY if in_memory and os.access(MEMORY, os.W_OK) else Path(tempfile.gettempdir())
+
+
 def options(text, in_memory=True):
-    """The same for a script that makes stores: in memory, where no sync waits for a disk, or where temporary files
-    are."""
-    words = program_options(text)
-    room = MEMORY if in_memory and os.access(MEMORY, os.W_OK) else Path(tempfile.gettempdir())
+    """The same for a script that makes stores."""
+    words, room = program_options(text), usual_room(in_memory)
     told = f"where stores are made; else {room}"
     words.add_argument("--room", type=Path, default=room, metavar="DIRECTORY", help=told)
     return words

@@ -9,6 +9,8 @@ leave. The last line is `N passed, M failed`."""
 
 import csv
 import html.parser
+import json
+import os
 import pathlib
 import subprocess
 import sys
@@ -50,6 +52,7 @@ COMMANDS = [
     ("closure", {"unit": 3, "until": "2024-04-01"}, 200),
     ("closure", {"unit": 8, "until": "2030-01-01"}, 200),
     ("permit", {"ticket": 2, "unit": 3, "until": "2024-03-20"}, 200),
+    ("permit", {"ticket": 2, "unit": 1, "until": "2024-03-25"}, 200),
     ("status", {"unit": 5, "status": "draft", "branch": False}, 200),
     ("import/a", MOVED, 200),
     ("import/b", OTHER, 200),
@@ -60,6 +63,46 @@ COMMANDS = [
     ("return", {"container": 5}, 200),
     ("reshelve", "", 200),
     ("run", "", 409),
+]
+
+
+# An office in which two orders wait for a week and two for a day, one has ended, and one is out; what the desk's log has of
+# it; and a last file of its source.
+OLD = COLUMNS + """1,,A,Docks,Fonds,Published,,
+2,1,1,Maps,Series,Published,Box 1,Room 1
+3,1,2,Deeds,Series,Published,Box 2,Room 1
+4,1,3,Plans,Series,Published,Box 3,Room 1
+5,1,4,Rolls,Series,Published,Box 4,Room 1
+"""
+OLD_DAYS = [
+    ("import/a", OLD, 200),
+    ("register", {"name": "Ann", "until": "2030-12-31"}, 200),
+    ("register", {"name": "=Ben", "until": "2030-12-31"}, 200),
+    ("orders", {"ticket": 1, "container": 1}, 200),
+    ("orders", {"ticket": 2, "container": 4}, 200),
+    ("run", "", 200),
+    ("orders", {"ticket": 1, "container": 4}, 200),
+    ("cancel", {"order": 3}, 200),
+    ("orders", {"ticket": 1, "container": 2}, 200),
+    ("day", {"day": "2024-03-08"}, 200),
+    ("orders", {"ticket": 2, "container": 3}, 200),
+    ("run", "", 200),
+    ("orders", {"ticket": 2, "container": 2}, 200),
+    ("status", {"unit": 3, "status": "draft", "branch": False}, 200),
+    ("move", {"unit": 4, "parent": 2}, 200),
+    ("day", {"day": "2024-03-09"}, 200),
+    ("seat", {"ticket": 2}, 200),
+    ("issue", {"ticket": 2, "container": 4}, 200),
+]
+LAST_FILE = OLD.replace("Deeds,Series,Published", "Deeds,Series,published").replace(
+    "Plans,Series,Published", "Plans,Series,yes") + "2,1,9,Again,Series,Draft,,\n"
+LOG = [
+    ("seat", '{"ticket":1}', "200", "ann"), ("issue", '{"container":1,"ticket":1}', "200", "ann"),
+    ("issue", '{"container":2,"ticket":1}', "200", "bob"), ("issue", '{"container":3,"ticket":1}', "409", "ann"),
+    ("return", '{"container":2}', "200", "ann"), ("return", '{"container":1}', "504", "bob"),
+    ("leave", '{"ticket":1}', "200", "bob"), ("seat", '{"ticket":2}', "200", "bob"),
+    ("day", '{"day":"2024-03-09"}', "200", "ann"),
+    ("seat", '{"ticket":1}', "200", "ann"), ("seat", '{"ticket":"1"}', "200", "ann"), ("cancel", '{"order":1}', "200", "ann"),
 ]
 
 
@@ -96,10 +139,15 @@ def make_office(program, room, checks):
     return office
 
 
+def run_lists(copy, folder, *words, stdout=subprocess.PIPE):
+    """How record-office-lists ended over a copy of an office, and what it printed."""
+    command = [LISTS / "record-office-lists", copy, folder, "--sql", LISTS / "lists.sql", *words]
+    return subprocess.run(command, stdout=stdout, stderr=subprocess.PIPE, check=False)
+
+
 def make_lists(copy, folder, *words):
     """Writes the lists of a copy of an office; raises CalledProcessError if record-office-lists fails."""
-    command = [LISTS / "record-office-lists", copy, folder, "--sql", LISTS / "lists.sql", *words]
-    subprocess.run(command, check=True, capture_output=True)
+    run_lists(copy, folder, *words).check_returncode()
 
 
 def rows_of(path):
@@ -121,7 +169,7 @@ def check_lists(checks, folder, waiting):
                 [("2024-04-01", "3", f"'{FORMULA}")])
     columns = "Last day", "Ticket", "Reader", "Unit", "Closed until"
     checks.same("permits that end soon", columns_of(folder, "permits", *columns),
-                [("2024-03-20", "2", "'+Ben", "3", "2024-04-01")])
+                [("2024-03-20", "2", "'+Ben", "3", "2024-04-01"), ("2024-03-25", "2", "'+Ben", "1", "2030-01-01")])
     columns = ("Order", "Reader", "Why", "Containers of the same name")
     checks.same("orders that no run can fetch", columns_of(folder, "waiting", *columns), [
         ("1", "<i>Ann</i>", "unit 3 in it is closed until 2024-04-01, and the reader has no permit", ""),
@@ -133,6 +181,8 @@ def check_lists(checks, folder, waiting):
     checks.same("and these are what the runs left", unfetched, waiting)
     checks.same("boxes that archives share", columns_of(folder, "shared", "Container", "Name", "Archive", "Unit"),
                 [("5", "Box 5", "GB 0999 A", "1"), ("5", "Box 5", "GB 0999 B", "9")])
+    checks.same("boxes that no unit names", columns_of(folder, "unnamed", "Container", "Name", "Location", "Orders"),
+                [("4", "Box 4", "Room 1", "1")])
     checks.same("who had a box", columns_of(folder, "readers", "Container", "Order", "Ordered on", "Reader", "State"),
                 [("5", "5", "2024-03-01", "<i>Ann</i>", "returned")])
     figures = "Tickets", "Orders", "Cancelled", "Productions"
@@ -144,6 +194,77 @@ def check_lists(checks, folder, waiting):
                 [("4",), ("5",), ("6",), ("7",), ("8",)])
     checks.same("boxes that it does not name", columns_of(folder, "boxes-without-row-a", "Name", "Location"),
                 [("Box 3", "Room 1"), ("Box 5", "Room 1"), ("Box 6", "Room 1"), ("Box 4", "Room 9")])
+
+
+def make_old_office(program, room, checks):
+    """An office whose orders are old, with a last file of its source, and a register into which the log was read twice."""
+    (room / "old").mkdir()
+    office = client.Office.create(program, room / "old/office.db", SETTINGS)
+    ended = office.talk(*(client.post(client.path_of(word), body) for word, body, _ in OLD_DAYS))
+    statuses = [reply.status for reply in client.replies(ended.output)]
+    checks.same("the answers of the old office", statuses, [status for _, _, status in OLD_DAYS])
+    (room / "files").mkdir()
+    (room / "files/a.csv").write_text(LAST_FILE)
+    (room / "files/.b.new").write_text("no file of a source")
+    lines = [json.dumps({"id": f"{number:032x}", "at": f"{1709280000 + number}.5", "time": f"2024-03-01T09:{number:02}:00+00:00",
+                         "staff": staff, "path": f"/desk/{command}", "asked": asked, "status": status})
+             for number, (command, asked, status, staff) in enumerate(LOG)]
+    said = "\n".join([*lines, lines[0][:50], "", "no JSON"]).encode()
+    for wanted in (b"9 new\n", b"0 new\n"):
+        ended = subprocess.run([LISTS / "record-office-register", room / "register.db"], input=said, capture_output=True, check=True)
+        checks.same("what the register has taken in", ended.stdout, wanted)
+    return office
+
+
+def check_old_lists(checks, folder):
+    """What waits long, stands at the desk for nobody, and differs from the last file; and who was here."""
+    columns = "Order", "Days", "Reader", "Container", "Where"
+    checks.same("orders that wait long", columns_of(folder, "long-waiting", *columns),
+                [("1", "8", "Ann", "1", "at the desk"), ("4", "8", "Ann", "2", "at the desk")])
+    columns = "Container", "Last ordered on", "Days", "Orders that wait"
+    checks.same("boxes that nobody has asked for", columns_of(folder, "idle", *columns), [("1", "2024-03-01", "8", "1")])
+    columns = "legacyId", "Unit", "What", "In the office", "In the file"
+    checks.same("what differs from the last file", columns_of(folder, "differs", *columns),
+                [("4", "4", "parentId", "2", "1"), ("4", "4", "status", "published", "draft"),
+                 ("3", "3", "status", "draft", "published")])
+    columns = "Day", "Ticket", "Reader", "Came", "Seat given by", "Left", "Seat freed by"
+    checks.same("who was here", columns_of(folder, "visits", *columns), [
+        ("2024-03-01", "1", "Ann", "09:09", "ann", "", ""),
+        ("2024-03-01", "2", "'=Ben", "09:07", "bob", "09:08", "ann"),
+        ("2024-03-01", "1", "Ann", "09:00", "ann", "09:06", "bob"),
+    ])
+    columns = "Container", "Name", "Ticket", "Issued", "Issued by", "Returned", "Taken back by"
+    checks.same("who gave what to whom", columns_of(folder, "handed", *columns),
+                [("2", "Box 2", "1", "09:02", "bob", "09:04", "ann"), ("1", "Box 1", "1", "09:01", "ann", "09:05?", "bob")])
+    checks.same("visits by month", columns_of(folder, "visit-months", "Month", "Visits", "Tickets", "Issues"),
+                [("2024-03", "3", "2", "2")])
+
+
+def check_sentences(checks, store, room):
+    """What cannot be read is said in a sentence, and a pipe that is closed in none."""
+    wrong = {"none.csv": None, "utf16.csv": NEWEST.encode("utf-16"), "other.csv": b"a,b\n1,2\n", "newest.csv": NEWEST.encode(),
+             "text.db": b"no office " * 500, "empty.db": b""}
+    for name, content in wrong.items():
+        if content is not None:
+            (room / name).write_bytes(content)
+    cases = [
+        (store, "c", "newest.csv", "the office has no source c; it has: a, b"),
+        (store, "a", "none.csv", f"{room}/none.csv: No such file or directory"),
+        (store, "a", "utf16.csv", f"{room}/utf16.csv is no CSV file in UTF-8: "),
+        (store, "a", "other.csv", f"{room}/other.csv: there is no column legacyId"),
+        (room / "text.db", "a", "newest.csv", f"{room}/text.db is no copy of an office, or it is damaged: "),
+        (room / "empty.db", "a", "newest.csv", f"{room}/empty.db is no copy of an office, or it is damaged: "),
+        (room / "none.db", "a", "newest.csv", f"{room}/none.db is no copy of an office, or it is damaged: "),
+    ]
+    for copy, source, file, sentence in cases:
+        ended = run_lists(copy, room, "--source", source, "--file", room / file)
+        lines = ended.stderr.decode().splitlines()
+        checks.same(f"what is said of {copy.name} and {file}, {source}", (ended.returncode, len(lines), lines[0][:len(sentence)]),
+                    (1, 1, sentence))
+    reads, writes = os.pipe()
+    os.close(reads)
+    checks.same("what is said to a closed pipe", run_lists(store, room, stdout=writes).stderr, b"")
+    os.close(writes)
 
 
 def check_pages(checks, folder):
@@ -182,6 +303,10 @@ def main():
         make_lists(office.store, folder)
         check_lists(checks, folder, waiting_orders(office))
         check_pages(checks, folder)
+        old = make_old_office(given.program, room, checks)
+        make_lists(old.store, room / "old", "--files", room / "files", "--register", room / "register.db")
+        check_old_lists(checks, room / "old")
+        check_sentences(checks, office.store, room)
     return checks.finish()
 
 

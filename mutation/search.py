@@ -1,5 +1,5 @@
 #!/usr/bin/env python3
-"""Plants faults in the search in all archives, one at a time in a copy of front/search, and sees whether a check fails:
+"""Plants faults in the search in all archives, one at a time in a copy of front/readers, and sees whether a check fails:
 
     mutation/search.py [--program PROGRAM] [--only PART_OF_NAME] [--dry]
 
@@ -29,37 +29,59 @@ LATE = "only late: "
 FAULTS = [
     ("a candidate is not looked at for its words", "answers.py", "not self.query.holds(page.head, lines) or", "",
      "sessions"),
-    ("a candidate is not looked at for its years", "answers.py", " or not self.query.meets(years_of(lines))", "",
+    ("a candidate is not looked at for its years", "answers.py", "return self.query.meets(years) and not", "return not",
      "sessions"),
-    ("a candidate is not looked at for its archive", "answers.py", "if self.query.top is not None and (way",
+    ("a candidate is not looked at for where it is", "answers.py", "if self.query.within is not None and (way",
      "if False and (way", "sessions"),
     ("the way up is taken from the index", "answers.py",
      "if page is None or all(below != at for below, _ in page.units):", "if page is None:", "sessions"),
     ("what is found above counts as own", "answers.py", "lines = page and page.own_lines(odd)",
      "lines = page and page.lines", "sessions"),
-    ("one of the words is enough", "answers.py", "return all(any(folding", "return any(any(folding", "sessions"),
-    ("`more` is told without another hit", "answers.py", "if hit and len(self.units) == self.shown:",
-     "if len(self.units) == self.shown:", "bounds"),
+    ("one of the words is enough", "answers.py", "return all(folding", "return any(folding", "sessions"),
+    ("`more` is told without another hit", "answers.py", "            if hit:\n                self.count += 1\n",
+     "            if True:\n                self.count += 1\n", "bounds"),
     ("the place to go on tells of a refused candidate", "answers.py",
-     "            if hit:\n                self.units.append(hit)\n                self.after = place",
-     "            self.after = place\n            if hit:\n                self.units.append(hit)", "pairs"),
+     "                self.after = place", "            self.after = place", "pairs"),
+    ("a unit is shown at a year that it no longer has", "answers.py",
+     " and not (self.query.by_date and first != place[0])", "", "sessions"),
+    ("all that is found is counted", "answers.py", "self.count > max(COUNTED, self.shown)", "False", "bounds"),
+    ("what comes after the first page is counted too", "answers.py", "self.query.after != START or ", "",
+     "only slow: the number is not shown"),
+    ("what is gone is not told apart", "answers.py", "self.gone.add(number)", "self.doubts.add(number)", "bounds"),
+    ("what is offered finds nothing", "offers.py", "        if hit:\n", "        if True:\n", "files"),
+    ("an offer is written as the index has it", "offers.py", "if [word] in folding.readings_of(piece)", "if False", "files"),
+    ("what is written in quotation marks is changed", "offers.py", "if any(folding.QUOTES", "if False and any(folding.QUOTES",
+     "files"),
+    ("one address takes all places", "turns.py", "OWN if share == 1 else PLACES", "PLACES", "turns"),
+    ("who has taken most goes first", "turns.py", "round(self._spent(one[2]), 1)", "-round(self._spent(one[2]), 1)", "turns"),
+    ("what was taken is not counted", "turns.py", "                self._count(who, (time.monotonic() - began) / share)\n", "",
+     "turns"),
+    ("costly searches go first", "turns.py", "one[:2])", "(not one[0], one[1]))", "turns"),
+    ("addresses of one network count by themselves", "turns.py", "if its.version == 4 else", "if True else", "turns"),
     ("no bound on the looks", "answers.py", "if self.looked == LOOKS:", "if False:", "bounds"),
     ("the list of fonds is not asked", "answers.py",
-     'self.tops = {top for top, _ in read_fonds(self.ask("/public/fonds") or "")}', "self.tops = set()", "bounds"),
+     'self.fonds = read_fonds(self.ask("/public/fonds") or "")', "self.fonds = []", "bounds"),
     ("an excerpt begins after its first mark", "answers.py", "begin = max(0, places[0][0] - BEFORE)",
      "begin = places[0][1] + 1", "bounds"),
     ("heads do not come first", "index.py", 'enumerate((in_head, f"({wanted}) NOT {in_head}"))',
      'enumerate((wanted, "zzzzzz"))', "sessions"),
     ("the last unit is shown again", "index.py", "words.rowid > ?{limits}", "words.rowid >= ?{limits}", "sessions"),
-    ("going on begins with the heads again", "index.py", "if after[0] <= group:", "if True:", "sessions"),
-    ("changed words are not written", "index.py", "    if own != node.own:\n", "    if own is None:\n", "sessions"),
+    ("going on begins with the heads again", "index.py", "if query.after[0] <= group:", "if True:", "sessions"),
+    ("changed words are not written", "index.py", "if own != node.own or", "if own is None or", "sessions"),
     ("own values that look like others' are forgotten", "index.py",
      'return found and (found[0], (found[1] or "").split("\\n"))', "return found and (found[0], [])", "sessions"),
-    ("years change places", "index.py", '("unit.last >= ?", first), ("unit.first <= ?", last)',
-     '("unit.first >= ?", first), ("unit.last <= ?", last)', "sessions"),
+    ("years change places", "index.py", '("unit.last >= ?", query.first), ("unit.first <= ?", query.last)',
+     '("unit.first >= ?", query.first), ("unit.last <= ?", query.last)', "sessions"),
     ("what is gone stays", "index.py", 'db.execute("DELETE FROM unit WHERE gone")', "pass", "sessions"),
     ("words of what is gone stay", "index.py",
-     'db.execute("DELETE FROM words WHERE rowid IN (SELECT n FROM unit WHERE gone)")', "pass", "sessions"),
+     'forget_words(db, db.execute("SELECT top, n FROM unit WHERE gone").fetchall())', "pass", "sessions"),
+    ("parts of the index are not put together", "index.py", "if changed == 2:", "if False:", "files"),
+    ("the log is kept", "index.py", 'db.execute("PRAGMA wal_checkpoint(TRUNCATE)").fetchone()[0] == 0', "True", "files"),
+    ("what is deleted is not written over", "index.py", "secure_delete = ON", "secure_delete = OFF", "files"),
+    ("the vocabulary keeps what was forgotten", "index.py", 'db.execute("DELETE FROM vocabulary")', "pass", "files"),
+    ("a unit in another archive keeps its row", "index.py", "if own != node.own or before[0] != top:",
+     "if own != node.own:", "sessions"),
+    ("what an answer finds gone stays in the index", "index.py", "            forget_words(db, found)\n", "", "files"),
     ("archives that are gone stay", "index.py", 'db.execute("UPDATE unit SET gone = 1 WHERE top NOT IN now")', "pass",
      "sessions"),
     ("what is below a lost unit stays", "index.py", 'db.execute(LOST + "UPDATE unit SET gone = 1 WHERE n IN lost")',
@@ -87,7 +109,7 @@ FAULTS = [
     ("a closed list of fonds ends the index", "rounds.py", "index.forget_gone(self.db, tops)",
      "index.forget_gone(self.db, [])", "sessions"),
     ("rounds do not rest", "asking.py", "time.sleep(took * self.rest)", "pass", "questions"),
-    ("rounds ask as readers do", "asking.py", '{"Record-Office-Round": "yes"}', "{}", "questions"),
+    ("rounds ask as readers do", "asking.py", '("search" if self.until else "round")', '"search"', "questions"),
     ("an error counts as not shown", "asking.py", "if status not in (200, 404):", "if False:", "questions"),
     ("a reader's time has no end", "asking.py", "        if left <= 0:\n            raise Slow(path)\n",
      "        left = max(left, 1)\n", "questions"),
@@ -97,16 +119,42 @@ FAULTS = [
     ("lines end where Unicode says", "texts.py", 'return text.split("\\n")[:-1]', "return text.splitlines()",
      "sessions"),
     ("accents count", "folding.py", "[{MARKS}{UNSEEN}]|", "[{UNSEEN}]|", "folding"),
-    ("\u0142 counts", "folding.py", '"\u0142": "l", ', "", "folding"),
-    ("an apostrophe may be a letter", "folding.py", " and chr(code) not in APOSTROPHES", "", "folding"),
+    ("\u0142 counts", "../shared/words.json", '"\u0142": "l", ', "", "folding"),
+    ("an apostrophe may be a letter", "folding.py", " and letter not in APOSTROPHES", "", "folding"),
+    ("umlauts are not spelled out", "folding.py", ".lower().translate(OTHER))", ".lower())", "folding"),
+    ("the article counts", "folding.py", '_ARTICLE.sub("", other, 1) if _ARTICLE.match(other) else other', "other",
+     "folding"),
+    ("nothing is joined", "folding.py", "if len(joined) < len(apart)", "if False", "folding"),
+    ("initials are not joined", "folding.py", 'return "initials" if len', 'return "" if len', "folding"),
+    ("an O and its apostrophe are initials", "folding.py",
+     ' and "joining" not in (kinds[place - 1], kinds[place + 1])', "", "folding"),
+    ("digits of other scripts count", "folding.py", "str(unicodedata.decimal(digit))", "digit", "folding"),
+    ("a half is nothing", "folding.py", 'elif category == "No" and', 'elif category == "no" and', "folding"),
+    ("a letter is found within no word", "folding.py", 'begins = kinds[-1] == "last" and not cut or', "begins =",
+     "folding"),
+    ("only whole parts are found in Chinese", "folding.py", 'cut = kinds[-2:] == ["paired", "last"]', "cut = False",
+     "folding"),
+    ("traditional letters count", "folding.py", ' | dict(zip(TABLES["traditional"], TABLES["simplified"]))', "",
+     "folding"),
+    ("katakana counts", "folding.py", "chr(katakana - 0x60)", "chr(katakana)", "folding"),
+    ("forms of a word count", "folding.py",
+     "\n            or phrase.language is not None and is_kin(wanted, word, phrase.language))", ")", "folding"),
+    ("forms of a word are not looked for", "index.py", "for word in kin_of(db, phrase)]", "for word in ()]", "folding"),
+    ("forms within quotation marks", "folding.py", " and not begins and not quoted", " and not begins", "folding"),
+    ("long titles are cut", "folding.py", "LONGEST = 1000", "LONGEST = 200", "hostile"),
     ("curly quotation marks are nothing", "folding.py", "\u201c\u201d", "", "folding"),
     ("the index is not checked any more", "rounds.py", "self.damaged or self.unchecked == CHECKED", "self.damaged",
      "kills"),
+    ("an index that breaks each round is kept", "rounds.py", "                    index.remove(self.path)\n",
+     "                    pass\n", "kills"),
     ("a damaged index is not told", "service.py", "            self.say(0)\n", "",
      LATE + "the index is checked every sixty rounds"),
     ("too many names are an error", "service.py", "    except ValueError:\n        return {}",
      "    except KeyError:\n        return {}", "hostile"),
-    ("numbers of other scripts are read", "service.py", '"[0-9]{1,10}", text)', '"[0-9x-]{0,10}", text)', "hostile"),
+    ("what is no number is left out", "service.py", "if text and asked[name] is None", "if False", "hostile"),
+    ("what is no place is left out", "service.py", '["after"] * bool(values.get("after") and not after)', "[]", "hostile"),
+    ("from and to change places", "service.py", 'asked["from"], asked["to"], place', 'asked["to"], asked["from"], place',
+     "hostile"),
     ("what was found late is not told", "service.py", "            self.say(number)\n", "            pass\n",
      LATE + "the rounds look at all pages in turn"),
     ("phrases reach from one value into the next", "index.py", 'BETWEEN = " \\ue000 "', 'BETWEEN = " "',
@@ -123,8 +171,11 @@ FAULTS = [
 
 
 def plant(folder, file, text, other):
-    """A copy of the service with the fault in it, or None if the text is not there once."""
-    shutil.copytree(TOP / "front" / "search", folder, ignore=shutil.ignore_patterns("__pycache__"))
+    """A copy of the service with the fault in it, or None if the text is not there once; without a text as it is."""
+    for part in ("readers", "shared"):
+        shutil.copytree(TOP / "front" / part, folder.parent / part, ignore=shutil.ignore_patterns("__pycache__"))
+    if text is None:
+        return folder
     path = folder / file
     code = path.read_text("utf-8")
     if code.count(text) != 1:
@@ -146,7 +197,7 @@ def commands(by, program, room):
 
 def is_noticed(service, by, program, room):
     """Whether a check fails with this copy of the service, or does not end within ten minutes."""
-    how = {"env": {**os.environ, "SEARCH_SERVICE": str(service)}, "timeout": 600, "check": False}
+    how = {"env": {**os.environ, "READERS_SERVICE": str(service)}, "timeout": 600, "check": False}
     for words in commands(by, program, room):
         try:
             done = subprocess.run(words, stdout=subprocess.DEVNULL, stderr=subprocess.DEVNULL, **how)
@@ -160,7 +211,7 @@ def is_noticed(service, by, program, room):
 def try_fault(fault, given, room):
     """What came of a fault, in words; in capital letters if something is wrong."""
     _, file, text, other, by = fault
-    service = plant(room / "search", file, text, other)
+    service = plant(room / "readers", file, text, other)
     if service is None:
         return "CANNOT BE PLANTED"
     if given.dry or by.startswith("only "):

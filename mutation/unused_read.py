@@ -3,7 +3,6 @@
 An item is a declaration with the comment lines above it; a section (`module _ (..) where`) and a `mutual` block hold
 items further in. A name is any run of characters other than blanks and ( ) { } . ; , @ " and guillemets."""
 import glob
-import os
 import re
 
 DELIMITERS = r'\s(){}.;,@"«»'

@@ -7,7 +7,7 @@ import pathlib
 
 from asks import Asks
 from catalogue import ODD, dock_company
-from office import FRONT, SIGNED_IN, TOP, Office
+from office import FRONT, MANY_PAGES, SIGNED_IN, TOP, Office
 from waits import until
 
 MEASURES = (pathlib.Path(__file__).parent / "measures.js").read_text("utf-8")
@@ -16,11 +16,14 @@ WIDTHS = (1280, 640, 320)
 FAR = "2030-12-31"
 # Roles of what can have the focus, as the browser tells them to a screen reader.
 ROLES = {"link", "button", "textbox", "searchbox", "checkbox", "radio", "combobox", "option", "Date", "spinbutton",
-         "DisclosureTriangle", "heading", "group", "region", "RootWebArea", "dialog"}
-HIT = {"unit": 5, "way": [{"unit": 4, "head": "GB 0999 HUL [Fonds] Hull Dock Company"}],
-       "head": ["GB 0999 HUL/1 [Series] ", "Minutes", ""],
-       "lines": [{"name": "3.3.1 Scope and content", "text": ["The ", "minutes", " of the board"]}]}
-FOUND = {"state": "done", "units": [HIT], "more": True, "after": "0-5"}
+         "DisclosureTriangle", "heading", "group", "region", "RootWebArea", "dialog", "status"}
+
+OLD_ORDERS = (b"Order,Ordered on,Days,Ticket,Reader,Container,Name,Location,Where,Last ordered on,Orders that wait,Newest order\r\n"
+              b"1,2024-03-01,40,1,Ann,1,Box 1,Room 1,at the desk,2024-03-01,1,1\r\n")
+DIFFERENCES = json.dumps({
+    "copy": "2024-03-01, 03:00", "answer": {"new": 0, "changed": 1, "same": 0}, "refused": None,
+    "differences": [["changed", 2, "1", 1, "Docks", "Title", "Docks", "Quays", 0]],
+}).encode()
 
 
 class Access:
@@ -62,11 +65,12 @@ class Access:
             ("readers", "order", f"/unit/{self.plans}", self.order_nothing),
             ("readers", "text from right to left", f"/unit/{self.hebrew}", self.open_all),
             ("readers", "closed", f"/unit/{self.closed}", None),
-            ("readers", "finding aid", f"/aid/{self.fonds}?q=dock", None),
+            ("readers", "finding aid", f"/aid/{self.fonds}", None),
+            ("readers", "file", f"/unit/{self.minutes + 3}", self.open_all),
             ("readers", "changed", f"/aid/{self.fonds}/9.9", None), ("readers", "help", "/help", None),
             ("readers", "not found", "/unit/9999", None), ("readers", "no page", "/no/such/page", None),
-            ("readers", "list of orders", "/ordered", None),
-            ("readers", "found", "/search?q=minutes&from=1800", None),
+            ("readers", "list of orders", "/ordered", self.collect),
+            ("readers", "found", "/search?q=dock&from=1700", None), ("readers", "nothing found", "/search?q=zzz", None),
             ("desk", "today", "/", None), ("desk", "counter", "/counter", self.meet_refusal),
             ("desk", "container", f"/counter/{self.box}", None), ("desk", "label", f"/counter/{self.box}/label", None),
             ("desk", "readers", "/readers", self.find_readers), ("desk", "card", "/readers/1", None),
@@ -76,7 +80,9 @@ class Access:
             ("desk", "units", "/units", None), ("desk", "unit", f"/units/{self.minutes}", self.list_permits),
             ("desk", "question", f"/units/{self.minutes}", self.ask_to_remove),
             ("desk", "held", "/readers", self.hold_form), ("desk", "wrong scan", "/counter", self.scan_wrongly),
-            ("desk", "import", "/import", self.choose_file), ("desk", "no page", "/none", None)]
+            ("desk", "old orders", "/orders/old", self.show_old_orders),
+            ("desk", "import", "/import", self.choose_file), ("desk", "differences", "/import", self.try_file),
+            ("desk", "no page", "/none", None)]
 
     def open_all(self, page):
         """Opens all that is folded."""
@@ -85,10 +91,17 @@ class Access:
     def order_nothing(self, page):
         """Sends the order form with no container chosen."""
         page.press_starting("Order")
-        page.wait("document.querySelector('details.order form')")
         page.fill("Number of your reader\u2019s ticket", "99")
         page.press("Order these containers")
         page.see("No container is chosen.")
+        page.wait("document.readyState === 'complete'")
+
+    def collect(self, page):
+        """Has something on the list."""
+        page.visit(f"{self.sites['readers']}/unit/{self.plans}")
+        page.press("Collect it, to order later")
+        page.visit(f"{self.sites['readers']}/ordered")
+        page.see("Box 2", "ul.units")
 
     def meet_refusal(self, page):
         """Issues a container that there is not."""
@@ -135,6 +148,23 @@ class Access:
         page.scan("0")
         page.see("digits alone", ".wrong")
 
+    def show_old_orders(self, page):
+        """Shows the lists of a night."""
+        page.answer_with("*/lists/*.csv", 200, OLD_ORDERS)
+        page.js("location.hash = '#/orders'")
+        page.see("What waits")
+        page.js("location.hash = '#/orders/old'")
+        page.see("Orders that wait long: 1")
+        page.answer_with(None, 0, b"")
+
+    def try_file(self, page):
+        """Shows what the import of a file would change."""
+        self.choose_file(page)
+        page.answer_with("*/try/differences/*", 200, DIFFERENCES)
+        page.press("Show what would change")
+        page.see("1 difference:")
+        page.answer_with(None, 0, b"")
+
     def choose_file(self, page):
         """Chooses a file whose header would empty units."""
         path = self.asks.office.folder / "few.csv"
@@ -149,6 +179,8 @@ class Access:
         for site, name, address, prepare in self.states():
             if only in (None, site, name.replace(" ", "_")):
                 self.checks.part(f"access: {site}, {name}", self.measure, site, name, address, prepare)
+            if site == "readers" and prepare in (None, self.open_all) and only in (None, site, name.replace(" ", "_")):
+                self.checks.part(f"access: without scripts, {name}", self.without_scripts, name, address)
         if only in (None, "signed_out"):
             self.checks.part("access: signed out", self.signed_out_page)
 
@@ -161,9 +193,6 @@ class Access:
         """Loads a page and prepares it; returns its tab."""
         page = getattr(self, site)
         page.size(*DESK)
-        if address.startswith("/search"):
-            page.visit(self.sites[site] + "/help")
-            page.answer_with("*/public/search*", 200, json.dumps(FOUND).encode())
         if site == "desk":
             page.open(self.sites[site], address)
         else:
@@ -205,6 +234,28 @@ class Access:
         page.size(*DESK)
         page.answer_with(None, 0, b"")
         page.js("sessionStorage.clear()")  # no form stays held
+
+    def without_scripts(self, name, address):
+        """Measures a page of the readers once more, with scripts off."""
+        page, at = self.readers, f"readers without scripts, {name}"
+        page.call("Emulation.setScriptExecutionDisabled", value=True)
+        try:
+            page.size(*DESK)
+            page.visit(self.sites["readers"] + address)
+            self.structure(page, at)
+            self.names(page, at)
+            for measure in ("contrast", "edges", "targets"):
+                self.find_none(measure, page, measure, at)
+            page.call("Emulation.setEmulatedMedia", media="print")
+            self.find_none("what is printed", page, "printed", at)
+            page.call("Emulation.setEmulatedMedia", media="")
+            for width in WIDTHS:
+                page.size(width, 800, 1, width == 320)
+                self.same(f"1.4.10 nothing runs over at {width}: {at}", page,
+                          f"Math.max(0, (window.measures ??= {MEASURES}).over())", 0)
+            self.walk(page, at)
+        finally:
+            page.call("Emulation.setScriptExecutionDisabled", value=False)
 
     def run_measure(self, page, measure):
         """What a measure of measures.js finds on the page."""
@@ -299,11 +350,13 @@ def focusable_nodes(page):
 def play(checks, program, folder, browser, shot, only=None):
     """Plays all pages over an office of its own, or those that are named."""
     folder.mkdir(parents=True, exist_ok=True)
-    office = Office.create(program, folder / "office")
+    office = Office.create(program, folder / "office", changes=MANY_PAGES)
     (folder / "dock.csv").write_text("".join(dock_company()))
     office.import_file("archives", TOP / "examples/archives.csv").expect_success()
     office.import_file("catalogue", folder / "dock.csv").expect_success()
     with office:
+        office.serve_readers()
+        office.await_rounds(1)
         access = Access(checks, office, browser, shot)
         access.settle()
         access.play(only)

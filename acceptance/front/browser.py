@@ -169,13 +169,6 @@ class Page:
         """Waits until a new page is loaded and the condition holds there."""
         self.wait(f"!window.isLeft && document.readyState === 'complete' && {condition}")
 
-    def turn(self, address, condition="true", waits=True):
-        """To another page of the readers' site, as a link does it; `waits`: until it is shown."""
-        self.js(
-            f"import('/shared/router.js').then((router) => "
-            f"{{ const shown = router.go({json.dumps(address)}); return {json.dumps(waits)} && shown; }})")
-        self.wait(condition)
-
     def go(self, hash_, condition="true"):
         """To another page of the same site, by its address alone."""
         self.js(f"location.hash = {json.dumps(hash_)}")
@@ -190,9 +183,9 @@ class Page:
         return self.js(f"document.querySelector({json.dumps(selector)})?.innerText ?? ''")
 
     def see(self, words, selector="main"):
-        """Waits until an element shows these words."""
+        """Waits until an element of a page that is loaded, so that its scripts have run, shows these words."""
         quoted, place = json.dumps(words), json.dumps(selector)
-        self.wait(f"(document.querySelector({place})?.innerText ?? '').includes({quoted})")
+        self.wait(f"document.readyState === 'complete' && (document.querySelector({place})?.innerText ?? '').includes({quoted})")
 
     def fill(self, label, value, card=None):
         """Writes a value into the field with this label, which gets the focus."""

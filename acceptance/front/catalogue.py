@@ -87,6 +87,17 @@ def many(count):
                   physicalObjectName=f"Carton {number}", physicalObjectLocation="Strongroom 9")
 
 
+def wide(count):
+    """A fonds with so many files right below it."""
+    yield ",".join(COLUMNS) + "\n"
+    yield row(legacyId="top", identifier="WIDE", title="Customs House", levelOfDescription="Fonds",
+              publicationStatus="Published", eventDates="1700-1950")
+    for number in range(1, count + 1):
+        yield row(legacyId=str(number), parentId="top", identifier=str(number), title=f"Entries of ship {number}",
+                  levelOfDescription="File", publicationStatus="Published", eventDates=str(1700 + number % 250),
+                  extentAndMedium="1 bundle", scopeAndContent=SHIPS * 8)
+
+
 def harbour():
     """A fonds with a series of 120 files, one of which is in two cartons and has a word with a combining accent; and a
     fonds without containers."""

@@ -1,5 +1,9 @@
 """A day at the desk, played through the staff's pages. Each part sets up what it needs, and can be played by itself."""
 
+import json
+import os
+import time
+
 import catalogue
 from catalogue import BAD_FILE, ODD
 from desk_state import ANN, BEN, FAR, READERS, ZOE, DeskState
@@ -46,7 +50,7 @@ class Day:
         """Plays all parts in an office that has its descriptions, or one of them."""
         for part in (self.register_readers, self.find_readers, self.reader_orders, self.desk_orders, self.fetch,
                      self.counter,
-                     self.waiting, self.out, self.take_back, self.permits, self.units, self.remove, self.next_day,
+                     self.waiting, self.out, self.take_back, self.permits, self.units, self.remove, self.next_day, self.red,
                      self.keyboard,
                      self.slow, self.uncertain, self.hold_every_form, self.second_clicks):
             if only in (None, part.__name__):
@@ -187,7 +191,6 @@ class Day:
         stand = places and all(place and place in slip for place in places)
         self.checks.check("each line beside it has its location", stand, places)
         self.checks.check("the print button has the focus", page.focus_name() == "Print the slip", page.focus_name())
-        page.press("Look for reference codes")
         page.see("A reference code was found for every container.")
         beside = page.text(".beside")
         self.checks.check("reference codes beside the slip", "GB 0999 HUL/1\n" in beside, beside)
@@ -453,6 +456,27 @@ class Day:
         self.checks.same("no other day is offered then", suggested, "")
         page.see("The day opened last in this browser is 2024-03-02.")
         self.shot(page, "desk-today")
+
+    def red(self):
+        """Today shows what is red on the machine, and that nobody has looked for long."""
+        folder = self.asks.office.folder / "cache/lists"
+        folder.mkdir(parents=True, exist_ok=True)
+        lines = [{"level": 0, "name": "queue", "text": "runs"}, {"level": 2, "name": "copy", "text": "<i>office</i> is 60 hours old"}]
+        status = folder / "status.json"
+        for second, (at, seen, unseen) in enumerate((
+                (time.time(), ["copy: <i>office</i> is 60 hours old", "As of 2024-03-01 07:00."], "Nobody has looked"),
+                (time.time() - 7200, ["Nobody has looked since."], "queue: runs"))):
+            status.write_text(json.dumps({"at": at, "made": "2024-03-01 07:00", "lines": lines}), "utf-8")
+            os.utime(status, (second, second))  # browsers know a file by its second and its size
+            page = self.at("/")
+            for words in seen:
+                page.see(words)
+            self.checks.check(f"nothing of “{unseen}”", unseen not in page.text())
+        status.write_text(json.dumps({"at": time.time(), "made": "2024-03-01 07:00", "lines": lines[:1]}), "utf-8")
+        page = self.at("/")
+        page.see("Still out")
+        self.checks.check("nothing is red", "Red on the machine" not in page.text())
+        status.unlink()
 
     def open_day(self, page, day):
         """Presses both buttons that open a day."""

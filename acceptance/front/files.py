@@ -1,7 +1,7 @@
 """Files as people save them, each with what the program answers and the advice that fits.
 
-A file is a name, its bytes, the refusal of `preview` as (row, cause) or None, and its advice: names of rules.json in
-the order in which they are found, each with a part of what it says or what to do, or with an empty text.
+A file is a name, its bytes, the refusal of `preview` as (row, cause) or None, its advice: names of rules.json, each with
+a part of what it says or what to do, or with an empty text; and, if it can be converted, what it is taken for.
 """
 
 import csv
@@ -49,13 +49,15 @@ COLUMNS = (
 
 @dataclass
 class File:
-    """A file as somebody saved it: its name, its bytes, the refusal as (row, cause) or None, and the advice by
-    names."""
+    """A file as somebody saved it: its name, its bytes, the refusal as (row, cause) or None, the advice by names, and
+    what a conversion takes it for, as `ENCODING, SEPARATOR`; nothing if it is not converted."""
 
     name: str
     data: bytes
     refused: tuple = None
     advice: dict = field(default_factory=dict)
+    taken: str = ""
+    becomes: str = ""  # a file that says the same, as an office reads it
 
 
 def csv_text(*rows, columns=COLUMNS, **how):
@@ -121,16 +123,21 @@ KINDS = [
         "Excel's Unicode text: UTF-16 and tabs",
         "\ufeff".encode("utf-16-le") + GOOD.replace(",", "\t").encode("utf-16-le"),
         (0, 1),
-        {"utf16": "CSV UTF-8"},
+        {"utf16": "record-office-look --convert"},
+        "UTF-16, tabs",
     ),
-    File("UTF-16, the other end first", "\ufeff".encode("utf-16-be") + GOOD.encode("utf-16-be"), (0, 1), {"utf16": ""}),
-    File("UTF-16 without a mark", SHORT.encode("utf-16-le"), (1, 3), {"utf16": ""}),
-    File("Windows-1252", GOOD.encode("cp1252"), (0, 1), {"not_utf8": "in line 3: “2,1,,1,Minutes é"}),
+    File("UTF-16, the other end first", "\ufeff".encode("utf-16-be") + GOOD.encode("utf-16-be"), (0, 1), {"utf16": ""},
+         "UTF-16, commas"),
+    File("UTF-16 without a mark", SHORT.encode("utf-16-le"), (1, 3), {"utf16": ""}, "UTF-16, commas", SHORT),
+    File("Windows-1252", GOOD.encode("cp1252"), (0, 1), {"not_utf8": "in line 3: “2,1,,1,Minutes é"},
+         "Windows-1252, commas"),
     File(
         "Windows-1252, old line ends",
         GOOD.replace("\r\n", "\r").replace("é", "\u201cé\u201d").encode("cp1252"),
         (0, 1),
         {"not_utf8": "in line 3: “2,1,,1,Minutes \u201cé\u201d"},
+        "Windows-1252, commas",
+        GOOD.replace("é", "\u201cé\u201d"),
     ),
     File("cut off within a letter", GOOD.rstrip("\r\n,").encode() + "é".encode()[:1], (0, 1),
          {"not_utf8": "in line 3"}),
@@ -149,18 +156,21 @@ KINDS = [
     ),
     File("a document of a word processor", b"{\\rtf1\\ansi legacyId,title}", (1, 3), {"other_kind": "word processor"}),
     File("semicolons, as a European Excel saves it", GOOD.replace(",", ";").encode(), (1, 3),
-         {"separator": "by semicolons"}),
+         {"separator": "by semicolons"}, "UTF-8, semicolons"),
     File(
         "semicolons and quotation marks",
         csv_text(*TWO, delimiter=";", quoting=csv.QUOTE_ALL).encode(),
         (1, 3),
         {"separator": "semicolons"},
+        "UTF-8, semicolons",
     ),
-    File("tabs", GOOD.replace(",", "\t").encode(), (1, 3), {"separator": "by tabs"}),
-    File("vertical bars", GOOD.replace(",", "|").encode(), (1, 3), {"separator": "by vertical bars"}),
-    File("Excel's line about separators", ("sep=,\r\n" + GOOD).encode(), (1, 3), {"sep_line": "“sep=,”"}),
+    File("tabs", GOOD.replace(",", "\t").encode(), (1, 3), {"separator": "by tabs"}, "UTF-8, tabs"),
+    File("vertical bars", GOOD.replace(",", "|").encode(), (1, 3), {"separator": "by vertical bars"},
+         "UTF-8, vertical bars"),
+    File("Excel's line about separators", ("sep=,\r\n" + GOOD).encode(), (1, 3), {"sep_line": "“sep=,”"},
+         "UTF-8, commas"),
     File("the same with semicolons", ("SEP=;\r\n" + GOOD.replace(",", ";")).encode(), (1, 3),
-         {"sep_line": "Delete this line"}),
+         {"sep_line": "delete this line"}, "UTF-8, semicolons"),
     File(
         "a title above the header",
         ("Finding aid of the Docks,,,\r\n" + GOOD).encode(),
@@ -196,13 +206,13 @@ HEADERS = [
         "a column twice that is not read",
         csv_text(*TWO, columns=(*COLUMNS, "repository", "repository")).encode(),
         None,
-        {"unread": "columns: repository."},
+        {"unread_blank": "blank: repository."},
     ),
     File(
         "columns of AtoM that are not read",
         csv_text(*TWO, columns=(*COLUMNS, "accessionNumber", "nameAccessPoints")).encode(),
         None,
-        {"unread": "accessionNumber, nameAccessPoints"},
+        {"unread_blank": "accessionNumber, nameAccessPoints"},
     ),
     File("number and title alone", b"legacyId,title\r\n1,Docks\r\n", None,
          {**EMPTIED, "no_parents": "", "no_status": ""}),
@@ -311,7 +321,8 @@ ROWS = [
     ),
     File("a parent that is elsewhere", csv_text(unit("2", "77")).encode(), (2, 11),
          {"parents_elsewhere": "parentId 77"}),
-    File("a unit that is its own parent", csv_text(unit("2", "2")).encode(), (2, 11), {"parents_below": ""}),
+    File("a unit that is its own parent", csv_text(unit("2", "2")).encode(), (2, 11),
+         {"parents_own": "put the legacyId of the unit above into parentId"}),
     File(
         "zeros that the spreadsheet dropped",
         csv_text(unit("007"), unit("8", "7")).encode(),
@@ -389,4 +400,169 @@ ROWS = [
     ),
 ]
 
-FILES = [*KINDS, *HEADERS, *ROWS]
+FOREIGN = [
+    File(
+        "semicolons and Windows-1252, as an old European Excel saves it",
+        GOOD.replace(",", ";").encode("cp1252"),
+        (0, 1),
+        {"not_utf8": "“2;1;;1;Minutes é"},
+        "Windows-1252, semicolons",
+    ),
+    File(
+        "the same with commas within fields",
+        csv_text(unit("1", title="Docks, locks; “quays”"), delimiter=";").encode("cp1252"),
+        (0, 1),
+        {"not_utf8": ""},
+        "Windows-1252, semicolons",
+        csv_text(unit("1", title="Docks, locks; “quays”")),
+    ),
+    File(
+        "Excel's line about separators in Windows-1252",
+        ("sep=;\r\n" + GOOD.replace(",", ";")).encode("cp1252"),
+        (0, 1),
+        {"not_utf8": ""},
+        "Windows-1252, semicolons",
+    ),
+    File(
+        "semicolons in UTF-16, the other end first",
+        GOOD.replace(",", ";").encode("utf-16-be"),
+        (0, 1),
+        {"utf16": ""},
+        "UTF-16, semicolons",
+    ),
+    File("UTF-16 that was cut off", ("\ufeff" + GOOD).encode("utf-16-le")[:-1], (0, 1), {"utf16": ""}),
+    File("UTF-8 that has one letter of Windows-1252", GOOD.encode() + b"3,1,,2,Caf\xe9\r\n", (0, 1),
+         {"not_utf8": "in line 4"}),
+    File(
+        "a title above the header, in Windows-1252",
+        ("Archives privées\r\n" + GOOD).encode("cp1252"),
+        (0, 1),
+        {"not_utf8": "in line 1"},
+        "Windows-1252, commas",
+        "Archives privées\r\n" + GOOD,
+    ),
+]
+
+EXPORTS = [
+    File("AtoM's authority records", b"culture,typeOfEntity,authorizedFormOfName,history\r\nen,Person,Ann,\r\n", (1, 3),
+         {"other_export": "authority records"}),
+    File("AtoM's accessions", b"accessionNumber,acquisitionDate,title\r\n2024/1,2024-03-01,Papers\r\n", (1, 3),
+         {"other_export": "accessions"}),
+    File(
+        "AtoM's storage",
+        b"legacyId,name,location,type,descriptionSlugs\r\n1,Box 1,Room 1,Box,docks\r\n",
+        None,
+        {"looks_other": "storage", "similar": "", "emptied": "", "no_parents": "", "no_status": "",
+         "unread": "name, type, descriptionSlugs"},
+    ),
+    File(
+        "columns of AtoM that have values",
+        csv_text(*({**one, **{f"own{number}": "x" for number in range(9)}} for one in TWO),
+                 columns=(*COLUMNS, *(f"own{number}" for number in range(9)), "repository")).encode(),
+        None,
+        {"unread": "own0, own1, own2, own3, own4, own5, own6, own7, own8.", "unread_blank": "blank: repository."},
+    ),
+    File(
+        "events other than creation",
+        csv_text(*({**unit(str(number), eventActors="Hull|Ann", eventDates="1774|1803"), "eventTypes": kinds}
+                   for number, kinds in enumerate(("Creation|Accumulation", "Creation|NULL"), 1)),
+                 columns=(*COLUMNS, "eventTypes")).encode(),
+        None,
+        {"other_events": "In 1 row, eventTypes names other events than creation (the first: row 2, 2 in the "
+         "spreadsheet, “Accumulation”)", "unread": "eventTypes"},
+    ),
+]
+
+REPEATED = [
+    File("a file twice", (GOOD + GOOD).encode(), (5, 7),
+         {"repeated": "From row 4 (4 in the spreadsheet) on, the file repeats itself, header and all. Delete this row"}),
+    File("its rows twice", (GOOD + GOOD.split("\r\n", 1)[1]).encode(), (4, 7),
+         {"repeated": "From row 4 (4 in the spreadsheet) on, the file repeats itself. Delete"}),
+    File("a file twice, of which the second was cut off", (GOOD + csv_text(TWO[0])).encode(), (5, 7), {"repeated": ""}),
+    File("a row twice", csv_text(*TWO, TWO[1]).encode(), (4, 7), {"fault": "is equal to this one. Delete one"}),
+    File("two units of one number", csv_text(*TWO, unit("2", "1", "Plans")).encode(), (4, 7),
+         {"fault": "Give one of the two rows another legacyId"}),
+    File(
+        "two files joined",
+        (SHORT + SHORT.replace("1,", "3,").replace("2,", "4,")).encode(),
+        (4, 11),
+        {**EMPTIED, "header_again": "row 4, 4 in the spreadsheet; 1 row in all", "odd_status": "",
+         "parents_elsewhere": ""},
+    ),
+]
+
+NUMBERS = [
+    File("two units that are each other's parents", csv_text(unit("1"), unit("2", "3"), unit("3", "2")).encode(), (3, 11),
+         {"parents_circle": "2 below 3 below 2"}),
+    File("a circle of three", csv_text(unit("1", "3"), unit("2", "1"), unit("3", "2")).encode(), (2, 11),
+         {"parents_circle": "1 below 3 below 2 below 1"}),
+    File("a parent further down that lies in no circle", csv_text(unit("3", "2"), unit("2", "1"), unit("1")).encode(),
+         (2, 11), {"parents_below": "In 2 rows"}),
+    File("458.0 for 458", csv_text(unit("458"), unit("459", "458.0")).encode(), (3, 11),
+         {"parents_decimals": "parentId 458.0"}),
+    File("458,0 for 458", csv_text(unit("458"), unit("459", "458,0")).encode(), (3, 11),
+         {"parents_decimals": "parentId 458,0"}),
+    File("458 for 458.0", csv_text(unit("458.0"), unit("459", "458")).encode(), (3, 11),
+         {"parents_decimals": "", "decimals": "In 1 row"}),
+    File("decimals everywhere", csv_text(unit("458.0"), unit("459.0", "458.0")).encode(), None,
+         {"decimals": "In 2 rows"}),
+    File("parents by identifier", csv_text(unit("1", identifier="HUL"), unit("2", "HUL", identifier="1")).encode(), (3, 11),
+         {"parents_identifiers": "parentId HUL, of row 2, whose legacyId is 1"}),
+    File("a space that does not break beside a legacyId", csv_text(unit("1"), unit("\u00a02", "1")).encode(), None,
+         {"hidden_spaces": "column legacyId, “2”"}),
+    File("the same beside a parentId", csv_text(unit("1"), unit("2", "1\u00a0")).encode(), (3, 11),
+         {"parents_hidden": "In 1 row"}),
+    File("a space without width", csv_text(unit("1\u200b"), unit("2", "1")).encode(), (3, 11),
+         {"parents_hidden": "", "hidden_spaces": ""}),
+    File("Published and a space that does not break", csv_text(unit("1", publicationStatus="Published\u00a0")).encode(),
+         None, {"hidden_spaces": "column publicationStatus", "all_drafts": "", "odd_status": ""}),
+]
+
+CHANGED = [
+    File(
+        "a code of 301 letters",
+        csv_text(unit("1", identifier="H" * 149), unit("2", "1", identifier="1" * 149), unit("3", "2", identifier="2")).encode(),
+        None,
+        {"long_codes": "In 1 row, the reference code would be longer than 300 letters (the first: row 4, 4 in"},
+    ),
+    File("3/1/74 of a spreadsheet", csv_text(unit("1", eventDates="3/1/74")).encode(), None,
+         {"reshaped": "column eventDates, “3/1/74”"}),
+    File("04-Mar for 4/3", csv_text(unit("1", identifier="04-Mar")).encode(), None,
+         {"reshaped": "column identifier, “04-Mar”"}),
+    File("Mar-74 among other dates", csv_text(unit("1", eventDates="1774|Mar-74")).encode(), None,
+         {"reshaped": "“Mar-74”"}),
+    File("1.2E+05 for a number", csv_text(unit("1", **{**BOX, "physicalObjectName": "1.2E+05"})).encode(), None,
+         {"reshaped": "column physicalObjectName, “1.2E+05”"}),
+    File("a fault of a formula", csv_text(unit("1", title="#NAME?")).encode(), None, {"reshaped": "column title"}),
+    File("dates that a spreadsheet leaves alone", csv_text(unit("1", eventDates="4 March 1774", title="3/1/74 to 1803")).encode()),
+    File(
+        "zeros that were lost in one row",
+        csv_text(unit("1"), unit("2", "1", identifier="001"), unit("3", "1", identifier="002"),
+                 unit("4", "1", identifier="3")).encode(),
+        None,
+        {"lost_zeros": "In 1 row, identifier has fewer digits than others below the same unit, which begin with zeros "
+         "(the first: row 5, 5 in the spreadsheet, 3)"},
+    ),
+    File(
+        "zeros below another unit",
+        csv_text(unit("1", identifier="7"), unit("2", "1", identifier="001"), unit("3", "1", identifier="010")).encode(),
+    ),
+    File("an inch mark", csv_text('1,,,HUL,"12" plan,,Published' + "," * 28 + "\r\n").encode(), None,
+         {"lost_quote": "“12 plan”"}),
+    File("an inch mark in a short file", SHORT.replace("Minutes", '"12" plan').encode(), None,
+         {**EMPTIED, "lost_quote": "In row 3 (3 in the spreadsheet), a quotation mark is lost: a field becomes “12 plan”"}),
+    File("a space after a quotation mark", SHORT.replace("Minutes", '"Minutes" ').encode(), None, EMPTIED),
+    File("NUL in a title", csv_text(unit("1", title="Doc\0ks")).encode(), None, {"controls": "column title, U+0000"}),
+    File("a line of a word processor", csv_text(unit("1", scopeAndContent="One\x0bTwo")).encode(), None,
+         {"controls": "U+000B"}),
+    File("EN", csv_text(unit("1", culture="EN")).encode(), None, {"odd_culture": "“EN”"}),
+    File("English", csv_text(unit("1", culture="English")).encode(), None, {"odd_culture": "", "one_language": ""}),
+    File("EN beside en", csv_text(unit("1", culture="en"), unit("1", title="Docks", culture="EN")).encode(), None,
+         {"odd_culture": "counts as a translation"}),
+    File("languages of AtoM", csv_text(*(unit(str(place), culture=one) for place, one in
+                                         enumerate(("en", "pt_BR", "sr@latin", "zh-TW"), 1))).encode()),
+]
+
+for one in (*KINDS, *FOREIGN):
+    one.becomes = one.becomes or GOOD
+FILES = [*KINDS, *HEADERS, *ROWS, *FOREIGN, *EXPORTS, *REPEATED, *NUMBERS, *CHANGED]

@@ -48,7 +48,7 @@ class FirstYear:
 
     def play(self, only=None):
         """Plays all parts in an office that has its descriptions, or one of them."""
-        for part in (self.bad_files, self.emptying, self.same_boxes, self.drafts, self.questions, self.slips,
+        for part in (self.bad_files, self.converted, self.emptying, self.same_boxes, self.drafts, self.questions, self.slips,
                      self.scans,
                      self.passed_over_orders, self.incomplete_list, self.failed_page, self.queue_away):
             if only in (None, part.__name__):
@@ -68,9 +68,9 @@ class FirstYear:
         page = None
         for name in (
             "an Excel workbook",
-            "semicolons, as a European Excel saves it",
-            "Windows-1252",
+            "cut off within a letter",
             "a title above the header",
+            "a file twice",
             "LegacyId",
             "a column twice",
             "an empty line, and a row with a field too many",
@@ -83,6 +83,23 @@ class FirstYear:
             page.see("The file was not sent: the office would refuse it.", ".outcome")
         self.shot(page, "desk-import-stopped")
         self.checks.same("nothing of bad files came to the office", self.asks.question("/public/units/200")[0], 404)
+
+    def converted(self):
+        """A file of semicolons in Windows-1252 is read; what it was taken for is shown and agreed to before it is sent."""
+        text = files.csv_text(files.unit("1", identifier="CAF", title="Café de l’Écluse; records"), delimiter=";")
+        page = self.choose_file("excel.csv", text.encode("cp1252"))
+        page.see("This file is taken for Windows-1252 with semicolons between the columns.", ".seen-in-file .note.warns")
+        page.see("title: Café de l’Écluse; records", ".seen-in-file .note.warns")
+        page.press("Import the file")
+        page.see("The file was not sent.", ".outcome")
+        self.shot(page, "desk-import-converted")
+        page = self.choose_file("excel.csv", text.encode("cp1252"))
+        page.fill("Source", "excel")
+        page.choose("Take it in all the same")
+        page.press("Import the file")
+        page.see("excel.csv was imported from the source excel.", ".outcome")
+        told = self.asks.text(f"/public/units/{self.desk.fonds('CAF')}")
+        self.checks.check("its letters are right", "GB 0999 CAF [-] Café de l’Écluse; records" in told, told)
 
     def emptying(self):
         """A header that would empty the units of an office is not sent before somebody has agreed."""
@@ -172,10 +189,12 @@ class FirstYear:
         page.press("Go back", "dialog")
         page.see("Nothing was done.")
         self.checks.check("a closure in the past is asked about", True)
+        page.see("Nobody has a permit")  # few cards are asked for unasked
         page.js(COUNTED)
         page.press("Who has a permit for it?")
+        page.press("Who has a permit for it?")
         page.see("Nobody has a permit")
-        self.checks.same("cards are asked for four at a time", page.js("window.most"), 4)
+        self.checks.same("cards are asked for four at a time, by two clicks too", page.js("window.most"), 4)
         places = page.js(PLACES)
         below = next(top for words, top in places if words == "What the public sees")
         self.checks.check(
@@ -211,7 +230,7 @@ class FirstYear:
         self.read_codes(page, {f"T{ann}", f"T{ben}", f"B{box}", f"B{roll}"})
         for hash_, code in ((f"/readers/{ann}/ticket", f"T{ann}"), (f"/counter/{box}/label", f"B{box}")):
             page = self.at(hash_)
-            page.see(code, ".code")
+            page.see(code, ".barcode")
         self.checks.check("tickets and labels have their codes", True)
 
     def read_codes(self, page, wanted):

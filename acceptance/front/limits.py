@@ -11,15 +11,18 @@ import socket
 import threading
 import time
 
+from asks import Asks
 from office import FRONT, TOP, Office
-from rules import exchange
+from rules import ask_once, exchange
 from stand_in import StandIn, in_place_of_program
 from waits import until
 
 import client
 
-PARTS = ("questions_in_a_row", "orders_in_a_row", "searches_in_a_row", "pages_at_once", "questions_at_once",
-         "aids_at_once", "searches_at_once", "slow", "numbers")
+PARTS = ("questions_in_a_row", "pages_in_a_row", "aids_in_a_row", "orders_in_a_row", "forms_in_a_row",
+         "searches_in_a_row", "pages_at_once", "questions_at_once", "aids_at_once", "aids_from_all",
+         "searches_at_once", "reading_room", "slow", "numbers")
+MANY_AIDS = [("aids_in_a_row burst=9", "aids_in_a_row burst=99")]
 LARGE = 24_000_000  # more bytes than sockets hold
 
 
@@ -29,7 +32,8 @@ def play(checks, program, folder, only=None):
         if only not in (None, name):
             continue
         with contextlib.ExitStack() as stack:  # an office each: what was asked before counts too
-            office = Office.create(program, folder / name)
+            office = Office.create(program, folder / name, changes=MANY_AIDS if name.startswith("aids_") and
+                                   name != "aids_in_a_row" else ())
             office.import_file("archives", TOP / "examples/archives.csv").expect_success()
             checks.part(f"limits: {name}", globals()[name], checks,
                         stack.enter_context(office) if name != "numbers" else None)
@@ -76,14 +80,39 @@ def questions_in_a_row(checks, office):
         check_row(checks, office, ("GET", "/public/units/1"), 200, 50, 1.5)
 
 
+def pages_in_a_row(checks, office):
+    """Sixty pages at once, then fifteen a second; without the service nginx answers all of them itself."""
+    check_row(checks, office, ("GET", "/unit/1"), 60, 15, 1.5)
+
+
+def aids_in_a_row(checks, office):
+    """Ten finding aids at once, as pages or as they are, then one in six seconds."""
+    check_row(checks, office, ("GET", "/aid/1"), 9, 1 / 6, 7)
+    checks.check("both kinds count", Row(office, ("GET", "/public/aid/1"), 20).through <= 3)
+
+
 def orders_in_a_row(checks, office):
     """A dozen orders at once, then one in ten seconds."""
     check_row(checks, office, ("POST", "/public/orders", '{"ticket":999,"container":1}'), 11, 0.1, 11)
 
 
+def forms_in_a_row(checks, office):
+    """A form may have many orders: from one address a dozen are passed on, of however many forms."""
+    office.serve_readers("--every", "100", "--rest", "0")
+    Asks(office).command("/desk/register", name="Ann", until="2030-01-01")
+    for place, wanted in ((0, 12), (1, 0)):
+        form = "ticket=1&" + "&".join(f"container=1-{900_000 + place * 20 + box}" for box in range(1, 21))
+        told = ask_once(office.ports["8080"], "POST", "/ordered/order", form).decode()
+        checks.same(f"orders of form {place} that are passed on", 20 - told.count("Too many orders came"), wanted)
+    told = exchange(office.ports["8080"], client.request("POST", "/ordered/order", form, fields={"Connection": "close"}),
+                    "127.0.0.2").decode()
+    checks.same("another address has its own", 20 - told.count("Too many orders came"), 12)
+
+
 def searches_in_a_row(checks, office):
     """Some twenty searches at once, then two a second."""
-    check_row(checks, office, ("GET", "/public/search?q=x"), 20, 2, 3)
+    check_row(checks, office, ("GET", "/search?q=x"), 20, 2, 3)
+    checks.check("as pages or not", Row(office, ("GET", "/public/search?q=x"), 30).through <= 10)
 
 
 # How many at once
@@ -91,8 +120,8 @@ def searches_in_a_row(checks, office):
 class Crowd:
     """Clients who each send the same bytes, and wait for an answer."""
 
-    def __init__(self, port, sent, many):
-        self.sockets = [socket.create_connection((client.HOST, port), 90) for _ in range(many)]
+    def __init__(self, port, sent, many, source=client.HOST):
+        self.sockets = [socket.create_connection((client.HOST, port), 90, (source, 0)) for _ in range(many)]
         for one in self.sockets:
             one.sendall(sent)
 
@@ -110,7 +139,7 @@ class Crowd:
 
 def pages_at_once(checks, office):
     """Clients who have not sent what they announced count, though they are answered."""
-    crowd = Crowd(office.ports["8080"], client.post("/", b"x" * 4000)[:-4000], 115)
+    crowd = Crowd(office.ports["8080"], client.post("/public.css", b"x" * 4000)[:-4000], 115)
     checks.same("a hundred at once from one address", crowd.statuses(), {403: 100, 429: 15})
 
 
@@ -121,13 +150,24 @@ def questions_at_once(checks, office):
 
 def aids_at_once(checks, office):
     """Ten finding aids at once from one address."""
+    office.serve_readers("--every", "1000", "--rest", "0")
+    until(office.count_rounds, "the only round is over")
     check_at_once(checks, office, "/public/aid/1", 14, 10)
+
+
+def aids_from_all(checks, office):
+    """Twelve finding aids at once, whoever asks."""
+    with StandIn(office.listen, silent=True, at_once=30) as service:
+        os.chmod(office.listen, 0o666)
+        crowds = [Crowd(office.ports["8080"], client.get("/aid/1"), 9, source) for source in ("127.0.0.2", "127.0.0.3")]
+        until(lambda: sum(crowd.count_answered() for crowd in crowds) >= 6 and len(service.requests) >= 12,
+              "those over the limit are answered")
+        checks.same("twelve at once", len(service.requests), 12)
 
 
 def check_at_once(checks, office, path, many, most):
     """So many clients ask while the program is stopped."""
-    stopped = office.serving
-    os.kill(stopped.pid, signal.SIGSTOP)
+    stopped = office.stop_program()
     crowd = Crowd(office.ports["8080"], client.get(path), many)
     until(lambda: crowd.count_answered() >= many - most, "those over the limit are answered")
     checks.same("the others are not", crowd.count_answered(), many - most)
@@ -136,13 +176,27 @@ def check_at_once(checks, office, path, many, most):
 
 
 def searches_at_once(checks, office):
-    """So many clients search, whoever they are, while the service answers none of them."""
-    with StandIn(office.folder / "answers.sock", silent=True, at_once=20) as service:
-        os.chmod(office.folder / "answers.sock", 0o666)
-        crowd = Crowd(office.ports["8080"], client.get("/public/search?q=x"), 20)
-        until(lambda: crowd.count_answered() >= 4 and len(service.requests) >= 16, "those over the limit are answered")
-        checks.same("sixteen at once", (crowd.count_answered(), len(service.requests)), (4, 16))
-    checks.same("the others are told that there is none", crowd.statuses(), {502: 16, 429: 4})
+    """So many clients search, from one address and from all, while the service answers none of them."""
+    with StandIn(office.listen, silent=True, at_once=30) as service:
+        os.chmod(office.listen, 0o666)
+        crowd = Crowd(office.ports["8080"], client.get("/public/search?q=x"), 6)
+        until(lambda: crowd.count_answered() >= 2 and len(service.requests) >= 4, "those over the limit are answered")
+        checks.same("four at once from one address", (crowd.count_answered(), len(service.requests)), (2, 4))
+        others = [Crowd(office.ports["8080"], client.get("/public/search?q=x"), 4, f"127.0.0.{n}") for n in range(2, 7)]
+        until(lambda: sum(one.count_answered() for one in others) >= 8 and len(service.requests) >= 16,
+              "those over the limit of all are answered")
+        checks.same("sixteen from all", (sum(one.count_answered() for one in others), len(service.requests)), (8, 16))
+    checks.same("the others are told that there is none", crowd.statuses(), {503: 4, 429: 2})
+
+
+def reading_room(checks, office):
+    """An address behind which many readers are has limits eight times as high."""
+    with office.change_file("rooms.conf", "default 0;", "default 0; 127.0.0.4 1;"):
+        for asked, burst in ((("GET", "/search?q=x"), 160), (("GET", "/unit/1"), 480), (("GET", "/aid/1"), 72),
+                             (("POST", "/public/orders", '{"ticket":999,"container":1}'), 88)):
+            row = Row(office, asked, burst + 400, "127.0.0.4")
+            checks.check(f"{burst + 1} of {asked[1]} at once from a reading room, and not all",
+                         burst + 1 <= row.through < row.many, row.through)
 
 
 # How slowly
@@ -169,7 +223,7 @@ class Slow(threading.Thread):
 
 # what a client sends before it stops, and the seconds after which it is left
 SLOW = {"head": (client.get("/")[:20], 10), "body": (client.post("/public/orders", b"{" * 20)[:-19], 10),
-        "answer": (client.get("/public/aid/1"), 20)}
+        "answer": (client.get("/public/units/1"), 20)}
 
 
 def slow(checks, office):
@@ -200,7 +254,7 @@ def numbers(checks, _):
         kept = max(int(one) for one in re.findall(r"keepalive_timeout (\d+)s", texts["common.conf"]))
         checks.check(f"{name} keeps idle connections longer than who asks it",
                      seconds("timeout http-keep-alive", at) > kept, kept)
-    reads = int(re.search(r"proxy_read_timeout (\d+)s", texts["proxy.conf"])[1])
+    reads = int(re.search(r"proxy_read_timeout (\d+)s", texts["passed.conf"])[1])
     whole = seconds("timeout queue", queue) + seconds("timeout server", queue)
     checks.check("nginx waits longer than the queue", reads > whole, (reads, whole))
     checks.check("the queue waits for nginx longer than that", seconds("timeout client", queue) > reads, reads)
@@ -220,6 +274,6 @@ def numbers(checks, _):
     binds = re.findall(r"bind (\S+)", texts["haproxy.cfg"])
     checks.check("the queue is reached from this machine alone",
                  all(re.match(r"127\.0\.0\.1:|unix@/", one) for one in binds), binds)
-    desk = texts["nginx.conf"].split("# Staff")[1]
+    desk = texts["desk-nginx.conf"]
     checks.check("and so is the desk without TLS",
-                 all(one.startswith("127.0.0.1:") for one in re.findall(r"listen (\S+)", desk)), desk)
+                 all(one.startswith(("127.0.0.1:", "[::1]:")) for one in re.findall(r"listen (\S+)", desk)), desk)

@@ -1,29 +1,47 @@
-"""Every file of files.py, looked at by record-office-look, by the import page's modules, and by the program itself."""
+"""Every file of files.py, looked at by record-office-look, by the import page's modules, and by the program itself: what
+it becomes, and whether an import does what was foretold."""
 
 import base64
+import contextlib
+import io
 import json
+import pathlib
+import sqlite3
 import sys
+import tempfile
 
 from files import FILES
 from office import FRONT, TOP
 
+import client
+
 sys.path.insert(0, str(FRONT / "look"))
-from record_office_look import Look, read_rules, words  # noqa: E402
+import record_office_look  # noqa: E402
+from convert import convert  # noqa: E402
+from look_at_file import Look  # noqa: E402
+from wording import read_rules, words  # noqa: E402
 
 RULES = read_rules()
-LOOK = """import('/look/look.js').then(async ({ look, readRules, adviceWords }) => {
-  const rules = await readRules();
-  const seen = look(Uint8Array.from(atob(%s), (letter) => letter.charCodeAt(0)), rules);
+LOOK = """Promise.all([import('/look/look.js'), import('/look/convert.js')]).then(
+async ([{ look, readRules, adviceWords }, { convert }]) => {
+  const [rules, bytes] = [await readRules(), Uint8Array.from(atob(%s), (letter) => letter.charCodeAt(0))];
+  const [seen, found] = [look(bytes, rules), convert(bytes, rules)];
   const told = seen.advice.map((one) => adviceWords(rules, one))
     .map(({ name, level, says, todo }) => [name, level, says, todo]);
-  return [told, seen.counts];
+  return [told, seen.counts, found && { ...found, bytes: Array.from(found.bytes) }];
 })"""
+# Advice that foretells that an office that knows none of the units refuses the file, for its row's parent or depth.
+BY_THE_PAGE = {"converted"}  # advice that is given with a file that was converted
+REFUSED_IF_NEW = {name for name in RULES["advice"] if name.startswith("parents_")} | {"deep"}
 
 
 def look_by_shell(data):
-    """The advice of record-office-look as [name, level, what it says, what to do], and its counts."""
-    seen = Look(RULES).at(data)
-    return [[[name, *words(RULES, name, values)] for name, values in seen.advice], seen.counts or None]
+    """The advice of record-office-look as [name, level, what it says, what to do], its counts, and what it converts."""
+    seen, found = Look(RULES).at(data), convert(data, RULES)
+    converted = {**vars(found), "bytes": list(found.data)} if found else None
+    if converted:
+        del converted["data"]
+    return [[[name, *words(RULES, name, values)] for name, values in seen.advice], seen.counts or None, converted]
 
 
 def look_by_page(page, data):
@@ -35,6 +53,35 @@ def preview(program, data):
     """The refusal of `preview` as (row, cause), or None."""
     told = program.run("preview", "--country", "GB", "--repo", "0999", said=data).message.decode().split()
     return (int(told[4]), int(told[6])) if told else None
+
+
+def preview_text(program, data):
+    """The finding aids that `preview` prints."""
+    return program.run("preview", "--country", "GB", "--repo", "0999", said=data).output.decode()
+
+
+def take_in(program, data):
+    """What the import into a new office came to: {"refused": (row, cause)}, or how many units, drafts, translations and
+    containers came in."""
+    with tempfile.TemporaryDirectory(dir=client.usual_room()) as room:
+        office = client.Office.create(program, pathlib.Path(room) / "office.db")
+        (pathlib.Path(room) / "file.csv").write_bytes(data)
+        ended = office.import_file("catalogue", pathlib.Path(room) / "file.csv")
+        if ended.status:
+            told = ended.message.decode().split()
+            return {"refused": (int(told[4]), int(told[6]))}
+        rows = json.loads(ended.output)
+        with contextlib.closing(sqlite3.connect(office.store)) as store:
+            drafts, containers = store.execute(
+                "SELECT (SELECT count(*) FROM unit WHERE draft), (SELECT count(*) FROM container)").fetchone()
+        return {"units": rows["new"], "drafts": drafts, "translations": rows["translations"], "containers": containers}
+
+
+def foretold(advice, counts):
+    """What the look said that an import into a new office comes to: refused (whatever row and cause), or the counts."""
+    if any(level == "stop" for _, level, *_ in advice) or {name for name, *_ in advice} & REFUSED_IF_NEW:
+        return "refused"
+    return {name: counts[name] for name in ("units", "drafts", "translations", "containers")}
 
 
 def fits(advice, wanted):
@@ -49,10 +96,44 @@ def play(checks, program, page=None):
         told = look_by_shell(file.data)
         checks.check(f"the advice fits: {file.name}", fits(told[0], file.advice), told)
         checks.same(f"the program's answer: {file.name}", preview(program, file.data), file.refused)
+        came = take_in(program, file.data)
+        checks.same(f"an import refuses the same: {file.name}", came.get("refused"), file.refused)
+        checks.same(f"an import does what was foretold: {file.name}", "refused" if "refused" in came else came,
+                    foretold(*told[:2]))
+        check_converted(checks, program, file, told[2])
         if page:
             checks.same(f"the page gives the same advice: {file.name}", look_by_page(page, file.data), told)
+    check_command(checks)
     check_labels(checks)
     check_rules(checks)
+
+
+def check_converted(checks, program, file, found):
+    """A file is taken for what it is, and what it becomes is read as the same file saved rightly would be."""
+    taken = f"{found['encoding']}, {found['separator']}" if found else ""
+    checks.same(f"what a conversion takes it for: {file.name}", taken, file.taken)
+    if found:
+        data = bytes(found["bytes"])
+        checks.same(f"nothing is left to convert: {file.name}", convert(data, RULES), None)
+        checks.same(f"the converted file is the good one: {file.name}", preview_text(program, data),
+                    preview_text(program, file.becomes.encode()))
+
+
+def check_command(checks):
+    """`record-office-look --convert` tells what it takes a file for before it writes, and overwrites nothing."""
+    file = next(file for file in FILES if file.taken == "Windows-1252, semicolons")
+    with tempfile.TemporaryDirectory() as room:
+        old, new = pathlib.Path(room) / "old.csv", pathlib.Path(room) / "new.csv"
+        old.write_bytes(file.data)
+        told = io.StringIO()
+        with contextlib.redirect_stdout(told), contextlib.redirect_stderr(told):
+            statuses = [record_office_look.main(["--convert", str(new), str(old)]) for _ in range(2)]
+        checks.same("the converted file", new.read_bytes(), convert(file.data, RULES).data)
+        checks.same("the file itself stays", old.read_bytes(), file.data)
+        checks.same("the statuses: written, and not again", statuses, [0, 3])
+        parts = ("is taken for Windows-1252 with semicolons between the columns", "é", "is written", "File exists")
+        places = [told.getvalue().find(part) for part in parts]
+        checks.check("what it was taken for is told first", -1 < min(places) and places == sorted(places), told.getvalue())
 
 
 def check_labels(checks):
@@ -68,4 +149,4 @@ def check_labels(checks):
 def check_rules(checks):
     """Each advice of the rules is given for a file of the table."""
     checks.same("advice that no file gets",
-                sorted(set(RULES["advice"]) - {name for file in FILES for name in file.advice}), [])
+                sorted(set(RULES["advice"]) - {name for file in FILES for name in file.advice} - BY_THE_PAGE), [])

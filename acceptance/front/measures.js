@@ -39,7 +39,7 @@
 
   /** 1.4.11: the edges of fields, and the mark of the page that is shown. */
   function edges() {
-    const poor = all('input:not([type=checkbox], [type=radio], [type=file]), select').filter((node) => isShown(node)
+    const poor = all('input:not([type=checkbox], [type=radio], [type=file], [type=hidden]), select').filter((node) => isShown(node)
       && ratio(rgb(getComputedStyle(node).borderTopColor), ground(node.parentElement)) < 3);
     return [...poor, ...all('header nav a[aria-current]').filter((node) => ratio(rgb(getComputedStyle(node).borderBottomColor), ground(node)) < 3)].map(told);
   }
@@ -97,7 +97,7 @@
       silent: all('.told, .outcome, .about, .seen-in-file').filter((node) => node.getAttribute('role') !== 'status')
         .concat(all('.wrong').filter((node) => node.getAttribute('role') !== 'alert')).map(told),
       // 3.3.2: a field has a label (a title alone would count as a name), and a hint is tied to its field
-      unlabelled: all('input, select').filter((node) => node.labels.length === 0 && !node.getAttribute('aria-labelledby')).map(told),
+      unlabelled: all('input:not([type=hidden]), select').filter((node) => node.labels.length === 0 && !node.getAttribute('aria-labelledby')).map(told),
       loose: all('.field .hint').filter((node) => !node.parentElement.querySelector('input, select')?.getAttribute('aria-describedby')?.split(' ').includes(node.id)).map(told),
       // 1.3.1: choices that belong together have a name, and tables their heads
       groups: all('fieldset').filter((node) => !node.querySelector('legend')?.textContent.trim()).map(told),
@@ -161,5 +161,58 @@
   /** What moves, though the reader's system says that nothing should. */
   const moving = () => all('body *').filter((node) => /[1-9]/.test(getComputedStyle(node).transitionDuration + getComputedStyle(node).animationDuration)).map(told);
 
-  return { contrast, edges, targets, over, spaced, structure, stops, focus, forced, printed, moving };
+  // Texts
+
+  const TEXTS = 'button, summary, label, legend, th, h1, h2, nav a, .buttons a, .tools a, .links a';
+
+  /** Words that are broken, or run over the edge of what they stand on, because they are too long. */
+  function long() {
+    return all(TEXTS).filter((node) => isShown(node) && !isUnseen(node)).flatMap((node) => wordsOf(node)
+      .filter((word) => isTooLong(word, node)).map((word) => `${word} in ${told(node)}`));
+  }
+
+  /** The words of an element as parts of the page; what is written on both sides of a hyphen or a stroke may be parted. */
+  function wordsOf(node) {
+    const walker = document.createTreeWalker(node, NodeFilter.SHOW_TEXT);
+    const found = [];
+    for (let text = walker.nextNode(); text; text = walker.nextNode()) {
+      if (text.parentElement.closest('.unseen, .words')) continue;
+      for (const { 0: word, index } of text.data.matchAll(/[^\s\-\u2010-\u2015/]+/g)) {
+        const range = document.createRange();
+        range.setStart(text, index);
+        range.setEnd(text, index + word.length);
+        found.push(range);
+      }
+    }
+    return found;
+  }
+
+  function isTooLong(word, node) {
+    const box = node.getBoundingClientRect();
+    const rects = [...word.getClientRects()].filter(({ width }) => width > 0);
+    const end = node.closest('.wide') ? box.right : Math.min(box.right, innerWidth);
+    return new Set(rects.map(({ top }) => Math.round(top))).size > 1 || rects.some(({ left, right }) => left < box.left - 1 || right > end + 1);
+  }
+
+  const OWN = '[lang=""], pre, bdi, code, script, style, template, noscript, .languages';
+
+  /** Texts without a key, on a page in which each text that has one is in brackets. The archive's own have no language. */
+  function unkeyed() {
+    const walker = document.createTreeWalker(document.body, NodeFilter.SHOW_TEXT);
+    const texts = [''];
+    for (let text = walker.nextNode(); text; text = walker.nextNode()) {
+      if (!text.parentElement.closest(OWN)) texts.push(text.data);
+    }
+    const named = all('[aria-label], [title], [placeholder], [alt]').filter((node) => !node.closest(OWN))
+      .flatMap((node) => ['aria-label', 'title', 'placeholder', 'alt'].map((name) => node.getAttribute(name) ?? ''));
+    return [texts.join(' '), ...named].flatMap(withoutBrackets);
+  }
+
+  /** The words outside of all brackets, which may stand in one another. */
+  function withoutBrackets(text) {
+    const rest = text.replace(/⟦[^⟦⟧]*⟧|\blegacyId\b/g, ' '); // names of columns have no other languages
+    return rest === text ? text.match(/\p{L}{2,}[^⟦⟧]*/gu) ?? [] : withoutBrackets(rest);
+  }
+
+  return { contrast, edges, targets, over, spaced, long, unkeyed, structure, stops, focus, forced, printed, moving };
 })()

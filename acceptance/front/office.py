@@ -24,6 +24,7 @@ import re
 import shutil
 import signal
 import socket
+import sqlite3
 import subprocess
 import sys
 import threading
@@ -37,14 +38,20 @@ import client  # noqa: E402
 from waits import until  # noqa: E402
 
 FRONT = pathlib.Path(os.environ.get("FRONT_FILES") or TOP / "front").resolve()  # mutation/front.py names copies of it
+READERS = pathlib.Path(os.environ.get("READERS_SERVICE") or FRONT / "readers")  # mutation/search.py names copies of it
+PYTHON = "/usr/bin/python3"  # Debian's own, which has what the readers' service needs
+QUICK = ("--every", ".2", "--rest", "0", "--orders", "6000")  # rounds and aids without a rest
+# For those who ask for many pages in a row from one address.
+MANY_PAGES = [("record_office_pages burst=60", "record_office_pages burst=6000"),
+              ("aids_in_a_row burst=9", "aids_in_a_row burst=9000")]
 PASSWORD = ("desk", "quiet-paper")
 SIGNED_IN = {"Authorization": "Basic " + base64.b64encode(":".join(PASSWORD).encode()).decode()}
 SETTINGS = client.SETTINGS | {"seats": "12", "daily": "50", "hands": "2", "run": "20"}
 DESK_NAME = "desk.example.org"
 
-# The configuration of a system's nginx around ours.
-NGINX = """daemon off; pid nginx.pid; error_log nginx.log warn; user {user}; worker_processes 1;
-events {{ worker_connections 1000; }}
+# The configuration of a system's nginx around ours, with as many connections as OPERATING tells to allow.
+NGINX = """daemon off; pid nginx.pid; error_log nginx.log warn; user {user}; worker_processes 1; worker_rlimit_nofile 16384;
+events {{ worker_connections 8192; }}
 http {{ include {mime}; access_log access.log; client_body_temp_path tmp/body; proxy_temp_path tmp/proxy;
 fastcgi_temp_path tmp/fastcgi; uwsgi_temp_path tmp/uwsgi; scgi_temp_path tmp/scgi;
 include office.conf; }}
@@ -82,7 +89,9 @@ class Office(client.Office):
         self.sources = [path for path in sorted((FRONT / "server").iterdir()) if path.is_file()]
         named = sorted(set(port for path in self.sources for port in ports_of(path.read_bytes().decode())))
         self.ports = dict(zip(named, free_ports(len(named), first, last)))
-        self.running, self.starts, self.processes, self.serving = False, 0, [], None
+        self.running, self.starts, self.processes, self.serving, self.service = False, 0, [], None, None
+        self.queue, self.listen = self.folder / "readers.sock", self.folder / "pages.sock"
+        self.index, self.words = self.folder / "index.db", READERS / "office.json"
         self.waiting, self.beginning = threading.Event(), threading.Lock()
         self.waiting.set()
 
@@ -111,9 +120,10 @@ class Office(client.Office):
         self.keeper = threading.Thread(target=self._keep, daemon=True)
         self.keeper.start()
         self._begin_queue()
-        self.nginx = self._run("nginx", "-p", str(self.folder), "-c", str(self.folder / "main.conf"))
+        self.nginx = [self._run("nginx", "-p", str(self.folder), "-c", str(path), told=path.stem) for path in self.sites()]
         try:
             self.wait_for(self.public + "/public/fonds")
+            self.wait_for_desk()
         except BaseException:
             self.end()
             raise
@@ -122,6 +132,17 @@ class Office(client.Office):
     def wait_for(self, url):
         """The answer to this question, once there is one."""
         return until(lambda: fetch(url), f"the front answers {url}; see {self.folder}")[0]
+
+    def wait_for_desk(self):
+        """Returns once the desk's nginx takes connections."""
+        def is_open():
+            with socket.socket() as it:
+                return it.connect_ex(("127.0.0.1", self.ports["8081"])) == 0
+        until(is_open, f"the desk takes connections; see {self.folder}")
+
+    def sites(self):
+        """The configurations of the two nginx: readers' and the desk's."""
+        return [self.folder / name for name in ("main.conf", "desk-nginx.conf")]
 
     def queue_state(self, side="office", name="gate"):
         """What HAProxy tells of one of its parts: numbers by their names, such as `qcur`, who waits there."""
@@ -145,6 +166,8 @@ class Office(client.Office):
         with self.beginning:
             self.running = False
         self.waiting.set()
+        if self.service:
+            self.kill_readers()
         for process in self.processes:
             process.terminate()
         if self.serving:
@@ -162,9 +185,65 @@ class Office(client.Office):
     def __exit__(self, *_):
         self.end()
 
+    def serve_readers(self, *more, zone=None):
+        """Begins the readers' service; more: further words of its command line; zone: where its clock is. Returns once it
+        answers."""
+        with open(self.folder / "readers.told", "a") as log:
+            words = [PYTHON, "-B", READERS / "service.py", "--queue", self.queue, "--index", self.index, "--listen",
+                     self.listen, "--words", self.words, "--texts", self.folder / "texts", *(more or QUICK)]
+            clock = {"TZ": zone} if zone else {}
+            self.service = subprocess.Popen([str(word) for word in words], stdout=log, stderr=log, env={**os.environ, **clock})
+        self.wait_for(self.public + "/help")
+
+    @contextlib.contextmanager
+    def without_readers(self, *more):
+        """A context in which the readers' service is away; more: words of its command line afterwards."""
+        self.kill_readers()
+        try:
+            yield
+        finally:
+            self.serve_readers(*more)
+
+    def kill_readers(self):
+        """Kills the readers' service."""
+        self.service.kill()
+        self.service.wait()
+
+    def await_rounds(self, many=2):
+        """Waits until so many rounds have ended from now on. With two, one has seen all that was done before. An index that
+        is begun anew meanwhile counts from 0."""
+        last, ended = self.count_rounds(), 0
+
+        def are_over():
+            """Whether so many have ended."""
+            nonlocal last, ended
+            now = self.count_rounds()
+            if None not in (now, last):
+                ended += now - last if now >= last else now
+            last = last if now is None else now
+            return ended >= many
+        until(are_over, "the rounds have come by")
+
+    def count_rounds(self):
+        """How many rounds the index has seen to their end; None if it cannot be read."""
+        try:
+            with contextlib.closing(sqlite3.connect(f"file:{self.index}?mode=ro", uri=True)) as db:
+                return db.execute("SELECT finished FROM round").fetchone()[0]
+        except sqlite3.Error:
+            return None
+
     def kill_program(self):
         """kill -9; the program is begun again at once."""
         self.serving.kill()
+
+    def stop_program(self):
+        """Stops the program until somebody sends it SIGCONT; returns its process. What comes from now on is not read:
+        without a wait, a program that is just woken would still read it before it stops."""
+        stopped = self.serving
+        os.kill(stopped.pid, signal.SIGSTOP)
+        state = pathlib.Path(f"/proc/{stopped.pid}/stat")
+        until(lambda: state.read_text().rsplit(") ", 1)[1].startswith("T"), "the program is stopped")
+        return stopped
 
     @contextlib.contextmanager
     def change_file(self, name, old, new):
@@ -182,10 +261,13 @@ class Office(client.Office):
 
     def read_anew(self, name):
         """Makes the servers read a file of front/ that has changed, if they do read it."""
+        if name.startswith("readers/") and self.service:
+            with self.without_readers():
+                pass
         if name.startswith("server/"):
             self.configure()
-            place = ["-p", self.folder, "-c", self.folder / "main.conf"]
-            subprocess.run([program_path("nginx"), "-t", "-q", *place], check=True)
+            for path in self.sites():
+                subprocess.run([program_path("nginx"), "-t", "-q", "-p", self.folder, "-c", path], check=True)
             if not name.endswith(".conf"):
                 self.haproxy.terminate()
                 self.haproxy.wait(20)
@@ -194,14 +276,17 @@ class Office(client.Office):
             self.wait_for(self.public + "/public/fonds")
 
     def reload(self):
-        """nginx reads its files anew; ends when no worker takes requests by the old ones any more."""
-        old = self.workers()
-        self.nginx.send_signal(signal.SIGHUP)
-        until(lambda: self.workers() and not self.workers() & old, "nginx has read its files anew")
+        """Each nginx reads its files anew; ends when no worker takes requests by the old ones any more."""
+        for nginx in self.nginx:
+            old = self.workers(nginx)
+            nginx.send_signal(signal.SIGHUP)
+            until(lambda one=nginx, gone=old: self.workers(one) and not self.workers(one) & gone,
+                  "nginx has read its files anew")
 
-    def workers(self):
-        """The workers of nginx that take requests."""
-        own = pathlib.Path(f"/proc/{self.nginx.pid}/task/{self.nginx.pid}/children").read_text().split()
+    @staticmethod
+    def workers(nginx):
+        """The workers of an nginx that take requests."""
+        own = pathlib.Path(f"/proc/{nginx.pid}/task/{nginx.pid}/children").read_text().split()
         titles = {}
         for worker in own:
             with contextlib.suppress(OSError):
@@ -235,9 +320,9 @@ class Office(client.Office):
         """Starts HAProxy."""
         self.haproxy = self._run("haproxy", "-f", "haproxy.cfg")
 
-    def _run(self, *words):
-        """Starts a server in the folder; returns its process."""
-        log = open(self.folder / f"{words[0]}.told", "w")
+    def _run(self, *words, told=None):
+        """Starts a server in the folder; returns its process. told: the name of what it prints."""
+        log = open(self.folder / f"{told or words[0]}.told", "w")
         path = os.environ["PATH"] + ":/usr/sbin:/usr/local/sbin"
         process = subprocess.Popen(words, cwd=self.folder, stdout=log, stderr=log, env={**os.environ, "PATH": path})
         self.processes.append(process)
@@ -262,8 +347,8 @@ class Office(client.Office):
         for path in self.sources:
             name = "office.conf" if path.name == "nginx.conf" else path.name
             (self.folder / name).write_bytes(self.adapt(path.read_bytes().decode()).encode())
-        user = pwd.getpwuid(os.getuid()).pw_name
-        (self.folder / "main.conf").write_text(NGINX.format(user=user, mime=mime_types()))
+        (self.folder / "desk").mkdir(exist_ok=True)
+        (self.folder / "main.conf").write_text(NGINX.format(user=user_name(), mime=mime_types()))
         name, password = PASSWORD
         digest = base64.b64encode(hashlib.sha1(password.encode()).digest()).decode()
         (self.folder / "staff").write_text(f"{name}:{{SHA}}{digest}\n")
@@ -275,8 +360,15 @@ class Office(client.Office):
         text = text.replace(DESK_NAME, "127.0.0.1")
         for theirs, our in (("/usr/share/record-office/front", FRONT), ("/etc/record-office", self.folder),
                             ("/run/record-office-queue", self.folder),
-                            ("/run/record-office-search/search", self.folder / "answers"),
+                            ("/run/record-office-try/try", self.folder / "tries"),
+                            ("/var/log/nginx/record-office", self.folder / "log"),
+                            ("/run/record-office-readers", self.folder),
                             ("/var/cache/record-office", self.folder / "cache"),
+                            ("/run/record-office-desk", self.folder / "desk"), ("user www-data;", f"user {user_name()};"),
+                            ("/etc/nginx/mime.types", mime_types()), ("error_log stderr", f"error_log {self.folder}/nginx.log"),
+                            ("syslog:server=unix:/dev/log,tag=record_office_desk", self.folder / "access.log"),
+                            ("/var/log/nginx", self.folder),
+                            (" group record-office-readers", ""), ("listen [::]:", "listen [::1]:"),
                             ("    default-path config\n",
                              f"    default-path config\n    stats socket {self.folder}/stats.sock\n")):
             text = text.replace(theirs, str(our))
@@ -285,9 +377,14 @@ class Office(client.Office):
         return text
 
 
-PORT = r"((?:127\.0\.0\.1|localhost|\[::1\]|\*|" + re.escape(DESK_NAME) + r"):)(\d{4,5})\b"
+PORT = r"((?:127\.0\.0\.1|localhost|\[::1?\]|\*|" + re.escape(DESK_NAME) + r"):)(\d{4,5})\b"
 
 LISTEN = r"\blisten (\d{4,5})\b"
+
+
+def user_name():
+    """The name of the user who plays."""
+    return pwd.getpwuid(os.getuid()).pw_name
 
 
 def program_path(name):
@@ -340,6 +437,7 @@ def main():
     for path in given.files:
         print(office.import_file("catalogue", path).expect_success().decode(), end="")
     with office, contextlib.suppress(KeyboardInterrupt):
+        office.serve_readers("--every", "5")
         print(f"readers {office.public}\nstaff   {office.staff}, name {PASSWORD[0]}, password {PASSWORD[1]}")
         print("Ctrl-C ends it", flush=True)
         signal.pause()

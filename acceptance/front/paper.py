@@ -1,13 +1,12 @@
 #!/usr/bin/env python3
 """What the desk prints, and what stays in view: nine boxes with long names, nine readers with longer ones, a unit with
-sixty below it; and the office's own words.
+sixty below it.
 
     paper.py [--program PROGRAM] FOLDER
 
 FOLDER is made anew, and gets the pages that were printed. The last line is `N passed, M failed`.
 """
 
-import json
 import sys
 
 sys.dont_write_bytecode = True
@@ -61,15 +60,15 @@ def place_orders(asks):
 
 
 class Paper:
-    """The desk's pages, and in `hall` those of the readers, over an office with a run."""
+    """The desk's pages over an office with a run."""
 
-    def __init__(self, checks, asks, page, hall, folder):
-        self.checks, self.asks, self.page, self.hall, self.folder = checks, asks, page, hall, folder
+    def __init__(self, checks, asks, page, folder):
+        self.checks, self.asks, self.page, self.folder = checks, asks, page, folder
 
     def play(self):
         """Plays all parts."""
         for part in (self.slip, self.call_slips, self.tickets_and_labels, self.today, self.unit, self.removal,
-                     self.notes, self.own_words):
+                     self.notes):
             self.checks.part(f"paper: {part.__name__}", part)
 
     def at(self, hash_, words):
@@ -144,20 +143,6 @@ class Paper:
         self.page.see("This reader is not the first")
         self.checks.same("cards stay where they are", self.page.js(TOPS), before)
 
-    def own_words(self):
-        """The office's name, address, hours, and what happens after an order."""
-        words = {"name": "Archive of the harbour", "address": "1 Quay Street\nHull",
-                 "hours": "Monday to Friday, 9 to 5"}
-        self.hall.open(self.asks.office.public, "/help")
-        self.checks.check("without an address none is shown", "Address" not in self.hall.text())
-        self.hall.answer_with("*/office.json", 200, json.dumps(words).encode())
-        self.hall.visit(f"{self.asks.office.public}/help")
-        self.hall.see("1 Quay Street\nHull")
-        self.hall.see("Monday to Friday, 9 to 5")
-        self.hall.see("Archive of the harbour", "header")
-        self.hall.answer_with(None, 0, b"")
-        self.checks.check("the office's own words", True)
-
 
 def play(checks, program, folder, browser):
     """Plays all parts over an office of its own."""
@@ -166,9 +151,9 @@ def play(checks, program, folder, browser):
     with office:
         asks = Asks(office)
         place_orders(asks)
-        page, hall = browser.page(SIGNED_IN), browser.page()
-        Paper(checks, asks, page, hall, office.folder).play()
-        checks.same("the browser complains of nothing", page.complaints() + hall.complaints(), [])
+        page = browser.page(SIGNED_IN)
+        Paper(checks, asks, page, office.folder).play()
+        checks.same("the browser complains of nothing", page.complaints(), [])
 
 
 def main():

@@ -10,7 +10,7 @@ import stat
 import time
 
 from asks import Asks
-from office import SIGNED_IN, TOP, Office
+from office import FRONT, MANY_PAGES, SIGNED_IN, TOP, Office
 from restarts import UNANSWERED, Sender, count_unread, registration
 from rules import ask_once, check_policy, status
 from stall import Socket
@@ -19,12 +19,15 @@ from waits import until
 
 import client
 
-ROUND = {"Record-Office-Round": "yes"}
+ROUND, AID, CRAWLER, SEARCH, PAGE = ({"Record-Office-For": name} for name in ("round", "aid", "crawler", "search",
+                                                                              "page"))
 HALF = client.post("/desk/run", b" " * 100)[:-100]  # without its body
 QUESTION = client.request("GET", "/public/fonds", fields={"Connection": "close"})
 SHORT = (("timeout queue 120s", "timeout queue 2s"), ("timeout server 120s", "timeout server 5s"),
          ("retries 110", "retries 2"))
 NOT_REACHED = (503, b'{"error":"not reached"}')
+SEARCHES = ("/search", "/public/search")
+SELDOM = ("--every", "100000", "--rest", "0")
 LARGE = 24_000_000  # more bytes than sockets hold
 IDLE = 9  # seconds after which the program is about to close an idle connection
 PARTS = ("order", "heads", "bodies_first", "slow_reader", "one_connection", "idle", "never_twice", "left_behind",
@@ -33,9 +36,11 @@ PARTS = ("order", "heads", "bodies_first", "slow_reader", "one_connection", "idl
 
 def play(checks, program, folder, only=None):
     """Plays all parts over one office, or one of them."""
-    office = Office.create(program, folder)
+    office = Office.create(program, folder, changes=MANY_PAGES)
     office.import_file("archives", TOP / "examples/archives.csv").expect_success()
     with office:
+        office.serve_readers(*SELDOM)
+        until(office.count_rounds, "the only round is over")
         for name in PARTS[:-1]:
             if only in (None, name):
                 checks.part(f"queue: {name}", globals()[name], checks, office)
@@ -50,24 +55,23 @@ class Way:
     def __init__(self, office, side, method, path, heads=None):
         self.sender = Sender(office.ports["8092" if side == "desk" else "8091"],
                              [(method, path, "{}" if method == "POST" else None, heads or {})])
-        if side == "search":
+        if side == "service":
             self.sender.run = lambda: self.ask_socket(office, path, heads or {})
         self.path = path
 
     def ask_socket(self, office, path, heads):
-        """Asks at the search's socket, and keeps the status of the answer."""
-        with contextlib.closing(Socket(office.folder / "search.sock")) as connection:
+        """Asks at the service's socket, and keeps the status of the answer."""
+        with contextlib.closing(Socket(office.queue)) as connection:
             connection.request("GET", path, headers=heads)
             self.sender.got.append((connection.getresponse().status, b""))
 
 
 def order(checks, office):
-    """Who waits longest does not go first: the desk, then pages, orders, what the search asks for readers, finding
-    aids, rounds."""
-    asked = [("readers", "GET", "/public/units/1"), ("search", "GET", "/public/fonds", ROUND),
-             ("readers", "GET", "/public/aid/1"), ("search", "GET", "/public/units/2"),
-             ("readers", "POST", "/public/orders"), ("readers", "GET", "/public/units/3"),
-             ("desk", "POST", "/desk/run")]
+    """Who waits longest does not go first: the desk, then pages, orders, searches, crawlers, finding aids, rounds."""
+    asked = [("readers", "GET", "/public/units/1"), ("service", "GET", "/public/fonds", ROUND),
+             ("service", "GET", "/public/aid/1", AID), ("service", "GET", "/public/units/4", CRAWLER),
+             ("service", "GET", "/public/units/2", SEARCH), ("readers", "POST", "/public/orders"),
+             ("service", "GET", "/public/units/3", PAGE), ("desk", "POST", "/desk/run")]
     ways = [Way(office, *one) for one in asked]
     with office.without_program():
         for many, way in enumerate(ways):
@@ -79,7 +83,7 @@ def order(checks, office):
             for way in ways:
                 way.sender.join(60)
             wanted = ["/public/units/1", "/desk/run", "/public/units/3", "/public/orders", "/public/units/2",
-                      "/public/aid/1", "/public/fonds"]
+                      "/public/units/4", "/public/aid/1", "/public/fonds"]
             checks.same("each waits behind those that go first", program.paths, wanted)
     checks.same("each is answered", [way.sender.got[0][0] for way in ways], [200] * len(ways))
 
@@ -182,30 +186,31 @@ def never_twice(checks, office):
 
 
 def ways_in(checks, office):
-    """What each way into the queue lets through, and who may come to the search's."""
+    """What each way into the queue lets through, and who may come to the service's."""
     for port, path, wanted in (("8091", "/desk/issued", 404), ("8091", "/public/fonds", 200),
                                ("8092", "/desk/issued", 200)):
         checks.same(f"{path} at {port}", status(ask_once(office.ports[port], "GET", path)), wanted)
     for method, path, wanted in (("GET", "/public/fonds", 200), ("GET", "/public/units/1", 200),
                                  ("GET", "/public/aid/1", 200), ("POST", "/public/fonds", 404),
-                                 ("GET", "/public/orders", 404), ("POST", "/public/orders", 404),
+                                 ("GET", "/public/orders", 404), ("POST", "/public/orders", 400),
                                  ("GET", "/desk/issued", 404)):
         with socket.socket(socket.AF_UNIX) as it:
-            it.connect(str(office.folder / "search.sock"))
+            it.connect(str(office.queue))
             it.sendall(client.request(method, path, {}))
-            checks.same(f"{method} {path} at the search's socket", status(it.recv(65536)), wanted)
+            checks.same(f"{method} {path} at the service's socket", status(it.recv(65536)), wanted)
     for port, side, path in (("8080", "readers", "/public/fonds"), ("8081", "desk", "/public/fonds"),
                              ("8081", "desk", "/desk/issued")):
         before = int(office.queue_state(side, "FRONTEND")["req_tot"])
         ask(office, path, port, SIGNED_IN).read()
         checks.same(f"{path} at {port} comes by the way of the {side}",
                     int(office.queue_state(side, "FRONTEND")["req_tot"]) - before, 1)
-    checks.same("any user may use it", stat.S_IMODE((office.folder / "search.sock").stat().st_mode), 0o666)
+    checks.same("its user and its group may use it", stat.S_IMODE(office.queue.stat().st_mode), 0o660)
+    checks.check("which is the service's", "group record-office-readers" in (FRONT / "server/haproxy.cfg").read_text())
     with office.without_queue():
         for path in ("/public/fonds", "/public/units/1"):
             got = ask_once(office.ports["8080"], "GET", path)
             checks.same(f"{path} without the queue", (status(got), body_of(got)), NOT_REACHED)
-            check_policy(checks, f"{path} without the queue", got, "application/json", None)
+            check_policy(checks, f"{path} without the queue", got, "application/json", None, forms="'self'")
 
 
 def body_of(answer):
@@ -215,16 +220,18 @@ def body_of(answer):
 
 def logs(checks, office):
     """What readers look for stands in no log, and the queue tells only what went wrong."""
-    statuses = {ask(office, "/public/search?q=nobodyelsesbusiness").status for _ in range(30)}
-    with StandIn(office.folder / "answers.sock", body=b"{}"):
-        os.chmod(office.folder / "answers.sock", 0o666)
-        statuses.add(until(lambda: (got := ask(office, "/public/search?q=nobodyelsesbusiness").status) == 200 and got,
+    with office.without_readers(*SELDOM):
+        statuses = {ask(office, f"{path}?q=nobodyelsesbusiness").status for _ in range(15) for path in SEARCHES}
+    for path in SEARCHES:
+        statuses.add(until(lambda: (got := ask(office, f"{path}?q=nobodyelsesbusiness").status) == 200 and got,
                            "the search answers"))
     checks.same("searches without and with their service, and too many", statuses, {503, 429, 200})
     ask(office, "/public/units/1?seen").read()
     until(lambda: "/public/units/1?seen" in (office.folder / "access.log").read_text(),
           "other questions are logged by nginx")
-    for name in ("access.log", "nginx.log", "haproxy.told"):
+    seen = [line for line in (office.folder / "access.log").read_text().splitlines() if "/public/units/1?seen" in line]
+    checks.same("of an address the log has the network", {line.split()[0] for line in seen}, {"127.0.0.0"})
+    for name in ("access.log", "nginx.log", "readers.told", "haproxy.told"):
         told = (office.folder / name).read_text()
         checks.check(f"no searches in {name}", "nobodyelsesbusiness" not in told, told[-300:])
     checks.check("the queue logs nothing of what went well", " 200 " not in told, told[-300:])
@@ -239,7 +246,7 @@ def late(checks, office):
         sender.join(60)
         checks.same("the program is away", sender.got, [NOT_REACHED])
     office.wait_for(office.public + "/public/fonds")
-    os.kill(office.serving.pid, signal.SIGSTOP)
+    stopped = office.stop_program()
     asks, waits = Sender(office.ports["8080"], [("GET", "/public/fonds", None, {})]), registration(office, "Nobody")
     asks.start()
     until(lambda: count_unread(office.ports["8090"]), "the program has a question before it")
@@ -249,8 +256,8 @@ def late(checks, office):
     asks.join(60)
     checks.same("what the program did not answer", asks.got, [UNANSWERED])
     got = ask_once(office.ports["8080"], "GET", "/public/fonds")
-    check_policy(checks, "a program that does not answer", got, "application/json", "no-store")
-    os.kill(office.serving.pid, signal.SIGCONT)
+    check_policy(checks, "a program that does not answer", got, "application/json", "no-store", forms="'self'")
+    os.kill(stopped.pid, signal.SIGCONT)
     checks.same("nobody was registered", Asks(office).question("/desk/readers/1", True)[0], 404)
 
 

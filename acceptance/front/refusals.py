@@ -3,11 +3,13 @@
 The office of this part has the SETTINGS of acceptance/client.py: 2 seats, 3 orders of a ticket in a day, one container
 in hand, and runs of two."""
 
+import json
 import re
+import subprocess
 
 import catalogue
 from looks import RULES
-from office import TOP
+from office import PYTHON, READERS, TOP
 
 from plain import limits as most
 
@@ -19,6 +21,8 @@ TELLING = {1: "no unit", 2: "no ticket", 3: "no container", 4: "expired", 5: "no
            17: "not out", 18: "not later", 19: "still out", 20: "below itself", 21: "would close", 22: "not imported",
            23: "limits", 24: "nothing to move", 25: f"{most.DEEPEST} levels",
            26: "no run", 27: "name cannot be used", 28: "no permit"}
+TOLD_READERS = {2: "no reader’s ticket", 4: "expired", 5: "closed or not yet", 6: "already", 7: "all the orders",
+                23: "no more"}
 # Units with permits, one more and some others; then the deepest branch that there may be.
 BOXES = most.MOST_PERMITS + 5
 UNREACHED = {26}  # the program answers an unknown run with 404, which has words of its own
@@ -64,8 +68,8 @@ class Refusals:
                          [number for number, words in TELLING.items() if words not in table[str(number)][0]], [])
         self.checks.same("no two say the same", len({means for means, _ in table.values()}), 28)
         self.limits(self.page.js("import('/shared/limits.js').then((told) => ({...told}))"))
-        self.checks.same("each cause of a bad file has its words", [int(one) for one in RULES["causes"]],
-                         list(range(1, 13)))
+        self.checks.same("each cause of a bad file has its words, the seventh for equal rows too", list(RULES["causes"]),
+                         [*map(str, range(1, 8)), "7 equal", *map(str, range(8, 13))])
 
     def limits(self, shown):
         """The numbers of the pages are those of the rules."""
@@ -78,10 +82,14 @@ class Refusals:
 
     def readers_words(self):
         """A reader never sees the number of a refusal."""
-        told = self.page.js("import('/shared/refusals.js').then((told) => Array.from({length: 30}, (_, code) =>"
-                            " told.readerWords({ok: false, kind: 'refused', code, refused: 'X'}).join(' ')))")
+        code = ("import json, orders; "
+                "print(json.dumps({code: orders.REFUSALS.get(code, orders.OTHER) for code in range(30)}))")
+        done = subprocess.run([PYTHON, "-B", "-c", code], cwd=READERS, capture_output=True, text=True, check=True)
+        told = json.loads(done.stdout)
         self.checks.check("readers are told in words alone",
-                          all(re.fullmatch(r"[A-Z][^0-9{}]+\.", text) for text in told), told)
+                          all(re.fullmatch(r"[A-Z][^0-9{}]+\.", text) for text in told.values()), told)
+        self.checks.same("each text for readers stands at its number",
+                         [number for number, words in TOLD_READERS.items() if words not in told[str(number)]], [])
 
     def meet(self, code, hash_, card, fields, button, more=""):
         """Fills in a form, presses its button, and sees the words of the module for this number."""

@@ -1,6 +1,7 @@
 """The front's rules, asked by sockets: what readers reach, and what the desk's listener turns away."""
 
 import base64
+import concurrent.futures
 import json
 import select
 import socket
@@ -23,9 +24,9 @@ ODD_PATHS = [form.format(way) for way in ("desk/issued", "desk/run", "desk/regis
 UNKNOWN_ORDER = {"ticket": 999, "container": 1}
 
 
-def exchange(port, sent, source=client.HOST):
+def exchange(port, sent, source=client.HOST, host=client.HOST):
     """Sends bytes over a connection of its own; returns all that comes until the other side closes it."""
-    with socket.create_connection((client.HOST, port), 90, (source, 0)) as it:
+    with socket.create_connection((host, port), 90, (source, 0)) as it:
         it.sendall(sent)
         got = b""
         while piece := it.recv(65536):
@@ -57,12 +58,18 @@ HTML, SCRIPT, STYLE = (f"{kind}; charset=utf-8" for kind in ("text/html", "appli
 TEXT, JSON = "text/plain; charset=utf-8", "application/json"
 # Of each kind of answer: the site, the path, the status, what it is, and how long it is kept.
 ANSWERS = (
-    ("readers", "/", 200, HTML, "no-cache"), ("readers", "/unit/1", 200, HTML, "no-cache"),
-    ("readers", "/no", 404, HTML, "no-cache"),
-    ("readers", "/main.js", 200, SCRIPT, "no-cache"), ("readers", "/shared/dom.js", 200, SCRIPT, "no-cache"),
+    *(("readers", path, 200, HTML, "no-store") for path in ("/", "/unit/1", "/aid/1", "/search?q=x", "/ordered")),
+    ("readers", "/no", 404, HTML, "no-store"), ("readers", "/unit/4711", 404, HTML, "no-store"),
+    ("readers", "/robots.txt", 200, TEXT, "no-store"),
+    ("readers", "/sitemap.xml", 200, "application/xml; charset=utf-8", "no-store"),
+    ("readers", "/enhance.js", 200, SCRIPT, "no-cache"), ("readers", "/shared/dom.js", 200, SCRIPT, "no-cache"),
     ("readers", "/public.css", 200, STYLE, "no-cache"), ("readers", "/shared/base.css", 200, STYLE, "no-cache"),
     ("readers", "/public/fonds", 200, TEXT, "no-store"), ("readers", "/public/units/999999", 404, JSON, "no-store"),
-    ("readers", "/public/none", 404, JSON, None), ("readers", "/public/search?q=x", 503, JSON, None),
+    ("readers", "/public/aid/1", 200, TEXT, "no-store"), ("readers", "/public/aid/999999", 404, JSON, "no-store"),
+    ("readers", "/public/none", 404, JSON, None), ("readers", "/public/search?q=x", 200, JSON, "no-store"),
+    ("readers", "/public/fonds%0a", 404, JSON, None), ("readers", "/public/aid/1%0a", 404, JSON, None),
+    ("readers", "/unit/1%0a", 404, HTML, "no-store"), ("desk", "/desk/issued%0a", 404, JSON, None),
+    ("desk", "/desk/import/x%0a", 404, JSON, None),
     ("readers", "/public/orders", 405, JSON, "no-store"), ("desk", "/", 200, HTML, "no-cache"),
     ("desk", "/desk.css", 200, STYLE, "no-cache"),
     ("desk", "/shared/dom.js", 200, SCRIPT, "no-cache"), ("desk", "/desk/issued", 200, JSON, "no-store"),
@@ -71,13 +78,16 @@ ANSWERS = (
 # is kept.
 REFUSED = (
     ("readers", "/public/orders", {"Origin": "http://evil.example"}, 2, 403, "no-store"),
+    ("readers", "/unit/1/order", {"Origin": "http://evil.example"}, 2, 403, "no-cache"),
+    ("readers", "/unit/1/order", {"Sec-Fetch-Site": "cross-site"}, 2, 403, "no-cache"),
+    ("readers", "/ordered/order", {"Origin": "http://evil.example"}, 2, 403, "no-cache"),
+    ("readers", "/unit/1/order", {}, 6000, 413, "no-cache"),
     ("readers", "/public/orders", {}, 6000, 413, None),
     ("desk", "/desk/run", {"Origin": "http://evil.example"}, 2, 403, "no-store"),
     ("desk", "/desk/import/x", {"Sec-Fetch-Site": "cross-site"}, 2, 403, "no-store"))
 POLICY = {
     "content-security-policy":
-        "default-src 'none'; script-src 'self'; style-src 'self'; img-src 'self'; connect-src 'self'; form-action "
-    "'none'; "
+        "default-src 'none'; script-src 'self'; style-src 'self'; img-src 'self'; connect-src 'self'; form-action FORMS; "
         "base-uri 'none'; frame-ancestors 'none'; require-trusted-types-for 'script'",
     "x-content-type-options": "nosniff", "referrer-policy": "same-origin", "cross-origin-opener-policy": "same-origin",
     "cross-origin-resource-policy": "same-origin", "permissions-policy": "camera=(), microphone=(), geolocation=()",
@@ -101,13 +111,19 @@ def fields_of(answer):
     return found
 
 
-def check_policy(checks, what, answer, kind, kept, transport=None):
-    """Each part of the policy once, and no more; the kind of the answer; and how long it is kept (None: it does not
-    say)."""
-    found, wanted = fields_of(answer), {name: [value] for name, value in POLICY.items()}
+def check_policy(checks, what, answer, kind, kept, transport=None, forms="'none'"):
+    """Each part of the policy once, and no more; the kind of the answer; how long it is kept (None: it does not say);
+    and where its forms may be sent."""
+    found = fields_of(answer)
+    wanted = {name: [value.replace("FORMS", forms)] for name, value in POLICY.items()}
     wanted |= {"content-type": [kind], "cache-control": [kept] if kept else None,
                "strict-transport-security": [transport] if transport else None}
     checks.same(f"what a browser is told of {what}", {name: found.get(name) for name in wanted}, wanted)
+
+
+def forms_of(site, path):
+    """Where forms of an answer may be sent: those of the readers' pages to their own site."""
+    return "'self'" if site == "readers" and not path.startswith("/shared/") else "'none'"
 
 
 def status(answer):
@@ -126,7 +142,7 @@ class Rules:
     def play(self, only=None):
         """Plays all parts, or one; foreign_page only where there is a browser."""
         parts = [self.odd_paths, self.readers_limits, self.password, self.staffs_limits, self.other_sites,
-                 self.other_names, self.heads, self.pages_alone, self.lists, self.questions_of_heads, self.no_page,
+                 self.other_names, self.heads, self.own_answers, self.by_ipv6, self.pages_alone, self.lists, self.questions_of_heads, self.no_page,
                  self.limit_of_orders, self.orders_from_elsewhere, *([self.foreign_page] if self.page else [])]
         for part in parts:
             if only in (None, part.__name__):
@@ -180,7 +196,7 @@ class Rules:
             self.checks.check(f"at once at {path} {'with a right one' * bool(given)}", took < late - 1, (took, late))
         self.checks.same("what is shown after signing out has no other way in",
                          status(self.ask_as_staff(self.staff, "GET", "/signed-out.html")), 404)
-        self.guesses(wrong)
+        self.guesses()
         status_, page = self.asks.question("/sign-out", True)
         self.checks.check("signing out refuses the right password", status_ == 401 and "You have signed out" in page,
                           (status_, page))
@@ -194,11 +210,20 @@ class Rules:
         """The bytes of the desk's answer to a question with these fields alone."""
         return ask_once(self.staff, "GET", path, host=f"{client.HOST}:{self.staff}", fields=fields)
 
-    def guesses(self, wrong):
-        """A wrong password is answered late, and one address has a limited number of them at a time."""
+    def guesses(self):
+        """A wrong password is answered late, and of one name from one address a limited number at a time; other names are
+        not kept waiting."""
+        wrong = base64.b64encode(b"guest:wrong").decode()
         fields = {"Authorization": f"Basic {wrong}", "Connection": "close"}
         request = client.request("GET", "/desk/issued", host=f"{client.HOST}:{self.staff}", fields=fields)
-        answers = send_at_once(self.staff, request, 140)
+        with concurrent.futures.ThreadPoolExecutor(1) as other:
+            guessing = other.submit(send_at_once, self.staff, request, 140)
+            got = []
+            while not guessing.done() and len(got) < 20:
+                got.append(self.time_password("/desk/issued", SIGNED_IN["Authorization"]))
+            answers = guessing.result()
+        self.checks.same("the right one is answered beside them", {status(one) for one, _ in got}, {200})
+        self.checks.check("and at once", max(took for _, took in got) < 4, max(took for _, took in got))
         times = [took for one, took in answers if one == 401]
         slow = len(times) <= 100 and all(took > 4.5 for took in times)
         self.checks.check("100 guesses take five seconds", slow, sorted(answers)[:3])
@@ -251,12 +276,32 @@ class Rules:
         for site, path, wanted, kind, kept in ANSWERS:
             got = self.ask_as_staff(self.ports[site], "GET", path)
             self.checks.same(f"status of {path}", status(got), wanted)
-            check_policy(self.checks, path, got, kind, kept)
+            check_policy(self.checks, path, got, kind, kept, forms=forms_of(site, path))
         for site, path, fields, size, wanted, kept in REFUSED:
             got = self.ask_as_staff(self.ports[site], "POST", path, b"{}".rjust(size), fields)
             self.checks.same(f"status of {size} bytes to {path} {fields}", status(got), wanted)
-            check_policy(self.checks, f"{size} bytes to {path} {fields}", got, JSON, kept)
+            kind = HTML if path.endswith("/order") else JSON
+            check_policy(self.checks, f"{size} bytes to {path} {fields}", got, kind, kept, forms=forms_of(site, path))
         check_policy(self.checks, "no password", self.ask_without_password("/"), HTML, None)
+
+    def own_answers(self):
+        """What nginx itself says of requests that it does not take carries the policy too."""
+        for site, port in self.ports.items():
+            host = f"Host: {client.HOST}:{port}\r\nConnection: close\r\n\r\n"
+            for line, wanted in (("GET /%zz HTTP/1.1", 400), ("TRACE / HTTP/1.1", 405), ("GET / HTTP/2.0", 505),
+                                 (f"GET /{'a' * 9000} HTTP/1.1", 414)):
+                got = exchange(port, f"{line}\r\n{host}".encode())
+                self.checks.same(f"{site}: {line[:20]}", status(got), wanted)
+                check_policy(self.checks, f"{site}, {wanted}", got, HTML, None, forms=forms_of(site, "/"))
+        got = ask_once(self.staff, "GET", "/", host="evil.example")
+        check_policy(self.checks, "another name", got, HTML, None)
+
+    def by_ipv6(self):
+        """Both sites answer by IPv6 too."""
+        for site, path, wanted in (("readers", "/public/fonds", 200), ("desk", "/desk/issued", 200)):
+            request = client.request("GET", path, b"", f"[::1]:{self.ports[site]}", {**SIGNED_IN, "Connection": "close"})
+            got = exchange(self.ports[site], request, "::1", "::1")
+            self.checks.same(f"{site} by IPv6", status(got), wanted)
 
     def ask_as_staff(self, port, method, path, body=b"", fields=()):
         """The bytes of the answer to a request of a member of staff, to either site."""
@@ -264,15 +309,16 @@ class Rules:
 
     def pages_alone(self):
         """Files are asked for, and asked for again only if they have changed; nothing is sent to them."""
-        for port, path in ((self.public, "/"), (self.public, "/main.js"), (self.public, "/shared/dom.js"),
-                           (self.staff, "/"), (self.staff, "/shared/dom.js"),
-                           (self.staff, "/lists/a.html")):
+        for port, path in ((self.public, "/enhance.js"), (self.public, "/shared/dom.js"), (self.staff, "/"),
+                           (self.staff, "/shared/dom.js"), (self.staff, "/lists/a.html")):
             self.checks.same(f"nothing is posted to {path}", status(self.ask_as_staff(port, "POST", path)), 403)
-        for port, path in ((self.public, "/main.js"), (self.staff, "/main.js"), (self.public, "/unit/1")):
+        for path in ("/", "/unit/1", "/search", "/help"):
+            self.checks.same(f"nor to {path}", status(self.ask_as_staff(self.public, "POST", path)), 405)
+        for port, path in ((self.public, "/enhance.js"), (self.staff, "/main.js")):
             tag = fields_of(self.ask_as_staff(port, "GET", path)).get("etag", ["none"])[0]
             again = self.ask_as_staff(port, "GET", path, fields={"If-None-Match": tag})
             self.checks.same(f"an unchanged {path} is not sent again", status(again), 304)
-        for path in ("/main.js", "/public.css", "/public/aid/1"):
+        for path in ("/enhance.js", "/public.css", "/unit/1", "/public/aid/1"):
             got = fields_of(self.ask_as_staff(self.public, "GET", path, fields={"Accept-Encoding": "gzip"}))
             self.checks.same(f"{path} is sent packed", got.get("content-encoding"), ["gzip"])
 
@@ -304,13 +350,23 @@ class Rules:
         self.checks.same("an order is no question", self.asks.send("HEAD", "/public/orders", None, False)[0], 405)
 
     def no_page(self):
-        """What is no page says so in words, with 404; pages' addresses are the same file."""
-        page = self.asks.text("/")
-        for path in ("/unit/1", "/aid/1", "/help", "/unit/4711"):
-            self.checks.same(f"{path} is a page", self.asks.question(path), (200, page))
-        for path in ("/no/such/page", "/unit/x", "/unit/", "/shared/none.js", "/.well-known/x"):
-            self.checks.same(f"{path} is none", self.asks.question(path), (404, page))
+        """What is no page says so in words, with 404; and what the front says without the service."""
+        for path in ("/no/such/page", "/unit/x", "/unit/", "/unit/01", "/.well-known/x", "/index.htm"):
+            got, page = self.asks.question(path)
+            self.checks.same(f"{path} is none", (got, "No such page" in page), (404, True))
+        for path in ("/shared/none.js", "/none.css", "/away.html"):
+            self.checks.same(f"nor is a file that is not there: {path}", self.asks.question(path)[0], 404)
         self.checks.check("robots are told", "User-agent: *" in self.asks.text("/robots.txt"))
+        with self.asks.office.without_readers():
+            for path in ("/", "/unit/1", "/aid/1", "/search?q=x", "/no/such/page"):
+                got = self.ask_as_staff(self.public, "GET", path)
+                self.checks.same(f"{path} without the service", (status(got), fields_of(got).get("retry-after")),
+                                 (503, ["60"]))
+                self.checks.check(f"{path} in words", all(f'lang="{code}"'.encode() in got for code in ("en", "de", "fr")))
+                check_policy(self.checks, f"{path} without the service", got, HTML, "no-cache", forms="'self'")
+            self.checks.same("the program's own routes go on", self.asks.question("/public/fonds")[0], 200)
+            self.checks.same("but for finding aids", self.asks.question("/public/aid/1"),
+                             (503, '{"error":"not reached"}'))
 
     def try_order(self):
         """The status and the text of the answer to a reader's order, which the program refuses if it gets it."""
@@ -326,7 +382,9 @@ class Rules:
         got = until(lambda: status(answer := self.ask_as_staff(self.public, "POST", "/public/orders", b"{}")) == 429
                     and answer, "there is one too many")
         self.checks.same("the answer to one too many", got.split(b"\r\n\r\n", 1)[1], b'{"error":"too many"}')
-        check_policy(self.checks, "one too many", got, "application/json", None)
+        check_policy(self.checks, "one too many", got, "application/json", None, forms="'self'")
+        got = self.ask_as_staff(self.public, "POST", "/unit/1/order", b"ticket=999&container=1")
+        self.checks.check("nor is one more taken by a form", status(got) == 429 and b"Too many requests" in got, got[:200])
         self.checks.same("pages are not held up by orders", self.asks.question("/public/fonds")[0], 200)
         self.checks.same("the desk orders on",
                          self.asks.try_command("/public/orders", UNKNOWN_ORDER)[0], 409)
@@ -336,6 +394,8 @@ class Rules:
         office = self.asks.office
         with office.change_file("orders-from.conf", "default 1;", "default 0; 192.0.2.0/24 1;"):
             self.checks.same("no order from elsewhere", self.try_order(), (403, '{"error":"not from here"}'))
+            got = self.ask_as_staff(self.public, "POST", "/unit/1/order", b"ticket=999&container=1")
+            self.checks.check("nor by a form", status(got) == 403 and b"Please order in the reading room." in got, got[:200])
             self.checks.same("pages from elsewhere", self.asks.question("/public/fonds")[0], 200)
             self.checks.same("the desk's orders are not asked where from",
                              self.asks.try_command("/public/orders", UNKNOWN_ORDER)[0], 409)

@@ -4,9 +4,10 @@
     run.py [--program PROGRAM] [--first] [--patience SECONDS] [--slower TIMES] [--faults FILE] FOLDER SHOTS [PART ..]
 
 FOLDER is made anew and kept; SHOTS gets pictures of the pages. PART is one of looks, pages, access, rules, restarts,
-limits, queue, encrypted, stall, search, refusals, journeys, paper, tickets; or GROUP:PART, one part of a group with an
-office of its own: of visit, day, first_year, access, rules, restarts, limits, queue, refusals, journeys, search,
-search_pages. In refusals a part is played after those that it goes on from.
+limits, queue, encrypted, stall, search, strangers, neighbours, tries, registers, refusals, journeys, paper, tickets,
+translations, unscripted; or GROUP:PART, one part of a group with an office of its own: of visit, day, first_year,
+unscripted, access, rules, restarts, limits, queue, neighbours, refusals, journeys, search, search_pages, tries, registers,
+translations. In refusals and neighbours a part is played after those that it goes on from.
 --first ends at the first check that does not hold; --patience is how long anything is waited for (60). With --slower,
 pages run so many times slower, and what they ask for comes later: a check that holds on a fast machine only is found
 there. With --faults, PART is access, visit, rules, queue or restarts, and mutation/front.py tells which faults are to
@@ -29,16 +30,23 @@ import foldings  # noqa: E402
 import journeys  # noqa: E402
 import limits  # noqa: E402
 import looks  # noqa: E402
+import neighbours  # noqa: E402
+import page_sessions  # noqa: E402
 import paper  # noqa: E402
 import queue_checks  # noqa: E402
 import refusals  # noqa: E402
+import registers  # noqa: E402
 import restarts  # noqa: E402
 import search_checks  # noqa: E402
 import search_pages  # noqa: E402
 import search_sessions  # noqa: E402
 import sign_out  # noqa: E402
 import stall  # noqa: E402
+import strangers  # noqa: E402
 import tickets  # noqa: E402
+import translations  # noqa: E402
+import tries  # noqa: E402
+import unscripted  # noqa: E402
 import waits  # noqa: E402
 from asks import Asks  # noqa: E402
 from browser import Browser  # noqa: E402
@@ -46,17 +54,19 @@ from catalogue import dock_company  # noqa: E402
 from checks import Checks, Enough  # noqa: E402
 from day import Day  # noqa: E402
 from first_year import FirstYear  # noqa: E402
-from office import FRONT, SIGNED_IN, TOP, Office, clear, folder_options  # noqa: E402
+from office import FRONT, MANY_PAGES, SIGNED_IN, TOP, Office, clear, folder_options  # noqa: E402
 from rules import Rules  # noqa: E402
 from visit import Visit  # noqa: E402
+from waits import until  # noqa: E402
 
 import client  # noqa: E402
 
-PARTS = ("looks", "pages", "access", "rules", "restarts", "limits", "queue", "encrypted", "stall", "search", "refusals",
-         "journeys", "paper", "tickets")
+PARTS = ("looks", "pages", "unscripted", "access", "rules", "restarts", "limits", "queue", "encrypted", "stall", "search",
+         "strangers", "neighbours", "tries", "registers", "refusals", "journeys", "paper", "tickets", "translations")
 ARCHIVES = TOP / "examples/archives.csv"
 PATIENT = 60
-WITHOUT_PAGES = {"rules", "restarts", "limits", "queue", "encrypted", "stall", "search"}  # need no browser
+WITHOUT_PAGES = {"unscripted", "rules", "restarts", "limits", "queue", "encrypted", "stall", "search", "strangers",
+                 "tries", "registers"}  # need no browser
 
 
 def pictures(folder):
@@ -95,7 +105,8 @@ class Run:
 
     def first_office(self, parts):
         """Plays these parts in one office."""
-        with Office.create(self.program, self.folder / "first") as office:
+        with Office.create(self.program, self.folder / "first", changes=MANY_PAGES) as office:
+            office.serve_readers()
             if "looks" in parts:
                 self.checks.part("looks", self.looks, office)
             if "pages" in parts:
@@ -107,6 +118,7 @@ class Run:
                 if self.browser:
                     self.checks.part("rules: signing out", sign_out.play, self.checks, office, self.browser)
             if "restarts" in parts:
+                office.kill_readers()  # what its rounds ask would be counted too
                 restarts.play(self.checks, Asks(office))
 
     def looks(self, office):
@@ -120,8 +132,8 @@ class Run:
         """Plays the days of readers and desk through the pages, in an office without descriptions."""
         hall, imports = self.browser.page(), self.browser.page(SIGNED_IN)
         visit, day = self.people(office, hall, imports)
-        hall.open(office.public, "/help")
-        self.checks.part("folding of words", foldings.play, self.checks, hall)
+        imports.open(office.staff, "/")
+        self.checks.part("folding of words", foldings.play, self.checks, imports)
         self.checks.part("day: imports", day.imports)
         # Chromium no longer sends keys to a tab in which a file was chosen once another tab was in front.
         day.page = self.browser.page(SIGNED_IN)
@@ -150,6 +162,10 @@ class Run:
         """Plays the rules of access for all pages, those of a site, or one."""
         access.play(self.checks, self.program, self.folder / "access", self.browser, self.shot, only)
 
+    def unscripted(self, only=None):
+        """Plays the readers' pages without scripts, or one part of them."""
+        unscripted.play(self.checks, self.program, self.folder / "unscripted", only)
+
     def limits(self, only=None):
         """Plays the limits of the front, or one of them."""
         limits.play(self.checks, self.program, self.folder / "limits", only)
@@ -172,9 +188,26 @@ class Run:
         checks, program, folder = self.checks, self.program, self.folder / "search"
         search_checks.play(checks, program, folder)
         checks.part("search: random sessions", search_sessions.play, checks, program, folder / "sessions", 60, 7)
+        checks.part("search: random pages", page_sessions.play, checks, program, folder / "page_sessions", 100, 7)
         if self.browser:
             pages = folder / "pages"
             checks.part("search: pages", search_pages.play, checks, program, pages, self.browser, self.shot)
+
+    def tries(self, only=None):
+        """Tries imports on a copy, in the browser too if there is one; or one part of it."""
+        tries.play(self.checks, self.program, clear(self.folder / "tries"), self.browser, self.shot, only)
+
+    def registers(self, only=None):
+        """Plays old orders and who was here, or one of them."""
+        registers.play(self.checks, self.program, clear(self.folder / "registers"), self.browser, self.shot, only)
+
+    def strangers(self):
+        """Plays strangers who want to shut everybody out, in a network of their own."""
+        strangers.play(self.checks, self.program, self.folder / "strangers")
+
+    def neighbours(self, only=None):
+        """Plays an office whose neighbours differ, or one part of it, in the browser too if there is one."""
+        neighbours.play(self.checks, self.program, clear(self.folder / "neighbours"), self.browser, only)
 
     def refusals(self, only=None):
         """Meets each refusal at the desk's pages; or only up to one part."""
@@ -185,11 +218,13 @@ class Run:
 
     def journeys(self, only=None):
         """Plays the journeys of a reader, or one of them."""
-        office = Office.create(self.program, self.folder / "third", changes=journeys.MORE_ORDERS)
+        office = Office.create(self.program, clear(self.folder / "third"), changes=[*journeys.MORE_ORDERS, *MANY_PAGES])
         for source, path in (("harbour", journeys.write_harbour(self.folder)),
-                             ("deep", journeys.write_deep(self.folder))):
+                             ("deep", journeys.write_deep(self.folder)), ("long", journeys.write_long(self.folder))):
             office.import_file(source, path).expect_success()
         with office:
+            office.serve_readers()
+            until(office.count_rounds, "a round is over", 5)
             page = self.browser.page()
             journeys.Journeys(self.checks, Asks(office), page, self.shot).play(only)
             self.complaints(page)
@@ -203,10 +238,15 @@ class Run:
         folder = self.folder / "tickets"
         self.checks.part("many tickets", tickets.play, self.checks, self.program, folder, self.browser)
 
+    def translations(self, only=None):
+        """Plays the pages in each language, or one part of that."""
+        translations.play(self.checks, self.program, self.folder / "translations", self.browser, self.shot, only)
+
     # One part of a group
 
     def office_with_files(self, **how):
         """An office with the files that `pages` imports through its pages."""
+        how = {**how, "changes": [*MANY_PAGES, *how.get("changes", ())]}
         office = Office.create(self.program, clear(self.folder / "alone"), **how)
         dock = self.folder / "dock.csv"
         dock.write_text("".join(dock_company()))
@@ -217,6 +257,7 @@ class Run:
     def only_visit(self, name):
         """Plays one part of a reader's visit."""
         with self.office_with_files() as office:
+            office.serve_readers()
             page = self.browser.page()
             self.people(office, page, None)[0].play(name)
             self.complaints(page)
@@ -229,6 +270,7 @@ class Run:
                 self.checks.part("day: imports", day.imports)
             return
         with self.office_with_files() as office:
+            office.serve_readers()
             hall, desk = self.browser.page(), self.browser.page(SIGNED_IN)
             self.people(office, hall, desk)[1].play(name)
             self.complaints(hall, desk)
@@ -244,6 +286,7 @@ class Run:
     def only_rules(self, name):
         """Plays one part of the front's rules."""
         with self.office_with_files() as office:
+            office.serve_readers()
             if name == "signing_out":
                 self.checks.part("rules: signing out", sign_out.play, self.checks, office, self.browser)
             else:
@@ -260,7 +303,7 @@ class Run:
 
     def only_search_pages(self, name):
         """Plays one part of the search's pages."""
-        search_pages.play(self.checks, self.program, self.folder / "pages", self.browser, self.shot, name)
+        search_pages.play(self.checks, self.program, clear(self.folder / "pages"), self.browser, self.shot, name)
 
     # Faults in an office that goes on
 
@@ -269,6 +312,8 @@ class Run:
         that should notice it is played. Prints what came of each. What a fault keeps away is waited for four times as
         long as anything without one."""
         with self.office_with_files(changes=[("rate=6r/m", "rate=6000r/m")]) as office:
+            if group != "restarts":
+                office.serve_readers(*(queue_checks.SELDOM if group == "queue" else ()))
             play = self.player(group, office)
             least, waits.settings.patience = waits.settings.patience, PATIENT
             for part in sorted({fault["by"] for fault in faults}):
@@ -299,6 +344,8 @@ class Run:
                 "restarts": lambda checks, part: restarts.play(checks, asks, part)}[group]
 
     only_access, only_limits, only_queue, only_refusals, only_journeys = access, limits, queue, refusals, journeys
+    only_translations, only_unscripted = translations, unscripted
+    only_tries, only_registers, only_neighbours = tries, registers, neighbours
 
 
 moments = itertools.count(int(time.time()))  # browsers know a file by its second and its size
@@ -336,7 +383,8 @@ def play(checks, given):
     """Plays the parts that are wanted, or tries the faults, with a browser if one is needed."""
     wanted = given.parts or PARTS
     needs_browser = any(part.split(":")[0] not in WITHOUT_PAGES for part in wanted)
-    uses_browser = {"rules:foreign_page", "rules:signing_out", "rules", "search"} & set(wanted)
+    uses_browser = {"rules:foreign_page", "rules:signing_out", "rules", "search", "tries", "tries:page",
+                    "registers", "registers:old_orders"} & set(wanted)
     has_browser = shutil.which("chromium") and (needs_browser or uses_browser)
     browser = Browser(given.folder / "profile") if has_browser else None
     try:

@@ -4,7 +4,7 @@ index.
 
     search_checks.py [--program PROGRAM] FOLDER [PART ..]
 
-PART is one of questions, pairs, bounds, files, hostile, kills, states; without one, all are played."""
+PART is one of turns, questions, pairs, bounds, files, hostile, kills, states; without one, all are played."""
 
 import contextlib
 import json
@@ -20,17 +20,18 @@ from urllib.parse import quote, urlencode
 
 sys.dont_write_bytecode = True
 from checks import Checks  # noqa: E402
-from office import TOP, clear, folder_options  # noqa: E402
+from office import QUICK, TOP, clear, folder_options  # noqa: E402
 from rules import send_at_once  # noqa: E402
-from searched import LOOKS, Asking, Searched, Unreached, index  # noqa: E402
+from searched import Asking, Query, Searched, Unreached, answers, index, offers, read_typed  # noqa: E402
+from turns import Turns, network_of  # noqa: E402
 from waits import until  # noqa: E402
 
 import client  # noqa: E402
 
-PARTS = ("questions", "pairs", "bounds", "files", "hostile", "kills", "states")
+answers.COUNTING = 100  # however slow the machine is, what is counted is the same
+PARTS = ("turns", "questions", "pairs", "bounds", "files", "hostile", "kills", "states")
 
 HEADER = "legacyId,parentId,identifier,title,levelOfDescription,publicationStatus,eventDates,scopeAndContent\n"
-QUICK = ("--every", ".2", "--rest", "0")
 WORDS = ["dock", "plans", "minute", "letters", "secret"]
 HOSTILE = ['"', '""', "*", "dock*", "AND", "OR NOT", "NEAR(dock plans)", "head:dock", "{head body}:dock", "^dock",
            "-dock", "dock + plans", "(", "')--",
@@ -38,16 +39,18 @@ HOSTILE = ['"', '""', "*", "dock*", "AND", "OR NOT", "NEAR(dock plans)", "head:d
            "\U0001f4dc", "\ue000", "a" * 5000, "a " * 2000,
            '"' * 999, "* " * 99, "\u2028", "1e309", "%", "dock\n", ";dock", "&q=dock", "a* b* c* d* e* f* g* h*",
            "\ufdfa", "\u0130"]
-RAW = ["q=%ff%fe", "q=%", "q", "=", "", "q=dock&q=plans", "in=0&from=x&to=-1&after=99999999999&q=dock",
+RAW = ["q=%ff%fe", "q=%", "q", "=", "", "q=dock&q=plans", "in=0&from=1&to=2&after=0-99999999999&q=dock",
        "&".join("x=1" for _ in range(50)),
        "q=" + "%00" * 2000, "after=1-1&q=dock", "after=0-9999999999&q=dock", "after=2-1&q=dock",
        "from=1900&to=1800&q=dock", "in=999&q=dock",
-       "q=%ed%a0%80dock", "after=%D9%A1-1&q=dock"]
+       "q=%ed%a0%80dock"]
+UNREAD = {"from=x&q=dock": ["from"], "in=x&to=-1&q=dock": ["in", "to"], "after=%D9%A1-1&q=dock": ["after"],
+          "order=x&q=dock": ["order"], "after=0-99999999999999999999&q=dock": ["after"]}
 
 
 def answer_bytes(finder):
     """An answer as bytes."""
-    return json.dumps([finder.state, finder.units, finder.more, finder.after]).encode()
+    return json.dumps([finder.state, finder.units, finder.more, finder.after, finder.count, finder.exact]).encode()
 
 
 def pairs(checks, program, folder):
@@ -87,7 +90,7 @@ def pair_of(program, folder, which, was_public):
             office.round()
         return {f"{typed} {values}": answer_bytes(office.find(typed, **values))
                 for typed in (*WORDS, "doc*", "dock plans", '"letters dock"', "1850", "file", "gb secret")
-                for values in ({}, {"top": 1}, {"first": 1800}, {"last": 1800, "top": 2})}
+                for values in ({}, {"within": 1}, {"first": 1800}, {"last": 1800, "within": 2})}
 
 
 def bounds(checks, program, folder):
@@ -125,11 +128,17 @@ def bounds_of_an_answer(checks, office):
     found = office.find("letters")
     checks.same("the way to a unit", (found.units[0]["way"], found.units[1]["way"]),
                 ([], [{"unit": 1, "head": "GB 0999 1 [Fonds] dock letters 1"}]))
-    checks.same("twenty are shown, by number", [unit["unit"] for unit in found.units], list(range(1, 21)))
-    checks.same("and there are more", (found.more, found.after), (True, (0, 20)))
+    checks.same("twenty are shown, by number", numbers_of(found), list(range(1, 21)))
+    checks.same("and more than so many are counted", (found.count, found.exact), (300, False))
+    checks.same("and there are more", (found.more, found.after), (True, (0, row(20))))
     checks.same("they go on", find_numbers(office, "letters", after=found.after), list(range(21, 41)))
-    last = office.find("letters", after=(0, 410))
-    checks.same("to the end", ([unit["unit"] for unit in last.units], last.more), (list(range(411, 421)), False))
+    last = office.find("letters", after=(0, row(410)))
+    checks.same("to the end", (numbers_of(last), last.more), (list(range(411, 421)), False))
+    dated = sorted(range(1, 420), key=lambda n: (n % 300, n))
+    by_date = office.find("letters", by_date=True)
+    checks.same("by date", numbers_of(by_date), dated[:20])
+    checks.same("and on", numbers_of(office.find("letters", by_date=True, after=by_date.after)),
+                dated[20:40])
     checks.same("years", find_numbers(office, "letters", first=1750, last=1752), [50, 51, 52, 350, 351, 352])
 
 
@@ -137,15 +146,25 @@ def bounds_of_looks(checks, office):
     """How many units that are no longer public an answer looks at, until the next round forgets them."""
     for n in (*range(2, 400), 420):
         office.tell("/desk/status", {"unit": n, "status": "draft", "branch": False})
-    last = office.find("letters", after=(0, 399))
+    last = office.find("letters", after=(0, row(399)))
     checks.same("no more is told but what was verified", (len(last.units), last.more, last.after),
-                (20, False, (0, 419)))
+                (20, False, (0, row(419))))
+    left = [1, *range(400, 420)]
     found = office.find("dock")
-    checks.same("it gives up after so many looks",
-                (found.state, [unit["unit"] for unit in found.units], found.looked <= LOOKS),
-                ("late", [1], True))  # on a busy machine its time ends before
+    checks.same("what was closed leaves no trace in an answer", (found.state, numbers_of(found), found.count, found.exact),
+                ("done", left[:20], 21, True))
+    checks.same("but is told to the rounds", found.gone, {*range(2, 400), 420})
+    answers.LOOKS, before = 50, answers.LOOKS
+    found = office.find("dock")
+    checks.same("it gives up after so many looks", (found.state, numbers_of(found), found.looked), ("late", [1], 50))
+    answers.LOOKS = before
     office.round()
-    checks.same("and the next round mends that", find_numbers(office, "dock"), [1, *range(400, 420)][:20])
+    checks.same("and the next round mends that", find_numbers(office, "dock"), left[:20])
+
+
+def row(number):
+    """The row of the index for a unit of the first archive."""
+    return index.row_of(1, number)
 
 
 def files(checks, program, folder):
@@ -170,14 +189,62 @@ def files(checks, program, folder):
         office.tell("/desk/import/a", (office.folder / "units.csv").read_bytes())
         checks.same("the same bytes", office.ask("/public/aid/1"), before)
         found = office.find("letters")
-        checks.same("a number that is gone is not found, and doubted", (found.units, found.doubts), ([], {2}))
+        checks.same("a number that is gone is not found, and told", (found.units, found.gone), ([], {2}))
         office.round(sweep=20)
         checks.same("the new number is found", find_numbers(office, "letters"), [3])
+        forgotten(checks, office)
+        offered(checks, office)
+
+
+def offered(checks, office):
+    """What is offered for a word that finds nothing: words of the office that find something now, as they are written."""
+    rows = ("1,,O,H\u00e4rbour plans,Fonds,Published,,\n2,1,1,Harbinger plans,File,Published,,\n"
+            "3,1,2,Harbours and docks,File,Published,,\n")
+    office.tell("/desk/import/o", (HEADER + rows).encode())
+    office.round()
+    office.tell("/desk/status", {"unit": 7, "status": "draft", "branch": False})
+    for typed, wanted in (("harb", ["h\u00e4rbour", "harbours"]), ("harbuor plans", ["h\u00e4rbour plans"]),
+                          ("Plans harbuor 12a", []), ("docks plans", []), ("harbinger", []), ("zzz", []),
+                          ('"h\u00e4rbuor plans"', [])):
+        with contextlib.closing(index.open_index(str(office.index))) as db:
+            checks.same(f"offered for {typed}", offers.offers(db, Asking(office.queue), typed, None, Query(read_typed(typed))),
+                        wanted)
+
+
+def forgotten(checks, office):
+    """The words of a title that was closed leave the file and its log with the round that forgets them, and what an answer
+    finds gone leaves the index before that."""
+    more = f"{HEADER}1,,Z,zebracrossing,Fonds,Published,,\n2,1,1,quaggamire,File,Published,,\n"
+    office.tell("/desk/import/z", more.encode())
+    office.round()
+    checks.same("its words are in the file", words_in(office), {b"zebracrossing", b"quaggamire"})
+    office.tell("/desk/status", {"unit": 5, "status": "draft", "branch": False})
+    found = office.find("quaggamire")
+    checks.same("a unit that is gone is told", (found.units, found.gone), ([], {5}))
+    with contextlib.closing(index.open_index(str(office.index))) as db:
+        index.forget_at_once(db, found.gone)
+    checks.same("and then not looked at any more", office.find("quaggamire").looked, 0)
+    office.tell("/desk/closure", {"unit": 4, "until": "2999-01-01"})
+    with contextlib.closing(index.open_index(str(office.index))) as answering:  # which keeps the log
+        answering.execute("SELECT * FROM round").fetchall()
+        office.round()
+        checks.same("no word of it is left in the file or its log", words_in(office), set())
+
+
+def words_in(office):
+    """Which of these words the files of the index have."""
+    held = b"".join(path.read_bytes() for path in office.folder.glob("index.db*"))
+    return {word for word in (b"zebracrossing", b"quaggamire") if word in held}
 
 
 def find_numbers(office, typed, **how):
     """The numbers of the units that are found."""
-    return [unit["unit"] for unit in office.find(typed, **how).units]
+    return numbers_of(office.find(typed, **how))
+
+
+def numbers_of(finder):
+    """The numbers of the units of an answer."""
+    return [unit["unit"] for unit in finder.units]
 
 
 def with_sql(*statements):
@@ -222,6 +289,61 @@ class FakeOffice(threading.Thread):
                     it.sendall(client.reply(status, b"lines"))
 
 
+def turns_taken(who, each, begin=0):
+    """So many searches of an address at once, each of which takes a while: when each began, once all are over."""
+    began = []
+
+    def search():
+        """One of them."""
+        with who[0].turn(*who[1:]):
+            began.append(time.monotonic() - begin)
+            time.sleep(.2)
+    threads = [threading.Thread(target=search) for _ in range(each)]
+    for thread in threads:
+        thread.start()
+    return threads, began
+
+
+def turns(checks, folder):
+    """Who searches much keeps only itself waiting."""
+    it, begin = Turns(), time.monotonic()
+    threads, stranger = turns_taken((it, "192.0.2.1"), 12, begin)
+    until(lambda: len(stranger) == 2, "the first two search")
+    waited = []
+    for n in range(8):
+        asked = time.monotonic() - begin
+        mine, began = turns_taken((it, f"192.0.2.{n + 2}"), 1, begin)
+        mine[0].join()
+        waited.append(began[0] - asked)
+    for thread in threads:
+        thread.join()
+    checks.check("eight readers beside it wait for one search at most", max(waited) < .5, waited)
+    checks.check("two of its own at a time", sorted(stranger)[2] > .15 and sorted(stranger)[-1] > .9, stranger)
+    order = []
+    with it.turn("198.51.100.1"), it.turn("198.51.100.2"), it.turn("198.51.100.3"), it.turn("198.51.100.4"):
+        threads = [threading.Thread(target=taken, args=(it, who, costly, order))
+                   for who, costly in (("192.0.2.1", False), ("203.0.113.1", True), ("203.0.113.2", False))]
+        for thread in threads:
+            thread.start()
+        until(lambda: len(it.waiting) == 3, "three wait")
+    for thread in threads:
+        thread.join()
+    checks.same("the cheap one first, whoever has taken most last", order, ["203.0.113.2", "203.0.113.1", "192.0.2.1"])
+    networks = network_of("2001:db8::1") == network_of("2001:db8::ffff") != network_of("2001:db8:0:1::1")
+    checks.check("a network of IPv6 is one", networks and network_of("192.0.2.1") != network_of("192.0.2.2"))
+
+
+def taken(it, who, costly, order):
+    """Waits for a turn, and keeps whose it was for a while, so that the next one comes after it."""
+    with it.turn(who, costly=costly):
+        order.append(who)
+        for other in (f"{who}/{n}" for n in range(3)):
+            it.running[other] += 1
+        time.sleep(.1)
+        for other in (f"{who}/{n}" for n in range(3)):
+            it.running[other] -= 1
+
+
 def questions(checks, folder):
     """How the office is asked: rounds after everybody else, at rest for four fifths of the time; readers for so long
     only."""
@@ -233,14 +355,14 @@ def questions(checks, folder):
     began = time.monotonic()
     checks.same("what is shown, and what is not", [ask("/one"), ask("/shut")], ["lines", None])
     checks.check("a round rests", time.monotonic() - began > 4.5 * ask.busy > .4, (time.monotonic() - began, ask.busy))
-    checks.check("a round asks after everybody else", all("Record-Office-Round" in head for head in fake.heads),
+    checks.check("a round asks after everybody else", all("Record-Office-For: round" in head for head in fake.heads),
                  fake.heads)
     for path in ("/broken", "/gone"):
         checks.same(f"{path} is no answer", failure(ask, path), "Unreached")
     reader = Asking(folder / "fake.sock")
     reader.until = time.monotonic() + 30
     checks.same("a reader's question", reader("/reader"), "lines")
-    checks.check("goes before rounds", "Record-Office-Round" not in fake.heads[-1], fake.heads[-1])
+    checks.check("goes before rounds", "Record-Office-For: round" not in fake.heads[-1], fake.heads[-1])
     reader.until = time.monotonic()
     checks.same("a reader's time is over", failure(reader, "/late"), "Slow")
 
@@ -264,6 +386,15 @@ def hostile(checks, office):
         status, body = ask_patiently(office, raw)
         checks.check(f"legal: {raw[:40]!r}", status == 200 and json.loads(body)["state"] == "done",
                      (status, body[:200]))
+    for raw, names in UNREAD.items():
+        answer = json.loads(ask_patiently(office, raw)[1])
+        checks.same(f"what cannot be read is told: {raw}", (answer["state"], answer["unread"]), ("unread", names))
+    for args, wanted in (("q=company&from=2100", False), ("q=company&to=1000", False), ("q=company&from=1774&to=1800", True)):
+        answer = json.loads(ask_patiently(office, args)[1])
+        checks.same(f"something is found: {args}", bool(answer["units"]), wanted)
+    for typed, cut in (("a " * 64, False), ("word " * 65, True), ('"' + "long title " * 30 + '"', False), ("x" * 1001, True)):
+        answer = json.loads(ask_patiently(office, "q=" + quote(typed))[1])
+        checks.same(f"that more was typed is told: {typed[:12]}, {len(typed)}", answer["cut"], cut)
     checks.same("100 kB", ask_patiently(office, "q=" + "a" * 100_000)[0], 414)
     at_once = send_at_once(office.ports["8080"], client.get("/public/search?q="), 100)
     checks.check("too many at once", 429 in {one for one, _ in at_once})
@@ -298,33 +429,24 @@ def kills(checks, office, turns=12):
         what = chance.choice(["service", "rounds", "program", "both", "delete", "damage", "cut", "foreign", "other"])
         harm(office, what, chance)
         if office.service.poll() is not None:
-            office.serve_search(*QUICK)
+            office.serve_readers(*QUICK)
         time.sleep(chance.random())  # the question comes at a moment that nothing else chooses
         now = find_units(office)
         checks.check(f"never anything else after {what}, turn {turn}", now is None or now <= wanted, now)
         if turn % 3 == 2:
             checks.check(f"found again after {what}, turn {turn}", is_found(office, wanted),
                          (find_units(office), wanted))
-    await_rounds(office, 2)  # the first has checked the index
+    office.await_rounds()  # the first has checked the index
     DAMAGED_WORDS(office.index)
     checks.check("found again after words were damaged", is_found(office, wanted, 3), find_units(office))
     checks.same("the index is private", oct(os.stat(office.index).st_mode & 0o777), "0o600")
-
-
-def await_rounds(office, many):
-    """Waits until so many more rounds have ended."""
-    with contextlib.closing(index.open_index(office.index)) as db:
-        def finished():
-            return db.execute("SELECT finished FROM round").fetchone()[0]
-        wanted = finished() + many
-        until(lambda: finished() >= wanted, f"{many} more rounds have ended")
 
 
 def harm(office, what, chance):
     """Kills, damages or replaces what the word names."""
     path = pathlib.Path(office.index)
     if what in ("service", "both", "damage", "cut", "foreign", "other"):
-        office.kill_search()
+        office.kill_readers()
     if what == "rounds":
         pid = office.service.pid
         for child in pathlib.Path(f"/proc/{pid}/task/{pid}/children").read_text().split():
@@ -353,7 +475,7 @@ def states(checks, office):
         status, body = ask_patiently(office, "q=dock")
         checks.check("while the office is away",
                      json.loads(body)["state"] in ("late", "unreached") and time.time() - begun < 12, (status, body))
-    office.kill_search()
+    office.kill_readers()
     checks.same("without the service", ask_patiently(office, "q=dock")[0], 503)
     checks.check("the pages are as they were", b"[Fonds]" in office.wait_for(office.public + "/public/fonds"))
 
@@ -363,7 +485,7 @@ def play_with_service(checks, program, folder, parts):
     office = Searched.create(program, clear(folder / "served"))
     office.import_file("catalogue", TOP / "examples/archives.csv").expect_success()
     with office:
-        office.serve_search(*QUICK)
+        office.serve_readers(*QUICK)
         until(lambda: find_units(office), "a first round has found something")
         for part in (hostile, kills, states):
             if part.__name__ in parts:
@@ -372,8 +494,9 @@ def play_with_service(checks, program, folder, parts):
 
 def play(checks, program, folder, parts=PARTS):
     """Plays these parts, in offices of their own below the folder."""
-    if "questions" in parts:
-        checks.part("search: questions", questions, checks, folder)
+    for part in (turns, questions):
+        if part.__name__ in parts:
+            checks.part(f"search: {part.__name__}", part, checks, folder)
     for part in (pairs, bounds, files):
         if part.__name__ in parts:
             checks.part(f"search: {part.__name__}", part, checks, program, folder)

@@ -19,7 +19,7 @@ from checks import Checks  # noqa: E402
 from office import clear, folder_options  # noqa: E402
 
 WORDS = ["dock", "Minutes", "minute", "letters", "caf\u00e9", "cafe\u0301", "\u05de\u05db\u05ea\u05d1", "Dock-gates",
-         "x2", "plans", "\u0141\u00f3d\u017a", "O\u2019Brien"]
+         "x2", "plans", "\u0141\u00f3d\u017a", "O\u2019Brien", "M\u00fcller", "mueller", "\u516c\u6587\u66f8\u9928", "H.M.S. Hull"]
 ODD = ["closed until 2030-01-01", "Unit 1: GB 0999 A [Fonds] dock", "dock (from GB 0999 A)", "plans (from GB 0999)",
        "minute\nGB 0999 A [File] letters",
        "] dock [", "3.1.3 Date(s): 1850", "Container 1: dock", "  Unit 2: plans", "\u202edock\u2028plans",
@@ -42,22 +42,35 @@ class Unit:
 
 
 def tokens(text):
-    """The words of a text, by other code than the service's."""
+    """The words of a text, by other code than the service's: each Chinese letter by itself."""
     plain = "".join(c for c in unicodedata.normalize("NFKD", text)
                     if unicodedata.category(c) not in ("Mn", "Cf")).lower()
-    return re.findall(r"[^\W_]+", plain.replace("\u0142", "l"))
+    return re.findall(r"[\u4e00-\u9fff]|[0-9]+|(?:(?![\u4e00-\u9fff])[^\W_0-9])+", plain.replace("\u0142", "l"))
 
 
-def holds(words, phrase, begins):
-    """Whether a phrase stands among these words; `begins`: its last word may go on."""
-    spans = [words[k:k + len(phrase)] for k in range(len(words) - len(phrase) + 1)]
-    return any(span == phrase or begins and span[:-1] == phrase[:-1] and span[-1].startswith(phrase[-1])
-               for span in spans)
+def readings(text):
+    """The ways in which a text is read: umlauts spelled out or not, words joined or not."""
+    spelled = re.sub("[\u00fc\u00dc]", "ue", unicodedata.normalize("NFC", text))
+    both = [text, spelled]
+    joined = [re.sub(r"(?<=[^\W\d_])[-'\u2019](?=[^\W\d_])", "", re.sub(r"\b([^\W\d_])\. ?(?=[^\W\d_]\b)", r"\1", one))
+              for one in both]
+    return [tokens(one) for one in (*both, *joined)]
+
+
+def holds(text, typed, begins):
+    """Whether a phrase stands in a text; `begins`: its last word may go on."""
+    for words in readings(text):
+        for phrase in readings(typed):
+            spans = [words[k:k + len(phrase)] for k in range(len(words) - len(phrase) + 1)]
+            if any(span == phrase or begins and span[:-1] == phrase[:-1] and span[-1].startswith(phrase[-1])
+                   for span in spans):
+                return True
+    return False
 
 
 def phrases_of(typed):
     """The phrases of what the sessions type: words, phrases in quotation marks, and word*."""
-    return [(tokens(piece), piece.endswith("*")) for piece in re.findall(r'"[^"]*"|[^ "]+', typed)]
+    return [(piece, piece.endswith("*")) for piece in re.findall(r'"[^"]*"|[^ "]+', typed)]
 
 
 class Between:
@@ -111,7 +124,7 @@ class Session:
         self.db, self.asking = searched.index.open_or_make(str(office.index), True), searched.Asking(office.queue)
         self.reader = searched.Asking(office.queue)
         self.day, self.rows, self.last, self.told = 0, {}, ("s0", b""), {}
-        self.fetched, self.snap, self.doubts, self.by_parts = {}, {}, set(), set()
+        self.fetched, self.snap, self.doubts, self.gone, self.by_parts = {}, {}, set(), set(), set()
 
     # Commands
 
@@ -200,9 +213,11 @@ class Session:
     def round(self, kind):
         """Makes a round of this kind. `large` is small now and then, so that archives are read by parts; what is below
         a unit that was shut while its page was read for that comes back with the next round."""
-        for number in self.doubts:
+        searched.index.forget_at_once(self.db, self.gone)
+        for number in self.doubts | self.gone:
             searched.index.doubt(self.db, number)
-        self.doubts, was, between = set(), self.now, Between(self, kind)
+        self.snap = {n: one for n, one in self.snap.items() if n not in self.gone}
+        self.doubts, self.gone, was, between = set(), set(), self.now, Between(self, kind)
         sweep = searched.FOREVER if kind == "all" else self.random.choice([1, 3])
         made, by_parts = searched.Round(self.db, between.ask, sweep, self.random.choice([1, 3, 2000])), set()
         parts = made.parts
@@ -222,29 +237,33 @@ class Session:
     # Questions
 
     def question(self):
-        """A random question: what is typed, the archive, and the first and the last year."""
+        """A random question: what is typed, the unit that has it, the first and the last year, and whether it is by
+        date."""
         choice, chance = self.random.choice, self.random.random
         typed = []
         for _ in range(choice([1, 1, 2])):
             word = choice([*WORDS, "doc*", "min*", "GB", '"dock minute"', '"letters plans"', "0999/A", '"from gb"',
-                           "1850", "until", "o'br*", "Lodz", "dock gates"])
+                           "1850", "until", "o'br*", "Lodz", "dock gates", "obrien", "dockgates", "mueller", "muller",
+                           "hms", "\u6587\u66f8", "\u66f8"])
             typed.append(word.upper() if chance() < .3 else word)
         years = choice([(None, None)] * 3 + [(1799, None), (1850, 1910), (None, 1850), (1900, 1960)])
-        return " ".join(typed), (choice([*self.now, 1]) if chance() < .3 else None), *years
+        return " ".join(typed), (choice([*self.now, 1]) if chance() < .3 else None), *years, chance() < .3
 
-    def matches(self, one, number, typed, top, first, last):
-        """The group of a unit that is to be found: 0 if its head has all, else 1. None if it is none."""
-        head, *texts = [tokens(text) for text in (one.head, *one.values)]
+    def matches(self, one, number, typed, within, first, last, by_date):
+        """The place of a unit that is to be found: its group (0 if its head has all, else 1) or its year, its archive and
+        its number. None if it is not to be found."""
         phrases = phrases_of(typed)
-        if not all(any(holds(text, *phrase) for text in (head, *texts)) for phrase in phrases):
+        if not all(any(holds(text, *phrase) for text in (one.head, *one.values)) for phrase in phrases):
             return None
-        if top is not None and top != (*one.above, number)[0]:
+        if within is not None and within not in (*one.above, number):
             return None
         if (first, last) != (None,
                              None) and not (one.years and (first or 0) <= one.years[1]
                                             and one.years[0] <= (last or 9999)):
             return None
-        return 0 if all(holds(head, *phrase) for phrase in phrases) else 1
+        in_head = all(holds(one.head, *phrase) for phrase in phrases)
+        first = one.years[0] if one.years else 10**5
+        return first if by_date else 1 - in_head, (*one.above, number)[0], number
 
     def must_match(self, one, number, asked):
         """Whether a unit must be found. Of one that was read by parts, a value that ends as if it came from above is
@@ -256,37 +275,40 @@ class Session:
 
     def answers(self, asked):
         """All that is found, a few at a time."""
-        typed, top, first, last = asked
-        found, after = [], (0, 0)
+        typed, *bounds, by_date = asked
+        found, after, first = [], (0, 0), None
         for _ in range(500):
-            query = searched.Query(searched.read_typed(typed), top, first, last, after)
+            query = searched.Query(searched.read_typed(typed), *bounds, after, by_date)
             answer = searched.Finder(self.db, self.reader, query, self.random.randint(1, 6)).find()
-            self.doubts |= answer.doubts
+            self.doubts, self.gone = self.doubts | answer.doubts, self.gone | answer.gone
             numbers = [unit["unit"] for unit in found]
             again = set(numbers) & {unit["unit"] for unit in answer.units}
             assert answer.state == "done" and not again, (asked, answer.state, numbers)
             found += answer.units
+            first = first or answer
             if not answer.more:
                 break
             after = answer.after
+        assert first.count == len(found) if first.exact else first.count < len(found), (asked, first.count, len(found))
         return found
 
     def compare(self, exactly=False):
         """Asks a random question, and compares what is found with what is public. Raises AssertionError."""
         asked = self.question()
-        top = asked[1]
+        within, by_date = asked[1], asked[4]
         found = self.answers(asked)
         numbers = [unit["unit"] for unit in found]
         now = {n: self.matches(one, n, *asked)
                for n, one in self.now.items() if self.matches(one, n, *asked) is not None}
         wanted = {n for n in now if n in self.snap and self.must_match(self.snap[n], n, asked)
                   and self.must_match(self.now[n], n, asked)
-                  and (top is None or self.snap[n].above == self.now[n].above)}
+                  and (within is None or self.snap[n].above == self.now[n].above)
+                  and not (by_date and self.snap[n].years != self.now[n].years)}
         assert set(numbers) <= set(now), ("never shown", asked, set(numbers) - set(now))
         assert wanted <= set(numbers), ("must be found", asked,
                                         [(n, vars(self.now[n]), vars(self.snap[n])) for n in wanted - set(numbers)])
         there = [n for n in now if n in numbers or self.must_match(self.now[n], n, asked)]
-        in_order = sorted(there, key=lambda n: (now[n], n))
+        in_order = sorted(there, key=now.get)
         assert not exactly or numbers == in_order, ("all, in order", asked, now, numbers)
         for unit in found:
             self.look(unit, self.now[unit["unit"]])
@@ -327,7 +349,7 @@ class Session:
     def look_at_rows(self, kind):
         """The rows of the index after a round that nothing disturbed."""
         rows = dict(self.db.execute("SELECT n, parent FROM unit"))
-        indexed = {n for n, in self.db.execute("SELECT rowid FROM words")}
+        indexed = {n % searched.index.ARCHIVE for n, in self.db.execute("SELECT rowid FROM words")}
         lost = self.snap.keys() - rows.keys()
         assert kind not in ("clean", "all") or not lost, ("rows", kind, lost)
         assert kind != "all" or rows == {n: (None, *one.above)[-1]

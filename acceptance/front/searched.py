@@ -2,54 +2,33 @@
 
 import http.client
 import json
-import os
-import pathlib
-import subprocess
 import sys
 import time
 
-from office import FRONT, Office
+from office import READERS, Office
 
-SEARCH = pathlib.Path(os.environ.get("SEARCH_SERVICE") or FRONT / "search")  # mutation/search.py names copies of it
-sys.path.insert(0, str(SEARCH))
+sys.path.insert(0, str(READERS))
+sys.path.append("/usr/lib/python3/dist-packages")  # the stemmers, if this is not Debian's own Python
 
+import answers  # noqa: E402, F401
 import folding  # noqa: E402, F401
 import index  # noqa: E402
-from answers import LOOKS, Finder, Query  # noqa: E402, F401
+import offers  # noqa: E402, F401
+from answers import Finder, Query  # noqa: E402, F401
 from asking import Asking, Unreached  # noqa: E402, F401
 from folding import read_typed  # noqa: E402
 from rounds import Round  # noqa: E402
 
 FOREVER = 10**6  # a round with this sweep looks at all pages
-PYTHON = "/usr/bin/python3"  # Debian's own, which has waitress
 
 
 class Searched(Office):
-    """An office whose front takes more searches in a row, and the search's service for it."""
+    """An office whose front takes more searches in a row. `more`: further changes of its configuration."""
 
-    def __init__(self, program, folder, **how):
-        super().__init__(program, folder, changes=[("searches:2m rate=2r/s", "searches:2m rate=30r/s")], **how)
-        self.service, self.desk, self.public_ask = None, None, None
-        self.queue, self.index, self.listen = (self.folder / name
-                                               for name in ("search.sock", "index.db", "answers.sock"))
-
-    def serve_search(self, *more):
-        """Begins the service; more: further words of its command line."""
-        with open(self.folder / "search.told", "a") as log:
-            words = [PYTHON, "-B", SEARCH / "service.py", "--queue", self.queue, "--index", self.index, "--listen",
-                     self.listen, *more]
-            self.service = subprocess.Popen([str(word) for word in words], stdout=log, stderr=log)
-
-    def kill_search(self):
-        """Kills the service."""
-        self.service.kill()
-        self.service.wait()
-
-    def end(self):
-        """Ends all that was started."""
-        if self.service:
-            self.kill_search()
-        super().end()
+    def __init__(self, program, folder, more=(), **how):
+        changes = [("searches:2m rate=2r/s", "searches:2m rate=30r/s"), *more]
+        super().__init__(program, folder, changes=changes, **how)
+        self.desk, self.public_ask = None, None
 
     def ask(self, path):
         """What the public sees at this path, or None."""
@@ -86,7 +65,7 @@ class Searched(Office):
         """One answer, without the service and nginx."""
         db = index.open_index(str(self.index))
         try:
-            return Finder(db, Asking(self.queue), Query(read_typed(typed), **values)).find()
+            return Finder(db, Asking(self.queue), Query(read_typed(typed), **values)).find(100)
         finally:
             db.close()
 

@@ -31,6 +31,7 @@ from waits import until  # noqa: E402
 HEADER = "legacyId,parentId,identifier,title,levelOfDescription,publicationStatus,scopeAndContent\n"
 # Of the steps' aids. A socket holds some 100 to 213 kB, and the queue 16 kB, so one of the sizes is between the two.
 SIZES = range(256_000, 96_000, -8_000)
+LEFT = 15  # seconds after which the command is done: each of the readers is left after five, one after the other or not
 STALL = 2  # seconds that a command may take longer than usual after the aid before it has ended. A stall is four to six
 NO_LIMITS = [("limit_req zone=record_office_readers burst=200 nodelay;", ""),
              ("limit_conn record_office_visits 100;", ""),
@@ -59,7 +60,7 @@ def tops_of(office):
 
 
 class Socket(http.client.HTTPConnection):
-    """The queue's socket for the search."""
+    """The queue's socket for the readers' service."""
 
     def __init__(self, path):
         super().__init__("office", timeout=200)
@@ -118,12 +119,13 @@ def play(checks, program, folder):
     with office:
         before = [step(checks, office, number, size) for number, size in zip(numbers, SIZES)]
         checks.check("the sizes are on both sides of what the socket holds", before[-1] and not before[0], before)
+        never(checks, office, numbers[0])
 
 
 def step(checks, office, number, size):
     """A reader asks for an aid of this size and leaves it alone until a command was sent. Whether the command was done
     before."""
-    reader = Socket(office.folder / "search.sock")
+    reader = Socket(office.queue)
     reader.request("GET", f"/public/aid/{number}")
     until(lambda: is_at_rest(reader.sock), "what can come of the aid has come")
     command = Command(office.ports["8092"], f"Reader of {size}")
@@ -141,6 +143,22 @@ def step(checks, office, number, size):
                  command.status == 200 and late < STALL + usual,
                  (command.status, late, usual))
     return was_done
+
+
+def never(checks, office, number):
+    """Readers who ask at the queue's socket and take nothing, ever: they are left, and a command is done."""
+    readers = [Socket(office.queue) for _ in range(3)]
+    for reader in readers:
+        reader.request("GET", f"/public/aid/{number}")
+    until(lambda: is_at_rest(readers[0].sock), "what can come of the aid has come")
+    began, command = time.monotonic(), Command(office.ports["8092"], "Somebody")
+    command.start()
+    command.join(150)
+    took = (command.answered or time.monotonic()) - began
+    checks.check("a command beside readers who never take anything is done within seconds",
+                 command.status == 200 and took < LEFT, (command.status, took))
+    for reader in readers:
+        reader.close()
 
 
 def seconds_of_one(office):
@@ -223,7 +241,7 @@ class Crowd:
     def reach(self):
         """A connection by the way that the command line names."""
         if self.words.way == "socket":
-            return Socket(self.office.folder / "search.sock")
+            return Socket(self.office.queue)
         port = {"tcp": "8091", "nginx": "8080"}[self.words.way]
         return http.client.HTTPConnection("127.0.0.1", self.office.ports[port], timeout=200)
 

@@ -1,6 +1,8 @@
-"""A reader's visit: every text of the program stands on the pages to the letter, and nothing of it is markup."""
+"""A reader's visit in a browser: every text of the program stands on the pages to the letter, and nothing of it is
+markup."""
 
 from catalogue import ODD
+from site_pages import aid_of
 
 # Each gives back what the page shows as the program would have written it.
 LETTERS = """const text = (node) => { const copy = node.cloneNode(true);
@@ -8,38 +10,16 @@ LETTERS = """const text = (node) => { const copy = node.cloneNode(true);
 FONDS = """(() => { %s
   return [...document.querySelectorAll('main ul.units a')]
     .map((a) => `${a.pathname.slice(6)} ${text(a)}\\n`).join(''); })()""" % LETTERS
-UNIT = """(() => { %s
-  const element = (entry) => `  ${entry.dataset.element} ${entry.querySelector('dt').firstChild.data}: `
-    + `${text(entry.querySelector('dd'))}\\n`;
-  const elements = [...document.querySelectorAll('main [data-element]')]
-    .sort((a, b) => (a.dataset.element < b.dataset.element ? -1 : 1));
-  const boxes = [...document.querySelectorAll('main ul.containers li')]
-    .map((line) => `  ${text(line.firstChild)}: ${text(line).slice(text(line.firstChild).length + 1)}\\n`);
-  const units = [...document.querySelectorAll('main ul.units a')]
-    .map((a) => `  Unit ${a.pathname.slice(6)}: ${text(a)}\\n`);
-  return text(document.querySelector('main h1')) + '\\n' + elements.map(element).join('')
-    + boxes.join('') + units.join('');
-})()""" % LETTERS
 LINKS = """(() => { %s
-  return [...document.querySelectorAll('main ul.units a')].map((a) => [text(a), a.pathname]); })()""" % LETTERS
+  return [...document.querySelectorAll('.contents [data-shown] > ul > li > a')].map((a) => [text(a), a.pathname]);
+})()""" % LETTERS
 MADE = "document.querySelectorAll('main :is(img, b, i, script, style, title, [onmouseover])').length"
 # How far the text ends to the right of its element.
 RIGHT_SIDE = """(() => { const dd = document.querySelector('[data-element="3.3.1"] dd');
   const text = document.createRange(); text.selectNodeContents(dd);
   return text.getBoundingClientRect().right - dd.getBoundingClientRect().right; })()"""
-# Keeps whether the page itself follows the next click.
-WATCH_CLICK = """window.addEventListener('click', (event) => { window.taken = event.defaultPrevented;
-  event.preventDefault(); }, { once: true })"""
-CLICK_WITH = """document.querySelector('header nav a')
-  .dispatchEvent(new MouseEvent('click', { bubbles: true, cancelable: true, %s: true }))"""
-HEAD = "(() => { %s return text(document.querySelector('main h1')); })()" % LETTERS
-PRELOADED = """[...document.querySelectorAll('link[rel=modulepreload]')]
-  .map((one) => one.getAttribute('href')).sort().join(' ')"""
-LOADED = """[...new Set(performance.getEntriesByType('resource').map((one) => new URL(one.name).pathname)
-  .filter((path) => path.endsWith('.js') && path !== '/main.js'))].sort().join(' ')"""
-AID = """[...document.querySelectorAll('.aid [data-depth]')]
-  .map((row) => '  '.repeat(row.dataset.depth) + row.textContent + '\\n').join('')"""
-
+CURRENT = "[...document.querySelectorAll('nav [aria-current=page]')].map((link) => link.textContent.trim()).join()"
+WAY = "[...document.querySelectorAll('nav.way a')].map((a) => [a.pathname, a.textContent])"
 
 ORDERED = "Ordered. Your order has the number"
 TICKET = "Number of your reader’s ticket"
@@ -59,9 +39,9 @@ class Visit:
 
     def play(self, only=None):
         """Plays all parts, or one."""
-        for part in (self.fonds, self.every_unit, self.hostile, self.way, self.aids, self.search, self.missing,
-                     self.addresses, self.links,
-                     self.keyboard, self.waiting):
+        self.asks.office.await_rounds()  # what is above a unit is proposed by the index
+        for part in (self.fonds, self.hostile, self.way, self.aids, self.search, self.missing, self.addresses,
+                     self.links, self.keyboard, self.no_scripts):
             if only in (None, part.__name__):
                 self.checks.part(f"visit: {part.__name__}", part)
 
@@ -70,22 +50,6 @@ class Visit:
         page = self.at("/")
         self.checks.same("the list of fonds to the letter", page.js(FONDS), self.asks.text("/public/fonds"))
         self.shot(page, "reader-archives")
-
-    def every_unit(self):
-        """Each unit that the office has: its page to the letter, or not found."""
-        page = self.at("/")
-        for number in range(1, 70):
-            status, text = self.asks.question(f"/public/units/{number}")
-            page.turn(f"/unit/{number}", "document.querySelector('main h1')")
-            if status == 200:
-                page.wait(f"{HEAD} === {page.quote(text.split(chr(10))[0])}")
-                self.checks.same(f"the page of unit {number} to the letter", page.js(UNIT), text)
-            else:
-                page.see("Not found")
-                self.checks.check(f"unit {number} is not found", "There may be no such unit" in page.text())
-        areas = page.js("import('/shared/texts.js').then((texts) => Object.values(texts.AREAS).join('; '))")
-        self.checks.same("the areas of the standard", areas, "Identity statement; Context; Content and structure; "
-                         "Conditions of access and use; Allied materials; Notes; Description control")
 
     def hostile(self):
         """Odd titles and values: the page has their letters, and no element that came from them."""
@@ -97,6 +61,9 @@ class Visit:
             seen = page.js("document.querySelector('main').textContent")
             self.checks.check(f"odd text stands as it is: {name}", seen.count(text) >= 3, seen)
             self.checks.same(f"odd text is no markup: {name}", page.js(MADE), 0)
+            if name == "closed":
+                self.checks.same("a title like that of a closed unit is no day", page.js("!!document.querySelector('h1 time')"),
+                                 False)
             if name == "hebrew":
                 side = page.js(RIGHT_SIDE)
                 self.checks.check("Hebrew begins at the right side", abs(side) < 2, side)
@@ -113,66 +80,58 @@ class Visit:
         return line.split(" ", 1)[0]
 
     def way(self):
-        """The units above a unit: searched for from the tops if the unit was opened directly, and kept on the way
-        down."""
+        """The units above a unit, and what is found there."""
         top = self.number_of("Hull Dock Company", "HUL")
         series = int(top) + 1
         page = self.at(f"/unit/{int(top) + 4}")
         page.see("Weekly meetings (from GB 0999 HUL) and yearly accounts.")
-        page.wait("document.querySelectorAll('nav.way li').length === 3")
-        way = page.js("[...document.querySelectorAll('nav.way a')].map((a) => [a.pathname, a.textContent])")
-        self.checks.same("the units above a unit that was opened directly", way, [
-            ["/", "Archives"], [f"/unit/{top}", "GB 0999 HUL [Fonds] Hull Dock Company"],
-            [f"/unit/{series}", "GB 0999 HUL/1 [Series] Minutes"]])
+        self.checks.same("the units above a unit", page.js(WAY),
+                         [["/", "Archives"], [f"/unit/{top}", "Hull Dock Company"], [f"/unit/{series}", "Minutes"]])
         self.shot(page, "reader-file")
-        page.press("GB 0999 HUL/1 [Series] Minutes")
+        page.press("Minutes")
+        page.await_page(f"location.pathname === '/unit/{series}'")
         page.see("Box 1")
         self.checks.same("what is found above is marked",
                          page.js("document.querySelector('[data-element=\"3.2.1\"] .from').textContent").strip(),
                          "(from GB 0999 HUL)")
         self.shot(page, "reader-series")
         page.js("history.back()")
+        page.await_page(f"location.pathname === '/unit/{int(top) + 4}'")
         page.see("Weekly meetings")
         self.checks.check("the back button goes back", True)
 
     def aids(self):
-        """Each finding aid is the program's, and each of its units a heading."""
-        page = self.at("/")
-        for line in self.asks.text("/public/fonds").splitlines():
-            number = line.split(" ", 1)[0]
-            page = self.at(f"/aid/{number}")
-            self.checks.same(f"the finding aid of unit {number} to the letter", page.js(AID),
-                             self.asks.text(f"/public/aid/{number}"))
-        heads = page.js("[...document.querySelectorAll('.aid .unit')].every((head) => /^H[2-6]$/.test(head.tagName))")
-        self.checks.check("each unit of an aid is a heading", heads)
-        page = self.at(f"/aid/{self.number_of('Hull Dock Company', 'HUL')}")
-        self.shot(page, "reader-aid", full=False)
-        self.shot(page, "reader-aid-printed", printed=True)
-
-    def search(self):
-        """Searches in a finding aid, which keeps every letter."""
+        """A finding aid is the program's, and each of its units a heading."""
         top = self.number_of("Hull Dock Company", "HUL")
         page = self.at(f"/aid/{top}")
-        text = self.asks.text(f"/public/aid/{top}")
-        for words, told, marks in (
-                ("minutes", "2 units, number 1: GB 0999 HUL [Fonds] Hull Dock Company 3.3.1 Scope", 2),
-                ("minutes", "2 units, number 2: GB 0999 HUL/1 [Series] Minutes", 2),
-                ("MINUT plan", "1 unit: GB 0999 HUL [Fonds]", 2),
-                ("\u201cfirst volume\u201d", "1 unit: GB 0999 HUL/1/1 [File] Board, first volume", 1),
-                ("HUL/1/1", "1 unit: GB 0999 HUL/1/1 [File]", 1),
-                ("ISTANBUL file", "1 unit: GB 0999 HUL/X12 [Series]", None),
-                (".*", "No unit of this finding aid has \u201c.*\u201d.", 0)):
+        self.checks.same("the finding aid to the letter", aid_of(page.js("document.querySelector('main').outerHTML")),
+                         self.asks.text(f"/public/aid/{top}"))
+        heads = page.js("[...document.querySelectorAll('.aid .unit')].every((head) => /^H[2-6]$/.test(head.tagName))")
+        self.checks.check("each unit of an aid is a heading", heads)
+        self.shot(page, "reader-aid", full=False)
+        self.shot(page, "reader-aid-printed", printed=True)
+        self.checks.same("it is there as plain text",
+                         page.js(f"fetch('/public/aid/{top}').then((answer) => answer.text())"),
+                         self.asks.text(f"/public/aid/{top}"))
+
+    def search(self):
+        """A search in a finding aid is one in all archives, within its unit."""
+        top = self.number_of("Hull Dock Company", "HUL")
+        for words, told, first in (("minutes", "2 units.", "GB 0999 HUL/1 [Series] Minutes"),
+                                   ("“first volume”", "1 unit.", "GB 0999 HUL/1/1 [File] Board, first volume"),
+                                   ("HUL/1/1", "1 unit.", "GB 0999 HUL/1/1 [File]"),
+                                   (".*", "Please type a word.", None)):
+            page = self.at(f"/aid/{top}")
             page.fill("Search in this finding aid", words)
             page.key_in("Search in this finding aid", "Enter")
             page.see(told, ".told")
-            is_now = page.js("document.querySelectorAll('.aid mark').length")
-            self.checks.check(f"marks for {words}: {marks}", marks in (None, is_now), is_now)
-            self.checks.same(f"marking leaves every letter: {words}", page.js(AID), text)
-            self.shot(page, "reader-search", full=False) if words == "minutes" else None
-        self.checks.same("the words stand in the address", page.js("location.search"), "?q=.*")
+            hit = page.js("document.querySelector('.hit')?.textContent ?? null")
+            self.checks.check(f"what is found for {words}", hit is first if first is None else hit.startswith(first), hit)
+        self.checks.same("the unit is chosen", page.js("document.querySelector('#find-in').value"), top)
+        self.shot(page, "reader-search", full=False)
 
     def missing(self):
-        """Pages that there are not, and a page that is not answered."""
+        """Pages that there are not."""
         page = self.at("/unit/999")
         page.see("Not found")
         self.shot(page, "reader-not-found")
@@ -180,67 +139,32 @@ class Visit:
         page.see("No such page")
         page = self.at("/help")
         page.see("How to order")
+        self.checks.check("without an address none is shown", "Address" not in page.text())
         self.shot(page, "reader-help")
-        page.answer_with("*/public/fonds", 502, b'{"error":"not answered"}')
-        page.turn("/")
-        page.see("The office did not answer. Try again in a minute.")
-        page.answer_with(None, 0, b"")
-        page.press("Try again")
-        page.see("GB 0999 HUL [Fonds] Hull Dock Company")
-        self.checks.check("what was not answered can be asked for again", True)
 
     def addresses(self):
-        """Pages have addresses of their own and names of their own; addresses of former days lead to them."""
+        """Pages have names of their own; addresses of former days lead to them."""
         top = self.number_of("Hull Dock Company", "HUL")
         page = self.page
-        for old, new in ((f"/?1#/unit/{top}", f"/unit/{top}"), (f"/?2#/aid/{top}", f"/aid/{top}"),
-                         ("/?3#/help", "/help"), ("/index.html", "/index.html")):
-            page = self.at(old)
+        for old, new in ((f"/#/unit/{top}", f"/unit/{top}"), (f"/#/aid/{top}", f"/aid/{top}"), ("/#/help", "/help")):
+            self.at("/help" if new != "/help" else "/")
+            page.js(f"location.assign({page.quote(old)})")
+            page.wait(f"location.pathname === {page.quote(new)} && document.readyState === 'complete'")
             self.checks.same(f"{old} leads to its page", page.js("location.pathname + location.hash"), new)
-        page = self.at("/")
-        page.js(f"location.hash = '#/unit/{top}'")
-        page.see("GB 0999 HUL [Fonds]", "h1")
-        self.checks.same("an old address typed in later too", page.js("location.pathname + location.hash"),
-                         f"/unit/{top}")
-        self.checks.same("a unit's title", page.js("document.title"),
-                         "Hull Dock Company, GB 0999 HUL \u2013 Finding aids")
+        page = self.at(f"/unit/{top}")
+        self.checks.same("a unit's title", page.js("document.title"), "Hull Dock Company, GB 0999 HUL – Record office")
         page = self.at(f"/aid/{top}")
         self.checks.same("a finding aid's title", page.js("document.title"),
-                         "Finding aid: Hull Dock Company, GB 0999 HUL \u2013 Finding aids")
-        page.js("document.querySelector('header nav a').click()")
-        page.see("Archives", "h1")
-        self.checks.same("a link needs no other file",
-                         page.js("location.pathname + performance.getEntriesByType('navigation').length"), "/1")
-        page.js("history.back()")
-        page.see("Finding aid", "h1")
-        self.checks.same("and Back goes back", page.js("location.pathname"), f"/aid/{top}")
-        self.checks.same("each module is asked for at once", page.js(PRELOADED), page.js(LOADED))
+                         "Finding aid: Hull Dock Company, GB 0999 HUL – Record office")
+        page = self.at(f"/unit/{top}")
+        asked = page.js("performance.getEntriesByType('resource').length + 1")
+        self.checks.check("a first visit takes at most six requests", asked <= 6, asked)
 
     def links(self):
-        """The page that is shown is marked in the list of pages; a link opens another tab for who wants one."""
-        current = "[...document.querySelectorAll('nav [aria-current=page]')].map((link) => link.textContent).join()"
-        for address, name in (("/", "Archives"), ("/help", "How to order"), ("/unit/1", "")):
+        """The page that is shown is marked in the list of pages."""
+        for address, name in (("/", "Archives"), ("/help", "How to order"), ("/ordered", "Your list"), ("/unit/1", "")):
             page = self.at(address)
-            self.checks.same(f"what is marked at {address}", page.js(current), name)
-        page = self.at("/")
-        for key, taken in (("none", True), ("ctrlKey", False), ("metaKey", False), ("shiftKey", False)):
-            page.js(WATCH_CLICK)
-            page.js(CLICK_WITH % key)
-            self.checks.same(f"the page itself follows a link with {key}", page.js("window.taken"), taken)
-
-    def waiting(self):
-        """While the office does not answer, that is told; and a late answer does not replace the page that was opened
-        meanwhile."""
-        page = self.at("/help")
-        with self.asks.office.without_program():
-            page.turn("/unit/1", "true", False)
-            page.see("Waiting for the office")
-            self.checks.same("waiting is told", page.js("document.querySelector('main .waiting').getAttribute('role')"),
-                             "status")
-            page.turn("/help", "document.querySelector('h1')?.textContent === 'How to order'")
-        # behind the question of the page that was left
-        page.js("fetch('/public/units/1').then((answer) => answer.text())")
-        self.checks.same("a late answer changes nothing", page.text("h1"), "How to order")
+            self.checks.same(f"what is marked at {address}", page.js(CURRENT), name)
 
     def keyboard(self):
         """From the top of the page by Tab and Enter alone to a unit, and to its order form."""
@@ -248,11 +172,12 @@ class Visit:
         page.key("Tab")
         self.checks.same("the first stop skips to the text", page.focus_name(), "Skip to the text")
         page.key("Enter")
-        self.checks.same("it goes to the heading", page.js("document.activeElement.tagName"), "H1")
+        page.wait("location.hash === '#main'")
+        page.key("Tab")
+        self.checks.check("it goes to the text", page.js("document.activeElement.closest('main') !== null"))
         self.tab_to(page, "GB 0999 HUL [Fonds] Hull Dock Company")
         page.key("Enter")
         page.see("Contents:")
-        self.checks.same("a new page begins at its heading", page.js("document.activeElement.tagName"), "H1")
         self.tab_to(page, "GB 0999 HUL/1 [Series] Minutes")
         page.key("Enter")
         page.see("Box 1")
@@ -263,7 +188,36 @@ class Visit:
         page.key("Enter")
         page.see("There is no reader’s ticket with this number.")
         self.checks.check("an order is given by keyboard alone", True)
+        page.wait("document.activeElement.id === 'outcome'")
+        self.checks.check("what came of it has the focus", True)
         self.shot(page, "reader-order-refused")
+
+    def no_scripts(self):
+        """The same with scripts off: by keys to a unit, a filter, an order and its outcome."""
+        page = self.page
+        page.call("Emulation.setScriptExecutionDisabled", value=True)
+        try:
+            self.at("/")
+            self.tab_to(page, "GB 0999 HUL [Fonds] Hull Dock Company")
+            page.key("Enter")
+            page.see("Contents:")
+            self.checks.same("no script has run", page.js("document.querySelector('[data-print]').hidden"), True)
+            self.tab_to(page, "GB 0999 HUL/1 [Series] Minutes")
+            page.key("Enter")
+            page.see("Box 1")
+            self.tab_to(page, "Order container")
+            page.key("Enter")
+            self.tab_to_field(page, "ticket")
+            page.type("999")
+            page.key("Enter")
+            page.see("There is no reader’s ticket with this number.")
+            page.wait("document.activeElement.id === 'outcome'")
+            self.checks.check("what came of it has the focus", True)
+            self.at("/ordered")
+            page.see("Your browser keeps this list only with JavaScript.")
+        finally:
+            page.call("Emulation.setScriptExecutionDisabled", value=False)
+        self.shot(page, "reader-no-scripts")
 
     def tab_to(self, page, words):
         """Presses Tab up to what begins with these words. Raises AssertionError if it does not come."""
@@ -273,14 +227,22 @@ class Visit:
                 return
         raise AssertionError(f"Tab does not come to {words}")
 
+    def tab_to_field(self, page, name):
+        """Presses Tab up to the field of this name."""
+        for _ in range(20):
+            page.key("Tab")
+            if page.js("document.activeElement.name") == name:
+                return
+        raise AssertionError(f"Tab does not come to the field {name}")
+
     def orders(self, first, second):
         """Orders a container with the tickets of two readers who have no orders, and with others; each refusal is told
-        in a reader's words, and an order of which nothing is known is sent again."""
+        in a reader's words."""
         top = self.number_of("Hull Dock Company", "HUL")
         page = self.at(f"/unit/{int(top) + 1}")
-        page.press_starting("Order container")
         for ticket, words in (("999", "There is no reader’s ticket with this number."), (f" {first:04} ", ORDERED),
                               (str(first), "You have ordered this container already."), (str(second), ORDERED)):
+            page.js("document.querySelector('details.order').open = true")
             page.fill(TICKET, ticket)
             page.press("Order this container")
             page.see(words)
@@ -288,12 +250,10 @@ class Visit:
                 [order] = self.asks.read(f"/desk/readers/{int(ticket)}")["orders"]
                 page.see(f"{ORDERED} {order['order']}.")
             self.checks.check(f"an order by ticket {ticket.strip()}", True)
+            page.wait("document.readyState === 'complete'")
         self.shot(page, "reader-ordered")
         self.checks.same("an order taken has the focus", page.js("document.activeElement.className"), "outcome")
         self.checks.check("it says what happens next", "at their next run to the strongrooms" in page.text(".outcome"))
-        page.answer_with("*/public/orders", 504, b'{"error":"not answered"}')
-        page.fill(TICKET, second)
-        page.insist("Order this container", "We cannot tell whether your order was taken. Please send it once more")
-        page.answer_with(None, 0, b"")
-        page.insist("Order this container", "You have ordered this container already.")
-        self.checks.check("an order of which nothing is known is given once more and not taken twice", True)
+        page.reload()
+        orders = self.asks.read(f"/desk/readers/{second}")["orders"]
+        self.checks.same("once more loaded, nothing is ordered again", len(orders), 1)

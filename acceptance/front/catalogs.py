@@ -1,0 +1,214 @@
+#!/usr/bin/python3
+"""Compares the catalogs of texts (front/readers/po) with the texts of the pages:
+
+    catalogs.py [--write] [--brackets FILE]
+
+prints for each language which texts its catalog lacks, has for nothing, or has with other places for values than
+the pages; exit status 1 if there is one. With --write the catalogs first get what is new, without a translation, and
+lose what is gone. en.po has all texts untranslated: it is what a new language begins as. --brackets writes a catalog
+that has each text in brackets, for translations.py."""
+
+import argparse
+import html.parser
+import io
+import json
+import os
+import pathlib
+import re
+import sys
+
+from babel.messages.catalog import Catalog
+from babel.messages.extract import extract
+from babel.messages.jslexer import tokenize, unquote_string
+from babel.messages.pofile import read_po, write_po
+
+FRONT = pathlib.Path(os.environ.get("FRONT_FILES") or pathlib.Path(__file__).resolve().parents[2] / "front")
+HTML_PAGE = FRONT / "desk/index.html"
+RULES = FRONT / "desk/look/rules.json"
+# The calls that give texts: which of their values are texts, and which a context.
+IN_SCRIPTS = {"text": (0,), "phrase": (0,), "counted": (1, 2), "textAs": (1,)}
+IN_TEMPLATES = {"_": None, "gettext": None, "ngettext": (1, 2), "pgettext": ((1, "c"), 2)}
+JINJA = {"newstyle_gettext": "true", "trimmed": "true", "silent": "false"}
+PLACES = re.compile(r"%\(\w+\)s|\{\w+\}")
+
+
+def values_of_call(tokens, place):
+    """The values of the call that begins here: each a text, in one piece or several, or None."""
+    values, depth, known = [""], 0, True
+    for token in tokens[place:]:
+        depth += (token.value in "([{") - (token.value in ")]}") if token.type == "operator" else 0
+        if depth < 0:
+            break
+        if token.value == "," and not depth:
+            values, known = [*values, ""], True
+        elif token.type == "string" and not depth and known:
+            values[-1] += unquote_string(token.value)
+        elif token.value != "+":
+            values[-1], known = None, False
+    return values
+
+
+def codes_in(literal):
+    """The codes in a template literal."""
+    for piece in literal.split("${")[1:]:
+        depth = 1
+        for end, letter in enumerate(piece):
+            depth += (letter == "{") - (letter == "}")
+            if not depth:
+                yield piece[:end]
+                break
+
+
+def texts_of_script(code):
+    """The texts of a script, with their contexts: Babel's own reader passes over calls that stand in others."""
+    tokens = list(tokenize(code, jsx=False))
+    for place, token in enumerate(tokens[:-1]):
+        if token.type == "template_string":
+            for inner in codes_in(token.value):
+                yield from texts_of_script(inner)
+        elif token.value in IN_SCRIPTS and tokens[place + 1].value == "(" and tokens[place - 1].value != "function":
+            values = values_of_call(tokens, place + 2)
+            texts = [values[at] for at in IN_SCRIPTS[token.value] if values[at]]
+            if texts:
+                yield tuple(texts) if len(texts) > 1 else texts[0], values[0] if token.value == "textAs" else None
+
+
+class Marked(html.parser.HTMLParser):
+    """The texts of a page's marked elements, and their labels."""
+
+    def __init__(self, text):
+        super().__init__()
+        self.texts, self.inside = [], False
+        self.feed(text)
+
+    def handle_starttag(self, tag, attrs):
+        """Keeps a label; the text comes next."""
+        found = dict(attrs)
+        if "data-label" in found:
+            self.texts.append(found["aria-label"])
+        self.inside = "data-text" in found
+
+    def handle_data(self, data):
+        """Keeps a text."""
+        if self.inside:
+            self.texts.append(data)
+        self.inside = False
+
+
+def texts_of_rules():
+    """The texts of what is said about a file before its import."""
+    rules = json.loads(RULES.read_text("utf-8"))
+    texts = [*rules["elements"].values(), *rules["separators"].values(), *rules["exports"]]
+    for says in (*(one[1:] for one in rules["advice"].values()), *rules["causes"].values()):
+        texts.extend(text for text in says if text and text != "{todo}")
+    return texts
+
+
+def texts_of_pages():
+    """All texts of the pages: a catalog without translations."""
+    found = Catalog(charset="utf-8")
+    for path in sorted((FRONT / "readers").glob("*.py")):
+        texts = extract("python", io.BytesIO(path.read_bytes()), {"N_": None})
+        add(found, path, ((text, None) for _, text, _, _ in texts))
+    for path in sorted((FRONT / "readers/templates").iterdir()):
+        texts = extract("jinja2.ext:babel_extract", io.BytesIO(path.read_bytes()), IN_TEMPLATES, options=JINJA)
+        add(found, path, ((text, context) for _, text, _, context in texts))
+    for path in [*sorted(FRONT.glob("shared/*.js")), *sorted(FRONT.glob("desk/**/*.js"))]:
+        add(found, path, texts_of_script(path.read_text("utf-8")))
+    add(found, HTML_PAGE, ((text, None) for text in Marked(HTML_PAGE.read_text("utf-8")).texts))
+    add(found, RULES, ((text, None) for text in texts_of_rules()))
+    return found
+
+
+def add(catalog, path, texts):
+    """Adds the texts of a file, with their contexts."""
+    for text, context in texts:
+        catalog.add(text, locations=[(str(path.relative_to(FRONT)), 0)], context=context)
+
+
+def catalogs(folder):
+    """The catalog of each language."""
+    return {path.stem: read_po(io.BytesIO(path.read_bytes()), path.stem) for path in sorted(folder.glob("*.po"))}
+
+
+def forms(text):
+    """A text, or its forms, as a list."""
+    return list(text) if isinstance(text, (tuple, list)) else [text]
+
+
+def faults(code, catalog, wanted):
+    """What is wrong with a catalog, in words."""
+    key = lambda one: (one.id if isinstance(one.id, str) else one.id[0], one.context)  # noqa: E731
+    has, wants = ({key(one): one for one in some if one.id} for some in (catalog, wanted))
+    told = [f"{code}: lacks {text}" for text, _ in wants if (text, _) not in has]
+    told += [f"{code}: no page has {text}" for text, _ in has if (text, _) not in wants]
+    for one in (has[name] for name in has if name in wants and code != "en"):
+        told += [f"{code}: {problem}: {key(one)[0]}" for problem in problems(one, catalog)]
+    return told
+
+
+def problems(message, catalog):
+    """What is wrong with a translation."""
+    translated = forms(message.string)
+    many = catalog.num_plurals if isinstance(message.id, (tuple, list)) else 1
+    if message.fuzzy:
+        yield "is uncertain"
+    if len(translated) != many or not all(translated):
+        yield "has no translation"
+        return
+    places = [sorted(set(PLACES.findall(text))) for text in forms(message.id)]
+    for text in translated:
+        if sorted(set(PLACES.findall(text))) not in places:
+            yield "has other places for values"
+        if ends(text) != ends(forms(message.id)[0]):
+            yield "has other spaces at its ends"
+
+
+def ends(text):
+    """Whether a text begins, and whether it ends, with a space."""
+    return text[:1].isspace(), text[-1:].isspace()
+
+
+def write(path, catalog, wanted):
+    """Brings a catalog up to the pages."""
+    catalog.update(wanted, no_fuzzy_matching=True)
+    catalog.obsolete.clear()
+    for one in catalog:
+        one.flags.discard("python-format")
+        one.locations = sorted(set(one.locations))[:3]
+    data = io.BytesIO()
+    write_po(data, catalog, width=120, omit_header=True, include_lineno=False)
+    head = path.read_text("utf-8").split("\n\n", 1)[0]
+    path.write_text(f"{head}\n\n{data.getvalue().decode().strip()}\n", "utf-8")
+
+
+def write_brackets(path, wanted):
+    """Writes a catalog that has each text in brackets."""
+    catalog = Catalog(path.stem, charset="utf-8", fuzzy=False)
+    for one in wanted:
+        if one.id:
+            bracketed = tuple(f"⟦{text}⟧" for text in forms(one.id))
+            catalog.add(one.id, bracketed if len(bracketed) > 1 else bracketed[0], context=one.context)
+    data = io.BytesIO()
+    write_po(data, catalog)
+    path.write_bytes(data.getvalue())
+
+
+def main():
+    """Compares, and writes if that is wanted; returns the exit status."""
+    words = argparse.ArgumentParser(description=__doc__, formatter_class=argparse.RawDescriptionHelpFormatter)
+    words.add_argument("--write", action="store_true", help="bring the catalogs up to the pages first")
+    words.add_argument("--brackets", type=pathlib.Path, metavar="FILE", help="such as he.po")
+    given, folder, wanted = words.parse_args(), FRONT / "readers/po", texts_of_pages()
+    if given.brackets:
+        write_brackets(given.brackets, wanted)
+    if given.write:
+        for code, catalog in catalogs(folder).items():
+            write(folder / f"{code}.po", catalog, wanted)
+    told = [line for code, catalog in catalogs(folder).items() for line in faults(code, catalog, wanted)]
+    print("\n".join(told) or f"{len(wanted)} texts, in {', '.join(catalogs(folder))}")
+    return 1 if told else 0
+
+
+if __name__ == "__main__":
+    sys.exit(main())
