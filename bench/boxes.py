@@ -38,11 +38,9 @@ import time
 
 import crowds
 import measure
-from beside import Side
-from measure import OK, REFUSED, client, get, post, say
+from crowds import IN_A_RUN, IN_HANDS, Compared
+from measure import REFUSED, client, get, post, say
 
-IN_HANDS = IN_A_RUN = 10
-SETTINGS = client.option_words(client.LARGE | {"run": "10"})
 FIRST_DAY = datetime.date(2024, 3, 1)
 MOST = 8
 MOST_OUT = {"status": 10, "closure": 10, "opening": 1.2}
@@ -159,31 +157,17 @@ SHAPES = {
 }
 
 
-class Office:
-    """An office of this shape with both programs, and the least that each kind of answer took."""
+class Office(Compared):
+    """An office of this shape with both programs."""
 
-    def __init__(self, shape, sides):
-        self.shape, self.sides, self.took = shape, sides, {}
+    def __init__(self, shape, programs, room):
+        super().__init__(programs, room)
+        self.shape = shape
         contents = list(shape.contents())
         self.first, self.middle, self.last = contents[0], contents[len(contents) // 2], contents[-1]
         self.loans = [{"ticket": nth // IN_HANDS + 1, "container": box} for nth, box in enumerate(shape.numbers)]
         self.tickets = range(1, self.loans[-1]["ticket"] + 1)
         self.day = FIRST_DAY
-
-    def ask_unmeasured(self, requests):
-        """Sends requests to both programs, one by one, without keeping their times."""
-        for side in self.sides:
-            for request in requests:
-                side.ask([request])
-
-    def keep(self, kind, took):
-        """Keeps milliseconds of both programs, if they are less than before."""
-        each = [1000 * it.processor for it in took]
-        self.took[kind] = [min(pair) for pair in zip(each, self.took.get(kind, each))]
-
-    def ask(self, kind, request, wanted=OK):
-        """Sends a request to both programs, and keeps what it took; each answer must have this status."""
-        self.keep(kind, [side.ask([request], wanted) for side in self.sides])
 
     def measure_opening(self, kind):
         """Starts both sessions anew, and keeps what that took."""
@@ -252,16 +236,11 @@ class Office:
 def measure_shape(shape, programs, room, rounds):
     """The office of this shape, after so many rounds."""
     with client.temporary(room) as folder:
-        sides = []
-        for nth, program in enumerate(programs):
-            (folder / str(nth)).mkdir()
-            sides.append(Side([program.path], folder / str(nth), SETTINGS))
-        office = Office(shape, sides)
+        office = Office(shape, programs, folder)
         office.take_in(folder)
         for _ in range(rounds):
             office.round()
-        for side in sides:
-            side.session.__exit__(None)
+        office.end()
         return office
 
 

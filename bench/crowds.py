@@ -2,13 +2,15 @@
 programs. boxes.py prints it."""
 import measure
 from beside import Side
-from measure import OK, REFUSED, client, get, post
+from measure import FILE_ROWS, OK, REFUSED, client, post
 
 IN_HANDS = IN_A_RUN = 10
 SETTINGS = client.option_words(client.LARGE | {"run": str(IN_A_RUN)})
 FONDS = 1
 LATER, PAST = "2035-01-01", "2024-01-01"
 MOST = 2
+A_SERIES = 2000  # boxes
+A_SESSION = 5000  # requests
 CHANGES = {
     "move": "move of the fonds",
     "import": "import that changes it",
@@ -39,10 +41,15 @@ def text(row, unit, title=""):
 
 
 def in_turns(boxes, units, name=None, **more):
-    """Boxes that all lie in one series, and in turns in one of two others; and the units below the three series."""
+    """Boxes that all lie in one series, and in turns in one of two others; and the units below these series. A row can
+    name some thousands, so more boxes lie in more series."""
     named = [f"Box {nth + 1}" for nth in range(boxes)]
-    naming = [(0, "Fonds", []), *[(FONDS, "Series", it) for it in (named, named[::2], named[1::2])]]
-    below = [(FONDS + 1 + nth % 3, "Item", []) for nth in range(units)]
+    naming = [(0, "Fonds", [])]
+    for begin in range(0, boxes, A_SERIES):
+        some = named[begin:begin + A_SERIES]
+        naming += [(FONDS, "Series", it) for it in (some, some[::2], some[1::2])]
+    series = len(naming) - 1
+    below = [(FONDS + 1 + nth % series, "Item", []) for nth in range(units)]
     return Crowd(name or f"{boxes:,} boxes in turns, {units:,} units", naming, below, named, **more)
 
 
@@ -69,23 +76,23 @@ WAITING = {
 }
 
 
-class Gathering:
-    """An office of this kind with both programs, and the least that each kind of answer took."""
+class Compared:
+    """An office with two programs, and the least that each kind of answer took."""
 
-    def __init__(self, crowd, programs, room):
-        self.crowd, self.room, self.took = crowd, room, {}
-        self.sides = []
+    def __init__(self, programs, room):
+        self.sides, self.took = [], {}
         for nth, program in enumerate(programs):
             (room / str(nth)).mkdir()
             self.sides.append(Side([program.path], room / str(nth), SETTINGS))
-        self.loans = [{"ticket": nth // IN_HANDS + 1, "container": nth + 1} for nth in range(len(crowd.boxes))]
-        self.tickets = range(1, self.loans[-1]["ticket"] + 1)
 
     def ask_unmeasured(self, requests):
-        """Sends requests to both programs."""
-        for side in self.sides:
-            for request in requests:
-                side.ask([request])
+        """Sends requests to both programs, one by one, without keeping their times. A session takes 10,000."""
+        for at in range(0, len(requests), A_SESSION):
+            for side in self.sides:
+                if at > 0:
+                    side.reopen()
+                for request in requests[at:at + A_SESSION]:
+                    side.ask([request])
 
     def keep(self, kind, took):
         """Keeps milliseconds of both programs, if they are less than before."""
@@ -93,20 +100,39 @@ class Gathering:
         self.took[kind] = [min(pair) for pair in zip(each, self.took.get(kind, each))]
 
     def ask(self, kind, request, wanted=OK):
-        """Sends a request to both programs, and keeps what it took."""
+        """Sends a request to both programs, and keeps what it took; each answer must have this status."""
         self.keep(kind, [side.ask([request], wanted) for side in self.sides])
+
+    def end(self):
+        """Ends both programs."""
+        for side in self.sides:
+            side.session.__exit__(None)
+
+
+class Gathering(Compared):
+    """An office of this kind."""
+
+    def __init__(self, crowd, programs, room):
+        super().__init__(programs, room)
+        self.crowd = crowd
+        self.loans = [{"ticket": nth // IN_HANDS + 1, "container": nth + 1} for nth in range(len(crowd.boxes))]
+        self.tickets = range(1, self.loans[-1]["ticket"] + 1)
 
     def rows(self, rows, first, title=""):
         """An import of these rows, whose first has this number."""
         lines = [text(row, unit, title) for unit, row in enumerate(rows, first)]
         return client.post("/desk/import/s", (measure.HEADER + "".join(lines)).encode())
 
+    def files(self, rows, first):
+        """Imports of these rows, as many in each as a file may have."""
+        return [self.rows(rows[at:at + FILE_ROWS], first + at) for at in range(0, len(rows), FILE_ROWS)]
+
     def begin(self):
         """Takes in what names boxes, and orders all of them. If they shall go out, they do. Then come the units below."""
         crowd = self.crowd
         readers = [post("/desk/register", name=f"Reader {n}", until="2030-12-31") for n in self.tickets]
         orders = [post("/public/orders", **loan) for loan in self.loans]
-        self.ask_unmeasured([self.rows(crowd.naming, FONDS), *readers])
+        self.ask_unmeasured([*self.files(crowd.naming, FONDS), *readers])
         if crowd.most is None:
             self.ask_unmeasured([post("/desk/seat", ticket=ticket) for ticket in self.tickets])
         self.ask_unmeasured(orders)
@@ -150,6 +176,5 @@ def measure_crowd(crowd, programs, room, rounds):
                 it.change(nth)
             else:
                 it.ask("run", post("/desk/run"), REFUSED)
-        for side in it.sides:
-            side.session.__exit__(None)
+        it.end()
         return it

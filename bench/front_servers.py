@@ -86,7 +86,7 @@ class Office:
             text = text.replace(old, new)
         for theirs, ours in (("/etc/record-office", self.folder), ("/usr/share/record-office/front", TOP / "front"),
                              ("/run/record-office-queue", self.folder),
-                             ("/run/record-office-search/search", self.folder / "answers")):
+                             ("/run/record-office-readers", self.folder)):
             text = text.replace(theirs, str(ours))
         for name, port in PORTS.items():
             ours = self.ports[name]

@@ -5,8 +5,11 @@
 
 The office has N units in fonds of so many. It prints rows of markdown: how long a first round, a round without changes
 and one after a change take, what a desk command and a reader's page wait beside them, how large index and memory are,
-and how long questions take, without nginx and the service. With --rest 0, rounds ask without a pause."""
+and how long questions take, without nginx and the service, by themselves and beside the worst one. With --rest 0,
+rounds ask without a pause."""
 
+import concurrent.futures
+import contextlib
 import http.client
 import json
 import multiprocessing
@@ -14,6 +17,7 @@ import pathlib
 import random
 import resource
 import sys
+import threading
 import time
 
 sys.dont_write_bytecode = True
@@ -23,6 +27,7 @@ sys.path[:0] = [str(ACCEPTANCE / "front"), str(ACCEPTANCE)]
 import client  # noqa: E402
 import searched  # noqa: E402
 from office import clear  # noqa: E402
+from turns import Late, Turns, is_costly  # noqa: E402
 
 SYLLABLES = (("har", "doc", "min", "let", "sto", "bri"), ("a", "e", "o", "u"),
              ("ter", "kin", "ham", "ley", "mond", "sby", "wick", "ton"))
@@ -30,6 +35,7 @@ WORDS = [a + b + c for a in SYLLABLES[0] for b in SYLLABLES[1] for c in SYLLABLE
 HEADER = ("legacyId,parentId,identifier,title,levelOfDescription,publicationStatus,eventDates,eventActors,"
           "scopeAndContent,physicalObjectName\n")
 QUESTIONS = 60
+WORST = "a* b* c* d* e* f* g* h* i* j"  # 28 letters
 
 
 def rows(units, fonds):
@@ -133,7 +139,7 @@ def questions(office, db, units):
     kinds = {"rare word": lambda: f"n{chance.randrange(units)}", "word of nearly all units": lambda: WORDS[0],
              "two common words": lambda: " ".join(chance.sample(WORDS[:40], 2)),
              "begin*": lambda: WORDS[chance.randrange(99)][:3] + "*",
-             "b*": lambda: "b*", "nothing found": lambda: "zzz"}
+             "b*": lambda: "b*", "28 letters, the worst": lambda: WORST, "nothing found": lambda: "zzz"}
     print("| a question, ms: p50 / p99 / most | | requests of each |\n|---|---|---|")
     for name, typed in kinds.items():
         times, ask.asked = [], 0
@@ -142,6 +148,36 @@ def questions(office, db, units):
             searched.Finder(db, ask, searched.Query(searched.read_typed(typed()))).find()
             times.append(time.perf_counter() - began)
         print(f"| {name} | {spread(times)} | {ask.asked / QUESTIONS:.0f} |", flush=True)
+
+
+def search(office, turns, address, typed):
+    """How long a search takes, from the moment at which it is asked for."""
+    began, query = time.perf_counter(), searched.Query(searched.read_typed(typed, "en"))
+    with turns.turn(address, costly=is_costly(query.phrases)), contextlib.closing(searched.index.open_index(office.index)) as db:
+        searched.Finder(db, searched.Asking(office.queue), query).find()
+    return time.perf_counter() - began
+
+
+def crowd(office, units):
+    """Prints how long eight readers' searches take while somebody asks the worst question without a pause."""
+    turns, over, chance = Turns(), threading.Event(), random.Random(3)
+
+    def worst():
+        """Asks it again and again."""
+        while not over.is_set():
+            with contextlib.suppress(Late):
+                search(office, turns, "192.0.2.1", WORST)
+    strangers = [threading.Thread(target=worst) for _ in range(4)]
+    for stranger in strangers:
+        stranger.start()
+    with concurrent.futures.ThreadPoolExecutor(8) as readers:
+        asked = [f"n{chance.randrange(units)}" if n % 2 else WORDS[n % 40] for n in range(160)]
+        times = sorted(readers.map(lambda n: search(office, turns, f"192.0.2.{2 + n % 8}", asked[n]), range(160)))
+    over.set()
+    for stranger in strangers:
+        stranger.join()
+    told = " / ".join(f"{times[int(len(times) * part)] * 1000:.0f}" for part in (.5, .95, .99))
+    print(f"\neight readers beside the worst question, ms: p50 / p95 / p99: {told}")
 
 
 def measure(given, office):
@@ -156,6 +192,7 @@ def measure(given, office):
         print(f"{given.units} units in fonds of {given.fonds}; one aid: {aid(searched.Asking(office.queue), 1)}")
         rounds(office, ask, db, given.units)
         questions(office, db, given.units)
+        crowd(office, given.units)
 
 
 def main():
