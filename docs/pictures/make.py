@@ -60,8 +60,7 @@ def shoot(office, browser):
     page.press_starting("Order")
     keep(page, "readers-unit", full=True)
     page.size(*PHONE)
-    page.visit(office.public + "/aid/1?q=minutes")
-    page.see("unit", ".told")
+    page.visit(office.public + "/unit/2")
     keep(page, "readers-phone")
 
 
@@ -79,6 +78,8 @@ def main():
         browser = Browser(folder / "profile")
         try:
             with Office.create(given.program, folder / "office", first=21800, last=21899) as office:
+                office.serve_readers()
+                office.await_rounds()
                 begin_the_day(Asks(office))
                 shoot(office, browser)
         finally:
