@@ -7,12 +7,10 @@ pub use Rattle.sqlite.specs.State.{Executes, HasCleanDisk, IsLive, IsNotRun, Sho
 pub use Rattle.sqlite.specs.Tree.{Trees}
 pub use Rattle.adoption.specs.Verdicts.{IsVerdict}
 pub use Rattle.catalogue_statements.specs.Representation.{Represents, RepresentsLinkRows}
-pub use Rattle.nested_sets.specs.Representation.{RepresentsSpanRows}
 pub use Rattle.office.specs.Adoption.{HasAdoptCause, IsAdopted, refusal_of, state_in}
 pub use Rattle.office.specs.IdleOffice.{IsAsBefore, IsAtRest, IsIn, IsOffice, is_clean, is_shown, is_still_open}
 pub use Rattle.office.specs.Inspection.{ConfirmsOpen, Inspects}
-pub use Rattle.office.specs.Migration.{IsMigrated, MayFindSpans, MigratesIfSound}
-pub use Rattle.office.specs.NewOffice.{HasOpenCause, MakesTables, RepresentsNew, new_desk, open_fault_of}
+pub use Rattle.office.specs.NewOffice.{MakesTables, RepresentsNew, new_desk, open_fault_of}
 pub use Rattle.office.specs.OfficeCall.{MayFind, TakesStep}
 pub use Rattle.office_core.specs.Rules.{after, decide, is_name, refusal, result_of, step}
 pub use Rattle.office_core.specs.SoundOffice.{IsSoundOffice}

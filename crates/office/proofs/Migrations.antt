@@ -11,7 +11,9 @@ use Rattle.adoption.specs.Tables.{RepresentsItsState}
 use Rattle.adoption.specs.OrderedTables.{StandInOrder}
 use Rattle.office.specs.declared.faults.OpenFault.{OpenFault}
 use Rattle.office.specs.declared.faults.OpenFault.TheVariants as fault
-use Rattle.office.proofs.Common.{BlamesDisk, Database, First, HasAdoptCause, HasOuterCause, IsDatabase, IsMigrated, IsVerdict, OnlyTouches, RepresentsLinkRows, RepresentsSpanRows, RepresentsState, Second, StoreFault, open_fault_of, refusal_of, state_in}
+use Rattle.office.specs.Migration.{IsMigrated}
+use Rattle.nested_sets.specs.Representation.{RepresentsSpanRows}
+use Rattle.office.proofs.Common.{BlamesDisk, Database, First, HasAdoptCause, HasOuterCause, IsDatabase, IsVerdict, OnlyTouches, RepresentsLinkRows, RepresentsState, Second, StoreFault, open_fault_of, refusal_of, state_in}
 use Rattle.office.proofs.Adoptions.{none_refused, sound_shown}
 
 -- tables that are judged to be a sound office's

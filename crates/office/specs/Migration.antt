@@ -4,31 +4,20 @@ use Rattle.sqlite_trees.specs.declared.store.Store as trees
 use Rattle.sqlite.specs.Effect.{Database}
 use Rattle.sqlite.specs.Held.{Held, state}
 use Rattle.sqlite.specs.State as store
-use Rattle.sqlite.specs.State.{HasCleanDisk, Survives}
+use Rattle.sqlite.specs.State.{HasCleanDisk}
 use Rattle.sqlite.specs.Tree.{Trees}
 use Rattle.office_tables.specs.Versions.{First, Second}
-use Rattle.catalogue_statements.specs.Representation.{RepresentsLinkRows}
 use Rattle.adoption.specs.Verdicts.{IsVerdict}
 use Rattle.adoption.specs.declared.verdict.Verdict.TheVariants as verdict
 use Rattle.office_core.specs.SoundOffice.{IsSoundOffice}
-use Rattle.office_core.specs.State.{State}
-use Rattle.office_tables.specs.Faults.{HasOuterCause}
 use Rattle.office_tables.specs.Schema as tables
 use Rattle.office_tables.specs.Schema.{schema}
 use Rattle.office_tables.specs.Step.{Continues, InTransaction, IsAborted, OnlyTouches}
-use Rattle.office_tables.specs.declared.fault.StoreFault.{StoreFault}
 use Rattle.adoption.specs.OrderedTables.{StandInOrder}
 use Rattle.office.specs.Adoption.{HasAdoptCause, state_in}
-use Rattle.office.specs.IdleOffice.{IsAsBefore, IsIn, IsOffice}
 use Rattle.office.specs.declared.faults.OpenFault.{OpenFault}
 use Rattle.refinement.specs.Representation.{RepresentsState}
 use Rattle.nested_sets.specs.Representation.{RepresentsSpanRows}
-
--- ---- of an office that is open
-
--- in addition to what it might have found before: the same state in version 2, complete
-abbrev pub MayFindSpans : store.State → Trees → Type 0
-MayFindSpans old db = (s : State) → IsIn RepresentsLinkRows First s old → RepresentsState RepresentsSpanRows Second (record { schema = schema Second; trees = db }) s
 
 -- ---- of tables of any origin
 
@@ -52,17 +41,6 @@ module _ {S : Type 0} (g : trees.Ghosts S) (before after : Held S) where
 
   abbrev new : store.State
   new = state g after
-
-  -- The call brings an office from version 1 to version 2, in one transaction and the same state. If it succeeds, the
-  -- connection is open. If it fails, nothing is changed.
-  pub record MigratesOffice {X : Type 0} (r : Result X StoreFault) : Type 0 where
-    pub office : OnOk r (IsOffice Second new)
-    pub old_office : OnErr r (IsOffice First new)
-    pub same : HasCleanDisk new → (s : State) → IsIn RepresentsLinkRows First s old → OnOk r (IsIn RepresentsSpanRows Second s new)
-    pub kept : HasCleanDisk new → OnOk r (IsTrue new.is_open)
-    pub back : HasCleanDisk new → OnErr r (IsAsBefore old new)
-    pub faults : HasCleanDisk new → (s : State) → IsSoundOffice s → IsIn RepresentsLinkRows First s old → IfErr r (HasOuterCause old new)
-    pub crash : Survives old new (MayFindSpans old)
 
   -- Inside a transaction, the call judges tables of any origin, and brings them to version 2 if they are a sound
   -- office's of version 1. Otherwise the fault says why no office of version 1 can be opened over them.

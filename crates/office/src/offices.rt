@@ -3,8 +3,6 @@
 ghost use Rattle.std.specs.Prelude.{◌≡◌, false, Err, IfErr, IfOk, IsErr, IsOk, IsTrue, OnErr};
 ghost use Rattle.sqlite.specs.Held.{state};
 ghost use Rattle.sqlite.specs.State.{HasCleanDisk, Survives};
-ghost use Rattle.office_tables.specs.Versions.{First, Second};
-ghost use Rattle.catalogue_statements.specs.Representation.{RepresentsLinkRows};
 ghost use Rattle.office_core.specs.Json.{reply_text};
 ghost use Rattle.office_core.specs.Queries.{answer};
 ghost use Rattle.office_core.specs.Rules.{step};
@@ -16,25 +14,21 @@ ghost use Rattle.office_tables.specs.Schema.{no_schema, schema};
 ghost use Rattle.office.specs.Adoption.{HasAdoptCause, IsAdopted, state_in};
 ghost use Rattle.office.specs.OfficeCall.{HasBusyCause, MayFind, TakesStep};
 ghost use Rattle.office.specs.InitialSettings.{founded};
-ghost use Rattle.office.specs.Migration.{MayFindSpans};
 ghost use Rattle.office.specs.NewOffice.{HasOpenCause};
 ghost use Rattle.office.specs.IdleOffice.{IsAsBefore, IsAtRest, IsIn, is_clean, is_shown, is_still_open};
 ghost use Rattle.office.specs.Runs.{IsCall, question_call, command_call};
 ghost use Rattle.refinement.specs.Representation.{RepresentsState};
-ghost use Rattle.nested_sets.specs.Representation.{RepresentsSpanRows};
 
 use crate::commands::apply_to;
 use crate::faults::{OpenFault, busy, refusal};
 use crate::inspection::look_over;
-use crate::migration::bring_to_spans;
 use crate::names::names_days_and_texts;
 use crate::new_office::found;
 use crate::queries::ask_in;
 use crate::settings::Settings;
-use catalogue_store::{LinkPlaces, Places};
+use catalogue_store::Places;
 use desk_store::is_blank;
 use integrity_checks::CheckedPlaces;
-use nested_sets::SpanPlaces;
 use office_core::{Answer, Busy, Command, Query, Reply};
 use office_tables::Closed;
 use sqlite::{Alter, Connection};
@@ -167,45 +161,6 @@ impl<P: Places, S: Alter> Office<P, S> {
     {
         let Office { closed } = self;
         closed.into_connection()
-    }
-}
-
-impl<S: Alter> Office<LinkPlaces, S> {
-    /// Converts the office from version 1 to version 2, in one transaction. Its state stays the same, and the places of
-    /// its units become nested sets. On a fault the office is given back unchanged. A crash finds version 1 or version
-    /// 2, complete.
-    pub fn migrate(
-        self,
-        alloc: Global,
-    ) -> Result<Office<SpanPlaces, S>, (OpenFault, Office<LinkPlaces, S>)>
-        ensures same { IfOk result (λ office. HasCleanDisk (state S.Store office)
-            → (s : State) → IsIn RepresentsLinkRows First s (state S.Store self)
-            → IsIn RepresentsSpanRows Second s (state S.Store office)) }
-        ensures kept { IfOk result (λ office. HasCleanDisk (state S.Store office)
-            → IsTrue (state S.Store office).is_open) }
-        ensures back { IfErr result (λ e. HasCleanDisk (state S.Store e.1)
-            → IsAsBefore (state S.Store self) (state S.Store e.1)) }
-        ensures cause { IfErr result (λ e. HasCleanDisk (state S.Store e.1)
-            → (s : State) → IsSoundOffice s → IsIn RepresentsLinkRows First s (state S.Store self)
-            → HasOpenCause (state S.Store self) (state S.Store e.1) e.0) }
-        ensures crash { IfOk result (λ office. Survives (state S.Store self) (state S.Store office)
-            (MayFindSpans (state S.Store self))) }
-        ensures crash_back { IfErr result (λ e. Survives (state S.Store self) (state S.Store e.1)
-            (MayFindSpans (state S.Store self))) }
-    {
-        let Office { closed } = self;
-        let mut conn = closed.into_connection();
-        match bring_to_spans(alloc, &mut conn) {
-            Ok(()) => Ok(Office {
-                closed: Closed::of(conn),
-            }),
-            Err(fault) => Err((
-                OpenFault::from(fault),
-                Office {
-                    closed: Closed::of(conn),
-                },
-            )),
-        }
     }
 }
 

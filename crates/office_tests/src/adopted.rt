@@ -162,7 +162,7 @@ fn after_a_morning<P: Places>(alloc: Global) -> Result<Connection<MemStore>, Fai
 }
 
 /// Opens an office. Want of memory changes nothing, so it is tried again.
-fn open_again<P: CheckedPlaces>(
+pub(crate) fn open_again<P: CheckedPlaces>(
     alloc: Global,
     conn: Connection<MemStore>,
 ) -> Result<Office<P, MemStore>, OpenFault>

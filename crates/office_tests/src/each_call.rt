@@ -1,5 +1,5 @@
 //! Each command and each question once, over links and over nested sets, in the bytes of its reply. The program opens
-//! no office over links; whole days, over nested sets, are in `acceptance/`.
+//! no office over links; whole days are in `days`.
 
 use crate::calls::{Said, Step, goes};
 use crate::offices::{BOXES, in_memory};

@@ -6,6 +6,10 @@ mod adopted;
 #[cfg(test)]
 mod calls;
 #[cfg(test)]
+mod day_texts;
+#[cfg(test)]
+mod days;
+#[cfg(test)]
 mod each_call;
 #[cfg(test)]
 mod migrated_tables;
@@ -15,3 +19,5 @@ mod migration;
 mod offices;
 #[cfg(test)]
 mod places;
+#[cfg(test)]
+mod rounds;

@@ -49,7 +49,7 @@ fn tables(alloc: Global) -> Result<Connection<MemStore>, Fail>
 }
 
 /// Why they are not migrated, or none if they are. Want of memory changes nothing, so it is tried again.
-fn fault_of(alloc: Global, conn: &mut Connection<MemStore>) -> Option<OpenFault>
+pub(crate) fn fault_of(alloc: Global, conn: &mut Connection<MemStore>) -> Option<OpenFault>
     requires outside { HasCleanDisk (state over_memory conn.old)
         → (state over_memory conn.old).in_transaction ≡ false }
     requires unlimited { (state over_memory conn.old).step_limit ≡ None }

@@ -1,6 +1,8 @@
 //! An office is migrated from version 1 to version 2, and answers as before.
 
+use crate::adopted::open_again;
 use crate::calls::{Said, Step, goes};
+use crate::migrated_tables::fault_of;
 use crate::offices::{BOXES, FONDS, in_memory};
 use catalogue_store::LinkPlaces;
 use nested_sets::SpanPlaces;
@@ -202,38 +204,17 @@ pub(crate) fn has_spans<S: Alter>(
     Ok(())
 }
 
-/// After a migration that failed the office answers as before, and is then migrated.
-fn again(
-    rt: &impl Abort,
-    alloc: Global,
-    office: Office<LinkPlaces, MemStore>,
-    asked: &[Step],
-) -> Result<Office<SpanPlaces, MemStore>, Fail> {
-    let mut office = office;
-    if let Err(fail) = goes(rt, alloc, &mut office, asked) {
-        let _ = office.into_connection();
-        return Err(fail);
-    }
-    match office.migrate(alloc) {
-        Ok(office) => Ok(office),
-        Err((fault, office)) => {
-            let _ = office.into_connection();
-            Err(Fail::from(fault))
-        }
-    }
-}
-
-/// Migrates the office to version 2. If memory is refused, it is tried once more.
+/// Brings the office's tables to version 2, and opens them.
 fn migrate(
-    rt: &impl Abort,
     alloc: Global,
     office: Office<LinkPlaces, MemStore>,
-    asked: &[Step],
 ) -> Result<Office<SpanPlaces, MemStore>, Fail> {
-    match office.migrate(alloc) {
-        Ok(office) => Ok(office),
-        Err((_, office)) => again(rt, alloc, office, asked),
+    let mut conn = office.into_connection();
+    if let Some(fault) = fault_of(alloc, &mut conn) {
+        return Err(Fail::from(fault));
     }
+    let office = open_again::<SpanPlaces>(alloc, conn)?;
+    Ok(office)
 }
 
 /// An office of version 1 after these calls.
@@ -274,7 +255,7 @@ fn said_after<S: Alter>(
 
 fn comes_over(rt: &impl Abort, alloc: Global, case: &Case) -> Result<(), Fail> {
     let old = office_of_links(rt, alloc, case)?;
-    let mut office = migrate(rt, alloc, old, case.asked)?;
+    let mut office = migrate(alloc, old)?;
     let gone = said_after(rt, alloc, &mut office, case);
     let mut conn = office.into_connection();
     gone?;

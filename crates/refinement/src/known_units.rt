@@ -138,7 +138,8 @@ fn is_valid(permit: &Permit, today: Day) -> bool
 
 /// Those of these permits that are valid on this day.
 fn valid_permits(alloc: Global, permits: &[Permit], today: Day) -> Result<Vec<Permit>, AllocError>
-    ensures { IfOk result (λ valid. valid.items ≡ filter (λ (permit : Permitted). int_le today permit.until) permits.now) }
+    ensures { IfOk result (λ valid. valid.items
+        ≡ filter (λ (permit : Permitted). int_le today permit.until) permits.now) }
 {
     let mut valid = Vec::new(alloc);
     for permit in permits {

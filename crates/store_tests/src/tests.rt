@@ -8,9 +8,9 @@ ghost use Rattle.office_tables.specs.Step.{InTransaction};
 
 use crate::mark_lines::{show_branch, show_marks, show_statuses, show_walk};
 use catalogue_store::{
-    Head, LinkPlaces, NewUnit, OfficeRow, Places, StoreFault, add_unit, begin, branch_marks,
-    contents_marks, create, heads_below, known, move_unit, office_row, path_heads, path_marks,
-    remove_branch, replace_values, set_closure, set_status, values,
+    Head, LinkPlaces, NewUnit, OfficeRow, Places, StoreFault, add_unit, attached_marks, begin,
+    branch_marks, contents_marks, create, heads_below, known, move_unit, office_row, path_heads,
+    path_marks, remove_branch, replace_values, set_closure, set_status, values,
 };
 use desk_store::{create_desk, is_blank};
 use isad_core::{BoxKey, Day, List, Text, Values};
@@ -292,6 +292,40 @@ fn read_marks<P: Places, S: Alter>(
     show_walk(text, &branch_marks(alloc, tables, None)?)
 }
 
+/// Unit 1 is in Box 1, and so is unit 4, which comes to lie below unit 3, a draft below unit 1, and units 5 and 6, both
+/// below unit 2, which is closed and below unit 4.
+fn lie_on_one_path<P: Places, S: Alter>(
+    alloc: Global,
+    tables: &mut Tables<P, S>,
+) -> Result<(), StoreFault> {
+    moved_below(alloc, tables)?;
+    move_unit(alloc, tables, Number::from(4), Some(Number::from(3)))?;
+    add(alloc, tables, 5, Some(2), MAPS)?;
+    add(alloc, tables, 6, Some(2), MAPS)?;
+    set_closure(tables, Number::from(2), Day::from_number(21915))?;
+    set_status(alloc, tables, Number::from(3), true, false)?;
+    Ok(())
+}
+
+/// The marks of the path and of the branch of each unit that Box 1 is attached to. The path of one is known when those
+/// of the next are read.
+fn read_attached<P: Places, S: Alter>(
+    alloc: Global,
+    tables: &mut Tables<P, S>,
+    text: &mut String,
+) -> Result<(), StoreFault> {
+    lie_on_one_path(alloc, tables)?;
+    let rows = attached_marks(alloc, tables, Number::from(1))?;
+    let mut known = Vec::new(alloc);
+    for row in &rows {
+        let found = P::marks_about(alloc, tables, &known, *row)?;
+        show_marks(text, &found.path)?;
+        show_walk(text, &found.branch)?;
+        known = found.path;
+    }
+    Ok(())
+}
+
 fn show_heads(text: &mut String, heads: &[Head]) -> Result<(), StoreFault> {
     for head in heads {
         let id = head.id.get();
@@ -364,6 +398,7 @@ pub(crate) enum Act {
     Remove,
     Revise,
     Mark,
+    Attach,
     Head,
     Set,
     LookUp,
@@ -384,6 +419,7 @@ fn carry_out<P: Places, S: Alter>(
         Act::Remove => remove_first(alloc, tables, text),
         Act::Revise => revise_unit(alloc, tables, text),
         Act::Mark => read_marks(alloc, tables, text),
+        Act::Attach => read_attached(alloc, tables, text),
         Act::Head => read_heads(alloc, tables, text),
         Act::Set => set(alloc, tables, text),
         Act::LookUp => looked_up(alloc, tables, text),
@@ -544,9 +580,29 @@ fn a_branch_is_removed(rt: HostRuntime) -> Result<(), Fail> {
     see(&rt, rt.alloc(), &[case])
 }
 
+/// The marks that bear on units 1, 4, 5 and 6, for the sake of Box 1.
+const ATTACHED: Case = Case {
+    done: Act::Attach,
+    queries: &[],
+    told: " 1 true false 0\n\
+           \u{20}1 true false 0 3 true true 0 4 true false 0 2 false false 21915 5 true false 0 6 true false 0\n\
+           \u{20}1 0 11 3 1 10 4 2 9 2 3 8 5 4 5 6 6 7\n\
+           \u{20}1 true false 0 3 true true 0 4 true false 0\n\
+           \u{20}4 true false 0 2 false false 21915 5 true false 0 6 true false 0\n\
+           \u{20}4 0 7 2 1 6 5 2 3 6 4 5\n\
+           \u{20}1 true false 0 3 true true 0 4 true false 0 2 false false 21915 5 true false 0\n\
+           \u{20}5 true false 0\n\
+           \u{20}5 0 1\n\
+           \u{20}1 true false 0 3 true true 0 4 true false 0 2 false false 21915 6 true false 0\n\
+           \u{20}6 true false 0\n\
+           \u{20}6 0 1\n",
+    links: " 1 - 1\n 2 4 1\n 3 1 1\n 4 3 1\n 5 2 1\n 6 2 2\n",
+    spans: " 1 1 12\n 2 4 9\n 3 2 11\n 4 3 10\n 5 5 6\n 6 7 8\n",
+};
+
 #[test]
 fn units_are_described_and_marked(rt: HostRuntime) -> Result<(), Fail> {
-    let cases: [Case; 5] = [
+    let cases: [Case; 6] = [
         Case {
             done: Act::Revise,
             told: "true true\n",
@@ -567,6 +623,7 @@ fn units_are_described_and_marked(rt: HostRuntime) -> Result<(), Fail> {
                    \u{20}1 0 -\n 2 0 21915\n 3 0 21916\n 4 0 -\n",
             ..MOVED
         },
+        ATTACHED,
         Case {
             done: Act::Head,
             told: " 1 Hull Dock Company 4 Maps\n 2 Minutes\n 4 Maps 2 Minutes\n",
