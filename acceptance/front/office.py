@@ -191,8 +191,8 @@ class Office(client.Office):
         with open(self.folder / "readers.told", "a") as log:
             words = [PYTHON, "-B", READERS / "service.py", "--queue", self.queue, "--index", self.index, "--listen",
                      self.listen, "--words", self.words, "--texts", self.folder / "texts", *(more or QUICK)]
-            clock = {"TZ": zone} if zone else {}
-            self.service = subprocess.Popen([str(word) for word in words], stdout=log, stderr=log, env={**os.environ, **clock})
+            names = {"MALLOC_ARENA_MAX": "1", **({"TZ": zone} if zone else {})}  # the first as its unit has it
+            self.service = subprocess.Popen([str(word) for word in words], stdout=log, stderr=log, env={**os.environ, **names})
         self.wait_for(self.public + "/help")
 
     @contextlib.contextmanager
