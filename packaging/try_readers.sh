@@ -97,7 +97,7 @@ hardened() {
         'write may not execute may not unshare may not root may not'
     same 'systemd says so too' "$(systemctl show -p PrivateNetwork,RestrictAddressFamilies,DynamicUser $unit | sort | xargs)" \
         'DynamicUser=yes PrivateNetwork=yes RestrictAddressFamilies=AF_UNIX'
-    is 'its exposure is small' sh -c "systemd-analyze security --no-pager --threshold=20 $unit"
+    is 'its exposure is small' sh -c "systemd-analyze security --no-pager --threshold=12 $unit"
     is 'and it answers as before' found "$(word)"
 }
 
