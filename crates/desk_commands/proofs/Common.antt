@@ -1,7 +1,7 @@
 -- The names that several proofs of this crate cite, passed on from one place. Declares nothing.
 pub use Rattle.std.proofs.lemmas.Bool.{and_parts, cases_Bool, cases_eq, eqb-true, false≢true, leb-false, ltb-false, ltb-true}
 pub use Rattle.std.proofs.lemmas.Bool.Decides.{nat_tests}
-pub use Rattle.std.proofs.lemmas.List.{append-nil, append_assoc, length-append, length-map, map-append, take-map, take_all, take_more}
+pub use Rattle.std.proofs.lemmas.List.{length-append, length-map, map-append, take-append-drop, take-map, take_all, take_more, take_rest}
 pub use Rattle.std.proofs.lemmas.List.Sorted.{All-permutation, IsNonDecreasingBy-from_sort, IsPermutation-append_right, IsPermutation-map, IsPermutation-sym, IsPermutation-trans, list_any-IsPermutation}
 pub use Rattle.std.specs.List.{AllByRecursion, cons_option, flat_map, list_any}
 pub use Rattle.std.specs.List.Sorted.{IsPermutation}
@@ -24,7 +24,7 @@ pub use Rattle.desk_core.specs.declared.reader.Place.{Place}
 pub use Rattle.desk_core.specs.declared.reader.Place.TheVariants.{Out, Shelf}
 pub use Rattle.desk_core.specs.declared.refusal.Refusal.{Refusal}
 pub use Rattle.desk_core.specs.declared.refusal.Refusal.TheVariants.{Full, NoPermit, NotAtDesk, NotFirst, NotIssued, NothingToMove, OrderNotWaiting, StillIssued, UnknownContainer, UnknownOrder, UnknownTicket, UnknownUnit}
-pub use Rattle.desk_store.specs.Holdings.{at_desk_of, candidates_of, is_first, is_on_shelf, issued_by, issued_of, placed_at, waits_for, with_place}
+pub use Rattle.desk_store.specs.Holdings.{at_desk_of, candidates_of, is_first, is_on_shelf, issued_by, issued_of, on_shelf, placed_at, waits_for, with_place}
 pub use Rattle.desk_store.specs.Orders.{IsNextOrder, IsThere, order_with, with_order, with_order_state}
 pub use Rattle.desk_store.specs.Permits.{HasUnitRow, MayHave, by_unit, is_permit, permits_of, with_permit}
 pub use Rattle.desk_store.specs.Readers.{card_of, next_ticket, ticket_holder, with_last_day, with_reader}

@@ -4,11 +4,13 @@ use Rattle.std.proofs.lemmas.List.Elements.{filter-append}
 use Rattle.std.specs.List.{IsDistinct}
 use Rattle.desk_core.specs.Orders.{in_order}
 use Rattle.desk_core.proofs.OrderLemmas.{in_order-permutation}
+use Rattle.desk_store.proofs.PickingCalls.{filter_both}
 use Rattle.desk_store.specs.Runs.{next_run}
 use Rattle.office_core.specs.State as state
 use Rattle.office_core.proofs.Counts.{numbered_from_one}
 use Rattle.office_core.proofs.LineOrder.{any-in_order}
-use Rattle.desk_commands.proofs.Common.{AllByRecursion, ContainerOrder, IsAscending, IsPermutation, IsPermutation-append_right, IsPermutation-map, IsSoundOffice, Line, Order, OrderRow, Run, RunLineRow, StandsIn, State, TakesEachOnce, Version, all_of_in, and_parts, append-nil, append_assoc, brings, candidates_of, cases_Bool, cons_option, eqb-true, false≢true, filter_map, first, flipped, in_filter, in_map, in_rows, is_due, is_empty, is_first, is_line_before, is_on_shelf, is_shelf, length-map, length-rows, line_for, line_of, lines_from, list_any, most_runs, nat_le, nat_lt, nat_tests, nth, numbered_within, numbers_to, opens, option_map, order_row, order_rows, orders_of_run, picked_due, run_line_row, run_line_rows, run_row, some_and, stands, tables, take-map, taken_by}
+use Rattle.std.proofs.lemmas.List.{append-nil, append_assoc}
+use Rattle.desk_commands.proofs.Common.{AllByRecursion, ContainerOrder, IsAscending, IsPermutation, IsPermutation-append_right, IsPermutation-map, IsSoundOffice, Line, Order, OrderRow, Run, RunLineRow, StandsIn, State, TakesEachOnce, Version, all_of_in, and_parts, brings, candidates_of, cases_Bool, cons_option, eqb-true, false≢true, filter_map, first, flipped, in_filter, in_map, in_rows, is_due, is_empty, is_first, is_line_before, is_on_shelf, is_shelf, length-map, length-rows, line_for, line_of, lines_from, list_any, most_runs, nat_le, nat_lt, nat_tests, nth, numbered_within, numbers_to, opens, option_map, order_row, order_rows, orders_of_run, picked_due, run_line_row, run_line_rows, run_row, some_and, stands, tables, take-append-drop, take-map, take_all, taken_by}
 use Rattle.desk_commands.proofs.MovedAll.{AreWithin, all_taken}
 use Rattle.desk_commands.proofs.Picked.{due_shown, is_open_for}
 use Rattle.desk_commands.proofs.Reshelved.{all_left, rising_left, rising_to}
@@ -30,6 +32,13 @@ enough test (suc most) (suc i) (x ∷ xs) low = at (test x) low (enough test mos
     at true low one same = ap (λ l. x ∷ l) (one (omega (arith, low)))
     at false low one same = same low
 
+-- the same behind others
+pub enough_with : {X : Type 0} (first : List X) (test : X → Bool) (most i : ℕ) (xs : List X) → most ≤ length (first ++ filter test (take i xs))
+    → take most (first ++ filter test (take i xs)) ≡ take most (first ++ filter test xs)
+enough_with [] test most i xs low = enough test most i xs low
+enough_with (x ∷ first) test zero i xs low = refl
+enough_with (x ∷ first) test (suc most) i xs low = ap (λ l. x ∷ l) (enough_with first test most i xs (omega (arith, low)))
+
 nothing_taken : {X : Type 0} (n : ℕ) (xs : List X) → xs ≡ [] → take n xs ≡ []
 nothing_taken zero xs e = refl
 nothing_taken (suc n) xs e = rw e refl
@@ -47,6 +56,24 @@ pub part_more : {X : Type 0} (test : X → Bool) (xs : List X) (i j : ℕ) → i
     → filter test (take i xs) ++ filter test (take (j - i) (drop i xs)) ≡ filter test (take j xs)
 part_more test xs i j low =
     sym (filter-append test (take i xs) (take (j - i) (drop i xs))) ∙ ap (filter test) (split_at xs i j low)
+
+-- those of the first that pass both tests are as many as are sought
+pub head_enough : {X : Type 0} (opened shelved : X → Bool) (most i : ℕ) (xs : List X) → length (filter opened (filter shelved (take i xs))) ≡ most
+    → filter opened (filter shelved (take i xs)) ≡ take most (filter opened (filter shelved xs))
+head_enough {X} opened shelved most i xs many =
+    let both : X → Bool = λ x. shelved x && opened x in
+    let same = filter_both opened shelved (take i xs) in
+    let low : most ≤ length (filter both (take i xs)) = omega (arith, many, ap length same) in
+    let all : length (filter opened (filter shelved (take i xs))) ≤ most = omega (arith, many) in
+    sym (take_all most (filter opened (filter shelved (take i xs))) all)
+    ∙ ap (take most) same ∙ enough both most i xs low ∙ sym (ap (take most) (filter_both opened shelved xs))
+
+-- those of the first and then of the others
+pub head_and_rest : {X : Type 0} (opened shelved : X → Bool) (i : ℕ) (xs : List X)
+    → filter opened (filter shelved (take i xs)) ++ filter opened (filter shelved (drop i xs)) ≡ filter opened (filter shelved xs)
+head_and_rest opened shelved i xs =
+    sym (filter-append opened (filter shelved (take i xs)) (filter shelved (drop i xs)))
+    ∙ ap (filter opened) (sym (filter-append shelved (take i xs) (drop i xs)) ∙ ap (filter shelved) (take-append-drop i xs))
 
 rising_taken : (k : ℕ) (ns : List ℕ) → IsAscending ns → IsAscending (take k ns)
 rising_taken zero ns h = tt

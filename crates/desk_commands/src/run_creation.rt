@@ -1,12 +1,15 @@
 //! Making runs, which bring containers to the desk.
 
-ghost use Rattle.std.specs.Prelude.{◌≡◌, false, map, IfOk, ⊤};
+ghost use Rattle.std.specs.Prelude.{◌≡◌, ◌++◌, false, map, take, IfOk, ⊤};
 ghost use Rattle.std.specs.List.{AllByRecursion};
 ghost use Rattle.isad_core.specs.Limits.{IsNumber};
+ghost use Rattle.desk_store.specs.Holdings.{on_shelf as those_on_shelf};
 ghost use Rattle.desk_store.specs.declared.container_orders.ContainerOrder.{ContainerOrder as Taken};
 ghost use Rattle.office_core.specs.Words.{is_empty};
 ghost use Rattle.office_core.specs.declared.command.Command.TheVariants as command;
 ghost use Rattle.office_tables.specs.Calls.{Answers};
+ghost use Rattle.state_encoding.specs.OfficeRows.{tables as rows_of};
+ghost use Rattle.refinement.specs.KnownUnits.{AreTold, open_ones};
 ghost use Rattle.refinement.specs.ReadingRoomLimits.{limits_of};
 ghost use Rattle.refinement.specs.CommandSteps.{Performs};
 ghost use Rattle.refinement.specs.AccessConditions.{CanBeJudged, RepresentsWhole};
@@ -16,31 +19,33 @@ use crate::container_moves::move_all;
 use crate::emptiness::are_none;
 use catalogue_store::Places;
 use desk_core::{Limits, Place};
-use desk_store::{ContainerOrder, candidates, record_run};
+use desk_store::{ContainerOrder, first_orders, on_shelf, record_run};
 use isad_core::Day;
 use office_core::{Done, Refusal};
 use office_tables::{StoreFault, Tables};
-use refinement::open_among;
+use refinement::{OpenOrders, open_among};
 use sqlite::Alter;
 use std::alloc::{AllocError, Global};
 use std::collections::BTreeMap;
 
-/// The first `most` of these orders whose containers are open to their readers. They are judged in parts, each in one
-/// walk: first as many orders as a run takes, then twice as many as before.
-fn first_open<P: Places, S: Alter>(
+/// The first `most` of the orders that were found first and of those of `waiting` whose containers are open to their
+/// readers. They are judged in parts, each in one walk and twice as long as the one before.
+fn found_and_open<P: Places, S: Alter>(
     alloc: Global,
     tables: &mut Tables<P, S>,
     today: Day,
     most: u32,
+    first: OpenOrders,
     waiting: &[ContainerOrder],
 ) -> Result<Vec<ContainerOrder>, StoreFault>
     ensures answers { Answers S.Store (RepresentsWhole P.represents P.version) CanBeJudged tables.old tables.new result
-        (λ _. ⊤) (λ _ s due. CanBeJudged s → today ≡ s.day → due.items ≡ open_orders s most waiting.now) }
+        (λ _. ⊤) (λ _ s due. CanBeJudged s → today ≡ s.day → AreTold today s.catalogue.forest first.known
+        → due.items ≡ take most (first.orders.items ++ open_ones s waiting.now)) }
 {
-    let mut due = Vec::new(alloc);
-    let mut known = BTreeMap::new(alloc);
+    let mut due = first.orders;
+    let mut known = first.known;
     let mut place = 0;
-    let mut part = most as usize;
+    let mut part = (most as usize).saturating_mul(2);
     while place < waiting.len() && due.len() < most as usize {
         let end = waiting.len().min(place.saturating_add(part));
         let found = open_among(alloc, tables, &waiting[place..end], known, today)?;
@@ -50,6 +55,30 @@ fn first_open<P: Places, S: Alter>(
         part = part.saturating_mul(2);
     }
     due.truncate(most as usize);
+    Ok(due)
+}
+
+/// The first `most` of these orders whose containers are on the shelf and open to their readers. As many orders as a run
+/// takes are looked at first: often they are enough.
+fn first_open<P: Places, S: Alter>(
+    alloc: Global,
+    tables: &mut Tables<P, S>,
+    today: Day,
+    most: u32,
+    waiting: &[ContainerOrder],
+) -> Result<Vec<ContainerOrder>, StoreFault>
+    ensures answers { Answers S.Store (RepresentsWhole P.represents P.version) CanBeJudged tables.old tables.new result
+        (λ _. ⊤) (λ _ s due. CanBeJudged s → today ≡ s.day
+        → due.items ≡ open_orders s most (those_on_shelf (rows_of P.version s).desk waiting.now)) }
+{
+    let end = waiting.len().min(most as usize);
+    let near = on_shelf(alloc, tables, &waiting[..end])?;
+    let found = open_among(alloc, tables, &near, BTreeMap::new(alloc), today)?;
+    if found.orders.len() == most as usize {
+        return Ok(found.orders);
+    }
+    let far = on_shelf(alloc, tables, &waiting[end..])?;
+    let due = found_and_open(alloc, tables, today, most, found, &far)?;
     Ok(due)
 }
 
@@ -116,7 +145,7 @@ pub fn fetch<P: Places, S: Alter>(
     ensures { Performs P.represents P.version S.Store (λ s. (today ≡ s.day) × (limits.now ≡ limits_of s)) command.Run
         tables.old tables.new result }
 {
-    let waiting = candidates(alloc, tables)?;
+    let waiting = first_orders(alloc, tables)?;
     let due = first_open(alloc, tables, today, limits.run, &waiting)?;
     if are_none(&due) {
         return Ok(Err(Refusal::NothingToMove));

@@ -35,13 +35,13 @@ pub use Rattle.sqlite_value.specs.declared.keys.Key.{Key}
 pub use Rattle.desk_core.specs.DeskRows.{Desk, HoldingRow, OrderRow, PermitRow, ReaderRow, RunLineRow, RunRow, SeatRow, with_state}
 pub use Rattle.desk_core.specs.declared.reader.Place.{Place}
 pub use Rattle.desk_core.specs.declared.reader.Place.TheVariants.{Out, Shelf}
-pub use Rattle.desk_store.specs.Holdings.{at_desk_of, candidates_of, is_first, is_on_shelf, issued_by, loan_by, placed_at, put_down, waits_for, with_place}
+pub use Rattle.desk_store.specs.Holdings.{at_desk_of, candidates_of, firsts_of, is_first, is_on_shelf, issued_by, loan_by, on_shelf, placed_at, put_down, waits_for, with_place}
 pub use Rattle.desk_store.specs.Orders.{IsAt, IsNextOrder, IsThere, holding_of, order_with, queue_of, state_number, with_order, with_order_state}
 pub use Rattle.desk_store.specs.Permits.{HasUnitRow, MayHave, by_unit, granted, is_permit, permits_of, revoked, with_permit, without_permit}
 pub use Rattle.desk_store.specs.Readers.{card_of, held_with, is_live, live_orders, next_ticket, placed_on, reader_with, renewed, seat_of, ticket_holder, with_reader}
 pub use Rattle.desk_store.specs.Representation.{IsKnownPlace, IsLegible, IsLegibleReader, IsNumberOf, RepresentsDesk, RepresentsDeskAlone}
 pub use Rattle.desk_store.specs.Rows.{holding_cells, order_cells, reader_cells, run_cells, run_line_cells, seat_cells}
-pub use Rattle.desk_store.specs.RunCandidates.{is_earliest, is_new}
+pub use Rattle.desk_store.specs.RunCandidates.{is_earliest}
 pub use Rattle.desk_store.specs.Runs.{TakesEachOnce, lines_of, next_run, run_with, with_run}
 pub use Rattle.desk_store.specs.Storage.{AreKnown, IsHeaded, IsKnownLine, IsLegibleStorage, IsQueued, IsToldLine, IsToldRun, RepresentsQueues, Storage, container_with}
 pub use Rattle.desk_store.specs.declared.container_orders.ContainerOrder.{ContainerOrder}

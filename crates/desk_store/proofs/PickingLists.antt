@@ -2,9 +2,7 @@
 use Rattle.std.proofs.Common.{◌≡◌, ℕ, zero, suc, ◌+◌, ◌<◌, pos, Bool, true, false, cond, not, ◌&&◌, ◌||◌, nat_eq, List, [], ◌∷◌, ◌++◌, filter, length, take, Less, Greater, Equal, refl, sym, ap, ap₂, ◌∙◌, arith}
 use Rattle.std.specs.Prelude.{get_or}
 use Rattle.std.proofs.lemmas.List.Folds.{list_any-append}
-use Rattle.std.proofs.Math.Bool.{or_assoc}
-use Rattle.desk_core.proofs.Tests.{not_or}
-use Rattle.desk_store.proofs.Common.{AllByRecursion, AreByNumber, ContainerOrder, all_has, filter-append, has_at, int_cmp, is_earliest, is_eq, is_new, less_below, list_any, lt-ltb, nat_cmp, nat_lt, nat_tests, take_more}
+use Rattle.desk_store.proofs.Common.{AllByRecursion, AreByNumber, ContainerOrder, all_has, filter-append, has_at, int_cmp, is_earliest, is_eq, less_below, list_any, lt-ltb, nat_cmp, nat_lt, nat_tests, take_more}
 
 -- ---- a set of numbers
 
@@ -48,15 +46,13 @@ any_more p xs i d low =
     ap (list_any p) (take_more xs i d low) ∙ list_any-append p (take i xs) (get_or xs i d ∷ [])
     ∙ swap (list_any p (take i xs)) (p (get_or xs i d))
 
-pub met_more : (known0 : List ℕ) (orders : List ContainerOrder) (i : ℕ) (d : ContainerOrder) (c : ℕ) (old new : Bool)
-    → i < length orders
-    → old ≡ (list_any (λ (o : ContainerOrder). nat_eq c o.container) (take i orders) || list_any (nat_eq c) known0)
+pub met_more : (orders : List ContainerOrder) (i : ℕ) (d : ContainerOrder) (c : ℕ) (old new : Bool) → i < length orders
+    → old ≡ list_any (λ (o : ContainerOrder). nat_eq c o.container) (take i orders)
     → new ≡ (nat_eq c (get_or orders i d).container || old)
-    → new ≡ (list_any (λ (o : ContainerOrder). nat_eq c o.container) (take (i + 1) orders) || list_any (nat_eq c) known0)
-met_more known0 orders i d c old new low so is =
+    → new ≡ list_any (λ (o : ContainerOrder). nat_eq c o.container) (take (i + 1) orders)
+met_more orders i d c old new low so is =
     is ∙ ap (λ b. nat_eq c (get_or orders i d).container || b) so
-    ∙ sym (or_assoc (nat_eq c (get_or orders i d).container) (list_any (λ (o : ContainerOrder). nat_eq c o.container) (take i orders)) (list_any (nat_eq c) known0))
-    ∙ ap (λ b. b || list_any (nat_eq c) known0) (sym (any_more (λ (o : ContainerOrder). nat_eq c o.container) orders i d low))
+    ∙ sym (any_more (λ (o : ContainerOrder). nat_eq c o.container) orders i d low)
 
 -- ---- those with a lesser number stand before
 
@@ -96,13 +92,13 @@ before q (x ∷ xs) (suc i) d up low =
     as_is true = refl
     as_is false = refl
 
-pub is_picked : (known0 now : List ℕ) (orders : List ContainerOrder) (i : ℕ) (d : ContainerOrder)
+pub is_picked : (now : List ℕ) (orders : List ContainerOrder) (i : ℕ) (d : ContainerOrder)
     → AreByNumber (λ (o : ContainerOrder). o.order) orders → i < length orders
-    → list_any (nat_eq (get_or orders i d).container) now ≡ (list_any (λ (o : ContainerOrder). nat_eq (get_or orders i d).container o.container) (take i orders) || list_any (nat_eq (get_or orders i d).container) known0)
-    → not (list_any (nat_eq (get_or orders i d).container) now) ≡ (is_earliest (get_or orders i d) orders && is_new known0 (get_or orders i d))
-is_picked known0 now orders i d up low met =
+    → list_any (nat_eq (get_or orders i d).container) now ≡ list_any (λ (o : ContainerOrder). nat_eq (get_or orders i d).container o.container) (take i orders)
+    → not (list_any (nat_eq (get_or orders i d).container) now) ≡ is_earliest (get_or orders i d) orders
+is_picked now orders i d up low met =
     let x = get_or orders i d in
-    ap not met ∙ not_or _ _ ∙ ap (λ b. not b && is_new known0 x) (sym (before (λ (o : ContainerOrder). nat_eq x.container o.container) orders i d up low))
+    ap not (met ∙ sym (before (λ (o : ContainerOrder). nat_eq x.container o.container) orders i d up low))
 
 -- what is kept of one order more
 pub kept_more : (p : ContainerOrder → Bool) (orders : List ContainerOrder) (i : ℕ) (d : ContainerOrder) (done : List ContainerOrder)

@@ -63,6 +63,15 @@ is_on_shelf d c = not (list_any (λ (h : HoldingRow). nat_eq c h.container) d.ho
 abbrev pub is_first : Desk → OrderRow → Bool
 is_first d o = nat_eq 1 o.state && not (list_any (λ other. waits_for o.container other && nat_lt other.id o.id) d.orders)
 
+-- the first order of each container for which one waits, sorted by the numbers of these orders
+abbrev pub firsts_of : Desk → List ContainerOrder
+firsts_of d =
+    map (λ (o : OrderRow). record { container = o.container; order = o.id; ticket = o.ticket }) (filter (is_first d) d.orders)
+
+-- those of these orders whose containers are on the shelf
+abbrev pub on_shelf : Desk → List ContainerOrder → List ContainerOrder
+on_shelf d orders = filter (λ (o : ContainerOrder). is_on_shelf d o.container) orders
+
 -- what a run may take: the containers on the shelf for which an order waits, each with its first order, sorted by the
 -- numbers of these orders
 abbrev pub candidates_of : Desk → List ContainerOrder

@@ -36,7 +36,7 @@ pub use queues::{ContainerQueue, queue};
 pub use reader_permits::{Permit, grant, permits, revoke};
 pub use reader_summary::{LiveOrder, ReaderCard, reader};
 pub use readers::{add_reader, is_registered, renew};
-pub use run_candidates::candidates;
+pub use run_candidates::{first_orders, on_shelf};
 pub use run_lines::run;
 pub use runs::{Brought, record_run};
 pub use table_creation::create_desk;

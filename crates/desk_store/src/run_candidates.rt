@@ -1,15 +1,14 @@
 //! What a run may take.
 
-ghost use Rattle.std.specs.Prelude.{◌≡◌, ◌&&◌, ◌||◌, ℕ, not, nat_eq, map, filter, IfOk, OnOk, ⊤};
+ghost use Rattle.std.specs.Prelude.{◌≡◌, ◌||◌, ℕ, not, nat_eq, map, filter, IfOk, OnOk, ⊤};
 ghost use Rattle.std.specs.List.{list_any};
-ghost use Rattle.sqlite.specs.Held.{state};
 ghost use Rattle.desk_core.specs.DeskRows.{OrderRow};
 ghost use Rattle.office_tables.specs.Calls.{StoreAnswers};
 ghost use Rattle.office_tables.specs.Schema as schema;
 ghost use Rattle.office_tables.specs.Step.{Holds};
 ghost use Rattle.office_tables.specs.TableStatements.{LooksUp};
-ghost use Rattle.desk_store.specs.Holdings.{candidates_of};
-ghost use Rattle.desk_store.specs.RunCandidates.{is_earliest, is_new};
+ghost use Rattle.desk_store.specs.Holdings.{firsts_of, on_shelf};
+ghost use Rattle.desk_store.specs.RunCandidates.{is_earliest};
 ghost use Rattle.desk_store.specs.Rows.{order_cells};
 ghost use Rattle.desk_store.specs.Representation.{RepresentsDeskAlone, IsLegible};
 ghost use Rattle.office_tables.specs.RowNumbers.{AreByNumber, AreCounted};
@@ -17,6 +16,8 @@ ghost use Rattle.desk_store.specs.declared.container_orders.ContainerOrder.{Cont
 
 use crate::container_orders::ContainerOrder;
 use crate::loans::{HoldingLine, holding_lines};
+use crate::queues::place_of;
+use desk_core::Place;
 use office_tables::{StoreFault, Tables, Versioned, find};
 use sqlite::Alter;
 use std::alloc::{AllocError, Global};
@@ -52,6 +53,35 @@ fn keep(known: &mut BTreeSet<u64>, container: u64) -> Result<bool, AllocError>
     Ok(is_new)
 }
 
+/// The first of these orders for each container. The orders must be in ascending order of their numbers.
+fn firsts(alloc: Global, orders: &[ContainerOrder]) -> Result<Vec<ContainerOrder>, AllocError>
+    ensures { AreByNumber (λ (o : ContainerOrder). o.order) orders.now
+        → IfOk result (λ firsts. firsts.items ≡ filter (λ o. is_earliest o orders.now) orders.now) }
+{
+    let mut known = BTreeSet::new(alloc);
+    let mut firsts = Vec::new(alloc);
+    for order in orders {
+        if keep(&mut known, order.container.get())? {
+            firsts.push(*order)?;
+        }
+    }
+    Ok(firsts)
+}
+
+/// The first order of each container for which one waits, wherever the container is, sorted by the numbers of
+/// these orders.
+pub fn first_orders<P: Versioned, S: Alter>(
+    alloc: Global,
+    tables: &mut Tables<P, S>,
+) -> Result<Vec<ContainerOrder>, StoreFault>
+    ensures answers { StoreAnswers S.Store RepresentsDeskAlone IsLegible tables.old tables.new result (λ _. ⊤)
+        (λ _ d all. all.items ≡ firsts_of d) }
+{
+    let orders = waiting_orders(alloc, tables)?;
+    let firsts = firsts(alloc, &orders)?;
+    Ok(firsts)
+}
+
 /// The containers that are not on the shelf.
 fn containers_off_shelf(alloc: Global, lines: &[HoldingLine]) -> Result<BTreeSet<u64>, AllocError>
     ensures { IfOk result (λ known. (c : ℕ)
@@ -64,39 +94,79 @@ fn containers_off_shelf(alloc: Global, lines: &[HoldingLine]) -> Result<BTreeSet
     Ok(known)
 }
 
-/// The first of these orders for each container that is not known. The orders must be in ascending order of
-/// their numbers.
-fn firsts(
-    alloc: Global,
-    known: BTreeSet<u64>,
-    orders: &[ContainerOrder],
-) -> Result<Vec<ContainerOrder>, AllocError>
-    ensures { AreByNumber (λ (o : ContainerOrder). o.order) orders.now
-        → IfOk result (λ firsts. firsts.items
-        ≡ filter (λ o. is_earliest o orders.now && is_new known.keys o) orders.now) }
+/// Whether a container is among these.
+fn is_known(known: &BTreeSet<u64>, container: u64) -> bool
+    ensures { result ≡ list_any (nat_eq container) known.now.keys }
 {
-    let mut known = known;
-    let mut firsts = Vec::new(alloc);
-    for order in orders {
-        if keep(&mut known, order.container.get())? {
-            firsts.push(*order)?;
-        }
-    }
-    Ok(firsts)
+    known.contains(&container)
 }
 
-/// What a run may take: the containers on the shelf for which an order waits, each with its first order,
-/// sorted by the numbers of these orders.
-pub fn candidates<P: Versioned, S: Alter>(
+/// The orders whose containers are not among these.
+fn without(
+    alloc: Global,
+    known: &BTreeSet<u64>,
+    orders: &[ContainerOrder],
+) -> Result<Vec<ContainerOrder>, AllocError>
+    ensures { IfOk result (λ kept. kept.items
+        ≡ filter (λ (o : ContainerOrder). not (list_any (nat_eq o.container) known.now.keys)) orders.now) }
+{
+    let mut kept = Vec::new(alloc);
+    for order in orders {
+        if !is_known(known, order.container.get()) {
+            kept.push(*order)?;
+        }
+    }
+    Ok(kept)
+}
+
+/// Those of these orders whose containers are on the shelf, by the rows of all containers that are not.
+fn on_shelf_by_list<P: Versioned, S: Alter>(
     alloc: Global,
     tables: &mut Tables<P, S>,
+    orders: &[ContainerOrder],
 ) -> Result<Vec<ContainerOrder>, StoreFault>
     ensures answers { StoreAnswers S.Store RepresentsDeskAlone IsLegible tables.old tables.new result (λ _. ⊤)
-        (λ _ d all. all.items ≡ candidates_of d) }
+        (λ _ d kept. kept.items ≡ on_shelf d orders.now) }
 {
-    let orders = waiting_orders(alloc, tables)?;
     let lines = holding_lines(alloc, tables)?;
     let known = containers_off_shelf(alloc, &lines)?;
-    let firsts = firsts(alloc, known, &orders)?;
-    Ok(firsts)
+    Ok(without(alloc, &known, orders)?)
 }
+
+/// Those of these orders whose containers are on the shelf. Each place is found by the container's number.
+fn on_shelf_by_number<P: Versioned, S: Alter>(
+    alloc: Global,
+    tables: &mut Tables<P, S>,
+    orders: &[ContainerOrder],
+) -> Result<Vec<ContainerOrder>, StoreFault>
+    ensures answers { StoreAnswers S.Store RepresentsDeskAlone IsLegible tables.old tables.new result (λ _. ⊤)
+        (λ _ d kept. kept.items ≡ on_shelf d orders.now) }
+{
+    let mut kept = Vec::new(alloc);
+    for order in orders {
+        if place_of(alloc, tables, order.container)? == Place::Shelf {
+            kept.push(*order)?;
+        }
+    }
+    Ok(kept)
+}
+
+/// Those of these orders whose containers are on the shelf. The places of a few containers are found by their numbers;
+/// of many, all containers that are not on the shelf are read.
+pub fn on_shelf<P: Versioned, S: Alter>(
+    alloc: Global,
+    tables: &mut Tables<P, S>,
+    orders: &[ContainerOrder],
+) -> Result<Vec<ContainerOrder>, StoreFault>
+    ensures answers { StoreAnswers S.Store RepresentsDeskAlone IsLegible tables.old tables.new result (λ _. ⊤)
+        (λ _ d kept. kept.items ≡ on_shelf d orders.now) }
+{
+    if orders.len() > FEW_ORDERS {
+        return on_shelf_by_list(alloc, tables, orders);
+    }
+    on_shelf_by_number(alloc, tables, orders)
+}
+
+/// Of so many orders the places are found one by one. That takes as long as reading the rows of some two hundred
+/// containers.
+const FEW_ORDERS: usize = 32;

@@ -51,13 +51,14 @@ pub use Rattle.isad_core.specs.Limits.{IsNumber}
 pub use Rattle.nested_sets.specs.Arrivals.{AreFree, IsNumbered, found_before, key, rows_among, with_rows}
 pub use Rattle.nested_sets.specs.AttachedRows.{AreFit, HoldsHousedRows, HoldsHousedUnits, by_house, goes_with_row, goes_with_unit, is_in, numbered_cells, numbered_status, paired, paired_mark, status_of}
 pub use Rattle.nested_sets.specs.JoinedRows.{AreReadable, HoldsHousingRows, HoldsUnitRows, by_place, is_first, is_housed, is_next, is_of_unit, left_after, mark_with, merged, placed_cells, placed_status}
-pub use Rattle.nested_sets.specs.KnownPaths.{AreMarksAt, AreRowsOver, HoldsCatalogue, IsKnown, IsMarkIn, IsRest, IsRow, IsWay, IsWholeMarkOf, KnowsMarks, begins_before, rows_of, span_at}
+pub use Rattle.nested_sets.specs.KnownPaths.{AreMarksAt, AreRowsOver, HoldsCatalogue, IsKnown, IsMarkIn, IsRest, IsRow, IsToldIn, IsWay, IsWholeMarkOf, KnowsMarks, begins_before, rows_of, span_at}
 pub use Rattle.nested_sets.specs.Migration.{HasPlaces, VersionedRow, in_version_2, versioned_cells}
 pub use Rattle.nested_sets.specs.Ranges.{IsBetween, encloses, last_number, moved_number, moved_span, shifted, shifted_first, shifted_last, shifted_span}
 pub use Rattle.nested_sets.specs.Representation.{HoldsForest, NumbersPart, RepresentsSpanRows, same_span_rows}
 pub use Rattle.nested_sets.specs.Rows.{IsLow, answer_cells, by_first, by_unit, span_row}
 pub use Rattle.nested_sets.specs.SurroundingRows.{BeginBefore, IsAbove, IsAboveFrom, IsBeside, IsReached, IsSought, SeeksFrom, StandsAt, reaches_over, surrounds}
 pub use Rattle.nested_sets.specs.declared.attached_rows.NumberedStatus.{NumberedStatus}
+pub use Rattle.nested_sets.specs.declared.joined_rows.PlacedStatus.{PlacedStatus}
 pub use Rattle.nested_sets.specs.declared.row_types.ToldSpan.{ToldSpan}
 pub use Rattle.office_tables.proofs.CallEnds.{excused_then, leaves_last, leaves_part, left_by, left_fault, left_well, making_last, making_not, making_then, same_fault}
 pub use Rattle.office_tables.proofs.Calls.{Knows, continues_then, cut_after, cut_then, early, goes_nowhere, goes_then, known_in, looks_nowhere, looks_then, on_err_then, on_ok_both, on_ok_then, still, stopped}

@@ -11,9 +11,9 @@ use crate::tests::{Query, make_office, show_rows, two_units};
 use catalogue_store::{LinkPlaces, StoreFault, begin, commit};
 use desk_core::Place;
 use desk_store::{
-    ContainerOrder, OrderState, add_reader, append_order, at_desk, candidates, end_order, grant,
-    issued, open_day, order, permits, queue, reader, record_run, renew, revoke, run, seats,
-    set_place, set_seat, ticket_holder,
+    ContainerOrder, OrderState, add_reader, append_order, at_desk, end_order, first_orders, grant,
+    issued, on_shelf, open_day, order, permits, queue, reader, record_run, renew, revoke, run,
+    seats, set_place, set_seat, ticket_holder,
 };
 use isad_core::{Day, Text};
 use office_tables::{Number, Tables, roll_back};
@@ -115,13 +115,23 @@ fn read_card<S: Alter>(
 }
 
 /// Containers, each with an order for it and that order's ticket.
-pub(crate) fn show_orders(orders: &[ContainerOrder], text: &mut String) -> Result<(), StoreFault> {
+fn show_orders(orders: &[ContainerOrder], text: &mut String) -> Result<(), StoreFault> {
     for order in orders {
         let (container, number) = (order.container.get(), order.order.get());
         let ticket = order.ticket.get();
         write!(text, "{container} {number} {ticket}\n")?;
     }
     Ok(())
+}
+
+/// The containers that a run may take, each with its first order and that order's ticket.
+pub(crate) fn show_candidates<S: Alter>(
+    alloc: Global,
+    tables: &mut Tables<LinkPlaces, S>,
+    text: &mut String,
+) -> Result<(), StoreFault> {
+    let firsts = first_orders(alloc, tables)?;
+    show_orders(&on_shelf(alloc, tables, &firsts)?, text)
 }
 
 /// The seat and the number of containers of the reader who has a ticket.
@@ -217,7 +227,7 @@ fn pick_run<S: Alter>(
     add_order(tables, 3, 8, 2, 0)?;
     add_order(tables, 4, 8, 3, 0)?;
     set_place(tables, Number::from(3), Place::Desk)?;
-    show_orders(&candidates(alloc, tables)?, text)?;
+    show_candidates(alloc, tables, text)?;
     for &(container, awaited) in &at_desk(alloc, tables)? {
         write!(text, "{container} {awaited}\n")?;
     }

@@ -1,12 +1,10 @@
 //! Days in the reading room, by the desk's calls: their results and the rows in the tables.
 
-use crate::desk::{add_order, day_after, register, show_orders};
+use crate::desk::{add_order, day_after, register, show_candidates};
 use crate::tests::{Query, new_office, show_rows};
 use catalogue_store::{LinkPlaces, NewUnit, StoreFault, add_unit, commit};
 use desk_core::{Place, slip_text};
-use desk_store::{
-    ContainerOrder, OrderState, candidates, end_order, queue, record_run, run, set_place,
-};
+use desk_store::{ContainerOrder, OrderState, end_order, queue, record_run, run, set_place};
 use isad_core::{BoxKey, List, Text, Values};
 use office_tables::{Number, Tables};
 use sqlite::{Alter, Connection};
@@ -86,15 +84,6 @@ fn show_queue<S: Alter>(
     }
     text.push_str("\n")?;
     Ok(())
-}
-
-/// The containers that a run may take, each with its first order and that order's ticket.
-fn show_candidates<S: Alter>(
-    alloc: Global,
-    tables: &mut Tables<LinkPlaces, S>,
-    text: &mut String,
-) -> Result<(), StoreFault> {
-    show_orders(&candidates(alloc, tables)?, text)
 }
 
 /// Records a run on the first day that brings these containers to the desk, and returns its number.

@@ -1,6 +1,7 @@
 use Rattle.std.proofs.Common.{◌≡◌, Err, sym, ap, subst, ◌∙◌}
+use Rattle.desk_store.proofs.PickingCalls.{candidates_are}
 use Rattle.office_core.specs.declared.command.Command.TheVariants as command
-use Rattle.desk_commands.proofs.Common.{Database, Limits, NothingToMove, RepresentsState, after_look, desk_passed, does_refuse, does_then, early, is_empty, judged_now, looks_then, office_passed, open_orders, state, tables, taken_by}
+use Rattle.desk_commands.proofs.Common.{Database, Limits, NothingToMove, RepresentsState, after_look, desk_passed, does_refuse, does_then, early, is_empty, judged_now, looks_then, office_passed, on_shelf, open_orders, state, tables, taken_by}
 use Rattle.desk_commands.proofs.RunMade.{nothing_due}
 use Rattle.desk_commands.proofs.run_creation.fetch.Goals as goal
 
@@ -16,7 +17,7 @@ pub returns-then-are_none : goal.returns-then-are_none
 returns-then-are_none g c =
     let v = g.P.Versioned.version in
     let a = state g.S.Store c.args.tables.now in
-    let b = state g.S.Store c.candidates.new.tables in
+    let b = state g.S.Store c.first_orders.new.tables in
     let d = state g.S.Store c.first_open.new.tables in
     let first = c.in_ok-waiting.ensures.answers in
     let told = c.in_ok-due.ensures.answers in
@@ -26,15 +27,16 @@ returns-then-are_none g c =
     let shown_b = subst (λ (db : Database). RepresentsState g.P.Places.represents v db s) (sym (first.looks.same at_b)) it in
     let is : c.in_ok-due.due.items ≡ taken_by v s =
     told.answers clean tt s shown_b (judged_now s sound) so.0
-    ∙ ap (λ (l : Limits). open_orders s l.run c.deref.result.now) so.1
-    ∙ ap (open_orders s s.settings.run_size) (c.deref.ensures.value ∙ first.answers at_b tt (tables v s).desk it.desk) in
+    ∙ ap (λ (l : Limits). open_orders s l.run (on_shelf (tables v s).desk c.deref.result.now)) so.1
+    ∙ ap (λ l. open_orders s s.settings.run_size (on_shelf (tables v s).desk l)) (c.deref.ensures.value ∙ first.answers at_b tt (tables v s).desk it.desk)
+    ∙ ap (open_orders s s.settings.run_size) (candidates_are (tables v s).desk) in
     nothing_due v s sound g.P.Places.represents d.now (ap is_empty (sym is) ∙ ap is_empty (sym c.deref-2.ensures.value) ∙ sym c.are_none.ensures ∙ c.if-are_none.true))
 
 pub returns : goal.returns
 returns g c =
     let v = g.P.Versioned.version in
     let a = state g.S.Store c.args.tables.now in
-    let b = state g.S.Store c.candidates.new.tables in
+    let b = state g.S.Store c.first_orders.new.tables in
     let d = state g.S.Store c.first_open.new.tables in
     let first = c.in_ok-waiting.ensures.answers in
     let told = c.in_ok-due.ensures.answers in
@@ -44,6 +46,7 @@ returns g c =
     let shown_b = subst (λ (db : Database). RepresentsState g.P.Places.represents v db s) (sym (first.looks.same at_b)) it in
     let is : c.in_ok-due.due.items ≡ taken_by v s =
     told.answers clean tt s shown_b (judged_now s sound) so.0
-    ∙ ap (λ (l : Limits). open_orders s l.run c.deref.result.now) so.1
-    ∙ ap (open_orders s s.settings.run_size) (c.deref.ensures.value ∙ first.answers at_b tt (tables v s).desk it.desk) in
+    ∙ ap (λ (l : Limits). open_orders s l.run (on_shelf (tables v s).desk c.deref.result.now)) so.1
+    ∙ ap (λ l. open_orders s s.settings.run_size (on_shelf (tables v s).desk l)) (c.deref.ensures.value ∙ first.answers at_b tt (tables v s).desk it.desk)
+    ∙ ap (open_orders s s.settings.run_size) (candidates_are (tables v s).desk) in
     (so.0, c.deref-3.ensures.value ∙ is, ap is_empty (c.deref-3.ensures.value ∙ sym c.deref-2.ensures.value) ∙ sym c.are_none.ensures ∙ c.if-are_none.false))

@@ -1,71 +1,89 @@
-use Rattle.std.proofs.Common.{◌≤◌, ◌++◌, length, filter, take, ap, ap₂, ◌∙◌, arith}
-use Rattle.std.proofs.lemmas.Grind.{common_steps}
+use Rattle.std.proofs.Common.{◌≡◌, ◌++◌, length, filter, take, sym, ap, ap₂, ◌∙◌, arith}
 use Rattle.desk_store.proofs.ToldCalls.{ends_well, shown_on}
 use Rattle.refinement.proofs.TellingUnits.{nothing_told}
-use Rattle.desk_commands.proofs.Common.{CanBeJudged, ContainerOrder, RepresentsWhole, early, looks_nowhere, looks_then, opens, state, take_all, tells_full, tells_passed_later, ⊤}
-use Rattle.desk_commands.proofs.Fetched.{enough, part_more}
-use Rattle.desk_commands.proofs.run_creation.first_open.Goals.{then-loop-place-test+else-len-most, else-loop-place-test}
+use Rattle.desk_commands.proofs.Common.{CanBeJudged, ContainerOrder, RepresentsWhole, early, is_on_shelf, looks_nowhere, looks_then, on_shelf, opens, state, tables, take_rest, tells_passed_later, ⊤}
+use Rattle.desk_commands.proofs.Fetched.{head_and_rest, head_enough}
 use Rattle.desk_commands.proofs.run_creation.first_open.Goals as goal
 
-pub loop-place-init : goal.loop-place-init
-loop-place-init g c =
-    record {
-      looks = looks_nowhere (state g.S.Store c.args.tables.now);
-      room = omega arith;
-      within = omega arith;
-      so_far = λ clean s judged it day. (nothing_told c.args.today s.catalogue.forest c.new-known.result c.new-known.ensures.empty, c.new-due.ensures.items);
-    }
+pub returns-in_err-near : goal.returns-in_err-near
+returns-in_err-near g c =
+    let v = g.P.Versioned.version in
+    let told = c.in_err-near.ensures.answers in
+    record { answers = tells_passed_later _ c.from_residual.ensures (looks_nowhere (state g.S.Store c.args.tables.now)) told.aborts (λ beside s it may judged. told.faults tt (tables v s).desk it.desk tt (judged.desk v)) }
 
 pub returns-in_err-found : goal.returns-in_err-found
 returns-in_err-found g c =
     let told = c.in_err-found.ensures.answers in
-    record { answers = tells_passed_later _ c.from_residual.ensures c.loop-place.invariant.looks told.aborts (λ beside s it may judged. told.faults tt s it tt judged) }
+    record { answers = tells_passed_later _ c.from_residual-in_err-found.ensures c.in_ok-near.ensures.answers.looks told.aborts (λ beside s it may judged. told.faults tt s it tt judged) }
 
-pub returns-in_err-extend_from_slice : goal.returns-in_err-extend_from_slice
-returns-in_err-extend_from_slice g c = record { answers = tells_full c.from_residual-in_err-extend_from_slice.ensures (looks_then _ _ _ c.loop-place.invariant.looks c.in_ok-found.ensures.answers.looks) }
-
-pub loop-place-preserved : goal.loop-place-preserved
-loop-place-preserved g c =
-    let represents = RepresentsWhole g.P.Places.represents g.P.Versioned.version in
-    let a = state g.S.Store c.args.tables.now in
-    let b = state g.S.Store c.loop-place.tables in
-    let d = state g.S.Store c.open_among.new.tables in
-    let before = c.loop-place.invariant in
-    let told = c.in_ok-found.ensures.answers in
-    let waiting = c.args.waiting.now in
-    let from : c.loop-place.place ≤ c.min-end.result = grind (arith, common_steps) in
+pub returns-in_err-far : goal.returns-in_err-far
+returns-in_err-far g c =
+    let v = g.P.Versioned.version in
+    let told = c.in_err-far.ensures.answers in
     record {
-      looks = looks_then a b d before.looks told.looks;
-      room = grind (arith, common_steps);
-      within = grind (arith, common_steps);
-      so_far = λ clean s judged it day.
-          let test = λ (o : ContainerOrder). opens s o.ticket o.container in
+      answers = tells_passed_later _ c.from_residual-in_err-far.ensures (looks_then _ _ _ c.in_ok-near.ensures.answers.looks c.in_ok-found.ensures.answers.looks) told.aborts
+          (λ beside s it may judged. told.faults tt (tables v s).desk it.desk tt (judged.desk v));
+    }
+
+pub returns-then-len-most : goal.returns-then-len-most
+returns-then-len-most g c =
+    let v = g.P.Versioned.version in
+    let represents = RepresentsWhole g.P.Places.represents v in
+    let a = state g.S.Store c.args.tables.now in
+    let b = state g.S.Store c.on_shelf.new.tables in
+    let d = state g.S.Store c.open_among.new.tables in
+    let shelved = c.in_ok-near.ensures.answers in
+    let told = c.in_ok-found.ensures.answers in
+    record {
+      answers = ends_well represents CanBeJudged (λ _. ⊤) g.S.Store c.args.tables.now c.args.tables.now c.open_among.new.tables _ (looks_then a b d shelved.looks told.looks) _
+          (λ clean s it judged day.
           let at_b = early b d _ told.looks.goes.on.crash clean in
-          let so = before.so_far at_b s judged it day in
-          let found = told.answers clean tt s (shown_on represents a b before.looks at_b s it) judged day so.0 in (
-            found.1,
-            c.in_ok-extend_from_slice.ensures.items ∙ ap₂ ◌++◌ so.1 (c.deref.ensures.value ∙ found.0) ∙ part_more test waiting c.loop-place.place c.min-end.result from,
-          );
+          let desk = (tables v s).desk in
+          let shelf = λ (o : ContainerOrder). is_on_shelf desk o.container in
+          let opened = λ (o : ContainerOrder). opens s o.ticket o.container in
+          let near = c.deref.ensures.value ∙ shelved.answers at_b tt desk it.desk in
+          let found = told.answers clean tt s (shown_on represents a b shelved.looks at_b s it) judged day (nothing_told c.args.today s.catalogue.forest c.new.result c.new.ensures.empty) in
+          let are = found.0 ∙ ap (filter opened) near in
+          let full = c.if-len-most.true in
+          let many : length c.in_ok-found.found.orders.items ≡ c.args.most = omega (arith, full) in
+          are ∙ head_enough opened shelf c.args.most c.min-end.result c.args.waiting.now (sym (ap length are) ∙ many));
+    }
+
+pub returns-in_err-due : goal.returns-in_err-due
+returns-in_err-due g c =
+    let told = c.in_err-due.ensures.answers in
+    record {
+      answers = tells_passed_later _ c.from_residual-in_err-due.ensures (looks_then _ _ _ (looks_then _ _ _ c.in_ok-near.ensures.answers.looks c.in_ok-found.ensures.answers.looks) c.in_ok-far.ensures.answers.looks) told.aborts
+          (λ beside s it may judged. told.faults tt s it tt judged);
     }
 
 pub returns : goal.returns
 returns g c =
-    let waiting = c.args.waiting.now in
-    let place = c.loop-place.place in
-    let most = c.args.most in
+    let v = g.P.Versioned.version in
+    let represents = RepresentsWhole g.P.Places.represents v in
+    let a = state g.S.Store c.args.tables.now in
+    let b = state g.S.Store c.on_shelf.new.tables in
+    let d = state g.S.Store c.open_among.new.tables in
+    let h = state g.S.Store c.on_shelf-2.new.tables in
+    let z = state g.S.Store c.found_and_open.new.tables in
+    let shelved = c.in_ok-near.ensures.answers in
+    let told = c.in_ok-found.ensures.answers in
+    let others = c.in_ok-far.ensures.answers in
+    let last = c.in_ok-due.ensures.answers in
+    let until_d = looks_then a b d shelved.looks told.looks in
+    let until_h = looks_then a d h until_d others.looks in
     record {
-      answers = ends_well (RepresentsWhole g.P.Places.represents g.P.Versioned.version) CanBeJudged (λ _. ⊤) g.S.Store c.args.tables.now c.args.tables.now c.loop-place.tables _ c.loop-place.invariant.looks _
+      answers = ends_well represents CanBeJudged (λ _. ⊤) g.S.Store c.args.tables.now c.args.tables.now c.found_and_open.new.tables _ (looks_then a h z until_h last.looks) _
           (λ clean s it judged day.
-          let test = λ (o : ContainerOrder). opens s o.ticket o.container in
-          let so = (c.loop-place.invariant.so_far clean s judged it day).1 in
-          c.truncate.ensures.items ∙ ap (take most) so
-          ∙ elim c.loop-place-test.branch [
-            | then-loop-place-test+else-len-most w ↦
-                let many = w.if-len-most.false in
-                let long = ap length so in
-                enough test most place waiting (omega (arith, many, long))
-            | else-loop-place-test w ↦
-                let past = w.loop-place-test.false in
-                ap (λ l. take most (filter test l)) (take_all place waiting (omega (arith, past)))
-          ]);
+          let at_h = early h z _ last.looks.goes.on.crash clean in
+          let at_d = early d h _ others.looks.goes.on.crash at_h in
+          let at_b = early b d _ told.looks.goes.on.crash at_d in
+          let desk = (tables v s).desk in
+          let shelf = λ (o : ContainerOrder). is_on_shelf desk o.container in
+          let opened = λ (o : ContainerOrder). opens s o.ticket o.container in
+          let near = c.deref.ensures.value ∙ shelved.answers at_b tt desk it.desk in
+          let far = c.deref-2.ensures.value ∙ others.answers at_h tt desk (shown_on represents a d until_d at_d s it).desk ∙ ap (on_shelf desk) (take_rest c.args.waiting.now c.min-end.result) in
+          let found = told.answers at_d tt s (shown_on represents a b shelved.looks at_b s it) judged day (nothing_told c.args.today s.catalogue.forest c.new.result c.new.ensures.empty) in
+          last.answers clean tt s (shown_on represents a h until_h at_h s it) judged day found.1
+          ∙ ap (take c.args.most) (ap₂ ◌++◌ (found.0 ∙ ap (filter opened) near) (ap (filter opened) far) ∙ head_and_rest opened shelf c.min-end.result c.args.waiting.now));
     }

@@ -1,8 +1,8 @@
-use Rattle.std.proofs.Common.{◌≡◌, ◌≤◌, ◌-◌, filter, take, length}
+use Rattle.std.proofs.Common.{◌≡◌, ◌≤◌, ◌-◌, ◌++◌, take, length}
 use Rattle.sqlite.specs.State.{HasCleanDisk}
-use Rattle.refinement.specs.KnownUnits.{AreTold}
-use Rattle.desk_commands.proofs.Common.{CanBeJudged, ContainerOrder, LeavesUnchanged, RepresentsState, State, opens, state}
-use Rattle.desk_commands.proofs.run_creation.first_open.Given as goal
+use Rattle.refinement.specs.KnownUnits.{AreTold, open_ones}
+use Rattle.desk_commands.proofs.Common.{CanBeJudged, LeavesUnchanged, RepresentsState, State, state}
+use Rattle.desk_commands.proofs.run_creation.found_and_open.Given as goal
 
 abbrev pub invariant-loop-place : goal.invariant-loop-place
 invariant-loop-place g l = record {
@@ -10,7 +10,8 @@ invariant-loop-place g l = record {
   room : l.most ≤ l.part;
   within : l.place ≤ length l.waiting;
   so_far : HasCleanDisk (state g.S.Store l.tables) → (s : State) → CanBeJudged s → RepresentsState g.P.Places.represents g.P.Versioned.version (state g.S.Store l.fn.tables).now s → l.today ≡ s.day
-      → AreTold l.today s.catalogue.forest l.known × (l.due.items ≡ filter (λ (o : ContainerOrder). opens s o.ticket o.container) (take l.place l.waiting));
+      → AreTold l.today s.catalogue.forest l.fn.first.known
+      → AreTold l.today s.catalogue.forest l.known × (l.due.items ≡ l.fn.first.orders.items ++ open_ones s (take l.place l.waiting));
 }
 
 -- the orders that are left to be judged
