@@ -5,8 +5,8 @@
 
 The office has N units in fonds of so many. It prints rows of markdown: how long a first round, a round without changes
 and one after a change take, what a desk command and a reader's page wait beside them, how large index and memory are,
-and how long questions take, without nginx and the service, by themselves and beside the worst one. With --rest 0,
-rounds ask without a pause."""
+and how long questions of a reader of English take, without nginx and the service, by themselves and beside the worst
+one. With --rest 0, rounds ask without a pause."""
 
 import concurrent.futures
 import contextlib
@@ -35,11 +35,18 @@ WORDS = [a + b + c for a in SYLLABLES[0] for b in SYLLABLES[1] for c in SYLLABLE
 HEADER = ("legacyId,parentId,identifier,title,levelOfDescription,publicationStatus,eventDates,eventActors,"
           "scopeAndContent,physicalObjectName\n")
 QUESTIONS = 60
+LANGUAGE = "en"
 WORST = "a* b* c* d* e* f* g* h* i* j"  # 28 letters
 
 
+def rare(number):
+    """A word of letters that one unit alone has."""
+    return "".join("bcdfghjklm"[int(digit)] for digit in reversed(f"{number:06}")) + "ing"
+
+
 def rows(units, fonds):
-    """Of each fonds a hundredth are series, a tenth files, the rest items. Words are as uneven as in real texts."""
+    """Of each fonds a hundredth are series, a tenth files, the rest items. Words are as uneven as in real texts, and each
+    unit has one of its own."""
     chance = random.Random(1)
 
     def text(many):
@@ -60,7 +67,7 @@ def rows(units, fonds):
         yield (
             f"{number},{parent},{place},{text(4)} "
             f"n{number},{level},Published,{1600 + number % 350}-{1620 + number % 350},"
-               f"{creator},{text(25)},Box {number // 9}\n")
+               f"{creator},{text(25)} {rare(number)},Box {number // 9}\n")
 
 
 def probe(port, path, body, stop, out):
@@ -134,25 +141,31 @@ def rounds(office, ask, db, units):
 
 
 def questions(office, db, units):
-    """Prints a row for each kind of question."""
+    """Prints a row for each kind of question, with what is offered where nothing was found."""
     chance, ask = random.Random(2), searched.Asking(office.queue)
-    kinds = {"rare word": lambda: f"n{chance.randrange(units)}", "word of nearly all units": lambda: WORDS[0],
+    kinds = {"rare word": lambda: rare(chance.randrange(units)), "rare letter and number": lambda: f"n{chance.randrange(units)}",
+             "word of nearly all units": lambda: WORDS[0],
              "two common words": lambda: " ".join(chance.sample(WORDS[:40], 2)),
              "begin*": lambda: WORDS[chance.randrange(99)][:3] + "*",
-             "b*": lambda: "b*", "28 letters, the worst": lambda: WORST, "nothing found": lambda: "zzz"}
+             "b*": lambda: "b*", "28 letters, the worst": lambda: WORST, "nothing found": lambda: "zzz",
+             "nothing found, with offers": lambda: "hartermont",
+             "two words, and the first is nowhere": lambda: f"hartermont {WORDS[0]}"}
     print("| a question, ms: p50 / p99 / most | | requests of each |\n|---|---|---|")
     for name, typed in kinds.items():
         times, ask.asked = [], 0
         for _ in range(QUESTIONS):
             began = time.perf_counter()
-            searched.Finder(db, ask, searched.Query(searched.read_typed(typed()))).find()
+            word = typed()
+            answer = searched.Finder(db, ask, searched.Query(searched.read_typed(word, LANGUAGE))).find()
+            if answer.state == "done" and not answer.units:
+                searched.offers.offers(answer, word, LANGUAGE)
             times.append(time.perf_counter() - began)
         print(f"| {name} | {spread(times)} | {ask.asked / QUESTIONS:.0f} |", flush=True)
 
 
 def search(office, turns, address, typed):
     """How long a search takes, from the moment at which it is asked for."""
-    began, query = time.perf_counter(), searched.Query(searched.read_typed(typed, "en"))
+    began, query = time.perf_counter(), searched.Query(searched.read_typed(typed, LANGUAGE))
     with turns.turn(address, costly=is_costly(query.phrases)), contextlib.closing(searched.index.open_index(office.index)) as db:
         searched.Finder(db, searched.Asking(office.queue), query).find()
     return time.perf_counter() - began
@@ -171,7 +184,7 @@ def crowd(office, units):
     for stranger in strangers:
         stranger.start()
     with concurrent.futures.ThreadPoolExecutor(8) as readers:
-        asked = [f"n{chance.randrange(units)}" if n % 2 else WORDS[n % 40] for n in range(160)]
+        asked = [rare(chance.randrange(units)) if n % 2 else WORDS[n % 40] for n in range(160)]
         times = sorted(readers.map(lambda n: search(office, turns, f"192.0.2.{2 + n % 8}", asked[n]), range(160)))
     over.set()
     for stranger in strangers:

@@ -7,6 +7,7 @@ import pathlib
 
 from asks import Asks
 from catalogue import ODD, dock_company
+from checks import wants
 from office import FRONT, MANY_PAGES, SIGNED_IN, TOP, Office
 from waits import until
 
@@ -177,11 +178,11 @@ class Access:
     def play(self, only=None):
         """Measures all pages, or those of one site, or one page."""
         for site, name, address, prepare in self.states():
-            if only in (None, site, name.replace(" ", "_")):
+            if wants(only, site, name.replace(" ", "_")):
                 self.checks.part(f"access: {site}, {name}", self.measure, site, name, address, prepare)
-            if site == "readers" and prepare in (None, self.open_all) and only in (None, site, name.replace(" ", "_")):
+            if site == "readers" and prepare in (None, self.open_all) and wants(only, site, name.replace(" ", "_")):
                 self.checks.part(f"access: without scripts, {name}", self.without_scripts, name, address)
-        if only in (None, "signed_out"):
+        if wants(only, "signed_out"):
             self.checks.part("access: signed out", self.signed_out_page)
 
     def play_again(self, checks, only):

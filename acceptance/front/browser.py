@@ -3,9 +3,12 @@
 import base64
 import contextlib
 import json
+import operator
 import os
+import re
 import select
 import subprocess
+import urllib.parse
 
 from waits import settings, until
 
@@ -27,9 +30,10 @@ TWO_FRAMES = "new Promise((done) => requestAnimationFrame(() => requestAnimation
 
 
 class Browser:
-    """A running Chromium. `answer`: what it answers paused requests with; `on_event`: is called with each event."""
+    """A running Chromium. `answer`: what it answers paused requests with; `on_event`: is called with each event; `covers`:
+    it keeps what runs of each script."""
 
-    def __init__(self, profile, binary="chromium"):
+    def __init__(self, profile, binary="chromium", covers=False):
         out, self.write = os.pipe()
         self.read, into = os.pipe()
         shell = f'exec "$0" "$@" 3<&{out} 4>&{into}'
@@ -39,6 +43,7 @@ class Browser:
         os.close(out)
         os.close(into)
         self.rest, self.last, self.events, self.answer, self.on_event = b"", 0, [], None, None
+        self.covers, self.ran, self.pages = covers, {}, []
 
     def call(self, method, session=None, **params):
         """Calls a method of the protocol; returns its result. Raises RuntimeError if it fails."""
@@ -86,7 +91,14 @@ class Browser:
         """Opens a tab that sends these headers with each request."""
         target = self.call("Target.createTarget", url="about:blank")["targetId"]
         session = self.call("Target.attachToTarget", targetId=target, flatten=True)["sessionId"]
-        return Page(self, session, headers)
+        self.pages.append(Page(self, session, headers))
+        return self.pages[-1]
+
+    def covered(self):
+        """Of each script, by its path: where what ran begins and ends."""
+        for page in self.pages:
+            page.keep_ran()
+        return {path: [found.span() for found in re.finditer(b"\1+", ran)] for path, ran in self.ran.items()}
 
     def end(self):
         """Ends the browser."""
@@ -113,6 +125,9 @@ class Page:
             self.call("Emulation.setCPUThrottlingRate", rate=settings.slower)
             self.call("Network.emulateNetworkConditions", offline=False, latency=LATENCY * settings.slower,
                       downloadThroughput=-1, uploadThroughput=-1)
+        if browser.covers:
+            self.call("Profiler.enable")
+            self.call("Profiler.startPreciseCoverage", callCount=True, detailed=True)
         self.size(1200, 850)
 
     def call(self, method, **params):
@@ -141,11 +156,29 @@ class Page:
     def holds(self, condition):
         """Whether the condition holds. While another page loads there is none to ask: then it does not."""
         try:
-            return self.js(f"Boolean({condition})")
+            holds = self.js(f"Boolean({condition})")
         except RuntimeError as lost:
             if not any(word in str(lost) for word in ("context", "navigated", "Cannot read properties of null")):
                 raise
-            return False
+            holds = False
+        if settings.hasty and not holds and (failed := self.complaints(True)):
+            raise AssertionError(f"a script failed: {failed[0]}")
+        return holds
+
+    def keep_ran(self):
+        """Keeps what has run of the scripts since this was called last; nothing of a page in another process."""
+        scripts = []
+        with contextlib.suppress(RuntimeError):
+            scripts = self.call("Profiler.takePreciseCoverage")["result"]
+        for script in (one for one in scripts if one["url"].startswith("http")):
+            path = urllib.parse.urlsplit(script["url"]).path
+            ranges = [one for function in script["functions"] for one in function["ranges"]]
+            ran = bytearray(max(one["endOffset"] for one in ranges))
+            for one in sorted(ranges, key=lambda one: (one["startOffset"], -one["endOffset"])):  # those within come later
+                size = one["endOffset"] - one["startOffset"]
+                ran[one["startOffset"]:one["endOffset"]] = bytes([one["count"] > 0]) * size
+            before = self.browser.ran.get(path, b"").ljust(len(ran), b"\0")
+            self.browser.ran[path] = bytes(map(operator.or_, before, ran.ljust(len(before), b"\0")))
 
     def open(self, site, hash_, condition="document.querySelector('main h1')"):
         """Loads a page of the site again: the text after `?` differs each time, and nothing reads it."""
@@ -154,6 +187,8 @@ class Page:
 
     def visit(self, address, condition="document.querySelector('main h1')"):
         """Loads the page of this address, even if it is shown already."""
+        if self.browser.covers:
+            self.keep_ran()
         self.call("Page.bringToFront")
         self.js(LEAVE)
         self.call("Page.navigate", url=address)
@@ -304,9 +339,9 @@ class Page:
                     if event.get("sessionId") == self.session and event["method"] == "Network.requestWillBeSent"]
         return sum(one["method"] == method and part in one["url"] for one in requests)
 
-    def complaints(self):
+    def complaints(self, warnings=False):
         """What the browser said of the pages: blocked by their policy, scripts that failed, files that were not
-        there."""
+        there. warnings: also what a page has kept a clerk from seeing."""
         said = []
         for event in self.browser.events:
             if event.get("sessionId") != self.session:
@@ -318,6 +353,8 @@ class Page:
                     said.append(entry["text"])
             if event["method"] == "Runtime.exceptionThrown":
                 said.append(event["params"]["exceptionDetails"]["exception"].get("description", "exception"))
+            if warnings and event["method"] == "Runtime.consoleAPICalled" and event["params"]["type"] == "warning":
+                said.append(event["params"]["args"][0].get("description", "warning"))
         return said
 
 

@@ -6,6 +6,7 @@ import time
 
 import catalogue
 from catalogue import BAD_FILE, ODD
+from checks import wants
 from desk_state import ANN, BEN, FAR, READERS, ZOE, DeskState
 from office import TOP
 from waits import until
@@ -53,7 +54,7 @@ class Day:
                      self.waiting, self.out, self.take_back, self.permits, self.units, self.remove, self.next_day, self.red,
                      self.keyboard,
                      self.slow, self.uncertain, self.hold_every_form, self.second_clicks):
-            if only in (None, part.__name__):
+            if wants(only, part.__name__):
                 self.checks.part(f"day: {part.__name__}", part)
 
     # The catalogue comes in
@@ -216,6 +217,7 @@ class Day:
         self.shot(page, "desk-counter", full=False)
         self.scan_without_seat(page, ann, zoe, box)
         self.issue_by_keys(page, ann)
+        page.see(f"Issued: Box 1, container {box} to {ANN}, ticket {ann}. Order {order}.")
         out = self.asks.read("/desk/issued")
         self.checks.same("issued by keys alone", out, [{"container": box, "order": order, "ticket": ann}])
         self.checks.same("both fields are empty again", page.js(FIELDS), ["", ""])

@@ -8,6 +8,7 @@ import subprocess
 
 import files
 from catalogue import ODD
+from checks import wants
 from desk_state import ANN, FAR
 
 EMPTYING = b"legacyId,title\r\n1,Hull Dock Company\r\n"
@@ -48,10 +49,9 @@ class FirstYear:
 
     def play(self, only=None):
         """Plays all parts in an office that has its descriptions, or one of them."""
-        for part in (self.bad_files, self.converted, self.emptying, self.same_boxes, self.drafts, self.questions, self.slips,
-                     self.scans,
-                     self.passed_over_orders, self.incomplete_list, self.failed_page, self.queue_away):
-            if only in (None, part.__name__):
+        for part in (self.bad_files, self.converted, self.emptying, self.same_boxes, self.drafts, self.long_lists, self.questions,
+                     self.slips, self.scans, self.passed_over_orders, self.incomplete_list, self.failed_page, self.queue_away):
+            if wants(only, part.__name__):
                 self.checks.part(f"first year: {part.__name__}", part)
 
     def choose_file(self, name, data):
@@ -163,18 +163,47 @@ class FirstYear:
         draft = [f"unit {top + 5}", "", "not shown to the public"]
         self.checks.same("a draft among known rows", page.js(DRAFTS), [draft])
 
+    def long_lists(self):
+        """A list that is cut says how many more there are: remarks, drafts, what goes with a unit, codes beside a slip."""
+        ann, *_ = self.desk.start()
+        held = {"levelOfDescription": "Fonds", "physicalObjectName": "Bundle", "physicalObjectLocation": "Strongroom 3"}
+        rows = [files.unit("1", identifier="LNG", title="Long lists", levelOfDescription="Series"),
+                *(files.unit(str(n), "1", identifier=str(n), **held) for n in range(2, 22)),
+                *(files.unit(str(n), "1", levelOfDescription="Fonds", publicationStatus="Draft") for n in range(22, 237))]
+        page = self.choose_file("long.csv", files.csv_text(*rows).encode())
+        page.fill("Source", "long")
+        if page.js("document.querySelector('#confirmed') !== null"):
+            page.choose("Take it in all the same")
+        page.press("Import the file")
+        page.see("And 36 more.", ".outcome")  # a remark on each row, and one on the top unit
+        self.checks.same("remarks that are listed", page.js("document.querySelectorAll('.remarks li').length"), 200)
+        top = self.desk.fonds("LNG")
+        page.see("215 new units are drafts.", ".drafts")
+        page.see(f"And 15 more: {top + 221} to {top + 235}.", ".drafts")
+        self.checks.same("drafts that are listed", page.js("document.querySelectorAll('.drafts tbody tr').length"), 200)
+        page = self.at(f"/units/{top}")
+        page.press("Remove …", "Remove")
+        page.see("The public sees 20 units there:", "dialog")
+        page.see("And 8 more.", "dialog")
+        self.checks.same("units that are named", page.js("document.querySelectorAll('.goes-too li').length"), 12)
+        page.press("Keep it", "dialog")
+        self.desk.fetch((ann, self.desk.container("Bundle")))
+        page = self.at(f"/runs/{self.asks.next_number('/desk/runs') - 1}")
+        page.see("GB 0999 LNG/4\nand 17 more", ".beside")
+
     def questions(self):
         """A name that is known, and days that are past, are asked about."""
-        self.desk.readers()
+        ann, *_ = self.desk.readers()
         page = self.at("/readers")
-        for name, until, question in (
-            (" ANN  <b>smith</b> ", FAR, "There is a reader of this name"),
+        for name, until, *questions in (
+            (" ANN  <b>smith</b> ", FAR, "There is a reader of this name", f"{ANN}, ticket {ann}"),
             ("Dora", "2001-01-01", "2001-01-01 is past"),
         ):
             page.fill("Name", name, "Register a reader")
             page.fill("Last day of the ticket", until, "Register a reader")
             page.press("Register", "Register a reader")
-            page.see(question, "dialog")
+            for question in questions:
+                page.see(question, "dialog")
             page.press("Go back", "dialog")
             page.see("Nothing was done.")
         self.checks.check("a known name and a past day are asked about", True)
@@ -182,7 +211,10 @@ class FirstYear:
         page.fill("Last day of the ticket", FAR, "Register a reader")
         page.press("Register", "Register a reader")
         page.see("Registered: Eva Blank, ticket", ".outcome")
-        page = self.at(f"/units/{self.desk.unit('Plans of the locks')}")
+        self.questions_of_a_unit(self.at(f"/units/{self.desk.unit('Plans of the locks')}"))
+
+    def questions_of_a_unit(self, page):
+        """A closure in the past is asked about; and who has a permit, without a question too many."""
         page.fill("Closed until", "2001-01-01", "Closure")
         page.press("Set the closure", "Closure")
         page.see("A unit that is closed until a past day is open.", "dialog")
@@ -230,7 +262,7 @@ class FirstYear:
         self.read_codes(page, {f"T{ann}", f"T{ben}", f"B{box}", f"B{roll}"})
         for hash_, code in ((f"/readers/{ann}/ticket", f"T{ann}"), (f"/counter/{box}/label", f"B{box}")):
             page = self.at(hash_)
-            page.see(code, ".barcode")
+            page.see(code, ".coded")
         self.checks.check("tickets and labels have their codes", True)
 
     def read_codes(self, page, wanted):

@@ -7,6 +7,7 @@ import time
 import catalogue
 from browser import TWO_FRAMES
 from visit import ORDERED, TICKET
+from checks import wants
 from waits import until
 
 MORE_ORDERS = (("rate=6r/m", "rate=600r/m"),)
@@ -50,14 +51,14 @@ class Journeys:
         self.ann = self.register("Ann")
         for name, shape in SHAPES.items():
             ticket = self.register(name)
-            if only in (None, name):
+            if wants(only, name):
                 self.page.size(*shape)
                 self.checks.part(f"journey: {name}", self.order, name, ticket,
                                  self.tap if name == "phone" else self.use_keys)
         self.page.size(1280, 850)
         for part in (self.several_boxes, self.collected, self.refused_orders, self.series, self.tree, self.contents_first,
                      self.without_container, self.deep_unit, self.long_aid):
-            if only in (None, part.__name__):
+            if wants(only, part.__name__):
                 self.checks.part(f"journey: {part.__name__}", part)
 
     def register(self, name):
@@ -235,6 +236,8 @@ class Journeys:
         self.shot(page, "journey-list-ordered")
         page.press("Forget this list")
         page.see("Nothing is on your list.")
+        self.checks.same("an empty list has no line", page.js(
+            "getComputedStyle(document.querySelector('[data-list] ul.units')).borderTopWidth"), "0px")
 
     def refused_orders(self):
         """What a reader is told when the front takes no order from this address."""

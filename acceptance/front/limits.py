@@ -12,6 +12,7 @@ import threading
 import time
 
 from asks import Asks
+from checks import wants
 from office import FRONT, TOP, Office
 from rules import ask_once, exchange
 from stand_in import StandIn, in_place_of_program
@@ -21,22 +22,23 @@ import client
 
 PARTS = ("questions_in_a_row", "pages_in_a_row", "aids_in_a_row", "orders_in_a_row", "forms_in_a_row",
          "searches_in_a_row", "pages_at_once", "questions_at_once", "aids_at_once", "aids_from_all",
-         "searches_at_once", "reading_room", "slow", "numbers")
+         "searches_at_once", "reading_room", "slow")
 MANY_AIDS = [("aids_in_a_row burst=9", "aids_in_a_row burst=99")]
 LARGE = 24_000_000  # more bytes than sockets hold
 
 
 def play(checks, program, folder, only=None):
-    """Plays all parts, each over an office of its own, or one of them."""
+    """Plays all parts, each but the numbers over an office of its own, or one of them."""
+    if wants(only, "numbers"):
+        checks.part("limits: numbers", numbers, checks)
     for name in PARTS:
-        if only not in (None, name):
+        if not wants(only, name):
             continue
         with contextlib.ExitStack() as stack:  # an office each: what was asked before counts too
             office = Office.create(program, folder / name, changes=MANY_AIDS if name.startswith("aids_") and
                                    name != "aids_in_a_row" else ())
             office.import_file("archives", TOP / "examples/archives.csv").expect_success()
-            checks.part(f"limits: {name}", globals()[name], checks,
-                        stack.enter_context(office) if name != "numbers" else None)
+            checks.part(f"limits: {name}", globals()[name], checks, stack.enter_context(office))
 
 
 # How many in a row
@@ -246,9 +248,35 @@ def seconds(name, text, which=0):
     return int(re.findall(rf"^\s*{name} (\d+)s", text, re.M)[which])
 
 
-def numbers(checks, _):
+def check_rooms(checks, zones, places):
+    """A reading room has each limit of an address eight times as high: each rate, and each number at each place. What
+    counts them has room for the addresses of many readers."""
+    sizes = dict(re.findall(r"zone=record_office_(\w+):(\w+)", zones))
+    shared = {name.removeprefix("room_") for name in sizes if name.startswith("room_")}
+    rates = re.findall(r"zone=record_office_(\w+):.*rate=(\d+)r/", zones)
+    check_eight_times(checks, "rates", shared, rates)
+    for place in places.split("\nlocation "):
+        found = re.findall(r"limit_(?:req|conn) (?:zone=)?record_office_(\w+) (?:burst=)?(\d+)", place)
+        check_eight_times(checks, place.splitlines()[0], shared, found)
+    for name, wanted in (("visits", "100"), ("aids", "10"), ("reading", "12")):
+        found = set(re.findall(rf"limit_conn record_office_{name} (\d+);", places))
+        checks.same(f"as many {name} at once at each place", found, {wanted})
+    wanted = {name: "1m" if name.startswith("room_") else "64k" if name in ("reading", "searching") else "2m" for name in sizes}
+    checks.same("the memory of what counts", sizes, wanted)
+
+
+def check_eight_times(checks, place, shared, found):
+    """The limits of a reading room are eight times the others of the same name: of those that it has for itself."""
+    found = {name.removesuffix("_in_a_row"): int(number) for name, number in reversed(found)}  # of two of aids the first
+    rooms = {name.removeprefix("room_"): number for name, number in found.items() if name.startswith("room_")}
+    own = {name: 8 * number for name, number in found.items() if name in shared}
+    checks.same(f"eight times as high for a reading room: {place}", rooms, own)
+
+
+def numbers(checks):
     """Each of these relations is said in a comment of the configuration."""
     texts = {path.name: path.read_text() for path in (FRONT / "server").iterdir()}
+    check_rooms(checks, texts["common.conf"], texts["readers.conf"])
     queue, gate = texts["haproxy.cfg"].split("\ndefaults\n")[1:]
     for name, at in (("the queue", queue), ("the gate", gate)):
         kept = max(int(one) for one in re.findall(r"keepalive_timeout (\d+)s", texts["common.conf"]))

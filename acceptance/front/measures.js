@@ -91,7 +91,7 @@
     return {
       language: document.documentElement.lang, title: document.title !== '', zoom: !/user-scalable|maximum-scale/.test(document.querySelector('meta[name=viewport]')?.content ?? ''),
       lacking: ['header', 'nav[aria-label=Pages]', 'main', 'footer', '.skip'].filter((one) => !document.querySelector(one)),
-      mains: all('main').length, h1: all('h1').length, headings: heads.every((level, at) => level <= (heads[at - 1] ?? 0) + 1),
+      mains: all('main').length, h1: all('h1').length, headings: heads.every((level, at) => level <= (heads[at - 1] ?? 0) + 1) && all('h1, h2, h3, h4').every((node) => node.textContent.trim()),
       ids: ids.filter((id, at) => ids.indexOf(id) !== at), order: all('[tabindex]').filter((node) => node.tabIndex > 0).map(told),
       // 4.1.3: what is told later has the role of a status, and a fault that of an alert
       silent: all('.told, .outcome, .about, .seen-in-file').filter((node) => node.getAttribute('role') !== 'status')
@@ -163,7 +163,7 @@
 
   // Texts
 
-  const TEXTS = 'button, summary, label, legend, th, h1, h2, nav a, .buttons a, .tools a, .links a';
+  const TEXTS = 'button, summary, label, legend, th, td:not(:has(.words)), h1, h2, nav a, .buttons a, .tools a, .links a';
 
   /** Words that are broken, or run over the edge of what they stand on, because they are too long. */
   function long() {

@@ -11,6 +11,7 @@ import sqlite3
 import urllib.parse
 
 from asks import Asks
+from checks import wants
 from files import csv_text, unit
 from office import SIGNED_IN, Office
 from rules import exchange
@@ -33,7 +34,7 @@ class Neighbours:
     def play(self, only=None):
         """Plays all parts, or the first and one other."""
         for name in PARTS:
-            if only in (None, name) or name == PARTS[0]:
+            if wants(only, name) or name == PARTS[0]:
                 self.checks.part(f"neighbours: {name}", getattr(self, name))
 
     def readers_page(self, path):

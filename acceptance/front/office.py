@@ -122,16 +122,22 @@ class Office(client.Office):
         self._begin_queue()
         self.nginx = [self._run("nginx", "-p", str(self.folder), "-c", str(path), told=path.stem) for path in self.sites()]
         try:
-            self.wait_for(self.public + "/public/fonds")
+            self.wait_for(self.public + "/public/fonds", self.haproxy, *self.nginx)
             self.wait_for_desk()
         except BaseException:
             self.end()
             raise
         return self
 
-    def wait_for(self, url):
-        """The answer to this question, once there is one."""
-        return until(lambda: fetch(url), f"the front answers {url}; see {self.folder}")[0]
+    def wait_for(self, url, *processes):
+        """The answer to this question, once there is one. Raises RuntimeError if one of these processes ends before."""
+        def answer():
+            """The answer, if there is one."""
+            for process in processes:
+                if process.poll() is not None:
+                    raise RuntimeError(f"{process.args[:2]} has ended; see {self.folder}")
+            return fetch(url)
+        return until(answer, f"the front answers {url}; see {self.folder}")[0]
 
     def wait_for_desk(self):
         """Returns once the desk's nginx takes connections."""
@@ -193,7 +199,7 @@ class Office(client.Office):
                      self.listen, "--words", self.words, "--texts", self.folder / "texts", *(more or QUICK)]
             names = {"MALLOC_ARENA_MAX": "1", **({"TZ": zone} if zone else {})}  # the first as its unit has it
             self.service = subprocess.Popen([str(word) for word in words], stdout=log, stderr=log, env={**os.environ, **names})
-        self.wait_for(self.public + "/help")
+        self.wait_for(self.public + "/help", self.service)
 
     @contextlib.contextmanager
     def without_readers(self, *more):

@@ -22,6 +22,11 @@ WIDE = """[...document.querySelectorAll('main, .call-slip, main td, main th, mai
   .filter((one) => one.getClientRects().length)
   .filter((one) => one.scrollWidth > one.clientWidth + 1 && getComputedStyle(one).display !== 'inline')
   .map((one) => one.outerHTML.slice(0, 90))"""
+CODES = """[...document.querySelectorAll('.coded')].filter((one) => {
+    const [slip, bars, code] = [one.closest('.call-slip'), one.querySelector('svg'), one.querySelector('figcaption')]
+      .map((part) => part.getBoundingClientRect());
+    return code.top < bars.bottom || code.bottom > slip.bottom - 4 || Math.abs(code.left + code.right - bars.left - bars.right) > 2;
+  }).map((one) => one.innerText)"""
 UNIT_LINKS = """[...document.querySelectorAll('main a')].map((one) => one.getAttribute('href'))
   .filter((one) => one.startsWith('#/units/'))"""
 BOTTOMS = """[...document.querySelectorAll('.card button')]
@@ -99,14 +104,15 @@ class Paper:
         self.at("/runs/1/slips", "Call slips of run 1")
         self.page.wait(f"document.querySelectorAll('.call-slip').length === {BOXES}")
         self.page.see("Wilhelmina Featherstonehaugh-Cholmondeley of 9 Quay")
+        self.checks.same("each code stands below its bars, and on its slip", self.page.js(CODES), [])
         self.print_page("call slips", 2)
 
     def tickets_and_labels(self):
         """A ticket and a label fit on one sheet each."""
-        self.at("/readers/3/ticket", "Wilhelmina")
-        self.print_page("ticket", 1)
-        self.at("/counter/3/label", "Deed box")
-        self.print_page("label", 1)
+        for name, hash_, words in (("ticket", "/readers/3/ticket", "Wilhelmina"), ("label", "/counter/3/label", "Deed box")):
+            self.at(hash_, words)
+            self.checks.same(f"the code stands below its bars: {name}", self.page.js(CODES), [])
+            self.print_page(name, 1)
 
     def today(self):
         """The first page says what can be known of the day."""

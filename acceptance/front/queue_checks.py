@@ -10,6 +10,7 @@ import stat
 import time
 
 from asks import Asks
+from checks import wants
 from office import FRONT, MANY_PAGES, SIGNED_IN, TOP, Office
 from restarts import UNANSWERED, Sender, count_unread, registration
 from rules import ask_once, check_policy, status
@@ -30,7 +31,7 @@ SEARCHES = ("/search", "/public/search")
 SELDOM = ("--every", "100000", "--rest", "0")
 LARGE = 24_000_000  # more bytes than sockets hold
 IDLE = 9  # seconds after which the program is about to close an idle connection
-PARTS = ("order", "heads", "bodies_first", "slow_reader", "one_connection", "idle", "never_twice", "left_behind",
+PARTS = ("order", "heads", "of_a_reader", "bodies_first", "slow_reader", "one_connection", "idle", "never_twice", "left_behind",
          "ways_in", "logs", "late")
 
 
@@ -42,9 +43,9 @@ def play(checks, program, folder, only=None):
         office.serve_readers(*SELDOM)
         until(office.count_rounds, "the only round is over")
         for name in PARTS[:-1]:
-            if only in (None, name):
+            if wants(only, name):
                 checks.part(f"queue: {name}", globals()[name], checks, office)
-    if only in (None, "late"):
+    if wants(only, "late"):
         with Office.create(program, folder / "late", changes=SHORT) as hasty:
             checks.part("queue: late", late, checks, hasty)
 
@@ -94,7 +95,8 @@ def heads(checks, office):
             "Expect": "100-continue"}
     with in_place_of_program(office) as program:
         for port, method, path in (("8080", "GET", "/public/units/1"), ("8081", "GET", "/desk/issued"),
-                                   ("8081", "POST", "/desk/run"), ("8080", "HEAD", "/public/fonds")):
+                                   *(("8081", "POST", f"/desk/{name}") for name in ("run", "seat", "import/x")),
+                                   ("8080", "POST", "/public/orders"), ("8080", "HEAD", "/public/fonds")):
             sender = Sender(office.ports[port], [(method, path, "{}" if method == "POST" else None, sent)])
             sender.start()
             sender.join(60)
@@ -102,8 +104,24 @@ def heads(checks, office):
         lines = [head.lower().split("\r\n") for head, _ in program.requests]
     checks.same("the lines that come to the program", [sorted(head) for head in lines], [
         ["get /public/units/1 http/1.1", "host: office"], ["get /desk/issued http/1.1", "host: office"],
-        ["content-length: 2", "host: office", "post /desk/run http/1.1"],
+        *(["content-length: 2", "host: office", f"post {path} http/1.1"]
+          for path in ("/desk/run", "/desk/seat", "/desk/import/x", "/public/orders")),
         ["get /public/fonds http/1.1", "host: office"]])
+
+
+def of_a_reader(checks, office):
+    """What the readers' service is told: who asks, from where, in which language, and whether it reads all pages."""
+    with office.without_readers(*SELDOM), StandIn(office.listen, at_once=4) as service:
+        os.chmod(office.listen, 0o666)
+        for path in ("/unit/1", "/aid/1", "/search?q=x", "/public/aid/1"):
+            for agent in ("Mozilla/5.0", "Examplebot/1.0"):
+                ask(office, path, headers={"User-Agent": agent, "Accept-Language": "de", "Cookie": "lang=fr", "X": "y"}).read()
+        told = [sorted(head.lower().split("\r\n")) for head, _ in service.requests]
+    lines = [f"host: 127.0.0.1:{office.ports['8080']}", "accept-language: fr", "record-office-room: 0",
+             "x-forwarded-for: 127.0.0.1", "x-forwarded-proto: http"]
+    checks.same("what the service is told", told, [
+        sorted([*lines, f"get {path} http/1.1", *crawls]) for path in ("/unit/1", "/aid/1", "/search?q=x", "/public/aid/1")
+        for crawls in ((), ("record-office-crawler: yes",))])
 
 
 def bodies_first(checks, office):

@@ -131,8 +131,11 @@ class Refusals:
         self.meet(4, "/counter", "A reader arrives", {"Ticket": "4"}, "Give a seat")
         self.meet(27, "/readers", "Register a reader", {"Name": "   ", "Last day of the ticket": "2030-01-01"},
                   "Register")
-        self.page.open(self.site, "/runs/99")
-        self.page.see("There is nothing with this number.")
+        for hash_, ways in (("/runs/99", ["All runs"]), ("/readers/99", ["Find a reader"]), ("/counter/999", ["Back to the counter"])):
+            self.page.open(self.site, hash_)
+            self.page.see("There is nothing with this number.")
+            self.checks.same(f"nothing but a way on: {hash_}", self.page.js(
+                "[...document.querySelectorAll('main :is(a, button)')].map((one) => one.innerText)"), ways)
 
     def seats(self):
         """Refusals of seats."""

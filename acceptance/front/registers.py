@@ -8,6 +8,7 @@ import sqlite3
 import subprocess
 
 from asks import Asks
+from checks import wants
 from files import csv_text, unit
 from office import SIGNED_IN, TOP, Office
 
@@ -44,9 +45,9 @@ def make_lists(office):
 
 def play(checks, program, folder, browser=None, shot=None, only=None):
     """All parts, or one of them."""
-    if only in (None, "who_was_here"):
+    if wants(only, "who_was_here"):
         checks.part("registers: who_was_here", who_was_here, checks, program, folder / "who")
-    if browser and only in (None, "old_orders"):
+    if browser and wants(only, "old_orders"):
         checks.part("registers: old_orders", old_orders, checks, program, folder / "old", browser, shot)
 
 

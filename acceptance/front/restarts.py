@@ -6,6 +6,7 @@ import pathlib
 import threading
 import time
 
+from checks import wants
 from office import SIGNED_IN
 from waits import until
 
@@ -61,7 +62,7 @@ def registration(office, name, port="8081"):
 def play(checks, asks, only=None):
     """Plays all parts over a running office, or one of them."""
     for part in (killed_program, away, command_cut_off, question_cut_off):
-        if only in (None, part.__name__):
+        if wants(only, part.__name__):
             checks.part(f"restarts: {part.__name__}", part, checks, asks)
 
 

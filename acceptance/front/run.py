@@ -1,17 +1,19 @@
 #!/usr/bin/env python3
 """Plays all parts in a real browser, or only those that are named:
 
-    run.py [--program PROGRAM] [--first] [--patience SECONDS] [--slower TIMES] [--faults FILE] FOLDER SHOTS [PART ..]
+    run.py [--program PROGRAM] [--first] [--patience SECONDS] [--slower TIMES] [--faults FILE] [--covers FILE]
+           FOLDER SHOTS [PART ..]
 
 FOLDER is made anew and kept; SHOTS gets pictures of the pages. PART is one of looks, pages, access, rules, restarts,
 limits, queue, encrypted, stall, search, strangers, neighbours, tries, registers, refusals, journeys, paper, tickets,
-translations, unscripted; or GROUP:PART, one part of a group with an office of its own: of visit, day, first_year,
+translations, unscripted; or GROUP:PART,..,PART, parts of a group with an office of its own: of visit, day, first_year,
 unscripted, access, rules, restarts, limits, queue, neighbours, refusals, journeys, search, search_pages, tries, registers,
 translations. In refusals and neighbours a part is played after those that it goes on from.
 --first ends at the first check that does not hold; --patience is how long anything is waited for (60). With --slower,
 pages run so many times slower, and what they ask for comes later: a check that holds on a fast machine only is found
 there. With --faults, PART is access, visit, rules, queue or restarts, and mutation/front.py tells which faults are to
-be planted in a copy of front/. The last line is `N passed, M failed`; the exit status is 0 where none failed."""
+be planted in a copy of front/. With --covers, FILE gets what ran of each script in the browser. The last line
+is `N passed, M failed`; the exit status is 0 where none failed."""
 
 import contextlib
 import itertools
@@ -66,7 +68,7 @@ PARTS = ("looks", "pages", "unscripted", "access", "rules", "restarts", "limits"
 ARCHIVES = TOP / "examples/archives.csv"
 PATIENT = 60
 WITHOUT_PAGES = {"unscripted", "rules", "restarts", "limits", "queue", "encrypted", "stall", "search", "strangers",
-                 "tries", "registers"}  # need no browser
+                 "tries", "registers", "translations:catalogs", "translations:static_pages"}  # need no browser
 
 
 def pictures(folder):
@@ -90,16 +92,20 @@ class Run:
         self.shot = pictures(shots)
 
     def play(self, parts):
-        """All of these, of which the first four share an office."""
+        """All of these in their order, but for four that share an office, and come first."""
         first = [part for part in ("looks", "pages", "rules", "restarts") if part in parts]
         if first:
+            print(f"plays {first[0]}", flush=True)
             self.first_office(first)
-        for part in PARTS:
-            if part in parts and part not in first:
-                getattr(self, part)()
         for part in parts:
-            if ":" in part:
-                getattr(self, f"only_{part.split(':')[0]}")(part.split(":")[1])
+            group, _, name = part.partition(":")
+            if part in first:
+                continue
+            print(f"plays {part}", flush=True)
+            if name:
+                getattr(self, f"only_{group}")(name)
+            else:
+                getattr(self, part)()
 
     # The office that several parts share
 
@@ -254,34 +260,39 @@ class Run:
         office.import_file("catalogue", dock).expect_success()
         return office
 
-    def only_visit(self, name):
-        """Plays one part of a reader's visit."""
+    def visit(self, name=None):
+        """Plays a reader's visit, or one part of it."""
         with self.office_with_files() as office:
             office.serve_readers()
             page = self.browser.page()
             self.people(office, page, None)[0].play(name)
             self.complaints(page)
 
-    def only_day(self, name):
-        """Plays one part of the desk's day."""
+    def day(self, name=None):
+        """Plays the desk's day in an office that has its descriptions, or one part of it."""
         if name == "imports":
             with Office.create(self.program, clear(self.folder / "alone")) as office:
                 _, day = self.people(office, None, self.browser.page(SIGNED_IN))
                 self.checks.part("day: imports", day.imports)
             return
         with self.office_with_files() as office:
-            office.serve_readers()
+            office.serve_readers(*queue_checks.SELDOM)
             hall, desk = self.browser.page(), self.browser.page(SIGNED_IN)
             self.people(office, hall, desk)[1].play(name)
             self.complaints(hall, desk)
 
-    def only_first_year(self, name):
-        """Plays one part of a desk's first year."""
+    def first_year(self, name=None):
+        """Plays a desk's first year, or one part of it."""
         with self.office_with_files() as office:
+            office.serve_readers(*queue_checks.SELDOM)
             desk = self.browser.page(SIGNED_IN)
             _, day = self.people(office, None, desk)
             FirstYear(self.checks, Asks(office), day, self.shot, self.folder).play(name)
             self.complaints(desk)
+
+    def only_looks(self, _):
+        """Looks at the files by the shell alone (looks:shell), without an office."""
+        self.checks.part("looks", looks.play, self.checks, self.program)
 
     def only_rules(self, name):
         """Plays one part of the front's rules."""
@@ -301,8 +312,8 @@ class Run:
         """Plays one part of the search's checks."""
         search_checks.play(self.checks, self.program, self.folder / "search", (name,))
 
-    def only_search_pages(self, name):
-        """Plays one part of the search's pages."""
+    def search_pages(self, name=None):
+        """Plays the search's pages, or one part of them."""
         search_pages.play(self.checks, self.program, clear(self.folder / "pages"), self.browser, self.shot, name)
 
     # Faults in an office that goes on
@@ -343,6 +354,7 @@ class Run:
                 "queue": lambda checks, part: getattr(queue_checks, part)(checks, office),
                 "restarts": lambda checks, part: restarts.play(checks, asks, part)}[group]
 
+    only_visit, only_day, only_first_year, only_search_pages = visit, day, first_year, search_pages
     only_access, only_limits, only_queue, only_refusals, only_journeys = access, limits, queue, refusals, journeys
     only_translations, only_unscripted = translations, unscripted
     only_tries, only_registers, only_neighbours = tries, registers, neighbours
@@ -382,11 +394,11 @@ def change(office, name, data):
 def play(checks, given):
     """Plays the parts that are wanted, or tries the faults, with a browser if one is needed."""
     wanted = given.parts or PARTS
-    needs_browser = any(part.split(":")[0] not in WITHOUT_PAGES for part in wanted)
-    uses_browser = {"rules:foreign_page", "rules:signing_out", "rules", "search", "tries", "tries:page",
+    needs_browser = any(not {part, part.split(":")[0]} & WITHOUT_PAGES for part in wanted)
+    uses_browser = {"looks", "rules:foreign_page", "rules:signing_out", "rules", "search", "tries", "tries:page",
                     "registers", "registers:old_orders"} & set(wanted)
     has_browser = shutil.which("chromium") and (needs_browser or uses_browser)
-    browser = Browser(given.folder / "profile") if has_browser else None
+    browser = Browser(given.folder / "profile", covers=bool(given.covers)) if has_browser else None
     try:
         run = Run(checks, browser, given.program, given.folder, given.shots)
         if given.faults:
@@ -395,6 +407,8 @@ def play(checks, given):
             run.play(wanted)
     finally:
         if browser:
+            if given.covers:
+                given.covers.write_text(json.dumps(browser.covered()), "utf-8")
             browser.end()
 
 
@@ -407,6 +421,7 @@ def options():
     words.add_argument("--patience", type=float, default=PATIENT, metavar="SECONDS", help=f"else {PATIENT}")
     words.add_argument("--slower", type=float, default=1, metavar="TIMES", help="slow the pages down; else 1")
     words.add_argument("--faults", type=pathlib.Path, metavar="FILE", help="faults to plant, from mutation/front.py")
+    words.add_argument("--covers", type=pathlib.Path, metavar="FILE", help="gets what ran of each script")
     return words.parse_intermixed_args()
 
 
@@ -414,7 +429,7 @@ def main():
     """Plays what the command line names; returns the exit status."""
     given = options()
     signal.signal(signal.SIGTERM, lambda *_: sys.exit(143))  # so that what was started is ended
-    waits.settings.patience, waits.settings.slower = given.patience, given.slower
+    waits.settings.patience, waits.settings.slower, waits.settings.hasty = given.patience, given.slower, given.first
     checks = Checks(given.first)
     for folder in (given.folder, given.shots):
         clear(folder).mkdir(parents=True)

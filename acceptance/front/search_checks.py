@@ -4,7 +4,7 @@ index.
 
     search_checks.py [--program PROGRAM] FOLDER [PART ..]
 
-PART is one of turns, questions, pairs, bounds, files, hostile, kills, states; without one, all are played."""
+PART is one of turns, questions, left_out, pairs, bounds, files, hostile, kills, states; without one, all are played."""
 
 import contextlib
 import json
@@ -22,17 +22,18 @@ sys.dont_write_bytecode = True
 from checks import Checks  # noqa: E402
 from office import QUICK, TOP, clear, folder_options  # noqa: E402
 from rules import send_at_once  # noqa: E402
-from searched import Asking, Query, Searched, Unreached, answers, index, offers, read_typed  # noqa: E402
+from search_pairs import play as pairs  # noqa: E402
+from searched import Asking, Finder, Query, Searched, Unreached, answers, index, offers, read_typed  # noqa: E402
 from turns import Turns, network_of  # noqa: E402
+from unanswered import left_out  # noqa: E402
 from waits import until  # noqa: E402
 
 import client  # noqa: E402
 
 answers.COUNTING = 100  # however slow the machine is, what is counted is the same
-PARTS = ("turns", "questions", "pairs", "bounds", "files", "hostile", "kills", "states")
+PARTS = ("turns", "questions", "left_out", "pairs", "bounds", "files", "hostile", "kills", "states")
 
 HEADER = "legacyId,parentId,identifier,title,levelOfDescription,publicationStatus,eventDates,scopeAndContent\n"
-WORDS = ["dock", "plans", "minute", "letters", "secret"]
 HOSTILE = ['"', '""', "*", "dock*", "AND", "OR NOT", "NEAR(dock plans)", "head:dock", "{head body}:dock", "^dock",
            "-dock", "dock + plans", "(", "')--",
            "dock\0plans", "\0", "\u202edock", "\u05d3\u05d5\u05e7", "e\u0301\u0301\u0301", "\u0301", "\ufb01",
@@ -46,51 +47,6 @@ RAW = ["q=%ff%fe", "q=%", "q", "=", "", "q=dock&q=plans", "in=0&from=1&to=2&afte
        "q=%ed%a0%80dock"]
 UNREAD = {"from=x&q=dock": ["from"], "in=x&to=-1&q=dock": ["in", "to"], "after=%D9%A1-1&q=dock": ["after"],
           "order=x&q=dock": ["order"], "after=0-99999999999999999999&q=dock": ["after"]}
-
-
-def answer_bytes(finder):
-    """An answer as bytes."""
-    return json.dumps([finder.state, finder.units, finder.more, finder.after, finder.count, finder.exact]).encode()
-
-
-def pairs(checks, program, folder):
-    """Two offices that differ only in what is closed or draft: every answer is the same to the byte. And if a part was
-    public in one of them at the last round and not in the other, the answers are still the same, order included."""
-    for was_public in (False, True):
-        made = [pair_of(program, folder / f"pair{which}", which, was_public) for which in (0, 1)]
-        for asked, one in made[0].items():
-            checks.same(f"the same to the byte{' after it was public' * was_public}: {asked}", one, made[1][asked])
-        checks.check("something is found, and something has more", any(b'"unit"' in one for one in made[0].values()) and
-                     any(b", true," in one for one in made[0].values()))
-
-
-def pair_of(program, folder, which, was_public):
-    """All answers of an office whose hidden units have other texts, or other reasons to be hidden, in each of the
-    two."""
-    chance = random.Random(5)
-    plan = [(n, chance.randint(1, n - 1) if n > 2 else "", chance.random() < .3, random.Random(n))
-            for n in range(1, 150)]
-    rows, hidden = HEADER, set()
-    for n, parent, hide, draw in plan:
-        if hide and n > 2 or parent in hidden:
-            hidden.add(n)
-            draw = draw if was_public else random.Random(2 * n + which)
-        text = [" ".join(draw.choice(WORDS) for _ in range(draw.randint(1, 6))) for _ in range(2)]
-        status = "Draft" if n in hidden and not was_public else "Published"
-        rows += f"{n},{parent},{n % 7},{text[0]},File,{status},{draw.choice(['1774-1893', '1850', ''])},{text[1]}\n"
-    office = Searched.create(program, clear(folder))
-    (office.folder / "units.csv").write_text(rows)
-    office.import_file("a", office.folder / "units.csv").expect_success()
-    with office:
-        if was_public and which:
-            office.round()
-        for n in sorted(n for n, parent, *_ in plan if n in hidden and parent not in hidden):
-            office.tell("/desk/status", {"unit": n, "status": "draft", "branch": False})
-        if not was_public or not which:
-            office.round()
-        return {f"{typed} {values}": answer_bytes(office.find(typed, **values))
-                for typed in (*WORDS, "doc*", "dock plans", '"letters dock"', "1850", "file", "gb secret")
-                for values in ({}, {"within": 1}, {"first": 1800}, {"last": 1800, "within": 2})}
 
 
 def bounds(checks, program, folder):
@@ -207,8 +163,8 @@ def offered(checks, office):
                           ("Plans harbuor 12a", []), ("docks plans", []), ("harbinger", []), ("zzz", []),
                           ('"h\u00e4rbuor plans"', [])):
         with contextlib.closing(index.open_index(str(office.index))) as db:
-            checks.same(f"offered for {typed}", offers.offers(db, Asking(office.queue), typed, None, Query(read_typed(typed))),
-                        wanted)
+            answer = Finder(db, Asking(office.queue), Query(read_typed(typed))).find()
+            checks.same(f"offered for {typed}", offers.offers(answer, typed, None), wanted)
 
 
 def forgotten(checks, office):
@@ -494,12 +450,12 @@ def play_with_service(checks, program, folder, parts):
 
 def play(checks, program, folder, parts=PARTS):
     """Plays these parts, in offices of their own below the folder."""
-    for part in (turns, questions):
+    for part in (turns, questions, left_out):
         if part.__name__ in parts:
             checks.part(f"search: {part.__name__}", part, checks, folder)
-    for part in (pairs, bounds, files):
-        if part.__name__ in parts:
-            checks.part(f"search: {part.__name__}", part, checks, program, folder)
+    for name, part in (("pairs", pairs), ("bounds", bounds), ("files", files)):
+        if name in parts:
+            checks.part(f"search: {name}", part, checks, program, folder)
     if {"hostile", "kills", "states"} & set(parts):
         play_with_service(checks, program, folder, parts)
 

@@ -5,6 +5,7 @@ import urllib.parse
 from asks import Asks
 from catalogue import ODD, dock_company, many
 from journeys import SHAPES, Journeys
+from checks import wants
 from office import TOP
 from searched import Searched
 from waits import until
@@ -35,7 +36,7 @@ def play(checks, program, folder, browser, shot, only=None):
         office.await_rounds(1)
         page = browser.page()
         for part in (box, results, more, filters, odd_texts, phone, ordering, away):
-            if only in (None, part.__name__):
+            if wants(only, part.__name__):
                 checks.part(f"search pages: {part.__name__}", part, checks, office, page, shot)
 
 
@@ -52,6 +53,8 @@ def box(checks, office, page, shot):
     checks.same("and so has the field", page.js("document.querySelector('form.find input').value"), "minutes dock")
     checks.check("the title", page.js("document.title").startswith("Search: minutes dock"), page.js("document.title"))
     checks.same("the words and their other forms are marked", page.js(MARKS), "dock,docks,minute,minutes")
+    checks.check("what was found stands before the rules of words",
+                 page.text().index("4 units.") < page.text().index("Every word must occur."), page.text())
     checks.same("the result is announced", page.js(f"document.querySelector('{TOLD}').getAttribute('role')"), "status")
     checks.same("the box and its fields have names", page.js(
         "[...document.querySelectorAll('form.find :is(select, input)')].every((field) => field.labels.length === 1)"),

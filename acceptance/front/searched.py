@@ -17,7 +17,7 @@ import offers  # noqa: E402, F401
 from answers import Finder, Query  # noqa: E402, F401
 from asking import Asking, Unreached  # noqa: E402, F401
 from folding import read_typed  # noqa: E402
-from rounds import Round  # noqa: E402
+from rounds import Keeper, Round  # noqa: E402, F401
 
 FOREVER = 10**6  # a round with this sweep looks at all pages
 

@@ -16,11 +16,11 @@ LINE_END = b"\r\n\r\n"
 
 class StandIn:
     """One connection after the other, at a port of 127.0.0.1 or at a socket in the file system. It answers each request
-    with `body`, but with none the one that `drops(head)` names: then it closes the connection. With `silent` it answers
-    nothing."""
+    with `body`, or with what `answers` has for its path, but with none the one that `drops(head)` names: then it closes
+    the connection. With `silent` it answers nothing."""
 
-    def __init__(self, place, body=b"[]", drops=lambda head: False, silent=False, at_once=1):
-        self.body, self.drops, self.silent = body, drops, silent
+    def __init__(self, place, body=b"[]", drops=lambda head: False, silent=False, at_once=1, answers=()):
+        self.body, self.drops, self.silent, self.answers = body, drops, silent, dict(answers)
         self.requests, self.connections, self.closed = [], 0, []
         family = socket.AF_INET if isinstance(place, int) else socket.AF_UNIX
         if family == socket.AF_UNIX:
@@ -68,7 +68,7 @@ class StandIn:
                 if self.drops(head.decode("latin-1")):
                     return
                 if not self.silent:
-                    connection.sendall(client.reply(200, self.body, client.TEXT))
+                    connection.sendall(self.answers.get(self.paths[-1]) or client.reply(200, self.body, client.TEXT))
 
     def end(self):
         """Closes all connections."""

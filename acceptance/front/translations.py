@@ -16,6 +16,7 @@ import urllib.request
 import office as offices
 from access import DESK, FAR, Access
 from catalogue import dock_company
+from checks import wants
 from office import FRONT, MANY_PAGES, PYTHON, TOP, Office, clear
 
 CODES = sorted(path.stem for path in (FRONT / "readers/po").glob("*.po"))
@@ -160,6 +161,7 @@ class Translations(Access):
         desk.press("Register", "Register a reader")
         desk.see("Registered: {reader}, good until {until}.")
         self.unit_page(code, hall)
+        self.first_of_month(code)
         hall.visit(f"{self.sites['readers']}/unit/{self.plans}")
         hall.press_starting("Order")
         hall.fill("Number of your reader’s ticket", str(ticket))
@@ -186,6 +188,15 @@ class Translations(Access):
         wanted = [[number, self.texts.say(english[number])] for number, _ in names]
         self.checks.same(f"each element has its name: {code}", names, wanted)
         self.checks.check(f"several elements were seen: {code}", len(names) > 5, names)
+
+    def first_of_month(self, code):
+        """The day on which a closed unit opens, on both sites: the first of a month as it is written in French."""
+        wanted = "1er janvier 2040" if code == "fr" else "2040"
+        self.readers.visit(f"{self.sites['readers']}/unit/{self.closed}")
+        self.readers.see(wanted, "h1")
+        self.desk.open(self.sites["desk"], f"/units/{self.closed}")
+        self.desk.see(wanted, "main .head")
+        self.checks.check(f"the day of a closure: {code}", True)
 
     def both_ways(self):
         """Titles from right to left stand right in an English page, and English ones in a page from right to left."""
@@ -331,7 +342,7 @@ def parts(translations):
 def play(checks, program, folder, browser, shot, only=None):
     """Plays all parts, or one."""
     for part in (catalogs, static_pages):
-        if only in (None, part.__name__):
+        if wants(only, part.__name__):
             checks.part(f"translations: {part.__name__}", part, checks)
     if only in ("catalogs", "static_pages"):
         return
@@ -349,7 +360,7 @@ def play(checks, program, folder, browser, shot, only=None):
             translations = Translations(checks, office, browser, shot)
             translations.settle()
             for name, part in parts(translations).items():
-                if only in (None, name):
+                if wants(only, name):
                     checks.part(f"translations: {name}", part)
             checks.same("the browser complains of nothing",
                         [said for page in (translations.readers, translations.desk) for said in page.complaints()], [])

@@ -13,6 +13,7 @@ import subprocess
 import time
 
 from asks import Asks
+from checks import wants
 from files import csv_text, unit
 from office import FRONT, PYTHON, SIGNED_IN, Office
 from waits import until
@@ -40,6 +41,12 @@ WANTED = [
     ("place", 5, "3", "parentId", "1", "2"),
     ("lacking", "", "4", "", "", ""),
 ]
+# What the service or nginx may say instead: the status, the answer, and what the page then tells.
+TROUBLES = (
+    (409, '{"error":"no copy"}', "Nothing was tried: there is no copy of the office yet. The next backup makes one."),
+    (503, '{"error":"not reached"}',
+     "Nothing was tried: the service for it is not running. The file can be imported all the same."),
+    (500, '{"error":"failed"}', "This file could not be tried. Tell whoever runs the office: its journal says why."))
 TIME_OF_A_LARGE_FILE = 60  # seconds, for 20,000 rows
 
 
@@ -123,9 +130,9 @@ def play(checks, program, folder, browser=None, shot=None, only=None):
     """All parts, or one of them."""
     parts = {"differences": differences, "languages": languages, "service": service, "shell": shell, "large": large}
     for name, part in parts.items():
-        if only in (None, name):
+        if wants(only, name):
             checks.part(f"tries: {name}", part, checks, program, folder / name)
-    if browser and only in (None, "page"):
+    if browser and wants(only, "page"):
         checks.part("tries: page", page, checks, program, folder / "page", browser, shot)
 
 
@@ -276,6 +283,11 @@ def page(checks, program, folder, browser, shot):
         path.write_bytes(SECOND.encode())
         tab.file(path)
         tab.wait("document.querySelector('.seen-in-file table')")
+        for status, body, told in TROUBLES:
+            tab.answer_with("*/try/differences/*", status, body.encode())
+            tab.press("Show what would change")
+            tab.see(told)
+            tab.answer_with(None, 0, b"")
         tab.press("Show what would change")
         tab.see("New units: 1, changed: 2, unchanged: 1. 10 differences:")
         tab.see("The first row is in another language than the office has: 1", ".differences")

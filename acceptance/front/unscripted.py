@@ -7,6 +7,7 @@ import urllib.parse
 
 import catalogue
 from asks import Asks
+from checks import wants
 from office import MANY_PAGES, TOP, Office, clear
 from site_pages import Site, Tree, aid_of, elements_of
 from waits import until
@@ -43,6 +44,7 @@ class Unscripted:
         links = Tree(self.site.page("/")).links("/unit/[0-9]+")
         self.checks.same("the list of fonds to the letter", [f"{address[6:]} {text}" for address, text in links],
                          self.fonds_lines)
+        self.checks.check("what is searched is there", 'role="search"' in self.site.page("/"))
 
     def units(self):
         """Each unit: its status, its head, its elements, and nothing that came from the archive as markup."""
@@ -108,6 +110,10 @@ class Unscripted:
             self.checks.check(f"by the address: {code}", f"<dt>{name} " in text)
             self.checks.check(f"which is kept: {code}", headers.get("Set-Cookie", "").startswith(f"lang={code};"))
         self.checks.check("an odd cookie is no language", 'lang="en"' in self.site.page("/", Cookie="lang=../../x"))
+        for path, kept in (("/search?q=dock+plans&from=1800", "q=dock+plans&from=1800&"), ("/unit/1?lang=de", "")):
+            links = Tree(self.site.page(path)).links(r"\?.*lang=.*")
+            self.checks.same(f"another language, and what was asked for stays: {path}", sorted(address for address, _ in links),
+                             sorted(f"?{kept}lang={code}" for code in NAMES))
 
     def statuses(self):
         """What is there, what is not, and what leads elsewhere."""
@@ -273,5 +279,5 @@ def play(checks, program, folder, only=None):
         until(office.count_rounds, "the only round is over", 5)
         pages = Unscripted(checks, office)
         for part in PARTS:
-            if only in (None, part):
+            if wants(only, part):
                 checks.part(f"unscripted: {part}", getattr(pages, part))

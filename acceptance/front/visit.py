@@ -2,6 +2,7 @@
 markup."""
 
 from catalogue import ODD
+from checks import wants
 from site_pages import aid_of
 
 # Each gives back what the page shows as the program would have written it.
@@ -42,7 +43,7 @@ class Visit:
         self.asks.office.await_rounds()  # what is above a unit is proposed by the index
         for part in (self.fonds, self.hostile, self.way, self.aids, self.search, self.missing, self.addresses,
                      self.links, self.keyboard, self.no_scripts):
-            if only in (None, part.__name__):
+            if wants(only, part.__name__):
                 self.checks.part(f"visit: {part.__name__}", part)
 
     def fonds(self):

@@ -2,12 +2,12 @@
 
 `settings.patience` is how long anything is waited for: mutation/front.py waits less for what a fault keeps away.
 `settings.slower` is how many times slower than this machine pages are. `settings.longest` is what was waited for
-longest, in seconds."""
+longest, in seconds. With `settings.hasty` nothing is waited for on a page whose script has failed."""
 
 import time
 import types
 
-settings = types.SimpleNamespace(patience=60, slower=1, longest=0)
+settings = types.SimpleNamespace(patience=60, slower=1, longest=0, hasty=False)
 BETWEEN = 0.03  # seconds between two looks
 
 

@@ -29,7 +29,7 @@ export function barcode(code) {
   svg.setAttribute('width', `${(place + 9) * 0.3}mm`);
   svg.append(node('path', { d: bars }));
   const figure = document.createElement('figure');
-  figure.className = 'barcode';
+  figure.className = 'coded';
   const words = document.createElement('figcaption');
   words.textContent = code;
   figure.append(svg, words);

@@ -1,6 +1,6 @@
 // A reader's card: seat, orders, permits, and what can be done for the reader.
 
-import { el, table, words } from '../shared/dom.js';
+import { el, link, table, words } from '../shared/dom.js';
 import { dayField, numberField } from '../shared/fields.js';
 import { commandForm, note } from '../shared/form.js';
 import { phrase, text, textAs } from '../shared/language.js';
@@ -23,11 +23,12 @@ export async function cardPage(ticket) {
   const isThere = await show(view);
   return { title: text('Ticket {ticket}', { ticket }), content: [
     el('h1', {}, text('Ticket {ticket}', { ticket })), view.name, view.told, view.head,
-    isThere && el('div', { class: 'cards four' },
+    isThere ? el('div', { class: 'cards four' },
       card(text('Seat'), seatForm(view), leaveForm(view)),
       card(text('Order a container'), orderForm(view)),
       card(text('Renew'), renewForm(view)),
-      card(text('Give a permit'), el('p', { class: 'quiet' }, PERMIT), permitForm(view))),
+      card(text('Give a permit'), el('p', { class: 'quiet' }, PERMIT), permitForm(view)))
+      : el('p', {}, link('#/readers', text('Find a reader'))),
   ] };
 }
 

@@ -12,20 +12,22 @@ import { ticketField, ticketOf } from './scans.js';
 
 export async function containerPage(number) {
   const view = { number, told: el('div', { role: 'status' }), panel: el('div', { class: 'panel' }) };
-  await show(view);
+  const isThere = await show(view);
   return { title: text('Container {number}', { number }), content: [
     el('h1', {}, text('Container {number}', { number })),
     el('p', { class: 'links no-print' }, link('#/counter', text('Back to the counter')), ' ',
-      link(`#/counter/${number}/label`, text('A label to print'))),
+      isThere && link(`#/counter/${number}/label`, text('A label to print'))),
     view.told, view.panel,
-    card(text('Order it for a reader'), orderForm(view)),
+    isThere && card(text('Order it for a reader'), orderForm(view)),
   ] };
 }
 
+/** Shows the container, or why it cannot be shown; says whether it is there, as far as anybody knows. */
 async function show(view) {
   const answer = await queue(view.number);
   const holder = answer.ok && answer.value.place === 'out' ? await holderOf(view.number) : null;
   view.panel.replaceChildren(...(answer.ok ? panel(view, answer.value, holder) : [problem(answer)]));
+  return answer.kind !== 'missing';
 }
 
 async function holderOf(number) {

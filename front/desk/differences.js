@@ -20,8 +20,8 @@ const PROBLEMS = {
 const KINDS = {
   language: text('The first row is in another language than the office has'),
   emptied: text('Emptied'), changed: text('Changed'), boxes: text('Other boxes'), new: text('New'),
-  status: text('The file’s status is another, and the import does not change it'),
-  place: text('The file’s place is another, and the import does not change it'),
+  status: text('The status in the file is another, and the import does not change it'),
+  place: text('The place in the file is another, and the import does not change it'),
   lacking: text('Not in the file; the import leaves it'),
 };
 
@@ -56,7 +56,7 @@ function showAnswer(given, answer, told, list) {
   if (!answer.ok) return told.replaceChildren(problem(...PROBLEMS[answer.kind]));
   const { copy, refused } = answer.value;
   if (refused) return told.replaceChildren(problem(text('The office would refuse this file: {answer}.', { answer: answer.value.answer.said }), ''));
-  told.replaceChildren(el('p', {}, el('strong', {}, sentence(answer.value)), ' ', text('As of the copy of {time}.', { time: copy })));
+  told.replaceChildren(el('p', {}, text('As of the copy of {time}.', { time: copy }), ' ', el('strong', {}, sentence(answer.value))));
   return list.replaceChildren(...listParts(answer.value.differences, given.source));
 }
 
@@ -72,7 +72,7 @@ function listParts(found, source) {
   if (found.length === 0) return [];
   const kind = selectField('kind', text('Which'), [['', text('All ({number})', { number: written(found.length) })], ...kindsOf(found)]);
   const letters = textField('text', text('With these letters'), { required: false, type: 'search' });
-  const shown = el('div', {});
+  const shown = el('div', { class: 'shown' });
   const view = { found, shown, kind: kind.querySelector('select'), letters: letters.querySelector('input') };
   view.kind.addEventListener('input', () => showRows(view));
   view.letters.addEventListener('input', () => showRows(view));

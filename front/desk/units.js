@@ -47,7 +47,8 @@ async function show(view) {
 function stateOf(page) {
   const [, until] = /^closed until (\d{4}-\d{2}-\d{2})$/.exec(readHead(readPage(page).head)?.title ?? '') ?? [];
   const isClosed = until && page.split('\n').length === 2; // an open one may have this title, but has no such page
-  return el('p', { class: 'state' }, isClosed ? text('Published, and closed until {until}.', { until }) : text('Published and open.'));
+  return el('p', { class: 'state' }, isClosed
+    ? phrase('Published, and closed until {until}.', { until: el('span', { class: 'whole' }, until) }) : text('Published and open.'));
 }
 
 /** The page to the letter, where the units right below are links to their pages here. */

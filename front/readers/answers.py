@@ -1,5 +1,6 @@
 """The index proposes, the office decides. A candidate is shown only if its page, as it is now, has the words; all that
-is shown or counted is of pages that were read for this very answer. There is `more` only if one more was verified."""
+is shown or counted is of pages that were read for this very answer. There is `more` only if one more was verified. What
+the office cannot answer for is not shown, and does not keep the rest away."""
 
 import sqlite3
 import time
@@ -7,7 +8,7 @@ from dataclasses import dataclass
 
 import folding
 import index
-from asking import Slow, Unreached
+from asking import Busy, Slow, Unreached
 from texts import Page, name_of, own_digest, read_fonds, value_of, years_of
 
 SHOWN, COUNTED = 20, 300  # of one answer: units shown, units counted
@@ -46,12 +47,14 @@ class Finder:
     """find() answers once. state: done; late (the time or the looks are over); unreached. count: how many units were
     verified, or None; exact: whether these are all. after: how to ask for more. doubts: units that the index has
     otherwise than the office; gone: those of them that are shown no more. These are for the next round, not for the
-    reader."""
+    reader. fonds: the list of fonds, if it was read for the same reader just now; counts: whether what is not shown is
+    counted."""
 
-    def __init__(self, db, ask, query, shown=SHOWN):
-        self.db, self.ask, self.query, self.shown = db, ask, query, shown
+    def __init__(self, db, ask, query, shown=SHOWN, fonds=(), counts=True):
+        self.db, self.ask, self.query, self.shown, self.fonds, self.counts = db, ask, query, shown, fonds, counts
         self.state, self.units, self.more, self.after, self.count, self.exact = "done", [], False, query.after, 0, True
-        self.doubts, self.gone, self.pages, self.fonds, self.tops, self.looked = set(), set(), {}, [], set(), 0
+        self.doubts, self.gone, self.pages, self.tops, self.looked = set(), set(), {}, set(), 0
+        self.unanswered = set()
 
     def find(self, seconds=SECONDS):
         """Answers, within so many seconds; returns itself."""
@@ -79,12 +82,9 @@ class Finder:
         if not self.query.phrases:
             return
         # Always asked: if only candidates were, an office that is away would tell whether the index has any.
-        self.fonds = read_fonds(self.ask("/public/fonds") or "")
+        self.fonds = self.fonds or read_fonds(self.ask("/public/fonds") or "")
         self.tops = {top for top, _ in self.fonds}
         for place, number in index.propose(self.db, self.query):
-            if self._is_enough():
-                self.count, self.exact = self.count - 1, False  # more than these
-                return
             hit = self._hit(place, number, self.count < self.shown)
             if hit:
                 self.count += 1
@@ -92,10 +92,14 @@ class Finder:
             if hit and not self.more:
                 self.units.append(hit)
                 self.after = place
+            if self._is_enough():
+                self.count, self.exact = self.count - 1, False  # more than these
+                return
 
     def _is_enough(self):
-        """Whether no more are looked at: whoever goes on is told no number, and nobody waits long for one."""
-        return self.more and (self.query.after != START or self.count > max(COUNTED, self.shown)
+        """Whether no more are looked at: whoever goes on is told no number, and nobody waits long for one. Whether there is
+        another candidate, which may be one that was closed, is not asked."""
+        return self.more and (not self.counts or self.query.after != START or self.count > max(COUNTED, self.shown)
                               or time.monotonic() > self.counting)
 
     def _hit(self, place, number, shown):
@@ -106,9 +110,9 @@ class Finder:
         self.looked += 1
         page, (own, odd) = self._page(number), index.find_known(self.db, number)
         lines = page and page.own_lines(odd)
-        if page is None:
+        if page is None and number not in self.unanswered:
             self.gone.add(number)
-        elif own_digest(page.head, lines) != own:
+        elif page and own_digest(page.head, lines) != own:
             self.doubts.add(number)
         if page is None or not self.query.holds(page.head, lines) or not self._is_at(place, years_of(lines)):
             return None
@@ -129,7 +133,11 @@ class Finder:
     def _page(self, number):
         """The page of a unit, read once, or None."""
         if number not in self.pages:
-            text = self.ask(f"/public/units/{number}")
+            try:
+                text = self.ask(f"/public/units/{number}")
+            except Busy:
+                text = None
+                self.unanswered.add(number)
             self.pages[number] = text and Page(text)
         return self.pages[number]
 

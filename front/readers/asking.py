@@ -9,10 +9,15 @@ import tempfile
 import time
 
 TOOK = "Record-Office-Took"  # the milliseconds that the office took to begin its answer; the gate tells them
+BUSY = b'{"error":"busy"}'  # the program's own 503, as of an answer that needs too much memory; the queue has another
 
 
 class Unreached(Exception):
     """The office did not answer this question."""
+
+
+class Busy(Unreached):
+    """The program was asked and could not answer this question. It may answer others."""
 
 
 class Slow(Unreached):
@@ -77,6 +82,8 @@ class Asking:
             raise (Slow if isinstance(lost, TimeoutError) and self.until else Unreached)(path) from lost
         self.asked, self.busy = self.asked + 1, self.busy + took
         time.sleep(took * self.rest)
+        if status == 503 and body == BUSY:
+            raise Busy(path)
         if status not in (200, 404):
             raise Unreached(f"{path}: {status}")
         return body.decode("utf-8", "replace") if status == 200 else None

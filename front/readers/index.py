@@ -8,7 +8,7 @@ import sqlite3
 from folding import SHORTEST_STEM, is_kin, readings_of
 from texts import may_be_from_above, value_of, years_of
 
-VERSION = 2
+VERSION = 3
 BETWEEN = " \ue000 "  # a word that no text has, between two readings or values: no phrase reaches from one into the next
 ARCHIVE = 10**10  # a row of `words` has the number of its archive times this, and its own: archives come one by one
 LAST_ARCHIVE = 2**63 // ARCHIVE - 1  # and those after it together
@@ -16,6 +16,7 @@ KIN = 40  # other forms of a word that are looked for
 READ = 400  # words of the index that are read to find these
 UNDATED = 10**5  # in order of dates, units without a year come last
 # round: changed: 1 if words have come, 2 if some were forgotten, which may still be somewhere in the file.
+# words: with lists of their own for what begins with one, two or three letters, which thousands of words may do.
 # vocabulary: each word of the index, from the end of the round that has read it.
 # unit: own and branch are digests; odd has the own lines that look as if they were found above; gone is set within a
 # round.
@@ -29,7 +30,7 @@ CREATE TABLE unit(n INTEGER PRIMARY KEY, top INTEGER, parent INTEGER, pos INTEGE
   last INTEGER, odd TEXT, gone INTEGER NOT NULL DEFAULT 0);
 CREATE INDEX unit_top ON unit(top);
 CREATE INDEX unit_parent ON unit(parent, pos);
-CREATE VIRTUAL TABLE words USING fts5(head, body, tokenize = 'ascii', columnsize = 0);
+CREATE VIRTUAL TABLE words USING fts5(head, body, tokenize = 'ascii', columnsize = 0, prefix = '1 2 3');
 CREATE VIRTUAL TABLE counted USING fts5vocab(words, row);
 CREATE TABLE vocabulary(word TEXT PRIMARY KEY) WITHOUT ROWID;
 """

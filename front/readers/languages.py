@@ -15,6 +15,7 @@ from babel.numbers import format_decimal
 
 HERE = pathlib.Path(__file__).resolve().parent
 LONG = {"en": "d MMMM y"}  # where the locale's own long form is another country's
+FIRST = {"fr": "d'er' MMMM y"}  # where the first day of a month is written otherwise
 
 
 class Language:
@@ -31,9 +32,11 @@ class Language:
     def day(self, text):
         """2040-01-01 as people write it. What is no day stays as it is."""
         try:
-            return format_date(date.fromisoformat(text), LONG.get(self.code, "long"), self.locale)
+            day = date.fromisoformat(text)
         except ValueError:
             return text
+        form = (FIRST if day.day == 1 else {}).get(self.code) or LONG.get(self.code, "long")
+        return format_date(day, form, self.locale)
 
     def number(self, number):
         """1234 as people write it."""

@@ -5,9 +5,13 @@ If the two do not agree, a command came in between; that part is left as it was,
 
 Nobody should wait for the aid of a large archive. So an archive is read by parts, unless it is known to be small: its
 page, and the aid of each unit right below; and so is each of these that is known to be large. Of what is read so, a
-value that ends as if it were found above is not searched, since only an aid could say that it is the unit's own."""
+value that ends as if it were found above is not searched, since only an aid could say that it is the unit's own.
+
+If the office cannot answer for a unit, that part too is left as it was, and the round goes on. What it cannot answer as
+one is read page by page, for the aids below would hold everybody up as long."""
 
 import argparse
+import contextlib
 import os
 import select
 import socket
@@ -16,19 +20,21 @@ import sys
 import time
 
 import index
-from asking import Asking, Unreached
+from asking import Asking, Busy, Unreached
 from texts import Node, Page, digest, read_aid, read_fonds
 
 LARGE = 2000  # units; an aid with more is read by parts
 SWEEP = 20  # pages that each round reads whatever has changed
+NAMED = 5  # of the units that could not be answered for, so many are named in the journal
 CHECKED = 60  # so many rounds after a check of the index comes the next: damage need not show in answers or rounds
 
 
 class Round:
-    """One round. ask: how the office is asked."""
+    """One round. ask: how the office is asked; left_out: the units that it could not answer for; before: those of the last
+    round."""
 
-    def __init__(self, db, ask, sweep=SWEEP, large=LARGE):
-        self.db, self.ask, self.sweep, self.large = db, ask, sweep, large
+    def __init__(self, db, ask, sweep=SWEEP, large=LARGE, before=()):
+        self.db, self.ask, self.sweep, self.large, self.before, self.left_out = db, ask, sweep, large, before, set()
 
     def run(self):
         """Makes the round. Raises Unreached."""
@@ -48,25 +54,31 @@ class Round:
         swept = self.db.execute("SELECT swept FROM round").fetchone()[0]
         some = index.next_with_units(self.db, swept, self.sweep)
         for number in some:
-            page = self.page(number)
-            if page is None or [n for n, _ in page.units] != index.below(self.db, number):
-                index.doubt(self.db, number)
+            with contextlib.suppress(Busy):
+                page = self.page(number)
+                if page is None or [n for n, _ in page.units] != index.below(self.db, number):
+                    index.doubt(self.db, number)
         self.db.execute("UPDATE round SET swept = ?", (some[-1] if some else 0,))
 
     def archive(self, number, pos):
         """Reads an archive as one, or by parts."""
         size = self.size(number)
-        if size is None or size > self.large:
-            self.parts(number, number, None, pos)
-        else:
-            self.aid(number, number, None, pos)
+        self.read(number, number, None, pos, size is None or size > self.large)
 
-    def part(self, number, top, parent, pos):
-        """A unit right below one that is read by parts. How many units it has."""
-        return (self.parts if (self.size(number) or 0) > self.large else self.aid)(number, top, parent, pos)
+    def read(self, number, top, parent, pos, by_parts, by_pages=False):
+        """Reads a unit as one or by parts. How many units it has. One that cannot be read counts as large, so that what is
+        above it is read by parts, without it; its aid is not asked for before its page could be."""
+        if not by_parts and not by_pages and number not in self.before:
+            with contextlib.suppress(Busy):
+                return self.aid(number, top, parent, pos)
+            by_pages = True
+        with contextlib.suppress(Busy):
+            return self.parts(number, top, parent, pos, by_pages)
+        self.left_out.add(number)
+        return self.large + 1
 
-    def parts(self, number, top, parent, pos):
-        """The page of a unit, and the aids of the units right below it. How many units it has."""
+    def parts(self, number, top, parent, pos, by_pages):
+        """The page of a unit, and the aids or the pages of the units right below it. How many units it has."""
         page = self.page(number)
         if page is None:
             return 0
@@ -77,7 +89,8 @@ class Round:
         with index.transaction(self.db):
             index.put(self.db, top, number, parent, pos, node, None)
             index.lose(self.db, [n for n in index.below(self.db, number) if n not in now])
-        size = 1 + sum(self.part(n, top, number, place) for place, (n, _) in enumerate(page.units))
+        size = 1 + sum(self.read(n, top, number, place, (self.size(n) or 0) > self.large, by_pages)
+                       for place, (n, _) in enumerate(page.units))
         self.note(number, None, size)
         return size
 
@@ -189,6 +202,7 @@ class Keeper:
     def __init__(self, path, ask, told, every):
         self.path, self.ask, self.told, self.every = path, ask, told, every
         self.damaged, self.unchecked, self.doubts, self.gone, self.parent = True, 0, set(), set(), os.getppid()
+        self.left_out = set()
 
     def keep(self):
         """After a failure whose cause may be the index, the index is checked, and begun anew if it is damaged, or if SQLite
@@ -243,9 +257,19 @@ class Keeper:
             index.forget_at_once(db, gone)
             for number in doubts:
                 index.doubt(db, number)
-            Round(db, self.ask_if_wanted).run()
+            it = Round(db, self.ask_if_wanted, before=self.left_out)
+            it.run()
+            self.tell(it.left_out)
         finally:
             db.close()
+
+    def tell(self, left_out):
+        """Says which units the last round left out, if the one before did not."""
+        new = sorted(left_out - self.left_out)
+        if new:
+            named = ", ".join(map(str, new[:NAMED])) + (f" and {len(new) - NAMED} more" if len(new) > NAMED else "")
+            print(f"round: the office cannot answer for these units, and will be asked again: {named}", flush=True)
+        self.left_out = left_out
 
     def ask_if_wanted(self, path):
         """Asks the office; ends the process if the service is gone."""

@@ -147,7 +147,7 @@ class Service:
                 found = Finder(db, self.mine.ask, query).find()
                 told = self.told(found, values)
                 if found.state == "done" and query.phrases and not found.units and query.after == START:
-                    told["offers"] = offers(db, self.mine.ask, values["q"], language, query)
+                    told["offers"] = offers(found, values["q"], language)
         except (sqlite3.Error, AttributeError, TypeError, ValueError) as broken:  # not there yet, or damaged
             print(f"answer: {type(broken).__name__} {broken}", flush=True)
             self.say(0)

@@ -59,9 +59,10 @@ export function counted(number, one, many, values = {}) {
 /** A number as people write it. */
 export const written = (number) => number.toLocaleString(locale);
 
-/** 2040-01-01 as `1 January 2040`. */
+/** 2040-01-01 as `1 January 2040`; in French the first of a month is written otherwise. */
 export function dayInWords(day) {
-  return new Date(`${day}T00:00:00Z`).toLocaleDateString(locale, { day: 'numeric', month: 'long', year: 'numeric', timeZone: 'UTC' });
+  const told = new Date(`${day}T00:00:00Z`).toLocaleDateString(locale, { day: 'numeric', month: 'long', year: 'numeric', timeZone: 'UTC' });
+  return code === 'fr' ? told.replace(/^1 /, '1er ') : told;
 }
 
 function fill(words, values) {
