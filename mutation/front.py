@@ -114,24 +114,38 @@ def play_in_turn(program, group, ports, faults):
     return {(part, name): what for part, name, what in told}
 
 
-def play(program, part, ports, fault=None, patience=PATIENT, longest=None):
-    """Plays a part with a copy of the front. What failed first, or None; and for how long anything was waited for."""
-    with tempfile.TemporaryDirectory() as room:
+def run_parts(program, parts, ports, fault=None, patience=PATIENT, longest=None):
+    """Plays parts with a copy of the front, up to the first check that fails. The exit status, or None if it took longer;
+    and what was printed."""
+    with tempfile.TemporaryDirectory(dir=client.usual_room()) as room:
         front = pathlib.Path(room) / "front"
         shutil.copytree(TOP / "front", front, ignore=shutil.ignore_patterns("__pycache__"))
         if fault:
             path = front / fault.file
             path.write_bytes(fault.plant(path.read_bytes().decode()).encode())
-        words = command(program, room, part, "--first", "--patience", str(patience))
+        words = command(program, room, *parts, "--first", "--patience", str(patience))
         with subprocess.Popen(words, **surroundings(front, ports)) as process:
             try:
                 told = process.communicate(timeout=longest)[0]
             except subprocess.TimeoutExpired:
                 process.terminate()
-                return f"more than {longest:.0f} s", 0
-        wrong = [line.removeprefix("WRONG ") for line in told.splitlines() if line.startswith("WRONG ")]
-        waited = [float(one) for one in re.findall(r"^waited for at most (\S+) s$", told, re.M)]
-        return None if process.returncode == 0 else wrong[0][:150] if wrong else told[-300:], max(waited, default=0)
+                return None, process.communicate()[0]
+        return process.returncode, told
+
+
+def wrong_in(told):
+    """What was wrong, of what a run has printed."""
+    return [line.removeprefix("WRONG ") for line in told.splitlines() if line.startswith("WRONG ")]
+
+
+def play(program, part, ports, fault=None, patience=PATIENT, longest=None):
+    """Plays a part with a copy of the front. What failed first, or None; and for how long anything was waited for."""
+    status, told = run_parts(program, [part], ports, fault, patience, longest)
+    if status is None:
+        return f"more than {longest:.0f} s", 0
+    waited = [float(one) for one in re.findall(r"^waited for at most (\S+) s$", told, re.M)]
+    failed = [*wrong_in(told), told[-300:]][0][:300]
+    return failed if status else None, max(waited, default=0)
 
 
 class Jobs:

@@ -1,228 +1,390 @@
 #!/usr/bin/env python3
-"""Faults of the front that a machine makes, not a person: each directive of nginx and HAProxy, each rule of CSS left out;
-each number ten times and a tenth; each comparison and condition turned, each argument exchanged with its neighbour, each
-text lost. Some are planted, one at a time in a copy of front/, and the parts of acceptance/front that concern their file
-are played until one fails:
+"""Plays the faults of front/ that a machine makes (mutation/made.py): one at a time in a copy of front/, with the parts of
+acceptance/front that concern its file, until a check fails.
 
-    mutation/machine.py [--program PROGRAM] [--seed N] [--sample N] [--only PART_OF_FILE] [--jobs N] [--list]
+    mutation/machine.py [--program PROGRAM] [--seed N] [--sample N] [--only PART_OF_NAME] [--which WHICH] [--jobs N]
+                        [--minutes N] [--keep] [--covered FILE]
+    mutation/machine.py --list | --dry | --cover FILE [--program PROGRAM] [--jobs N]
 
---list prints all of them, without playing; --sample 0 plays all, which takes nights. A fault that nothing notices is
-printed as SURVIVED. Those that somebody has read stand in mutation/front/survivors.txt, each with a reason, and are not
-played. The exit status is 1 if one survived."""
+--sample 0 plays all. --which new are those that were not played yet, unnoticed those that nothing noticed, noticed those
+that something did, and should again. After --minutes no more is begun, and what is not over is ended; the last line says
+how many were played. What a fault came to is kept in mutation/front/played.txt with --keep: a later run begins with what
+noticed it, or what noticed others near it. Who has read a fault that nothing notices writes it into
+mutation/front/survivors.txt, below a reason; it is not played again.
 
-import ast
+--cover plays each part once without a fault, and writes into FILE how long it took, and what ran of each script; with
+--covered FILE only parts are played in which the place of a fault runs. --list prints the faults, --dry how many there
+are, and which names in the two files are none any more.
+
+The exit status is 1 if a fault was not noticed, or, with --dry, if survivors.txt has a name that is no fault."""
+
+import collections
 import concurrent.futures
-import dataclasses
+import itertools
+import json
 import pathlib
 import queue
-import random
 import re
 import subprocess
 import sys
 import tempfile
+import time
 
 sys.dont_write_bytecode = True
 sys.path.append(str(pathlib.Path(__file__).resolve().parent))
 import front  # noqa: E402
+import made  # noqa: E402
 import search  # noqa: E402
 
 import client  # noqa: E402
 
 TOP = front.TOP
-READ = TOP / "mutation/front/survivors.txt"
-SERVERS = ["rules", "limits", "queue", "encrypted", "restarts"]
-SEARCH = ["search:bounds", "search:files", "search:hostile", "search:pairs", "search:questions"]
-# What is played for a file: the first that fits. `sessions`, `folding` and `turns` are as in mutation/search.py.
-PLAYED = [("server/", SERVERS), ("readers/folding.py", ["folding"]), ("readers/turns.py", ["search:turns"]),
-          ("readers/offers.py", ["search:files"]), ("readers/answers.py", [*SEARCH, "sessions"]),
-          ("readers/index.py", [*SEARCH, "folding", "sessions"]), ("readers/rounds.py", [*SEARCH, "sessions"]),
-          ("readers/asking.py", [*SEARCH, "sessions"]), ("readers/", ["search:hostile", "visit"]),
-          ("public/", ["visit", "access"]), ("look/", ["looks"]), ("desk/look/", ["looks"]), ("desk/", ["day", "first_year", "refusals", "access"]),
-          ("shared/", ["visit", "day", "first_year", "refusals", "access"])]
-LONGEST = 900  # seconds that a part may take with a fault
-TURNED = {ast.Eq: "!=", ast.NotEq: "==", ast.Lt: ">=", ast.GtE: "<", ast.Gt: "<=", ast.LtE: ">", ast.Is: "is not",
-          ast.IsNot: "is", ast.In: "not in", ast.NotIn: "in"}
+PLAYED, READ = (TOP / "mutation/front" / name for name in ("played.txt", "survivors.txt"))
+NOTHING = "nothing"  # has noticed it
+LONGEST = 300  # seconds that a part may take with a fault
+MOST, NEAR = 12, 4  # parts that are played for a fault; of them first those that noticed others nearby
+SINGLY = 2  # parts that have an office for themselves; the others share one with those of their group
+# The parts of each group of acceptance/front/run.py.
+GROUPS = {group: [f"{group}:{name}" for name in names.split()] for group, names in {
+    "rules": "odd_paths readers_limits password staffs_limits other_sites other_names heads own_answers by_ipv6 pages_alone "
+             "lists questions_of_heads no_page limit_of_orders orders_from_elsewhere foreign_page signing_out",
+    "limits": "numbers questions_in_a_row pages_in_a_row searches_in_a_row forms_in_a_row pages_at_once questions_at_once "
+              "aids_at_once aids_from_all searches_at_once reading_room aids_in_a_row orders_in_a_row slow",
+    "queue": "order heads of_a_reader bodies_first slow_reader one_connection idle never_twice left_behind ways_in logs late",
+    "looks": "shell",
+    "restarts": "killed_program away command_cut_off question_cut_off",
+    "search": "turns questions hostile states bounds pairs files kills",
+    "unscripted": "fonds units aids lines languages statuses found_by_others contents level orders collected questions large "
+                  "vanishing",
+    "neighbours": "numbers sources zones claimed_address own_words branch new_drafts two_who_wait",
+    "tries": "differences languages service shell large page",
+    "registers": "who_was_here old_orders",
+    "visit": "fonds hostile way aids search missing addresses links keyboard no_scripts",
+    "day": "imports register_readers find_readers reader_orders desk_orders fetch counter waiting out take_back permits units "
+           "remove next_day red keyboard slow uncertain hold_every_form second_clicks",
+    "first_year": "bad_files converted emptying same_boxes drafts long_lists questions slips scans passed_over_orders "
+                  "incomplete_list failed_page queue_away",
+    "refusals": "words rest",
+    "journeys": "desk phone several_boxes collected refused_orders series tree contents_first without_container deep_unit "
+                "long_aid",
+    "search_pages": "box results more filters odd_texts phone ordering away",
+    "translations": "catalogs choice words alone both_ways without_scripts unkeyed way_de",
+    "access": "archives fonds order text_from_right_to_left closed finding_aid file changed help not_found list_of_orders "
+              "found nothing_found today counter container label readers card ticket orders runs slip call_slips out units "
+              "unit question held wrong_scan old_orders import differences signed_out"}.items()}
+ALONE = ["looks", "encrypted", "stall", "paper", "tickets", "strangers"]
+WITHOUT_PAGES = {"looks", "unscripted", "rules", "restarts", "limits", "queue", "encrypted", "stall", "search", "strangers",
+                 "tries", "registers", "translations:catalogs"}
+TOGETHER = {"visit", "day", "first_year", "journeys", "search_pages", "access", "translations", "unscripted"}
+WITH_PAGES = {"rules:foreign_page", "rules:signing_out", "tries:page", "registers:old_orders"}
+SCRIPTS = {"sessions", "folding"}  # as in mutation/search.py
+# What is played for a file, in this order: the first that fits. A script's parts come by what runs in them.
+FOR_FILES = [(begin, names.split()) for begin, names in (
+    ("server/strangers", "strangers"),
+    ("server/haproxy", "limits:numbers queue restarts rules encrypted stall"),
+    ("server/tls", "encrypted"), ("server/desk-tls", "encrypted"),
+    ("server/", "limits:numbers rules encrypted queue limits restarts neighbours:claimed_address tries:service registers "
+                "strangers stall"),
+    ("readers/folding", "folding search:hostile search_pages"), ("readers/turns", "search:turns search:questions"),
+    ("readers/offers", "search:files search_pages"), ("readers/answers", "search search_pages sessions"),
+    ("readers/index", "search folding search_pages sessions"), ("readers/rounds", "search sessions"),
+    ("readers/asking", "search:questions search unscripted sessions"),
+    ("readers/", "translations:catalogs unscripted neighbours search_pages visit journeys search access:readers "
+                 "translations:choice translations:words translations:alone translations:both_ways translations:way_de"),
+    ("try/", "tries"), ("look/", "looks:shell tries"), ("desk/look/", "looks first_year refusals:rest"),
+    ("desk/desk.css", "access:desk paper tickets translations:phone_de"),
+    ("public/public.css", "access:readers visit:hostile journeys"),
+    ("shared/base.css", "access paper visit:hostile journeys"),
+    ("public/", "journeys visit search_pages access:readers translations:way_de"),
+    ("", "translations:catalogs day first_year refusals:rest neighbours registers:old_orders tries:page paper tickets "
+         "access:desk translations:unkeyed translations:way_de"))]
+EVERY = {part for parts in GROUPS.values() for part in parts}
+ENGLISH = (TOP / "front/readers/po/en.po").read_text("utf-8")
 
 
-@dataclasses.dataclass
-class Made:
-    """A fault that a machine made: in a file of front/, in place of what stands from begin to end."""
+# What is kept
 
-    file: str
-    line: int
-    kind: str
-    begin: int
-    end: int
-    new: str
-    old: str
-
-    @property
-    def fault(self):
-        """Its name."""
-        return f"{self.file}:{self.line}: {self.kind}: {self.old.strip()[:70]!r} -> {self.new.strip()[:70]!r}"
-
-    def plant(self, text):
-        """The text of its file with the fault in it."""
-        return text[:self.begin] + self.new + text[self.end:]
-
-
-def made(path):
-    """The faults of a file."""
-    file, text = str(path.relative_to(TOP / "front")), path.read_bytes().decode()
-    makers = {".conf": of_directives, ".cfg": of_directives, ".py": of_python, ".js": of_script, ".css": of_rules}
-    for kind, begin, end, new in makers.get(path.suffix, lambda _: ())(text):
-        if text[begin:end] != new:
-            yield Made(file, text.count("\n", 0, begin) + 1, kind, begin, end, new, text[begin:end])
-
-
-def of_numbers(text, begin, end):
-    """Each number ten times and a tenth."""
-    for found in re.finditer(r"(?<![\w.\[{,$-])([1-9][0-9]*)(?=[smkr%]?\b(?![\w.,\]}-]))", text[begin:end]):
-        place = begin + found.start()
-        yield "ten times", place, place + len(found[1]), found[1] + "0"
-        yield "a tenth", place, place + len(found[1]), found[1][:-1] or "0"
-
-
-def of_directives(text):
-    """Each directive left out, and its numbers changed."""
-    for found in re.finditer(r"^[ \t]*(?!#)(?:[a-z_-]+(?: [^\n;{#]*)?(?:;|(?=\s*(?:#|$))))", text, re.M):
-        line = text[found.start():text.find("\n", found.start())]
-        is_header = re.fullmatch(r"(?:global|defaults|frontend \w+|backend \w+|listen \w+)\s*", line)
-        if found[0].strip() and not is_header:
-            yield "left out", found.start(), found.end(), ""
-            yield from of_numbers(text, found.start(), found.end())
-
-
-def of_rules(text):
-    """Each rule of CSS left out."""
-    for found in re.finditer(r"^[ \t]*[^@\s/{}][^{}/]*\{[^{}]*\}", text, re.M):
-        yield "left out", found.start(), found.end(), ""
-
-
-def of_script(text):
-    """Stryker's operators for what these modules use."""
-    turned = {"===": "!==", "!==": "===", "&&": "||", "||": "&&", " < ": " >= ", " > ": " <= ", " <= ": " > ", " >= ": " < "}
-    code = re.sub(r"//.*|/\*[\s\S]*?\*/", lambda found: " " * len(found[0]), text)
-    for found in re.finditer("|".join(map(re.escape, turned)), code):
-        yield "turned", found.start(), found.end(), turned[found[0]]
-    for found in re.finditer(r"(?<=\()([\w.]+), ([\w.]+)(?=[,)])", code):
-        yield "exchanged", found.start(), found.end(), f"{found[2]}, {found[1]}"
-    for found in re.finditer(r"'[^'\n]+'", code):
-        yield "text lost", found.start(), found.end(), "''"
-    yield from of_numbers(code, 0, len(code))
-
-
-def of_python(text):
-    """mutmut's operators for what these modules use."""
-    starts = [0]
-    for line in text.encode().splitlines(keepends=True):
-        starts.append(starts[-1] + len(line))
-    data = text.encode()
-
-    def place(line, column):
-        """Where this is in the text."""
-        return len(data[:starts[line - 1] + column].decode())
-
-    def span(node):
-        """Where a node begins and ends."""
-        return place(node.lineno, node.col_offset), place(node.end_lineno, node.end_col_offset)
-    tree = ast.parse(text)
-    told = {id(node.value) for node in ast.walk(tree) if isinstance(node, ast.Expr)}
-    parts = {id(one) for node in ast.walk(tree) if isinstance(node, ast.JoinedStr) for one in ast.walk(node)}
-    for node in ast.walk(tree):
-        if id(node) not in told and id(node) not in parts:
-            yield from of_node(text, node, span)
-
-
-def of_node(text, node, span):
-    """The faults of a node of Python."""
-    if isinstance(node, ast.Compare) and len(node.ops) == 1:
-        begin, end = span(node.left)[1], span(node.comparators[0])[0]
-        between = text[begin:end]
-        yield "turned", begin, end, re.sub(r"[!=<>]=?|\bnot in\b|\bis not\b|\bin\b|\bis\b", TURNED[type(node.ops[0])], between, count=1)
-    elif isinstance(node, (ast.If, ast.While, ast.IfExp)):
-        begin, end = span(node.test)
-        yield "turned", begin, end, f"(not ({text[begin:end]}))"
-    elif isinstance(node, ast.BoolOp):
-        begin, end = span(node.values[0])[1], span(node.values[1])[0]
-        yield "turned", begin, end, text[begin:end].replace("and", "o-r").replace("or", "and").replace("o-r", "or")
-    elif isinstance(node, ast.Call):
-        for one, other in zip(node.args, node.args[1:]):
-            (begin, middle), (rest, end) = span(one), span(other)
-            if not {type(one), type(other)} & {ast.Starred, ast.GeneratorExp}:
-                yield "exchanged", begin, end, text[rest:end] + text[middle:rest] + text[begin:middle]
-    elif isinstance(node, ast.Constant) and isinstance(node.value, str) and node.value:
-        yield "text lost", *span(node), '""'
-    elif isinstance(node, ast.Constant) and type(node.value) in (int, float) and node.value not in (0, 1):
-        begin, end = span(node)
-        yield "ten times", begin, end, f"({text[begin:end]} * 10)"
-        yield "a tenth", begin, end, f"({text[begin:end]} // 10)"
-
-
-def play(program, fault, ports):
-    """What noticed a fault, or nothing."""
-    for part in next(parts for begin, parts in PLAYED if fault.file.startswith(begin)):
-        if part in ("sessions", "folding"):
-            failed = play_of_search(program, fault, part)
+def read_played():
+    """By the names of faults: what noticed them. The file has file, code and fault, each further to the right."""
+    found, file, code = {}, "", ""
+    for line in PLAYED.read_text("utf-8").splitlines() if PLAYED.exists() else ():
+        if line.startswith("    "):
+            what, _, by = line.strip().rpartition(" | ")
+            found[f"{file} | {code} | {what}"] = by
+        elif line.startswith("  "):
+            code = line.strip()
         else:
-            failed = front.play(program, part, ports, fault, front.PATIENCE, LONGEST)[0]
-        if failed:
-            return f"{part}: {failed[:100]}"
-    return None
+            file = line
+    return found
 
 
-def play_of_search(program, fault, part):
-    """The same for what mutation/search.py plays without the servers."""
+def read_survivors():
+    """The names of faults that somebody has read and left, each with the reason above it."""
+    found, reason = {}, ""
+    for line in READ.read_text("utf-8").splitlines() if READ.exists() else ():
+        if line.startswith("  "):
+            found[line.strip()] = reason
+        else:
+            reason = line
+    return found
+
+
+def keep(played, faults):
+    """Writes what was played of these faults, in their order."""
+    lines, last = [], ("", "")
+    for fault in (one for one in faults if one.fault in played):
+        lines += [fault.file] * (fault.file != last[0]) + [f"  {fault.code}"] * ((fault.file, fault.code) != last)
+        lines.append(f"    {fault.what} | {played[fault.fault]}")
+        last = fault.file, fault.code
+    PLAYED.write_text("".join(f"{line}\n" for line in lines), "utf-8")
+
+
+# Which parts are played, and in which order
+
+class Order:
+    """covered: what FILE of --cover has, or nothing; played: what noticed faults; faults: all that there are."""
+
+    def __init__(self, covered, played, faults):
+        self.covered, self.played, self.noticed = covered, played, collections.defaultdict(list)
+        for fault in faults:
+            if played.get(fault.fault, NOTHING) != NOTHING:
+                self.noticed[fault.file].append((fault.begin, played[fault.fault]))
+
+    def parts(self, fault):
+        """First what noticed it before, then what noticed others nearby, then the others."""
+        before = self.played.get(fault.fault, NOTHING)
+        wanted = self.that_run(fault) or next(parts for begin, parts in FOR_FILES if fault.file.startswith(begin))
+        near = (by for _, by in sorted(self.noticed[fault.file], key=lambda one: abs(one[0] - fault.begin))
+                if {by, by.split(":")[0]} & set(wanted))
+        parts = [*[before] * (before != NOTHING), *["translations:catalogs"] * is_told(fault),
+                 *list(dict.fromkeys(near))[:NEAR], *wanted]
+        return list(dict.fromkeys(parts))[:MOST]
+
+    def that_run(self, fault):
+        """The parts in which its place of a script runs: first those that are quick and run much of its file."""
+        address = "/" + re.sub("^(desk|public)/", "", fault.file)
+        found = []
+        if not fault.file.endswith(".js") or "/look/" in fault.file:
+            return found
+        for part, told in self.covered.items():
+            ran = told["ran"].get(address, ())
+            if any(begin <= fault.begin < end for begin, end in ran):
+                found.append((told["seconds"] / sum(end - begin for begin, end in ran), part))
+        return [part for _, part in sorted(found)]
+
+    def patience(self, parts):
+        """How long a check of these parts may wait, and how long all of them may take."""
+        waits = max((self.covered[part]["waited"] for part in parts if part in self.covered), default=0)
+        return max(front.PATIENCE, 4 * waits), LONGEST * sum(len(part.split(",")) for part in parts)
+
+
+def together(parts):
+    """The same parts: the first alone, and then those of a group together, in the place of the first of them."""
+    groups = {}
+    for part in parts[SINGLY:]:
+        group, _, name = part.partition(":")
+        groups.setdefault(group if group in TOGETHER and name and part != "day:imports" else part, []).append(name)
+    return parts[:SINGLY] + [f"{group}:{','.join(names)}" if group in TOGETHER and names[0] else group
+                             for group, names in groups.items()]
+
+
+def is_told(fault):
+    """Whether a text that it loses is one of the catalogs'."""
+    lost = re.match(r"text lost (['\"])(.*?)(\1|$)", fault.what)
+    return bool(lost) and f'"{lost[2][:40]}' in ENGLISH
+
+
+def kind_of(part):
+    """How a part is played: by mutation/search.py, or by run.py without a browser or with one."""
+    if part in SCRIPTS:
+        return part
+    return "plain" if {part, part.split(":")[0]} & WITHOUT_PAGES and part not in WITH_PAGES else "pages"
+
+
+# Playing
+
+class Late(Exception):
+    """It took too long, and nothing is known."""
+
+
+class NotBegun(Late):
+    """There was no time for it."""
+
+
+def play(program, order, fault, ports, end):
+    """Which part noticed a fault, and the check that failed; or NOTHING. Raises Late if that is not known at the end."""
+    for kind, parts in itertools.groupby(together(order.parts(fault)), kind_of):
+        parts = list(parts)
+        noticed = play_script(program, fault, kind) if kind in SCRIPTS else play_parts(program, order, fault, parts, ports, end)
+        if noticed:
+            return noticed
+    return NOTHING, ""
+
+
+def play_parts(program, order, fault, parts, ports, end):
+    """The same of parts of run.py; None if all pass."""
+    patience, longest = order.patience(parts)
+    longest = max(0, min(longest, end - time.monotonic()))
+    status, told = front.run_parts(program, parts, ports, fault, patience, longest)
+    if status is None:
+        raise Late(f"{parts}: {told[-300:]}")
+    if not status:
+        return None
+    part, failed = part_in(told) or parts[0], [*front.wrong_in(told), told[-150:]][0][:150]
+    no_start = failed.startswith("offices broke off") and part not in order.covered or not front.wrong_in(told)
+    if (no_start or "not within" in failed) and front.run_parts(program, [part], ports, None, patience, longest)[0]:
+        raise Late(f"{part} does not pass without the fault either: {failed}")
+    return part, failed
+
+
+def part_in(told):
+    """The part that failed, of what a run has printed: one of a group's if it has a name there; None if none was begun."""
+    for name in re.findall("^failed in (.*)$", told, re.M):
+        group, _, inner = name.replace(" ", "_").partition(":_")
+        if (part := f"{group}:{inner.split(',_')[-1]}") in EVERY:
+            return part
+    return [None, *re.findall("^plays (.*)$", told, re.M)][-1]
+
+
+def play_script(program, fault, part):
+    """The same of what mutation/search.py plays without the servers."""
     with tempfile.TemporaryDirectory() as room:
         service = search.plant(pathlib.Path(room) / "readers", fault.file.removeprefix("readers/"), None, None)
         path = TOP / "front" / fault.file
         (service / path.name).write_bytes(fault.plant(path.read_bytes().decode()).encode())
-        return "noticed" if search.is_noticed(service, part, program, pathlib.Path(room)) else None
+        return (part, "") if search.is_noticed(service, part, program, pathlib.Path(room)) else None
 
 
-def chosen(given):
-    """The faults that are to be played: as many of each kind of file as it has, but for CSS."""
-    found = [fault for path in sorted((TOP / "front").rglob("*")) if path.is_file() for fault in made(path)
-             if given.only in fault.file]
-    read = {line.split(" | ")[0] for line in READ.read_text("utf-8").splitlines()} if READ.exists() else set()
-    found = [fault for fault in found if fault.fault not in read]
-    if given.sample and not given.list:
-        found = random.Random(given.seed).sample(found, min(given.sample, len(found)))
-    return found
+class Jobs:
+    """Does something with several things, a few at a time, each with ports of its own."""
+
+    def __init__(self, many):
+        self.pool, self.ports = concurrent.futures.ThreadPoolExecutor(many), queue.Queue()
+        for job in range(many):
+            self.ports.put(front.PORTS + 1000 * job)
+
+    def outcomes(self, what, things):
+        """Yields each thing, and what came of it: a value, or what was raised."""
+        def do(thing):
+            """Does it with ports that nobody else has."""
+            ports = self.ports.get()
+            try:
+                return thing, what(thing, ports)
+            except (OSError, subprocess.SubprocessError, Late) as broken:
+                return thing, broken
+            finally:
+                self.ports.put(ports)
+        for task in concurrent.futures.as_completed([self.pool.submit(do, thing) for thing in things]):
+            yield task.result()
 
 
-def main():
-    """Plays what the command line says; returns the exit status."""
+def play_all(given, faults, chosen):
+    """Plays these; returns how many were played, and which of them nothing noticed."""
+    played, survived, many, began = read_played(), [], 0, time.monotonic()
+    covered = json.loads(given.covered.read_text("utf-8")) if given.covered else {}
+    order, end = Order(covered, played, faults), began + 60 * given.minutes
+
+    def one(fault, ports):
+        """What came of a fault, and after how many seconds."""
+        begun = time.monotonic()
+        if begun > end:
+            raise NotBegun
+        return *play(given.program, order, fault, ports, end), time.monotonic() - begun
+    for fault, came in Jobs(given.jobs).outcomes(one, chosen):
+        if isinstance(came, Exception):
+            if not isinstance(came, NotBegun):
+                print(f"{fault.fault}: NOT PLAYED: {came}", flush=True)
+            continue
+        by, told, seconds = came
+        many, survived = many + 1, survived + [fault] * (by == NOTHING)
+        played[fault.fault] = by
+        words = "NOTHING NOTICED IT" if by == NOTHING else f"noticed by {by}: {told}"
+        print(f"{fault.fault}: {words} ({seconds:.0f} s)", flush=True)
+        if given.keep:
+            keep(played, faults)
+    return many, survived
+
+
+def cover(given):
+    """Plays each part without a fault, but those that FILE has; returns the exit status."""
+    covered = json.loads(given.cover.read_text("utf-8")) if given.cover.exists() else {}
+    parts = [part for part in [*sum(GROUPS.values(), []), *ALONE] if part not in covered and given.only in part]
+
+    def one(part, ports):
+        """What came of a part: the exit status, what it printed, seconds, and what ran in the browser."""
+        begun = time.monotonic()
+        with tempfile.NamedTemporaryFile() as ran:
+            words = ["--covers", ran.name] if kind_of(part) == "pages" else []
+            status, told = front.run_parts(given.program, [part, *words], ports, None, front.PATIENCE)
+            return status, told, time.monotonic() - begun, json.loads(ran.read() or b"{}")
+    for part, came in Jobs(given.jobs).outcomes(one, parts):
+        status, told, seconds, ran = came
+        if status:
+            print(f"{part}: DOES NOT PASS: {told[-500:]}", flush=True)
+            continue
+        print(f"{part}: {seconds:.0f} s", flush=True)
+        waited = float(re.search(r"^waited for at most (\S+) s$", told, re.M)[1])
+        covered[part] = {"seconds": round(seconds, 1), "waited": waited, "ran": ran}
+        given.cover.write_text(json.dumps(covered), "utf-8")
+    return 0 if set(parts) <= set(covered) else 1
+
+
+# The command line
+
+def tell(faults):
+    """Prints how many there are; returns 1 if a name in survivors.txt is none of them."""
+    names, played, read = {fault.fault for fault in faults}, read_played(), read_survivors()
+    gone = [name for name in read if name not in names]
+    for name in gone:
+        print(f"NO FAULT ANY MORE: {name}")
+    now = {name: by for name, by in played.items() if name in names}
+    unnoticed = sum(by == NOTHING and name not in read for name, by in now.items())
+    print(f"{len(names)} faults: {len(now)} were played, {len(read) - len(gone)} are left with a reason, {unnoticed} were not "
+          f"noticed; {len(played) - len(now)} that were played are none any more")
+    return 1 if gone else 0
+
+
+def choose(given, faults):
+    """The faults that are to be played."""
+    played, read = read_played(), read_survivors()
+    kinds = {"all": lambda by: True, "new": lambda by: by is None, "unnoticed": lambda by: by == NOTHING,
+             "noticed": lambda by: by not in (None, NOTHING)}
+    found = [fault for fault in faults if given.only in fault.fault and fault.fault not in read
+             and kinds[given.which](played.get(fault.fault))]
+    found.sort(key=lambda fault: fault.place(given.seed))
+    return found[:given.sample or None]
+
+
+def options():
+    """What the command line says."""
     words = client.program_options(__doc__)
     words.add_argument("--seed", type=int, default=1, metavar="N", help="of the sample; else 1")
     words.add_argument("--sample", type=int, default=40, metavar="N", help="how many; else 40; 0: all")
-    words.add_argument("--only", default="", metavar="PART_OF_FILE", help="faults of files whose name has this in it")
+    words.add_argument("--only", default="", metavar="PART_OF_NAME", help="faults whose name has this in it")
+    words.add_argument("--which", default="all", choices=("all", "new", "unnoticed", "noticed"), help="else all")
     words.add_argument("--jobs", type=int, default=2, metavar="N", help="how many at a time; else 2")
+    words.add_argument("--minutes", type=float, default=1e6, metavar="N", help="after which no more is played")
+    words.add_argument("--keep", action="store_true", help="keep what came of them")
+    words.add_argument("--covered", type=pathlib.Path, metavar="FILE", help="which --cover has written")
+    words.add_argument("--cover", type=pathlib.Path, metavar="FILE", help="play the parts without a fault")
     words.add_argument("--list", action="store_true", help="only print them")
-    given = words.parse_args()
-    faults, ports = chosen(given), queue.Queue()
-    if given.list:
-        print(*(fault.fault for fault in faults), f"{len(faults)} faults", sep="\n")
-        return 0
-    for job in range(given.jobs):
-        ports.put(front.PORTS + 1000 * job)
+    words.add_argument("--dry", action="store_true", help="only say how many there are")
+    return words.parse_args()
 
-    def played(fault):
-        """What came of a fault."""
-        port = ports.get()
-        try:
-            return fault, play(given.program, fault, port)
-        except (OSError, subprocess.SubprocessError) as broken:
-            return fault, f"cannot be played: {broken}"
-        finally:
-            ports.put(port)
-    survived = 0
-    with concurrent.futures.ThreadPoolExecutor(given.jobs) as pool:
-        for task in concurrent.futures.as_completed([pool.submit(played, fault) for fault in faults]):
-            fault, noticed = task.result()
-            survived += noticed is None
-            print(f"{fault.fault}: {f'noticed by {noticed}' if noticed else 'SURVIVED'}", flush=True)
-    print(f"seed {given.seed}: {len(faults)} faults, {survived} survived")
+
+def main():
+    """Does what the command line says; returns the exit status."""
+    given, faults = options(), made.all_faults()
+    if given.cover:
+        return cover(given)
+    if given.dry:
+        return tell(faults)
+    chosen = choose(given, faults)
+    if given.list:
+        print(*(fault.fault for fault in chosen), f"{len(chosen)} faults", sep="\n")
+        return 0
+    many, survived = play_all(given, faults, chosen)
+    print(f"seed {given.seed}: {many} of {len(chosen)} faults were played, {many - len(survived)} noticed, {len(survived)} not")
     return 1 if survived else 0
 
 
