@@ -1,109 +1,44 @@
 #!/usr/bin/env python3
-"""The lists for the staff, over an office that the program made, with titles and names that try to be markup or
-formulas:
+"""The lists for the staff, over offices that the program made (listed.py), with titles and names that try to be markup
+or formulas. Each list must be to the letter as in lists.txt, and what is not there has no rows:
 
     lists.py [--program PROGRAM] [--room DIRECTORY] [--folder FOLDER]
 
-The lists stay in FOLDER, if one is given. Which orders no run can fetch is compared with what runs of the program
-leave. The last line is `N passed, M failed`."""
+The lists of the first office stay in FOLDER, if one is given. Which orders no run can fetch is compared with what runs
+of the program leave. The last line is `N passed, M failed`."""
 
 import csv
+import html
 import html.parser
 import json
 import os
 import pathlib
+import re
+import shutil
 import subprocess
 import sys
 
 import client
+import listed
 
 LISTS = client.TOP / "packaging" / "lists"
-SETTINGS = client.SETTINGS | {"seats": "12", "daily": "8", "hands": "2", "run": "20"}
-COLUMNS = (
-    "legacyId,parentId,identifier,title,levelOfDescription,publicationStatus,"
-    "physicalObjectName,physicalObjectLocation\n"
-)
-MARKUP = "</td></table><script>alert(1)</script>&amp;"
-FORMULA = "=HYPERLINK('http://example.org')"
-FIRST = COLUMNS + f"""1,,A,{MARKUP},Fonds,Published,,
-2,1,1,{MARKUP},Series,Draft,Box 1,Room 1
-3,1,2,{FORMULA},Series,Published,Box 2,Room 1
-4,1,3,Maps,Series,Published,Box 3,Room 1
-5,4,1,A map,Item,Published,,
-6,1,4,Deeds,Series,Published,Box 4,Room 1
-7,1,5,Letters,Series,Published,Box 5,Room 1
-8,1,6,Closed for long,Series,Published,Box 6,Room 1
-"""
-MOVED = COLUMNS + "6,1,4,Deeds,Series,Published,Box 4,Room 9\n"
-OTHER = COLUMNS + "1,,B,Other archive,Fonds,Published,Box 5,Room 1\n"
-NEWEST = COLUMNS + (
-    "1,,A,x,Fonds,Published,,\n2,1,1,x,Series,Draft,Box 1,Room 1\n3,1,2,x,Series,Published,NULL|Box 2,|Room 1\n"
-)
-COMMANDS = [
-    ("register", {"name": "<i>Ann</i>", "until": "2030-12-31"}, 200),
-    ("register", {"name": "+Ben", "until": "2030-12-31"}, 200),
-    ("orders", {"ticket": 1, "container": 2}, 200),
-    ("orders", {"ticket": 2, "container": 2}, 200),
-    ("orders", {"ticket": 1, "container": 3}, 200),
-    ("orders", {"ticket": 1, "container": 4}, 200),
-    ("orders", {"ticket": 1, "container": 5}, 200),
-    ("orders", {"ticket": 2, "container": 6}, 200),
-    ("cancel", {"order": 6}, 200),
-    ("closure", {"unit": 3, "until": "2024-04-01"}, 200),
-    ("closure", {"unit": 8, "until": "2030-01-01"}, 200),
-    ("permit", {"ticket": 2, "unit": 3, "until": "2024-03-20"}, 200),
-    ("permit", {"ticket": 2, "unit": 1, "until": "2024-03-25"}, 200),
-    ("status", {"unit": 5, "status": "draft", "branch": False}, 200),
-    ("import/a", MOVED, 200),
-    ("import/b", OTHER, 200),
-    ("seat", {"ticket": 1}, 200),
-    ("run", "", 200),
-    ("run", "", 409),
-    ("issue", {"ticket": 1, "container": 5}, 200),
-    ("return", {"container": 5}, 200),
-    ("reshelve", "", 200),
-    ("run", "", 409),
-]
+TEXTS = pathlib.Path(__file__).with_name("lists.txt")
+SETTINGS = client.SETTINGS | {"seats": "12", "daily": "12", "hands": "2", "run": "20"}
+WITH_NAMES = {"permits", "waiting", "readers", "long-waiting", "visits", "handed"}
+MOST_SHOWN = 1000  # rows of a page
+OWN = f"""-- list: long
+-- title: Long
+-- about: Numbers.
+WITH RECURSIVE n (i) AS (SELECT 1 UNION ALL SELECT i + 1 FROM n WHERE i <= {MOST_SHOWN}) SELECT i AS "N" FROM n;
 
-
-# An office in which two orders wait for a week and two for a day, one has ended, and one is out; what the desk's log has of
-# it; and a last file of its source.
-OLD = COLUMNS + """1,,A,Docks,Fonds,Published,,
-2,1,1,Maps,Series,Published,Box 1,Room 1
-3,1,2,Deeds,Series,Published,Box 2,Room 1
-4,1,3,Plans,Series,Published,Box 3,Room 1
-5,1,4,Rolls,Series,Published,Box 4,Room 1
+-- list: places
+-- title: Places
+-- about: What lists.sql may use besides the tables of the office.
+SELECT number AS "Number", unit AS "Unit", archive AS "Archive", parent AS "Parent", code AS "Code", draft AS "Draft",
+    iif(closed, day(closed), 0) AS "Closed", home AS "Home", (SELECT group_concat(higher, ' ') FROM (
+        SELECT higher FROM above WHERE above.unit = place.unit ORDER BY higher)) AS "Above"
+FROM place ORDER BY number;
 """
-OLD_DAYS = [
-    ("import/a", OLD, 200),
-    ("register", {"name": "Ann", "until": "2030-12-31"}, 200),
-    ("register", {"name": "=Ben", "until": "2030-12-31"}, 200),
-    ("orders", {"ticket": 1, "container": 1}, 200),
-    ("orders", {"ticket": 2, "container": 4}, 200),
-    ("run", "", 200),
-    ("orders", {"ticket": 1, "container": 4}, 200),
-    ("cancel", {"order": 3}, 200),
-    ("orders", {"ticket": 1, "container": 2}, 200),
-    ("day", {"day": "2024-03-08"}, 200),
-    ("orders", {"ticket": 2, "container": 3}, 200),
-    ("run", "", 200),
-    ("orders", {"ticket": 2, "container": 2}, 200),
-    ("status", {"unit": 3, "status": "draft", "branch": False}, 200),
-    ("move", {"unit": 4, "parent": 2}, 200),
-    ("day", {"day": "2024-03-09"}, 200),
-    ("seat", {"ticket": 2}, 200),
-    ("issue", {"ticket": 2, "container": 4}, 200),
-]
-LAST_FILE = OLD.replace("Deeds,Series,Published", "Deeds,Series,published").replace(
-    "Plans,Series,Published", "Plans,Series,yes") + "2,1,9,Again,Series,Draft,,\n"
-LOG = [
-    ("seat", '{"ticket":1}', "200", "ann"), ("issue", '{"container":1,"ticket":1}', "200", "ann"),
-    ("issue", '{"container":2,"ticket":1}', "200", "bob"), ("issue", '{"container":3,"ticket":1}', "409", "ann"),
-    ("return", '{"container":2}', "200", "ann"), ("return", '{"container":1}', "504", "bob"),
-    ("leave", '{"ticket":1}', "200", "bob"), ("seat", '{"ticket":2}', "200", "bob"),
-    ("day", '{"day":"2024-03-09"}', "200", "ann"),
-    ("seat", '{"ticket":1}', "200", "ann"), ("seat", '{"ticket":"1"}', "200", "ann"), ("cancel", '{"order":1}', "200", "ann"),
-]
 
 
 class Shown(html.parser.HTMLParser):
@@ -128,15 +63,44 @@ class Shown(html.parser.HTMLParser):
             self.rows[-1][-1] += text.strip("\n")
 
 
-def make_office(program, room, checks):
-    """An office in which each list has something."""
-    office = client.Office.create(program, room / "office.db", SETTINGS)
-    said = [("import/a", FIRST, 200), *COMMANDS]
-    ended = office.talk(*(client.post(client.path_of(word), body) for word, body, _ in said))
-    statuses = [reply.status for reply in client.replies(ended.output)]
-    checks.same("the answers of the session", statuses, [status for _, _, status in said])
-    checks.same("the office", office.check(), client.SOUND)
-    return office
+def play(office, commands, checks):
+    """Gives an office these commands, each of which must have the status that it is written with."""
+    ended = office.talk(*(client.post(client.path_of(word), body) for word, body, _ in commands))
+    found = [(word, body, reply.status) for (word, body, _), reply in zip(commands, client.replies(ended.output), strict=True)]
+    checks.same(f"the answers of {office.store.name}", [one for one in found if one not in commands], [])
+    checks.same(f"the store {office.store.name}", office.check(), client.SOUND)
+
+
+def make_offices(program, room, checks):
+    """The stores of both offices, the last files and the register of the second, and which orders still wait in the first
+    once all that a run can fetch was fetched."""
+    first = client.Office.create(program, room / "first.db", SETTINGS | {"day": listed.FIRST_DAY})
+    play(first, listed.FIRST, checks)
+    later = client.Office(program, room / "later.db")
+    for end in ("", "-wal"):
+        shutil.copy(f"{first.store}{end}", f"{later.store}{end}")
+    play(later, listed.REST, checks)
+    old = client.Office.create(program, room / "old.db", SETTINGS)
+    play(old, listed.OLD_DAYS, checks)
+    return first.store, old.store, waiting_orders(later)
+
+
+def waiting_orders(office):
+    """The orders that still wait, as the program tells them."""
+    ended = office.talk(*(client.get(f"/desk/queue/{container}") for container in range(1, 13)))
+    return sorted(line["order"] for queue in client.replies(ended.output) for line in queue.json()["waiting"])
+
+
+def take_in_log(checks, register):
+    """The register takes in each line of the log once, and no line that is of no command that was done."""
+    lines = [json.dumps({"id": f"{number:032x}", "at": f"{1709000000 + number}.5", "time": f"{time}:00+00:00", "staff": staff,
+                         "path": f"/desk/{command}", "asked": asked, "status": status})
+             for number, (time, command, asked, status, staff) in enumerate(listed.LOG)]
+    wrong = [lines[0].replace(f"{0:032x}", "0"), lines[0][:50], "", "no JSON", "[]"]
+    said = "\n".join([*lines, *wrong]).encode()
+    for wanted in (f"{listed.TAKEN_IN} new\n", "0 new\n"):
+        ended = subprocess.run([LISTS / "record-office-register", register], input=said, capture_output=True, check=True)
+        checks.same("what the register has taken in", ended.stdout.decode(), wanted)
 
 
 def run_lists(copy, folder, *words, stdout=subprocess.PIPE):
@@ -156,94 +120,65 @@ def rows_of(path):
         return list(csv.DictReader(lines))
 
 
-def columns_of(folder, name, *columns):
-    """Some columns of a list's CSV file."""
-    return [tuple(row[column] for column in columns) for row in rows_of(folder / f"{name}.csv")]
+def wanted_lists(office):
+    """What the lists of an office must be, by their names."""
+    parts = re.split(r"^== (.*)\n", TEXTS.read_text(encoding="utf-8"), flags=re.M)[1:]
+    named = [(*name.split("/"), text) for name, text in zip(parts[::2], parts[1::2])]
+    return {name: text for whose, name, text in named if whose == office}
 
 
-def check_lists(checks, folder, waiting):
-    """Each list against what was done above."""
-    checks.same("drafts", columns_of(folder, "drafts", "Unit", "Source", "legacyId", "Title", "Code"),
-                [("2", "a", "2", MARKUP, "GB 0999 A/1"), ("5", "a", "5", "A map", "GB 0999 A/3/1")])
-    checks.same("closures that end soon", columns_of(folder, "closures", "Opens on", "Unit", "Title"),
-                [("2024-04-01", "3", f"'{FORMULA}")])
-    columns = "Last day", "Ticket", "Reader", "Unit", "Closed until"
-    checks.same("permits that end soon", columns_of(folder, "permits", *columns),
-                [("2024-03-20", "2", "'+Ben", "3", "2024-04-01"), ("2024-03-25", "2", "'+Ben", "1", "2030-01-01")])
-    columns = ("Order", "Reader", "Why", "Containers of the same name")
-    checks.same("orders that no run can fetch", columns_of(folder, "waiting", *columns), [
-        ("1", "<i>Ann</i>", "unit 3 in it is closed until 2024-04-01, and the reader has no permit", ""),
-        ("2", "'+Ben", "order 1 is before it and cannot be fetched", ""),
-        ("3", "<i>Ann</i>", "unit 5 in it is a draft, or below one", ""),
-        ("4", "<i>Ann</i>", "no unit names this container any more", "7"),
-    ])
-    unfetched = [int(order) for (order,) in columns_of(folder, "waiting", "Order")]
-    checks.same("and these are what the runs left", unfetched, waiting)
-    checks.same("boxes that archives share", columns_of(folder, "shared", "Container", "Name", "Archive", "Unit"),
-                [("5", "Box 5", "GB 0999 A", "1"), ("5", "Box 5", "GB 0999 B", "9")])
-    checks.same("boxes that no unit names", columns_of(folder, "unnamed", "Container", "Name", "Location", "Orders"),
-                [("4", "Box 4", "Room 1", "1")])
-    checks.same("who had a box", columns_of(folder, "readers", "Container", "Order", "Ordered on", "Reader", "State"),
-                [("5", "5", "2024-03-01", "<i>Ann</i>", "returned")])
-    figures = "Tickets", "Orders", "Cancelled", "Productions"
-    checks.same("figures by month", columns_of(folder, "months", "Month", *figures),
-                [("2024-03", "2", "6", "1", "1")])
-    checks.same("figures by archive", columns_of(folder, "archives", "Archive", *figures),
-                [("", "1", "1", "0", "0"), ("GB 0999 A", "2", "5", "1", "1"), ("GB 0999 B", "1", "1", "0", "1")])
-    checks.same("units that the file does not name", columns_of(folder, "units-without-row-a", "legacyId"),
-                [("4",), ("5",), ("6",), ("7",), ("8",)])
-    checks.same("boxes that it does not name", columns_of(folder, "boxes-without-row-a", "Name", "Location"),
-                [("Box 3", "Room 1"), ("Box 5", "Room 1"), ("Box 6", "Room 1"), ("Box 4", "Room 9")])
+def check_lists(checks, office, folder):
+    """Each list of an office to the letter. Those of which nothing is written have no rows."""
+    wanted = wanted_lists(office)
+    for path in sorted(folder.glob("*.csv")):
+        found, text = path.read_bytes().decode(), wanted.pop(path.stem, None)
+        if text is None:
+            checks.same(f"{office}: the rows of {path.stem}", found.count("\n"), 1)
+        else:
+            checks.same(f"{office}: {path.stem}", found, "\ufeff" + text.replace("\n", "\r\n"))
+        checks.same(f"who may read {path.name}", oct(path.stat().st_mode & 0o777), "0o640")
+    checks.same(f"{office}: lists that were not made", sorted(wanted), [])
+    others = [path.name for path in folder.iterdir() if path.suffix not in (".csv", ".html")]
+    checks.same(f"{office}: what else is there", others, [])
 
 
-def make_old_office(program, room, checks):
-    """An office whose orders are old, with a last file of its source, and a register into which the log was read twice."""
-    (room / "old").mkdir()
-    office = client.Office.create(program, room / "old/office.db", SETTINGS)
-    ended = office.talk(*(client.post(client.path_of(word), body) for word, body, _ in OLD_DAYS))
-    statuses = [reply.status for reply in client.replies(ended.output)]
-    checks.same("the answers of the old office", statuses, [status for _, _, status in OLD_DAYS])
-    (room / "files").mkdir()
-    (room / "files/a.csv").write_text(LAST_FILE)
-    (room / "files/.b.new").write_text("no file of a source")
-    lines = [json.dumps({"id": f"{number:032x}", "at": f"{1709280000 + number}.5", "time": f"2024-03-01T09:{number:02}:00+00:00",
-                         "staff": staff, "path": f"/desk/{command}", "asked": asked, "status": status})
-             for number, (command, asked, status, staff) in enumerate(LOG)]
-    said = "\n".join([*lines, lines[0][:50], "", "no JSON"]).encode()
-    for wanted in (b"9 new\n", b"0 new\n"):
-        ended = subprocess.run([LISTS / "record-office-register", room / "register.db"], input=said, capture_output=True, check=True)
-        checks.same("what the register has taken in", ended.stdout, wanted)
-    return office
+def check_pages(checks, folder):
+    """Each page shows the rows of its CSV file as text, and has no element but its own."""
+    own = set("html head meta title link body main h1 p a table thead tbody tr th td ul li".split())
+    for page in sorted(folder.glob("*.html")):
+        text = page.read_text(encoding="utf-8")
+        shown = Shown(text)
+        checks.same(f"other elements of {page.name}", shown.elements - own, set())
+        if page.name != "index.html":
+            rows = [list(row.values()) for row in rows_of(page.with_suffix(".csv"))]
+            marked = [[cell.removeprefix("'") if cell[1:2] in ("=", "+") else cell for cell in row] for row in rows]
+            checks.same(f"the rows of {page.name}", shown.rows[1:], marked)
+        checks.same(f"{page.name} says as of when", "As of the copy of " in text, True)
+        if page.stem not in WITH_NAMES:
+            named = [name for name in listed.NAMES if re.search(f"{name}[<&]", text)]
+            checks.same(f"readers that {page.name} names", named, [])
 
 
-def check_old_lists(checks, folder):
-    """What waits long, stands at the desk for nobody, and differs from the last file; and who was here."""
-    columns = "Order", "Days", "Reader", "Container", "Where"
-    checks.same("orders that wait long", columns_of(folder, "long-waiting", *columns),
-                [("1", "8", "Ann", "1", "at the desk"), ("4", "8", "Ann", "2", "at the desk")])
-    columns = "Container", "Last ordered on", "Days", "Orders that wait"
-    checks.same("boxes that nobody has asked for", columns_of(folder, "idle", *columns), [("1", "2024-03-01", "8", "1")])
-    columns = "legacyId", "Unit", "What", "In the office", "In the file"
-    checks.same("what differs from the last file", columns_of(folder, "differs", *columns),
-                [("4", "4", "parentId", "2", "1"), ("4", "4", "status", "published", "draft"),
-                 ("3", "3", "status", "draft", "published")])
-    columns = "Day", "Ticket", "Reader", "Came", "Seat given by", "Left", "Seat freed by"
-    checks.same("who was here", columns_of(folder, "visits", *columns), [
-        ("2024-03-01", "1", "Ann", "09:09", "ann", "", ""),
-        ("2024-03-01", "2", "'=Ben", "09:07", "bob", "09:08", "ann"),
-        ("2024-03-01", "1", "Ann", "09:00", "ann", "09:06", "bob"),
-    ])
-    columns = "Container", "Name", "Ticket", "Issued", "Issued by", "Returned", "Taken back by"
-    checks.same("who gave what to whom", columns_of(folder, "handed", *columns),
-                [("2", "Box 2", "1", "09:02", "bob", "09:04", "ann"), ("1", "Box 1", "1", "09:01", "ann", "09:05?", "bob")])
-    checks.same("visits by month", columns_of(folder, "visit-months", "Month", "Visits", "Tickets", "Issues"),
-                [("2024-03", "3", "2", "2")])
+def check_index(checks, folder):
+    """The page that links to the lists has how many rows each has, and what was made by hand; each page has the title and
+    the words of its list."""
+    index = (folder / "index.html").read_text(encoding="utf-8")
+    linked = dict(re.findall(r'<li><a href="([^"]*)\.html">.*</a>: (\d+)</li>', index))
+    wanted = {path.stem: str(len(rows_of(path))) for path in folder.glob("*.csv") if "-without-row-" not in path.stem}
+    checks.same("how many rows each list has", linked, wanted)
+    checks.same("what was made by hand", re.findall(r"[a-z]*-without-row-a(?=\.html)", index),
+                ["boxes-without-row-a", "units-without-row-a"])
+    told = (LISTS / "lists.sql").read_text(encoding="utf-8")
+    for name, title, about in re.findall(r"^-- list: (.*)\n-- title: (.*)\n-- about: (.*)", told, re.M):
+        [path] = [*folder.glob(f"{name}.html"), *folder.glob(f"{name}-a.html")]
+        text = path.read_text(encoding="utf-8")
+        checks.same(f"the words of {name}", (f"<h1>{html.escape(title)}</h1>" in text, html.escape(about) in text), (True, True))
 
 
 def check_sentences(checks, store, room):
     """What cannot be read is said in a sentence, and a pipe that is closed in none."""
-    wrong = {"none.csv": None, "utf16.csv": NEWEST.encode("utf-16"), "other.csv": b"a,b\n1,2\n", "newest.csv": NEWEST.encode(),
-             "text.db": b"no office " * 500, "empty.db": b""}
+    wrong = {"none.csv": None, "utf16.csv": listed.NEWEST.encode("utf-16"), "other.csv": b"a,b\n1,2\n",
+             "newest.csv": listed.NEWEST.encode(), "text.db": b"no office " * 500, "empty.db": b""}
     for name, content in wrong.items():
         if content is not None:
             (room / name).write_bytes(content)
@@ -267,46 +202,56 @@ def check_sentences(checks, store, room):
     os.close(writes)
 
 
-def check_pages(checks, folder):
-    """Each page shows the rows of its CSV file as text, and has no element but its own."""
-    own = set("html head meta title link body main h1 p a table thead tbody tr th td ul li".split())
-    for page in sorted(folder.glob("*.html")):
-        shown = Shown(page.read_text(encoding="utf-8"))
-        checks.same(f"other elements of {page.name}", shown.elements - own, set())
-        if page.name != "index.html":
-            rows = [list(row.values()) for row in rows_of(page.with_suffix(".csv"))]
-            marked = [[cell.removeprefix("'") if cell[1:2] in ("=", "+") else cell for cell in row] for row in rows]
-            checks.same(f"the rows of {page.name}", shown.rows[1:], marked)
-        checks.same(f"{page.name} says as of when", "As of the copy of " in page.read_text(encoding="utf-8"), True)
-        named = page.stem in ("permits", "waiting", "readers")
-        has_names = any(name in page.read_text(encoding="utf-8") for name in ("&lt;i&gt;Ann", "+Ben"))
-        checks.same(f"{page.name} has readers' names", has_names, named)
+def check_own_lists(checks, store, room):
+    """Lists of one's own find what lists.sql tells of the tables that it may use. Of a long one the page shows the first
+    thousand rows, and the CSV file has all."""
+    folder, own = room / "own", room / "own.sql"
+    folder.mkdir()
+    own.write_text(OWN)
+    make_lists(store, folder, "--sql", own)
+    text, rows = (folder / "long.html").read_text(encoding="utf-8"), rows_of(folder / "long.csv")
+    checks.same("the last row of a long page", Shown(text).rows[-1], [str(MOST_SHOWN)])
+    checks.same("and it says so", f"{len(rows)} rows, of which these are the first {MOST_SHOWN}" in text, True)
+    checks.same("the last of its CSV file", rows[-1], {"N": str(MOST_SHOWN + 1)})
+    (folder / "long.csv").unlink()
+    check_lists(checks, "own", folder)
 
 
-def waiting_orders(office):
-    """The orders that still wait, as the program tells them."""
-    ended = office.talk(*(client.get(f"/desk/queue/{container}") for container in range(1, 8)))
-    return sorted(line["order"] for queue in client.replies(ended.output) for line in queue.json()["waiting"])
+def check_all(checks, stores, waiting, room, folder):
+    """Makes the lists of both offices, and compares them. `waiting`: the orders that no run of the program has fetched."""
+    first, old = stores
+    (room / "newest.csv").write_text(listed.NEWEST, encoding="utf-8-sig")
+    before = sorted(room.iterdir())
+    make_lists(first, folder, "--source", "a", "--file", room / "newest.csv")
+    make_lists(first, folder)
+    checks.same("nothing was made beside the copy", sorted(room.iterdir()), before)
+    check_lists(checks, "first", folder)
+    checks.same("the runs left what no run can fetch", [int(row["Order"]) for row in rows_of(folder / "waiting.csv")], waiting)
+    check_pages(checks, folder)
+    check_index(checks, folder)
+    take_in_log(checks, room / "register.db")
+    for name in ("files", "old"):
+        (room / name).mkdir()
+    for source, text in listed.LAST_FILES.items():
+        (room / f"files/{source}.csv").write_text(text)
+    (room / "files/.d.new").write_bytes(b"\xff")  # no file of a source, and not whole
+    make_lists(old, room / "old", "--files", room / "files", "--register", room / "register.db")
+    check_lists(checks, "old", room / "old")
+    check_pages(checks, room / "old")
+    check_sentences(checks, first, room)
+    check_own_lists(checks, first, room)
 
 
 def main():
-    """Makes an office and its lists, compares them, and returns the exit status."""
+    """Makes the offices and their lists, compares them, and returns the exit status."""
     words = client.options(__doc__)
-    words.add_argument("--folder", type=pathlib.Path, help="where the lists are written, and stay")
+    words.add_argument("--folder", type=pathlib.Path, help="where the lists of the first office are written, and stay")
     given, checks = words.parse_args(), client.Checks()
     with client.temporary(given.room) as room:
         folder = given.folder or room / "lists"
         folder.mkdir(parents=True, exist_ok=True)
-        office = make_office(given.program, room, checks)
-        (room / "newest.csv").write_text(NEWEST)
-        make_lists(office.store, folder, "--source", "a", "--file", room / "newest.csv")
-        make_lists(office.store, folder)
-        check_lists(checks, folder, waiting_orders(office))
-        check_pages(checks, folder)
-        old = make_old_office(given.program, room, checks)
-        make_lists(old.store, room / "old", "--files", room / "files", "--register", room / "register.db")
-        check_old_lists(checks, room / "old")
-        check_sentences(checks, office.store, room)
+        *stores, waiting = make_offices(given.program, room, checks)
+        check_all(checks, stores, waiting, room, folder)
     return checks.finish()
 
 

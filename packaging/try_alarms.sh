@@ -85,6 +85,46 @@ passing() {
     same 'no unit has failed' "$(systemctl list-units --failed --no-legend --no-pager 'record-office*')" ''
 }
 
+# says TEXT: the journal of the program's unit has this text
+says() { journal record-office | grep "$1"; }
+
+# An sqlite3 shell reads something of the office, and then waits for what comes by descriptor 9.
+shell_reads() {
+    runuser -u record-office -- sqlite3 $office </root/typed >/root/shown 2>&1 &
+    exec 9>/root/typed
+    echo 'SELECT seats FROM office;' >&9
+}
+
+# An idle sqlite3 shell that has read something: beside it the program does not start, and its process is named. One that comes
+# while the program runs reads nothing, and holds nobody up.
+shells() {
+    local holder
+    begins
+    systemctl stop record-office
+    mkfifo /root/typed
+    shell_reads
+    is 'an idle sqlite3 shell has read the office' waits grep '^12$' /root/shown
+    systemctl start record-office
+    is 'beside it the program does not start: store fault' waits says '^the program ended: exited 3.*store fault'
+    MINUTES=3 is 'after some starts the unit has failed' waits has_failed record-office
+    holder=$(says 'has failed to start' | sed -n 's/.*Process \([0-9]*\) has it open.*/\1/p')
+    same 'and says what has the office open' "$(cat "/proc/${holder:-none}/comm")" sqlite3
+    [ -z "$holder" ] || kill -KILL "$holder"
+    exec 9>&-
+    wait
+    systemctl start record-office
+    is 'once the shell is gone a start brings all back' waits is_answered
+
+    shell_reads
+    is 'a shell beside the running program reads nothing' waits grep 'database is locked' /root/shown
+    is 'and readers get an answer' is_answered
+    systemctl restart record-office
+    is 'also after a restart beside it' waits is_answered
+    exec 9>&-
+    wait
+    rm /root/typed /root/shown
+}
+
 # A process that is stopped, which systemd takes for active.
 halted() {
     local process began
@@ -189,6 +229,7 @@ by_mail
 every_unit
 damaged
 passing
+shells
 halted
 killed
 lines

@@ -20,9 +20,17 @@ answered() {
 
 status() { curl -s -o /dev/null -m 30 -w '%{http_code}' "$@"; }
 
-# waits COMMAND ..: until the command succeeds, or for a minute
+# hidden PROCESS PATH ..: a process that runs sees none of these paths, whatever their modes
+hidden() {
+    local process=$1 path
+    shift
+    test -d "/proc/$process/root/usr" || return
+    for path; do test ! -e "/proc/$process/root$path" || return; done
+}
+
+# waits COMMAND ..: until the command succeeds, or for a minute, or MINUTES
 waits() {
-    local end=$((SECONDS + 60))
+    local end=$((SECONDS + 60 * ${MINUTES:-1}))
     until "$@" >/dev/null 2>&1; do
         [ $SECONDS -lt $end ] || return
         sleep 0.2

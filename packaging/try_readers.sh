@@ -92,6 +92,8 @@ hardened() {
         'unix may inet may not inet6 may not netlink may not packet may not'
     same 'it has no network but loopback' "$(grep '^interfaces' /tmp/probe)" 'interfaces lo'
     same 'it sees neither the office nor the passwords' "$(grep -E '^(office|passwords|home) ' /tmp/probe | xargs)" 'office may not passwords may not home may not'
+    is 'nor are they there for it, whatever their modes' hidden "$(systemctl show -p MainPID --value $unit)" \
+        /var/lib/record-office/office.db /etc/record-office/staff
     same 'it reaches the queue' "$(grep '^queue' /tmp/probe)" 'queue may'
     same 'it writes nowhere else, and executes nothing that it wrote' "$(grep -E '^(write|execute|unshare|root) ' /tmp/probe | xargs)" \
         'write may not execute may not unshare may not root may not'

@@ -17,10 +17,19 @@ query() {
     sqlite3 "$copy" "$1"
 }
 
+# twice TICKET: the reader's name is in the file twice, as after a change by an SQLite that does not overwrite what it deletes
+twice() {
+    systemctl stop record-office
+    runuser -u record-office -- sqlite3 $office "PRAGMA secure_delete = OFF; UPDATE reader SET name = name || ' Smith' WHERE ticket = $1" >/tmp/said
+    systemctl start record-office
+}
+
 # A reader who has a closed box by a permit, and whose name stands in a list, a copy and an office that was put aside.
 reader() {
     local ticket
-    ticket=$(ask register '{"name":"Zephyrine","until":"2030-12-31"}' | tr -cd 0-9)
+    ticket=$(ask register '{"name":"Zephyrine Wilhelmina Margarethe","until":"2030-12-31"}' | tr -cd 0-9)
+    ask register '{"name":"Yvonne","until":"2030-12-31"}' >/tmp/said
+    twice "$ticket"
     ask closure '{"unit":2,"until":"2030-01-01"}' >/tmp/said
     ask permit "{\"ticket\":$ticket,\"unit\":2,\"until\":\"2030-01-01\"}" >/tmp/said
     curl -s -u desk:quiet-paper -d "{\"ticket\":$ticket,\"container\":1}" $desk/public/orders >/tmp/said
@@ -35,11 +44,12 @@ reader() {
     ask return '{"container":1}' >/tmp/said
     ask reshelve '' >/tmp/said
     systemctl start record-office-backup
+    is 'a copy may have the name twice' test "$(grep -ao Zephyrine "$copy" | wc -l)" -gt 1
     record-office-restore "$copy" >/tmp/said
     is 'the reader is erased' record-office-erase "$ticket"
     cp /tmp/out /tmp/said
     for place in "$copy " "$lists/readers.html " "${office%/*}/replaced-"; do is "it is said that the name is in $place" grep "the name is still in $place" /tmp/said; done
-    same 'the file has the name no more' "$(cat $office* | grep -c Zephyrine)" 0
+    same 'no byte of the file or its log has the name' "$(cat $office* | grep -c Zephyrine)" 0
     same 'nor a permit' "$(ask "permits/$ticket")" '[]'
     same 'with the ticket nobody can order' "$(curl -s -u desk:quiet-paper -d "{\"ticket\":$ticket,\"container\":2}" $desk/public/orders | grep -o '"code":[0-9]*')" '"code":4'
     rm -r "${office%/*}"/replaced-*
@@ -60,7 +70,7 @@ tries() {
     is 'so is a status that stays' sh -c "printf %s '$answer' | grep '\"publicationStatus\", \"draft\", \"published\"'"
     is 'the office is as it was' sh -c "curl -s $desk/public/units/2 -u desk:quiet-paper | grep Minutes"
     pid=$(systemctl show -p MainPID --value record-office-try)
-    is 'the service does not see the office' sh -c "test ! -e /proc/$pid/root$office"
+    is 'the service does not see the office' hidden "$pid" $office
     is 'it has no network' sh -c "nsenter -t $pid -n ip -br link 2>/dev/null | grep -vq '^lo' && exit 1; exit 0"
     same 'a file is kept' "$(curl -s -u desk:quiet-paper --data-binary @/root/tried.csv $desk/try/imported/catalogue)" '{"kept": "catalogue"}'
     systemctl start record-office-backup

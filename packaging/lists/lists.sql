@@ -79,9 +79,9 @@ behind AS (
 )
 SELECT waiting.id AS "Order", day(waiting.day) AS "Ordered on", waiting.ticket AS "Ticket", reader.name AS "Reader",
     container.id AS "Container", container.name AS "Name", container.location AS "Location", found.text AS "Why",
-    (SELECT group_concat(other.id) FROM container AS other
+    (SELECT group_concat(id) FROM (SELECT other.id FROM container AS other
         WHERE other.name = container.name AND other.id <> container.id
-        AND EXISTS (SELECT 1 FROM housing WHERE housing.container = other.id)) AS "Containers of the same name"
+        AND EXISTS (SELECT 1 FROM housing WHERE housing.container = other.id) ORDER BY other.id)) AS "Containers of the same name"
 FROM waiting
 JOIN (SELECT order_id, text FROM not_open UNION ALL SELECT order_id, text FROM behind) AS found ON order_id = waiting.id
 JOIN reader USING (ticket) JOIN container ON container.id = waiting.container
