@@ -296,7 +296,7 @@ def page(checks, program, folder, browser, shot):
         tab.js("(() => { const one = document.querySelector('.differences select'); one.value = 'status';"
                " one.dispatchEvent(new Event('input')); })()")
         checks.same("the filter by kind", rows_shown(tab), 1)
-        tab.see("The file’s status is another", ".differences")
+        tab.see("The status in the file is another", ".differences")
         tab.fill("With these letters", "nothing so")
         tab.js("document.activeElement.dispatchEvent(new Event('input'))")
         tab.see("Nothing of this kind.", ".differences")

@@ -23,8 +23,8 @@ KINDS = {
     "changed": "Changed",
     "boxes": "Other boxes",
     "new": "New",
-    "status": "The file’s status is another, and the import does not change it",
-    "place": "The file’s place is another, and the import does not change it",
+    "status": "The status in the file is another, and the import does not change it",
+    "place": "The place in the file is another, and the import does not change it",
     "lacking": "Not in the file; the import leaves it",
 }
 COLUMNS = ("kind", "row", "legacyId", "unit", "title", "what", "old", "new", "codes")
