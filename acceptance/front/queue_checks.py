@@ -111,12 +111,14 @@ def heads(checks, office):
 
 def of_a_reader(checks, office):
     """What the readers' service is told: who asks, from where, in which language, and whether it reads all pages."""
+    rounds = office.count_rounds()
     with office.without_readers(*SELDOM), StandIn(office.listen, at_once=4) as service:
         os.chmod(office.listen, 0o666)
         for path in ("/unit/1", "/aid/1", "/search?q=x", "/public/aid/1"):
             for agent in ("Mozilla/5.0", "Examplebot/1.0"):
                 ask(office, path, headers={"User-Agent": agent, "Accept-Language": "de", "Cookie": "lang=fr", "X": "y"}).read()
         told = [sorted(head.lower().split("\r\n")) for head, _ in service.requests]
+    until(lambda: office.count_rounds() > rounds, "the round that the service began is over")
     lines = [f"host: 127.0.0.1:{office.ports['8080']}", "accept-language: fr", "record-office-room: 0",
              "x-forwarded-for: 127.0.0.1", "x-forwarded-proto: http"]
     checks.same("what the service is told", told, [
