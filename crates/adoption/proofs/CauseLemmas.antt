@@ -1,15 +1,22 @@
 -- The checks of the parts, one after another, tell the least cause.
-use Rattle.std.proofs.Common.{◌≡◌, ℕ, List, [], ◌∷◌, Bool, true, false, cond, ◌||◌, Option, Some, None, option_map, unwrap_or, inl, inr, refl, sym, ap, ◌∙◌}
+use Rattle.std.proofs.Common.{◌≡◌, ℕ, List, [], ◌∷◌, Bool, true, false, cond, ◌||◌, Option, Some, None, option_map}
+use Rattle.std.proofs.Common.{unwrap_or, inl, inr, refl, sym, ap, ◌∙◌}
 use Rattle.office_tables.specs.Schema as tables
+use Rattle.integrity_checks.specs.CatalogueChecks.{cause_of, catalogue_defect, units_are_defective}
+use Rattle.integrity_checks.specs.CatalogueChecks.{elements_are_defective, containers_are_defective}
 use Rattle.integrity_checks.specs.DeskChecks as desk
-use Rattle.integrity_checks.specs.declared.desk_defect.DeskDefect.{DeskDefect}
-use Rattle.integrity_checks.specs.CatalogueChecks.{cause_of, catalogue_defect, units_are_defective, elements_are_defective, containers_are_defective}
-use Rattle.integrity_checks.specs.declared.catalogue_defect.CatalogueDefect.{CatalogueDefect}
-use Rattle.integrity_checks.specs.declared.catalogue_defect.CatalogueDefect.TheVariants.{Places, Units, Elements, Containers}
 use Rattle.integrity_checks.specs.PlaceChecks.{places_are_defective}
+use Rattle.integrity_checks.specs.declared.catalogue_defect.CatalogueDefect.{CatalogueDefect}
+use Rattle.integrity_checks.specs.declared.catalogue_defect.CatalogueDefect.TheVariants.{Places, Units, Elements}
+use Rattle.integrity_checks.specs.declared.catalogue_defect.CatalogueDefect.TheVariants.{Containers}
+use Rattle.integrity_checks.specs.declared.desk_defect.DeskDefect.{DeskDefect}
 use Rattle.adoption.specs.Causes.{CatalogueChecksTellTheCause}
-use Rattle.adoption.specs.Judgments.{HasGoodCatalogue}
-use Rattle.adoption.proofs.Common.{AreGoodTables, AreOfOffice, Database, First, OfficeRows, OwnRow, Second, Trees, Version, around, cases_Bool, catalogue_cell_cause, cell_cause, containers_are_bad, day_is_broken, elements_are_bad, encoding, first_held, has_unread, is_between, of_desk, office_is_defective, own_of, own_row_of, places_are_bad, places_are_unread, read_container, read_element, read_housing, read_unit, rows_in, units_are_bad}
+use Rattle.adoption.proofs.Common.{AreGoodTables, AreOfOffice, Database, First, HasGoodCatalogueTables, OfficeRows}
+use Rattle.adoption.proofs.Common.{OwnRow, Second, Trees, Version, around, cases_Bool, catalogue_cell_cause, cell_cause}
+use Rattle.adoption.proofs.Common.{containers_are_bad, day_is_broken, elements_are_bad, encoding, first_held}
+use Rattle.adoption.proofs.Common.{has_unread, is_between, of_desk, office_is_defective, own_of, own_row_of}
+use Rattle.adoption.proofs.Common.{places_are_bad, places_are_unread, read_container, read_element, read_housing}
+use Rattle.adoption.proofs.Common.{read_unit, rows_in, units_are_bad}
 use Rattle.adoption.proofs.DeskChecked.{told_alike}
 
 -- ---- 2 to 5
@@ -195,7 +202,7 @@ module _ (version : Version) (db : Trees) where
       fine_desk : None ≡ desk.desk_defect own.limits own.today db → of_desk (cell_cause version db) ≡ None
       fine_desk told = no_cause_of_desk (desk.desk_defect own.limits own.today db) (sym told) alike
 
-pub good_tables : (version : Version) (db : Database) (own : OwnRow) → HasGoodCatalogue version own db
+pub good_tables : (version : Version) (db : Database) (own : OwnRow) → HasGoodCatalogueTables version own db
     → None ≡ desk.desk_defect own.limits own.today db.trees → AreGoodTables version db
 good_tables version db own it told = record {
   schema_is = it.schema_is;

@@ -1,13 +1,15 @@
 -- Tables against which there is none of the causes 1 to 9: what is told of the state that they show is told of their rows.
 use Rattle.std.proofs.Common.{◌≡◌, ℕ, Bool, Some, Result, Ok, Err, IfErr, sym, ap}
+use Rattle.std.proofs.lemmas.Result.{IfOk-weaker}
 use Rattle.sqlite.specs.State.{State}
 use Rattle.sqlite_trees.specs.declared.store.Store as store
 use Rattle.office_tables.specs.Calls.{Answers}
-use Rattle.refinement.specs.DayRules.{breaks_day_rules}
-use Rattle.refinement.specs.AccessConditions.{CanBeJudged, RepresentsWhole}
 use Rattle.refinement.proofs.Tellings.{looked_crash}
-use Rattle.std.proofs.lemmas.Result.{IfOk-weaker}
-use Rattle.adoption.proofs.Common.{AreGoodTables, BlamesDisk, Forest, GoodTablesRepresentTheirState, HasCleanDisk, Held, IfOk, Judges, OwnRow, StoreFault, Trees, Version, day_is_broken, described_state, own_row_of, rows_in, state, ⊤}
+use Rattle.refinement.specs.AccessConditions.{CanBeJudged, RepresentsWhole}
+use Rattle.refinement.specs.DayRules.{breaks_day_rules}
+use Rattle.adoption.proofs.Common.{AreGoodTables, BlamesDisk, Forest, GoodTablesRepresentTheirState, HasCleanDisk, Held}
+use Rattle.adoption.proofs.Common.{IfOk, Judges, OwnRow, StoreFault, Trees, Version, day_is_broken, described_state}
+use Rattle.adoption.proofs.Common.{own_row_of, rows_in, state, ⊤}
 use Rattle.adoption.proofs.CauseLemmas.{own_row_is}
 
 for_each : (r : Result Bool StoreFault) (A B : Type 0) (P : Bool → Type 0) → (A → B → IfOk r P)
@@ -24,7 +26,7 @@ module _ (places : Trees → Forest ℕ → Type 0) (v : Version) {S : Type 0} (
 
   -- what is told where the tables show a state
   abbrev pub TellsTheDay : Type 0
-  TellsTheDay = Answers g (RepresentsWhole places v) CanBeJudged before after r (λ _. ⊤) (λ _ s broken. CanBeJudged s → own.today ≡ s.day → own.limits.hands ≡ s.settings.hands → broken ≡ breaks_day_rules s)
+  TellsTheDay = Answers g (RepresentsWhole places v) before after r (λ _. ⊤) CanBeJudged (λ _ s broken. CanBeJudged s → own.today ≡ s.day → own.limits.hands ≡ s.settings.hands → broken ≡ breaks_day_rules s)
 
   module _ (law : GoodTablesRepresentTheirState places v old.now) (told : TellsTheDay) where
     day_told : HasCleanDisk new → own_row_of v old.now.trees ≡ Some own → AreGoodTables v old.now

@@ -1,13 +1,22 @@
 -- The check of the desk's tables tells what the list of causes does.
-use Rattle.std.proofs.Common.{◌≡◌, ℕ, ℤ, List, [], ◌∷◌, Bool, true, false, cond, ◌||◌, nat_eq, Option, Some, None, is_none, filter_map, option_map, refl, sym, ap, ap₂, ◌∙◌}
+use Rattle.std.proofs.Common.{◌≡◌, ℕ, ℤ, List, [], ◌∷◌, Bool, true, false, cond, ◌||◌, nat_eq, Option, Some, None}
+use Rattle.std.proofs.Common.{is_none, filter_map, option_map, refl, sym, ap, ap₂, ◌∙◌}
 use Rattle.std.specs.Cmp.{both_ways}
 use Rattle.desk_core.specs.declared.reader.Limits.{Limits}
-use Rattle.office_tables.specs.Schema as tables
 use Rattle.office_tables.proofs.ByNumber.{any_ordered}
-use Rattle.integrity_checks.specs.DeskChecks.{around_in, is_numbered, cause_of, registration_is_defective, orders_are_defective, holdings_are_defective, runs_are_defective, defect_of_desk}
+use Rattle.office_tables.specs.Schema as tables
 use Rattle.row_decoding.specs.Readings.{read_number}
+use Rattle.integrity_checks.specs.DeskChecks.{around_in, is_numbered, cause_of, registration_is_defective}
+use Rattle.integrity_checks.specs.DeskChecks.{orders_are_defective, holdings_are_defective, runs_are_defective}
+use Rattle.integrity_checks.specs.DeskChecks.{defect_of_desk}
 use Rattle.integrity_checks.specs.declared.desk_defect.DeskDefect.TheVariants.{Readers, Orders, Holdings, Runs}
-use Rattle.adoption.proofs.Common.{Around, ContainerRow, DeskChecksTellTheCause, OfficeRows, Row, Trees, UnitRow, Version, around, by, column, cons_option, containers_are_bad, day_is_broken, elements_are_bad, encoding, eq-eqb, eqb-true, first_held, flag_in, from_first, has_unread, in_order, list_any, none_held, number_in, of_desk, office_is_bad, or_null_in, or_parts, places_are_bad, places_are_unread, read_container, read_element, read_housing, read_office, read_unit, rows_in, text_in, units_are_bad, whole_in}
+use Rattle.adoption.proofs.Common.{Around, ContainerRow, DeskChecksTellTheCause, OfficeRows, Row, Trees, UnitRow}
+use Rattle.adoption.proofs.Common.{Version, around, by, column, cons_option, containers_are_bad, day_is_broken}
+use Rattle.adoption.proofs.Common.{elements_are_bad, encoding, eq-eqb, eqb-true, first_held, flag_in, from_first}
+use Rattle.adoption.proofs.Common.{has_unread, in_order, list_any, none_held, number_in, of_desk, office_is_bad}
+use Rattle.adoption.proofs.Common.{or_null_in, or_parts, places_are_bad, places_are_unread, read_container}
+use Rattle.adoption.proofs.Common.{read_element, read_housing, read_office, read_unit, rows_in, text_in, units_are_bad}
+use Rattle.adoption.proofs.Common.{whole_in}
 
 -- ---- which units and containers there are
 

@@ -1,15 +1,17 @@
 -- How a call ends that judges tables.
 use Rattle.std.proofs.Common.{◌≡◌, Ok, Err, Result, sym, subst}
 use Rattle.std.specs.Prelude.{IfErr}
-use Rattle.sqlite_trees.specs.declared.store.Store as store
 use Rattle.sqlite.specs.State.{State}
-use Rattle.office_tables.specs.declared.fault.StoreFault.TheVariants as fault
+use Rattle.sqlite_trees.specs.declared.store.Store as store
 use Rattle.office_tables.proofs.CallEnds.{excused_then, same_fault}
 use Rattle.office_tables.proofs.Causes.{still_unlimited}
 use Rattle.office_tables.proofs.LaterCauses.{next_cause}
 use Rattle.office_tables.proofs.WriteCauses.{disk_then, last_disk}
+use Rattle.office_tables.specs.declared.fault.StoreFault.TheVariants as fault
 use Rattle.row_decoding.specs.Examinations.{Examines}
-use Rattle.adoption.proofs.Common.{BlamesDisk, Database, HasCause, HasCleanDisk, Held, IfOk, IsAborted, IsErr, IsErrAnd, IsSame, IsUnlimited, Judges, LeavesUnchanged, Spares, StoreFault, Trees, cut_after, cut_then, early, state, ⊤}
+use Rattle.adoption.proofs.Common.{BlamesDisk, Database, HasCause, HasCleanDisk, Held, IfOk, IsAborted, IsErr, IsErrAnd}
+use Rattle.adoption.proofs.Common.{IsSame, IsUnlimited, Judges, LeavesUnchanged, Spares, StoreFault, Trees, cut_after}
+use Rattle.adoption.proofs.Common.{cut_then, early, state, ⊤}
 use Rattle.adoption.proofs.Lookings.{looked_then, looked_well}
 
 -- the result is this fault

@@ -1,18 +1,22 @@
 -- The rows of the tables of an office of this product stand in order.
 use Rattle.std.proofs.Common.{◌≡◌, ℕ, ℤ, pos, List, [], ◌∷◌, map, Less, refl, sym, ap₂, subst, ◌∙◌, IsTrue, ap}
+use Rattle.isad_core.specs.declared.values.BoxKey.{BoxKey}
 use Rattle.tree_core.specs.declared.rows.Link.{Link}
 use Rattle.tree_core.specs.declared.rows.Span.{Span}
-use Rattle.isad_core.specs.declared.values.BoxKey.{BoxKey}
-use Rattle.catalogue_statements.specs.Rows.{unit_row, container_row}
-use Rattle.catalogue_statements.proofs.Numbered.{counted_rises as boxes_rise}
-use Rattle.office_core.specs.State.{State}
-use Rattle.office_tables.specs.RowCells.{element_cells, housing_cells}
 use Rattle.office_tables.specs.Schema as tables
+use Rattle.catalogue_statements.proofs.Numbered.{counted_rises as boxes_rise}
+use Rattle.catalogue_statements.specs.Rows.{numbered_container_cells}
+use Rattle.nested_sets.specs.Representation.{RepresentsSpanRows}
+use Rattle.office_core.specs.State.{State}
 use Rattle.state_encoding.specs.OfficeRows.{tables as tables_of}
 use Rattle.refinement.specs.Representation.{RepresentsState}
-use Rattle.nested_sets.specs.Representation.{RepresentsSpanRows}
 use Rattle.adoption.specs.OwnTables.{ShownTablesStandInOrder}
-use Rattle.adoption.proofs.Common.{AllByRecursion, Database, First, Forest, HasNumbered, HoldingRow, Int, IsTable, OrderRow, ReaderRow, RepresentsLinkRows, Rises, Row, RunRow, SeatRow, Second, StandInOrder, StandsInOrder, Trees, Unit, Version, column, counted_from, counted_rises, encoding, holding_cells, int_cmp, is_int, link_cells, order_cells, permit_cells, reader_cells, run_cells, run_line_cells, schema, seat_cells, span_cells, value_cmp, value_cmp-Int}
+use Rattle.adoption.proofs.Common.{AllByRecursion, Database, First, Forest, HasNumbered, HoldingRow, Int, IsTable}
+use Rattle.adoption.proofs.Common.{OrderRow, ReaderRow, RepresentsLinkRows, Rises, Row, RunRow, SeatRow, Second}
+use Rattle.adoption.proofs.Common.{StandInOrder, StandsInOrder, Trees, Unit, Version, cells_of_unit, column}
+use Rattle.adoption.proofs.Common.{counted_from, counted_rises, element_cells, encoding, holding_cells, housing_cells}
+use Rattle.adoption.proofs.Common.{int_cmp, is_int, link_cells, order_cells, permit_cells, reader_cells, run_cells}
+use Rattle.adoption.proofs.Common.{run_line_cells, schema, seat_cells, span_cells, value_cmp, value_cmp-Int}
 
 -- ---- a table whose rows stand by their numbers
 
@@ -69,11 +73,11 @@ module _ (v : Version) (places : Trees → Forest ℕ → Type 0) (place : (db :
                     (
                       office_ordered,
                       (
-                        stored_ordered unit_row (λ (u : Unit). pos u.id) (λ u. refl) (db_trees tables.unit.tree) c.units.units c.units.rows c.units.rise,
+                        stored_ordered cells_of_unit (λ (u : Unit). pos u.id) (λ u. refl) (db_trees tables.unit.tree) c.units.units c.units.rows c.units.rise,
                         (
                           numbered_ordered element_cells (λ r. refl) (db_trees tables.element.tree) c.elements.elements c.elements.rows,
                           (
-                            stored_ordered container_row (λ (box : ℕ × BoxKey). pos box.0) (λ r. refl) (db_trees tables.container.tree) (counted_from 1 s.catalogue.containers) c.containers (boxes_rise 1 s.catalogue.containers),
+                            stored_ordered numbered_container_cells (λ (box : ℕ × BoxKey). pos box.0) (λ r. refl) (db_trees tables.container.tree) (counted_from 1 s.catalogue.containers) c.containers (boxes_rise 1 s.catalogue.containers),
                             (
                               numbered_ordered housing_cells (λ r. refl) (db_trees tables.housing.tree) c.housings.housings c.housings.rows,
                               (

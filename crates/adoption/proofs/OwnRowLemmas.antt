@@ -1,26 +1,34 @@
 -- The office's own row is judged as the list of causes has it.
-use Rattle.std.proofs.Common.{◌≡◌, inl, inr, ℕ, pos, ◌+◌, List, [], ◌∷◌, ◌++◌, length, map, codes, Bool, true, false, cond, not, ◌&&◌, ◌||◌, nat_eq, Option, Some, None, is_none, filter_map, unwrap_or, refl, sym, ap, subst, subst₂, ◌∙◌, arith, length-append, ℤ}
+use Rattle.std.proofs.Common.{◌≡◌, inl, inr, ℕ, pos, ◌+◌, List, [], ◌∷◌, ◌++◌, length, map, codes, Bool, true, false}
+use Rattle.std.proofs.Common.{cond, not, ◌&&◌, ◌||◌, nat_eq, Option, Some, None, is_none, filter_map, unwrap_or, refl}
+use Rattle.std.proofs.Common.{sym, ap, subst, subst₂, ◌∙◌, arith, length-append, ℤ}
 use Rattle.std.proofs.Math.Nat.{le_refl}
 use Rattle.std.proofs.lemmas.List.{length-map}
-use Rattle.sqlite.specs.Term.{Term, col}
+use Rattle.std.specs.declared.cmp.Ordering.TheVariants.{Less, Equal}
+use Rattle.sqlite.proofs.Callers.{one_permutation}
 use Rattle.sqlite.specs.Collation.TheVariants.{Binary}
-use Rattle.sqlite_value.specs.declared.keys.Key.{Key}
 use Rattle.sqlite.specs.Command.TheVariants.{Select}
 use Rattle.sqlite.specs.Listing.{understood}
 use Rattle.sqlite.specs.State.{State, Shown}
-use Rattle.sqlite.proofs.Callers.{one_permutation}
+use Rattle.sqlite.specs.Term.{Term, col}
 use Rattle.sqlite_tied.specs.Compute.{everything}
-use Rattle.std.specs.declared.cmp.Ordering.TheVariants.{Less, Equal}
+use Rattle.sqlite_value.specs.declared.keys.Key.{Key}
 use Rattle.isad_core.specs.Days.{is_day_number}
 use Rattle.isad_core.specs.Limits.{most_unit_numbers, most_seats, most_daily, most_hands, most_run_size}
 use Rattle.isad_core.specs.Texts.{Bytes}
-use Rattle.office_core.specs.Words.{first}
-use Rattle.office_tables.specs.StatementMeaning.{Means}
 use Rattle.office_tables.proofs.Queries.{asking}
+use Rattle.office_tables.specs.StatementMeaning.{Means}
 use Rattle.row_decoding.proofs.TableReads.{in_table, was_open}
 use Rattle.row_decoding.specs.Readings.{by_rowid}
+use Rattle.office_core.specs.Words.{first}
 use Rattle.adoption.specs.declared.own_row.Numbers.{Numbers}
-use Rattle.adoption.proofs.Common.{AllByRecursion, AreOwnRows, Database, First, Int, IsDatabase, IsLive, IsPermutation, IsTable, OfficeRow, OwnRow, Row, Schema, Second, StandInOrder, StandsInOrder, Table, Version, are_good_numbers, ascending, cases_Bool, column, cons_option, eqb-true, from, from_first, has_unread, is_between, is_country, is_good_office, is_number, is_repository, length_permutation, no_office, number_in, office, office_cells_back, office_numbers, option_map_or, or_parts, own_from, own_judged, own_of, read_office, schema, text_in, then-Equal, value_cmp, value_cmp-Int, version_number, whole_in}
+use Rattle.adoption.proofs.Common.{AllByRecursion, AreOwnRows, Database, First, Int, IsDatabase, IsLive, IsPermutation}
+use Rattle.adoption.proofs.Common.{IsTable, OfficeRow, OwnRow, Row, Schema, Second, StandInOrder, StandsInOrder, Table}
+use Rattle.adoption.proofs.Common.{Version, are_good_numbers, ascending, cases_Bool, column, cons_option, eqb-true}
+use Rattle.adoption.proofs.Common.{from, from_first, has_unread, is_between, is_country, is_good_office, is_number}
+use Rattle.adoption.proofs.Common.{is_repository, length_permutation, no_office, number_in, office, office_cells_back}
+use Rattle.adoption.proofs.Common.{office_numbers, option_map_or, or_parts, own_from, own_judged, own_of, read_office}
+use Rattle.adoption.proofs.Common.{schema, text_in, then-Equal, value_cmp, value_cmp-Int, version_number, whole_in}
 
 -- ---- one row
 

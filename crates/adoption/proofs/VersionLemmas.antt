@@ -1,16 +1,23 @@
 -- What comes of the question for the version.
-use Rattle.std.proofs.Common.{◌≡◌, ◌≢◌, ◌⊎◌, ◌≤◌, ◌<◌, ◌&&◌, inl, inr, ℕ, zero, suc, pos, List, [], ◌∷◌, length, slice_index_or, Bool, true, false, cond, nat_le, nat_lt, Option, Some, None, unwrap_or, IsSome, IsTrue, arith, refl, sym, ap, subst, ◌∙◌}
+use Rattle.std.proofs.Common.{◌≡◌, ◌≢◌, ◌⊎◌, ◌≤◌, ◌<◌, ◌&&◌, inl, inr, ℕ, zero, suc, pos, List, [], ◌∷◌, length}
+use Rattle.std.proofs.Common.{slice_index_or, Bool, true, false, cond, nat_le, nat_lt, Option, Some, None, unwrap_or}
+use Rattle.std.proofs.Common.{IsSome, IsTrue, arith, refl, sym, ap, subst, ◌∙◌}
+use Rattle.sqlite.proofs.StateLemmas.{survives_weaker}
 use Rattle.sqlite.specs.Command.{Command}
-use Rattle.sqlite_schema.specs.declared.program.Program.{Program}
 use Rattle.sqlite.specs.Command.TheVariants as command
 use Rattle.sqlite.specs.State.{State, Shown, FailsToQuery, IsNotRun, CommitsShowing}
 use Rattle.sqlite.specs.declared.error.Error.{Error}
-use Rattle.sqlite.proofs.StateLemmas.{survives_weaker}
-use Rattle.office_tables.specs.declared.fault.StoreFault.TheVariants as fault
+use Rattle.sqlite_schema.specs.declared.program.Program.{Program}
 use Rattle.office_tables.proofs.Causes.{failed_cause, failed_outer}
 use Rattle.office_tables.proofs.Errors.{fails}
+use Rattle.office_tables.specs.declared.fault.StoreFault.TheVariants as fault
 use Rattle.adoption.specs.declared.verdict.Verdict.TheVariants as verdict
-use Rattle.adoption.proofs.Common.{CannotTell, Database, Fails, First, HasCause, HasCleanDisk, HasOuterCause, Int, IsAborted, IsNoStatement, IsToldVersion, IsUnchanged, IsUnlimited, IsVersionVerdict, LeavesUnchanged, RefusesQuery, RefusesToRead, Row, Second, ShowsVersions, Survives, TellsNoOther, TellsVersion, Trees, Value, Version, and_cases, and_parts, column, early, fault_of, is_number, leb-false, leb-true, ltb-false, ltb-true, newest, number_in, stopped, unchanged_on, verdict_of_version, version_number, version_text}
+use Rattle.adoption.proofs.Common.{CannotTell, Database, Fails, First, HasCause, HasCleanDisk, HasOuterCause, Int}
+use Rattle.adoption.proofs.Common.{IsAborted, IsNoStatement, IsToldVersion, IsUnchanged, IsUnlimited, IsVersionVerdict}
+use Rattle.adoption.proofs.Common.{LeavesUnchanged, RefusesQuery, RefusesToRead, Row, Second, ShowsVersions, Survives}
+use Rattle.adoption.proofs.Common.{TellsNoOther, TellsVersion, Trees, Value, Version, and_cases, and_parts, column}
+use Rattle.adoption.proofs.Common.{early, fault_of, is_number, leb-false, leb-true, ltb-false, ltb-true, newest}
+use Rattle.adoption.proofs.Common.{number_in, stopped, unchanged_on, verdict_of_version, version_number, version_text}
 use Rattle.adoption.proofs.Asked.{understood_with}
 
 -- a query that is refused, beside the failures of the store

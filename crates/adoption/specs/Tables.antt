@@ -5,7 +5,8 @@ use Rattle.sqlite.specs.Tree.{Trees}
 use Rattle.tree_core.specs.Forest.{Forest}
 use Rattle.office_tables.specs.Versions.{Version}
 use Rattle.desk_core.specs.declared.reader.Place.TheVariants.{Shelf}
-use Rattle.office_core.specs.SoundDesk.{AreFiled, AreGoodOrders, AreGoodSeats, AreGoodRuns, AreGoodReaders, AreGoodPermits}
+use Rattle.office_core.specs.SoundDesk.{AreFiled, AreGoodOrders, AreGoodSeats, AreGoodRuns, AreGoodReaders}
+use Rattle.office_core.specs.SoundDesk.{AreGoodPermits}
 use Rattle.office_core.specs.SoundOffice.{IsSoundOffice, AreTexts}
 use Rattle.office_core.specs.Soundness.{ArePermitsOfUnits}
 use Rattle.office_core.specs.State.{State, is_container}

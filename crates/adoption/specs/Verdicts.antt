@@ -6,7 +6,7 @@ use Rattle.office_tables.specs.Versions.{newest, Version, version_number}
 use Rattle.state_encoding.specs.CellCauses.{cell_cause}
 use Rattle.office_tables.specs.Schema.{schema}
 use Rattle.adoption.specs.OrderedTables.{StandInOrder}
-use Rattle.adoption.specs.Versions.{HasNoOffice, IsToldVersion, TellsNoOther}
+use Rattle.adoption.specs.Versions.{LacksOfficeRow, IsToldVersion, TellsNoOther}
 use Rattle.adoption.specs.declared.verdict.Verdict.{Verdict}
 use Rattle.adoption.specs.declared.verdict.Verdict.TheVariants as verdict
 
@@ -20,7 +20,7 @@ pub record AreOthers (version : Version) (db : Database) : Type 0 where
   pub schema_is_not : db.schema ≢ schema version
 
 abbrev pub IsVerdict : Version → Database → Verdict → Type 0
-IsVerdict version db verdict.NoOffice = HasNoOffice db
+IsVerdict version db verdict.NoOffice = LacksOfficeRow db
 IsVerdict version db verdict.OldVersion = (older : Version) × (version_number older < version_number version) × IsToldVersion older db
 IsVerdict version db verdict.NewVersion = (newer : Version) × (version_number version < version_number newer) × IsToldVersion newer db
 IsVerdict version db verdict.OtherTables = AreOthers version db

@@ -16,7 +16,7 @@ abbrev pub version_text : List ℕ
 version_text = codes "SELECT version FROM office"
 
 -- the query makes sense for these tables: they have a table `office` with a version
-pub record IsAsked (db : Database) : Type 0 where
+pub record HasVersionTable (db : Database) : Type 0 where
   pub asked : Compiled
   pub is : understood db.schema version_text ≡ Ok asked
   pub source : Database
@@ -24,12 +24,12 @@ pub record IsAsked (db : Database) : Type 0 where
 
 -- it does, and these rows are the answer
 pub record ShowsVersions (db : Database) (rows : List Row) : Type 0 where
-  pub question : IsAsked db
+  pub question : HasVersionTable db
   pub shown : Reads question.asked.command question.source [] rows
 
 -- it does, but the answer cannot be computed: it would have to come from a view
 pub record RefusesVersions (db : Database) : Type 0 where
-  pub question : IsAsked db
+  pub question : HasVersionTable db
   pub why : Error
   pub refused : RefusesToRead None question.asked.command question.source [] why
 
@@ -58,8 +58,8 @@ pub record TellsNoOther (version : Version) (db : Database) : Type 0 where
   pub not_other : (other : Version) → version_number other ≢ version_number version → cell ≢ Int (pos (version_number other))
 
 -- the table `office` cannot be read, or does not have exactly one row
-abbrev pub HasNoOffice : Database → Type 0
-HasNoOffice db = CannotTell db ⊎ ((rows : List Row) × ShowsVersions db rows × (length rows ≢ 1))
+abbrev pub LacksOfficeRow : Database → Type 0
+LacksOfficeRow db = CannotTell db ⊎ ((rows : List Row) × ShowsVersions db rows × (length rows ≢ 1))
 
 -- the rows of the answer, or none if there can be none
 abbrev pub AreVersions : Database → Option (Vec Row Global) → Type 0

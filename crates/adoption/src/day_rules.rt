@@ -3,7 +3,7 @@
 ghost use Rattle.std.specs.Prelude.{◌≡◌, Some};
 ghost use Rattle.state_encoding.specs.Causes.{day_is_broken};
 ghost use Rattle.state_encoding.specs.CellCauses.{rows_in};
-ghost use Rattle.adoption.specs.Judgments.{Judges};
+ghost use Rattle.adoption.specs.Judgments.{Judges, ◌within◌tells◌};
 ghost use Rattle.adoption.specs.OwnRows.{own_row_of};
 ghost use Rattle.adoption.specs.SoundTables.{AreGoodTables};
 
@@ -20,9 +20,10 @@ pub(crate) fn breaks_day_rules<P: CheckedPlaces, S: Alter>(
     tables: &mut Tables<P, S>,
     own: &OwnRow,
 ) -> Result<bool, StoreFault>
-    ensures { Judges S.Store tables.old tables.new result (λ s. AreGoodTables P.version s.now)
-        (λ s broken. own_row_of P.version s.now.trees ≡ Some own.now → AreGoodTables P.version s.now
-        → broken ≡ day_is_broken (rows_in P.version s.now.trees)) }
+    ensures { Judges S.Store tables.old tables.new result
+        within (λ s. AreGoodTables P.version s.now)
+        tells λ s broken. own_row_of P.version s.now.trees ≡ Some own.now → AreGoodTables P.version s.now
+        → broken ≡ day_is_broken (rows_in P.version s.now.trees) }
 {
     refinement::breaks_day_rules(alloc, tables, own.limits.hands, own.today)
 }

@@ -1,6 +1,6 @@
 //! The office's own row.
 
-ghost use Rattle.std.specs.Prelude.{◌≡◌, false, true, Some, ⊤};
+ghost use Rattle.std.specs.Prelude.{◌≡◌, false, true, Some};
 ghost use Rattle.std.specs.List.{list_all};
 ghost use Rattle.std.specs.Option.{option_map_or};
 ghost use Rattle.sqlite.specs.Effect.{IsDatabase};
@@ -9,7 +9,7 @@ ghost use Rattle.isad_core.specs.Words.{is_between};
 ghost use Rattle.office_core.specs.Soundness.{is_country as is_country_code, is_repository as is_repository_code};
 ghost use Rattle.office_tables.specs.Cells.{text_in};
 ghost use Rattle.office_tables.specs.Schema.{schema};
-ghost use Rattle.adoption.specs.Judgments.{Judges};
+ghost use Rattle.adoption.specs.Judgments.{Judges, ◌tells◌};
 ghost use Rattle.adoption.specs.OwnRows.{are_good_numbers, are_good_texts, numbers_in_row, office_numbers};
 ghost use Rattle.adoption.specs.OwnRows.{own_from as own_of_numbers, own_judged, own_row_of};
 ghost use Rattle.adoption.specs.OrderedTables.{StandInOrder};
@@ -191,9 +191,10 @@ impl Gathering for OwnRows {
 pub(crate) fn own_row<P: Places, S: Alter>(
     tables: &mut Tables<P, S>,
 ) -> Result<Option<OwnRow>, StoreFault>
-    ensures { Judges S.Store tables.old tables.new result (λ _. ⊤) (λ s found.
+    ensures { Judges S.Store tables.old tables.new result
+        tells λ s found.
         (s.now.schema ≡ schema P.version) × IsDatabase s.now
-        × (StandInOrder s.now → found ≡ own_row_of P.version s.now.trees)) }
+        × (StandInOrder s.now → found ≡ own_row_of P.version s.now.trees) }
 {
     let all = gather(
         tables,

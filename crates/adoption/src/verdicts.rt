@@ -5,7 +5,7 @@ ghost use Rattle.sqlite.specs.Held.{state};
 ghost use Rattle.state_encoding.specs.CellCauses.{cell_cause};
 ghost use Rattle.office_tables.specs.Faults.{IsUnlimited};
 ghost use Rattle.office_tables.specs.Step.{InTransaction};
-ghost use Rattle.adoption.specs.Judgments.{HasGoodCatalogue, HasTransaction, Judges};
+ghost use Rattle.adoption.specs.Judgments.{HasGoodCatalogueTables, HasTransaction, Judges, ◌within◌tells◌};
 ghost use Rattle.adoption.specs.Verdicts.{IsVerdict};
 ghost use Rattle.adoption.specs.OrderedTables.{StandInOrder};
 
@@ -28,8 +28,9 @@ fn desk_cause<P: CheckedPlaces, S: Alter>(
     tables: &mut Tables<P, S>,
     own: &OwnRow,
 ) -> Result<Option<u8>, StoreFault>
-    ensures { Judges S.Store tables.old tables.new result (λ s. HasGoodCatalogue P.version own.now s.now)
-        (λ s cause. HasGoodCatalogue P.version own.now s.now → cause ≡ cell_cause P.version s.now.trees) }
+    ensures { Judges S.Store tables.old tables.new result
+        within (λ s. HasGoodCatalogueTables P.version own.now s.now)
+        tells λ s cause. HasGoodCatalogueTables P.version own.now s.now → cause ≡ cell_cause P.version s.now.trees }
 {
     if let Some(defect) = load_check_desk(alloc, tables, &own.limits, own.today)? {
         return Ok(Some(defect.cause()));
@@ -45,8 +46,9 @@ fn least_cause<P: CheckedPlaces, S: Alter>(
     alloc: Global,
     tables: &mut Tables<P, S>,
 ) -> Result<Option<u8>, StoreFault>
-    ensures { Judges S.Store tables.old tables.new result (λ s. StandInOrder s.now)
-        (λ s cause. StandInOrder s.now → cause ≡ cell_cause P.version s.now.trees) }
+    ensures { Judges S.Store tables.old tables.new result
+        within (λ s. StandInOrder s.now)
+        tells λ s cause. StandInOrder s.now → cause ≡ cell_cause P.version s.now.trees }
 {
     let Some(own) = own_row(tables)? else {
         return Ok(Some(1));
@@ -64,8 +66,9 @@ fn cause_inside<P: CheckedPlaces, S: Alter>(
     given: (Global, PhantomData<P>),
 ) -> (Connection<S>, Result<Option<u8>, StoreFault>)
     requires inside { InTransaction P.version (state S.Store conn) }
-    ensures { Judges S.Store conn result.0 result.1 (λ s. StandInOrder s.now)
-        (λ s cause. StandInOrder s.now → cause ≡ cell_cause P.version s.now.trees) }
+    ensures { Judges S.Store conn result.0 result.1
+        within (λ s. StandInOrder s.now)
+        tells λ s cause. StandInOrder s.now → cause ≡ cell_cause P.version s.now.trees }
 {
     let (alloc, _) = given;
     let mut tables: Tables<P, S> = Tables::inside(conn);
@@ -81,7 +84,8 @@ pub fn judge<P: CheckedPlaces, S: Alter>(
 ) -> Result<Verdict, StoreFault>
     requires inside { HasTransaction (state S.Store conn.old) }
     requires unlimited { IsUnlimited (state S.Store conn.old) }
-    ensures { Judges S.Store conn.old conn.new result (λ s. StandInOrder s.now) (λ s. IsVerdict P.version s.now) }
+    ensures { Judges S.Store conn.old conn.new result
+        within (λ s. StandInOrder s.now) tells λ s. IsVerdict P.version s.now }
 {
     if let Some(verdict) = judge_version::<P, S>(conn)? {
         return Ok(verdict);

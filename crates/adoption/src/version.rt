@@ -1,9 +1,9 @@
 //! The version of tables.
 
-ghost use Rattle.std.specs.Prelude.{◌≡◌, ⊤};
+ghost use Rattle.std.specs.Prelude.{◌≡◌};
 ghost use Rattle.sqlite.specs.Held.{state};
 ghost use Rattle.office_tables.specs.Faults.{IsUnlimited};
-ghost use Rattle.adoption.specs.Judgments.{HasTransaction, Judges};
+ghost use Rattle.adoption.specs.Judgments.{HasTransaction, Judges, ◌tells◌};
 ghost use Rattle.adoption.specs.Verdicts.{IsVersionVerdict, verdict_of_version};
 ghost use Rattle.adoption.specs.Versions.{AreVersions};
 
@@ -17,7 +17,7 @@ use sqlite::{Alter, Connection, Row};
 fn versions<S: Alter>(conn: &mut Connection<S>) -> Result<Option<Vec<Row>>, StoreFault>
     requires inside { HasTransaction (state S.Store conn.old) }
     requires unlimited { IsUnlimited (state S.Store conn.old) }
-    ensures { Judges S.Store conn.old conn.new result (λ _. ⊤) (λ s. AreVersions s.now) }
+    ensures { Judges S.Store conn.old conn.new result tells λ s. AreVersions s.now }
 {
     match conn.query_all("SELECT version FROM office", &[]) {
         Ok(rows) => Ok(Some(rows)),
@@ -49,7 +49,7 @@ pub(crate) fn judge_version<P: Places, S: Alter>(
 ) -> Result<Option<Verdict>, StoreFault>
     requires inside { HasTransaction (state S.Store conn.old) }
     requires unlimited { IsUnlimited (state S.Store conn.old) }
-    ensures { Judges S.Store conn.old conn.new result (λ _. ⊤) (λ s. IsVersionVerdict P.version s.now) }
+    ensures { Judges S.Store conn.old conn.new result tells λ s. IsVersionVerdict P.version s.now }
 {
     let Some(rows) = versions(conn)? else {
         return Ok(Some(Verdict::NoOffice));

@@ -1,17 +1,21 @@
 -- Containers, one more at a time.
-use Rattle.std.proofs.Common.{◌≡◌, ◌∙◌, ◌+◌, ◌<◌, ◌++◌, ◌∷◌, [], ℕ, suc, Bool, true, false, List, length, take, get_or, refl, sym, ap, ap₂, subst, arith, Bor, cond, Ordering}
-use Rattle.std.specs.Prelude.{not, filter}
-use Rattle.std.specs.Ordering.{is_eq, nat_cmp, ordering_then}
-use Rattle.std.specs.declared.cmp.Ordering.TheVariants as ord
-use Rattle.std.specs.Cmp.Lexicographic.{slice_cmp}
-use Rattle.std.specs.BTreeSet.{BTreeSet, contains}
-use Rattle.std.proofs.lemmas.Map.Text.{is_eq-slice_cmp}
-use Rattle.std.proofs.lemmas.List.{append-nil}
-use Rattle.std.proofs.Math.ListN.{get_or-map}
-use Rattle.std.proofs.lemmas.List.FromFn.{get_or-enumerate_from, length-enumerate_from}
+use Rattle.std.proofs.Common.{◌≡◌, ◌∙◌, ◌+◌, ◌<◌, ◌++◌, ◌∷◌, [], ℕ, suc, Bool, true, false, List, length, take, get_or}
+use Rattle.std.proofs.Common.{refl, sym, ap, ap₂, subst, arith, Bor, cond, Ordering}
 use Rattle.std.proofs.Math.Bool.{and_assoc}
+use Rattle.std.proofs.Math.ListN.{get_or-map}
+use Rattle.std.proofs.lemmas.List.{append-nil}
+use Rattle.std.proofs.lemmas.List.FromFn.{get_or-enumerate_from, length-enumerate_from}
+use Rattle.std.proofs.lemmas.Map.Text.{is_eq-slice_cmp}
+use Rattle.std.specs.BTreeSet.{BTreeSet, contains}
+use Rattle.std.specs.Cmp.Lexicographic.{slice_cmp}
+use Rattle.std.specs.Ordering.{is_eq, nat_cmp, ordering_then}
+use Rattle.std.specs.Prelude.{not, filter}
+use Rattle.std.specs.declared.cmp.Ordering.TheVariants as ord
 use Rattle.isad_core.proofs.BoxLemmas.{distinct_more, stood_more}
-use Rattle.atom_csv.proofs.Common.{BoxKey, Bytes, Holds, borrowed_fields, bytes_eq, distinct, entry_at, enumerate_from, filter-append, has, if◌then◌else◌, is_empty, is_named_box, is_same, key, length-map, list_any, take-suc, triple, triples, ◌&&◌, ◌||◌}
+use Rattle.atom_csv.proofs.Common.{BoxKey, Bytes, HoldsContainers, borrowed_fields, box_with, bytes_eq, distinct}
+use Rattle.atom_csv.proofs.Common.{entry_at, enumerate_from, filter-append, has_box, has_no_bytes, if◌then◌else◌}
+use Rattle.atom_csv.proofs.Common.{is_named_box, is_same_box, length-map, list_any, take-suc, triple, triples, ◌&&◌}
+use Rattle.atom_csv.proofs.Common.{◌||◌}
 
 -- ---- the set in which the code keeps them
 
@@ -19,7 +23,7 @@ abbrev pub Told : Type 0
 Told = Bor Bytes × Bor Bytes × Bor Bytes
 
 abbrev pub key_of : Told → BoxKey
-key_of k = key k.0.now k.1.now k.2.now
+key_of k = box_with k.0.now k.1.now k.2.now
 
 -- how the set orders them
 abbrev pub compared : Told → Told → Ordering
@@ -30,18 +34,18 @@ eq_then ord.Less b = refl
 eq_then ord.Equal b = refl
 eq_then ord.Greater b = refl
 
-pub same_compared : (a b : Told) → is_eq (compared a b) ≡ is_same (key_of a) (key_of b)
+pub same_compared : (a b : Told) → is_eq (compared a b) ≡ is_same_box (key_of a) (key_of b)
 same_compared a b =
     eq_then _ (slice_cmp nat_cmp a.2.now b.2.now)
     ∙ (ap₂ (λ x y. x && y) (eq_then (slice_cmp nat_cmp a.0.now b.0.now) (slice_cmp nat_cmp a.1.now b.1.now) ∙ ap₂ (λ x y. x && y) (is_eq-slice_cmp a.0.now b.0.now) (is_eq-slice_cmp a.1.now b.1.now)) (is_eq-slice_cmp a.2.now b.2.now)
     ∙ and_assoc (bytes_eq a.0.now b.0.now) (bytes_eq a.1.now b.1.now) (bytes_eq a.2.now b.2.now))
 
 any_compared : (a : Told) (ks : List Told)
-    → list_any (λ k. is_eq (compared a k)) ks ≡ list_any (λ k. is_same (key_of a) (key_of k)) ks
+    → list_any (λ k. is_eq (compared a k)) ks ≡ list_any (λ k. is_same_box (key_of a) (key_of k)) ks
 any_compared a [] = refl
 any_compared a (k ∷ ks) = ap₂ (λ x y. x || y) (same_compared a k) (any_compared a ks)
 
-pub contains_has : (known : BTreeSet Told) (a : Told) → contains compared known a ≡ has known (key_of a)
+pub contains_has : (known : BTreeSet Told) (a : Told) → contains compared known a ≡ has_box known (key_of a)
 contains_has known a = any_compared a known.keys
 
 -- what a query stands for, by reference
@@ -53,11 +57,11 @@ asked q = (lent q.name, lent q.location, lent q.kind)
 
 pub has_more : (old new : BTreeSet Told) (k : Told)
     → ((q : Told) → contains compared new q ≡ cond (is_eq (compared k q)) true (contains compared old q))
-    → (q : BoxKey) → has new q ≡ (is_same (key_of k) q || has old q)
+    → (q : BoxKey) → has_box new q ≡ (is_same_box (key_of k) q || has_box old q)
 has_more old new k updates q =
-    sym (contains_has new (asked q)) ∙ (updates (asked q) ∙ (ap₂ (λ (b c : Bool). cond b true c) (same_compared k (asked q)) (contains_has old (asked q)) ∙ go (is_same (key_of k) q)))
+    sym (contains_has new (asked q)) ∙ (updates (asked q) ∙ (ap₂ (λ (b c : Bool). cond b true c) (same_compared k (asked q)) (contains_has old (asked q)) ∙ go (is_same_box (key_of k) q)))
   where
-    go : (b : Bool) → cond b true (has old q) ≡ (b || has old q)
+    go : (b : Bool) → cond b true (has_box old q) ≡ (b || has_box old q)
     go true = refl
     go false = refl
 
@@ -70,7 +74,7 @@ length_seen (x ∷ xs) = ap suc (length_seen xs)
 -- the triples, one more at a time
 triples_more : (names : List (Bor Bytes)) (locations kinds : List Bytes) (i : ℕ) (d : Bor Bytes) → i < length names
     → take (i + 1) (triples (borrowed_fields names) locations kinds)
-    ≡ take i (triples (borrowed_fields names) locations kinds) ++ key (get_or names i d).now (entry_at locations i) (entry_at kinds i) ∷ []
+    ≡ take i (triples (borrowed_fields names) locations kinds) ++ box_with (get_or names i d).now (entry_at locations i) (entry_at kinds i) ∷ []
 triples_more names locations kinds i d lt =
     let next : i + 1 ≡ suc i = omega arith in
     let long : length (triples (borrowed_fields names) locations kinds) ≡ length names =
@@ -88,16 +92,16 @@ triples_more names locations kinds i d lt =
 -- the triples with a name, one more
 pub named_more : (names : List (Bor Bytes)) (locations kinds : List Bytes) (i : ℕ) (d : Bor Bytes) → i < length names
     → filter is_named_box (take i (triples (borrowed_fields names) locations kinds))
-    ++ (if is_empty (get_or names i d).now then [] else key (get_or names i d).now (entry_at locations i) (entry_at kinds i) ∷ [])
+    ++ (if has_no_bytes (get_or names i d).now then [] else box_with (get_or names i d).now (entry_at locations i) (entry_at kinds i) ∷ [])
     ≡ filter is_named_box (take (i + 1) (triples (borrowed_fields names) locations kinds))
 named_more names locations kinds i d lt =
     let before = take i (triples (borrowed_fields names) locations kinds) in
-    let b = key (get_or names i d).now (entry_at locations i) (entry_at kinds i) in
-    ap (λ bs. filter is_named_box before ++ bs) (go (is_empty (get_or names i d).now))
+    let b = box_with (get_or names i d).now (entry_at locations i) (entry_at kinds i) in
+    ap (λ bs. filter is_named_box before ++ bs) (go (has_no_bytes (get_or names i d).now))
     ∙ sym (ap (filter is_named_box) (triples_more names locations kinds i d lt) ∙ filter-append is_named_box before (b ∷ []))
   where
-    go : (e : Bool) → (if e then [] else key (get_or names i d).now (entry_at locations i) (entry_at kinds i) ∷ [])
-        ≡ cond (not e) (key (get_or names i d).now (entry_at locations i) (entry_at kinds i) ∷ []) []
+    go : (e : Bool) → (if e then [] else box_with (get_or names i d).now (entry_at locations i) (entry_at kinds i) ∷ [])
+        ≡ cond (not e) (box_with (get_or names i d).now (entry_at locations i) (entry_at kinds i) ∷ []) []
     go true = refl
     go false = refl
 
@@ -107,40 +111,40 @@ abbrev pub Set : Type 0
 Set = BTreeSet Told
 
 -- a blank name adds nothing
-pub holds_blank : (known : Set) (boxes told : List BoxKey) (b : BoxKey) → is_empty b.name ≡ true
-    → Holds known boxes told
-    → Holds known boxes (told ++ (if is_empty b.name then [] else b ∷ []))
+pub holds_blank : (known : Set) (boxes told : List BoxKey) (b : BoxKey) → has_no_bytes b.name ≡ true
+    → HoldsContainers known boxes told
+    → HoldsContainers known boxes (told ++ (if has_no_bytes b.name then [] else b ∷ []))
 holds_blank known boxes told b blank h =
-    subst (Holds known boxes) (sym (ap (λ (e : Bool). told ++ (if e then [] else b ∷ [])) blank ∙ append-nil told)) h
+    subst (HoldsContainers known boxes) (sym (ap (λ (e : Bool). told ++ (if e then [] else b ∷ [])) blank ∙ append-nil told)) h
 
-stood_after : (old new : Set) (boxes told : List BoxKey) (b : BoxKey) → Holds old boxes told
-    → ((q : BoxKey) → has new q ≡ (is_same b q || has old q))
-    → (q : BoxKey) → has new q ≡ list_any (is_same q) (told ++ b ∷ [])
-stood_after old new boxes told b h added q = added q ∙ (ap (λ s. is_same b q || s) (h.stood q) ∙ sym (stood_more told b q))
+stood_after : (old new : Set) (boxes told : List BoxKey) (b : BoxKey) → HoldsContainers old boxes told
+    → ((q : BoxKey) → has_box new q ≡ (is_same_box b q || has_box old q))
+    → (q : BoxKey) → has_box new q ≡ list_any (is_same_box q) (told ++ b ∷ [])
+stood_after old new boxes told b h added q = added q ∙ (ap (λ s. is_same_box b q || s) (h.stood q) ∙ sym (stood_more told b q))
 
 -- one that stood is kept once
-holds_again : (old new : Set) (boxes told : List BoxKey) (b : BoxKey) → Holds old boxes told
-    → ((q : BoxKey) → has new q ≡ (is_same b q || has old q)) → has old b ≡ true
-    → Holds new boxes (told ++ b ∷ [])
+holds_again : (old new : Set) (boxes told : List BoxKey) (b : BoxKey) → HoldsContainers old boxes told
+    → ((q : BoxKey) → has_box new q ≡ (is_same_box b q || has_box old q)) → has_box old b ≡ true
+    → HoldsContainers new boxes (told ++ b ∷ [])
 holds_again old new boxes told b h added stood = record {
   kept = h.kept ∙ sym (distinct_more told b ∙ (ap (λ (s : Bool). distinct told ++ (if s then [] else b ∷ [])) (sym (h.stood b) ∙ stood) ∙ append-nil (distinct told)));
   stood = stood_after old new boxes told b h added;
 }
 
 -- a new one is added
-holds_new : (old new : Set) (boxes told : List BoxKey) (b : BoxKey) → Holds old boxes told
-    → ((q : BoxKey) → has new q ≡ (is_same b q || has old q)) → has old b ≡ false
-    → Holds new (boxes ++ b ∷ []) (told ++ b ∷ [])
+holds_new : (old new : Set) (boxes told : List BoxKey) (b : BoxKey) → HoldsContainers old boxes told
+    → ((q : BoxKey) → has_box new q ≡ (is_same_box b q || has_box old q)) → has_box old b ≡ false
+    → HoldsContainers new (boxes ++ b ∷ []) (told ++ b ∷ [])
 holds_new old new boxes told b h added stood = record {
   kept = ap (λ bs. bs ++ b ∷ []) h.kept ∙ sym (distinct_more told b ∙ ap (λ (s : Bool). distinct told ++ (if s then [] else b ∷ [])) (sym (h.stood b) ∙ stood));
   stood = stood_after old new boxes told b h added;
 }
 
-named_told : (known : Set) (boxes told : List BoxKey) (b : BoxKey) → is_empty b.name ≡ false
-    → Holds known boxes (told ++ b ∷ [])
-    → Holds known boxes (told ++ (if is_empty b.name then [] else b ∷ []))
+named_told : (known : Set) (boxes told : List BoxKey) (b : BoxKey) → has_no_bytes b.name ≡ false
+    → HoldsContainers known boxes (told ++ b ∷ [])
+    → HoldsContainers known boxes (told ++ (if has_no_bytes b.name then [] else b ∷ []))
 named_told known boxes told b there h =
-    subst (Holds known boxes) (sym (ap (λ (e : Bool). told ++ (if e then [] else b ∷ [])) there)) h
+    subst (HoldsContainers known boxes) (sym (ap (λ (e : Bool). told ++ (if e then [] else b ∷ [])) there)) h
 
 not_false : (b : Bool) → false ≡ not b → b ≡ true
 not_false true e = refl
@@ -150,20 +154,20 @@ not_true : (b : Bool) → true ≡ not b → b ≡ false
 not_true true e = cc
 not_true false e = refl
 
-pub holds_known : (old new : Set) (boxes told : List BoxKey) (b : BoxKey) (is_new : Bool) → is_empty b.name ≡ false
-    → ((q : BoxKey) → has new q ≡ (is_same b q || has old q))
-    → is_new ≡ not (has old b) → is_new ≡ false → Holds old boxes told
-    → Holds new boxes (told ++ (if is_empty b.name then [] else b ∷ []))
+pub holds_known : (old new : Set) (boxes told : List BoxKey) (b : BoxKey) (is_new : Bool) → has_no_bytes b.name ≡ false
+    → ((q : BoxKey) → has_box new q ≡ (is_same_box b q || has_box old q))
+    → is_new ≡ not (has_box old b) → is_new ≡ false → HoldsContainers old boxes told
+    → HoldsContainers new boxes (told ++ (if has_no_bytes b.name then [] else b ∷ []))
 holds_known old new boxes told b is_new there added is none h =
-    named_told new boxes told b there (holds_again old new boxes told b h added (not_false (has old b) (sym none ∙ is)))
+    named_told new boxes told b there (holds_again old new boxes told b h added (not_false (has_box old b) (sym none ∙ is)))
 
 pub holds_added : (old new : Set) (boxes after told : List BoxKey) (b item : BoxKey) (is_new : Bool)
-    → is_empty b.name ≡ false → ((q : BoxKey) → has new q ≡ (is_same b q || has old q))
-    → is_new ≡ not (has old b) → is_new ≡ true → item ≡ b → after ≡ boxes ++ item ∷ [] → Holds old boxes told
-    → Holds new after (told ++ (if is_empty b.name then [] else b ∷ []))
+    → has_no_bytes b.name ≡ false → ((q : BoxKey) → has_box new q ≡ (is_same_box b q || has_box old q))
+    → is_new ≡ not (has_box old b) → is_new ≡ true → item ≡ b → after ≡ boxes ++ item ∷ [] → HoldsContainers old boxes told
+    → HoldsContainers new after (told ++ (if has_no_bytes b.name then [] else b ∷ []))
 holds_added old new boxes after told b item is_new there added is told_new same pushed h =
-    subst (λ bs. Holds new bs (told ++ (if is_empty b.name then [] else b ∷ []))) (sym (pushed ∙ ap (λ x. boxes ++ x ∷ []) same))
-    (named_told new (boxes ++ b ∷ []) told b there (holds_new old new boxes told b h added (not_true (has old b) (sym told_new ∙ is))))
+    subst (λ bs. HoldsContainers new bs (told ++ (if has_no_bytes b.name then [] else b ∷ []))) (sym (pushed ∙ ap (λ x. boxes ++ x ∷ []) same))
+    (named_told new (boxes ++ b ∷ []) told b there (holds_new old new boxes told b h added (not_true (has_box old b) (sym told_new ∙ is))))
 
 pub length-triples : (names : List (Bor Bytes)) (locations kinds : List Bytes)
     → length (triples (borrowed_fields names) locations kinds) ≡ length names
@@ -173,11 +177,11 @@ length-triples names locations kinds =
 pub holds_more : (names : List (Bor Bytes)) (locations kinds : List Bytes) (i : ℕ) (d : Bor Bytes) (known : Set) (boxes : List BoxKey) (location kind : Bytes)
     → i < length names
     → location ≡ entry_at locations i → kind ≡ entry_at kinds i
-    → Holds known boxes (filter is_named_box (take i (triples (borrowed_fields names) locations kinds))
-    ++ (if is_empty (get_or names i d).now then [] else key (get_or names i d).now location kind ∷ []))
-    → Holds known boxes (filter is_named_box (take (i + 1) (triples (borrowed_fields names) locations kinds)))
+    → HoldsContainers known boxes (filter is_named_box (take i (triples (borrowed_fields names) locations kinds))
+    ++ (if has_no_bytes (get_or names i d).now then [] else box_with (get_or names i d).now location kind ∷ []))
+    → HoldsContainers known boxes (filter is_named_box (take (i + 1) (triples (borrowed_fields names) locations kinds)))
 holds_more names locations kinds i d known boxes location kind lt place sort h =
-    subst (Holds known boxes)
-    (ap₂ (λ l k. filter is_named_box (take i (triples (borrowed_fields names) locations kinds)) ++ (if is_empty (get_or names i d).now then [] else key (get_or names i d).now l k ∷ [])) place sort
+    subst (HoldsContainers known boxes)
+    (ap₂ (λ l k. filter is_named_box (take i (triples (borrowed_fields names) locations kinds)) ++ (if has_no_bytes (get_or names i d).now then [] else box_with (get_or names i d).now l k ∷ [])) place sort
     ∙ named_more names locations kinds i d lt)
     h

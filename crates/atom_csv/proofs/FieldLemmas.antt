@@ -1,11 +1,15 @@
 -- Where columns stand, and what a record has there.
-use Rattle.std.proofs.Common.{◌≡◌, ◌∙◌, ◌+◌, ℕ, zero, suc, Bool, true, false, List, [], ◌∷◌, ◌++◌, take, Option, Some, None, option_map, refl, sym, ap, ap₂, arith, Bor, cond, map, get_or}
-use Rattle.std.specs.Prelude.{fold, nat_lt}
+use Rattle.std.proofs.Common.{◌≡◌, ◌∙◌, ◌+◌, ℕ, zero, suc, Bool, true, false, List, [], ◌∷◌, ◌++◌, take, Option, Some}
+use Rattle.std.proofs.Common.{None, option_map, refl, sym, ap, ap₂, arith, Bor, cond, map, get_or}
 use Rattle.std.proofs.lemmas.Iterator.Adapters.{position_from-zero}
-use Rattle.csv.specs.Records.{field_at}
 use Rattle.std.proofs.lemmas.List.Folds.{list_all-append}
+use Rattle.std.specs.Prelude.{fold, nat_lt}
+use Rattle.csv.specs.Records.{field_at}
 use Rattle.atom_csv.specs.Columns.{columns}
-use Rattle.atom_csv.proofs.Common.{Bytes, Column, Fields, borrowed_fields, count_by, field_in, field_under, has_twice, if◌then◌else◌, is_blank, is_empty, is_named, list_any, map-append, name_of, place_of, places_in, position, position_from, slice_get, tag_of, the_type, trimmed, unwrap_or, value, ◌&&◌, ◌||◌}
+use Rattle.atom_csv.proofs.Common.{Bytes, Column, Fields, borrowed_fields, column_index, column_indices, column_name}
+use Rattle.atom_csv.proofs.Common.{count_by, field_in, field_under, has_column_twice, has_no_bytes, if◌then◌else◌}
+use Rattle.atom_csv.proofs.Common.{is_blank, is_column_name, list_any, map-append, position, position_from, slice_get}
+use Rattle.atom_csv.proofs.Common.{tag_of, the_type, trimmed, unwrap_or, value, ◌&&◌, ◌||◌}
 use Rattle.atom_csv.proofs.ColumnLemmas.{at_place}
 
 shift : {X : Type 0} (p : X → Bool) (i : ℕ) (xs : List X)
@@ -24,29 +28,29 @@ seen_from p i [] = refl
 seen_from p i (x ∷ xs) = ap (λ o. cond (p x.now) (Some i) o) (seen_from p (i + 1) xs)
 
 place_seen : (name : Bytes) (xs : List (Bor Bytes))
-    → position (λ x. is_named name x.now) xs ≡ place_of name (borrowed_fields xs)
+    → position (λ x. is_column_name name x.now) xs ≡ column_index name (borrowed_fields xs)
 place_seen name xs =
-    position_from-zero (λ (x : Bor Bytes). is_named name x.now) xs ∙ (seen_from (is_named name) 0 xs ∙ sym (position_from-zero (is_named name) (borrowed_fields xs)))
+    position_from-zero (λ (x : Bor Bytes). is_column_name name x.now) xs ∙ (seen_from (is_column_name name) 0 xs ∙ sym (position_from-zero (is_column_name name) (borrowed_fields xs)))
 
 places_from : (cs : List Column) (xs : List (Bor Bytes))
-    → map (λ k. position (λ x. is_named (name_of k) x.now) xs) cs ≡ map (λ k. place_of (name_of k) (borrowed_fields xs)) cs
+    → map (λ k. position (λ x. is_column_name (column_name k) x.now) xs) cs ≡ map (λ k. column_index (column_name k) (borrowed_fields xs)) cs
 places_from [] xs = refl
-places_from (k ∷ ks) xs = ap₂ (λ o os. o ∷ os) (place_seen (name_of k) xs) (places_from ks xs)
+places_from (k ∷ ks) xs = ap₂ (λ o os. o ∷ os) (place_seen (column_name k) xs) (places_from ks xs)
 
 pub places_seen : (xs : List (Bor Bytes))
-    → map (λ k. position (λ x. is_named (name_of k) x.now) xs) columns ≡ places_in (borrowed_fields xs)
+    → map (λ k. position (λ x. is_column_name (column_name k) x.now) xs) columns ≡ column_indices (borrowed_fields xs)
 places_seen xs = places_from columns xs
 
 -- the field in a column's place is the one under its name
 value_from : (name : Bytes) (header fields : Fields)
-    → field_in (position_from (is_named name) 0 header) fields ≡ field_under name header fields
+    → field_in (position_from (is_column_name name) 0 header) fields ≡ field_under name header fields
 value_from name [] fields = refl
-value_from name (h ∷ hs) [] = go (position_from (is_named name) 0 (h ∷ hs))
+value_from name (h ∷ hs) [] = go (position_from (is_column_name name) 0 (h ∷ hs))
   where
     go : (o : Option ℕ) → field_in o [] ≡ []
     go None = refl
     go (Some k) = refl
-value_from name (h ∷ hs) (f ∷ fs) = go (is_named name h) ∙ ap (λ v. if is_named name h then f else v) (value_from name hs fs)
+value_from name (h ∷ hs) (f ∷ fs) = go (is_column_name name h) ∙ ap (λ v. if is_column_name name h then f else v) (value_from name hs fs)
   where
     next : (o : Option ℕ) → field_in (option_map (λ k. k + 1) o) (f ∷ fs) ≡ field_in o fs
     next None = refl
@@ -55,14 +59,14 @@ value_from name (h ∷ hs) (f ∷ fs) = go (is_named name h) ∙ ap (λ v. if is
         ap (λ n. unwrap_or (slice_get (f ∷ fs) n) []) e
 
     go : (b : Bool)
-        → field_in (cond b (Some 0) (position_from (is_named name) 1 hs)) (f ∷ fs) ≡ (if b then f else field_in (position_from (is_named name) 0 hs) fs)
+        → field_in (cond b (Some 0) (position_from (is_column_name name) 1 hs)) (f ∷ fs) ≡ (if b then f else field_in (position_from (is_column_name name) 0 hs) fs)
     go true = refl
-    go false = ap (λ o. field_in o (f ∷ fs)) (shift (is_named name) 0 hs) ∙ next (position_from (is_named name) 0 hs)
+    go false = ap (λ o. field_in o (f ∷ fs)) (shift (is_column_name name) 0 hs) ∙ next (position_from (is_column_name name) 0 hs)
 
 pub value_in : (name : Bytes) (header fields : Fields)
-    → field_in (place_of name header) fields ≡ field_under name header fields
+    → field_in (column_index name header) fields ≡ field_under name header fields
 value_in name header fields =
-    ap (λ o. field_in o fields) (position_from-zero (is_named name) header) ∙ value_from name header fields
+    ap (λ o. field_in o fields) (position_from-zero (is_column_name name) header) ∙ value_from name header fields
 
 -- the field of a record at a place, without the white space at its ends
 pub trimmed_at : (fs : List Bytes) (i : ℕ) → field_in (Some i) (map trimmed fs) ≡ trimmed (unwrap_or (field_at fs i) [])
@@ -91,34 +95,34 @@ take_fields (x ∷ xs) (suc i) e = ap (λ ys. x ∷ ys) (take_fields xs i e)
 
 -- what a record has in a column
 pub value_at : (k : Column) (header fields : Fields) (places : List (Option ℕ)) (d : Option ℕ)
-    → places ≡ places_in header
+    → places ≡ column_indices header
     → field_in (get_or places (tag_of the_type k) d) fields ≡ value k header fields
 value_at k header fields places d is =
-    ap (λ ps. field_in (get_or ps (tag_of the_type k) d) fields) is ∙ (ap (λ o. field_in o fields) (at_place (λ k. place_of (name_of k) header) k d) ∙ value_in (name_of k) header fields)
+    ap (λ ps. field_in (get_or ps (tag_of the_type k) d) fields) is ∙ (ap (λ o. field_in o fields) (at_place (λ k. column_index (column_name k) header) k d) ∙ value_in (column_name k) header fields)
 
 -- a field that is not blank is one of a record that is not
-pub blank_not : (fs : List Bytes) (i : ℕ) (f : Bytes) → field_at fs i ≡ Some f → is_empty (trimmed f) ≡ false
+pub blank_not : (fs : List Bytes) (i : ℕ) (f : Bytes) → field_at fs i ≡ Some f → has_no_bytes (trimmed f) ≡ false
     → is_blank (map trimmed fs) ≡ false
 unfolding field_at
 blank_not [] i f e there = cc
 blank_not (x ∷ xs) zero f e there =
     let same : x ≡ f = cc in
-    ap (λ b. b && is_blank (map trimmed xs)) (ap (λ y. is_empty (trimmed y)) same ∙ there)
+    ap (λ b. b && is_blank (map trimmed xs)) (ap (λ y. has_no_bytes (trimmed y)) same ∙ there)
 blank_not (x ∷ xs) (suc i) f e there =
-    ap (λ b. is_empty (trimmed x) && b) (blank_not xs i f e there) ∙ go (is_empty (trimmed x))
+    ap (λ b. has_no_bytes (trimmed x) && b) (blank_not xs i f e there) ∙ go (has_no_bytes (trimmed x))
   where
     go : (b : Bool) → (b && false) ≡ false
     go true = refl
     go false = refl
 
 -- one more blank field
-pub blank_more : (fs : List Bytes) (i : ℕ) (f : Bytes) → field_at fs i ≡ Some f → is_empty (trimmed f) ≡ true
+pub blank_more : (fs : List Bytes) (i : ℕ) (f : Bytes) → field_at fs i ≡ Some f → has_no_bytes (trimmed f) ≡ true
     → is_blank (map trimmed (take i fs)) ≡ true
     → is_blank (map trimmed (take (i + 1) fs)) ≡ true
 blank_more fs i f e blank before =
     ap (λ xs. is_blank (map trimmed xs)) (take_field fs i f e)
     ∙ (ap is_blank (map-append trimmed (take i fs) (f ∷ []))
-    ∙ (list_all-append is_empty (map trimmed (take i fs)) (trimmed f ∷ []) ∙ ap₂ (λ a b. a && (b && true)) before blank))
+    ∙ (list_all-append has_no_bytes (map trimmed (take i fs)) (trimmed f ∷ []) ∙ ap₂ (λ a b. a && (b && true)) before blank))
 
 -- ---- names in a header
 
@@ -133,10 +137,10 @@ count_from p n [] = refl
 count_from p n (x ∷ xs) = count_from p (n + cond (p x.now) 1 0) xs
 
 twice_from : (ks : List Column) (xs : List (Bor Bytes))
-    → list_any (λ k. nat_lt 1 (count_by (λ x. is_named (name_of k) x.now) xs)) ks ≡ list_any (λ k. nat_lt 1 (count_by (is_named (name_of k)) (borrowed_fields xs))) ks
+    → list_any (λ k. nat_lt 1 (count_by (λ x. is_column_name (column_name k) x.now) xs)) ks ≡ list_any (λ k. nat_lt 1 (count_by (is_column_name (column_name k)) (borrowed_fields xs))) ks
 twice_from [] xs = refl
-twice_from (k ∷ ks) xs = ap₂ (λ a b. nat_lt 1 a || b) (count_from (is_named (name_of k)) 0 xs) (twice_from ks xs)
+twice_from (k ∷ ks) xs = ap₂ (λ a b. nat_lt 1 a || b) (count_from (is_column_name (column_name k)) 0 xs) (twice_from ks xs)
 
 pub twice_seen : (xs : List (Bor Bytes))
-    → list_any (λ k. nat_lt 1 (count_by (λ x. is_named (name_of k) x.now) xs)) columns ≡ has_twice (borrowed_fields xs)
+    → list_any (λ k. nat_lt 1 (count_by (λ x. is_column_name (column_name k) x.now) xs)) columns ≡ has_column_twice (borrowed_fields xs)
 twice_seen xs = twice_from columns xs

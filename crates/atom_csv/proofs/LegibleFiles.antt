@@ -1,17 +1,27 @@
 -- The texts that the rows of a file tell are UTF-8.
-use Rattle.std.proofs.Common.{◌+◌, ◌≡◌, ◌++◌, ◌∷◌, [], ℕ, zero, suc, Bool, true, false, List, Some, None, Ok, Err, length, map, reverse, refl, sym, ap, subst, arith, cond}
+use Rattle.std.proofs.Common.{◌+◌, ◌≡◌, ◌++◌, ◌∷◌, [], ℕ, zero, suc, Bool, true, false, List, Some, None, Ok, Err}
+use Rattle.std.proofs.Common.{length, map, reverse, refl, sym, ap, subst, arith, cond}
 use Rattle.std.specs.Prelude.{filter, not, IsUtf8, codes}
 use Rattle.std.specs.Str.{is_utf8}
+use Rattle.csv.specs.Reading.{strip_bom}
 use Rattle.isad_core.specs.LegibleValues.{IsLegibleBox, AreLegibleValues}
 use Rattle.isad_core.specs.declared.element.Element.{Element}
 use Rattle.isad_core.specs.declared.element.Element.TheVariants as element
-use Rattle.csv.specs.Reading.{strip_bom}
-use Rattle.atom_csv.specs.FileProperties.{IsLegibleRow, AreLegibleRows}
+use Rattle.atom_csv.specs.FileProperties.{IsLegibleRow, HasLegibleRows}
 use Rattle.atom_csv.specs.Values.{text_elements}
 use Rattle.atom_csv.specs.declared.cause.Cause.TheVariants as cause
 use Rattle.atom_csv.specs.declared.column.Column.TheVariants as column
 use Rattle.atom_csv.specs.declared.file.File.{File}
-use Rattle.atom_csv.proofs.Common.{AllByRecursion, Bytes, Cause, Column, Fault, Fields, IfSome, IsUtf8-append, IsUtf8-from_is_utf8, IsUtf8-nil, below, boxes_of, bytes_eq, columns_of, cons_option, default_config, entries, entry_at, entry_of, enumerate_from, eqb-true, faults, field_under, file_of, filter_map, flat_map, header_causes, if◌then◌else◌, is_blank, is_empty, is_named, is_named_box, is_space, is_split, is_told_again, joined, lines_below, name_of, nonblank, nonblank_entries, number_of, of_records, onto_first, or_fault, parts_of, records, records_of, reverse-append, reverse-reverse, row_of, row_told, rows, text_of, told_by, translations, trim_start, trimmed, triple, triples, under, value, values_of, ◌==◌, ◌||◌}
+use Rattle.atom_csv.proofs.Common.{AllByRecursion, Bytes, Cause, Column, Fault, Fields, IfSome, IsUtf8-append}
+use Rattle.atom_csv.proofs.Common.{IsUtf8-from_is_utf8, IsUtf8-nil, boxes_of, bytes_eq, cause_number, column_name}
+use Rattle.atom_csv.proofs.Common.{columns_of, cons_option, default_config, entries, entries_joined, entry_at}
+use Rattle.atom_csv.proofs.Common.{enumerate_from, eqb-true, field_under, file_below, file_of, filter_map, flat_map}
+use Rattle.atom_csv.proofs.Common.{has_no_bytes, header_causes, if◌then◌else◌, is_blank, is_column_name, is_named_box}
+use Rattle.atom_csv.proofs.Common.{is_space, is_split, is_told_again, line_faults, lines_below, nonblank}
+use Rattle.atom_csv.proofs.Common.{nonblank_entries, of_records, onto_first, or_fault, parts_of, records, records_of}
+use Rattle.atom_csv.proofs.Common.{reverse-append, reverse-reverse, row_of, row_told, rows, text_in_columns, told_by}
+use Rattle.atom_csv.proofs.Common.{translations, trim_start, trimmed, trimmed_entry, triple, triples, under, value}
+use Rattle.atom_csv.proofs.Common.{values_of, ◌==◌, ◌||◌}
 use Rattle.atom_csv.proofs.LegibleRecords.{cut_at_ascii, records_legible, past_mark}
 use Rattle.atom_csv.proofs.LineLemmas.{line_at}
 use Rattle.atom_csv.proofs.ToldLemmas.{all_append, all_filter, all_distinct}
@@ -87,14 +97,14 @@ parts_on (b ∷ text) front u = at (b == 124) refl (parts_on text)
         (subst IsUtf8 (sym (ends front)) c.0, no_front (parts_of text) (later [] c.1))
     at false e later = one_more front b (parts_of text) (later (front ++ b ∷ []) (subst IsUtf8 (over front) u))
 
-entry_legible : (part : Bytes) → IsUtf8 part → IsUtf8 (entry_of part)
+entry_legible : (part : Bytes) → IsUtf8 part → IsUtf8 (trimmed_entry part)
 entry_legible part u = at (bytes_eq (trimmed part) (codes "NULL"))
   where
     at : (b : Bool) → IsUtf8 (if b then [] else trimmed part)
     at true = IsUtf8-nil
     at false = trimmed_legible part u
 
-each_entry : (parts : List Bytes) → AllByRecursion IsUtf8 parts → AllByRecursion IsUtf8 (map entry_of parts)
+each_entry : (parts : List Bytes) → AllByRecursion IsUtf8 parts → AllByRecursion IsUtf8 (map trimmed_entry parts)
 each_entry [] h = tt
 each_entry (part ∷ parts) h = (entry_legible part h.0, each_entry parts h.1)
 
@@ -107,17 +117,17 @@ separator : IsUtf8 (codes "; ")
 unfolding lib.Utf8.encode
 separator = (codes "; ", (refl, refl))
 
-joined_legible : (texts : List Bytes) → AllByRecursion IsUtf8 texts → IsUtf8 (joined texts)
+joined_legible : (texts : List Bytes) → AllByRecursion IsUtf8 texts → IsUtf8 (entries_joined texts)
 joined_legible [] h = IsUtf8-nil
 joined_legible (e ∷ []) h = h.0
 joined_legible (e ∷ f ∷ rest) h =
-    IsUtf8-append (e ++ codes "; ") (joined (f ∷ rest)) (IsUtf8-append e (codes "; ") h.0 separator) (joined_legible (f ∷ rest) h.1)
+    IsUtf8-append (e ++ codes "; ") (entries_joined (f ∷ rest)) (IsUtf8-append e (codes "; ") h.0 separator) (joined_legible (f ∷ rest) h.1)
 
 value_legible : (name : Bytes) (header fields : Fields) → AllByRecursion IsUtf8 fields
     → IsUtf8 (field_under name header fields)
 value_legible name [] fields h = IsUtf8-nil
 value_legible name (head ∷ heads) [] h = IsUtf8-nil
-value_legible name (head ∷ heads) (field ∷ fields) h = at (is_named name head) (value_legible name heads fields h.1)
+value_legible name (head ∷ heads) (field ∷ fields) h = at (is_column_name name head) (value_legible name heads fields h.1)
   where
     at : (b : Bool) → IsUtf8 (field_under name heads fields)
         → IsUtf8 (if b then field else field_under name heads fields)
@@ -136,25 +146,25 @@ columns_legible : (header fields : Fields) → AllByRecursion IsUtf8 fields → 
 columns_legible header fields h [] = tt
 columns_legible header fields h (k ∷ ks) =
     all_append IsUtf8 (told_by k (value k header fields)) (flat_map (λ j. told_by j (value j header fields)) ks)
-    (told_legible k (value k header fields) (value_legible (name_of k) header fields h)) (columns_legible header fields h ks)
+    (told_legible k (value k header fields) (value_legible (column_name k) header fields h)) (columns_legible header fields h ks)
 
-text_legible : (header fields : Fields) (e : Element) → AllByRecursion IsUtf8 fields → IsUtf8 (text_of header fields e)
+text_legible : (header fields : Fields) (e : Element) → AllByRecursion IsUtf8 fields → IsUtf8 (text_in_columns header fields e)
 text_legible header fields e h =
     let told = flat_map (λ k. told_by k (value k header fields)) (columns_of e) in
-    joined_legible (nonblank_entries told) (all_filter IsUtf8 (λ entry. not (is_empty entry)) told (columns_legible header fields h (columns_of e)))
+    joined_legible (nonblank_entries told) (all_filter IsUtf8 (λ entry. not (has_no_bytes entry)) told (columns_legible header fields h (columns_of e)))
 
 some_legible : (text : Bytes) → IsUtf8 text → IfSome (nonblank text) IsUtf8
-some_legible text u = at (is_empty text)
+some_legible text u = at (has_no_bytes text)
   where
     at : (b : Bool) → IfSome (if b then None else Some text) IsUtf8
     at true = tt
     at false = u
 
 texts_legible : (header fields : Fields) → AllByRecursion IsUtf8 fields → (es : List Element)
-    → AllByRecursion (λ text. IfSome text IsUtf8) (map (λ e. nonblank (text_of header fields e)) es)
+    → AllByRecursion (λ text. IfSome text IsUtf8) (map (λ e. nonblank (text_in_columns header fields e)) es)
 texts_legible header fields h [] = tt
 texts_legible header fields h (e ∷ es) =
-    (some_legible (text_of header fields e) (text_legible header fields e h), texts_legible header fields h es)
+    (some_legible (text_in_columns header fields e) (text_legible header fields e h), texts_legible header fields h es)
 
 -- ---- containers
 
@@ -181,7 +191,7 @@ boxes_legible names locations kinds n l k =
 
 values_legible : (header fields : Fields) → AllByRecursion IsUtf8 fields → AreLegibleValues (values_of header fields)
 values_legible header fields h =
-    let in_column = λ (k : Column). value_legible (name_of k) header fields h in
+    let in_column = λ (k : Column). value_legible (column_name k) header fields h in
     record {
       level = text_legible header fields element.Level h;
       texts = texts_legible header fields h text_elements;
@@ -190,8 +200,8 @@ values_legible header fields h =
 
 row_legible : (header fields : Fields) (n : ℕ) → AllByRecursion IsUtf8 fields → IsLegibleRow (row_of header fields n)
 row_legible header fields n h = record {
-  legacy = value_legible (name_of column.LegacyId) header fields h;
-  parent = some_legible (value column.ParentId header fields) (value_legible (name_of column.ParentId) header fields h);
+  legacy = value_legible (column_name column.LegacyId) header fields h;
+  parent = some_legible (value column.ParentId header fields) (value_legible (column_name column.ParentId) header fields h);
   values = values_legible header fields h;
 }
 
@@ -209,24 +219,24 @@ rows_below header above (fields ∷ rest) h = at (is_blank fields || is_told_aga
 -- ---- the file
 
 below_legible : (header : Fields) (rest : List Fields) (file : File) → AllByRecursion (AllByRecursion IsUtf8) rest
-    → below header rest ≡ Ok file → AreLegibleRows file
-below_legible header rest file h e = at (faults header rest) e
+    → file_below header rest ≡ Ok file → HasLegibleRows file
+below_legible header rest file h e = at (line_faults header rest) e
   where
     at : (fs : List Fault)
         → or_fault fs (record { rows = rows header rest; translations = translations header rest }) ≡ Ok file
-        → AreLegibleRows file
+        → HasLegibleRows file
     at [] e =
         let same : record { rows = rows header rest; translations = translations header rest } ≡ file = cc in
-        subst AreLegibleRows same (rows_below header [] rest h)
+        subst HasLegibleRows same (rows_below header [] rest h)
     at (f ∷ fs) e = absurd (cc)
 
 under_legible : (header : Fields) (cs : List Cause) (rest : List Fields) (file : File)
-    → AllByRecursion (AllByRecursion IsUtf8) rest → under header cs rest ≡ Ok file → AreLegibleRows file
+    → AllByRecursion (AllByRecursion IsUtf8) rest → under header cs rest ≡ Ok file → HasLegibleRows file
 under_legible header [] rest file h e = below_legible header rest file h e
 under_legible header (c ∷ cs) rest file h e = absurd (cc)
 
 records_legible_in : (all : List Fields) (file : File) → AllByRecursion (AllByRecursion IsUtf8) all
-    → of_records all ≡ Ok file → AreLegibleRows file
+    → of_records all ≡ Ok file → HasLegibleRows file
 records_legible_in [] file h e = absurd (cc)
 records_legible_in (header ∷ rest) file h e = under_legible header (header_causes header) rest file h.1 e
 
@@ -239,12 +249,12 @@ all_trimmed : (all : List (List Bytes)) → AllByRecursion (AllByRecursion IsUtf
 all_trimmed [] h = tt
 all_trimmed (fields ∷ all) h = (each_trimmed fields h.0, all_trimmed all h.1)
 
-pub file_legible : (bytes : Bytes) (file : File) → file_of bytes ≡ Ok file → AreLegibleRows file
+pub file_legible : (bytes : Bytes) (file : File) → file_of bytes ≡ Ok file → HasLegibleRows file
 file_legible bytes file e = at (is_utf8 bytes) refl e
   where
     at : (b : Bool) → is_utf8 bytes ≡ b
-        → (if b then of_records (records_of bytes) else Err (0, number_of cause.NotUtf8)) ≡ Ok file
-        → AreLegibleRows file
+        → (if b then of_records (records_of bytes) else Err (0, cause_number cause.NotUtf8)) ≡ Ok file
+        → HasLegibleRows file
     at true u e =
         let text = past_mark bytes (IsUtf8-from_is_utf8 bytes u) in
         records_legible_in (records_of bytes) file (all_trimmed (records default_config (strip_bom bytes)) (records_legible (strip_bom bytes) text)) e

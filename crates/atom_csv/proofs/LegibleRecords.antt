@@ -1,12 +1,18 @@
 -- The fields of a text that is UTF-8 are UTF-8: what cuts fields, and what is left out of them, is ASCII.
-use Rattle.std.proofs.Common.{◌≡◌, ◌∙◌, ◌<◌, ◌++◌, ◌∷◌, [], ℕ, zero, suc, ◌+◌, Bool, true, false, List, Option, Some, None, length, take, drop, get_or, refl, sym, ap, subst, arith, append_assoc, length-append}
+use Rattle.std.proofs.Common.{◌≡◌, ◌∙◌, ◌<◌, ◌++◌, ◌∷◌, [], ℕ, zero, suc, ◌+◌, Bool, true, false, List, Option, Some}
+use Rattle.std.proofs.Common.{None, length, take, drop, get_or, refl, sym, ap, subst, arith, append_assoc}
+use Rattle.std.proofs.Common.{length-append}
 use Rattle.std.specs.Prelude.{IsUtf8}
 use Rattle.csv.specs.Machine.{next_record}
 use Rattle.csv.specs.Reading.{records_from, strip_bom}
-use Rattle.csv.specs.declared.parser.State.TheVariants as st
 use Rattle.csv.specs.declared.parser.Action.{Action}
 use Rattle.csv.specs.declared.parser.Action.TheVariants as act
-use Rattle.atom_csv.proofs.Common.{AllByRecursion, Bytes, IsCharBoundary-after_ascii, IsCharBoundary-before_ascii, IsUtf8-append, IsUtf8-drop, IsUtf8-nil, IsUtf8-past_char, IsUtf8-take, Read, State, default_config, ends_at_end, eqb-true, false≢true, field_after, fields_after, if◌then◌else◌, in_field, is_bom, is_end, records, records_next, start_field, start_record, step, ◌&&◌, ◌==◌, ◌||◌}
+use Rattle.csv.specs.declared.parser.State.TheVariants as st
+use Rattle.atom_csv.proofs.Common.{AllByRecursion, Bytes, IsCharBoundary-after_ascii, IsCharBoundary-before_ascii}
+use Rattle.atom_csv.proofs.Common.{IsUtf8-append, IsUtf8-drop, IsUtf8-nil, IsUtf8-past_char, IsUtf8-take, Read, State}
+use Rattle.atom_csv.proofs.Common.{default_config, ends_at_end, eqb-true, false≢true, field_after, fields_after}
+use Rattle.atom_csv.proofs.Common.{if◌then◌else◌, in_field, is_bom, is_end, records, records_next, start_field}
+use Rattle.atom_csv.proofs.Common.{start_record, step, ◌&&◌, ◌==◌, ◌||◌}
 
 -- ---- a text that is cut at an ASCII byte
 

@@ -1,8 +1,14 @@
 -- What a loop over the records keeps.
-use Rattle.std.proofs.Common.{◌≡◌, ◌∙◌, ◌+◌, ◌++◌, ◌∷◌, [], ℕ, Bool, true, false, List, length, Option, Some, None, option_map, refl, sym, ap, ap₂, arith, cond, append_assoc, append-nil, zero-add}
-use Rattle.std.specs.Prelude.{codes, Err}
+use Rattle.std.proofs.Common.{◌≡◌, ◌∙◌, ◌+◌, ◌++◌, ◌∷◌, [], ℕ, Bool, true, false, List, length, Option, Some, None}
+use Rattle.std.proofs.Common.{option_map, refl, sym, ap, ap₂, arith, cond, append_assoc, append-nil, zero-add}
 use Rattle.std.proofs.lemmas.Slice.Eq.{bytes_eq-Decides}
-use Rattle.atom_csv.proofs.Common.{Bytes, Cause, Fault, Fields, Knows, Line, and_parts, below, bytes_eq, causes, cons_option, count_by, culture, eqb-true, fault_of, faults, field_under, filter_map, filter_map-append, find, first_culture, if◌then◌else◌, is_blank, is_counted, is_empty, is_named, is_some, is_translation, legacy, lines, lines_below, lowest, number_of, or_fault, row_causes, row_of, row_told, rows, stood_above, sum_by-append, translations, ◌||◌}
+use Rattle.std.specs.Prelude.{codes, Err}
+use Rattle.atom_csv.proofs.Common.{Bytes, Cause, Fault, Fields, FileLine, Knows, and_parts, bytes_eq, cause_number}
+use Rattle.atom_csv.proofs.Common.{causes, cons_option, count_by, culture, eqb-true, field_under, file_below}
+use Rattle.atom_csv.proofs.Common.{filter_map, filter_map-append, find, first_culture, has_no_bytes, if◌then◌else◌}
+use Rattle.atom_csv.proofs.Common.{is_blank, is_column_name, is_counted, is_some, is_translation, legacy, line_fault}
+use Rattle.atom_csv.proofs.Common.{line_faults, lines, lines_below, lowest, or_fault, row_causes, row_of, row_told}
+use Rattle.atom_csv.proofs.Common.{rows, stood_above, sum_by-append, translations, ◌||◌}
 
 -- the lines of records one after another
 lines_below-append : (above xs ys : List Fields)
@@ -11,15 +17,15 @@ lines_below-append above [] ys = ap (λ zs. lines_below zs ys) (sym (append-nil 
 lines_below-append above (x ∷ xs) ys =
     ap (λ ls. record { above = above; fields = x } ∷ ls) (lines_below-append (above ++ x ∷ []) xs ys ∙ ap (λ zs. lines_below (above ++ x ∷ []) xs ++ lines_below zs ys) (append_assoc above (x ∷ []) xs))
 
-abbrev pub line_at : List Fields → Fields → Line
+abbrev pub line_at : List Fields → Fields → FileLine
 line_at above fields = record { above = above; fields = fields }
 
 -- a file's faults and rows, with what a further record adds
 faults_more : (header : Fields) (xs : List Fields) (x : Fields) (ys : List Fields)
-    → faults header (xs ++ x ∷ ys) ≡ faults header xs ++ filter_map (fault_of header) (line_at xs x ∷ lines_below (xs ++ x ∷ []) ys)
+    → line_faults header (xs ++ x ∷ ys) ≡ line_faults header xs ++ filter_map (line_fault header) (line_at xs x ∷ lines_below (xs ++ x ∷ []) ys)
 faults_more header xs x ys =
-    ap (filter_map (fault_of header)) (lines_below-append [] xs (x ∷ ys))
-    ∙ filter_map-append (fault_of header) (lines xs) _
+    ap (filter_map (line_fault header)) (lines_below-append [] xs (x ∷ ys))
+    ∙ filter_map-append (line_fault header) (lines xs) _
 
 rows_more : (header : Fields) (xs : List Fields) (x : Fields)
     → rows header (xs ++ x ∷ []) ≡ rows header xs ++ filter_map (row_told header) (line_at xs x ∷ [])
@@ -28,7 +34,7 @@ rows_more header xs x =
     ∙ filter_map-append (row_told header) (lines xs) _
 
 -- a blank record has no value
-empty_nil : (text : Bytes) → is_empty text ≡ true → text ≡ []
+empty_nil : (text : Bytes) → has_no_bytes text ≡ true → text ≡ []
 empty_nil [] e = refl
 empty_nil (b ∷ text) e =
     let some : length (b ∷ text) ≡ 0 = eqb-true _ _ e in
@@ -38,8 +44,8 @@ blank_value : (name : Bytes) (header fields : Fields) → is_blank fields ≡ tr
 blank_value name [] fields e = refl
 blank_value name (h ∷ hs) [] e = refl
 blank_value name (h ∷ hs) (f ∷ fs) e =
-    let parts = and_parts (is_empty f) (is_blank fs) e in
-    go (is_named name h) (empty_nil f parts.0) (blank_value name hs fs parts.1)
+    let parts = and_parts (has_no_bytes f) (is_blank fs) e in
+    go (is_column_name name h) (empty_nil f parts.0) (blank_value name hs fs parts.1)
   where
     go : (b : Bool) → f ≡ [] → field_under name hs fs ≡ [] → (if b then f else field_under name hs fs) ≡ []
     go true a c = a
@@ -101,18 +107,18 @@ first_new header id xs x none same = go (find (λ fields. bytes_eq (legacy heade
 -- ---- what the code knows of the records so far
 
 abbrev pub told : (Bytes → Option Bytes) → Bytes → Option Bytes
-told get id = if is_empty id then None else get id
+told get id = if has_no_bytes id then None else get id
 
 pub told_is : (header : Fields) (xs : List Fields) (x : Fields) (get : Bytes → Option Bytes) → Knows header xs get
     → told get (legacy header x) ≡ stood_above header (line_at xs x)
-told_is header xs x get known = go (is_empty (legacy header x)) refl
+told_is header xs x get known = go (has_no_bytes (legacy header x)) refl
   where
-    go : (b : Bool) → is_empty (legacy header x) ≡ b
+    go : (b : Bool) → has_no_bytes (legacy header x) ≡ b
         → (if b then None else get (legacy header x)) ≡ (if b then None else first_culture header (legacy header x) xs)
     go true e = refl
     go false e = known (legacy header x) e
 
-nil_differs : (id : Bytes) → is_empty id ≡ false → bytes_eq [] id ≡ false
+nil_differs : (id : Bytes) → has_no_bytes id ≡ false → bytes_eq [] id ≡ false
 nil_differs [] e = cc
 nil_differs (b ∷ id) e = refl
 
@@ -125,7 +131,7 @@ knows_blank header xs x get known blank = λ id some.
 -- the first record with the legacyId of a record that stood
 stood_first : (header : Fields) (xs : List Fields) (x : Fields) → is_some (stood_above header (line_at xs x)) ≡ true
     → is_some (first_culture header (legacy header x) xs) ≡ true
-stood_first header xs x some = go (is_empty (legacy header x)) some
+stood_first header xs x some = go (has_no_bytes (legacy header x)) some
   where
     go : (b : Bool) → is_some (if b then None else first_culture header (legacy header x) xs) ≡ true
         → is_some (first_culture header (legacy header x) xs) ≡ true
@@ -155,7 +161,7 @@ other_way a b e = go (bytes_eq b a) refl
 
 pub knows_new : (header : Fields) (xs : List Fields) (x : Fields) (get after : Bytes → Option Bytes)
     → Knows header xs get
-    → is_empty (legacy header x) ≡ false → is_some (stood_above header (line_at xs x)) ≡ false
+    → has_no_bytes (legacy header x) ≡ false → is_some (stood_above header (line_at xs x)) ≡ false
     → ((q : Bytes) → after q ≡ (if bytes_eq q (legacy header x) then Some (culture header x) else get q))
     → Knows header (xs ++ x ∷ []) after
 knows_new header xs x get after known there none next =
@@ -164,7 +170,7 @@ knows_new header xs x get after known there none next =
     first_none : is_some (first_culture header (legacy header x) xs) ≡ false
     first_none = ap (λ (b : Bool). is_some (if b then None else first_culture header (legacy header x) xs)) (sym there) ∙ none
 
-    go : (id : Bytes) → is_empty id ≡ false → (b : Bool) → bytes_eq id (legacy header x) ≡ b
+    go : (id : Bytes) → has_no_bytes id ≡ false → (b : Bool) → bytes_eq id (legacy header x) ≡ b
         → (if b then Some (culture header x) else get id) ≡ first_culture header id (xs ++ x ∷ [])
     go id some true e =
         let same : id ≡ legacy header x = (bytes_eq-Decides id (legacy header x)).0 e in
@@ -174,26 +180,26 @@ knows_new header xs x get after known there none next =
 -- ---- one more record
 
 pub fault_step : (header : Fields) (xs : List Fields) (x : Fields) (ys : List Fields) (stood : Option Bytes) (n : ℕ) (c : Cause)
-    → faults header xs ≡ [] → stood ≡ stood_above header (line_at xs x) → n ≡ length xs + 2
+    → line_faults header xs ≡ [] → stood ≡ stood_above header (line_at xs x) → n ≡ length xs + 2
     → Some c ≡ lowest (row_causes header x stood n)
-    → below header (xs ++ x ∷ ys) ≡ Err (n, number_of c)
+    → file_below header (xs ++ x ∷ ys) ≡ Err (n, cause_number c)
 fault_step header xs x ys stood n c none are row is =
-    let later = filter_map (fault_of header) (lines_below (xs ++ x ∷ []) ys) in
+    let later = filter_map (line_fault header) (lines_below (xs ++ x ∷ []) ys) in
     let found : lowest (causes header (line_at xs x)) ≡ Some c =
     sym (is ∙ ap₂ (λ (s : Option Bytes) (m : ℕ). lowest (row_causes header x s m)) are row) in
-    let pair : (length xs + 2, number_of c) ≡ (n, number_of c) = ap (λ (m : ℕ). (m, number_of c)) (sym row) in
+    let pair : (length xs + 2, cause_number c) ≡ (n, cause_number c) = ap (λ (m : ℕ). (m, cause_number c)) (sym row) in
     ap (λ fs. or_fault fs (record { rows = rows header (xs ++ x ∷ ys); translations = translations header (xs ++ x ∷ ys) }))
-    (faults_more header xs x ys ∙ (ap (λ fs. fs ++ cons_option (fault_of header (line_at xs x)) later) none
-    ∙ (ap (λ o. cons_option (option_map (λ cause. (length xs + 2, number_of cause)) o) later) found ∙ ap (λ (p : Fault). p ∷ later) pair)))
+    (faults_more header xs x ys ∙ (ap (λ fs. fs ++ cons_option (line_fault header (line_at xs x)) later) none
+    ∙ (ap (λ o. cons_option (option_map (λ cause. (length xs + 2, cause_number cause)) o) later) found ∙ ap (λ (p : Fault). p ∷ later) pair)))
 
-pub none_step : (header : Fields) (xs : List Fields) (x : Fields) (stood : Option Bytes) (n : ℕ) → faults header xs ≡ []
+pub none_step : (header : Fields) (xs : List Fields) (x : Fields) (stood : Option Bytes) (n : ℕ) → line_faults header xs ≡ []
     → stood ≡ stood_above header (line_at xs x) → n ≡ length xs + 2
     → None ≡ lowest (row_causes header x stood n)
-    → faults header (xs ++ x ∷ []) ≡ []
+    → line_faults header (xs ++ x ∷ []) ≡ []
 none_step header xs x stood n none are row is =
     let found : lowest (causes header (line_at xs x)) ≡ None =
     sym (is ∙ ap₂ (λ (s : Option Bytes) (m : ℕ). lowest (row_causes header x s m)) are row) in
-    faults_more header xs x [] ∙ (ap (λ fs. fs ++ cons_option (fault_of header (line_at xs x)) []) none ∙ ap (λ o. cons_option (option_map (λ cause. (length xs + 2, number_of cause)) o) []) found)
+    faults_more header xs x [] ∙ (ap (λ fs. fs ++ cons_option (line_fault header (line_at xs x)) []) none ∙ ap (λ o. cons_option (option_map (λ cause. (length xs + 2, cause_number cause)) o) []) found)
 
 -- a record that is passed over, or is a row
 pub rows_passed : (header : Fields) (xs : List Fields) (x : Fields)

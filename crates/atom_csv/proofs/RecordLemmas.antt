@@ -1,10 +1,12 @@
 -- The records of a text, one taken off.
-use Rattle.std.proofs.Common.{◌≡◌, ◌∙◌, ◌+◌, ◌≤◌, ◌<◌, ℕ, zero, suc, Bool, true, false, List, [], ◌∷◌, length, Option, Some, None, refl, sym, ap, subst, arith}
+use Rattle.std.proofs.Common.{◌≡◌, ◌∙◌, ◌+◌, ◌≤◌, ◌<◌, ℕ, zero, suc, Bool, true, false, List, [], ◌∷◌, length, Option}
+use Rattle.std.proofs.Common.{Some, None, refl, sym, ap, subst, arith}
 use Rattle.csv.specs.Machine.{next_record}
 use Rattle.csv.specs.Reading.{records_from}
 use Rattle.csv.specs.declared.parser.Config.{Config}
 use Rattle.csv.specs.declared.parser.State.TheVariants as st
-use Rattle.atom_csv.proofs.Common.{Read, State, default_config, ends_at_end, field_after, fields_after, if◌then◌else◌, is_end, records_next, step}
+use Rattle.atom_csv.proofs.Common.{Read, State, default_config, ends_at_end, field_after, fields_after, if◌then◌else◌}
+use Rattle.atom_csv.proofs.Common.{is_end, records_next, step}
 
 -- a record takes a byte at least
 shorter : (cfg : Config) (s : State) (fields : List (List ℕ)) (field : List ℕ) (c : ℕ) (rest : List ℕ) (p : Read)

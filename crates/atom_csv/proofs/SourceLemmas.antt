@@ -1,22 +1,24 @@
 -- What a reader of records has left, after a read.
-use Rattle.std.proofs.Common.{◌≡◌, ◌∙◌, ◌+◌, true, false, List, [], ◌∷◌, length, Option, Some, None, refl, sym, ap, ap₂, subst, inl, Bor}
+use Rattle.std.proofs.Common.{◌≡◌, ◌∙◌, ◌+◌, true, false, List, [], ◌∷◌, length, Option, Some, None, refl, sym, ap, ap₂}
+use Rattle.std.proofs.Common.{subst, inl, Bor}
 use Rattle.std.specs.Option.{option_map_or}
 use Rattle.std.specs.Str.{IsUtf8}
+use Rattle.csv.proofs.ReadFacts.{rows-end, rows-more}
 use Rattle.csv.specs.Machine.{next_record}
 use Rattle.csv.specs.Reading.{Reached, records_from}
 use Rattle.csv.specs.Records.{AllText}
 use Rattle.csv.specs.declared.error.ErrorKind.{ErrorKind}
 use Rattle.csv.specs.declared.error.ErrorKind.TheVariants as kind
 use Rattle.csv.specs.declared.parser.Config.{Config}
-use Rattle.csv.proofs.ReadFacts.{rows-end, rows-more}
-use Rattle.atom_csv.proofs.Common.{Bytes, ExplainsRead, IsReading, NextIs, Read, ReadRecord, ReadsNext, Source, State, default_config, is_flexible, pending_of, rows_left, took_first, unread}
+use Rattle.atom_csv.proofs.Common.{Bytes, ExplainsRead, IsReading, NextIs, Read, ReadRecord, ReadsNext, Source, State}
+use Rattle.atom_csv.proofs.Common.{default_config, is_flexible, pending_of, rows_left, took_first, unread_bytes}
 use Rattle.atom_csv.proofs.RecordLemmas.{records_none, records_taken}
 use Rattle.atom_csv.proofs.TextLemmas.{record_text}
 
 abbrev known : Bor Bytes → Option Bytes
 known s = Some s.now
 
-left_is : (r : Source) (text : Bytes) → unread r ≡ Some text
+left_is : (r : Source) (text : Bytes) → unread_bytes r ≡ Some text
     → rows_left r ≡ records_from default_config (length text + 1) r.state text
 left_is r text is = ap (λ o. option_map_or (λ ys. records_from default_config (length ys + 1) r.state ys) o []) is
 

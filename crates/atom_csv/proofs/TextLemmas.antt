@@ -1,16 +1,20 @@
 -- The records of a text are texts.
-use Rattle.std.proofs.Common.{◌≡◌, ◌∙◌, ◌+◌, ◌≤◌, ◌<◌, ◌++◌, ℕ, zero, suc, Bool, true, false, List, [], ◌∷◌, Option, Some, None, refl, sym, ap, subst, arith, append_assoc, append-nil, cond, ◌/◌, ◌%◌, nat_lt}
-use lib.Utf8.{encode, encodes, scalars}
+use Rattle.std.proofs.Common.{◌≡◌, ◌∙◌, ◌+◌, ◌≤◌, ◌<◌, ◌++◌, ℕ, zero, suc, Bool, true, false, List, [], ◌∷◌, Option}
+use Rattle.std.proofs.Common.{Some, None, refl, sym, ap, subst, arith, append_assoc, append-nil, cond, ◌/◌, ◌%◌, nat_lt}
 use Rattle.std.specs.Str.{IsUtf8}
-use Rattle.csv.specs.Records.{AllText}
 use Rattle.csv.proofs.RecordFacts.{text-more}
-use borrow.Author.Tests.{ltb-false}
 use Rattle.csv.specs.Machine.{next_record}
 use Rattle.csv.specs.Reading.{strip_bom}
-use Rattle.csv.specs.declared.parser.State.TheVariants as st
+use Rattle.csv.specs.Records.{AllText}
 use Rattle.csv.specs.declared.parser.Action.{Action}
 use Rattle.csv.specs.declared.parser.Action.TheVariants as act
-use Rattle.atom_csv.proofs.Common.{AllByRecursion, IsUtf8-append, IsUtf8-from_ascii, IsUtf8-nil, IsUtf8-past_char, Read, State, and_parts, default_config, encode_ascii, ends_at_end, eqb-true, field_after, fields_after, if◌then◌else◌, is_bom, is_end, le-ltb, ltb-true, ne_eqb, slice_index, step, ◌&&◌, ◌==◌}
+use Rattle.csv.specs.declared.parser.State.TheVariants as st
+use borrow.Author.Tests.{ltb-false}
+use lib.Utf8.{encode, encodes, scalars}
+use Rattle.atom_csv.proofs.Common.{AllByRecursion, IsUtf8-append, IsUtf8-from_ascii, IsUtf8-nil, IsUtf8-past_char, Read}
+use Rattle.atom_csv.proofs.Common.{State, and_parts, default_config, encode_ascii, ends_at_end, eqb-true, field_after}
+use Rattle.atom_csv.proofs.Common.{fields_after, if◌then◌else◌, is_bom, is_end, le-ltb, ltb-true, ne_eqb, slice_index}
+use Rattle.atom_csv.proofs.Common.{step, ◌&&◌, ◌==◌}
 
 after_high : State → State
 after_high st.StartRecord = st.InField

@@ -1,17 +1,28 @@
 -- What holds of every file that is told.
-use Rattle.std.proofs.Common.{◌+◌, ◌≡◌, ◌∙◌, ◌++◌, ◌∷◌, [], ℕ, Bool, true, false, List, Option, Some, None, Ok, Err, length, map, reverse, refl, sym, ap, ap₂, subst, cond, option_map}
+use Rattle.std.proofs.Common.{◌+◌, ◌≡◌, ◌∙◌, ◌++◌, ◌∷◌, [], ℕ, Bool, true, false, List, Option, Some, None, Ok, Err}
+use Rattle.std.proofs.Common.{length, map, reverse, refl, sym, ap, ap₂, subst, cond, option_map}
+use Rattle.std.proofs.lemmas.List.Folds.{list_all-append}
 use Rattle.std.specs.Prelude.{filter, not, codes}
 use Rattle.std.specs.Str.{is_utf8}
-use Rattle.std.proofs.lemmas.List.Folds.{list_all-append}
-use Rattle.isad_core.specs.declared.element.Element.{Element}
 use Rattle.csv.specs.Reading.{strip_bom}
-use Rattle.atom_csv.specs.FileProperties.{AllDiffer, AreValues, IsThere, IsTold}
+use Rattle.isad_core.specs.declared.element.Element.{Element}
+use Rattle.atom_csv.specs.FileProperties.{AllDiffer, AreValues, IsNotBlank, HasProperRows}
 use Rattle.atom_csv.specs.Values.{text_elements}
-use Rattle.atom_csv.specs.declared.column.Column.TheVariants as column
 use Rattle.atom_csv.specs.declared.cause.Cause.TheVariants as cause
+use Rattle.atom_csv.specs.declared.column.Column.TheVariants as column
 use Rattle.atom_csv.specs.declared.file.File.{File}
 use Rattle.atom_csv.specs.declared.file.Row.{Row}
-use Rattle.atom_csv.proofs.Common.{AllByRecursion, BoxKey, Bytes, Cause, Column, Fault, Fields, IfSome, below, bytes_eq, causes, columns_of, cons_option, culture, default_config, distinct, entries, entry_of, enumerate_from, fault_of, faults, field_under, file_of, filter_map, find, first_culture, flat_map, has_other_width, has_slug_alone, header_causes, if◌then◌else◌, is_blank, is_blank_text, is_empty, is_late, is_long, is_named, is_named_box, is_same, is_some, is_space, is_split, is_told_again, is_translation, joined, legacy, lines_below, list_all, lowest, name_of, nonblank, nonblank_entries, number_of, of_records, or_fault, parts_of, records, records_of, reverse-append, row_causes, row_of, row_told, rows, stood_above, text_of, told_by, translations, trim_start, trimmed, triple, under, value, values_of, when, ◌&&◌, ◌||◌}
+use Rattle.atom_csv.proofs.Common.{AllByRecursion, BoxKey, Bytes, Cause, Column, Fault, Fields, IfSome, bytes_eq}
+use Rattle.atom_csv.proofs.Common.{cause_if, cause_number, causes, column_name, columns_of, cons_option, culture}
+use Rattle.atom_csv.proofs.Common.{default_config, distinct, entries, entries_joined, enumerate_from, field_under}
+use Rattle.atom_csv.proofs.Common.{file_below, file_of, filter_map, find, first_culture, flat_map, has_no_bytes}
+use Rattle.atom_csv.proofs.Common.{has_other_width, has_slug_alone, header_causes, if◌then◌else◌, is_blank}
+use Rattle.atom_csv.proofs.Common.{is_blank_text, is_column_name, is_late, is_long, is_named_box, is_same_box, is_some}
+use Rattle.atom_csv.proofs.Common.{is_space, is_split, is_told_again, is_translation, legacy, line_fault, line_faults}
+use Rattle.atom_csv.proofs.Common.{lines_below, list_all, lowest, nonblank, nonblank_entries, of_records, or_fault}
+use Rattle.atom_csv.proofs.Common.{parts_of, records, records_of, reverse-append, row_causes, row_of, row_told, rows}
+use Rattle.atom_csv.proofs.Common.{stood_above, text_in_columns, told_by, translations, trim_start, trimmed}
+use Rattle.atom_csv.proofs.Common.{trimmed_entry, triple, under, value, values_of, ◌&&◌, ◌||◌}
 use Rattle.atom_csv.proofs.EntryLemmas.{cons_there}
 use Rattle.atom_csv.proofs.LineLemmas.{line_at}
 
@@ -35,22 +46,22 @@ and_false : (a : Bool) → (a && false) ≡ false
 and_false true = refl
 and_false false = refl
 
-last_there : (xs : List ℕ) (b : ℕ) → is_empty (xs ++ b ∷ []) ≡ false
+last_there : (xs : List ℕ) (b : ℕ) → has_no_bytes (xs ++ b ∷ []) ≡ false
 last_there [] b = refl
 last_there (x ∷ xs) b = cons_there x (xs ++ b ∷ [])
 
-reversed_blank : (v : List ℕ) → Tight v → is_blank_text (reverse v) ≡ is_empty (reverse v)
+reversed_blank : (v : List ℕ) → Tight v → is_blank_text (reverse v) ≡ has_no_bytes (reverse v)
 unfolding Tight
 reversed_blank [] t = refl
 reversed_blank (b ∷ rest) t =
     let turned : reverse (b ∷ rest) ≡ reverse rest ++ b ∷ [] = reverse-append (b ∷ []) rest in
     ap is_blank_text turned
     ∙ (list_all-append is_space (reverse rest) (b ∷ []) ∙ (ap (λ s. list_all is_space (reverse rest) && (s && true)) t ∙ and_false (list_all is_space (reverse rest))))
-    ∙ sym (ap is_empty turned ∙ last_there (reverse rest) b)
+    ∙ sym (ap has_no_bytes turned ∙ last_there (reverse rest) b)
 
 -- a text that is blank where nothing is there
 abbrev pub IsTidy : Bytes → Type 0
-IsTidy text = is_blank_text text ≡ is_empty text
+IsTidy text = is_blank_text text ≡ has_no_bytes text
 
 pub trimmed_tidy : (text : Bytes) → IsTidy (trimmed text)
 trimmed_tidy text = reversed_blank (trim_start (reverse (trim_start text))) (start_tight (reverse (trim_start text)))
@@ -69,7 +80,7 @@ records_tidy (r ∷ rs) = (trimmed_all r, records_tidy rs)
 field_tidy : (name : Bytes) (header fields : Fields) → AreTidy fields → IsTidy (field_under name header fields)
 field_tidy name [] fields t = refl
 field_tidy name (h ∷ hs) [] t = refl
-field_tidy name (h ∷ hs) (f ∷ fs) t = go (is_named name h) t.0 (field_tidy name hs fs t.1)
+field_tidy name (h ∷ hs) (f ∷ fs) t = go (is_column_name name h) t.0 (field_tidy name hs fs t.1)
   where
     go : (b : Bool) → IsTidy f → IsTidy (field_under name hs fs) → IsTidy (if b then f else field_under name hs fs)
     go true here later = here
@@ -118,14 +129,14 @@ differ_filter same p (x ∷ xs) h = go (p x) (all_filter (λ y. same x y ≡ fal
 
 -- ---- the texts of elements
 
-entry_tidy : (part : Bytes) → IsTidy (entry_of part)
+entry_tidy : (part : Bytes) → IsTidy (trimmed_entry part)
 entry_tidy part = go (bytes_eq (trimmed part) (codes "NULL"))
   where
     go : (b : Bool) → IsTidy (if b then [] else trimmed part)
     go true = refl
     go false = trimmed_tidy part
 
-entries_tidy : (parts : List Bytes) → AreTidy (map entry_of parts)
+entries_tidy : (parts : List Bytes) → AreTidy (map trimmed_entry parts)
 entries_tidy [] = tt
 entries_tidy (p ∷ ps) = (entry_tidy p, entries_tidy ps)
 
@@ -141,34 +152,34 @@ columns_tidy : (header fields : Fields) → AreTidy fields → (ks : List Column
 columns_tidy header fields t [] = tt
 columns_tidy header fields t (k ∷ ks) =
     all_append IsTidy (told_by k (value k header fields)) (flat_map (λ j. told_by j (value j header fields)) ks)
-    (told_tidy k (value k header fields) (field_tidy (name_of k) header fields t)) (columns_tidy header fields t ks)
+    (told_tidy k (value k header fields) (field_tidy (column_name k) header fields t)) (columns_tidy header fields t ks)
 
-joined_blank : (e : Bytes) (rest : List Bytes) → IsThere e → IsThere (joined (e ∷ rest))
+joined_blank : (e : Bytes) (rest : List Bytes) → IsNotBlank e → IsNotBlank (entries_joined (e ∷ rest))
 joined_blank e [] there = there
 joined_blank e (f ∷ rest) there =
-    list_all-append is_space (e ++ codes "; ") (joined (f ∷ rest))
-    ∙ ap (λ b. b && list_all is_space (joined (f ∷ rest))) (list_all-append is_space e (codes "; ") ∙ ap (λ b. b && list_all is_space (codes "; ")) there)
+    list_all-append is_space (e ++ codes "; ") (entries_joined (f ∷ rest))
+    ∙ ap (λ b. b && list_all is_space (entries_joined (f ∷ rest))) (list_all-append is_space e (codes "; ") ∙ ap (λ b. b && list_all is_space (codes "; ")) there)
 
-filled_there : (es : List Bytes) → AreTidy es → AllByRecursion IsThere (nonblank_entries es)
+filled_there : (es : List Bytes) → AreTidy es → AllByRecursion IsNotBlank (nonblank_entries es)
 filled_there [] t = tt
-filled_there (e ∷ es) t = go (is_empty e) refl (filled_there es t.1)
+filled_there (e ∷ es) t = go (has_no_bytes e) refl (filled_there es t.1)
   where
-    go : (b : Bool) → is_empty e ≡ b → AllByRecursion IsThere (nonblank_entries es)
-        → AllByRecursion IsThere (cond (not b) (e ∷ nonblank_entries es) (nonblank_entries es))
+    go : (b : Bool) → has_no_bytes e ≡ b → AllByRecursion IsNotBlank (nonblank_entries es)
+        → AllByRecursion IsNotBlank (cond (not b) (e ∷ nonblank_entries es) (nonblank_entries es))
     go true is later = later
     go false is later = (t.0 ∙ is, later)
 
 -- joined entries that are there are a text that is there, or none
-text_there : (es : List Bytes) → AllByRecursion IsThere es → IfSome (nonblank (joined es)) IsThere
+text_there : (es : List Bytes) → AllByRecursion IsNotBlank es → IfSome (nonblank (entries_joined es)) IsNotBlank
 text_there [] t = tt
-text_there (e ∷ es) t = go (is_empty (joined (e ∷ es)))
+text_there (e ∷ es) t = go (has_no_bytes (entries_joined (e ∷ es)))
   where
-    go : (b : Bool) → IfSome (if b then None else Some (joined (e ∷ es))) IsThere
+    go : (b : Bool) → IfSome (if b then None else Some (entries_joined (e ∷ es))) IsNotBlank
     go true = tt
     go false = joined_blank e es t.0
 
 texts_there : (header fields : Fields) → AreTidy fields → (es : List Element)
-    → AllByRecursion (λ text. IfSome text IsThere) (map (λ e. nonblank (text_of header fields e)) es)
+    → AllByRecursion (λ text. IfSome text IsNotBlank) (map (λ e. nonblank (text_in_columns header fields e)) es)
 texts_there header fields t [] = tt
 texts_there header fields t (e ∷ es) =
     (text_there (nonblank_entries (flat_map (λ k. told_by k (value k header fields)) (columns_of e))) (filled_there (flat_map (λ k. told_by k (value k header fields)) (columns_of e)) (columns_tidy header fields t (columns_of e))), texts_there header fields t es)
@@ -181,36 +192,36 @@ triples_tidy [] locations kinds n t = tt
 triples_tidy (name ∷ names) locations kinds n t = (t.0, triples_tidy names locations kinds (n + 1) t.1)
 
 named_there : (bs : List BoxKey) → AllByRecursion (λ (b : BoxKey). IsTidy b.name) bs
-    → AllByRecursion (λ (b : BoxKey). IsThere b.name) (filter is_named_box bs)
+    → AllByRecursion (λ (b : BoxKey). IsNotBlank b.name) (filter is_named_box bs)
 named_there [] t = tt
-named_there (b ∷ bs) t = go (is_empty b.name) refl (named_there bs t.1)
+named_there (b ∷ bs) t = go (has_no_bytes b.name) refl (named_there bs t.1)
   where
-    go : (e : Bool) → is_empty b.name ≡ e → AllByRecursion (λ (b : BoxKey). IsThere b.name) (filter is_named_box bs)
-        → AllByRecursion (λ (b : BoxKey). IsThere b.name) (cond (not e) (b ∷ filter is_named_box bs) (filter is_named_box bs))
+    go : (e : Bool) → has_no_bytes b.name ≡ e → AllByRecursion (λ (b : BoxKey). IsNotBlank b.name) (filter is_named_box bs)
+        → AllByRecursion (λ (b : BoxKey). IsNotBlank b.name) (cond (not e) (b ∷ filter is_named_box bs) (filter is_named_box bs))
     go true is later = later
     go false is later = (t.0 ∙ is, later)
 
 pub all_distinct : (P : BoxKey → Type 0) (bs : List BoxKey) → AllByRecursion P bs → AllByRecursion P (distinct bs)
 all_distinct P [] h = tt
-all_distinct P (b ∷ bs) h = (h.0, all_filter P (λ later. not (is_same b later)) (distinct bs) (all_distinct P bs h.1))
+all_distinct P (b ∷ bs) h = (h.0, all_filter P (λ later. not (is_same_box b later)) (distinct bs) (all_distinct P bs h.1))
 
 not_true : (b : Bool) → not b ≡ true → b ≡ false
 not_true true e = cc
 not_true false e = refl
 
-distinct_differ : (bs : List BoxKey) → AllDiffer is_same (distinct bs)
+distinct_differ : (bs : List BoxKey) → AllDiffer is_same_box (distinct bs)
 distinct_differ [] = tt
 distinct_differ (b ∷ bs) = (
-  all_weaker (λ (y : BoxKey). not (is_same b y) ≡ true) (λ (y : BoxKey). is_same b y ≡ false) (λ y. not_true (is_same b y)) (filter (λ later. not (is_same b later)) (distinct bs))
-      (all_passed (λ later. not (is_same b later)) (distinct bs)),
-  differ_filter is_same (λ later. not (is_same b later)) (distinct bs) (distinct_differ bs),
+  all_weaker (λ (y : BoxKey). not (is_same_box b y) ≡ true) (λ (y : BoxKey). is_same_box b y ≡ false) (λ y. not_true (is_same_box b y)) (filter (λ later. not (is_same_box b later)) (distinct bs))
+      (all_passed (λ later. not (is_same_box b later)) (distinct bs)),
+  differ_filter is_same_box (λ later. not (is_same_box b later)) (distinct bs) (distinct_differ bs),
 )
 
 -- the values of a record without white space at its ends
 values_there : (header fields : Fields) → AreTidy fields → AreValues (values_of header fields)
 values_there header fields t = record {
   texts = texts_there header fields t text_elements;
-  names = all_distinct (λ (b : BoxKey). IsThere b.name) _ (named_there _ (triples_tidy (entries (value column.PhysicalObjectName header fields)) _ _ 0 (entries_tidy (parts_of (value column.PhysicalObjectName header fields)))));
+  names = all_distinct (λ (b : BoxKey). IsNotBlank b.name) _ (named_there _ (triples_tidy (entries (value column.PhysicalObjectName header fields)) _ _ 0 (entries_tidy (parts_of (value column.PhysicalObjectName header fields)))));
   boxes = distinct_differ _;
 }
 
@@ -221,7 +232,7 @@ same_legacy a b = bytes_eq a.legacy b.legacy
 
 -- what is known of a row below these records
 record Below (header : Fields) (above : List Fields) (r : Row) : Type 0 where
-  there : IsThere r.legacy
+  there : IsNotBlank r.legacy
   new : first_culture header r.legacy above ≡ None
   values : AreValues r.values
 
@@ -252,14 +263,14 @@ new_front header above x id e =
 
 -- a record with no cause has a legacyId that stood nowhere
 clean : (w n s g l t : Bool)
-    → (when w cause.FieldCount ++ (when n cause.BlankLegacyId ++ (when s cause.Repeated ++ (when g cause.Slug ++ (when l cause.TooManyRows ++ when t cause.TooLong))))) ≡ []
+    → (cause_if w cause.FieldCount ++ (cause_if n cause.BlankLegacyId ++ (cause_if s cause.Repeated ++ (cause_if g cause.Slug ++ (cause_if l cause.TooManyRows ++ cause_if t cause.TooLong))))) ≡ []
     → (n ≡ false) × (s ≡ false)
 clean true n s g l t e = cc
 clean false true s g l t e = cc
 clean false false true g l t e = cc
 clean false false false g l t e = (refl, refl)
 
-no_causes : (cs : List Cause) (row : ℕ) → option_map {U = Fault} (λ c. (row, number_of c)) (lowest cs) ≡ None → cs ≡ []
+no_causes : (cs : List Cause) (row : ℕ) → option_map {U = Fault} (λ c. (row, cause_number c)) (lowest cs) ≡ None → cs ≡ []
 no_causes [] row e = refl
 no_causes (c ∷ cs) row e = cc
 
@@ -267,7 +278,7 @@ first_none : (o : Option Fault) (later : List Fault) → cons_option o later ≡
 first_none None later e = (refl, e)
 first_none (Some f) later e = cc
 
-stood_nowhere : (header : Fields) (above : List Fields) (x : Fields) → is_empty (legacy header x) ≡ false
+stood_nowhere : (header : Fields) (above : List Fields) (x : Fields) → has_no_bytes (legacy header x) ≡ false
     → is_some (stood_above header (line_at above x)) ≡ false → first_culture header (legacy header x) above ≡ None
 stood_nowhere header above x there none = gone (first_culture header (legacy header x) above) (ap (λ (b : Bool). is_some (if b then None else first_culture header (legacy header x) above)) (sym there) ∙ none)
   where
@@ -281,12 +292,12 @@ both_false false b e = (refl, e)
 
 clean_row : (header x : Fields) (stood : Option Bytes) (row : ℕ) → is_blank x ≡ false
     → is_translation header x stood ≡ false → row_causes header x stood row ≡ []
-    → (is_empty (legacy header x) ≡ false) × (is_some stood ≡ false)
+    → (has_no_bytes (legacy header x) ≡ false) × (is_some stood ≡ false)
 clean_row header x stood row blank again e =
-    clean _ _ _ _ _ _ (sym (ap₂ (λ (b t : Bool). if b then when (is_late row) cause.TooManyRows
-    else if t then when (has_other_width header x) cause.FieldCount ++ when (is_late row) cause.TooManyRows
-    else when (has_other_width header x) cause.FieldCount ++ (when (is_empty (legacy header x)) cause.BlankLegacyId ++ (when (is_some stood) cause.Repeated
-    ++ (when (has_slug_alone header x) cause.Slug ++ (when (is_late row) cause.TooManyRows ++ when (is_long header x) cause.TooLong))))) blank again) ∙ e)
+    clean _ _ _ _ _ _ (sym (ap₂ (λ (b t : Bool). if b then cause_if (is_late row) cause.TooManyRows
+    else if t then cause_if (has_other_width header x) cause.FieldCount ++ cause_if (is_late row) cause.TooManyRows
+    else cause_if (has_other_width header x) cause.FieldCount ++ (cause_if (has_no_bytes (legacy header x)) cause.BlankLegacyId ++ (cause_if (is_some stood) cause.Repeated
+    ++ (cause_if (has_slug_alone header x) cause.Slug ++ (cause_if (is_late row) cause.TooManyRows ++ cause_if (is_long header x) cause.TooLong))))) blank again) ∙ e)
 
 Facts : Fields → List Fields → List Row → Type 0
 Facts header above rs = AllByRecursion (Below header above) rs × AllDiffer same_legacy rs
@@ -297,7 +308,7 @@ below_front header above x r b =
     record { there = b.there; new = (new_front header above x r.legacy b.new).0; values = b.values }
 
 row_step : (header : Fields) (above : List Fields) (x : Fields) (rs : List Row) → AreTidy x
-    → fault_of header (line_at above x) ≡ None → Facts header (above ++ x ∷ []) rs
+    → line_fault header (line_at above x) ≡ None → Facts header (above ++ x ∷ []) rs
     → Facts header above (cons_option (row_told header (line_at above x)) rs)
 unfolding Facts
 row_step header above x rs tidy none later = go (is_blank x || is_told_again header (line_at above x)) refl
@@ -316,57 +327,57 @@ row_step header above x rs tidy none later = go (is_blank x || is_told_again hea
         let parts = both_false (is_blank x) (is_told_again header (line_at above x)) e in
         let found = clean_row header x (stood_above header (line_at above x)) (length above + 2) parts.0 parts.1 (no_causes (causes header (line_at above x)) (length above + 2) none) in
         let first : Below header above (row_of header x (length above + 2)) = record {
-          there = field_tidy (name_of column.LegacyId) header x tidy ∙ found.0;
+          there = field_tidy (column_name column.LegacyId) header x tidy ∙ found.0;
           new = stood_nowhere header above x found.0 found.1;
           values = values_there header x tidy;
         } in
         ((first, fronts), (others, later.1))
 
 told_rows : (header : Fields) (above xs : List Fields) → AllByRecursion AreTidy xs
-    → filter_map (fault_of header) (lines_below above xs) ≡ []
+    → filter_map (line_fault header) (lines_below above xs) ≡ []
     → Facts header above (filter_map (row_told header) (lines_below above xs))
 unfolding Facts
 told_rows header above [] t e = (tt, tt)
 told_rows header above (x ∷ xs) t e =
-    let parts = first_none (fault_of header (line_at above x)) (filter_map (fault_of header) (lines_below (above ++ x ∷ []) xs)) e in
+    let parts = first_none (line_fault header (line_at above x)) (filter_map (line_fault header) (lines_below (above ++ x ∷ []) xs)) e in
     row_step header above x (filter_map (row_told header) (lines_below (above ++ x ∷ []) xs)) t.0 parts.0 (told_rows header (above ++ x ∷ []) xs t.1 parts.1)
 
-rows_sound : (header : Fields) (rest : List Fields) (n : ℕ) → AllByRecursion AreTidy rest → faults header rest ≡ []
-    → IsTold (record { rows = rows header rest; translations = n })
+rows_sound : (header : Fields) (rest : List Fields) (n : ℕ) → AllByRecursion AreTidy rest → line_faults header rest ≡ []
+    → HasProperRows (record { rows = rows header rest; translations = n })
 unfolding Facts
 rows_sound header rest n t none =
     let told = told_rows header [] rest t none in
     record {
-      there = all_weaker (Below header []) (λ r. IsThere r.legacy) (λ r b. b.there) (rows header rest) told.0;
+      there = all_weaker (Below header []) (λ r. IsNotBlank r.legacy) (λ r b. b.there) (rows header rest) told.0;
       once = told.1;
       values = all_weaker (Below header []) (λ r. AreValues r.values) (λ r b. b.values) (rows header rest) told.0;
     }
 
 below_sound : (header : Fields) (rest : List Fields) (file : File) → AllByRecursion AreTidy rest
-    → below header rest ≡ Ok file → IsTold file
-below_sound header rest file t e = go (faults header rest) refl e
+    → file_below header rest ≡ Ok file → HasProperRows file
+below_sound header rest file t e = go (line_faults header rest) refl e
   where
-    go : (fs : List Fault) → faults header rest ≡ fs
+    go : (fs : List Fault) → line_faults header rest ≡ fs
         → or_fault fs (record { rows = rows header rest; translations = translations header rest }) ≡ Ok file
-        → IsTold file
+        → HasProperRows file
     go [] none e =
         let same : record { rows = rows header rest; translations = translations header rest } ≡ file = cc in
-        subst IsTold same (rows_sound header rest (translations header rest) t none)
+        subst HasProperRows same (rows_sound header rest (translations header rest) t none)
     go (f ∷ fs) some e = cc
 
 under_sound : (header : Fields) (cs : List Cause) (rest : List Fields) (file : File) → AllByRecursion AreTidy rest
-    → under header cs rest ≡ Ok file → IsTold file
+    → under header cs rest ≡ Ok file → HasProperRows file
 under_sound header [] rest file t e = below_sound header rest file t e
 under_sound header (c ∷ cs) rest file t e = cc
 
-records_sound : (rs : List Fields) (file : File) → AllByRecursion AreTidy rs → of_records rs ≡ Ok file → IsTold file
+records_sound : (rs : List Fields) (file : File) → AllByRecursion AreTidy rs → of_records rs ≡ Ok file → HasProperRows file
 records_sound [] file t e = cc
 records_sound (header ∷ rest) file t e = under_sound header (header_causes header) rest file t.1 e
 
-pub file_sound : (bytes : Bytes) (file : File) → file_of bytes ≡ Ok file → IsTold file
+pub file_sound : (bytes : Bytes) (file : File) → file_of bytes ≡ Ok file → HasProperRows file
 file_sound bytes file e = go (is_utf8 bytes) e
   where
-    go : (b : Bool) → (if b then of_records (records_of bytes) else Err (0, number_of cause.NotUtf8)) ≡ Ok file
-        → IsTold file
+    go : (b : Bool) → (if b then of_records (records_of bytes) else Err (0, cause_number cause.NotUtf8)) ≡ Ok file
+        → HasProperRows file
     go true e = records_sound (records_of bytes) file (records_tidy (records default_config (strip_bom bytes))) e
     go false e = cc

@@ -1,6 +1,8 @@
 -- White space at the ends of a text, one byte more or less.
-use Rattle.std.proofs.Common.{◌≡◌, ◌∙◌, ◌+◌, ◌<◌, ◌∷◌, [], ℕ, suc, Bool, true, false, List, length, take, drop, get_or, refl, sym, ap, arith, drop-cons, reverse}
-use Rattle.atom_csv.proofs.Common.{eqb-true, if◌then◌else◌, is_line_break, is_space, reverse-append, take-suc, trim_end, trim_start, ◌==◌, ◌||◌}
+use Rattle.std.proofs.Common.{◌≡◌, ◌∙◌, ◌+◌, ◌<◌, ◌∷◌, [], ℕ, suc, Bool, true, false, List, length, take, drop, get_or}
+use Rattle.std.proofs.Common.{refl, sym, ap, arith, drop-cons, reverse}
+use Rattle.atom_csv.proofs.Common.{eqb-true, if◌then◌else◌, is_line_break, is_space, reverse-append, take-suc, trim_end}
+use Rattle.atom_csv.proofs.Common.{trim_start, ◌==◌, ◌||◌}
 
 either : (a b : Bool) → (P : Type 0) → (a ≡ true → P) → (b ≡ true → P) → (a || b) ≡ true → P
 either true b P f g e = f refl

@@ -1,16 +1,17 @@
 -- The causes for which a file is refused, by their numbers.
 use Rattle.std.specs.Prelude.{ℕ}
 use Rattle.atom_csv.specs.declared.cause.Cause.{Cause}
-use Rattle.atom_csv.specs.declared.cause.Cause.TheVariants.{NotUtf8, NoHeader, NoLegacyId, HeaderTwice, FieldCount, BlankLegacyId, Repeated, Slug, TooManyRows, TooLong}
+use Rattle.atom_csv.specs.declared.cause.Cause.TheVariants.{NotUtf8, NoHeader, NoLegacyId, HeaderTwice, FieldCount}
+use Rattle.atom_csv.specs.declared.cause.Cause.TheVariants.{BlankLegacyId, Repeated, Slug, TooManyRows, TooLong}
 
-abbrev pub number_of : Cause → ℕ
-number_of NotUtf8 = 1
-number_of NoHeader = 2
-number_of NoLegacyId = 3
-number_of HeaderTwice = 4
-number_of FieldCount = 5
-number_of BlankLegacyId = 6
-number_of Repeated = 7
-number_of Slug = 8
-number_of TooManyRows = 9
-number_of TooLong = 10
+abbrev pub cause_number : Cause → ℕ
+cause_number NotUtf8 = 1
+cause_number NoHeader = 2
+cause_number NoLegacyId = 3
+cause_number HeaderTwice = 4
+cause_number FieldCount = 5
+cause_number BlankLegacyId = 6
+cause_number Repeated = 7
+cause_number Slug = 8
+cause_number TooManyRows = 9
+cause_number TooLong = 10

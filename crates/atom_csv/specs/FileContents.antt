@@ -1,14 +1,16 @@
 -- The contents of a file: its rows, or the position and the cause of its first fault.
-use Rattle.std.specs.Prelude.{ℕ, Bool, false, Option, Some, None, is_some, find, ◌&&◌, ◌||◌, Result, Ok, Err, option_map, slice_get, ◌==◌, ◌+◌, ◌++◌, not, nat_lt, if◌then◌else◌, List, [], ◌∷◌, length, map, filter_map, count_by, codes}
+use Rattle.std.specs.Prelude.{ℕ, Bool, false, Option, Some, None, is_some, find, ◌&&◌, ◌||◌, Result, Ok, Err}
+use Rattle.std.specs.Prelude.{option_map, slice_get, ◌==◌, ◌+◌, ◌++◌, not, nat_lt, if◌then◌else◌, List, [], ◌∷◌, length}
+use Rattle.std.specs.Prelude.{map, filter_map, count_by, codes}
 use Rattle.std.specs.List.{list_any}
 use Rattle.std.specs.Option.{option_map_or}
 use Rattle.std.specs.Str.{bytes_eq, is_utf8, str_eq_ignore_ascii_case}
 use Rattle.csv.specs.Reading.{default_config, records, strip_bom}
 use Rattle.isad_core.specs.Limits.{most_bytes, most_rows}
 use Rattle.isad_core.specs.Texts.{Bytes}
-use Rattle.atom_csv.specs.Columns.{columns, name_of}
-use Rattle.atom_csv.specs.Causes.{number_of}
-use Rattle.atom_csv.specs.Fields.{Fields, is_blank, is_empty, is_named, trimmed, value}
+use Rattle.atom_csv.specs.Columns.{columns, column_name}
+use Rattle.atom_csv.specs.Causes.{cause_number}
+use Rattle.atom_csv.specs.Fields.{Fields, is_blank, has_no_bytes, is_column_name, trimmed, value}
 use Rattle.atom_csv.specs.Values.{nonblank, values_of}
 use Rattle.atom_csv.specs.declared.column.Column.TheVariants as column
 use Rattle.atom_csv.specs.declared.cause.Cause.{Cause}
@@ -18,39 +20,39 @@ use Rattle.atom_csv.specs.declared.file.Row.{Row}
 
 -- ---- lines: the records below the header, each with all those between it and the header
 
-pub record Line : Type 0 where
+pub record FileLine : Type 0 where
   pub above : List Fields
   pub fields : Fields
 
-abbrev pub lines_below : List Fields → List Fields → List Line
+abbrev pub lines_below : List Fields → List Fields → List FileLine
 lines_below above [] = []
 lines_below above (fields ∷ rest) =
     record { above = above; fields = fields } ∷ lines_below (above ++ fields ∷ []) rest
 
-abbrev pub lines : List Fields → List Line
+abbrev pub lines : List Fields → List FileLine
 lines = lines_below []
 
 -- the header is row 1
-abbrev pub row_number : Line → ℕ
+abbrev pub row_number : FileLine → ℕ
 row_number line = length line.above + 2
 
 -- ---- causes
 
 -- a cause, if it holds
-abbrev pub when : Bool → Cause → List Cause
-when holds cause = if holds then cause ∷ [] else []
+abbrev pub cause_if : Bool → Cause → List Cause
+cause_if holds cause = if holds then cause ∷ [] else []
 
 -- a column that is read occurs twice
-abbrev pub has_twice : Fields → Bool
-has_twice header = list_any (λ k. nat_lt 1 (count_by (is_named (name_of k)) header)) columns
+abbrev pub has_column_twice : Fields → Bool
+has_column_twice header = list_any (λ k. nat_lt 1 (count_by (is_column_name (column_name k)) header)) columns
 
 -- a column with this name exists
 abbrev pub has_column : Bytes → Fields → Bool
-has_column name = list_any (is_named name)
+has_column name = list_any (is_column_name name)
 
 abbrev pub header_causes : Fields → List Cause
-header_causes header = when (not (has_column (codes "legacyId") header)) cause.NoLegacyId
-    ++ when (has_twice header) cause.HeaderTwice
+header_causes header = cause_if (not (has_column (codes "legacyId") header)) cause.NoLegacyId
+    ++ cause_if (has_column_twice header) cause.HeaderTwice
 
 abbrev pub legacy : Fields → Fields → Bytes
 legacy = value column.LegacyId
@@ -64,13 +66,13 @@ first_culture header id above =
     option_map (culture header) (find (λ fields. bytes_eq (legacy header fields) id) above)
 
 -- the culture of the first record above with the line's legacyId; none for a blank legacyId
-abbrev pub stood_above : Fields → Line → Option Bytes
-stood_above header line = if is_empty (legacy header line.fields) then None
+abbrev pub stood_above : Fields → FileLine → Option Bytes
+stood_above header line = if has_no_bytes (legacy header line.fields) then None
     else first_culture header (legacy header line.fields) line.above
 
 -- two cultures that are not blank and differ
 abbrev pub differ : Bytes → Bytes → Bool
-differ a b = not (is_empty a) && (not (is_empty b) && not (bytes_eq a b))
+differ a b = not (has_no_bytes a) && (not (has_no_bytes b) && not (bytes_eq a b))
 
 -- the record describes a unit again in another language; it is compared with the first record with its legacyId, whose
 -- culture is `stood`
@@ -83,8 +85,8 @@ has_other_width header fields = not (length fields == length header)
 
 -- the parent is named only by its slug
 abbrev pub has_slug_alone : Fields → Fields → Bool
-has_slug_alone header fields = not (is_empty (value column.QubitParentSlug header fields))
-    && is_empty (value column.ParentId header fields)
+has_slug_alone header fields = not (has_no_bytes (value column.QubitParentSlug header fields))
+    && has_no_bytes (value column.ParentId header fields)
 
 -- the header is row 1, and as many rows as a file may have follow it; later ones are too late
 abbrev pub is_late : ℕ → Bool
@@ -97,17 +99,17 @@ is_long header fields = list_any (λ k. nat_lt most_bytes (length (value k heade
 -- The causes of a record in this row, lowest first; `stood` is the culture of the first record with its legacyId. A
 -- blank record can only be too late, and a translation can also have another number of fields.
 abbrev pub row_causes : Fields → Fields → Option Bytes → ℕ → List Cause
-row_causes header fields stood row = if is_blank fields then when (is_late row) cause.TooManyRows
-    else if is_translation header fields stood then when (has_other_width header fields) cause.FieldCount
-    ++ when (is_late row) cause.TooManyRows
-    else when (has_other_width header fields) cause.FieldCount
-    ++ (when (is_empty (legacy header fields)) cause.BlankLegacyId
-    ++ (when (is_some stood) cause.Repeated
-    ++ (when (has_slug_alone header fields) cause.Slug
-    ++ (when (is_late row) cause.TooManyRows
-    ++ when (is_long header fields) cause.TooLong))))
+row_causes header fields stood row = if is_blank fields then cause_if (is_late row) cause.TooManyRows
+    else if is_translation header fields stood then cause_if (has_other_width header fields) cause.FieldCount
+    ++ cause_if (is_late row) cause.TooManyRows
+    else cause_if (has_other_width header fields) cause.FieldCount
+    ++ (cause_if (has_no_bytes (legacy header fields)) cause.BlankLegacyId
+    ++ (cause_if (is_some stood) cause.Repeated
+    ++ (cause_if (has_slug_alone header fields) cause.Slug
+    ++ (cause_if (is_late row) cause.TooManyRows
+    ++ cause_if (is_long header fields) cause.TooLong))))
 
-abbrev pub causes : Fields → Line → List Cause
+abbrev pub causes : Fields → FileLine → List Cause
 causes header line = row_causes header line.fields (stood_above header line) (row_number line)
 
 -- ---- rows
@@ -123,13 +125,13 @@ row_of header fields row = record {
 }
 
 -- the line describes the unit of a line above again
-abbrev pub is_told_again : Fields → Line → Bool
+abbrev pub is_told_again : Fields → FileLine → Bool
 is_told_again header line = is_translation header line.fields (stood_above header line)
 
-abbrev pub is_counted : Fields → Line → Bool
+abbrev pub is_counted : Fields → FileLine → Bool
 is_counted header line = not (is_blank line.fields) && is_told_again header line
 
-abbrev pub row_told : Fields → Line → Option Row
+abbrev pub row_told : Fields → FileLine → Option Row
 row_told header line = if is_blank line.fields || is_told_again header line
     then None else Some (row_of header line.fields (row_number line))
 
@@ -143,13 +145,13 @@ Fault = ℕ × ℕ
 abbrev pub lowest : List Cause → Option Cause
 lowest causes = slice_get causes 0
 
-abbrev pub fault_of : Fields → Line → Option Fault
-fault_of header line =
-    option_map (λ cause. (row_number line, number_of cause)) (lowest (causes header line))
+abbrev pub line_fault : Fields → FileLine → Option Fault
+line_fault header line =
+    option_map (λ cause. (row_number line, cause_number cause)) (lowest (causes header line))
 
 -- the rows with a cause, each with its lowest cause
-abbrev pub faults : Fields → List Fields → List Fault
-faults header rest = filter_map (fault_of header) (lines rest)
+abbrev pub line_faults : Fields → List Fields → List Fault
+line_faults header rest = filter_map (line_fault header) (lines rest)
 
 abbrev pub rows : Fields → List Fields → List Row
 rows header rest = filter_map (row_told header) (lines rest)
@@ -163,16 +165,16 @@ or_fault [] file = Ok file
 or_fault (fault ∷ later) file = Err fault
 
 -- the records below a header that has no cause
-abbrev pub below : Fields → List Fields → Result File Fault
-below header rest = or_fault (faults header rest)
+abbrev pub file_below : Fields → List Fields → Result File Fault
+file_below header rest = or_fault (line_faults header rest)
     (record { rows = rows header rest; translations = translations header rest })
 
 abbrev pub under : Fields → List Cause → List Fields → Result File Fault
-under header [] rest = below header rest
-under header (cause ∷ more) rest = Err (1, number_of cause)
+under header [] rest = file_below header rest
+under header (cause ∷ more) rest = Err (1, cause_number cause)
 
 abbrev pub of_records : List Fields → Result File Fault
-of_records [] = Err (1, number_of cause.NoHeader)
+of_records [] = Err (1, cause_number cause.NoHeader)
 of_records (header ∷ rest) = under header (header_causes header) rest
 
 -- the records of a text after a byte order mark, with no white space at the ends of fields
@@ -182,4 +184,4 @@ records_of bytes = map (map trimmed) (records default_config (strip_bom bytes))
 -- the file that the bytes encode, or the row and the cause of its first fault
 abbrev pub file_of : Bytes → Result File Fault
 file_of bytes = if is_utf8 bytes then of_records (records_of bytes)
-    else Err (0, number_of cause.NotUtf8)
+    else Err (0, cause_number cause.NotUtf8)

@@ -4,14 +4,14 @@ use Rattle.std.specs.List.{AllByRecursion}
 use Rattle.std.specs.Str.{bytes_eq}
 use Rattle.isad_core.specs.Texts.{Bytes, is_blank_text}
 use Rattle.isad_core.specs.declared.values.Values.{Values}
-use Rattle.isad_core.specs.Boxes.{is_same}
+use Rattle.isad_core.specs.Boxes.{is_same_box}
 use Rattle.isad_core.specs.LegibleValues.{AreLegibleValues}
 use Rattle.atom_csv.specs.declared.file.File.{File}
 use Rattle.atom_csv.specs.declared.file.Row.{Row}
 
 -- a text that is not blank
-abbrev pub IsThere : Bytes → Type 0
-IsThere text = is_blank_text text ≡ false
+abbrev pub IsNotBlank : Bytes → Type 0
+IsNotBlank text = is_blank_text text ≡ false
 
 -- any two of them differ
 abbrev pub AllDiffer : {X : Type 0} → (X → X → Bool) → List X → Type 0
@@ -20,13 +20,13 @@ AllDiffer same (x ∷ xs) = AllByRecursion (λ y. same x y ≡ false) xs × AllD
 
 -- no text of an element and no name of a container is blank, and no container occurs twice
 pub record AreValues (values : Values) : Type 0 where
-  pub texts : AllByRecursion (λ text. IfSome text IsThere) values.texts
-  pub names : AllByRecursion (λ b. IsThere b.name) values.boxes
-  pub boxes : AllDiffer is_same values.boxes
+  pub texts : AllByRecursion (λ text. IfSome text IsNotBlank) values.texts
+  pub names : AllByRecursion (λ b. IsNotBlank b.name) values.boxes
+  pub boxes : AllDiffer is_same_box values.boxes
 
 -- no legacyId is blank or occurs twice, and the values satisfy `AreValues`
-pub record IsTold (file : File) : Type 0 where
-  pub there : AllByRecursion (λ row. IsThere row.legacy) file.rows
+pub record HasProperRows (file : File) : Type 0 where
+  pub there : AllByRecursion (λ row. IsNotBlank row.legacy) file.rows
   pub once : AllDiffer (λ a b. bytes_eq a.legacy b.legacy) file.rows
   pub values : AllByRecursion (λ row. AreValues row.values) file.rows
 
@@ -36,5 +36,5 @@ pub record IsLegibleRow (row : Row) : Type 0 where
   pub parent : IfSome row.parent IsUtf8
   pub values : AreLegibleValues row.values
 
-abbrev pub AreLegibleRows : File → Type 0
-AreLegibleRows file = AllByRecursion IsLegibleRow file.rows
+abbrev pub HasLegibleRows : File → Type 0
+HasLegibleRows file = AllByRecursion IsLegibleRow file.rows

@@ -2,8 +2,8 @@
 use Rattle.std.specs.Prelude.{◌≡◌, ℕ, false, Option, List, []}
 use Rattle.std.specs.BTreeMap.{get_by_text}
 use Rattle.isad_core.specs.Texts.{Bytes}
-use Rattle.atom_csv.specs.Fields.{Fields, is_empty}
-use Rattle.atom_csv.specs.FileContents.{faults, first_culture, rows, translations}
+use Rattle.atom_csv.specs.Fields.{Fields, has_no_bytes}
+use Rattle.atom_csv.specs.FileContents.{line_faults, first_culture, rows, translations}
 use Rattle.atom_csv.specs.declared.file.FileFault.{FileFault}
 use Rattle.atom_csv.specs.declared.file.FileFault.TheVariants.{Memory, Bad}
 use Rattle.atom_csv.specs.declared.rows.Rows.{Rows}
@@ -15,11 +15,11 @@ IsBad (Bad row cause) told = told row cause
 
 -- for each legacyId that is not blank, `get` returns the culture of the first of these records with it
 abbrev pub Knows : Fields → List Fields → (Bytes → Option Bytes) → Type 0
-Knows header above get = (id : Bytes) → is_empty id ≡ false → get id ≡ first_culture header id above
+Knows header above get = (id : Bytes) → has_no_bytes id ≡ false → get id ≡ first_culture header id above
 
 -- the rows are those of these records below the header, and none of the records has a cause
-pub record Tells (header : Fields) (above : List Fields) (r : Rows) : Type 0 where
-  pub none : faults header above ≡ []
+pub record TellsRows (header : Fields) (above : List Fields) (r : Rows) : Type 0 where
+  pub none : line_faults header above ≡ []
   pub rows : r.rows ≡ rows header above
   pub translations : r.translations ≡ translations header above
   pub known : Knows header above (get_by_text r.cultures)

@@ -1,5 +1,6 @@
 -- The values of the description in a record.
-use Rattle.std.specs.Prelude.{ℕ, Bool, true, false, not, if◌then◌else◌, Option, Some, None, slice_get, unwrap_or, List, [], ◌∷◌, map, filter}
+use Rattle.std.specs.Prelude.{ℕ, Bool, true, false, not, if◌then◌else◌, Option, Some, None, slice_get, unwrap_or, List}
+use Rattle.std.specs.Prelude.{[], ◌∷◌, map, filter}
 use Rattle.std.specs.List.{enumerate_from, flat_map}
 use Rattle.isad_core.specs.Texts.{Bytes}
 use Rattle.isad_core.specs.Boxes.{distinct}
@@ -11,12 +12,12 @@ use Rattle.isad_core.specs.declared.values.Values.{Values}
 use Rattle.atom_csv.specs.declared.column.Column.{Column}
 use Rattle.atom_csv.specs.declared.column.Column.TheVariants as column
 use Rattle.atom_csv.specs.Columns.{columns_of, is_split}
-use Rattle.atom_csv.specs.Fields.{Fields, is_empty, value}
-use Rattle.atom_csv.specs.Entries.{entries, nonblank_entries, joined}
+use Rattle.atom_csv.specs.Fields.{Fields, has_no_bytes, value}
+use Rattle.atom_csv.specs.Entries.{entries, nonblank_entries, entries_joined}
 
 -- a text, or none if it is empty
 abbrev pub nonblank : Bytes → Option Bytes
-nonblank text = if is_empty text then None else Some text
+nonblank text = if has_no_bytes text then None else Some text
 
 -- ---- elements (ISAD(G) 3.1 to 3.7)
 
@@ -25,8 +26,8 @@ abbrev pub told_by : Column → Bytes → List Bytes
 told_by k text = if is_split k then entries text else text ∷ []
 
 -- the text of an element: the non-blank entries of its columns, in their order, joined
-abbrev pub text_of : Fields → Fields → Element → Bytes
-text_of header fields e = joined (nonblank_entries (flat_map (λ k. told_by k (value k header fields)) (columns_of e)))
+abbrev pub text_in_columns : Fields → Fields → Element → Bytes
+text_in_columns header fields e = entries_joined (nonblank_entries (flat_map (λ k. told_by k (value k header fields)) (columns_of e)))
 
 -- the level of description is stored apart from the other elements
 abbrev pub is_level : Element → Bool
@@ -54,7 +55,7 @@ triples names locations kinds = map (triple locations kinds) (enumerate_from 0 n
 
 -- the container has a name
 abbrev pub is_named_box : BoxKey → Bool
-is_named_box b = not (is_empty b.name)
+is_named_box b = not (has_no_bytes b.name)
 
 -- the containers of three columns; a blank name makes no container and does not shift the others
 abbrev pub boxes_of : Bytes → Bytes → Bytes → List BoxKey
@@ -65,8 +66,8 @@ boxes_of names locations kinds =
 
 abbrev pub values_of : Fields → Fields → Values
 values_of header fields = record {
-  level = text_of header fields element.Level;
-  texts = map (λ e. nonblank (text_of header fields e)) text_elements;
+  level = text_in_columns header fields element.Level;
+  texts = map (λ e. nonblank (text_in_columns header fields e)) text_elements;
   boxes = boxes_of (value column.PhysicalObjectName header fields)
       (value column.PhysicalObjectLocation header fields)
       (value column.PhysicalObjectType header fields);

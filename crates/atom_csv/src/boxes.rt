@@ -3,9 +3,9 @@ ghost use Rattle.std.specs.Prelude.{◌≡◌, ◌||◌, not, IfOk, OnOk};
 ghost use Rattle.isad_core.specs.declared.values.BoxKey.{BoxKey};
 ghost use Rattle.atom_csv.specs.Fields.{borrowed_fields};
 ghost use Rattle.atom_csv.specs.Values.{boxes_of};
-ghost use Rattle.isad_core.specs.Boxes.{is_same};
+ghost use Rattle.isad_core.specs.Boxes.{is_same_box};
 ghost use Rattle.atom_csv.specs.Values as spec;
-ghost use Rattle.atom_csv.specs.KnownContainers.{has, key};
+ghost use Rattle.atom_csv.specs.KnownContainers.{has_box, box_with};
 
 use crate::entries::entries;
 use isad_core::{BoxKey, List, Text};
@@ -22,9 +22,9 @@ fn keep<'a>(
     location: &'a str,
     kind: &'a str,
 ) -> Result<bool, AllocError>
-    ensures new { IfOk result (λ new. new ≡ not (has known.old (key name.now location.now kind.now))) }
+    ensures new { IfOk result (λ new. new ≡ not (has_box known.old (box_with name.now location.now kind.now))) }
     ensures kept { OnOk result ((q : BoxKey)
-        → has known.new q ≡ (is_same (key name.now location.now kind.now) q || has known.old q)) }
+        → has_box known.new q ≡ (is_same_box (box_with name.now location.now kind.now) q || has_box known.old q)) }
 {
     let is_new = known.insert((name, location, kind))?;
     Ok(is_new)
@@ -38,7 +38,7 @@ fn entry_at<'a>(entries: &[&'a str], i: usize) -> &'a str
 }
 
 fn box_key(alloc: Global, name: &str, location: &str, kind: &str) -> Result<BoxKey, AllocError>
-    ensures { IfOk result (λ b. b ≡ key name.now location.now kind.now) }
+    ensures { IfOk result (λ b. b ≡ box_with name.now location.now kind.now) }
 {
     Ok(BoxKey {
         name: Text::new(alloc, name)?,
@@ -58,8 +58,8 @@ impl<'a> Kept<'a> {
     ghost use Rattle.std.specs.Prelude.{OnOk, if◌then◌else◌, ◌++◌, ◌∷◌, []};
     ghost use Rattle.isad_core.specs.declared.values.BoxKey.{BoxKey};
     ghost use Rattle.std.specs.Prelude as std_list;
-    ghost use Rattle.atom_csv.specs.Fields.{is_empty};
-    ghost use Rattle.atom_csv.specs.KnownContainers.{Holds, key};
+    ghost use Rattle.atom_csv.specs.Fields.{has_no_bytes};
+    ghost use Rattle.atom_csv.specs.KnownContainers.{HoldsContainers, box_with};
 
     // Adds a container, unless its name is blank or it was added before.
     fn add(
@@ -69,9 +69,9 @@ impl<'a> Kept<'a> {
         location: &'a str,
         kind: &'a str,
     ) -> Result<(), AllocError>
-        ensures { OnOk result ((told : std_list.List BoxKey) → Holds self.old.known self.old.boxes told
-            → Holds self.new.known self.new.boxes
-            (told ++ (if is_empty name.now then [] else key name.now location.now kind.now ∷ []))) }
+        ensures { OnOk result ((told : std_list.List BoxKey) → HoldsContainers self.old.known self.old.boxes told
+            → HoldsContainers self.new.known self.new.boxes
+            (told ++ (if has_no_bytes name.now then [] else box_with name.now location.now kind.now ∷ []))) }
     {
         if name.is_empty() {
             return Ok(());

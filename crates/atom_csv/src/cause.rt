@@ -1,6 +1,6 @@
 //! Why a file is refused.
 ghost use Rattle.std.specs.Prelude.{◌≡◌};
-ghost use Rattle.atom_csv.specs.Causes.{number_of};
+ghost use Rattle.atom_csv.specs.Causes.{cause_number};
 
 /// Why a row of a file is faulty, lowest first.
 #[derive(Clone, Copy)]
@@ -30,7 +30,7 @@ pub enum Cause {
 impl Cause {
     /// Its number, from 1 to 10.
     pub fn number(self) -> u8
-        ensures { result ≡ number_of self }
+        ensures { result ≡ cause_number self }
     {
         match self {
             Cause::NotUtf8 => 1,

@@ -1,6 +1,6 @@
 //! The columns that are read, and the elements that they contain.
 ghost use Rattle.std.specs.Prelude.{◌≡◌};
-ghost use Rattle.atom_csv.specs.Columns.{columns_of, is_split, name_of};
+ghost use Rattle.atom_csv.specs.Columns.{columns_of, is_split, column_name};
 ghost use Rattle.atom_csv.specs.Columns as spec;
 
 use isad_core::Element;
@@ -98,7 +98,7 @@ impl Column {
 
     /// Its name in the header.
     pub fn name(self) -> &'static str
-        ensures { result.now ≡ name_of self }
+        ensures { result.now ≡ column_name self }
     {
         match self {
             Column::LegacyId => "legacyId",

@@ -8,7 +8,7 @@ use std::alloc::{AllocError, Global};
 
 /// The entry in one part of a split text. `NULL` is blank.
 pub fn entry(part: &str) -> &str
-    ensures { result.now ≡ spec.entry_of part.now }
+    ensures { result.now ≡ spec.trimmed_entry part.now }
 {
     match trim(part) {
         "NULL" => "",

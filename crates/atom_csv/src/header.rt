@@ -1,8 +1,8 @@
 //! The header of a file: which columns it has, and where they are.
 ghost use Rattle.std.specs.Prelude.{◌≡◌, ◌==◌, IfOk, count_by, map, nat_lt, length, position};
 ghost use Rattle.std.specs.List.{list_any};
-ghost use Rattle.atom_csv.specs.Columns.{columns, name_of};
-ghost use Rattle.atom_csv.specs.Fields.{field_in, fields_in, is_named, borrowed_fields};
+ghost use Rattle.atom_csv.specs.Columns.{columns, column_name};
+ghost use Rattle.atom_csv.specs.Fields.{field_in, fields_in, is_column_name, borrowed_fields};
 ghost use Rattle.atom_csv.specs.Fields as spec;
 ghost use Rattle.atom_csv.specs.FileContents.{header_causes, lowest};
 
@@ -26,21 +26,21 @@ fn names(alloc: Global, row: &StringRecord) -> Result<Vec<&str>, AllocError>
 
 // The index of the first column with this name.
 fn place(header: &[&str], name: &str) -> Option<usize>
-    ensures { result ≡ position (λ field. is_named name.now field.now) header.now }
+    ensures { result ≡ position (λ field. is_column_name name.now field.now) header.now }
 {
     header.iter().position(|field| *field == name)
 }
 
 // Whether a column has this name.
 fn has(header: &[&str], name: &str) -> bool
-    ensures { result ≡ list_any (λ field. is_named name.now field.now) header.now }
+    ensures { result ≡ list_any (λ field. is_column_name name.now field.now) header.now }
 {
     header.iter().any(|field| *field == name)
 }
 
 // How many columns have this name.
 fn count(header: &[&str], name: &str) -> usize
-    ensures { result ≡ count_by (λ field. is_named name.now field.now) header.now }
+    ensures { result ≡ count_by (λ field. is_column_name name.now field.now) header.now }
 {
     header.iter().filter(|field| **field == name).count()
 }
@@ -48,7 +48,7 @@ fn count(header: &[&str], name: &str) -> usize
 // Whether a column that is read occurs twice.
 fn has_twice(header: &[&str]) -> bool
     ensures { result ≡ list_any (λ column.
-        nat_lt 1 (count_by (λ field. is_named (name_of column) field.now) header.now)) columns }
+        nat_lt 1 (count_by (λ field. is_column_name (column_name column) field.now) header.now)) columns }
 {
     Column::all()
         .iter()
@@ -58,7 +58,7 @@ fn has_twice(header: &[&str]) -> bool
 // The index of each column that is read.
 fn places(alloc: Global, header: &[&str]) -> Result<Vec<Option<usize>>, AllocError>
     ensures { IfOk result (λ v. v.items
-        ≡ map (λ column. position (λ field. is_named (name_of column) field.now) header.now) columns) }
+        ≡ map (λ column. position (λ field. is_column_name (column_name column) field.now) header.now) columns) }
 {
     Column::all()
         .iter()
@@ -86,13 +86,13 @@ pub struct Header<'a> {
 
 impl<'a> Model for Header<'a> {
     ghost use Rattle.std.specs.Prelude.{◌≡◌};
-    ghost use Rattle.atom_csv.specs.Fields.{Fields, places_in, borrowed_fields};
+    ghost use Rattle.atom_csv.specs.Fields.{Fields, column_indices, borrowed_fields};
 
     ghost Value = { Fields };
 
     ghost view = { λ h. borrowed_fields h.names.items };
 
-    ghost invariant = { λ h. h.places.items ≡ places_in (borrowed_fields h.names.items) };
+    ghost invariant = { λ h. h.places.items ≡ column_indices (borrowed_fields h.names.items) };
 }
 
 impl<'a> Header<'a> {

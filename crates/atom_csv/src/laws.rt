@@ -2,10 +2,10 @@
 ghost use Rattle.std.specs.Prelude.{◌≡◌, ◌∷◌, ◌++◌, [], codes, replicate, true};
 ghost use Rattle.std.specs.Prelude.{Err, Ok, None, Some};
 ghost use Rattle.isad_core.specs.Texts.{Bytes};
-ghost use Rattle.atom_csv.specs.Entries.{entries, nonblank_entries, joined};
+ghost use Rattle.atom_csv.specs.Entries.{entries, nonblank_entries, entries_joined};
 ghost use Rattle.atom_csv.specs.FileContents.{file_of};
-ghost use Rattle.atom_csv.specs.KnownContainers.{key};
-ghost use Rattle.atom_csv.specs.FileProperties.{IsTold, AreLegibleRows};
+ghost use Rattle.atom_csv.specs.KnownContainers.{box_with};
+ghost use Rattle.atom_csv.specs.FileProperties.{HasProperRows, HasLegibleRows};
 ghost use Rattle.atom_csv.specs.Values.{boxes_of};
 ghost use Rattle.atom_csv.specs.declared.file.File.{File};
 
@@ -50,14 +50,14 @@ pub fn a_blank_row_counts()
 
 /// `NULL` and blank entries are left out when entries are joined.
 pub fn entries_are_joined()
-    ensures { joined (nonblank_entries (entries (codes "Smith|NULL| |Jones"))) ≡ codes "Smith; Jones" }
+    ensures { entries_joined (nonblank_entries (entries (codes "Smith|NULL| |Jones"))) ≡ codes "Smith; Jones" }
 {}
 
 /// The entries for containers are matched by place.
 pub fn containers_go_by_their_places()
     ensures { boxes_of (codes "Box 1||Box 3|Box 1") (codes "X|Y|Z|X") (codes "Box|NULL")
-        ≡ key (codes "Box 1") (codes "X") (codes "Box") ∷ key (codes "Box 3") (codes "Z") []
-        ∷ key (codes "Box 1") (codes "X") [] ∷ [] }
+        ≡ box_with (codes "Box 1") (codes "X") (codes "Box") ∷ box_with (codes "Box 3") (codes "Z") []
+        ∷ box_with (codes "Box 1") (codes "X") [] ∷ [] }
 {}
 
 /// The rows of a fonds and its series.
@@ -93,10 +93,10 @@ pub fn a_fonds_and_a_series()
 /// In a file that is read, no legacyId is blank or occurs twice, no text and no name of a container is
 /// blank, and no container occurs twice in a row.
 pub fn a_file_is_sound()
-    ensures { (bytes : Bytes) (file : File) → file_of bytes ≡ Ok file → IsTold file }
+    ensures { (bytes : Bytes) (file : File) → file_of bytes ≡ Ok file → HasProperRows file }
 {}
 
 /// Every text of a file's rows is UTF-8: no field is cut inside a character.
 pub fn a_file_is_legible()
-    ensures { (bytes : Bytes) (file : File) → file_of bytes ≡ Ok file → AreLegibleRows file }
+    ensures { (bytes : Bytes) (file : File) → file_of bytes ≡ Ok file → HasLegibleRows file }
 {}

@@ -17,9 +17,9 @@ use std::alloc::Global;
 // Reads the records below the header.
 fn below(alloc: Global, header: &Header, reader: &mut Reader<&[u8]>) -> Result<File, FileFault>
     requires { IsReading reader.old }
-    ensures rows { IfOk result (λ f. spec.below header.now (map (map trimmed) (rows_left reader.old)) ≡ Ok f) }
+    ensures rows { IfOk result (λ f. spec.file_below header.now (map (map trimmed) (rows_left reader.old)) ≡ Ok f) }
     ensures bad { IfErr result (λ e. IsBad e (λ at cause.
-        spec.below header.now (map (map trimmed) (rows_left reader.old)) ≡ Err (at, cause))) }
+        spec.file_below header.now (map (map trimmed) (rows_left reader.old)) ≡ Err (at, cause))) }
 {
     let mut rows = Rows::new(alloc);
     let mut row = StringRecord::new(alloc);

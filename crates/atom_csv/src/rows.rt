@@ -4,7 +4,7 @@ ghost use Rattle.std.specs.Prelude.{IfOk, OnOk, None, Some};
 ghost use Rattle.std.specs.BTreeMap.{get_by_text};
 ghost use Rattle.std.specs.Str.{bytes_eq, str_eq_ignore_ascii_case};
 ghost use Rattle.isad_core.specs.Texts.{Bytes};
-ghost use Rattle.atom_csv.specs.Fields.{fields_in, is_empty};
+ghost use Rattle.atom_csv.specs.Fields.{fields_in, has_no_bytes};
 ghost use Rattle.atom_csv.specs.Values.{nonblank};
 ghost use Rattle.atom_csv.specs.FileContents as spec;
 
@@ -57,7 +57,7 @@ type Cultures = BTreeMap<String, Text>;
 
 // The culture of the first row with this legacyId. A blank legacyId has none.
 fn culture_of<'a>(cultures: &'a Cultures, id: &str) -> Option<&'a Text>
-    ensures { option_map (λ t. t.now) result ≡ (if is_empty id.now then None else get_by_text cultures.now id.now) }
+    ensures { option_map (λ t. t.now) result ≡ (if has_no_bytes id.now then None else get_by_text cultures.now id.now) }
 {
     if id.is_empty() {
         return None;
@@ -95,13 +95,13 @@ impl Rows {
     ghost use Rattle.std.specs.Prelude as std_list;
     ghost use Rattle.isad_core.specs.Limits.{most_rows};
     ghost use Rattle.atom_csv.specs.Fields.{Fields, fields_in};
-    ghost use Rattle.atom_csv.specs.FileContents.{below};
-    ghost use Rattle.atom_csv.specs.ReadProgress.{IsBad, Tells};
+    ghost use Rattle.atom_csv.specs.FileContents.{file_below};
+    ghost use Rattle.atom_csv.specs.ReadProgress.{IsBad, TellsRows};
 
     /// The state before the first record below the header.
     pub fn new(alloc: Global) -> Rows
         ensures none { result.translations ≡ 0 }
-        ensures told { (header : Fields) → Tells header [] result }
+        ensures told { (header : Fields) → TellsRows header [] result }
     {
         Rows {
             rows: List::new(alloc),
@@ -123,10 +123,10 @@ impl Rows {
         ensures fits { OnOk result (self.new.translations ≤ number) }
         ensures early { OnOk result (number ≤ most_rows + 1) }
         ensures told { OnOk result ((above : std_list.List Fields) → number ≡ length above + 2
-            → Tells header.now above self.old → Tells header.now (above ++ fields_in row.now ∷ []) self.new) }
+            → TellsRows header.now above self.old → TellsRows header.now (above ++ fields_in row.now ∷ []) self.new) }
         ensures bad { IfErr result (λ e. IsBad e (λ at cause. (above later : std_list.List Fields)
-            → number ≡ length above + 2 → Tells header.now above self.old
-            → below header.now (above ++ fields_in row.now ∷ later) ≡ Err (at, cause))) }
+            → number ≡ length above + 2 → TellsRows header.now above self.old
+            → file_below header.now (above ++ fields_in row.now ∷ later) ≡ Err (at, cause))) }
     {
         let id = header.value(Column::LegacyId, row);
         let found = Findings::of(header, row, culture_of(&self.cultures, id), number);

@@ -1,7 +1,7 @@
 //! The values of the description in a record.
 ghost use Rattle.std.specs.Prelude.{◌≡◌, IfOk, map};
 ghost use Rattle.atom_csv.specs.Fields.{fields_in};
-ghost use Rattle.atom_csv.specs.Values.{nonblank, text_of, values_of};
+ghost use Rattle.atom_csv.specs.Values.{nonblank, text_in_columns, values_of};
 ghost use Rattle.atom_csv.specs.Values as spec;
 
 use crate::boxes::boxes;
@@ -20,7 +20,7 @@ fn optional(
     row: &StringRecord,
     element: Element,
 ) -> Result<Option<Text>, AllocError>
-    ensures { IfOk result (λ t. t ≡ nonblank (text_of header.now (fields_in row.now) element)) }
+    ensures { IfOk result (λ t. t ≡ nonblank (text_in_columns header.now (fields_in row.now) element)) }
 {
     let text = join_entries(alloc, header, row, element)?;
     if text.is_empty() {
@@ -36,7 +36,7 @@ fn texts(
     row: &StringRecord,
 ) -> Result<[Option<Text>; 25], AllocError>
     ensures { IfOk result (λ texts. texts
-        ≡ map (λ e. nonblank (text_of header.now (fields_in row.now) e)) spec.text_elements) }
+        ≡ map (λ e. nonblank (text_in_columns header.now (fields_in row.now) e)) spec.text_elements) }
 {
     let mut texts = array::from_fn(|_| None);
     texts[0] = optional(alloc, header, row, Element::ReferenceCode)?;

@@ -1,15 +1,20 @@
 -- A unit that is closed, or whose closure ends, by the rules and in the tables.
 use Rattle.std.proofs.Common.{◌≡◌, ℕ, ℤ, Bool, true, false, cond, [], ◌∷◌, Option, None, refl, ap}
 use Rattle.sqlite.specs.State as store
-use Rattle.catalogue_core.specs.Statuses.{with_closure}
 use Rattle.catalogue_core.proofs.ImportedAgain.{all_each}
 use Rattle.catalogue_core.proofs.KeptUnits.{closure_keeps}
 use Rattle.catalogue_core.proofs.LegibleMerges.{each_legible}
+use Rattle.catalogue_core.specs.Statuses.{with_closure}
+use Rattle.office_tables.specs.Schema as tables
 use Rattle.office_core.specs.declared.command.Command.TheVariants as command
 use Rattle.office_core.specs.declared.done.Done.TheVariants as done
-use Rattle.office_tables.specs.Schema as tables
 use Rattle.refinement.proofs.OpenedUnits.{OnlyOpens, passes}
-use Rattle.catalogue_commands.proofs.Common.{CanBeJudged, Catalogue, Forest, HasCleanDisk, IsChange, IsLegibleCatalogue, IsSomeDay, IsSoundOffice, OfficeRow, OnlyTouches, OthersAreOpen, Represents, State, Trees, Unit, Version, after, all_so, cut, distinct_ids, each, each_good, gate, has_id, has_unit, is_closed, is_later, judged_with, nodes, none_left, office_of, others_open, shown_with, stays_changed, ⊤}
+use Rattle.catalogue_commands.proofs.Common.{CanBeJudged, Catalogue, Forest, HasCleanDisk, IsChange, IsLegibleCatalogue}
+use Rattle.catalogue_commands.proofs.Common.{IsSomeDay, IsSoundOffice, OfficeRow, OnlyTouches, OthersAreOpen}
+use Rattle.catalogue_commands.proofs.Common.{Represents, State, Trees, Unit, Version, after, all_so, cut, distinct_ids}
+use Rattle.catalogue_commands.proofs.Common.{each, each_good, gate, has_id, has_unit, is_later, is_unit_closed}
+use Rattle.catalogue_commands.proofs.Common.{judged_with, nodes, none_left, office_of, others_open, shown_with}
+use Rattle.catalogue_commands.proofs.Common.{stays_changed, ⊤}
 
 module _ (u : ℕ) (until : Option ℤ) where
   abbrev change : Unit → Unit
@@ -80,8 +85,8 @@ ended_opens u until day past = record {
     published true unit is = is
     published false unit is = is
 
-    unclosed : (b : Bool) (unit : Unit) → is_closed day unit ≡ false
-        → is_closed day (cond b (record unit { until = until }) unit) ≡ false
+    unclosed : (b : Bool) (unit : Unit) → is_unit_closed day unit ≡ false
+        → is_unit_closed day (cond b (record unit { until = until }) unit) ≡ false
     unclosed true unit is = past
     unclosed false unit is = is
 

@@ -1,13 +1,16 @@
 -- The permits that are left where units are taken away.
-use Rattle.std.proofs.Common.{◌≡◌, ℕ, Bool, true, false, not, cond, List, [], ◌∷◌, ◌++◌, length, map, inl, inr, refl, sym, ap, ap₂, ◌∙◌, nat_eq}
+use Rattle.std.proofs.Common.{◌≡◌, ℕ, Bool, true, false, not, cond, List, [], ◌∷◌, ◌++◌, length, map, inl, inr, refl}
+use Rattle.std.proofs.Common.{sym, ap, ap₂, ◌∙◌, nat_eq}
 use Rattle.std.proofs.lemmas.List.Elements.{filter-append}
 use Rattle.tree_core.proofs.Pieces.{still_there}
 use Rattle.tree_core.proofs.SpanShifts.{tree_apart}
 use Rattle.desk_core.specs.DeskRows.{PermitRow}
-use Rattle.catalogue_statements.specs.Removals.{without}
+use Rattle.catalogue_statements.specs.Removals.{without_records}
 use Rattle.office_core.specs.Soundness.{ArePermitsOfUnits}
 use Rattle.office_core.specs.Words.{numbers_to}
-use Rattle.catalogue_commands.proofs.Common.{AllByRecursion, Forest, HasDistinctIds, Permit, State, Unit, all_append, branch, cases_Bool, cut, cut-each, each, filter, flat_map, has, has-each, has_id, has_unit, list_any, permit_row, permit_rows, removed}
+use Rattle.catalogue_commands.proofs.Common.{AllByRecursion, Forest, HasDistinctIds, Permit, State, Unit, all_append}
+use Rattle.catalogue_commands.proofs.Common.{branch, cases_Bool, cut, cut-each, each, filter, flat_map, has, has-each}
+use Rattle.catalogue_commands.proofs.Common.{has_id, has_unit, list_any, permit_row, permit_rows, removed}
 
 abbrev id_of : Unit → ℕ
 id_of unit = unit.id
@@ -62,7 +65,7 @@ rows_of_all P permits all (t ∷ ts) =
 -- the permits for the units of the branch are gone, and no others
 pub permits_left : (s : State) (u : ℕ) → HasDistinctIds (each id_of s.catalogue.forest)
     → has_unit s.catalogue.forest u ≡ true → ArePermitsOfUnits s
-    → permit_rows (removed s u) ≡ without (λ (row : PermitRow). row.unit) (branch (nat_eq u) (each id_of s.catalogue.forest)) (permit_rows s)
+    → permit_rows (removed s u) ≡ without_records (λ (row : PermitRow). row.unit) (branch (nat_eq u) (each id_of s.catalogue.forest)) (permit_rows s)
 permits_left s u once there known =
     let f = s.catalogue.forest in
     let q : ℕ → Bool = has_unit (cut (has_id u) f) in

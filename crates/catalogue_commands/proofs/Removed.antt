@@ -5,18 +5,24 @@ use Rattle.sqlite.specs.State as store
 use Rattle.isad_core.specs.Days.{is_day_number}
 use Rattle.tree_core.specs.ChangeConditions.{MayCut}
 use Rattle.desk_core.specs.DeskRows.{Desk, PermitRow}
-use Rattle.desk_store.specs.declared.container_orders.ContainerOrder.{ContainerOrder}
-use Rattle.desk_store.specs.Representation.{IsNumberOf, RepresentsDesk}
 use Rattle.catalogue_core.proofs.EachAfter.{all_cut}
 use Rattle.catalogue_core.proofs.UnitsAfter.{each_there}
 use Rattle.catalogue_store.specs.BranchRemoval.{HasNoBranch, tables_of_units}
+use Rattle.desk_store.specs.Representation.{IsNumberOf, RepresentsDesk}
+use Rattle.desk_store.specs.declared.container_orders.ContainerOrder.{ContainerOrder}
 use Rattle.office_core.specs.declared.command.Command.TheVariants as command
 use Rattle.office_core.specs.declared.done.Done.TheVariants as done
 use Rattle.state_encoding.proofs.LegibleRows.{desk_legible}
 use Rattle.refinement.proofs.Gates.{enough_of}
 use Rattle.refinement.proofs.OpenByPermits.{IsAlike, permitted_left}
 use Rattle.refinement.proofs.PermitFrames.{desk_with_permits}
-use Rattle.catalogue_commands.proofs.Common.{AllByRecursion, AreAsked, AreEnough, CanBeJudged, Catalogue, Forest, HasCleanDisk, HasLegibleTexts, IsChange, IsLegibleCatalogue, IsSomeDay, IsSoundOffice, OfficeRow, Permit, Represents, State, Trees, Unit, Version, all_filtered, all_so, branch, branch-each, cut, cut_good, distinct_ids, each, filter, has_id, has_unit, is_permitted, issued_of, judged_with, length-map, list_any, nodes, office_of, permit_rows, removed, stays_permitted, still_open, tables}
+use Rattle.catalogue_commands.proofs.Common.{AllByRecursion, AreAsked, AreEnough, CanBeJudged, Catalogue, Forest}
+use Rattle.catalogue_commands.proofs.Common.{HasCleanDisk, HasLegibleTexts, IsChange, IsLegibleCatalogue, IsSomeDay}
+use Rattle.catalogue_commands.proofs.Common.{IsSoundOffice, OfficeRow, Permit, Represents, State, Trees, Unit, Version}
+use Rattle.catalogue_commands.proofs.Common.{all_filtered, all_so, branch, branch-each, cut, cut_good, distinct_ids}
+use Rattle.catalogue_commands.proofs.Common.{each, filter, has_id, has_unit, is_permitted, issued_of, judged_with}
+use Rattle.catalogue_commands.proofs.Common.{length-map, list_any, nodes, office_of, permit_rows, removed}
+use Rattle.catalogue_commands.proofs.Common.{stays_permitted, still_open, tables}
 use Rattle.catalogue_commands.proofs.PermitsLeft.{permits_left}
 
 module _ (u : ℕ) where

@@ -1,18 +1,25 @@
 -- Units that become drafts or are published, by the rules and in the tables.
-use Rattle.std.proofs.Common.{◌≡◌, ℕ, ℤ, Bool, true, false, cond, List, [], ◌∷◌, length, None, inl, inr, refl, sym, ap, ◌∙◌, nat_eq}
+use Rattle.std.proofs.Common.{◌≡◌, ℕ, ℤ, Bool, true, false, cond, List, [], ◌∷◌, length, None, inl, inr, refl, sym, ap}
+use Rattle.std.proofs.Common.{◌∙◌, nat_eq}
 use Rattle.sqlite.specs.State as store
 use Rattle.tree_core.proofs.Lists.{any_agree, eqb_comm}
 use Rattle.tree_core.proofs.SpanShifts.{tree_apart}
-use Rattle.catalogue_core.specs.Statuses.{chosen, chosen_units, is_chosen, with_status}
 use Rattle.catalogue_core.proofs.ImportedAgain.{all_each}
 use Rattle.catalogue_core.proofs.KeptUnits.{status_keeps}
 use Rattle.catalogue_core.proofs.LegibleMerges.{each_legible}
 use Rattle.catalogue_core.proofs.UnitsAfter.{each_there}
+use Rattle.catalogue_core.specs.Statuses.{chosen, chosen_units, is_chosen, with_status}
+use Rattle.office_tables.specs.Schema as tables
 use Rattle.office_core.specs.declared.command.Command.TheVariants as command
 use Rattle.office_core.specs.declared.done.Done.TheVariants as done
-use Rattle.office_tables.specs.Schema as tables
 use Rattle.refinement.proofs.OpenedUnits.{OnlyOpens, passes}
-use Rattle.catalogue_commands.proofs.Common.{AllByRecursion, CanBeJudged, Catalogue, Forest, HasCleanDisk, HasDistinctIds, IsChange, IsLegibleCatalogue, IsSomeDay, IsSoundOffice, OfficeRow, OnlyTouches, OthersAreOpen, Represents, State, Trees, Unit, Version, after, all_so, branch, cases_Bool, cut, cut-each, distinct_ids, each, each_good, false≢true, gate, has, has-each, has_id, has_unit, is_closed, judged_with, list_any, nodes, none_left, office_of, others_open, shown_with, stays_changed, ⊤, ◌||◌}
+use Rattle.catalogue_commands.proofs.Common.{AllByRecursion, CanBeJudged, Catalogue, Forest, HasCleanDisk}
+use Rattle.catalogue_commands.proofs.Common.{HasDistinctIds, IsChange, IsLegibleCatalogue, IsSomeDay, IsSoundOffice}
+use Rattle.catalogue_commands.proofs.Common.{OfficeRow, OnlyTouches, OthersAreOpen, Represents, State, Trees, Unit}
+use Rattle.catalogue_commands.proofs.Common.{Version, after, all_so, branch, cases_Bool, cut, cut-each, distinct_ids}
+use Rattle.catalogue_commands.proofs.Common.{each, each_good, false≢true, gate, has, has-each, has_id, has_unit}
+use Rattle.catalogue_commands.proofs.Common.{is_unit_closed, judged_with, list_any, nodes, none_left, office_of}
+use Rattle.catalogue_commands.proofs.Common.{others_open, shown_with, stays_changed, ⊤, ◌||◌}
 
 abbrev id_of : Unit → ℕ
 id_of unit = unit.id
@@ -110,8 +117,8 @@ published_opens ids day u whole = record {
     published true unit is = refl
     published false unit is = is
 
-    unclosed : (b : Bool) (unit : Unit) → is_closed day unit ≡ false
-        → is_closed day (cond b (record unit { draft = false }) unit) ≡ false
+    unclosed : (b : Bool) (unit : Unit) → is_unit_closed day unit ≡ false
+        → is_unit_closed day (cond b (record unit { draft = false }) unit) ≡ false
     unclosed true unit is = is
     unclosed false unit is = is
 

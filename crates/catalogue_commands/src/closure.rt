@@ -5,7 +5,7 @@ ghost use Rattle.catalogue_core.specs.UnitLookup.{has_unit};
 ghost use Rattle.catalogue_core.specs.Units.{is_later};
 ghost use Rattle.catalogue_core.specs.GoodCatalogues.{IsSomeDay};
 ghost use Rattle.office_core.specs.declared.command.Command.TheVariants as command;
-ghost use Rattle.refinement.specs.CommandSteps.{Performs};
+ghost use Rattle.refinement.specs.CommandSteps.{PerformsKnowing};
 
 use catalogue_store::{Places, find_unit, set_closure};
 use isad_core::Day;
@@ -38,8 +38,9 @@ fn close_known<P: Places, S: Alter>(
 ) -> Result<Result<Done, Refusal>, StoreFault>
     requires calendar { IsSomeDay until }
     requires lasts { is_in_force ≡ is_later today until }
-    ensures { Performs P.represents P.version S.Store (λ s. (today ≡ s.day) × (has_unit s.catalogue.forest unit ≡ true))
-        (command.SetClosure unit until) tables.old tables.new result }
+    ensures { PerformsKnowing P.represents P.version S.Store
+        (λ s. (today ≡ s.day) × (has_unit s.catalogue.forest unit ≡ true)) (command.SetClosure unit until)
+        tables.old tables.new result }
 {
     set_closure(tables, unit, until)?;
     let done = Done::SetClosure { unit: unit.get() };
@@ -59,8 +60,8 @@ pub fn change_closure<P: Places, S: Alter>(
     unit: u64,
     until: Option<Day>,
 ) -> Result<Result<Done, Refusal>, StoreFault>
-    ensures { Performs P.represents P.version S.Store (λ s. today ≡ s.day) (command.SetClosure unit until) tables.old
-        tables.new result }
+    ensures { PerformsKnowing P.represents P.version S.Store (λ s. today ≡ s.day) (command.SetClosure unit until)
+        tables.old tables.new result }
 {
     let Some(number) = find_unit(alloc, tables, unit)? else {
         return Ok(Err(Refusal::UnknownUnit));

@@ -5,7 +5,7 @@ ghost use Rattle.catalogue_core.specs.UnitLookup.{has_unit};
 ghost use Rattle.desk_store.specs.Holdings.{issued_of};
 ghost use Rattle.office_core.specs.declared.command.Command.TheVariants as command;
 ghost use Rattle.state_encoding.specs.OfficeRows.{tables as tables_of};
-ghost use Rattle.refinement.specs.CommandSteps.{Performs};
+ghost use Rattle.refinement.specs.CommandSteps.{PerformsKnowing};
 ghost use Rattle.refinement.specs.Gate.{AreAsked};
 
 use catalogue_store::{Places, find_unit, remove_branch};
@@ -26,7 +26,8 @@ fn remove_beside<P: Places, S: Alter>(
     unit: Number,
     loans: &[ContainerOrder],
 ) -> Result<Result<Done, Refusal>, StoreFault>
-    ensures { Performs P.represents P.version S.Store (λ s. (today ≡ s.day) × (has_unit s.catalogue.forest unit ≡ true)
+    ensures { PerformsKnowing P.represents P.version S.Store
+        (λ s. (today ≡ s.day) × (has_unit s.catalogue.forest unit ≡ true)
         × AreAsked unit s (issued_of (tables_of P.version s).desk) loans.now) (command.Remove unit)
         tables.old tables.new result }
 {
@@ -42,8 +43,9 @@ fn remove_known<P: Places, S: Alter>(
     today: Day,
     unit: Number,
 ) -> Result<Result<Done, Refusal>, StoreFault>
-    ensures { Performs P.represents P.version S.Store (λ s. (today ≡ s.day) × (has_unit s.catalogue.forest unit ≡ true))
-        (command.Remove unit) tables.old tables.new result }
+    ensures { PerformsKnowing P.represents P.version S.Store
+        (λ s. (today ≡ s.day) × (has_unit s.catalogue.forest unit ≡ true)) (command.Remove unit)
+        tables.old tables.new result }
 {
     // Once the units are removed, no row says which containers they named.
     let loans = loans_near(alloc, tables, unit)?;
@@ -60,8 +62,8 @@ pub fn remove_unit<P: Places, S: Alter>(
     today: Day,
     unit: u64,
 ) -> Result<Result<Done, Refusal>, StoreFault>
-    ensures { Performs P.represents P.version S.Store (λ s. today ≡ s.day) (command.Remove unit) tables.old tables.new
-        result }
+    ensures { PerformsKnowing P.represents P.version S.Store (λ s. today ≡ s.day) (command.Remove unit)
+        tables.old tables.new result }
 {
     let Some(number) = find_unit(alloc, tables, unit)? else {
         return Ok(Err(Refusal::UnknownUnit));

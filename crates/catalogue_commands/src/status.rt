@@ -3,7 +3,7 @@
 ghost use Rattle.std.specs.Prelude.{◌≡◌, true};
 ghost use Rattle.catalogue_core.specs.UnitLookup.{has_unit};
 ghost use Rattle.office_core.specs.declared.command.Command.TheVariants as command;
-ghost use Rattle.refinement.specs.CommandSteps.{Performs};
+ghost use Rattle.refinement.specs.CommandSteps.{PerformsKnowing};
 
 use catalogue_store::{Places, find_unit, set_status};
 use isad_core::Day;
@@ -23,8 +23,9 @@ fn set_known<P: Places, S: Alter>(
     draft: bool,
     whole: bool,
 ) -> Result<Result<Done, Refusal>, StoreFault>
-    ensures { Performs P.represents P.version S.Store (λ s. (today ≡ s.day) × (has_unit s.catalogue.forest unit ≡ true))
-        (command.SetStatus unit draft whole) tables.old tables.new result }
+    ensures { PerformsKnowing P.represents P.version S.Store
+        (λ s. (today ≡ s.day) × (has_unit s.catalogue.forest unit ≡ true)) (command.SetStatus unit draft whole)
+        tables.old tables.new result }
 {
     let units = set_status(alloc, tables, unit, draft, whole)?;
     let done = Done::SetStatus { units };
@@ -45,7 +46,7 @@ pub fn change_status<P: Places, S: Alter>(
     draft: bool,
     whole: bool,
 ) -> Result<Result<Done, Refusal>, StoreFault>
-    ensures { Performs P.represents P.version S.Store (λ s. today ≡ s.day) (command.SetStatus unit draft whole)
+    ensures { PerformsKnowing P.represents P.version S.Store (λ s. today ≡ s.day) (command.SetStatus unit draft whole)
         tables.old tables.new result }
 {
     let Some(number) = find_unit(alloc, tables, unit)? else {

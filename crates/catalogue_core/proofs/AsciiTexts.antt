@@ -1,8 +1,9 @@
 -- Names of ASCII letters are UTF-8.
 use Rattle.std.proofs.Common.{◌≡◌, ℕ, zero, suc, ◌<◌, Bool, true, false, ◌||◌, [], ◌∷◌, arith}
-use Rattle.std.specs.Prelude.{◌&&◌, nat_eq, length}
 use Rattle.std.proofs.lemmas.Str.{IsUtf8-from_ascii}
-use Rattle.catalogue_core.proofs.Common.{Bytes, IsUtf8, and_parts, eqb-true, is_between, is_source, is_source_letter, leb-true, list_all, nat_le, slice_index}
+use Rattle.std.specs.Prelude.{◌&&◌, nat_eq, length}
+use Rattle.catalogue_core.proofs.Common.{Bytes, IsUtf8, and_parts, eqb-true, is_between, is_source, is_source_letter}
+use Rattle.catalogue_core.proofs.Common.{leb-true, list_all, nat_le, slice_index}
 
 each_low : (test : ℕ → Bool) → ((b : ℕ) → test b ≡ true → b < 128) → (bs : Bytes) → list_all test bs ≡ true → (i : ℕ)
     → slice_index bs i < 128

@@ -1,8 +1,9 @@
 -- The number of a container is its place.
-use Rattle.std.proofs.Common.{◌≡◌, ℕ, zero, suc, Bool, true, false, cond, not, List, [], ◌∷◌, Some, refl, sym, ap, ◌∙◌, subst}
+use Rattle.std.proofs.Common.{◌≡◌, ℕ, zero, suc, Bool, true, false, cond, not, List, [], ◌∷◌, Some, refl, sym, ap, ◌∙◌}
+use Rattle.std.proofs.Common.{subst}
 use Rattle.std.specs.Prelude.{filter}
-use Rattle.isad_core.specs.Boxes.{is_same as is_same_box}
-use Rattle.catalogue_core.proofs.Common.{AllByRecursion, BoxKey, NumbersArePlaces, distinct, not-true, number_in, option_map, slice_get, unwrap_or}
+use Rattle.catalogue_core.proofs.Common.{AllByRecursion, BoxKey, NumbersArePlaces, distinct, is_same_box, not-true}
+use Rattle.catalogue_core.proofs.Common.{number_among, option_map, slice_get, unwrap_or}
 use Rattle.catalogue_core.proofs.Imported.{distinct_filter}
 use Rattle.catalogue_core.proofs.ImportedAgain.{box_itself}
 
@@ -31,17 +32,17 @@ tail_of : {X : Type 0} (x y : X) (xs ys : List X) → x ∷ xs ≡ y ∷ ys → 
 tail_of x y xs ys e = cc
 
 place_in : (xs : List BoxKey) (i : ℕ) (b : BoxKey) → distinct xs ≡ xs → slice_get xs i ≡ Some b
-    → number_in xs b ≡ Some (suc i)
+    → number_among xs b ≡ Some (suc i)
 place_in [] i b d e = absurd (cc)
 place_in (x ∷ xs) zero b d e =
     let same : x ≡ b = cc in
-    ap (λ t. cond t (Some 1) (option_map suc (number_in xs b))) (ap (is_same_box x) (sym same) ∙ box_itself x)
+    ap (λ t. cond t (Some 1) (option_map suc (number_among xs b))) (ap (is_same_box x) (sym same) ∙ box_itself x)
 place_in (x ∷ xs) (suc i) b d e =
     let p : BoxKey → Bool = λ later. not (is_same_box x later) in
     let rest : filter p (distinct xs) ≡ xs = tail_of x x (filter p (distinct xs)) xs d in
     let pass : Pass p xs = subst (Pass p) rest (filtered_pass p (distinct xs)) in
     let again : distinct xs ≡ xs = ap distinct (sym (all_kept p xs pass)) ∙ (distinct_filter p xs ∙ rest) in
-    ap (λ t. cond t (Some 1) (option_map suc (number_in xs b))) (not-true (is_same_box x b) (passes_at p xs i b pass e))
+    ap (λ t. cond t (Some 1) (option_map suc (number_among xs b))) (not-true (is_same_box x b) (passes_at p xs i b pass e))
     ∙ ap (option_map suc) (place_in xs i b again e)
 
 pub numbers_are_places : NumbersArePlaces

@@ -1,9 +1,14 @@
 -- A branch that goes below another node: the nodes are those that there were.
-use Rattle.std.proofs.Common.{◌≡◌, ℕ, ◌+◌, ◌≤◌, Bool, true, false, cond, ◌||◌, List, [], ◌∷◌, ◌++◌, Option, Some, None, refl, sym, ap, ◌∙◌, subst, inl, inr, ◌⊎◌, arith, append_assoc}
+use Rattle.std.proofs.Common.{◌≡◌, ℕ, ◌+◌, ◌≤◌, Bool, true, false, cond, ◌||◌, List, [], ◌∷◌, ◌++◌, Option, Some, None}
+use Rattle.std.proofs.Common.{refl, sym, ap, ◌∙◌, subst, inl, inr, ◌⊎◌, arith, append_assoc}
 use Rattle.std.proofs.lemmas.List.{append-nil}
-use Rattle.tree_core.proofs.SpanShifts.{cut_none, none_of}
 use Rattle.tree_core.proofs.Adding.{perm_same, pull}
-use Rattle.catalogue_core.proofs.Common.{Empty, Forest, IsPermutation, IsPermutation-append_comm, IsPermutation-append_left, IsPermutation-append_right, IsPermutation-cons, IsPermutation-sym, IsPermutation-trans, Node, branch, cut, false≢true, has, list_any, list_any-IsPermutation, list_any-append, move_last, nodes, option_map_or, or_cases, put_below, put_last, tree}
+use Rattle.tree_core.proofs.SpanShifts.{cut_none, none_of}
+use Rattle.catalogue_core.proofs.Common.{Empty, Forest, IsPermutation, IsPermutation-append_comm}
+use Rattle.catalogue_core.proofs.Common.{IsPermutation-append_left, IsPermutation-append_right, IsPermutation-cons}
+use Rattle.catalogue_core.proofs.Common.{IsPermutation-sym, IsPermutation-trans, Node, branch, cut, false≢true, has}
+use Rattle.catalogue_core.proofs.Common.{list_any, list_any-IsPermutation, list_any-append, move_last, nodes}
+use Rattle.catalogue_core.proofs.Common.{option_map_or, or_cases, put_below, put_last, tree}
 use Rattle.catalogue_core.proofs.Rooted.{has_node, nodes-join}
 
 -- ---- how many nodes pass

@@ -1,8 +1,7 @@
 -- What holds of each of a list.
 use Rattle.std.proofs.Common.{◌≡◌, Bool, true, false, not, cond, ◌||◌, List, [], ◌∷◌, ◌++◌, Some, None, refl, subst}
 use Rattle.std.specs.Prelude.{filter}
-use Rattle.isad_core.specs.Boxes.{is_same as is_same_box}
-use Rattle.catalogue_core.proofs.Common.{AllByRecursion, BoxKey, distinct, find, list_any}
+use Rattle.catalogue_core.proofs.Common.{AllByRecursion, BoxKey, distinct, find, is_same_box, list_any}
 
 pub all_and : {X : Type 0} (P Q R : X → Type 0) → ((x : X) → P x → Q x → R x) → (xs : List X) → AllByRecursion P xs
     → AllByRecursion Q xs → AllByRecursion R xs

@@ -1,8 +1,11 @@
 -- Going row by row gives what merging all rows gives.
-use Rattle.std.proofs.Common.{◌≡◌, ℕ, suc, ◌+◌, ◌-◌, ◌≤◌, Bool, true, false, cond, ◌&&◌, List, [], ◌∷◌, ◌++◌, length, map, Option, Some, None, refl, sym, ap, ap₂, subst, ◌∙◌, nat_eq, arith}
+use Rattle.std.proofs.Common.{◌≡◌, ℕ, suc, ◌+◌, ◌-◌, ◌≤◌, Bool, true, false, cond, ◌&&◌, List, [], ◌∷◌, ◌++◌, length}
+use Rattle.std.proofs.Common.{map, Option, Some, None, refl, sym, ap, ap₂, subst, ◌∙◌, nat_eq, arith}
 use Rattle.std.specs.List.{IsDistinct}
-use Rattle.catalogue_core.specs.CatalogueMerge.{number_of}
-use Rattle.catalogue_core.proofs.Common.{AllByRecursion, Bytes, Forest, New, Row, Unit, and_parts, bytes_eq, eq-eqb, eqb_comm, false≢true, find, has_id, has_legacy, is_from, is_same_unit, ne_eqb, nodes, numbered_from, option_and_then, option_map, revised, unwrap_or}
+use Rattle.catalogue_core.proofs.Common.{AllByRecursion, Bytes, Forest, New, Row, Unit, and_parts, bytes_eq, eq-eqb}
+use Rattle.catalogue_core.proofs.Common.{eqb_comm, false≢true, find, has_id, has_legacy, is_from, is_same_unit, ne_eqb}
+use Rattle.catalogue_core.proofs.Common.{nodes, numbered_from, option_and_then, option_map, parent_number, revised}
+use Rattle.catalogue_core.proofs.Common.{unwrap_or}
 use Rattle.catalogue_core.proofs.DistinctLists.{all_so}
 use Rattle.catalogue_core.proofs.EachOf.{all_of_found}
 use Rattle.catalogue_core.proofs.EnteredUnits.{or_else, find-append}
@@ -27,15 +30,15 @@ all_onto P above [] h k = h
 all_onto P above (row ∷ rows) h k = all_onto P (row ∷ above) rows (k.0, h) k.1
 
 pub numbered-more : (f : Forest Unit) (source : Bytes) (n : ℕ) (above rows : List Row) (row : Row)
-    → numbered_from f source n above (rows ++ row ∷ []) ≡ numbered_from f source n above rows ++ record { id = n + length rows; parent = option_and_then (number_of f source (n + length rows) (onto above rows)) row.parent; row = row } ∷ []
+    → numbered_from f source n above (rows ++ row ∷ []) ≡ numbered_from f source n above rows ++ record { id = n + length rows; parent = option_and_then (parent_number f source (n + length rows) (onto above rows)) row.parent; row = row } ∷ []
 numbered-more f source n above [] row =
     let e : n ≡ n + 0 = omega arith in
-    ap (λ m. record { id = m; parent = option_and_then (number_of f source m above) row.parent; row = row } ∷ []) e
+    ap (λ m. record { id = m; parent = option_and_then (parent_number f source m above) row.parent; row = row } ∷ []) e
 numbered-more f source n above (r ∷ rows) row =
     let e : (n + 1) + length rows ≡ n + suc (length rows) = omega arith in
-    ap (λ l. record { id = n; parent = option_and_then (number_of f source n above) r.parent; row = r } ∷ l)
+    ap (λ l. record { id = n; parent = option_and_then (parent_number f source n above) r.parent; row = r } ∷ l)
     (numbered-more f source (n + 1) (r ∷ above) rows row
-    ∙ ap (λ m. numbered_from f source (n + 1) (r ∷ above) rows ++ record { id = m; parent = option_and_then (number_of f source m (onto (r ∷ above) rows)) row.parent; row = row } ∷ []) e)
+    ∙ ap (λ m. numbered_from f source (n + 1) (r ∷ above) rows ++ record { id = m; parent = option_and_then (parent_number f source m (onto (r ∷ above) rows)) row.parent; row = row } ∷ []) e)
 
 pub length-numbered : (f : Forest Unit) (source : Bytes) (n : ℕ) (above rows : List Row)
     → length (numbered_from f source n above rows) ≡ length rows
@@ -60,10 +63,10 @@ numbers_apart f source n above (row ∷ rows) = (
 
 pub number_past : (f : Forest Unit) (source : Bytes) (n : ℕ) (above : List Row) (legacy : Bytes)
     → AllByRecursion (λ (row : Row). bytes_eq legacy row.legacy ≡ false) above
-    → number_of f source n above legacy ≡ option_map (λ (u : Unit). u.id) (find (is_from source legacy) (nodes f))
+    → parent_number f source n above legacy ≡ option_map (λ (u : Unit). u.id) (find (is_from source legacy) (nodes f))
 number_past f source n [] legacy h = refl
 number_past f source n (row ∷ above) legacy h =
-    ap (λ (b : Bool). cond b (Some (n - 1)) (number_of f source (n - 1) above legacy)) h.0 ∙ number_past f source (n - 1) above legacy h.1
+    ap (λ (b : Bool). cond b (Some (n - 1)) (parent_number f source (n - 1) above legacy)) h.0 ∙ number_past f source (n - 1) above legacy h.1
 
 -- ---- the unit with one number in one source is the unit with its own number
 

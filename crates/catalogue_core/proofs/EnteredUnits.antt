@@ -1,7 +1,10 @@
 -- What is found in a forest that one more unit came into: the others as before, and the unit itself below its parent.
-use Rattle.std.proofs.Common.{◌≡◌, ℕ, suc, Bool, true, false, cond, ◌||◌, List, [], ◌∷◌, ◌++◌, length, map, Option, Some, None, refl, sym, ap, ap₂, ◌∙◌, subst}
+use Rattle.std.proofs.Common.{◌≡◌, ℕ, suc, Bool, true, false, cond, ◌||◌, List, [], ◌∷◌, ◌++◌, length, map, Option}
+use Rattle.std.proofs.Common.{Some, None, refl, sym, ap, ap₂, ◌∙◌, subst}
 use Rattle.tree_core.proofs.SpanShifts.{none_of}
-use Rattle.catalogue_core.proofs.Common.{Empty, Forest, Node, Unit, add, depth, each, false≢true, find, has, has-each, has_id, has_place, join, length-map, list_any, nodes, nodes-each, option_map, path, path-each, put_below}
+use Rattle.catalogue_core.proofs.Common.{Empty, Forest, Node, Unit, add, depth, each, false≢true, find, has, has-each}
+use Rattle.catalogue_core.proofs.Common.{has_id, has_place, join, length-map, list_any, nodes, nodes-each, option_map}
+use Rattle.catalogue_core.proofs.Common.{path, path-each, put_below}
 use Rattle.catalogue_core.proofs.Branches.{put_none}
 use Rattle.catalogue_core.proofs.Rooted.{has_node}
 

@@ -1,14 +1,20 @@
 -- The catalogue stays good where units are changed, removed or moved.
-use Rattle.std.proofs.Common.{◌≡◌, ℕ, ◌+◌, ◌<◌, ◌≤◌, Bool, true, false, cond, List, [], ◌∷◌, length, map, Option, Some, None, refl, sym, ap, ◌∙◌, subst, inl, inr, arith}
-use Rattle.std.specs.Prelude.{nat_eq}
-use Rattle.std.specs.List.{IsDistinct}
+use Rattle.std.proofs.Common.{◌≡◌, ℕ, ◌+◌, ◌<◌, ◌≤◌, Bool, true, false, cond, List, [], ◌∷◌, length, map, Option, Some}
+use Rattle.std.proofs.Common.{None, refl, sym, ap, ◌∙◌, subst, inl, inr, arith}
 use Rattle.std.proofs.lemmas.Map.Keys.{IsDistinct-IsPermutation}
-use Rattle.isad_core.specs.Boxes.{is_same}
-use Rattle.catalogue_core.proofs.Common.{AllByRecursion, AreGoodUnits, BoxKey, Catalogue, Empty, Forest, IsGoodUnit, IsPermutation, IsPermutation-map, Node, Unit, Values, cases_Bool, cut, depth_after, distinct, each, eq-eqb, eqb-true, eqb_comm, false≢true, has_id, has_place, has_unit, is_blank_text, is_good_text, is_into_itself, is_same_unit, is_source, length_permutation, list_all, list_any, most_bytes, most_deep, most_units, move_last, nodes, nodes-each, size, size-each}
+use Rattle.std.specs.List.{IsDistinct}
+use Rattle.std.specs.Prelude.{nat_eq}
+use Rattle.catalogue_core.proofs.Common.{AllByRecursion, AreGoodUnits, BoxKey, Catalogue, Empty, Forest, IsGoodUnit}
+use Rattle.catalogue_core.proofs.Common.{IsPermutation, IsPermutation-map, Node, Unit, Values, cases_Bool, cut}
+use Rattle.catalogue_core.proofs.Common.{depth_after, distinct, each, eq-eqb, eqb-true, eqb_comm, false≢true, has_id}
+use Rattle.catalogue_core.proofs.Common.{has_place, has_unit, is_blank_text, is_good_text, is_into_itself, is_same_box}
+use Rattle.catalogue_core.proofs.Common.{is_same_unit, is_source, length_permutation, list_all, list_any, most_bytes}
+use Rattle.catalogue_core.proofs.Common.{most_deep, most_units, move_last, nodes, nodes-each, size, size-each}
 use Rattle.catalogue_core.proofs.NodeLemmas.{length-nodes}
 use Rattle.catalogue_core.proofs.EachOf.{all_append, all_split}
 use Rattle.catalogue_core.proofs.ImportedAgain.{all_each}
-use Rattle.catalogue_core.proofs.DistinctLists.{all_so, distinct_so, distinct_mapped, distinct_unmapped, distinct_beside, distinct_parts}
+use Rattle.catalogue_core.proofs.DistinctLists.{all_so, distinct_so, distinct_mapped, distinct_unmapped}
+use Rattle.catalogue_core.proofs.DistinctLists.{distinct_beside, distinct_parts}
 use Rattle.catalogue_core.proofs.EachAfter.{all_cut, all_moved}
 use Rattle.catalogue_core.proofs.ImportedNumbers.{same_flip}
 use Rattle.catalogue_core.proofs.Branches.{many, passing, passing-many, IsOnePlace, moved_same}
@@ -87,7 +93,7 @@ kept_unit boxes g k unit h =
       level_short = subst (λ (x : Values). length x.level ≤ most_bytes) (sym (k.values unit)) h.level_short;
       texts = subst (λ (x : Values). list_all is_good_text x.texts ≡ true) (sym (k.values unit)) h.texts;
       texts_count = subst (λ (x : Values). length x.texts ≡ 25) (sym (k.values unit)) h.texts_count;
-      known = subst (λ (x : Values). list_all (λ box. list_any (is_same box) boxes) x.boxes ≡ true) (sym (k.values unit)) h.known;
+      known = subst (λ (x : Values). list_all (λ box. list_any (is_same_box box) boxes) x.boxes ≡ true) (sym (k.values unit)) h.known;
       apart = subst (λ (x : Values). distinct x.boxes ≡ x.boxes) (sym (k.values unit)) h.apart;
     }
 

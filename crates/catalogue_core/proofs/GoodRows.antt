@@ -1,15 +1,19 @@
 -- What the rows of a file tell is what a unit may have.
-use Rattle.std.proofs.Common.{◌≡◌, ◌≤◌, ℕ, zero, suc, Bool, true, false, not, cond, List, [], ◌∷◌, ◌++◌, length, Option, Some, None, Ok, refl, sym, ap, subst, arith, map}
+use Rattle.std.proofs.Common.{◌≡◌, ◌≤◌, ℕ, zero, suc, Bool, true, false, not, cond, List, [], ◌∷◌, ◌++◌, length, Option}
+use Rattle.std.proofs.Common.{Some, None, Ok, refl, sym, ap, subst, arith, map}
 use Rattle.std.specs.Prelude.{filter}
 use Rattle.isad_core.specs.declared.element.Element.TheVariants as element
+use Rattle.atom_csv.proofs.ToldLemmas.{file_sound}
 use Rattle.atom_csv.specs.Columns.{columns}
-use Rattle.atom_csv.specs.Entries.{entries, nonblank_entries, joined}
-use Rattle.atom_csv.specs.Fields.{Fields, is_empty, value}
-use Rattle.atom_csv.specs.Values.{nonblank, text_of, text_elements, triples, is_named_box}
+use Rattle.atom_csv.specs.Entries.{entries, nonblank_entries, entries_joined}
+use Rattle.atom_csv.specs.Fields.{Fields, has_no_bytes, value}
+use Rattle.atom_csv.specs.Values.{nonblank, text_in_columns, text_elements, triples, is_named_box}
 use Rattle.atom_csv.specs.declared.column.Column.{Column}
 use Rattle.atom_csv.specs.declared.column.Column.TheVariants as column
-use Rattle.atom_csv.proofs.ToldLemmas.{file_sound}
-use Rattle.catalogue_core.proofs.Common.{AllByRecursion, AreValues, Bytes, File, IfSome, IsGoodRow, IsThere, Row, and_from, cons_option, distinct, fault_of, file_of, filter_map, is_blank_text, is_good_text, is_long, lines_below, list_all, list_any, ltb-false, most_bytes, nat_lt, or_parts, row_number, row_of, row_told, slice_get}
+use Rattle.catalogue_core.proofs.Common.{AllByRecursion, AreValues, Bytes, File, IfSome, IsGoodRow, IsNotBlank, Row}
+use Rattle.catalogue_core.proofs.Common.{and_from, cons_option, distinct, file_of, filter_map, is_blank_text}
+use Rattle.catalogue_core.proofs.Common.{is_good_text, is_long, line_fault, lines_below, list_all, list_any, ltb-false}
+use Rattle.catalogue_core.proofs.Common.{most_bytes, nat_lt, or_parts, row_number, row_of, row_told, slice_get}
 use Rattle.catalogue_core.proofs.EachOf.{all_and}
 use Rattle.catalogue_core.proofs.FileRows.{read_from, answers, line_at, no_fault_cons}
 use Rattle.catalogue_core.proofs.Imported.{distinct_again}
@@ -42,21 +46,21 @@ unfolding columns
 level_at = refl
 
 -- one column tells the level
-one_text : (text : Bytes) → length (joined (nonblank_entries (text ∷ []))) ≤ length text
-one_text text = at (is_empty text)
+one_text : (text : Bytes) → length (entries_joined (nonblank_entries (text ∷ []))) ≤ length text
+one_text text = at (has_no_bytes text)
   where
-    at : (b : Bool) → length (joined (cond (not b) (text ∷ []) [])) ≤ length text
+    at : (b : Bool) → length (entries_joined (cond (not b) (text ∷ []) [])) ≤ length text
     at true = omega arith
     at false = omega arith
 
 short_level : (header fields : Fields) → is_long header fields ≡ false
-    → length (text_of header fields element.Level) ≤ most_bytes
+    → length (text_in_columns header fields element.Level) ≤ most_bytes
 short_level header fields e =
     let a = one_text (value column.LevelOfDescription header fields) in
     let b = short_column header fields 11 column.LevelOfDescription e level_at in
     omega (arith, a, b)
 
-described_count : (header fields : Fields) → length (map (λ e. nonblank (text_of header fields e)) text_elements) ≡ 25
+described_count : (header fields : Fields) → length (map (λ e. nonblank (text_in_columns header fields e)) text_elements) ≡ 25
 unfolding text_elements
 described_count header fields = refl
 
@@ -69,14 +73,14 @@ short_row header fields n long =
       apart = distinct_again (filter is_named_box (triples (entries (value column.PhysicalObjectName header fields)) (entries (value column.PhysicalObjectLocation header fields)) (entries (value column.PhysicalObjectType header fields))));
     }
 
-short_below : (header : Fields) (above rest : List Fields) → filter_map (fault_of header) (lines_below above rest) ≡ []
+short_below : (header : Fields) (above rest : List Fields) → filter_map (line_fault header) (lines_below above rest) ≡ []
     → AllByRecursion IsShortRow (filter_map (row_told header) (lines_below above rest))
 short_below header above [] f = tt
 short_below header above (fields ∷ rest) f =
     let x = no_fault_cons header above fields rest f in
     at (row_told header (line_at above fields)) refl x.0 (short_below header (above ++ fields ∷ []) rest x.1)
   where
-    at : (r : Option Row) → row_told header (line_at above fields) ≡ r → fault_of header (line_at above fields) ≡ None
+    at : (r : Option Row) → row_told header (line_at above fields) ≡ r → line_fault header (line_at above fields) ≡ None
         → AllByRecursion IsShortRow (filter_map (row_told header) (lines_below (above ++ fields ∷ []) rest))
         → AllByRecursion IsShortRow (cons_option r (filter_map (row_told header) (lines_below (above ++ fields ∷ []) rest)))
     at None e g k = k
@@ -91,7 +95,7 @@ short_rows bytes file e =
 
 -- ---- all of it
 
-good_texts : (texts : List (Option Bytes)) → AllByRecursion (λ text. IfSome text IsThere) texts
+good_texts : (texts : List (Option Bytes)) → AllByRecursion (λ text. IfSome text IsNotBlank) texts
     → list_all is_good_text texts ≡ true
 good_texts [] h = refl
 good_texts (None ∷ texts) h = good_texts texts h.1
@@ -102,10 +106,10 @@ good_texts (Some text ∷ texts) h =
 pub good_rows : (bytes : Bytes) (file : File) → file_of bytes ≡ Ok file → AllByRecursion IsGoodRow file.rows
 good_rows bytes file e =
     let t = file_sound bytes file e in
-    all_and (λ row. IsThere row.legacy) (λ row. AreValues row.values × IsShortRow row) IsGoodRow (λ row there k. good row there k.0 k.1) file.rows t.there
+    all_and (λ row. IsNotBlank row.legacy) (λ row. AreValues row.values × IsShortRow row) IsGoodRow (λ row there k. good row there k.0 k.1) file.rows t.there
     (all_and (λ row. AreValues row.values) IsShortRow (λ row. AreValues row.values × IsShortRow row) (λ row v k. (v, k)) file.rows t.values (short_rows bytes file e))
   where
-    good : (row : Row) → IsThere row.legacy → AreValues row.values → IsShortRow row → IsGoodRow row
+    good : (row : Row) → IsNotBlank row.legacy → AreValues row.values → IsShortRow row → IsGoodRow row
     good row there v k =
         record {
           legacy = there;

@@ -1,11 +1,14 @@
 -- What an accepted import has made.
-use Rattle.std.proofs.Common.{◌≡◌, ◌≤◌, ℕ, Bool, true, false, not, arith, cond, ◌&&◌, ◌||◌, List, [], ◌∷◌, ◌++◌, Ok, Err, refl, sym, ap, ◌∙◌, subst}
-use Rattle.std.specs.Prelude.{filter}
-use Rattle.std.proofs.lemmas.Slice.Eq.{bytes_eq-Decides}
-use Rattle.isad_core.specs.Boxes.{is_same as is_same_box}
-use Rattle.catalogue_core.specs.Intake.{take}
+use Rattle.std.proofs.Common.{◌≡◌, ◌≤◌, ℕ, Bool, true, false, not, arith, cond, ◌&&◌, ◌||◌, List, [], ◌∷◌, ◌++◌, Ok}
+use Rattle.std.proofs.Common.{Err, refl, sym, ap, ◌∙◌, subst}
 use Rattle.std.proofs.Math.Bool.{and_comm}
-use Rattle.catalogue_core.proofs.Common.{BoxKey, Bytes, Catalogue, File, Intake, Result, Row, and_parts, bytes_eq, distinct, faults_below, file_of, filter-append, flat_map, is_known, list_any, merge, merged, merged_boxes, numbered_from, or_first, take_rows, with_file}
+use Rattle.std.proofs.lemmas.Slice.Eq.{bytes_eq-Decides}
+use Rattle.std.specs.Prelude.{filter}
+use Rattle.catalogue_core.specs.Intake.{take}
+use Rattle.catalogue_core.proofs.Common.{BoxKey, Bytes, Catalogue, File, Intake, Result, Row, and_parts, bytes_eq}
+use Rattle.catalogue_core.proofs.Common.{distinct, faults_below, file_of, filter-append, flat_map, is_known}
+use Rattle.catalogue_core.proofs.Common.{is_same_box, list_any, merge, merged, merged_boxes, numbered_from, or_first}
+use Rattle.catalogue_core.proofs.Common.{take_rows, with_file}
 
 -- the rows of units that are not catalogued
 abbrev pub new_rows : Catalogue → Bytes → List Row → List Row

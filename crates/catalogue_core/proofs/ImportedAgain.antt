@@ -1,13 +1,20 @@
 -- A file that was taken changes nothing when it is taken again.
-use Rattle.std.proofs.Common.{◌≡◌, ℕ, ◌+◌, Bool, true, false, not, cond, ◌&&◌, ◌||◌, List, [], ◌∷◌, ◌++◌, length, Option, Some, None, Ok, refl, sym, ap, ◌∙◌, subst, inl, inr, arith}
-use Rattle.std.specs.Prelude.{filter}
-use Rattle.std.specs.Cmp.Lexicographic.{pointwise}
+use Rattle.std.proofs.Common.{◌≡◌, ℕ, ◌+◌, Bool, true, false, not, cond, ◌&&◌, ◌||◌, List, [], ◌∷◌, ◌++◌, length}
+use Rattle.std.proofs.Common.{Option, Some, None, Ok, refl, sym, ap, ◌∙◌, subst, inl, inr, arith}
 use Rattle.std.proofs.lemmas.List.Sums.{length-filter}
 use Rattle.std.proofs.lemmas.Slice.Eq.{bytes_eq-Decides}
-use Rattle.isad_core.specs.Boxes.{is_same as is_same_box}
-use Rattle.catalogue_core.specs.Intake.{is_same}
-use Rattle.catalogue_core.proofs.Common.{AllByRecursion, BoxKey, Bytes, Catalogue, Empty, Forest, New, Node, Result, Row, Unit, Values, and_from, and_parts, branches, bytes_eq, cases_Bool, count_by, distinct, each, false≢true, faults_below, find, flat_map, grown, has, has-each, has_legacy, is_changed, is_from, is_known, is_new, join, list_any, list_any-append, merge, merged, merged_boxes, merged_forest, new_unit, new_units, nodes, not-false, numbered_from, option_eq, option_map, option_map_or, or_first, or_left, or_right, revised, same_values, unit_of, unwrap_or}
-use Rattle.catalogue_core.proofs.EachOf.{all_append, all_split, all_filtered, all_and, all_true, all_distinct, all_of_found}
+use Rattle.std.specs.Cmp.Lexicographic.{pointwise}
+use Rattle.std.specs.Prelude.{filter}
+use Rattle.catalogue_core.proofs.Common.{AllByRecursion, BoxKey, Bytes, Catalogue, Empty, Forest, New, Node, Result}
+use Rattle.catalogue_core.proofs.Common.{Row, Unit, Values, and_from, and_parts, branches, bytes_eq, cases_Bool}
+use Rattle.catalogue_core.proofs.Common.{catalogued_unit, count_by, distinct, each, false≢true, faults_below, find}
+use Rattle.catalogue_core.proofs.Common.{flat_map, grown, has, has-each, has_legacy, is_changed, is_from, is_known}
+use Rattle.catalogue_core.proofs.Common.{is_new, is_same, is_same_box, join, list_any, list_any-append, merge, merged}
+use Rattle.catalogue_core.proofs.Common.{merged_boxes, merged_forest, new_unit, new_units, nodes, not-false}
+use Rattle.catalogue_core.proofs.Common.{numbered_from, option_eq, option_map, option_map_or, or_first, or_left}
+use Rattle.catalogue_core.proofs.Common.{or_right, revised, same_values, unwrap_or}
+use Rattle.catalogue_core.proofs.EachOf.{all_append, all_split, all_filtered, all_and, all_true, all_distinct}
+use Rattle.catalogue_core.proofs.EachOf.{all_of_found}
 use Rattle.catalogue_core.proofs.FileRows.{AreApartRows}
 use Rattle.catalogue_core.proofs.Imported.{new_rows, same_box, boxes_grow, distinct_again}
 use Rattle.catalogue_core.proofs.Rooted.{has-join, nodes-join, grown_keeps, new_there}
@@ -370,7 +377,7 @@ row_same : (source : Bytes) (rows : List Row) (f : Forest Unit) (row : Row)
     → AllByRecursion (Tells source rows) (nodes f) → is_known f source row ≡ true
     → find (has_legacy row.legacy) rows ≡ Some row → is_same f source row ≡ true
 row_same source rows f row t k r =
-    let x = found_one f (is_from source row.legacy) (unit_of f source row) refl k in
+    let x = found_one f (is_from source row.legacy) (catalogued_unit f source row) refl k in
     let b = and_parts (bytes_eq x.0.source source) (bytes_eq x.0.legacy row.legacy) x.2 in
     let l = one_text x.0.legacy row.legacy b.1 in
     let u = all_of_found (Tells source rows) (is_from source row.legacy) (nodes f) x.0 x.1 t in

@@ -1,8 +1,12 @@
 -- After an import no unit lies deeper than one may.
-use Rattle.std.proofs.Common.{◌≡◌, ℕ, suc, ◌+◌, ◌-◌, ◌<◌, ◌≤◌, Bool, true, false, cond, List, [], ◌∷◌, ◌++◌, length, Option, Some, None, refl, sym, ap, ◌∙◌, arith}
+use Rattle.std.proofs.Common.{◌≡◌, ℕ, suc, ◌+◌, ◌-◌, ◌<◌, ◌≤◌, Bool, true, false, cond, List, [], ◌∷◌, ◌++◌, length}
+use Rattle.std.proofs.Common.{Option, Some, None, refl, sym, ap, ◌∙◌, arith}
 use Rattle.std.specs.Prelude.{nat_eq}
-use Rattle.catalogue_core.specs.CatalogueMerge.{number_of}
-use Rattle.catalogue_core.proofs.Common.{AllByRecursion, Bytes, Empty, Forest, New, Node, Row, Unit, branches, cause_at, depth_under, each, eq-eqb, faults_below, find, grown, has, has_id, has_legacy, height, is_from, ltb-false, merged_forest, most_deep, nat_lt, ne_eqb, new_unit, new_units, nodes, numbered_from, option_and_then, option_eq, option_map, option_to_list, path, revised}
+use Rattle.catalogue_core.proofs.Common.{AllByRecursion, Bytes, Empty, Forest, New, Node, Row, Unit, branches, cause_at}
+use Rattle.catalogue_core.proofs.Common.{depth_under, each, eq-eqb, faults_below, find, grown, has, has_id, has_legacy}
+use Rattle.catalogue_core.proofs.Common.{height, is_from, ltb-false, merged_forest, most_deep, nat_lt, ne_eqb, new_unit}
+use Rattle.catalogue_core.proofs.Common.{new_units, nodes, numbered_from, option_and_then, option_eq, option_map}
+use Rattle.catalogue_core.proofs.Common.{option_to_list, parent_number, path, revised}
 use Rattle.catalogue_core.proofs.Heights.{height-join}
 use Rattle.catalogue_core.proofs.EachOf.{all_true, all_split, all_of_found, none_found, some_found}
 use Rattle.catalogue_core.proofs.Rooted.{revised_id}
@@ -28,7 +32,7 @@ module _ (f : Forest Unit) (source : Bytes) (low : ℕ) (own : HaveOwnNumbers (n
   -- ---- the number of a parent
 
   number_before : (n : ℕ) (above : List Row) (legacy : Bytes) (k : ℕ) → n ≡ low + length above
-      → number_of f source n above legacy ≡ Some k → k < n
+      → parent_number f source n above legacy ≡ Some k → k < n
   number_before n [] legacy k e h = at (find (is_from source legacy) (nodes f)) refl h
     where
       at : (r : Option Unit) → find (is_from source legacy) (nodes f) ≡ r → option_map (λ unit. unit.id) r ≡ Some k
@@ -42,14 +46,14 @@ module _ (f : Forest Unit) (source : Bytes) (low : ℕ) (own : HaveOwnNumbers (n
       let back : n - 1 ≡ low + length above = omega (arith, e) in
       at (has_legacy legacy row) h (number_before (n - 1) above legacy k back)
     where
-      at : (b : Bool) → cond b (Some (n - 1)) (number_of f source (n - 1) above legacy) ≡ Some k
-          → (number_of f source (n - 1) above legacy ≡ Some k → k < n - 1) → k < n
+      at : (b : Bool) → cond b (Some (n - 1)) (parent_number f source (n - 1) above legacy) ≡ Some k
+          → (parent_number f source (n - 1) above legacy ≡ Some k → k < n - 1) → k < n
       at true g i = let same : n - 1 ≡ k = cc in omega (arith, same, e)
       at false g i = let l = i g in omega (arith, l)
 
   -- a row lies one deeper than the parent that it names
   one_deeper : (n : ℕ) (above : List Row) (legacy : Bytes) (k : ℕ) → n ≡ low + length above
-      → number_of f source n above legacy ≡ Some k
+      → parent_number f source n above legacy ≡ Some k
       → depth_under f source (Some legacy) above ≡ option_map suc (number_depth f source n above k)
   one_deeper n [] legacy k e h = at (find (is_from source legacy) (nodes f)) refl h
     where
@@ -65,9 +69,9 @@ module _ (f : Forest Unit) (source : Bytes) (low : ℕ) (own : HaveOwnNumbers (n
       let back : n - 1 ≡ low + length above = omega (arith, e) in
       at (has_legacy legacy row) h (one_deeper (n - 1) above legacy k back) (number_before (n - 1) above legacy k back)
     where
-      at : (b : Bool) → cond b (Some (n - 1)) (number_of f source (n - 1) above legacy) ≡ Some k
-          → (number_of f source (n - 1) above legacy ≡ Some k → depth_under f source (Some legacy) above ≡ option_map suc (number_depth f source (n - 1) above k))
-          → (number_of f source (n - 1) above legacy ≡ Some k → k < n - 1)
+      at : (b : Bool) → cond b (Some (n - 1)) (parent_number f source (n - 1) above legacy) ≡ Some k
+          → (parent_number f source (n - 1) above legacy ≡ Some k → depth_under f source (Some legacy) above ≡ option_map suc (number_depth f source (n - 1) above k))
+          → (parent_number f source (n - 1) above legacy ≡ Some k → k < n - 1)
           → cond b (option_map suc (depth_under f source row.parent above)) (depth_under f source (Some legacy) above) ≡ option_map suc (cond (nat_eq k (n - 1)) (depth_under f source row.parent above) (number_depth f source (n - 1) above k))
       at true g i j =
           let same : n - 1 ≡ k = cc in
@@ -77,7 +81,7 @@ module _ (f : Forest Unit) (source : Bytes) (low : ℕ) (own : HaveOwnNumbers (n
           i g ∙ ap (λ (b : Bool). option_map suc (cond b (depth_under f source row.parent above) (number_depth f source (n - 1) above k))) (sym (ne_eqb k (n - 1) (λ s. omega (arith, s, l))))
 
   -- a parent that is not there has no depth
-  no_depth : (n : ℕ) (above : List Row) (legacy : Bytes) → number_of f source n above legacy ≡ None
+  no_depth : (n : ℕ) (above : List Row) (legacy : Bytes) → parent_number f source n above legacy ≡ None
       → depth_under f source (Some legacy) above ≡ None
   no_depth n [] legacy h = at (find (is_from source legacy) (nodes f)) refl h
     where
@@ -87,19 +91,19 @@ module _ (f : Forest Unit) (source : Bytes) (low : ℕ) (own : HaveOwnNumbers (n
       at (Some v) g i = absurd (cc)
   no_depth n (row ∷ above) legacy h = at (has_legacy legacy row) h (no_depth (n - 1) above legacy)
     where
-      at : (b : Bool) → cond b (Some (n - 1)) (number_of f source (n - 1) above legacy) ≡ None
-          → (number_of f source (n - 1) above legacy ≡ None → depth_under f source (Some legacy) above ≡ None)
+      at : (b : Bool) → cond b (Some (n - 1)) (parent_number f source (n - 1) above legacy) ≡ None
+          → (parent_number f source (n - 1) above legacy ≡ None → depth_under f source (Some legacy) above ≡ None)
           → cond b (option_map suc (depth_under f source row.parent above)) (depth_under f source (Some legacy) above) ≡ None
       at true g i = absurd (cc)
       at false g i = i g
 
   row_deeper : (n : ℕ) (above : List Row) (parent : Option Bytes) (e : ℕ) → n ≡ low + length above
       → depth_under f source parent above ≡ Some e
-      → Some e ≡ option_map suc (place_depth f source n above (option_and_then (number_of f source n above) parent))
+      → Some e ≡ option_map suc (place_depth f source n above (option_and_then (parent_number f source n above) parent))
   row_deeper n above None e k h = sym h
-  row_deeper n above (Some legacy) e k h = at (number_of f source n above legacy) refl
+  row_deeper n above (Some legacy) e k h = at (parent_number f source n above legacy) refl
     where
-      at : (r : Option ℕ) → number_of f source n above legacy ≡ r
+      at : (r : Option ℕ) → parent_number f source n above legacy ≡ r
           → Some e ≡ option_map suc (place_depth f source n above r)
       at None g = let none = no_depth n above legacy g in absurd (cc)
       at (Some j) g = sym h ∙ one_deeper n above legacy j k g
@@ -143,7 +147,7 @@ module _ (f : Forest Unit) (source : Bytes) (low : ℕ) (own : HaveOwnNumbers (n
       → d + height (new_units source p (numbered_from f source n above rows)) ≤ most_deep
   below_place n above [] p d e b h l k = omega (arith, l)
   below_place n above (row ∷ rows) p d e b h l k =
-      let q = option_and_then (number_of f source n above) row.parent in
+      let q = option_and_then (parent_number f source n above) row.parent in
       let r = no_first row.row (cause_at (depth_under f source row.parent above)) (faults_below f source (row ∷ above) rows) k in
       let s = no_cause (depth_under f source row.parent above) r.0 in
       let on : n + 1 ≡ low + length (row ∷ above) = omega (arith, e) in

@@ -1,9 +1,13 @@
 -- After an import no two units have one number, and no two are one unit of a source.
-use Rattle.std.proofs.Common.{◌≡◌, ℕ, ◌+◌, ◌<◌, ◌≤◌, Bool, true, false, not, cond, ◌&&◌, List, [], ◌∷◌, ◌++◌, refl, sym, ap, ◌∙◌, subst, inl, inr, arith, map}
-use Rattle.std.specs.Prelude.{nat_eq, filter}
-use Rattle.std.specs.List.{IsDistinct}
+use Rattle.std.proofs.Common.{◌≡◌, ℕ, ◌+◌, ◌<◌, ◌≤◌, Bool, true, false, not, cond, ◌&&◌, List, [], ◌∷◌, ◌++◌, refl, sym}
+use Rattle.std.proofs.Common.{ap, ◌∙◌, subst, inl, inr, arith, map}
 use Rattle.std.proofs.lemmas.Map.Keys.{IsDistinct-IsPermutation}
-use Rattle.catalogue_core.proofs.Common.{AllByRecursion, Bytes, Catalogue, Forest, IsPermutation-map, IsPermutation-sym, New, Row, Unit, and_right, bytes_eq, cases_Bool, eqb_comm, find, has_legacy, is_from, is_known, is_same_unit, list_any, map-append, merged_forest, ne_eqb, new_unit, nodes, numbered_from, option_map, or_parts, revised, unwrap_or}
+use Rattle.std.specs.List.{IsDistinct}
+use Rattle.std.specs.Prelude.{nat_eq, filter}
+use Rattle.catalogue_core.proofs.Common.{AllByRecursion, Bytes, Catalogue, Forest, IsPermutation-map, IsPermutation-sym}
+use Rattle.catalogue_core.proofs.Common.{New, Row, Unit, and_right, bytes_eq, cases_Bool, eqb_comm, find, has_legacy}
+use Rattle.catalogue_core.proofs.Common.{is_from, is_known, is_same_unit, list_any, map-append, merged_forest, ne_eqb}
+use Rattle.catalogue_core.proofs.Common.{new_unit, nodes, numbered_from, option_map, or_parts, revised, unwrap_or}
 use Rattle.catalogue_core.proofs.DistinctLists.{all_mapped, all_so, distinct_so, distinct_mapped, distinct_beside}
 use Rattle.catalogue_core.proofs.FileRows.{AreApartRows}
 use Rattle.catalogue_core.proofs.EachOf.{all_filtered}

@@ -1,8 +1,12 @@
 -- After an import each unit is a good one: those that were there, with old or new values, and those that come.
-use Rattle.std.proofs.Common.{◌≡◌, ◌≤◌, Bool, true, false, cond, ◌||◌, List, [], ◌∷◌, ◌++◌, length, Option, Some, None, refl, sym, ap, ◌∙◌}
-use Rattle.isad_core.specs.Boxes.{is_same as is_same_box}
+use Rattle.std.proofs.Common.{◌≡◌, ◌≤◌, Bool, true, false, cond, ◌||◌, List, [], ◌∷◌, ◌++◌, length, Option, Some, None}
+use Rattle.std.proofs.Common.{refl, sym, ap, ◌∙◌}
 use Rattle.isad_core.proofs.BoxLemmas.{same_sym}
-use Rattle.catalogue_core.proofs.Common.{AllByRecursion, BoxKey, Bytes, IsGoodRow, IsGoodUnit, New, Row, Unit, Values, and_from, and_parts, bytes_eq, distinct, find, flat_map, has_legacy, is_good_text, is_source, list_all, list_any, list_any-append, merged_boxes, most_bytes, new_unit, option_map, or_left, or_right, revised, unwrap_or}
+use Rattle.catalogue_core.proofs.Common.{AllByRecursion, BoxKey, Bytes, IsGoodRow, IsGoodUnit, New, Row, Unit, Values}
+use Rattle.catalogue_core.proofs.Common.{and_from, and_parts, bytes_eq, distinct, find, flat_map, has_legacy}
+use Rattle.catalogue_core.proofs.Common.{is_good_text, is_same_box, is_source, list_all, list_any, list_any-append}
+use Rattle.catalogue_core.proofs.Common.{merged_boxes, most_bytes, new_unit, option_map, or_left, or_right, revised}
+use Rattle.catalogue_core.proofs.Common.{unwrap_or}
 use Rattle.catalogue_core.proofs.EachOf.{all_and, all_of_found}
 use Rattle.catalogue_core.proofs.ImportedAgain.{box_itself, stands_box, still_stands}
 

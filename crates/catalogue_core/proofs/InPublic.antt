@@ -1,8 +1,12 @@
 -- What is published stands in what the public may know.
-use Rattle.std.proofs.Common.{◌≡◌, Bool, true, false, cond, List, [], ◌∷◌, ◌++◌, Some, refl, sym, ap, ◌∙◌, subst, inl, inr, ◌⊎◌, append_assoc}
+use Rattle.std.proofs.Common.{◌≡◌, Bool, true, false, cond, List, [], ◌∷◌, ◌++◌, Some, refl, sym, ap, ◌∙◌, subst, inl}
+use Rattle.std.proofs.Common.{inr, ◌⊎◌, append_assoc}
 use Rattle.std.specs.Prelude.{ℤ}
 use Rattle.catalogue_core.specs.PublicationLaws.{PublishedInPublic, PublicIsPublished}
-use Rattle.catalogue_core.proofs.Common.{AllByRecursion, Empty, Forest, IsPublished, Node, PublicUnit, StandsIn, TellsOf, Unit, before_last, each, is_closed, last_of, list_any, list_any-append, nodes, or_parts, paths, paths_below, public, public_of, public_unit}
+use Rattle.catalogue_core.proofs.Common.{AllByRecursion, Empty, Forest, IsPublished, Node, PublicUnit, StandsIn}
+use Rattle.catalogue_core.proofs.Common.{TellsOf, Unit, before_last, each, is_unit_closed, last_of, list_any}
+use Rattle.catalogue_core.proofs.Common.{list_any-append, nodes, or_parts, paths, paths_below, public, public_of}
+use Rattle.catalogue_core.proofs.Common.{public_unit}
 use Rattle.catalogue_core.proofs.PublishedUnits.{stands_left, stands_right, last_of-push, told_of, published_below}
 
 -- ---- ways
@@ -41,14 +45,14 @@ none_within test above unit rest h =
 -- ---- what is told
 
 tells_so : (day : ℤ) (above : List Unit) (unit : Unit) (told : PublicUnit)
-    → TellsOf day (last_of (above ++ unit ∷ [])) told → told ≡ public_unit (unit, is_closed day unit)
+    → TellsOf day (last_of (above ++ unit ∷ [])) told → told ≡ public_unit (unit, is_unit_closed day unit)
 tells_so day above unit told t =
     let k : TellsOf day (Some unit) told = subst (λ o. TellsOf day o told) (last_of-push above unit) t in
-    k ∙ sym (told_of day unit (is_closed day unit) refl)
+    k ∙ sym (told_of day unit (is_unit_closed day unit) refl)
 
 public_stands : (day : ℤ) (above : List Unit) (f : Forest Unit) (told : PublicUnit) (way : List Unit)
     → StandsIn way (paths_below above f) → list_any (λ (unit : Unit). unit.draft) way ≡ false
-    → list_any (is_closed day) (before_last way) ≡ false → TellsOf day (last_of way) told
+    → list_any (is_unit_closed day) (before_last way) ≡ false → TellsOf day (last_of way) told
     → StandsIn told (nodes (public_of day f))
 public_stands day above Empty told way s d c t = absurd s
 public_stands day above (Node unit children others) told way (inl e) d c t =
@@ -62,20 +66,20 @@ public_stands day above (Node unit children others) told way (inr h) d c t = eli
       let e : way ≡ above ++ unit ∷ (it.0 ∷ it.1) = it.2 ∙ append_assoc above (unit ∷ []) (it.0 ∷ it.1) in
       let own : unit.draft ≡ false =
       none_within (λ (u : Unit). u.draft) above unit (it.0 ∷ it.1) (subst (λ w. list_any (λ (u : Unit). u.draft) w ≡ false) e d) in
-      let shown : is_closed day unit ≡ false =
-      none_within (is_closed day) above unit (before_last (it.0 ∷ it.1)) (ap (list_any (is_closed day)) (sym (before_more above unit it.0 it.1)) ∙ subst (λ w. list_any (is_closed day) (before_last w) ≡ false) e c) in
+      let shown : is_unit_closed day unit ≡ false =
+      none_within (is_unit_closed day) above unit (before_last (it.0 ∷ it.1)) (ap (list_any (is_unit_closed day)) (sym (before_more above unit it.0 it.1)) ∙ subst (λ w. list_any (is_unit_closed day) (before_last w) ≡ false) e c) in
       below own shown (public_stands day (above ++ unit ∷ []) children told way low d c t)
   | inr beside ↦ aside unit.draft (public_stands day above others told way beside d c t)
 ]
   where
-    below : unit.draft ≡ false → is_closed day unit ≡ false → StandsIn told (nodes (public_of day children))
+    below : unit.draft ≡ false → is_unit_closed day unit ≡ false → StandsIn told (nodes (public_of day children))
         → StandsIn told (nodes (public_of day (Node unit children others)))
     below own shown s = rw (own, shown) (inr (stands_left told (nodes (public_of day children)) (nodes (public_of day others)) s))
 
     aside : (b : Bool) → StandsIn told (nodes (public_of day others))
-        → StandsIn told (nodes (each public_unit (cond b (public (λ (u : Unit). u.draft) (is_closed day) others) (Node (unit, is_closed day unit) (cond (is_closed day unit) Empty (public (λ (u : Unit). u.draft) (is_closed day) children)) (public (λ (u : Unit). u.draft) (is_closed day) others)))))
+        → StandsIn told (nodes (each public_unit (cond b (public (λ (u : Unit). u.draft) (is_unit_closed day) others) (Node (unit, is_unit_closed day unit) (cond (is_unit_closed day unit) Empty (public (λ (u : Unit). u.draft) (is_unit_closed day) children)) (public (λ (u : Unit). u.draft) (is_unit_closed day) others)))))
     aside true s = s
-    aside false s = inr (stands_right told (nodes (each public_unit (cond (is_closed day unit) Empty (public (λ (u : Unit). u.draft) (is_closed day) children)))) (nodes (public_of day others)) s)
+    aside false s = inr (stands_right told (nodes (each public_unit (cond (is_unit_closed day unit) Empty (public (λ (u : Unit). u.draft) (is_unit_closed day) children)))) (nodes (public_of day others)) s)
 
 pub published_in_public : PublishedInPublic
 published_in_public day f told p = public_stands day [] f told p.way p.stands p.no_draft p.open_above p.answers

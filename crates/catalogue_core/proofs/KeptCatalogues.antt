@@ -1,11 +1,15 @@
 -- A good catalogue whose texts are UTF-8 is within the limits of the tables that keep it.
-use Rattle.std.proofs.Common.{◌≡◌, ◌+◌, ◌<◌, ◌≤◌, Bool, true, false, cond, [], ◌∷◌, length, Option, Some, None, sym, ap, subst, ◌∙◌, arith}
+use Rattle.std.proofs.Common.{◌≡◌, ◌+◌, ◌<◌, ◌≤◌, Bool, true, false, cond, [], ◌∷◌, length, Option, Some, None, sym, ap}
+use Rattle.std.proofs.Common.{subst, ◌∙◌, arith}
 use Rattle.std.specs.Prelude.{ℤ, nat_eq}
-use Rattle.isad_core.specs.Days.{is_day_number}
 use Rattle.isad_core.proofs.DayLemmas.{is_day_number-true}
+use Rattle.isad_core.specs.Days.{is_day_number}
 use Rattle.catalogue_core.specs.Bounds.{IsBounded, IsLegibleUnit, IsKept}
 use Rattle.catalogue_core.specs.LegibleCatalogues.{HasLegibleTexts, IsLegibleCatalogue}
-use Rattle.catalogue_core.proofs.Common.{AllByRecursion, AreGoodContainers, AreGoodUnits, Catalogue, Empty, Forest, HasAllPlaces, IfSome, IsGoodUnit, IsNumber, IsSomeDay, KnowsItsContainers, Node, Unit, distinct, each, has, height, length-map, max, most_units, nodes, nodes-each, path, path-each, size-each, ◌^◌}
+use Rattle.catalogue_core.proofs.Common.{AllByRecursion, AreGoodContainers, AreGoodUnits, Catalogue, Empty, Forest}
+use Rattle.catalogue_core.proofs.Common.{HasAllPlaces, IfSome, IsGoodUnit, IsNumber, IsSomeDay, KnowsItsContainers}
+use Rattle.catalogue_core.proofs.Common.{Node, Unit, distinct, each, has, height, length-map, max, most_units, nodes}
+use Rattle.catalogue_core.proofs.Common.{nodes-each, path, path-each, size-each, ◌^◌}
 use Rattle.catalogue_core.proofs.DistinctLists.{all_so, all_mapped}
 use Rattle.catalogue_core.proofs.EachOf.{all_and}
 

@@ -1,11 +1,14 @@
 -- An import keeps a catalogue's texts UTF-8, and so does every other change of it.
-use Rattle.std.proofs.Common.{◌≡◌, Bool, true, false, cond, List, [], ◌∷◌, ◌++◌, Option, Some, None, Ok, refl, sym, subst}
+use Rattle.std.proofs.Common.{◌≡◌, Bool, true, false, cond, List, [], ◌∷◌, ◌++◌, Option, Some, None, Ok, refl, sym}
+use Rattle.std.proofs.Common.{subst}
 use Rattle.std.specs.Prelude.{not}
 use Rattle.isad_core.specs.LegibleValues.{IsLegibleBox, AreLegibleValues}
 use Rattle.atom_csv.proofs.LegibleFiles.{file_legible}
 use Rattle.catalogue_core.specs.Intake.{take}
 use Rattle.catalogue_core.specs.LegibleCatalogues.{HasLegibleTexts, IsLegibleCatalogue}
-use Rattle.catalogue_core.proofs.Common.{AllByRecursion, Bytes, Catalogue, Intake, IsLegibleRow, IsUtf8, New, Row, Unit, Values, bytes_eq, each, find, flat_map, has_legacy, is_known, merged, new_unit, nodes, numbered_from, option_map, revised, unwrap_or}
+use Rattle.catalogue_core.proofs.Common.{AllByRecursion, Bytes, Catalogue, Intake, IsLegibleRow, IsUtf8, New, Row, Unit}
+use Rattle.catalogue_core.proofs.Common.{Values, bytes_eq, each, find, flat_map, has_legacy, is_known, merged, new_unit}
+use Rattle.catalogue_core.proofs.Common.{nodes, numbered_from, option_map, revised, unwrap_or}
 use Rattle.catalogue_core.proofs.DistinctLists.{all_so}
 use Rattle.catalogue_core.proofs.EachOf.{all_append, all_distinct, all_filtered, all_of_found}
 use Rattle.catalogue_core.proofs.GoodChanges.{KeepsUnits}

@@ -1,9 +1,17 @@
 -- The units of a merged forest, up to order: those that were there, and one for each new row.
-use Rattle.std.proofs.Common.{◌≡◌, ℕ, ◌+◌, ◌-◌, ◌<◌, Bool, true, false, cond, ◌||◌, List, [], ◌∷◌, ◌++◌, Option, Some, None, refl, sym, ap, ◌∙◌, subst, arith, append_assoc, map}
-use Rattle.std.specs.Prelude.{nat_eq}
+use Rattle.std.proofs.Common.{◌≡◌, ℕ, ◌+◌, ◌-◌, ◌<◌, Bool, true, false, cond, ◌||◌, List, [], ◌∷◌, ◌++◌, Option, Some}
+use Rattle.std.proofs.Common.{None, refl, sym, ap, ◌∙◌, subst, arith, append_assoc, map}
 use Rattle.std.specs.List.{IsDistinct}
-use Rattle.catalogue_core.specs.CatalogueMerge.{number_of}
-use Rattle.catalogue_core.proofs.Common.{AllByRecursion, Bytes, Empty, Forest, IsPermutation, IsPermutation-append, IsPermutation-append_comm, IsPermutation-append_left, IsPermutation-append_right, IsPermutation-cons, IsPermutation-map, IsPermutation-middle, IsPermutation-refl, IsPermutation-trans, New, Node, Row, Unit, branches, each, eq-eqb, eqb-true, false≢true, find, flat_map, grown, has, has_id, has_legacy, has_unit, if◌then◌else◌, is_from, join, list_any, map-append, merged_forest, ne_eqb, new_unit, new_units, nodes, nodes-each, numbered_from, option_and_then, option_eq, option_map, or_left, or_parts, or_right, revised}
+use Rattle.std.specs.Prelude.{nat_eq}
+use Rattle.catalogue_core.proofs.Common.{AllByRecursion, Bytes, Empty, Forest, IsPermutation, IsPermutation-append}
+use Rattle.catalogue_core.proofs.Common.{IsPermutation-append_comm, IsPermutation-append_left}
+use Rattle.catalogue_core.proofs.Common.{IsPermutation-append_right, IsPermutation-cons, IsPermutation-map}
+use Rattle.catalogue_core.proofs.Common.{IsPermutation-middle, IsPermutation-refl, IsPermutation-trans, New, Node, Row}
+use Rattle.catalogue_core.proofs.Common.{Unit, branches, each, eq-eqb, eqb-true, false≢true, find, flat_map, grown, has}
+use Rattle.catalogue_core.proofs.Common.{has_id, has_legacy, has_unit, if◌then◌else◌, is_from, join, list_any}
+use Rattle.catalogue_core.proofs.Common.{map-append, merged_forest, ne_eqb, new_unit, new_units, nodes, nodes-each}
+use Rattle.catalogue_core.proofs.Common.{numbered_from, option_and_then, option_eq, option_map, or_left, or_parts}
+use Rattle.catalogue_core.proofs.Common.{or_right, parent_number, revised}
 use Rattle.catalogue_core.proofs.EachOf.{all_and, all_true, all_of_found}
 use Rattle.catalogue_core.proofs.UnitsAfter.{each_units}
 use Rattle.catalogue_core.proofs.Rooted.{nodes-join, has-join, grown_keeps, revised_id}
@@ -238,7 +246,7 @@ before_places n (u ∷ us) h = (h.0, before_places n us h.1)
 -- a parent that is found has one of these places
 HasParents : Forest Unit → Bytes → ℕ → List Row → List (Option ℕ) → Type 0
 HasParents f source n above ps =
-    (legacy : Bytes) → list_any (option_eq nat_eq (number_of f source n above legacy)) ps ≡ true
+    (legacy : Bytes) → list_any (option_eq nat_eq (parent_number f source n above legacy)) ps ≡ true
 
 -- so each new row stands below one of them, or below a row further up
 all_reached : (f : Forest Unit) (source : Bytes) (n : ℕ) (above rows : List Row) (ps : List (Option ℕ))
@@ -251,12 +259,12 @@ all_reached f source n above (row ∷ rows) ps top h =
     ∙ ap (λ l. x ∷ l) (all_reached f source (n + 1) (row ∷ above) rows (Some n ∷ ps) top more)
   where
     x : New
-    x = record { id = n; parent = option_and_then (number_of f source n above) row.parent; row = row }
+    x = record { id = n; parent = option_and_then (parent_number f source n above) row.parent; row = row }
 
     rest : List New
     rest = numbered_from f source (n + 1) (row ∷ above) rows
 
-    there : (p : Option Bytes) → list_any (option_eq nat_eq (option_and_then (number_of f source n above) p)) ps ≡ true
+    there : (p : Option Bytes) → list_any (option_eq nat_eq (option_and_then (parent_number f source n above) p)) ps ≡ true
     there None = top
     there (Some legacy) = h legacy
 
@@ -264,13 +272,13 @@ all_reached f source n above (row ∷ rows) ps top h =
     back = omega arith
 
     more : (legacy : Bytes)
-        → list_any (option_eq nat_eq (cond (has_legacy legacy row) (Some (n + 1 - 1)) (number_of f source (n + 1 - 1) above legacy))) (Some n ∷ ps) ≡ true
-    more legacy = subst (λ m. list_any (option_eq nat_eq (cond (has_legacy legacy row) (Some m) (number_of f source m above legacy))) (Some n ∷ ps) ≡ true) (sym back) (at (has_legacy legacy row))
+        → list_any (option_eq nat_eq (cond (has_legacy legacy row) (Some (n + 1 - 1)) (parent_number f source (n + 1 - 1) above legacy))) (Some n ∷ ps) ≡ true
+    more legacy = subst (λ m. list_any (option_eq nat_eq (cond (has_legacy legacy row) (Some m) (parent_number f source m above legacy))) (Some n ∷ ps) ≡ true) (sym back) (at (has_legacy legacy row))
       where
         at : (b : Bool)
-            → list_any (option_eq nat_eq (cond b (Some n) (number_of f source n above legacy))) (Some n ∷ ps) ≡ true
+            → list_any (option_eq nat_eq (cond b (Some n) (parent_number f source n above legacy))) (Some n ∷ ps) ≡ true
         at true = or_left (nat_eq n n) (list_any (option_eq nat_eq (Some n)) ps) (eq-eqb n n refl)
-        at false = or_right (option_eq nat_eq (number_of f source n above legacy) (Some n)) (list_any (option_eq nat_eq (number_of f source n above legacy)) ps) (h legacy)
+        at false = or_right (option_eq nat_eq (parent_number f source n above legacy) (Some n)) (list_any (option_eq nat_eq (parent_number f source n above legacy)) ps) (h legacy)
 
 unit_places : (f : Forest Unit) (source legacy : Bytes)
     → list_any (option_eq nat_eq (option_map (λ (unit : Unit). unit.id) (find (is_from source legacy) (nodes f)))) (None ∷ map place_of (nodes f)) ≡ true

@@ -1,6 +1,7 @@
 -- The containers that a file names have names.
 use Rattle.std.proofs.Common.{◌≡◌, true, false, not, List, [], ◌∷◌, refl, ap}
-use Rattle.catalogue_core.proofs.Common.{AllByRecursion, BoxKey, IsGoodRow, Row, and_from, and_parts, flat_map, is_blank_text, list_all, not-true}
+use Rattle.catalogue_core.proofs.Common.{AllByRecursion, BoxKey, IsGoodRow, Row, and_from, and_parts, flat_map}
+use Rattle.catalogue_core.proofs.Common.{is_blank_text, list_all, not-true}
 use Rattle.catalogue_core.proofs.EachOf.{all_append}
 
 -- ---- containers

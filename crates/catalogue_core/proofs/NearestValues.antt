@@ -1,11 +1,14 @@
 -- A value that is found above is that of the nearest unit that has one.
-use Rattle.std.proofs.Common.{◌≡◌, ℕ, Bool, true, false, cond, ◌||◌, List, [], ◌∷◌, ◌++◌, map, Some, None, refl, sym, ap, ap₂, ◌∙◌, subst, inl, inr, append_assoc}
+use Rattle.std.proofs.Common.{◌≡◌, ℕ, Bool, true, false, cond, ◌||◌, List, [], ◌∷◌, ◌++◌, map, Some, None, refl, sym}
+use Rattle.std.proofs.Common.{ap, ap₂, ◌∙◌, subst, inl, inr, append_assoc}
+use Rattle.std.proofs.lemmas.Option.{same_Some}
 use Rattle.isad_core.specs.Elements.{is_found_above}
-use Rattle.isad_core.specs.Values.{text_of}
 use Rattle.isad_core.specs.declared.element.Element.{Element}
 use Rattle.catalogue_core.specs.NearestValues.{has_value, IsNearestValue, LinesAreNearest}
-use Rattle.std.proofs.lemmas.Option.{same_Some}
-use Rattle.catalogue_core.proofs.Common.{AllByRecursion, Coded, Empty, Forest, Node, Page, PageLine, Press, PublicUnit, Repository, Stub, Told, before_last, code_of, coded_below, false≢true, filter_map, identifier_of, is_numbered, is_some, line_elements, list_any, map-append, nearest_value, page_at, page_line, public_of, with_codes}
+use Rattle.catalogue_core.proofs.Common.{AllByRecursion, Coded, Empty, Forest, Node, Page, PageLine, Press, PublicUnit}
+use Rattle.catalogue_core.proofs.Common.{Repository, Stub, Told, before_last, code_of, coded_below, false≢true}
+use Rattle.catalogue_core.proofs.Common.{filter_map, has_public_number, identifier_of, is_some, line_elements, list_any}
+use Rattle.catalogue_core.proofs.Common.{map-append, nearest_value, page_at, page_line, public_of, text_of, with_codes}
 use Rattle.catalogue_core.proofs.EachOf.{all_append}
 use Rattle.catalogue_core.proofs.PublishedUnits.{before_last-push}
 use Rattle.catalogue_core.proofs.PublicPaths.{IsTold, stand, told_above}
@@ -93,9 +96,9 @@ page_at_nearest press above (Told id values) below shown a e =
 
 pub lines_are_nearest : LinesAreNearest
 lines_are_nearest press day f u shown e =
-    let it = stand (is_numbered u) (public_of day f) (there_where_shown press u (public_of day f) shown e) in
+    let it = stand (has_public_number u) (public_of day f) (there_where_shown press u (public_of day f) shown e) in
     let above : AllByRecursion IsTold it.above =
-    subst (AllByRecursion IsTold) (ap before_last it.way ∙ before_last-push it.above it.unit) (told_above day (is_numbered u) f) in
+    subst (AllByRecursion IsTold) (ap before_last it.way ∙ before_last-push it.above it.unit) (told_above day (has_public_number u) f) in
     let k : page_at press (it.above ++ it.unit ∷ []) (Node it.unit it.below Empty) ≡ Some shown =
     sym (ap₂ (page_at press) it.way it.alone) ∙ e in
     subst (λ way. AllByRecursion (IsNearestValue press.at way) shown.lines) (sym it.way) (page_at_nearest press it.above it.unit it.below shown above k)

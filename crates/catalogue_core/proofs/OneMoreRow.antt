@@ -1,7 +1,12 @@
 -- A file's rows are merged one by one: after each row the catalogue is what the rows up to it make of it.
-use Rattle.std.proofs.Common.{◌≡◌, ℕ, suc, ◌+◌, length, arith, append-nil, Bool, true, false, cond, List, [], ◌∷◌, ◌++◌, Option, Some, None, refl, sym, ap, ap₂, subst, ◌∙◌, nat_eq}
+use Rattle.std.proofs.Common.{◌≡◌, ℕ, suc, ◌+◌, length, arith, append-nil, Bool, true, false, cond, List, [], ◌∷◌, ◌++◌}
+use Rattle.std.proofs.Common.{Option, Some, None, refl, sym, ap, ap₂, subst, ◌∙◌, nat_eq}
 use Rattle.std.proofs.lemmas.List.{append_assoc}
-use Rattle.catalogue_core.proofs.Common.{AllByRecursion, BoxKey, Bytes, Catalogue, Empty, Forest, New, Node, Row, Unit, add, branches, distinct, each, eqb-true, flat_map, grown, has_id, join, join-each, list_any, merged, merged_boxes, merged_forest, new_unit, new_units, nodes, option_eq, put_below, put_below-each, revised, with_boxes, with_unit, with_values, ⊤}
+use Rattle.catalogue_core.proofs.Common.{AllByRecursion, BoxKey, Bytes, Catalogue, Empty, Forest, New, Node, Row, Unit}
+use Rattle.catalogue_core.proofs.Common.{add, branches, distinct, each, eqb-true, flat_map, grown, has_id, join}
+use Rattle.catalogue_core.proofs.Common.{join-each, list_any, merged, merged_boxes, merged_forest, new_unit, new_units}
+use Rattle.catalogue_core.proofs.Common.{nodes, option_eq, put_below, put_below-each, revised, with_boxes, with_unit}
+use Rattle.catalogue_core.proofs.Common.{with_values, ⊤}
 use Rattle.catalogue_core.proofs.DistinctFront.{distinct_front}
 use Rattle.catalogue_core.proofs.Branches.{put_none}
 use Rattle.catalogue_core.proofs.ImportedAgain.{all_join, all_each}

@@ -1,8 +1,13 @@
 -- What the public is shown is what is not withheld from a reader without permits.
-use Rattle.std.proofs.Common.{◌≡◌, ℤ, Bool, true, false, cond, not, ◌&&◌, ◌||◌, List, [], ◌∷◌, ◌++◌, Option, Some, None, refl, sym, ap, ap₂, ◌∙◌, inl, inr}
-use Rattle.std.specs.Prelude.{filter}
+use Rattle.std.proofs.Common.{◌≡◌, ℤ, Bool, true, false, cond, not, ◌&&◌, ◌||◌, List, [], ◌∷◌, ◌++◌, Option, Some, None}
+use Rattle.std.proofs.Common.{refl, sym, ap, ap₂, ◌∙◌, inl, inr}
 use Rattle.std.proofs.Math.Bool.{or-false}
-use Rattle.catalogue_core.proofs.Common.{Empty, Forest, Node, PublicUnit, StubsWhatIsClosed, TellsWhatIsOpen, Unit, before_last, cases_Bool, each, false≢true, filter-append, filter_map, filter_map-append, is_closed, is_closed_alone, is_open_to_public, is_told, list_any, list_any-append, nodes, or_parts, paths_below, public, public_of, public_unit, stub_of, told_as_stub, told_whole}
+use Rattle.std.specs.Prelude.{filter}
+use Rattle.catalogue_core.proofs.Common.{Empty, Forest, Node, PublicUnit, StubsWhatIsClosed, TellsWhatIsOpen, Unit}
+use Rattle.catalogue_core.proofs.Common.{before_last, cases_Bool, each, false≢true, filter-append, filter_map}
+use Rattle.catalogue_core.proofs.Common.{filter_map-append, is_closed_alone, is_open_to_public, is_told, is_unit_closed}
+use Rattle.catalogue_core.proofs.Common.{list_any, list_any-append, nodes, or_parts, paths_below, public, public_of}
+use Rattle.catalogue_core.proofs.Common.{public_unit, stub_of, told_as_stub, told_whole}
 use Rattle.catalogue_core.proofs.PublishedUnits.{before_last-push, last_of-push}
 
 -- ---- lists and truths
@@ -25,7 +30,7 @@ D unit = unit.draft
 
 module _ (day : ℤ) where
   abbrev C : Unit → Bool
-  C = is_closed day
+  C = is_unit_closed day
 
   -- a draft, or something closed, stands above
   abbrev is_shut : List Unit → Bool
@@ -169,8 +174,8 @@ tells_what_is_open day f =
 pub stubs_what_is_closed : StubsWhatIsClosed
 stubs_what_is_closed day f =
     chosen day (is_closed_alone day) (λ unit. not (is_told unit)) told_as_stub
-    (λ w u h. alone_is day w u ∙ none_alone (list_any D w) (D u) (list_any (is_closed day) w) (is_closed day u) h)
-    (λ w u d. alone_is day w u ∙ (ap (λ b. not (list_any D w || b) && (not (list_any (is_closed day) w) && (list_any (is_closed day) w || is_closed day u))) d ∙ no_draft_alone (list_any D w) _))
+    (λ w u h. alone_is day w u ∙ none_alone (list_any D w) (D u) (list_any (is_unit_closed day) w) (is_unit_closed day u) h)
+    (λ w u d. alone_is day w u ∙ (ap (λ b. not (list_any D w || b) && (not (list_any (is_unit_closed day) w) && (list_any (is_unit_closed day) w || is_unit_closed day u))) d ∙ no_draft_alone (list_any D w) _))
     (stubs day) [] f refl
   where
     none_alone : (a b c d : Bool) → (a || c) ≡ true → (not (a || b) && (not c && (c || d))) ≡ false

@@ -1,15 +1,21 @@
 -- Marks of what a container is attached to decide whether it is open.
-use Rattle.std.proofs.Common.{◌≡◌, inl, inr, ℕ, ◌+◌, ◌*◌, ℤ, Bool, true, false, cond, not, ◌&&◌, ◌||◌, List, [], ◌∷◌, ◌++◌, map, filter, Some, None, nat_eq, refl, sym, ap, ap₂, subst, ◌∙◌, append_assoc}
-use Rattle.isad_core.specs.Boxes.{is_same as is_same_box}
-use Rattle.tree_core.specs.Marks.{is_closed as is_mark_closed, withholds, contents_paths, IsNumbered}
-use Rattle.tree_core.specs.declared.marks.Mark.{Mark}
+use Rattle.std.proofs.Common.{◌≡◌, inl, inr, ℕ, ◌+◌, ◌*◌, ℤ, Bool, true, false, cond, not, ◌&&◌, ◌||◌, List, [], ◌∷◌}
+use Rattle.std.proofs.Common.{◌++◌, map, filter, Some, None, nat_eq, refl, sym, ap, ap₂, subst, ◌∙◌, append_assoc}
 use Rattle.tree_core.proofs.LinkPaths.{parts, other_id}
 use Rattle.tree_core.proofs.MarkWalks.{list_all-append}
 use Rattle.tree_core.proofs.Sharing.{open_by_paths}
+use Rattle.tree_core.specs.Marks.{is_closed as is_mark_closed, withholds, contents_paths, IsNumbered}
+use Rattle.tree_core.specs.declared.marks.Mark.{Mark}
 use Rattle.catalogue_core.specs.ContainerContents.{is_open}
+use Rattle.catalogue_core.specs.OpenMarks.{with_permit, mark_for, is_opened_above, is_clean_by_marks, OpenByMarks}
+use Rattle.catalogue_core.specs.OpenMarks.{NumbersTellNothing, MarksSayClean}
 use Rattle.catalogue_core.specs.UnitMarks.{mark_of, without_number}
-use Rattle.catalogue_core.specs.OpenMarks.{with_permit, mark_for, is_opened_above, is_clean, OpenByMarks, NumbersTellNothing, MarksSayClean}
-use Rattle.catalogue_core.proofs.Common.{BoxKey, Empty, Forest, HasDistinctIds, Node, StandsIn, Unit, any_agree, cases_Bool, containers_of, each, eq-eqb, false≢true, filter-append, has, has-each, has_id, housed_below, is_closed, is_some_there, is_withheld_from, list_all, list_any, list_any-append, list_any-map, map-append, nodes, nodes-each, own_or, path, paths_below, sharing_paths, size, size-each, tree}
+use Rattle.catalogue_core.proofs.Common.{BoxKey, Empty, Forest, HasDistinctIds, Node, StandsIn, Unit, any_agree}
+use Rattle.catalogue_core.proofs.Common.{cases_Bool, containers_of, each, eq-eqb, false≢true, filter-append, has}
+use Rattle.catalogue_core.proofs.Common.{has-each, has_id, housed_below, is_same_box, is_some_there, is_unit_closed}
+use Rattle.catalogue_core.proofs.Common.{is_withheld_from, list_all, list_any, list_any-append, list_any-map}
+use Rattle.catalogue_core.proofs.Common.{map-append, nodes, nodes-each, own_or, path, paths_below, sharing_paths, size}
+use Rattle.catalogue_core.proofs.Common.{size-each, tree}
 use Rattle.catalogue_core.proofs.Members.{some_from, has_filtered}
 use Rattle.catalogue_core.proofs.PublishedUnits.{before_last-push}
 
@@ -137,13 +143,13 @@ module _ (box : BoxKey) (permitted : ℕ → Bool) (today : ℤ) where
   abbrev mark : Unit → Mark
   mark = mark_for permitted
 
-  same_closed : (u : Unit) → is_mark_closed today (mark u) ≡ is_closed today u
-  same_closed u = elim u.until as (λ o. is_mark_closed today (record (mark u) { until = o }) ≡ is_closed today (record u { until = o })) [ None ↦ refl | Some day ↦ refl ]
+  same_closed : (u : Unit) → is_mark_closed today (mark u) ≡ is_unit_closed today u
+  same_closed u = elim u.until as (λ o. is_mark_closed today (record (mark u) { until = o }) ≡ is_unit_closed today (record u { until = o })) [ None ↦ refl | Some day ↦ refl ]
 
   seen_marks : (way : List Unit) → not (withholds today false (map mark way)) ≡ seen way
   seen_marks way =
       ap not (ap₂ ◌||◌ (list_any-map (λ (m : Mark). m.draft) mark way)
-      (ap₂ ◌&&◌ (list_any-map (is_mark_closed today) mark way ∙ any_agree (λ u. is_mark_closed today (mark u)) (is_closed today) way same_closed)
+      (ap₂ ◌&&◌ (list_any-map (is_mark_closed today) mark way ∙ any_agree (λ u. is_mark_closed today (mark u)) (is_unit_closed today) way same_closed)
       (ap (λ b. not (false || b)) (list_any-map (λ (m : Mark). m.permit) mark way))))
 
   -- whether nothing is withheld of a unit and of what shares its containers, each by its whole path
@@ -151,7 +157,7 @@ module _ (box : BoxKey) (permitted : ℕ → Bool) (today : ℤ) where
   clean_there A u c = list_all seen ((A ++ u ∷ []) ∷ sharing_paths boxed (A ++ u ∷ []) c)
 
   clean_marks : (A : List Unit) (u : Unit) (c : Forest Unit)
-      → is_clean today (map mark (A ++ u ∷ [])) (Node (mark u) (each mark c) Empty) ≡ clean_there A u c
+      → is_clean_by_marks today (map mark (A ++ u ∷ [])) (Node (mark u) (each mark c) Empty) ≡ clean_there A u c
   clean_marks A u c =
       let M = map mark A in
       let ways = contents_paths (mark u) (each mark c) in
@@ -250,7 +256,7 @@ module _ (box : BoxKey) (permitted : ℕ → Bool) (today : ℤ) where
   -- ---- by the numbers of the units
 
   clean_of : List Unit → Forest Unit → Unit → Bool
-  clean_of A g u = is_clean today (map mark (A ++ path (has_id u.id) g)) (each mark (tree (has_id u.id) g))
+  clean_of A g u = is_clean_by_marks today (map mark (A ++ path (has_id u.id) g)) (each mark (tree (has_id u.id) g))
 
   by_numbers : (A : List Unit) (g : Forest Unit) → HasDistinctIds (each (λ (u : Unit). u.id) g)
       → clean_all A g ≡ list_all (clean_of A g) (filter names_it (nodes g))
@@ -265,7 +271,7 @@ module _ (box : BoxKey) (permitted : ℕ → Bool) (today : ℤ) where
       by_numbers B c p.children_distinct ∙ all_agree (clean_of B c) (clean_of A g) (filter names_it (nodes c)) (λ u h.
       let there = in_part u c (has_filtered names_it (nodes c) u h).0 in
       let not_a = other_id a.id u.id (each (λ (u : Unit). u.id) c) p.not_below (has-each (nat_eq u.id) (λ (u : Unit). u.id) c ∙ there) in
-      sym (rw (not_a, there) (ap (λ l. is_clean today (map mark l) (each mark (tree (has_id u.id) c))) (sym (append_assoc A (a ∷ []) (path (has_id u.id) c)))))) in
+      sym (rw (not_a, there) (ap (λ l. is_clean_by_marks today (map mark l) (each mark (tree (has_id u.id) c))) (sym (append_assoc A (a ∷ []) (path (has_id u.id) c)))))) in
       let beside : clean_all A o ≡ list_all (clean_of A g) (filter names_it (nodes o)) =
       by_numbers A o p.others_distinct ∙ all_agree (clean_of A o) (clean_of A g) (filter names_it (nodes o)) (λ u h.
       let there = in_part u o (has_filtered names_it (nodes o) u h).0 in
@@ -395,7 +401,7 @@ marks_say_clean f unit permitted today marks branch path_clean contents_clean th
     let alike : each for walk.forest ≡ Node (for only.0) (each for only.1) Empty = ap (each for) only.2 in
     let says = says_contents walk.first (for only.0) (each for only.1) (subst (IsNumbered walk.first) alike (numbered_permits permitted walk.first walk.forest walk.numbered)) (ap (map for) walk.walked ∙ sym (nodes-each for walk.forest) ∙ ap nodes alike) in
     ap₂ ◌&&◌ says_path says
-    ∙ ap (is_clean today (map for marks)) (sym alike)
+    ∙ ap (is_clean_by_marks today (map for marks)) (sym alike)
     ∙ numbers_tell_nothing today (map for marks) (each for walk.forest)
-    ∙ ap (λ l. is_clean today l (each without_number (each for walk.forest))) (permits_after permitted marks ∙ ap (map for) way ∙ marks_for permitted (path (has_id unit) f))
-    ∙ ap (is_clean today (map (mark_for permitted) (path (has_id unit) f))) (permits_below permitted walk.forest ∙ ap (each for) walk.theirs ∙ forest_for permitted (tree (has_id unit) f))
+    ∙ ap (λ l. is_clean_by_marks today l (each without_number (each for walk.forest))) (permits_after permitted marks ∙ ap (map for) way ∙ marks_for permitted (path (has_id unit) f))
+    ∙ ap (is_clean_by_marks today (map (mark_for permitted) (path (has_id unit) f))) (permits_below permitted walk.forest ∙ ap (each for) walk.theirs ∙ forest_for permitted (tree (has_id unit) f))

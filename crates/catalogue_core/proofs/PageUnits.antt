@@ -1,10 +1,18 @@
 -- What stands on a page is told of units of its path, and its containers are those that the unit lies in.
-use Rattle.std.proofs.Common.{◌≡◌, ℕ, ℤ, Bool, true, false, cond, ◌||◌, List, [], ◌∷◌, ◌++◌, map, Option, Some, None, refl, sym, ap, ap₂, ◌∙◌, subst, inl, inr, ◌⊎◌, append_assoc}
-use Rattle.std.specs.Prelude.{not}
-use Rattle.isad_core.specs.Values.{text_of}
-use Rattle.isad_core.specs.declared.element.Element.{Element}
+use Rattle.std.proofs.Common.{◌≡◌, ℕ, ℤ, Bool, true, false, cond, ◌||◌, List, [], ◌∷◌, ◌++◌, map, Option, Some, None}
+use Rattle.std.proofs.Common.{refl, sym, ap, ap₂, ◌∙◌, subst, inl, inr, ◌⊎◌, append_assoc}
 use Rattle.std.proofs.lemmas.Option.{same_Some}
-use Rattle.catalogue_core.proofs.Common.{AllByRecursion, AreToldOn, BoxIsTold, BoxKey, Bytes, Coded, Empty, Forest, LineIsTold, Node, Page, PageBox, PageLine, PagesTellTheHousing, Press, PublicUnit, Repository, StandsIn, Stub, Told, Unit, Values, before_last, box_number, boxes_on_page, boxes_or, cases_Bool, code_of, coded_below, cons_option, false≢true, filter_map, has, has_id, housed_below, identifier_of, is_closed, is_numbered, is_told, line_elements, list_any, map-append, nearest_boxes, nearest_value, number_and_name, numbered_boxes, or_parts, own_or, page_at, page_boxes, page_line, page_of, path, public_of, public_unit, with_codes}
+use Rattle.std.specs.Prelude.{not}
+use Rattle.isad_core.specs.declared.element.Element.{Element}
+use Rattle.catalogue_core.proofs.Common.{AllByRecursion, AreToldOn, BoxIsTold, BoxKey, Bytes, Coded, Empty, Forest}
+use Rattle.catalogue_core.proofs.Common.{LineIsTold, Node, Page, PageBox, PageLine, PagesTellTheHousing, Press}
+use Rattle.catalogue_core.proofs.Common.{PublicUnit, Repository, StandsIn, Stub, Told, Unit, Values, before_last}
+use Rattle.catalogue_core.proofs.Common.{box_number, boxes_on_page, boxes_or, cases_Bool, code_of, coded_below}
+use Rattle.catalogue_core.proofs.Common.{cons_option, false≢true, filter_map, has, has_id, has_public_number}
+use Rattle.catalogue_core.proofs.Common.{housed_below, identifier_of, is_told, is_unit_closed, line_elements, list_any}
+use Rattle.catalogue_core.proofs.Common.{map-append, nearest_boxes, nearest_value, number_and_name, numbered_boxes}
+use Rattle.catalogue_core.proofs.Common.{or_parts, own_or, page_at, page_boxes, page_line, page_of, path, public_of}
+use Rattle.catalogue_core.proofs.Common.{public_unit, text_of, with_codes}
 use Rattle.catalogue_core.proofs.EachOf.{all_append}
 use Rattle.catalogue_core.proofs.OneRule.{public_is}
 use Rattle.catalogue_core.proofs.PublishedUnits.{before_last-push}
@@ -147,18 +155,18 @@ page_at_told press above (Told id values) below shown a e =
     subst (AreTold press way) (same_Some _ shown e) (lines, boxes)
 
 pub there_where_shown : (press : Press) (u : ℕ) (f : Forest PublicUnit) (shown : Page) → page_of press u f ≡ Some shown
-    → has (is_numbered u) f ≡ true
-there_where_shown press u f shown e = elim (cases_Bool (has (is_numbered u) f)) [
+    → has (has_public_number u) f ≡ true
+there_where_shown press u f shown e = elim (cases_Bool (has (has_public_number u) f)) [
   | inl y ↦ y
-  | inr n ↦ let empty = nowhere (is_numbered u) f n in absurd (let k : None ≡ Some shown = sym (ap (page_at press (path (is_numbered u) f)) empty) ∙ e in cc)
+  | inr n ↦ let empty = nowhere (has_public_number u) f n in absurd (let k : None ≡ Some shown = sym (ap (page_at press (path (has_public_number u) f)) empty) ∙ e in cc)
 ]
 
 pub page_told : (press : Press) (day : ℤ) (f : Forest Unit) (u : ℕ) (shown : Page)
-    → page_of press u (public_of day f) ≡ Some shown → AreTold press (path (is_numbered u) (public_of day f)) shown
+    → page_of press u (public_of day f) ≡ Some shown → AreTold press (path (has_public_number u) (public_of day f)) shown
 page_told press day f u shown e =
-    let it = stand (is_numbered u) (public_of day f) (there_where_shown press u (public_of day f) shown e) in
+    let it = stand (has_public_number u) (public_of day f) (there_where_shown press u (public_of day f) shown e) in
     let above : AllByRecursion IsTold it.above =
-    subst (AllByRecursion IsTold) (ap before_last it.way ∙ before_last-push it.above it.unit) (told_above day (is_numbered u) f) in
+    subst (AllByRecursion IsTold) (ap before_last it.way ∙ before_last-push it.above it.unit) (told_above day (has_public_number u) f) in
     let k : page_at press (it.above ++ it.unit ∷ []) (Node it.unit it.below Empty) ≡ Some shown =
     sym (ap₂ (page_at press) it.way it.alone) ∙ e in
     subst (λ way. AreTold press way shown) (sym it.way) (page_at_told press it.above it.unit it.below shown above k)
@@ -196,16 +204,16 @@ bare_page press [] = refl
 bare_page press (unit ∷ units) =
     bare_or press None unit.values.boxes (near units) (nearest_boxes press units) (bare_nearest press units)
 
-open_known : (day : ℤ) (unit : Unit) → is_closed day unit ≡ false → known_of day unit ≡ Told unit.id unit.values
+open_known : (day : ℤ) (unit : Unit) → is_unit_closed day unit ≡ false → known_of day unit ≡ Told unit.id unit.values
 open_known day unit k = ap (λ b. public_unit (unit, b)) k
 
 near_housed : (press : Press) (day : ℤ) (ids : List Bytes) (higher : List Coded) (way : List Unit)
-    → list_any (is_closed day) way ≡ false
+    → list_any (is_unit_closed day) way ≡ false
     → near (coded_below press ids higher (map (known_of day) way)) ≡ housed_below (near higher) way
 unfolding near
 near_housed press day ids higher [] h = refl
 near_housed press day ids higher (unit ∷ way) h =
-    let none = or_parts (is_closed day unit) (list_any (is_closed day) way) h in
+    let none = or_parts (is_unit_closed day unit) (list_any (is_unit_closed day) way) h in
     let told : PublicUnit = Told unit.id unit.values in
     let coded_unit : Coded =
     record { code = code_of press.at.country press.at.repo (ids ++ identifier_of told ∷ []); values = unit.values } in
@@ -220,31 +228,31 @@ boxes_of_page press way (Told id values) below shown t e = sym (ap (λ (p : Page
 
 -- the last of a path that is open is told
 last_told : (day : ℤ) (way : List Unit) (above : List PublicUnit) (unit : PublicUnit)
-    → list_any (is_closed day) way ≡ false → map (known_of day) way ≡ above ++ unit ∷ [] → IsTold unit
+    → list_any (is_unit_closed day) way ≡ false → map (known_of day) way ≡ above ++ unit ∷ [] → IsTold unit
 last_told day [] [] unit h e = absurd (let k : [] ≡ unit ∷ [] = e in cc)
 last_told day [] (x ∷ above) unit h e = absurd (cc)
 last_told day (u ∷ way) [] unit h e =
-    let none = or_parts (is_closed day u) (list_any (is_closed day) way) h in
+    let none = or_parts (is_unit_closed day u) (list_any (is_unit_closed day) way) h in
     let k : known_of day u ≡ unit = cc in
     ap is_told (sym k) ∙ ap is_told (open_known day u none.0)
 last_told day (u ∷ way) (x ∷ above) unit h e =
-    let none = or_parts (is_closed day u) (list_any (is_closed day) way) h in
+    let none = or_parts (is_unit_closed day u) (list_any (is_unit_closed day) way) h in
     last_told day way above unit none.1 (let k : map (known_of day) way ≡ above ++ unit ∷ [] = cc in k)
 
 pub pages_tell_the_housing : PagesTellTheHousing
 unfolding near
 pages_tell_the_housing press day f u shown d e p =
     let there = there_where_shown press u (public_of day f) shown e in
-    let it = stand (is_numbered u) (public_of day f) there in
+    let it = stand (has_public_number u) (public_of day f) there in
     let way = known_path day u f d there in
-    let shut : (list_any (λ (unit : Unit). unit.draft) (path (has_id u) f) || list_any (is_closed day) (path (has_id u) f)) ≡ false =
+    let shut : (list_any (λ (unit : Unit). unit.draft) (path (has_id u) f) || list_any (is_unit_closed day) (path (has_id u) f)) ≡ false =
     not_so _ (sym (public_is day (path (has_id u) f)) ∙ p) in
-    let none = (or_parts (list_any (λ (unit : Unit). unit.draft) (path (has_id u) f)) (list_any (is_closed day) (path (has_id u) f)) shut).1 in
+    let none = (or_parts (list_any (λ (unit : Unit). unit.draft) (path (has_id u) f)) (list_any (is_unit_closed day) (path (has_id u) f)) shut).1 in
     let told = last_told day (path (has_id u) f) it.above it.unit none (sym way ∙ it.way) in
-    let k : page_at press (path (is_numbered u) (public_of day f)) (Node it.unit it.below Empty) ≡ Some shown =
-    sym (ap (page_at press (path (is_numbered u) (public_of day f))) it.alone) ∙ e in
-    ap (map number_and_name) (boxes_of_page press (path (is_numbered u) (public_of day f)) it.unit it.below shown told k)
-    ∙ (bare_page press (with_codes press (path (is_numbered u) (public_of day f)))
+    let k : page_at press (path (has_public_number u) (public_of day f)) (Node it.unit it.below Empty) ≡ Some shown =
+    sym (ap (page_at press (path (has_public_number u) (public_of day f))) it.alone) ∙ e in
+    ap (map number_and_name) (boxes_of_page press (path (has_public_number u) (public_of day f)) it.unit it.below shown told k)
+    ∙ (bare_page press (with_codes press (path (has_public_number u) (public_of day f)))
     ∙ ap (numbered_boxes (box_number press.containers)) (ap (λ l. near (with_codes press l)) way ∙ near_housed press day [] [] (path (has_id u) f) none))
   where
     not_so : (b : Bool) → not b ≡ true → b ≡ false

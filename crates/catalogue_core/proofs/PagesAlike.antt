@@ -1,10 +1,15 @@
 -- Equal forests, and equal numbers of the containers in them, are shown alike.
-use Rattle.std.proofs.Common.{◌≡◌, ℕ, ◌+◌, Bool, true, false, cond, List, [], ◌∷◌, ◌++◌, Option, Some, None, refl, ap, ◌∙◌}
+use Rattle.std.proofs.Common.{◌≡◌, ℕ, ◌+◌, Bool, true, false, cond, List, [], ◌∷◌, ◌++◌, Option, Some, None, refl, ap}
+use Rattle.std.proofs.Common.{◌∙◌}
 use Rattle.std.specs.Prelude.{map}
-use Rattle.isad_core.specs.declared.display.Shown.{Shown}
 use Rattle.isad_core.specs.declared.display.Body.TheVariants.{Full}
-use Rattle.catalogue_core.specs.Pages.{number_of}
-use Rattle.catalogue_core.proofs.Common.{AllByRecursion, BoxKey, Bytes, Coded, Empty, Forest, Node, Page, PageBox, Press, PublicUnit, Repository, Stub, Told, box_number, boxes_on_page, boxes_or, boxes_told, code_of, coded_below, filter_map, flat_map, has, identifier_of, line_elements, nearest_boxes, nodes, numbered_boxes, own_lines, page_at, page_boxes, page_line, path, shown_below, shown_unit, side_by_side, title, tree, with_codes}
+use Rattle.isad_core.specs.declared.display.Shown.{Shown}
+use Rattle.catalogue_core.proofs.Common.{AllByRecursion, BoxKey, Bytes, Coded, Empty, Forest, Node, Page, PageBox}
+use Rattle.catalogue_core.proofs.Common.{Press, PublicUnit, Repository, Stub, Told, box_number, boxes_on_page, boxes_or}
+use Rattle.catalogue_core.proofs.Common.{boxes_told, code_of, coded_below, filter_map, flat_map, has, identifier_of}
+use Rattle.catalogue_core.proofs.Common.{line_elements, nearest_boxes, nodes, numbered_boxes, own_lines, page_at}
+use Rattle.catalogue_core.proofs.Common.{page_boxes, page_line, pages_side_by_side, path, public_number, shown_below}
+use Rattle.catalogue_core.proofs.Common.{shown_unit, title, tree, with_codes}
 use Rattle.catalogue_core.proofs.EachOf.{all_append, all_split}
 
 -- the containers have the same numbers in both lists
@@ -80,12 +85,12 @@ abbrev pub with_boxes : Repository → List BoxKey → Press
 with_boxes at xs = record { at = at; containers = xs }
 
 pub beside_alike : (at : Repository) (xs ys : List BoxKey) (above : List Bytes) (f : Forest PublicUnit)
-    → AllAlike xs ys (nodes f) → side_by_side (with_boxes at xs) above f ≡ side_by_side (with_boxes at ys) above f
+    → AllAlike xs ys (nodes f) → pages_side_by_side (with_boxes at xs) above f ≡ pages_side_by_side (with_boxes at ys) above f
 beside_alike at xs ys above Empty h = refl
 beside_alike at xs ys above (Node a c o) h =
     let r = all_split (λ unit. Alike xs ys (boxes_told unit)) (nodes c) (nodes o) h.1 in
-    ap (λ u. (number_of a, u) ∷ side_by_side (with_boxes at xs) above o) (unit_alike at xs ys (above ++ identifier_of a ∷ []) 0 a h.0)
-    ∙ ap (λ l. (number_of a, shown_unit at ys (above ++ identifier_of a ∷ []) 0 a) ∷ l) (beside_alike at xs ys above o r.1)
+    ap (λ u. (public_number a, u) ∷ pages_side_by_side (with_boxes at xs) above o) (unit_alike at xs ys (above ++ identifier_of a ∷ []) 0 a h.0)
+    ∙ ap (λ l. (public_number a, shown_unit at ys (above ++ identifier_of a ∷ []) 0 a) ∷ l) (beside_alike at xs ys above o r.1)
 
 -- the page
 
@@ -141,9 +146,9 @@ page_at_alike at xs ys way (Node (Told id values) c o) h k =
     let e = coded_same at xs ys [] [] way in
     let made : Shown → List Coded → List PageBox → List (ℕ × Shown) → Option Page =
     λ head units boxes below. Some (record { head = head; lines = filter_map (page_line units) line_elements; boxes = boxes; below = below }) in
-    ap (λ head. made head (with_codes (with_boxes at xs) way) (boxes_on_page (with_boxes at xs) (with_codes (with_boxes at xs) way)) (side_by_side (with_boxes at xs) (map identifier_of way) c)) (unit_alike at xs ys (map identifier_of way) 0 (Told id values) k.0)
-    ∙ (ap (λ boxes. made (shown_unit at ys (map identifier_of way) 0 (Told id values)) (with_codes (with_boxes at xs) way) boxes (side_by_side (with_boxes at xs) (map identifier_of way) c)) (on_page_alike at xs ys (with_codes (with_boxes at xs) way) (coded_alike at xs ys [] [] way h tt))
-    ∙ (ap (λ units. made (shown_unit at ys (map identifier_of way) 0 (Told id values)) units (boxes_on_page (with_boxes at ys) units) (side_by_side (with_boxes at xs) (map identifier_of way) c)) e
+    ap (λ head. made head (with_codes (with_boxes at xs) way) (boxes_on_page (with_boxes at xs) (with_codes (with_boxes at xs) way)) (pages_side_by_side (with_boxes at xs) (map identifier_of way) c)) (unit_alike at xs ys (map identifier_of way) 0 (Told id values) k.0)
+    ∙ (ap (λ boxes. made (shown_unit at ys (map identifier_of way) 0 (Told id values)) (with_codes (with_boxes at xs) way) boxes (pages_side_by_side (with_boxes at xs) (map identifier_of way) c)) (on_page_alike at xs ys (with_codes (with_boxes at xs) way) (coded_alike at xs ys [] [] way h tt))
+    ∙ (ap (λ units. made (shown_unit at ys (map identifier_of way) 0 (Told id values)) units (boxes_on_page (with_boxes at ys) units) (pages_side_by_side (with_boxes at xs) (map identifier_of way) c)) e
     ∙ ap (λ below. made (shown_unit at ys (map identifier_of way) 0 (Told id values)) (with_codes (with_boxes at ys) way) (boxes_on_page (with_boxes at ys) (with_codes (with_boxes at ys) way)) below) (beside_alike at xs ys (map identifier_of way) c r.0)))
 
 -- the answers

@@ -1,8 +1,12 @@
 -- Every new row of an import gets its unit, and no unit goes.
-use Rattle.std.proofs.Common.{◌≡◌, ℕ, ◌+◌, ◌-◌, Bool, true, false, cond, ◌||◌, List, [], ◌∷◌, ◌++◌, Option, Some, None, refl, sym, ap, ◌∙◌, subst, inl, inr, ◌⊎◌, arith, append_assoc}
+use Rattle.std.proofs.Common.{◌≡◌, ℕ, ◌+◌, ◌-◌, Bool, true, false, cond, ◌||◌, List, [], ◌∷◌, ◌++◌, Option, Some, None}
+use Rattle.std.proofs.Common.{refl, sym, ap, ◌∙◌, subst, inl, inr, ◌⊎◌, arith, append_assoc}
 use Rattle.std.specs.Prelude.{nat_eq}
-use Rattle.catalogue_core.specs.CatalogueMerge.{number_of}
-use Rattle.catalogue_core.proofs.Common.{AllByRecursion, Bytes, Empty, Forest, New, Node, Row, StandsIn, Unit, branches, bytes_eq, each, eq-eqb, false≢true, find, grown, has, has-each, has_legacy, is_from, join, list_any, list_any-append, merged_forest, new_unit, new_units, nodes, numbered_from, option_and_then, option_eq, option_map, or_left, or_right, revised}
+use Rattle.catalogue_core.proofs.Common.{AllByRecursion, Bytes, Empty, Forest, New, Node, Row, StandsIn, Unit, branches}
+use Rattle.catalogue_core.proofs.Common.{bytes_eq, each, eq-eqb, false≢true, find, grown, has, has-each, has_legacy}
+use Rattle.catalogue_core.proofs.Common.{is_from, join, list_any, list_any-append, merged_forest, new_unit, new_units}
+use Rattle.catalogue_core.proofs.Common.{nodes, numbered_from, option_and_then, option_eq, option_map, or_left}
+use Rattle.catalogue_core.proofs.Common.{or_right, parent_number, revised}
 
 -- ---- a new row among its siblings
 
@@ -77,15 +81,15 @@ under_known f source legacy all whole x rest (Some v) h e p =
 
 place : (f : Forest Unit) (source : Bytes) (all : List New) (n : ℕ) (above : List Row) (tail front : List New) (x : New) (rest : List New) (legacy : Bytes) (whole : List New)
     → tail ≡ front ++ x ∷ rest → all ≡ whole ++ x ∷ rest → AllRooted f all n above tail
-    → x.parent ≡ number_of f source n above legacy → Rooted f all x rest
+    → x.parent ≡ parent_number f source n above legacy → Rooted f all x rest
 unfolding AllRooted
 place f source all n [] tail front x rest legacy whole et e h p =
     under_known f source legacy all whole x rest (find (is_from source legacy) (nodes f)) refl e p
 place f source all n (row ∷ above) tail front x rest legacy whole et e h p =
     at (has_legacy legacy row) p (place f source all (n - 1) above (h.0 ∷ tail) (h.0 ∷ front) x rest legacy whole (ap (λ l. h.0 ∷ l) et) e h.3)
   where
-    at : (b : Bool) → x.parent ≡ cond b (Some (n - 1)) (number_of f source (n - 1) above legacy)
-        → (x.parent ≡ number_of f source (n - 1) above legacy → Rooted f all x rest) → Rooted f all x rest
+    at : (b : Bool) → x.parent ≡ cond b (Some (n - 1)) (parent_number f source (n - 1) above legacy)
+        → (x.parent ≡ parent_number f source (n - 1) above legacy → Rooted f all x rest) → Rooted f all x rest
     at true q k = rooted_below f all h.0 tail x rest h.2 (subst (λ l. Occurs x rest (branches (Some h.0.id) l)) (sym et) (top (Some h.0.id) front x rest (same_parent x.parent (Some h.0.id) (q ∙ ap Some (sym h.1)))))
     at false q k = k q
 
@@ -93,7 +97,7 @@ abbrev RootedSomewhere : Forest Unit → List New → New → Type 0
 RootedSomewhere f all x = (rest : List New) × Rooted f all x rest
 
 one_rooted : (f : Forest Unit) (source : Bytes) (all whole : List New) (n : ℕ) (above : List Row) (x : New) (rest : List New) (p : Option Bytes)
-    → x.parent ≡ option_and_then (number_of f source n above) p → all ≡ whole ++ x ∷ rest
+    → x.parent ≡ option_and_then (parent_number f source n above) p → all ≡ whole ++ x ∷ rest
     → AllRooted f all n above (x ∷ rest) → Rooted f all x rest
 one_rooted f source all whole n above x rest None ep e h = as_top f all whole x rest e ep
 one_rooted f source all whole n above x rest (Some legacy) ep e h =
@@ -105,7 +109,7 @@ all_rooted : (f : Forest Unit) (source : Bytes) (all whole : List New) (n : ℕ)
 unfolding AllRooted
 all_rooted f source all whole n above [] e h = tt
 all_rooted f source all whole n above (row ∷ rows) e h =
-    let x : New = record { id = n; parent = option_and_then (number_of f source n above) row.parent; row = row } in
+    let x : New = record { id = n; parent = option_and_then (parent_number f source n above) row.parent; row = row } in
     let rest = numbered_from f source (n + 1) (row ∷ above) rows in
     let r = one_rooted f source all whole n above x rest row.parent refl e h in
     let back : n ≡ n + 1 - 1 = omega arith in (

@@ -1,11 +1,19 @@
 -- Going row by row gives what merging all rows gives, or the same first fault.
-use Rattle.std.proofs.Common.{◌≡◌, ℕ, suc, ◌+◌, ◌-◌, ◌<◌, ◌≤◌, Bool, true, false, not, cond, ◌&&◌, List, [], ◌∷◌, ◌++◌, length, map, Option, Some, None, Ok, refl, sym, ap, ap₂, subst, ◌∙◌, nat_eq, arith, append_assoc, append-nil, length-append}
-use Rattle.catalogue_core.specs.CatalogueMerge.{number_of}
-use Rattle.catalogue_core.proofs.Common.{AllByRecursion, AllDiffer, AreGoodUnits, Bytes, Catalogue, Empty, Forest, New, Node, Row, Unit, add, and_then, bytes_eq, cause_at, depth, depth_there, depth_under, each, faults_below, find, has, has_id, has_place, is_from, list_any, merged, merged_forest, ne_eqb, new_at, new_unit, nodes, nodes-each, number_there, numbered_from, option_and_then, option_map, or_first, path, revised, unless_cause, with_new, with_row_at, with_rows, with_unit, with_values}
+use Rattle.std.proofs.Common.{◌≡◌, ℕ, suc, ◌+◌, ◌-◌, ◌<◌, ◌≤◌, Bool, true, false, not, cond, ◌&&◌, List, [], ◌∷◌, ◌++◌}
+use Rattle.std.proofs.Common.{length, map, Option, Some, None, Ok, refl, sym, ap, ap₂, subst, ◌∙◌, nat_eq, arith}
+use Rattle.std.proofs.Common.{append_assoc, append-nil, length-append}
+use Rattle.catalogue_core.proofs.Common.{AllByRecursion, AllDiffer, AreGoodUnits, Bytes, Catalogue, Empty, Forest, New}
+use Rattle.catalogue_core.proofs.Common.{Node, Row, Unit, add, and_then, bytes_eq, cause_at, depth, depth_there}
+use Rattle.catalogue_core.proofs.Common.{depth_under, each, faults_below, find, has, has_id, has_place, is_from}
+use Rattle.catalogue_core.proofs.Common.{list_any, merged, merged_forest, ne_eqb, new_at, new_unit, nodes, nodes-each}
+use Rattle.catalogue_core.proofs.Common.{number_there, numbered_from, option_and_then, option_map, or_first}
+use Rattle.catalogue_core.proofs.Common.{parent_number, path, revised, unless_cause, with_new, with_row_at, with_rows}
+use Rattle.catalogue_core.proofs.Common.{with_unit, with_values}
 use Rattle.catalogue_core.proofs.DistinctLists.{all_so}
 use Rattle.catalogue_core.proofs.EachOf.{all_append, all_of_found, all_split, none_found, some_found}
 use Rattle.catalogue_core.proofs.EnteredUnits.{Alike, Placed, Same, alike_each, placed_added, same_added}
-use Rattle.catalogue_core.proofs.EachRow.{onto, onto-more, all_onto, numbered-more, length-numbered, numbers_high, numbers_apart, number_past, found_numbers, revised_past, revised_by}
+use Rattle.catalogue_core.proofs.EachRow.{onto, onto-more, all_onto, numbered-more, length-numbered, numbers_high}
+use Rattle.catalogue_core.proofs.EachRow.{numbers_apart, number_past, found_numbers, revised_past, revised_by}
 use Rattle.catalogue_core.proofs.Imported.{new_rows}
 use Rattle.catalogue_core.proofs.ImportedAgain.{one_text, other_way, same_text}
 use Rattle.catalogue_core.proofs.ImportedNumbers.{distinct_numbers}
@@ -46,7 +54,7 @@ module _ (c : Catalogue) (source : Bytes) (good : AreGoodUnits c) where
     pub depths : (legacy : Bytes)
         → depth_under (grown_to before nb) source (Some legacy) [] ≡ depth_under c.forest source (Some legacy) (onto [] nb)
     pub numbers : (legacy : Bytes)
-        → option_map (λ (u : Unit). u.id) (find (is_from source legacy) (nodes (grown_to before nb))) ≡ number_of c.forest source (c.next + length nb) (onto [] nb) legacy
+        → option_map (λ (u : Unit). u.id) (find (is_from source legacy) (nodes (grown_to before nb))) ≡ parent_number c.forest source (c.next + length nb) (onto [] nb) legacy
 
   -- ---- a row of a unit that was there
 
@@ -147,7 +155,7 @@ module _ (c : Catalogue) (source : Bytes) (good : AreGoodUnits c) where
     above = onto [] nb
 
     abbrev come : New
-    come = record { id = c.next + length nb; parent = option_and_then (number_of c.forest source (c.next + length nb) (onto [] nb)) row.parent; row = row }
+    come = record { id = c.next + length nb; parent = option_and_then (parent_number c.forest source (c.next + length nb) (onto [] nb)) row.parent; row = row }
 
     pub no_such_number : number_there (so_far before nb) source row.legacy ≡ None
     no_such_number =
@@ -159,7 +167,7 @@ module _ (c : Catalogue) (source : Bytes) (good : AreGoodUnits c) where
     not_there = none_found (is_from source row.legacy) (nodes (grown_to before nb)) (no_number (find (is_from source row.legacy) (nodes (grown_to before nb))) no_such_number)
 
     its_parent : (p : Option Bytes)
-        → option_and_then (number_there (so_far before nb) source) p ≡ option_and_then (number_of c.forest source (c.next + length nb) (onto [] nb)) p
+        → option_and_then (number_there (so_far before nb) source) p ≡ option_and_then (parent_number c.forest source (c.next + length nb) (onto [] nb)) p
     its_parent None = refl
     its_parent (Some legacy) = s.numbers legacy
 
@@ -189,7 +197,7 @@ module _ (c : Catalogue) (source : Bytes) (good : AreGoodUnits c) where
         ∙ (sym (merged_new c source before (numbered nb) come can)
         ∙ ap (merged c source (before ++ row ∷ [])) (sym (numbered-more c.forest source c.next [] nb row)))
 
-    forest_is : add has_id (option_and_then (number_of c.forest source (c.next + length nb) (onto [] nb)) row.parent) (new_unit source come) (grown_to before nb) ≡ grown_to (before ++ row ∷ []) (nb ++ row ∷ [])
+    forest_is : add has_id (option_and_then (parent_number c.forest source (c.next + length nb) (onto [] nb)) row.parent) (new_unit source come) (grown_to before nb) ≡ grown_to (before ++ row ∷ []) (nb ++ row ∷ [])
     forest_is = ap (λ (d : Catalogue). d.forest) (sym (ap (λ (n : New). with_unit n.parent (new_unit source n) (so_far before nb)) is_come) ∙ new_more)
 
     -- the parent is there, and the row lies one deeper
@@ -216,20 +224,20 @@ module _ (c : Catalogue) (source : Bytes) (good : AreGoodUnits c) where
         }
 
     parent_stands : (p : Option Bytes) (k : ℕ) → depth_under c.forest source p (onto [] nb) ≡ Some k
-        → ParentStands (option_and_then (number_of c.forest source (c.next + length nb) (onto [] nb)) p) k
+        → ParentStands (option_and_then (parent_number c.forest source (c.next + length nb) (onto [] nb)) p) k
     parent_stands None k d = record { place = refl; deep = (let one : 1 ≡ k = cc in sym one) }
     parent_stands (Some legacy) k d =
         subst (λ p. ParentStands p k) (s.numbers legacy)
         (parent_at legacy k (find (is_from source legacy) (nodes (grown_to before nb))) refl (s.depths legacy ∙ d))
 
     module _ (k : ℕ) (d : depth_under c.forest source row.parent (onto [] nb) ≡ Some k) where
-      stands_parent : ParentStands (option_and_then (number_of c.forest source (c.next + length nb) (onto [] nb)) row.parent) k
+      stands_parent : ParentStands (option_and_then (parent_number c.forest source (c.next + length nb) (onto [] nb)) row.parent) k
       stands_parent = parent_stands row.parent k d
 
       abbrev after_it : Forest Unit
-      after_it = add has_id (option_and_then (number_of c.forest source (c.next + length nb) (onto [] nb)) row.parent) (new_unit source come) (grown_to before nb)
+      after_it = add has_id (option_and_then (parent_number c.forest source (c.next + length nb) (onto [] nb)) row.parent) (new_unit source come) (grown_to before nb)
 
-      placed : Placed (is_from source row.legacy) (new_unit source come) after_it (depth (option_and_then (number_of c.forest source (c.next + length nb) (onto [] nb)) row.parent) (grown_to before nb))
+      placed : Placed (is_from source row.legacy) (new_unit source come) after_it (depth (option_and_then (parent_number c.forest source (c.next + length nb) (onto [] nb)) row.parent) (grown_to before nb))
       placed =
           placed_added (is_from source row.legacy) (new_unit source come) (Rattle.std.proofs.lemmas.Bool.and_from (bytes_eq source source) (bytes_eq row.legacy row.legacy) (same_text source) (same_text row.legacy)) _ (grown_to before nb) not_there stands_parent.place
 
@@ -259,7 +267,7 @@ module _ (c : Catalogue) (source : Bytes) (good : AreGoodUnits c) where
       one_less = let n = length-append nb (row ∷ []) in omega (arith, n)
 
       number_now : (legacy : Bytes) (b : Bool) → bytes_eq legacy row.legacy ≡ b
-          → option_map (λ (u : Unit). u.id) (find (is_from source legacy) (nodes after_it)) ≡ cond b (Some (c.next + length nb)) (number_of c.forest source (c.next + length nb) (onto [] nb) legacy)
+          → option_map (λ (u : Unit). u.id) (find (is_from source legacy) (nodes after_it)) ≡ cond b (Some (c.next + length nb)) (parent_number c.forest source (c.next + length nb) (onto [] nb) legacy)
       number_now legacy true h =
           ap (λ l. option_map (λ (u : Unit). u.id) (find (is_from source l) (nodes after_it))) (one_text legacy row.legacy h) ∙ ap (option_map (λ (u : Unit). u.id)) placed.found
       number_now legacy false h = ap (option_map (λ (u : Unit). u.id)) (stayed legacy h).found ∙ s.numbers legacy
@@ -274,8 +282,8 @@ module _ (c : Catalogue) (source : Bytes) (good : AreGoodUnits c) where
         numbers = λ legacy.
             ap (λ f. option_map (λ (u : Unit). u.id) (find (is_from source legacy) (nodes f))) (sym forest_is)
             ∙ (number_now legacy (bytes_eq legacy row.legacy) refl
-            ∙ (ap (λ n. cond (bytes_eq legacy row.legacy) (Some n) (number_of c.forest source n (onto [] nb) legacy)) (sym one_less)
-            ∙ ap (λ above. number_of c.forest source (c.next + length (nb ++ row ∷ [])) above legacy) (sym (onto-more [] nb row))));
+            ∙ (ap (λ n. cond (bytes_eq legacy row.legacy) (Some n) (parent_number c.forest source n (onto [] nb) legacy)) (sym one_less)
+            ∙ ap (λ above. parent_number c.forest source (c.next + length (nb ++ row ∷ [])) above legacy) (sym (onto-more [] nb row))));
       }
 
     pub depth_same : (p : Option Bytes)

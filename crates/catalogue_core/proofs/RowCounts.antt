@@ -1,9 +1,15 @@
 -- Rows that are judged as they are entered are counted as they would be on the forest before.
-use Rattle.std.proofs.Common.{◌≡◌, ℕ, ◌+◌, Bool, true, false, not, cond, ◌&&◌, ◌||◌, List, [], ◌∷◌, ◌++◌, length, map, Option, Some, None, refl, sym, ap, ap₂, subst, ◌∙◌, arith}
-use Rattle.std.specs.Prelude.{filter}
+use Rattle.std.proofs.Common.{◌≡◌, ℕ, ◌+◌, Bool, true, false, not, cond, ◌&&◌, ◌||◌, List, [], ◌∷◌, ◌++◌, length, map}
+use Rattle.std.proofs.Common.{Option, Some, None, refl, sym, ap, ap₂, subst, ◌∙◌, arith}
 use Rattle.std.proofs.lemmas.List.Sums.{length-filter}
-use Rattle.catalogue_core.specs.Intake.{is_same}
-use Rattle.catalogue_core.proofs.Common.{AllByRecursion, AllDiffer, AreGoodUnits, Bytes, Catalogue, CountsAlike, Empty, Forest, New, Node, Row, Unit, and_parts, branches, bytes_eq, cause_at, count_by, count_rows, depth_under, distinct, each, faults_below, find, grown, has, if_ok, is_changed, is_from, is_new, is_some, join, list_any, merged_forest, new_unit, new_units, nodes, nodes-each, numbered_from, option_map, option_map_or, option_to_list, revised, same_values, unit_of, unless_cause, unwrap_or, with_new, with_row, with_row_at}
+use Rattle.std.specs.Prelude.{filter}
+use Rattle.catalogue_core.proofs.Common.{AllByRecursion, AllDiffer, AreGoodUnits, Bytes, Catalogue, CountsAlike, Empty}
+use Rattle.catalogue_core.proofs.Common.{Forest, New, Node, Row, Unit, and_parts, branches, bytes_eq, catalogued_unit}
+use Rattle.catalogue_core.proofs.Common.{cause_at, count_by, count_rows, depth_under, distinct, each, faults_below}
+use Rattle.catalogue_core.proofs.Common.{find, grown, has, if_ok, is_changed, is_from, is_new, is_same, is_some, join}
+use Rattle.catalogue_core.proofs.Common.{list_any, merged_forest, new_unit, new_units, nodes, nodes-each, numbered_from}
+use Rattle.catalogue_core.proofs.Common.{option_map, option_map_or, option_to_list, revised, same_values, unless_cause}
+use Rattle.catalogue_core.proofs.Common.{unwrap_or, with_new, with_row, with_row_at}
 use Rattle.catalogue_core.proofs.DistinctLists.{all_so}
 use Rattle.catalogue_core.proofs.EachOf.{all_true, none_found, some_found}
 use Rattle.catalogue_core.proofs.EachRow.{none_with, onto, onto-more}
@@ -12,7 +18,8 @@ use Rattle.catalogue_core.proofs.Imported.{first_ok, new_rows}
 use Rattle.catalogue_core.proofs.ImportedAgain.{all_each, is_from_revised, numbered_rows, one_text, other_way}
 use Rattle.catalogue_core.proofs.OneMoreRow.{all_branched}
 use Rattle.catalogue_core.proofs.Rooted.{nodes-join}
-use Rattle.catalogue_core.proofs.RowByRow.{IsApart, StandsSo, depth_same, further, known_more, known_number, known_stands, new_more, new_stands, no_such_number, some_depth}
+use Rattle.catalogue_core.proofs.RowByRow.{IsApart, StandsSo, depth_same, further, known_more, known_number}
+use Rattle.catalogue_core.proofs.RowByRow.{known_stands, new_more, new_stands, no_such_number, some_depth}
 use Rattle.catalogue_core.proofs.RowsMerged.{begins, none_merged, row_by_row}
 
 count_one : {X : Type 0} (p : X → Bool) (x : X) (xs : List X) → cond (p x) 1 0 + count_by p xs ≡ count_by p (x ∷ xs)
@@ -71,7 +78,7 @@ found_some is (u ∷ us) = at (is u) (found_some is us)
 
 -- a test of a row that looks at its unit alone
 abbrev pub LooksAtUnit : (Forest Unit → Bytes → Row → Bool) → Type 0
-LooksAtUnit test = (f g : Forest Unit) (source : Bytes) (row : Row) → unit_of f source row ≡ unit_of g source row → test f source row ≡ test g source row
+LooksAtUnit test = (f g : Forest Unit) (source : Bytes) (row : Row) → catalogued_unit f source row ≡ catalogued_unit g source row → test f source row ≡ test g source row
 
 same_looks : LooksAtUnit is_same
 same_looks f g source row e = ap (λ r. option_map_or (λ (unit : Unit). same_values unit.values row.values) r false) e
@@ -95,7 +102,7 @@ module _ (c : Catalogue) (source : Bytes) (good : AreGoodUnits c) (test : Forest
   so_far before nb = Rattle.catalogue_core.specs.CatalogueMerge.merged c source before (numbered_from c.forest source c.next [] nb)
 
   unit_stays : (before nb : List Row) (row : Row) → StandsSo c source good before nb → IsApart row before
-      → unit_of (forest before nb) source row ≡ unit_of c.forest source row
+      → catalogued_unit (forest before nb) source row ≡ catalogued_unit c.forest source row
   unit_stays before nb row s apart =
       find_beside is source (numbered nb) come (grown source (numbered nb) (each (revised source before) c.forest)) None
       ∙ (find_grown is source (numbered nb) come (each (revised source before) c.forest)

@@ -1,8 +1,11 @@
 -- A file's rows, entered one by one, are merged.
-use Rattle.std.proofs.Common.{◌≡◌, ℕ, ◌+◌, Bool, true, false, cond, List, [], ◌++◌, Some, Ok, refl, sym, ap, ◌∙◌, arith, append-nil}
+use Rattle.std.proofs.Common.{◌≡◌, ℕ, ◌+◌, Bool, true, false, cond, List, [], ◌++◌, Some, Ok, refl, sym, ap, ◌∙◌, arith}
+use Rattle.std.proofs.Common.{append-nil}
 use Rattle.atom_csv.proofs.ToldLemmas.{file_sound}
 use Rattle.catalogue_core.specs.Intake.{take}
-use Rattle.catalogue_core.proofs.Common.{AllDiffer, AreGoodUnits, BoxKey, Bytes, Catalogue, File, Forest, Row, Unit, bytes_eq, distinct, file_of, merge, merged, nodes, revised, take_rows, with_file, with_rows}
+use Rattle.catalogue_core.proofs.Common.{AllDiffer, AreGoodUnits, BoxKey, Bytes, Catalogue, File, Forest, Row, Unit}
+use Rattle.catalogue_core.proofs.Common.{bytes_eq, distinct, file_of, merge, merged, nodes, revised, take_rows}
+use Rattle.catalogue_core.proofs.Common.{with_file, with_rows}
 use Rattle.catalogue_core.proofs.EachOf.{all_true}
 use Rattle.catalogue_core.proofs.ImportedAgain.{merged_none}
 use Rattle.catalogue_core.proofs.RowByRow.{IsApart, StandsSo, goes}
@@ -29,7 +32,7 @@ begins c source good apart =
     record {
       part = λ row h. tt;
       depths = λ legacy. ap (λ f. Rattle.catalogue_core.specs.CatalogueMerge.depth_under f source (Some legacy) []) same;
-      numbers = λ legacy. ap (λ f. Rattle.catalogue_core.specs.CatalogueMerge.number_of f source (c.next + 0) [] legacy) same;
+      numbers = λ legacy. ap (λ f. Rattle.catalogue_core.specs.CatalogueMerge.parent_number f source (c.next + 0) [] legacy) same;
     }
 
 pub row_by_row : (c : Catalogue) (source : Bytes) (rows : List Row) → AreGoodUnits c

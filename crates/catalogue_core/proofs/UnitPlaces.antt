@@ -1,8 +1,11 @@
 -- Where the units of a forest with different numbers stand, and how deep.
-use Rattle.std.proofs.Common.{◌≡◌, ℕ, suc, ◌+◌, Bool, true, false, cond, ◌||◌, List, [], ◌∷◌, ◌++◌, length, Option, Some, None, refl, sym, ap, ◌∙◌, subst, inl, inr, arith, map}
-use Rattle.std.specs.Prelude.{nat_eq}
+use Rattle.std.proofs.Common.{◌≡◌, ℕ, suc, ◌+◌, Bool, true, false, cond, ◌||◌, List, [], ◌∷◌, ◌++◌, length, Option}
+use Rattle.std.proofs.Common.{Some, None, refl, sym, ap, ◌∙◌, subst, inl, inr, arith, map}
 use Rattle.std.specs.List.{IsDistinct}
-use Rattle.catalogue_core.proofs.Common.{AllByRecursion, Empty, Forest, Node, Unit, apart_append, cases_Bool, eq-eqb, eqb_comm, false≢true, find, has, has_id, list_any, map-append, nodes, or_parts, path}
+use Rattle.std.specs.Prelude.{nat_eq}
+use Rattle.catalogue_core.proofs.Common.{AllByRecursion, Empty, Forest, Node, Unit, apart_append, cases_Bool, eq-eqb}
+use Rattle.catalogue_core.proofs.Common.{eqb_comm, false≢true, find, has, has_id, list_any, map-append, nodes, or_parts}
+use Rattle.catalogue_core.proofs.Common.{path}
 use Rattle.catalogue_core.proofs.EachOf.{all_and, all_split, all_of_found, none_found, some_found}
 use Rattle.catalogue_core.proofs.UnitsAfter.{each_there}
 

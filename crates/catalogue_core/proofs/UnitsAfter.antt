@@ -1,7 +1,11 @@
 -- Which units are there after a change, and which numbers the new ones have.
-use Rattle.std.proofs.Common.{◌≡◌, ℕ, ◌+◌, ◌<◌, ◌≤◌, Bool, true, false, cond, ◌||◌, List, [], ◌∷◌, length, Option, Some, None, refl, sym, ap, ◌∙◌, subst, inl, inr, ◌⊎◌, arith}
+use Rattle.std.proofs.Common.{◌≡◌, ℕ, ◌+◌, ◌<◌, ◌≤◌, Bool, true, false, cond, ◌||◌, List, [], ◌∷◌, length, Option, Some}
+use Rattle.std.proofs.Common.{None, refl, sym, ap, ◌∙◌, subst, inl, inr, ◌⊎◌, arith}
 use Rattle.std.specs.Prelude.{ℤ, nat_eq}
-use Rattle.catalogue_core.proofs.Common.{AllByRecursion, Bytes, Catalogue, Empty, Forest, New, Node, Row, Unit, cases_Bool, cut, each, eq-eqb, eqb-true, false≢true, has, has-each, has_id, has_unit, join, list_any, merged_forest, move_last, nodes, numbered_from, or_cases, or_left, or_right, put_below, put_last, revised, tree}
+use Rattle.catalogue_core.proofs.Common.{AllByRecursion, Bytes, Catalogue, Empty, Forest, New, Node, Row, Unit}
+use Rattle.catalogue_core.proofs.Common.{cases_Bool, cut, each, eq-eqb, eqb-true, false≢true, has, has-each, has_id}
+use Rattle.catalogue_core.proofs.Common.{has_unit, join, list_any, merged_forest, move_last, nodes, numbered_from}
+use Rattle.catalogue_core.proofs.Common.{or_cases, or_left, or_right, put_below, put_last, revised, tree}
 use Rattle.catalogue_core.proofs.Imported.{new_rows}
 use Rattle.catalogue_core.proofs.Rooted.{or_each, has_node, has-join, revised_id}
 use Rattle.catalogue_core.proofs.DistinctLists.{all_so}

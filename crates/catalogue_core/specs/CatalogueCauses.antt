@@ -1,13 +1,14 @@
 -- Why rows of doubtful origin represent no catalogue, causes 2 to 5: what is wrong in the tables of places, units,
 -- elements and containers. Also the keys of the rows. Rows of containers are ordered by number, and span rows by lft.
-use Rattle.std.specs.Prelude.{ℕ, ℤ, ◌^◌, Bool, true, false, not, ◌&&◌, List, length, map, Option, Some, None, is_some, nat_eq, nat_le, nat_lt}
+use Rattle.std.specs.Prelude.{ℕ, ℤ, ◌^◌, Bool, true, false, not, ◌&&◌, List, length, map, Option, Some, None, is_some}
+use Rattle.std.specs.Prelude.{nat_eq, nat_le, nat_lt}
 use Rattle.std.specs.List.{list_all, IsDistinct}
 use Rattle.std.specs.Option.{option_map_or}
 use Rattle.std.specs.List.Sorted.{IsPermutation}
 use Rattle.std.specs.Str.{bytes_eq}
 use Rattle.isad_core.specs.Texts.{is_blank_text}
 use Rattle.isad_core.specs.Days.{is_day_number}
-use Rattle.isad_core.specs.Boxes.{is_same as is_same_box}
+use Rattle.isad_core.specs.Boxes.{is_same_box}
 use Rattle.isad_core.specs.Limits.{most_units, most_unit_numbers, most_containers, most_deep, most_bytes}
 use Rattle.isad_core.specs.Words.{is_between, stands, are_numbered_from}
 use Rattle.tree_core.specs.declared.rows.Link.{Link}
@@ -17,7 +18,8 @@ use Rattle.tree_core.specs.SpanFaults.{span_fault}
 use Rattle.tree_core.specs.Encodings.{TreeEncoding, Links, Spans}
 use Rattle.catalogue_core.specs.Sources.{is_source}
 use Rattle.catalogue_core.specs.Moves.{height}
-use Rattle.catalogue_core.specs.CatalogueRows.{CatalogueRows, UnitRow, ElementRow, ContainerRow, HousingRow, PlaceRows, LinkRows, SpanRows, places_said, box_from, housings_of}
+use Rattle.catalogue_core.specs.CatalogueRows.{CatalogueRows, UnitRow, ElementRow, ContainerRow, HousingRow, PlaceRows}
+use Rattle.catalogue_core.specs.CatalogueRows.{LinkRows, SpanRows, places_said, box_from, housings_of}
 
 -- ---- 2: the places
 

@@ -1,12 +1,13 @@
 -- What a file of rows makes of a catalogue.
-use Rattle.std.specs.Prelude.{ℕ, suc, ◌+◌, ◌-◌, nat_eq, nat_lt, Bool, not, if◌then◌else◌, List, [], ◌∷◌, ◌++◌, length, filter, find, Option, Some, None, option_and_then, option_map, unwrap_or, Result, Ok, Err}
+use Rattle.std.specs.Prelude.{ℕ, suc, ◌+◌, ◌-◌, nat_eq, nat_lt, Bool, not, if◌then◌else◌, List, [], ◌∷◌, ◌++◌, length}
+use Rattle.std.specs.Prelude.{filter, find, Option, Some, None, option_and_then, option_map, unwrap_or, Result, Ok, Err}
 use Rattle.std.specs.List.{flat_map}
 use Rattle.std.specs.Option.{option_eq, option_to_list}
 use Rattle.std.specs.Str.{bytes_eq}
 use Rattle.isad_core.specs.Limits.{most_deep}
 use Rattle.isad_core.specs.Texts.{Bytes}
 use Rattle.isad_core.specs.declared.values.BoxKey.{BoxKey}
-use Rattle.isad_core.specs.Boxes.{distinct, is_same}
+use Rattle.isad_core.specs.Boxes.{distinct, is_same_box}
 use Rattle.atom_csv.specs.declared.file.Row.{Row}
 use Rattle.tree_core.specs.Forest.{Forest, Empty, Node, nodes, has, path, each, join}
 use Rattle.catalogue_core.specs.Units.{Unit, is_from}
@@ -65,16 +66,16 @@ pub record New : Type 0 where
 
 -- The number of the unit that a new row names as its parent: that of the nearest new row above it, or that of the
 -- catalogued unit. n is the next number.
-abbrev pub number_of : Forest Unit → Bytes → ℕ → List Row → Bytes → Option ℕ
-number_of f source n [] legacy = option_map (λ unit. unit.id) (find (is_from source legacy) (nodes f))
-number_of f source n (row ∷ above) legacy =
-    if has_legacy legacy row then Some (n - 1) else number_of f source (n - 1) above legacy
+abbrev pub parent_number : Forest Unit → Bytes → ℕ → List Row → Bytes → Option ℕ
+parent_number f source n [] legacy = option_map (λ unit. unit.id) (find (is_from source legacy) (nodes f))
+parent_number f source n (row ∷ above) legacy =
+    if has_legacy legacy row then Some (n - 1) else parent_number f source (n - 1) above legacy
 
 -- the new rows, numbered in file order from n on; `above` has the rows above them, the nearest first
 abbrev pub numbered_from : Forest Unit → Bytes → ℕ → List Row → List Row → List New
 numbered_from f source n above [] = []
 numbered_from f source n above (row ∷ rest) =
-    record { id = n; parent = option_and_then (number_of f source n above) row.parent; row = row }
+    record { id = n; parent = option_and_then (parent_number f source n above) row.parent; row = row }
     ∷ numbered_from f source (n + 1) (row ∷ above) rest
 
 -- the new rows right below a parent in file order, each with the rows below it; a row is below a row that comes earlier
@@ -120,12 +121,12 @@ merged_forest source rows new f =
 -- ---- the containers after it
 
 -- the number of a container: its place among these, from 1
-abbrev pub number_in : List BoxKey → BoxKey → Option ℕ
-number_in [] b = None
-number_in (c ∷ rest) b = if is_same c b then Some 1 else option_map suc (number_in rest b)
+abbrev pub number_among : List BoxKey → BoxKey → Option ℕ
+number_among [] b = None
+number_among (c ∷ rest) b = if is_same_box c b then Some 1 else option_map suc (number_among rest b)
 
 abbrev pub box_number : List BoxKey → BoxKey → ℕ
-box_number containers b = unwrap_or (number_in containers b) 0
+box_number containers b = unwrap_or (number_among containers b) 0
 
 -- containers keep their numbers, and new ones get the next numbers as they first appear
 abbrev pub merged_boxes : List Row → List BoxKey → List BoxKey

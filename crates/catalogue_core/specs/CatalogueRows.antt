@@ -1,11 +1,12 @@
 -- The rows of the catalogue's tables: the office's own, the units with their texts and places, the containers and what
 -- lies in them. How rows are made from a catalogue, and what is read back from them.
-use Rattle.std.specs.Prelude.{ℕ, ℤ, zero, suc, ◌+◌, ◌&&◌, Bool, not, cond, List, [], ◌∷◌, length, filter, find, Option, Some, None, option_map, nat_eq, nat_lt}
+use Rattle.std.specs.Prelude.{ℕ, ℤ, zero, suc, ◌+◌, ◌&&◌, Bool, not, cond, List, [], ◌∷◌, length, filter, find, Option}
+use Rattle.std.specs.Prelude.{Some, None, option_map, nat_eq, nat_lt}
 use Rattle.isad_core.specs.Texts.{Bytes}
 use Rattle.isad_core.specs.declared.values.BoxKey.{BoxKey}
 use Rattle.tree_core.specs.Forest.{Forest, Empty, Node}
 use Rattle.tree_core.specs.Links.{siblings}
-use Rattle.tree_core.specs.Spans.{number}
+use Rattle.tree_core.specs.Spans.{number_from}
 use Rattle.tree_core.specs.Steps.{is_at}
 use Rattle.tree_core.specs.declared.rows.Link.{Link}
 use Rattle.tree_core.specs.declared.rows.Span.{Span}
@@ -82,7 +83,7 @@ pub data PlaceRows : Type 0 where
 
 abbrev pub place_rows : TreeEncoding → Forest ℕ → PlaceRows
 place_rows Links f = LinkRows (siblings f)
-place_rows Spans f = SpanRows (number 1 f)
+place_rows Spans f = SpanRows (number_from 1 f)
 
 -- ---- all of them but the office's own
 

@@ -4,8 +4,8 @@ use Rattle.std.specs.List.{list_any, list_all}
 use Rattle.isad_core.specs.declared.values.BoxKey.{BoxKey}
 use Rattle.tree_core.specs.Forest.{Forest, Empty, Node}
 use Rattle.tree_core.specs.Visibility.{is_withheld}
-use Rattle.catalogue_core.specs.Units.{Unit, is_closed}
-use Rattle.isad_core.specs.Boxes.{is_same as is_same_box}
+use Rattle.catalogue_core.specs.Units.{Unit, is_unit_closed}
+use Rattle.isad_core.specs.Boxes.{is_same_box}
 
 -- ---- which containers a unit lies in
 
@@ -43,7 +43,7 @@ contents f box = filter (λ path. list_any (is_same_box box) (containers_of path
 -- no permit for any of them. `permitted` is whether the reader has a permit for a unit that day.
 abbrev pub is_withheld_from : (ℕ → Bool) → ℤ → List Unit → Bool
 is_withheld_from permitted day path =
-    is_withheld (λ (unit : Unit). unit.draft) (is_closed day) (λ (unit : Unit). permitted unit.id) false path
+    is_withheld (λ (unit : Unit). unit.draft) (is_unit_closed day) (λ (unit : Unit). permitted unit.id) false path
 
 abbrev pub is_some_there : {X : Type 0} → List X → Bool
 is_some_there [] = false

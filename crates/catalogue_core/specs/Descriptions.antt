@@ -2,7 +2,7 @@
 use Rattle.std.specs.Prelude.{◌≡◌, ℕ, ◌+◌, true, false, if◌then◌else◌, length, Option, List, ◌++◌}
 use Rattle.std.specs.List.{AllByRecursion, list_any, list_all}
 use Rattle.isad_core.specs.declared.values.Values.{Values}
-use Rattle.isad_core.specs.Boxes.{distinct, is_same}
+use Rattle.isad_core.specs.Boxes.{distinct, is_same_box}
 use Rattle.tree_core.specs.Forest.{nodes, each, add, has, has_place}
 use Rattle.catalogue_core.specs.Units.{Unit, has_id, is_from}
 use Rattle.catalogue_core.specs.CatalogueMerge.{Catalogue}
@@ -32,7 +32,7 @@ with_values id values c = record {
 -- no two containers have the same name, location and kind, and every unit's containers are among them
 pub record KnowsItsContainers (c : Catalogue) : Type 0 where
   pub apart : distinct c.containers ≡ c.containers
-  pub known : AllByRecursion (λ u. list_all (λ box. list_any (is_same box) c.containers) u.values.boxes ≡ true) (nodes c.forest)
+  pub known : AllByRecursion (λ u. list_all (λ box. list_any (is_same_box box) c.containers) u.values.boxes ≡ true) (nodes c.forest)
 
 -- every description has a place for each of the 25 elements other than the level
 abbrev pub HasAllPlaces : Catalogue → Type 0

@@ -1,15 +1,16 @@
 -- Entering a file's rows into a catalogue one after another.
-use Rattle.std.specs.Prelude.{◌≡◌, count_by, ℕ, ◌+◌, Bool, cond, List, [], ◌∷◌, Option, Some, None, option_and_then, Result, Ok, Err}
+use Rattle.std.specs.Prelude.{◌≡◌, count_by, ℕ, ◌+◌, Bool, cond, List, [], ◌∷◌, Option, Some, None, option_and_then}
+use Rattle.std.specs.Prelude.{Result, Ok, Err}
 use Rattle.isad_core.specs.Texts.{Bytes}
 use Rattle.atom_csv.specs.declared.file.Row.{Row}
 use Rattle.tree_core.specs.Forest.{Forest}
 use Rattle.catalogue_core.specs.Units.{Unit}
-use Rattle.catalogue_core.specs.CatalogueMerge.{Catalogue, New, cause_at, depth_under, new_unit, number_of}
+use Rattle.catalogue_core.specs.CatalogueMerge.{Catalogue, New, cause_at, depth_under, new_unit, parent_number}
 use Rattle.catalogue_core.specs.Descriptions.{with_unit, with_values}
 
 -- the number of the unit with this number in the source, if it is catalogued
 abbrev pub number_there : Catalogue → Bytes → Bytes → Option ℕ
-number_there c source legacy = number_of c.forest source c.next [] legacy
+number_there c source legacy = parent_number c.forest source c.next [] legacy
 
 -- the depth of a row that names this parent; none if the parent is not catalogued
 abbrev pub depth_there : Catalogue → Bytes → Option Bytes → Option ℕ

@@ -1,10 +1,11 @@
 -- When the units and the containers of a catalogue are good.
-use Rattle.std.specs.Prelude.{◌≡◌, ℤ, ◌+◌, ◌<◌, ◌≤◌, Bool, true, false, not, List, length, map, Option, Some, None, nat_eq}
+use Rattle.std.specs.Prelude.{◌≡◌, ℤ, ◌+◌, ◌<◌, ◌≤◌, Bool, true, false, not, List, length, map, Option, Some, None}
+use Rattle.std.specs.Prelude.{nat_eq}
 use Rattle.std.specs.List.{list_any, list_all, AllByRecursion, IsDistinct}
 use Rattle.isad_core.specs.Texts.{Bytes, is_blank_text}
 use Rattle.isad_core.specs.Days.{IsDayNumber}
 use Rattle.isad_core.specs.declared.values.BoxKey.{BoxKey}
-use Rattle.isad_core.specs.Boxes.{distinct, is_same as is_same_box}
+use Rattle.isad_core.specs.Boxes.{distinct, is_same_box}
 use Rattle.tree_core.specs.Forest.{nodes, size}
 use Rattle.catalogue_core.specs.Units.{Unit, is_from}
 use Rattle.catalogue_core.specs.CatalogueMerge.{Catalogue}

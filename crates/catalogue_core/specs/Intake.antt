@@ -12,7 +12,7 @@ use Rattle.atom_csv.specs.declared.file.Row.{Row}
 use Rattle.tree_core.specs.Forest.{Forest, nodes, size}
 use Rattle.catalogue_core.specs.Units.{Unit, is_from}
 use Rattle.catalogue_core.specs.CatalogueMerge.{Catalogue, merge, is_known}
-use Rattle.isad_core.specs.Boxes.{is_same as is_same_box}
+use Rattle.isad_core.specs.Boxes.{is_same_box}
 
 -- ---- how much the catalogue may have
 
@@ -52,11 +52,11 @@ same_values a b =
     && (pointwise (option_eq bytes_eq) a.texts b.texts && pointwise is_same_box a.boxes b.boxes)
 
 -- the unit of a row, if it is catalogued
-abbrev pub unit_of : Forest Unit → Bytes → Row → Option Unit
-unit_of f source row = find (is_from source row.legacy) (nodes f)
+abbrev pub catalogued_unit : Forest Unit → Bytes → Row → Option Unit
+catalogued_unit f source row = find (is_from source row.legacy) (nodes f)
 
 abbrev pub is_same : Forest Unit → Bytes → Row → Bool
-is_same f source row = option_map_or (λ unit. same_values unit.values row.values) (unit_of f source row) false
+is_same f source row = option_map_or (λ unit. same_values unit.values row.values) (catalogued_unit f source row) false
 
 abbrev pub is_new : Forest Unit → Bytes → Row → Bool
 is_new f source row = not (is_known f source row)

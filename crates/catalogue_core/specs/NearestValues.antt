@@ -10,7 +10,7 @@ use Rattle.tree_core.specs.Forest.{Forest, path}
 use Rattle.catalogue_core.specs.Units.{Unit}
 use Rattle.catalogue_core.specs.PublicForest.{PublicUnit, Told, Stub, public_of}
 use Rattle.catalogue_core.specs.Aids.{Repository}
-use Rattle.catalogue_core.specs.Pages.{Press, PageLine, is_numbered, page_of}
+use Rattle.catalogue_core.specs.Pages.{Press, PageLine, has_public_number, page_of}
 use Rattle.catalogue_core.specs.PublishedUnits.{from_unit}
 
 -- the public may know a value of this unit for the element
@@ -36,4 +36,4 @@ pub record IsNearestValue (at : Repository) (way : List PublicUnit) (line : Page
 abbrev pub LinesAreNearest : Type 0
 LinesAreNearest = (press : Press) (day : ℤ) (f : Forest Unit) (u : ℕ) (shown : Page) →
     page_of press u (public_of day f) ≡ Some shown →
-    AllByRecursion (IsNearestValue press.at (path (is_numbered u) (public_of day f))) shown.lines
+    AllByRecursion (IsNearestValue press.at (path (has_public_number u) (public_of day f))) shown.lines

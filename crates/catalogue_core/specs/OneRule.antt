@@ -1,13 +1,14 @@
 -- What the public is shown and what is withheld from a reader follow one rule. So do the containers on a page and those
 -- that decide whether a container is open.
-use Rattle.std.specs.Prelude.{◌≡◌, ℕ, ℤ, Bool, true, false, not, ◌&&◌, List, Option, Some, filter, filter_map, option_map, map, suc, slice_get}
+use Rattle.std.specs.Prelude.{◌≡◌, ℕ, ℤ, Bool, true, false, not, ◌&&◌, List, Option, Some, filter, filter_map}
+use Rattle.std.specs.Prelude.{option_map, map, suc, slice_get}
 use Rattle.std.specs.List.{list_any}
 use Rattle.isad_core.specs.Texts.{Bytes}
 use Rattle.isad_core.specs.Boxes.{distinct}
 use Rattle.isad_core.specs.declared.display.Page.{Page}
 use Rattle.isad_core.specs.declared.values.BoxKey.{BoxKey}
 use Rattle.tree_core.specs.Forest.{Forest, nodes, each, path, HasDistinctIds}
-use Rattle.catalogue_core.specs.Units.{Unit, has_id, is_closed}
+use Rattle.catalogue_core.specs.Units.{Unit, has_id, is_unit_closed}
 use Rattle.catalogue_core.specs.ContainerContents.{paths, containers_of, is_withheld_from}
 use Rattle.catalogue_core.specs.PublicForest.{PublicUnit, Told, Stub, stub_of, public_of}
 use Rattle.catalogue_core.specs.CatalogueMerge.{box_number}
@@ -37,7 +38,7 @@ is_open_to_public day way = not (is_withheld_from (λ _. false) day way)
 abbrev pub is_closed_alone : ℤ → List Unit → Bool
 is_closed_alone day way =
     not (list_any (λ (unit : Unit). unit.draft) way)
-    && (not (list_any (is_closed day) (before_last way)) && list_any (is_closed day) way)
+    && (not (list_any (is_unit_closed day) (before_last way)) && list_any (is_unit_closed day) way)
 
 -- The units that the public is shown in full are exactly those that are not withheld from a reader without permits, in
 -- walk order.

@@ -2,7 +2,7 @@
 use Rattle.std.specs.Prelude.{◌≡◌, ℕ, ℤ, Bool, true, false, not, ◌&&◌, List, map, filter}
 use Rattle.std.specs.List.{list_any, list_all}
 use Rattle.isad_core.specs.declared.values.BoxKey.{BoxKey}
-use Rattle.isad_core.specs.Boxes.{is_same as is_same_box}
+use Rattle.isad_core.specs.Boxes.{is_same_box}
 use Rattle.tree_core.specs.Forest.{Forest, Empty, Node, nodes, each, has, path, tree, HasDistinctIds}
 use Rattle.tree_core.specs.Marks.{IsNumbered, withholds, contents_paths}
 use Rattle.tree_core.specs.declared.marks.Mark.{Mark}
@@ -24,16 +24,16 @@ is_opened_above path = list_any (λ (mark : Mark). mark.permit) (before_last pat
 
 -- whether a unit is clean by the marks of its path and of its branch: nothing on its path withholds it, and nothing
 -- within its branch withholds it or a unit that takes its containers from it
-abbrev pub is_clean : ℤ → List Mark → Forest Mark → Bool
-is_clean today path Empty = not (withholds today false path)
-is_clean today path (Node unit below others) =
+abbrev pub is_clean_by_marks : ℤ → List Mark → Forest Mark → Bool
+is_clean_by_marks today path Empty = not (withholds today false path)
+is_clean_by_marks today path (Node unit below others) =
     not (withholds today false path)
     && list_all (λ way. not (withholds today (is_opened_above path) way)) (contents_paths unit below)
 
 -- the same for a unit of a forest, by its number, and for a reader
 abbrev pub is_clean_for : (ℕ → Bool) → ℤ → Forest Unit → ℕ → Bool
 is_clean_for permitted today f id =
-    is_clean today (map (mark_for permitted) (path (has_id id) f)) (each (mark_for permitted) (tree (has_id id) f))
+    is_clean_by_marks today (map (mark_for permitted) (path (has_id id) f)) (each (mark_for permitted) (tree (has_id id) f))
 
 -- the units that name a container among their own
 abbrev pub naming : BoxKey → Forest Unit → List Unit
@@ -50,7 +50,7 @@ OpenByMarks = (f : Forest Unit) (box : BoxKey) (permitted : ℕ → Bool) (today
 -- The numbers of the marks do not matter for this.
 abbrev pub NumbersTellNothing : Type 0
 NumbersTellNothing = (today : ℤ) (path : List Mark) (branch : Forest Mark) →
-    is_clean today path branch ≡ is_clean today (map without_number path) (each without_number branch)
+    is_clean_by_marks today path branch ≡ is_clean_by_marks today (map without_number path) (each without_number branch)
 
 -- The answers of `clean_path` and `clean_contents` on the marks that are read for a unit, with the reader's permits
 -- added: both are true exactly if the unit is clean. The last two premises are the contracts of these calls.

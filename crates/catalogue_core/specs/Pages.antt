@@ -16,13 +16,13 @@ use Rattle.catalogue_core.specs.CatalogueMerge.{box_number}
 use Rattle.catalogue_core.specs.PublicForest.{PublicUnit, Told, Stub}
 use Rattle.catalogue_core.specs.Aids.{Repository, identifier_of, shown_unit, shown_below}
 
-abbrev pub number_of : PublicUnit → ℕ
-number_of (Told id values) = id
-number_of (Stub id identifier level until) = id
+abbrev pub public_number : PublicUnit → ℕ
+public_number (Told id values) = id
+public_number (Stub id identifier level until) = id
 
 -- the unit has this number
-abbrev pub is_numbered : ℕ → PublicUnit → Bool
-is_numbered u unit = nat_eq u (number_of unit)
+abbrev pub has_public_number : ℕ → PublicUnit → Bool
+has_public_number u unit = nat_eq u (public_number unit)
 
 -- what is needed to print units: the repository, and the containers with their numbers
 pub record Press : Type 0 where
@@ -31,18 +31,18 @@ pub record Press : Type 0 where
 
 -- ---- units side by side, each with its number
 
-abbrev pub side_by_side : Press → List Bytes → Forest PublicUnit → List (ℕ × Shown)
-side_by_side press above Empty = []
-side_by_side press above (Node unit children others) =
-    (number_of unit, shown_unit press.at press.containers (above ++ identifier_of unit ∷ []) 0 unit)
-    ∷ side_by_side press above others
+abbrev pub pages_side_by_side : Press → List Bytes → Forest PublicUnit → List (ℕ × Shown)
+pages_side_by_side press above Empty = []
+pages_side_by_side press above (Node unit children others) =
+    (public_number unit, shown_unit press.at press.containers (above ++ identifier_of unit ∷ []) 0 unit)
+    ∷ pages_side_by_side press above others
 
 -- the tops, a line for each
 abbrev pub tops_text : List (ℕ × Shown) → Bytes
 tops_text = flat_map numbered_line
 
 abbrev pub fonds_text : Press → Forest PublicUnit → Bytes
-fonds_text press f = tops_text (side_by_side press [] f)
+fonds_text press f = tops_text (pages_side_by_side press [] f)
 
 -- ---- the finding aid of a unit
 
@@ -58,7 +58,7 @@ above_last way = map identifier_of (before_last way)
 
 -- the units of the branch, with the codes that they have below the units above it
 abbrev pub aid_units : Press → ℕ → Forest PublicUnit → List Shown
-aid_units press u f = shown_below press.at press.containers (above_last (path (is_numbered u) f)) 0 (tree (is_numbered u) f)
+aid_units press u f = shown_below press.at press.containers (above_last (path (has_public_number u) f)) 0 (tree (has_public_number u) f)
 
 abbrev pub aid_of : Press → ℕ → Forest PublicUnit → Bytes
 aid_of press u f = aid (aid_units press u f)
@@ -142,8 +142,8 @@ page_at press way (Node (Told id values) children others) =
       head = shown_unit press.at press.containers (map identifier_of way) 0 (Told id values);
       lines = filter_map (page_line (with_codes press way)) line_elements;
       boxes = boxes_on_page press (with_codes press way);
-      below = side_by_side press (map identifier_of way) children;
+      below = pages_side_by_side press (map identifier_of way) children;
     })
 
 abbrev pub page_of : Press → ℕ → Forest PublicUnit → Option Page
-page_of press u f = page_at press (path (is_numbered u) f) (tree (is_numbered u) f)
+page_of press u f = page_at press (path (has_public_number u) f) (tree (has_public_number u) f)

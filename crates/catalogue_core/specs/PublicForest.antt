@@ -5,7 +5,7 @@ use Rattle.isad_core.specs.Values.{identifier}
 use Rattle.isad_core.specs.declared.values.Values.{Values}
 use Rattle.tree_core.specs.Forest.{Forest, each}
 use Rattle.tree_core.specs.Visibility.{public}
-use Rattle.catalogue_core.specs.Units.{Unit, is_closed}
+use Rattle.catalogue_core.specs.Units.{Unit, is_unit_closed}
 
 -- A unit as the public knows it: its description or, if it is closed, only its identifier, its level, and the day on
 -- which the closure ends. Sources, drafts and past closures are left out.
@@ -23,4 +23,4 @@ public_unit (unit, closed) = if closed then stub_of unit unit.until else Told un
 
 -- the forest without its draft branches, and without what lies below a unit that is closed
 abbrev pub public_of : ℤ → Forest Unit → Forest PublicUnit
-public_of today f = each public_unit (public (λ unit. unit.draft) (is_closed today) f)
+public_of today f = each public_unit (public (λ unit. unit.draft) (is_unit_closed today) f)

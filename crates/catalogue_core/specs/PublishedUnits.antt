@@ -6,7 +6,7 @@ use Rattle.isad_core.specs.Texts.{Bytes}
 use Rattle.isad_core.specs.Values.{identifier, text_of}
 use Rattle.isad_core.specs.declared.values.BoxKey.{BoxKey}
 use Rattle.isad_core.specs.declared.values.Values.{Values}
-use Rattle.catalogue_core.specs.Units.{Unit, is_closed}
+use Rattle.catalogue_core.specs.Units.{Unit, is_unit_closed}
 use Rattle.catalogue_core.specs.CatalogueMerge.{box_number}
 use Rattle.catalogue_core.specs.PublicForest.{PublicUnit, Told, Stub, stub_of}
 use Rattle.catalogue_core.specs.Aids.{Repository, identifier_of}
@@ -25,7 +25,7 @@ last_of (unit ∷ lower ∷ way) = last_of (lower ∷ way)
 -- what is published of a unit on a day: a stub if it is closed, and otherwise its values
 abbrev pub TellsOf : ℤ → Option Unit → PublicUnit → Type 0
 TellsOf day None told = ⊥
-TellsOf day (Some unit) told = told ≡ cond (is_closed day unit) (stub_of unit unit.until) (Told unit.id unit.values)
+TellsOf day (Some unit) told = told ≡ cond (is_unit_closed day unit) (stub_of unit unit.until) (Told unit.id unit.values)
 
 -- What is published is of a unit of the forest, the last of one of these paths. Neither it nor a unit above it is a
 -- draft, and no unit above it is closed. If the unit is closed itself, only its stub is published.
@@ -33,7 +33,7 @@ pub record IsPublished (day : ℤ) (ways : List (List Unit)) (told : PublicUnit)
   pub way : List Unit
   pub stands : StandsIn way ways
   pub no_draft : list_any (λ (unit : Unit). unit.draft) way ≡ false
-  pub open_above : list_any (is_closed day) (before_last way) ≡ false
+  pub open_above : list_any (is_unit_closed day) (before_last way) ≡ false
   pub answers : TellsOf day (last_of way) told
 
 abbrev pub identifiers : List Unit → List Bytes

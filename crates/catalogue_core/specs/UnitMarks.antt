@@ -49,5 +49,5 @@ part_of is (Some id) f = tree (is id) f
 -- ---- what a container is attached to
 
 -- whether a unit names the container with this number among its own
-abbrev pub names : List BoxKey → ℕ → Unit → Bool
-names containers number unit = list_any (λ box. nat_eq number (box_number containers box)) unit.values.boxes
+abbrev pub names_container : List BoxKey → ℕ → Unit → Bool
+names_container containers number unit = list_any (λ box. nat_eq number (box_number containers box)) unit.values.boxes

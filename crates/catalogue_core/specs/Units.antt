@@ -25,5 +25,5 @@ abbrev pub is_later : ℤ → Option ℤ → Bool
 is_later today None = false
 is_later today (Some until) = int_lt today until
 
-abbrev pub is_closed : ℤ → Unit → Bool
-is_closed today unit = is_later today unit.until
+abbrev pub is_unit_closed : ℤ → Unit → Bool
+is_unit_closed today unit = is_later today unit.until

@@ -1,7 +1,14 @@
 -- What is read of a unit's rows: its cells in their order.
-use Rattle.std.proofs.Common.{◌≡◌, ℕ, zero, suc, ◌+◌, ◌≤◌, ◌<◌, pos, List, [], ◌∷◌, length, map, filter, get_or, Option, Some, None, Ordering, Less, nat_eq, refl, sym, ap, ap₂, ◌∙◌, arith, inl, inr}
+use Rattle.std.proofs.Common.{◌≡◌, ℕ, zero, suc, ◌+◌, ◌≤◌, ◌<◌, pos, List, [], ◌∷◌, length, map, filter, get_or, Option}
+use Rattle.std.proofs.Common.{Some, None, Ordering, Less, nat_eq, refl, sym, ap, ap₂, ◌∙◌, arith, inl, inr}
 use Rattle.isad_core.specs.declared.values.Values.{Values}
-use Rattle.catalogue_statements.proofs.Common.{AllByRecursion, BoxKey, Bytes, IsPermutation, IsPermutation-map, IsPermutation-trans, IsSorted, IsTotalOrder, Rises, all-get_or, all_from, all_weaker, ascending-map, below_less, box_number, cases_lt, counted_from, element_cells, element_number, eqb-true, get_or-map, had, has_filtered, housing_cells, int_cmp, int_cmp_total, is_lt, length-map, on_total, only_order, ordering_then, texts_from, tied_itself}
+use Rattle.catalogue_statements.proofs.Common.{AllByRecursion, BoxKey, Bytes, IsPermutation, IsPermutation-map}
+use Rattle.catalogue_statements.proofs.Common.{IsPermutation-trans, IsSorted, IsTotalOrder, Rises, all-get_or, all_from}
+use Rattle.catalogue_statements.proofs.Common.{all_weaker, ascending-map, below_less, box_number, cases_lt}
+use Rattle.catalogue_statements.proofs.Common.{counted_from, element_number, eqb-true, get_or-map, had, has_filtered}
+use Rattle.catalogue_statements.proofs.Common.{int_cmp, int_cmp_total, is_lt, length-map, numbered_containers}
+use Rattle.catalogue_statements.proofs.Common.{numbered_texts, on_total, only_order, ordering_then, texts_from}
+use Rattle.catalogue_statements.proofs.Common.{tied_itself}
 use Rattle.catalogue_statements.proofs.Numbered.{counted_rises}
 
 module _ {B : Type 0} where
@@ -78,12 +85,12 @@ texts_rise n (None ∷ texts) = texts_rise (n + 1) texts
 texts_rise n (Some t ∷ texts) =
     (all_weaker (λ (x : ℕ × Bytes). n < x.0) (λ (x : ℕ × Bytes). int_cmp (pos (element_number n)) (pos (element_number x.0)) ≡ Less) (λ x h. below_less (element_number n) (element_number x.0) (number_rises n x.0 h)) (texts_from (n + 1) texts) (texts_above n (n + 1) texts (omega arith)), texts_rise (n + 1) texts)
 
-pub elements_in_order : (values : Values) → Rises by_first (element_cells values)
+pub elements_in_order : (values : Values) → Rises by_first (numbered_texts values)
 elements_in_order values = ascending-map (λ a b. by_first a b ≡ Less) (λ (t : ℕ × Bytes). (let c : ℕ × Bytes = (element_number t.0, t.1) in c)) (texts_from 0 values.texts) (texts_rise 0 values.texts)
 
 -- ---- containers
 
-pub housings_in_order : (boxes : List BoxKey) (values : Values) → Rises by_first (housing_cells boxes values)
+pub housings_in_order : (boxes : List BoxKey) (values : Values) → Rises by_first (numbered_containers boxes values)
 housings_in_order boxes values = ascending-map (λ a b. by_first a b ≡ Less) (λ (box : ℕ × BoxKey). (let c : ℕ × ℕ = (box.0, box_number boxes box.1) in c)) (counted_from 1 values.boxes) (counted_rises 1 values.boxes)
 
 second_of : (boxes bs : List BoxKey) (n : ℕ)
@@ -92,5 +99,5 @@ second_of boxes [] n = refl
 second_of boxes (b ∷ bs) n = ap (λ l. box_number boxes b ∷ l) (second_of boxes bs (n + 1))
 
 pub numbers_told : (boxes : List BoxKey) (values : Values)
-    → map (λ (c : ℕ × ℕ). c.1) (housing_cells boxes values) ≡ map (box_number boxes) values.boxes
+    → map (λ (c : ℕ × ℕ). c.1) (numbered_containers boxes values) ≡ map (box_number boxes) values.boxes
 numbers_told boxes values = second_of boxes values.boxes 1

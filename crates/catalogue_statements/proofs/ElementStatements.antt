@@ -1,13 +1,26 @@
 -- The statements on the texts of the units: what their texts mean, what they leave or tell, and why they fail.
-use Rattle.std.proofs.Common.{◌≡◌, ℕ, ℤ, pos, List, [], ◌∷◌, map, filter, codes, true, false, not, ◌&&◌, Result, OnOk, IfOk, IfErr, nat_eq, nat_le, refl, sym, ap, ◌∙◌}
+use Rattle.std.proofs.Common.{◌≡◌, ℕ, ℤ, pos, List, [], ◌∷◌, map, filter, codes, true, false, not, ◌&&◌, Result, OnOk}
+use Rattle.std.proofs.Common.{IfOk, IfErr, nat_eq, nat_le, refl, sym, ap, ◌∙◌}
 use Rattle.sqlite.specs.Command.TheVariants.{Delete}
-use Rattle.sqlite.specs.Source.TheVariants.{Values}
 use Rattle.sqlite.specs.Listing.{understood}
+use Rattle.sqlite.specs.Source.TheVariants.{Values}
 use Rattle.sqlite_schema.specs.Names.{same_name}
 use Rattle.sqlite_tied.specs.Compute.{everything}
 use Rattle.sqlite_value.specs.Keys.{joined, first_key}
 use Rattle.catalogue_core.specs.Units.{Unit as Described}
-use Rattle.catalogue_statements.proofs.Common.{AllByRecursion, AreElements, Binary, Bytes, Chosen, Command, Compare, Element, ElementRow, Eq, Finds, HasCause, HasUnit, HoldsNumbered, IfOk-weaker, Insert, Int, IsLive, IsOrdered, IsUnlimited, IsUtf8, IsWelcome, Key, Le, Means, Misses, Null, OnlyTouches, PutsRow, Ran, Row, Select, State, StoreFault, Term, Text, Trees, Version, agree, all_numbered, any_mapped, ascending, asking, both, by_element, by_two_ints, cast_int, cast_null, choosing, col, column, delete_faults, delete_leaves, delete_only, edit_of, element, element_row, has_id, has_null, has_parent, insert_faults, insert_puts, is_key_of, is_referred_to, kept_ordered, le_refl, list_all, list_any, lit, map-map, next_rowid, next_welcome, none_agrees, on_ok_then, only, op2, or_right, plain, references_fit, same_number, schema, select_faults, select_finds, those_left, to_unit, unit, unit_row, value_rows}
+use Rattle.catalogue_statements.proofs.Common.{AllByRecursion, AreElements, Binary, Bytes, Chosen, Command, Compare}
+use Rattle.catalogue_statements.proofs.Common.{Element, ElementRow, Eq, Finds, HasCause, HasUnit, HoldsNumbered}
+use Rattle.catalogue_statements.proofs.Common.{IfOk-weaker, Insert, Int, IsLive, IsOrdered, IsUnlimited, IsUtf8}
+use Rattle.catalogue_statements.proofs.Common.{IsWelcome, Key, Le, Means, Misses, Null, OnlyTouches, PutsRow, Ran, Row}
+use Rattle.catalogue_statements.proofs.Common.{Select, State, StoreFault, Term, Text, Trees, Version, agree}
+use Rattle.catalogue_statements.proofs.Common.{all_numbered, any_mapped, ascending, asking, both, by_element}
+use Rattle.catalogue_statements.proofs.Common.{by_two_ints, cast_int, cast_null, cells_of_unit, choosing, col, column}
+use Rattle.catalogue_statements.proofs.Common.{delete_faults, delete_leaves, delete_only, edit_of, element, element_row}
+use Rattle.catalogue_statements.proofs.Common.{has_id, has_null, has_parent, insert_faults, insert_puts, is_key_of}
+use Rattle.catalogue_statements.proofs.Common.{is_referred_to, kept_ordered, le_refl, list_all, list_any, lit, map-map}
+use Rattle.catalogue_statements.proofs.Common.{next_rowid, next_welcome, none_agrees, on_ok_then, only, op2, or_right}
+use Rattle.catalogue_statements.proofs.Common.{plain, references_fit, same_number, schema, select_faults, select_finds}
+use Rattle.catalogue_statements.proofs.Common.{those_left, to_unit, unit, value_rows}
 use Rattle.catalogue_statements.proofs.NumberTests.{at_most}
 
 -- ---- rows that go with a unit
@@ -23,7 +36,7 @@ unfolding joined same_name
 held_by_unit v db row h = rw (h, or_right (has_null (1 ∷ []) row) true refl) refl
 
 unit_agrees : (n : ℕ) (row : Row) → column row 1 ≡ Int (pos n) → (u : Described)
-    → agree plain (0 ∷ []) (unit_row u) (1 ∷ []) row ≡ has_id n u
+    → agree plain (0 ∷ []) (cells_of_unit u) (1 ∷ []) row ≡ has_id n u
 unfolding first_key
 unit_agrees n row is u = rw is (only (same_number u.id n))
 
@@ -31,7 +44,7 @@ unit_agrees n row is u = rw is (only (same_number u.id n))
 pub has_its_unit : (v : Version) (db : Trees) (row : Row) (n : ℕ) → column row 1 ≡ Int (pos n) → HasUnit db n
     → list_all (has_parent (schema v).tables db row) (to_unit 1 ∷ []) ≡ true
 has_its_unit v db row n is known =
-    held_by_unit v db row (ap (list_any (λ parent. agree plain (0 ∷ []) parent (1 ∷ []) row)) known.rows ∙ any_mapped unit_row _ (has_id n) (unit_agrees n row is) known.units ∙ known.there)
+    held_by_unit v db row (ap (list_any (λ parent. agree plain (0 ∷ []) parent (1 ∷ []) row)) known.rows ∙ any_mapped cells_of_unit _ (has_id n) (unit_agrees n row is) known.units ∙ known.there)
 
 -- the row's unit is that of the parameter
 abbrev pub of_unit : List Term

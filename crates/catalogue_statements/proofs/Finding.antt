@@ -1,7 +1,10 @@
 -- Units that are looked for.
-use Rattle.std.proofs.Common.{◌≡◌, inl, inr, ℕ, List, [], ◌∷◌, map, filter, Bool, true, ◌&&◌, slice_get, refl, nat_eq, arith}
+use Rattle.std.proofs.Common.{◌≡◌, inl, inr, ℕ, List, [], ◌∷◌, map, filter, Bool, true, ◌&&◌, slice_get, refl, nat_eq}
+use Rattle.std.proofs.Common.{arith}
 use Rattle.catalogue_core.specs.UnitLookup.{FindsUnit}
-use Rattle.catalogue_statements.proofs.Common.{Forest, Has, IsPermutation, IsPermutation-sym, Unit, cases_Bool, had, has_filtered, has_id, has_kept, list_any, nat_tests, nodes, some_from, some_has}
+use Rattle.catalogue_statements.proofs.Common.{Forest, Has, IsPermutation, IsPermutation-sym, Unit, cases_Bool, had}
+use Rattle.catalogue_statements.proofs.Common.{has_filtered, has_id, has_kept, list_any, nat_tests, nodes, some_from}
+use Rattle.catalogue_statements.proofs.Common.{some_has}
 
 pub itself : (n : ℕ) → nat_eq n n ≡ true
 itself n = grind (arith, nat_tests)

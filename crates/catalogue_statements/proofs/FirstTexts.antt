@@ -1,10 +1,16 @@
 -- The texts of the first elements, among the rows of a unit that are read.
-use Rattle.std.proofs.Common.{◌≡◌, ℕ, zero, suc, ◌+◌, ◌≤◌, ◌<◌, List, [], ◌∷◌, map, filter, get_or, slice_get, Bool, true, false, cond, Option, Some, None, option_map, ◌&&◌, nat_eq, nat_le, refl, ap, subst, ◌∙◌, arith, inl, inr}
-use Rattle.std.specs.Prelude.{unwrap_or}
+use Rattle.std.proofs.Common.{◌≡◌, ℕ, zero, suc, ◌+◌, ◌≤◌, ◌<◌, List, [], ◌∷◌, map, filter, get_or, slice_get, Bool}
+use Rattle.std.proofs.Common.{true, false, cond, Option, Some, None, option_map, ◌&&◌, nat_eq, nat_le, refl, ap, subst}
+use Rattle.std.proofs.Common.{◌∙◌, arith, inl, inr}
 use Rattle.std.specs.List.{find}
-use Rattle.isad_core.specs.Values.{text_at}
+use Rattle.std.specs.Prelude.{unwrap_or}
+use Rattle.isad_core.specs.Values.{text_at_place}
 use Rattle.isad_core.specs.declared.values.Values.{Values}
-use Rattle.catalogue_statements.proofs.Common.{Bytes, Element, ElementRow, IsPermutation, IsPermutation-filter, IsPermutation-map, IsPermutation-trans, cell_of, element_cells, element_number, elements_of, eq-eqb, eqb_comm, filter-map, filters, had, length_permutation, map-map, nat_tests, same_test, texts_from}
+use Rattle.catalogue_statements.proofs.Common.{Bytes, Element, ElementRow, IsPermutation, IsPermutation-filter}
+use Rattle.catalogue_statements.proofs.Common.{IsPermutation-map, IsPermutation-trans, cell_of, element_number}
+use Rattle.catalogue_statements.proofs.Common.{elements_of, eq-eqb, eqb_comm, filter-map, filters, had}
+use Rattle.catalogue_statements.proofs.Common.{length_permutation, map-map, nat_tests, numbered_texts, same_test}
+use Rattle.catalogue_statements.proofs.Common.{texts_from}
 use Rattle.catalogue_statements.proofs.TextReads.{other_number}
 
 abbrev numbered : ℕ × Bytes → ℕ × Bytes
@@ -52,25 +58,25 @@ few_same (Some t) (y ∷ z ∷ ys) h = absurd (omega (arith, length_permutation 
 
 -- the rows of a unit with the number of an element tell its text, where it has one
 one_text : (n place : ℕ) (values : Values) (xs ys : List ElementRow)
-    → IsPermutation (element_cells values) (elements_of n xs)
+    → IsPermutation (numbered_texts values) (elements_of n xs)
     → IsPermutation (filter (λ (e : ElementRow). nat_eq n e.unit && nat_eq (element_number place) e.k) xs) ys
-    → map (λ (e : ElementRow). e.value) ys ≡ as_list (text_at (Some place) values)
+    → map (λ (e : ElementRow). e.value) ys ≡ as_list (text_at_place (Some place) values)
 one_text n place values xs ys told same =
     let mine = λ (e : ElementRow). nat_eq n e.unit in
     let that = λ (c : ℕ × Bytes). nat_eq (element_number place) c.0 in
     let text = λ (c : ℕ × Bytes). c.1 in
     let among : filter that (map cell_of (filter mine xs)) ≡ map cell_of (filter (λ (e : ElementRow). mine e && nat_eq (element_number place) e.k) xs) =
     filter-map that cell_of (filter mine xs) ∙ ap (map cell_of) (filters mine (λ (e : ElementRow). nat_eq (element_number place) e.k) xs) in
-    let cells : IsPermutation (filter that (element_cells values)) (map cell_of ys) =
-    IsPermutation-trans (filter that (element_cells values)) (map cell_of (filter (λ (e : ElementRow). mine e && nat_eq (element_number place) e.k) xs)) (map cell_of ys)
-    (subst (IsPermutation (filter that (element_cells values))) among (IsPermutation-filter that (element_cells values) (elements_of n xs) told))
+    let cells : IsPermutation (filter that (numbered_texts values)) (map cell_of ys) =
+    IsPermutation-trans (filter that (numbered_texts values)) (map cell_of (filter (λ (e : ElementRow). mine e && nat_eq (element_number place) e.k) xs)) (map cell_of ys)
+    (subst (IsPermutation (filter that (numbered_texts values))) among (IsPermutation-filter that (numbered_texts values) (elements_of n xs) told))
     (IsPermutation-map cell_of (filter (λ (e : ElementRow). mine e && nat_eq (element_number place) e.k) xs) ys same) in
-    let texts = IsPermutation-map text (filter that (element_cells values)) (map cell_of ys) cells in
-    let is : map text (filter that (element_cells values)) ≡ as_list (text_at (Some place) values) =
+    let texts = IsPermutation-map text (filter that (numbered_texts values)) (map cell_of ys) cells in
+    let is : map text (filter that (numbered_texts values)) ≡ as_list (text_at_place (Some place) values) =
     ap (λ p. texts_for p 0 values.texts) {x = place} {y = 0 + place} (omega arith) ∙ one_among 0 place values.texts
     ∙ ap as_list (same_get values.texts place) in
-    few_same (text_at (Some place) values) (map (λ (e : ElementRow). e.value) ys)
-    (subst (λ l. IsPermutation l (map (λ (e : ElementRow). e.value) ys)) is (subst (IsPermutation (map text (filter that (element_cells values)))) (map-map text cell_of ys) texts))
+    few_same (text_at_place (Some place) values) (map (λ (e : ElementRow). e.value) ys)
+    (subst (λ l. IsPermutation l (map (λ (e : ElementRow). e.value) ys)) is (subst (IsPermutation (map text (filter that (numbered_texts values)))) (map-map text cell_of ys) texts))
 
 -- ---- the first element with a number, among those that are read
 
@@ -99,14 +105,14 @@ still_that false n k most h = refl
 
 -- the elements up to a number tell the text of each element up to it
 pub text_among_first : (n place most : ℕ) (values : Values) (xs ys : List ElementRow) → element_number place ≤ most
-    → IsPermutation (element_cells values) (elements_of n xs)
+    → IsPermutation (numbered_texts values) (elements_of n xs)
     → IsPermutation (filter (λ (e : ElementRow). nat_eq n e.unit && nat_le e.k most) xs) ys
-    → option_map (λ (e : Element). e.value) (find (λ (e : Element). nat_eq e.k (element_number place)) (map told ys)) ≡ text_at (Some place) values
+    → option_map (λ (e : Element). e.value) (find (λ (e : Element). nat_eq e.k (element_number place)) (map told ys)) ≡ text_at_place (Some place) values
 text_among_first n place most values xs ys low told same =
     let mine = λ (e : ElementRow). nat_eq n e.unit in
     let read = λ (e : ElementRow). mine e && nat_le e.k most in
     let that = λ (e : ElementRow). nat_eq (element_number place) e.k in
     let those : filter that (filter read xs) ≡ filter (λ (e : ElementRow). mine e && that e) xs =
     filters read that xs ∙ same_test (λ e. read e && that e) (λ e. mine e && that e) (λ e. still_that (mine e) (element_number place) e.k most low) xs in
-    first_is (element_number place) (text_at (Some place) values) ys
+    first_is (element_number place) (text_at_place (Some place) values) ys
     (one_text n place values xs (filter that ys) told (subst (λ l. IsPermutation l (filter that ys)) those (IsPermutation-filter that (filter read xs) ys same)))

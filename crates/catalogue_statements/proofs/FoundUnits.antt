@@ -1,6 +1,10 @@
 -- A unit that is found by its number.
-use Rattle.std.proofs.Common.{◌≡◌, ℕ, ◌≤◌, List, [], ◌∷◌, length, map, filter, find, slice_get, Some, None, Bool, false, nat_eq, refl, sym, ap, ◌∙◌, arith, inl, inr}
-use Rattle.catalogue_statements.proofs.Common.{Forest, Has, IsPermutation, IsPermutation-filter, IsPermutation-trans, RepresentsUnits, Trees, Unit, cases_Bool, eq-eqb, eqb-true, first_kept, had, has, has_filtered, has_id, has_kept, length_permutation, list_any, nodes}
+use Rattle.std.proofs.Common.{◌≡◌, ℕ, ◌≤◌, List, [], ◌∷◌, length, map, filter, find, slice_get, Some, None, Bool, false}
+use Rattle.std.proofs.Common.{nat_eq, refl, sym, ap, ◌∙◌, arith, inl, inr}
+use Rattle.catalogue_statements.proofs.Common.{Forest, Has, IsPermutation, IsPermutation-filter, IsPermutation-trans}
+use Rattle.catalogue_statements.proofs.Common.{RepresentsUnits, Trees, Unit, cases_Bool, eq-eqb, eqb-true, first_kept}
+use Rattle.catalogue_statements.proofs.Common.{had, has, has_filtered, has_id, has_kept, length_permutation, list_any}
+use Rattle.catalogue_statements.proofs.Common.{nodes}
 use Rattle.catalogue_statements.proofs.NewUnits.{numbered_once}
 
 pub none_left : {A : Type 0} (p : A → Bool) (xs : List A) → list_any p xs ≡ false → filter p xs ≡ []

@@ -1,9 +1,14 @@
 -- Containers of a unit that are told one after another.
-use Rattle.office_tables.specs.Schema as tables
-use Rattle.std.proofs.Common.{◌≡◌, ℕ, ℤ, ◌+◌, List, [], ◌∷◌, ◌++◌, length, map, true, refl, sym, ap, ap₂, subst, ◌∙◌, arith}
+use Rattle.std.proofs.Common.{◌≡◌, ℕ, ℤ, ◌+◌, List, [], ◌∷◌, ◌++◌, length, map, true, refl, sym, ap, ap₂, subst, ◌∙◌}
+use Rattle.std.proofs.Common.{arith}
 use Rattle.std.specs.Prelude.{unwrap_or}
 use Rattle.catalogue_core.proofs.DistinctFront.{distinct_front}
-use Rattle.catalogue_statements.proofs.Common.{AreHoused, BoxKey, Database, HousingRow, IsPermutation-refl, OnlyTouches, PutsRow, RepresentsContainers, Trees, WithHousings, and_parts, append_assoc, box_number, counted_from, distinct, distinct_again, housing_row, is_same, list_all, list_any, map-append, next_rowid, one_more, still_numbered, with_boxes}
+use Rattle.office_tables.specs.Schema as tables
+use Rattle.catalogue_statements.proofs.Common.{AreHoused, BoxKey, Database, HousingRow, IsPermutation-refl, OnlyTouches}
+use Rattle.catalogue_statements.proofs.Common.{PutsRow, RepresentsContainers, Trees, WithHousings, and_parts}
+use Rattle.catalogue_statements.proofs.Common.{append_assoc, box_number, counted_from, distinct, distinct_again}
+use Rattle.catalogue_statements.proofs.Common.{housing_row, is_same_box, list_all, list_any, map-append, next_rowid}
+use Rattle.catalogue_statements.proofs.Common.{one_more, still_numbered, with_boxes}
 use Rattle.catalogue_statements.proofs.BoxNumbers.{all_known, keeps_number}
 
 abbrev new_row : Trees → ℕ → ℕ → ℕ → ℤ × HousingRow
@@ -55,11 +60,11 @@ counted_more n (c ∷ bs) b =
 
 -- containers that are known keep their numbers when more become known
 pub same_cells : (cs bs known : List BoxKey) (n : ℕ) → distinct cs ≡ cs
-    → list_all (λ b. list_any (is_same b) cs) known ≡ true
+    → list_all (λ b. list_any (is_same_box b) cs) known ≡ true
     → map (λ (box : ℕ × BoxKey). (let c : ℕ × ℕ = (box.0, box_number (with_boxes cs bs) box.1) in c)) (counted_from n known) ≡ map (λ (box : ℕ × BoxKey). (let c : ℕ × ℕ = (box.0, box_number cs box.1) in c)) (counted_from n known)
 same_cells cs bs [] n apart all = refl
 same_cells cs bs (b ∷ known) n apart all =
-    let parts = and_parts (list_any (is_same b) cs) (list_all (λ b. list_any (is_same b) cs) known) all in
+    let parts = and_parts (list_any (is_same_box b) cs) (list_all (λ b. list_any (is_same_box b) cs) known) all in
     ap₂ (λ m l. (let c : ℕ × ℕ = (n, unwrap_or m 0) in c) ∷ l) (keeps_number cs bs b apart parts.0) (same_cells cs bs known (n + 1) apart parts.1)
 
 -- one container more

@@ -1,14 +1,25 @@
 -- The statements on which units lie in which containers: what their texts mean, what they leave or tell, and why they fail.
-use Rattle.std.proofs.Common.{◌≡◌, ℕ, ℤ, pos, List, [], ◌∷◌, map, filter, length, codes, Bool, true, false, not, ◌&&◌, Result, OnOk, IfOk, IfErr, nat_eq, refl, sym, ◌∙◌}
+use Rattle.std.proofs.Common.{◌≡◌, ℕ, ℤ, pos, List, [], ◌∷◌, map, filter, length, codes, Bool, true, false, not, ◌&&◌}
+use Rattle.std.proofs.Common.{Result, OnOk, IfOk, IfErr, nat_eq, refl, sym, ◌∙◌}
 use Rattle.std.specs.Bool.{⊤}
 use Rattle.sqlite.specs.Command.TheVariants.{Delete}
-use Rattle.sqlite.specs.Source.TheVariants.{Values}
 use Rattle.sqlite.specs.Listing.{understood}
+use Rattle.sqlite.specs.Source.TheVariants.{Values}
 use Rattle.sqlite_schema.specs.Names.{same_name}
 use Rattle.sqlite_tied.specs.Compute.{everything}
 use Rattle.sqlite_value.specs.Keys.{joined, first_key}
 use Rattle.catalogue_statements.specs.declared.row_types.Housing.{Housing}
-use Rattle.catalogue_statements.proofs.Common.{Binary, Chosen, Command, Compare, Eq, Finds, HasCause, HasUnit, HoldsNumbered, HousingRow, IfOk-weaker, Insert, Int, IsLive, IsOrdered, IsUnlimited, IsWelcome, Means, Misses, Null, OnlyTouches, PutsRow, Ran, Row, Select, State, StoreFault, Term, Version, accepts_program, agree, all_of, asking, both, by_housing, by_two_ints, cast_int, cast_null, choosing, col, delete_faults, delete_leaves, delete_only, edit_of, either_first, end, eval_all, holds, housing, housing_row, inner, insert_faults, insert_puts, is_referred_to, kept_ordered, le_refl, list_all, list_any, lit, map-map, next_rowid, next_welcome, none_agrees, on_ok_then, only, op2, plain, plain_query, references_fit, same_number, schema, select_faults, select_finds, those_left, value_rows}
+use Rattle.catalogue_statements.proofs.Common.{Binary, Chosen, Command, Compare, Eq, Finds, HasCause, HasUnit}
+use Rattle.catalogue_statements.proofs.Common.{HoldsNumbered, HousingRow, IfOk-weaker, Insert, Int, IsLive, IsOrdered}
+use Rattle.catalogue_statements.proofs.Common.{IsUnlimited, IsWelcome, Means, Misses, Null, OnlyTouches, PutsRow, Ran}
+use Rattle.catalogue_statements.proofs.Common.{Row, Select, State, StoreFault, Term, Version, accepts_program, agree}
+use Rattle.catalogue_statements.proofs.Common.{all_of, asking, both, by_housing, by_two_ints, cast_int, cast_null}
+use Rattle.catalogue_statements.proofs.Common.{choosing, col, delete_faults, delete_leaves, delete_only, edit_of}
+use Rattle.catalogue_statements.proofs.Common.{either_first, end, eval_all, holds, housing, housing_row, inner}
+use Rattle.catalogue_statements.proofs.Common.{insert_faults, insert_puts, is_referred_to, kept_ordered, le_refl}
+use Rattle.catalogue_statements.proofs.Common.{list_all, list_any, lit, map-map, next_rowid, next_welcome, none_agrees}
+use Rattle.catalogue_statements.proofs.Common.{on_ok_then, only, op2, plain, plain_query, references_fit, same_number}
+use Rattle.catalogue_statements.proofs.Common.{schema, select_faults, select_finds, those_left, value_rows}
 use Rattle.catalogue_statements.proofs.ElementStatements.{of_unit, by_unit, to_unit_fits, has_its_unit}
 
 -- ---- a unit that is put into a container

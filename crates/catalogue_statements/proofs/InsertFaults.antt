@@ -1,12 +1,16 @@
 -- Why the INSERTs of the catalogue's rows fail.
 use Rattle.std.proofs.Common.{◌≡◌, pos, [], ◌∷◌, length, true, false, Err, refl, ap}
-use Rattle.sqlite.specs.declared.error.Error.{Error}
 use Rattle.sqlite.specs.Listing.{understood}
+use Rattle.sqlite.specs.declared.error.Error.{Error}
 use Rattle.sqlite_tied.specs.Compute.{everything}
-use Rattle.office_tables.specs.Schema as tables
 use Rattle.office_tables.proofs.Failures.{IsWhole}
-use Rattle.catalogue_statements.proofs.Common.{Chosen, Executes, HasCause, IsLive, IsUnlimited, IsWelcome, OfficeRow, State, Trees, Version, cast_int, cast_null, edit_of, fault_of, in_either, insert_cause, is_taken, le_refl, office, office_row, schema, value_rows, values_typed, version_number}
-use Rattle.catalogue_statements.proofs.Inserts.{insert_office_text, insert_office_terms, insert_office_params, insert_office_is, insert_office_plain}
+use Rattle.office_tables.specs.Schema as tables
+use Rattle.catalogue_statements.proofs.Common.{Chosen, Executes, HasCause, IsLive, IsUnlimited, IsWelcome, OfficeRow}
+use Rattle.catalogue_statements.proofs.Common.{State, Trees, Version, cast_int, cast_null, edit_of, fault_of, in_either}
+use Rattle.catalogue_statements.proofs.Common.{insert_cause, is_taken, le_refl, office, office_row, schema, value_rows}
+use Rattle.catalogue_statements.proofs.Common.{values_typed, version_number}
+use Rattle.catalogue_statements.proofs.Inserts.{insert_office_text, insert_office_terms, insert_office_params}
+use Rattle.catalogue_statements.proofs.Inserts.{insert_office_is, insert_office_plain}
 
 -- ---- the office
 

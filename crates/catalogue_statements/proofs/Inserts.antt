@@ -1,11 +1,17 @@
 -- What the INSERTs do.
-use Rattle.std.proofs.Common.{◌≡◌, ℕ, pos, List, [], ◌∷◌, codes, true, false, not, ◌&&◌, if◌then◌else◌, None, Ok, refl, sym, ap, subst, ◌∙◌}
-use Rattle.sqlite.specs.Source.TheVariants.{Values}
+use Rattle.std.proofs.Common.{◌≡◌, ℕ, pos, List, [], ◌∷◌, codes, true, false, not, ◌&&◌, if◌then◌else◌, None, Ok, refl}
+use Rattle.std.proofs.Common.{sym, ap, subst, ◌∙◌}
 use Rattle.sqlite.specs.Listing.{understood}
+use Rattle.sqlite.specs.Source.TheVariants.{Values}
 use Rattle.sqlite.specs.State.{Writes}
 use Rattle.sqlite_tied.specs.Compute.{everything}
 use Rattle.office_tables.specs.Schema as tables
-use Rattle.catalogue_statements.proofs.Common.{Chosen, Command, Executes, Insert, Inserted, Int, IsPlain, Null, OfficeRow, OnlyTouches, Row, Shows, State, Term, Trees, Version, are_fresh, cast_int, cast_null, col, command_of, edit_of, edited, inserted, is_taken, left_by, lit, mode_of, not_taken, office, office_row, put_row, runs_as, schema, settings_of_row, statement_of, touched, version_number}
+use Rattle.catalogue_statements.proofs.Common.{Chosen, Command, Executes, Insert, Inserted, Int, IsPlain, Null}
+use Rattle.catalogue_statements.proofs.Common.{OfficeRow, OnlyTouches, Row, Shows, State, Term, Trees, Version}
+use Rattle.catalogue_statements.proofs.Common.{are_fresh, cast_int, cast_null, col, command_of, edit_of, edited}
+use Rattle.catalogue_statements.proofs.Common.{inserted, is_taken, left_by, lit, mode_of, not_taken, office, office_row}
+use Rattle.catalogue_statements.proofs.Common.{put_row, runs_as, schema, settings_of_row, statement_of, touched}
+use Rattle.catalogue_statements.proofs.Common.{version_number}
 
 abbrev pub insert_office_text : List ℕ
 insert_office_text = codes "INSERT INTO office (one, version, country, repo, seats, daily, hands, run_size, day, next_unit) VALUES (1, ?1, ?2, ?3, ?4, ?5, ?6, ?7, ?8, ?9)"

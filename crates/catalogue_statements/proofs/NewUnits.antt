@@ -1,8 +1,21 @@
 -- What the tables show after a unit is added.
-use Rattle.std.proofs.Common.{◌≡◌, ◌≢◌, ℕ, ◌+◌, ◌≤◌, pos, List, [], ◌∷◌, length, filter, Bool, true, false, not, Option, nat_eq, Equal, refl, sym, ap, subst, ◌∙◌, inl, inr}
+use Rattle.std.proofs.Common.{◌≡◌, ◌≢◌, ℕ, ◌+◌, ◌≤◌, pos, List, [], ◌∷◌, length, filter, Bool, true, false, not, Option}
+use Rattle.std.proofs.Common.{nat_eq, Equal, refl, sym, ap, subst, ◌∙◌, inl, inr}
 use Rattle.catalogue_core.proofs.NodeLemmas.{nodes_add}
 use Rattle.office_tables.specs.Schema as tables
-use Rattle.catalogue_statements.proofs.Common.{AllByRecursion, BoxKey, Catalogue, Database, ElementRow, Forest, HousingRow, IsDescribed, IsPermutation, IsPermutation-cons, IsPermutation-filter, IsPermutation-sym, IsPermutation-trans, KnowsItsContainers, OfficeRow, Represents, RepresentsNumbered, RepresentsUnits, Trees, Unit, Version, WithHousings, WithTexts, add, add-each, all-permutation, all_both, all_from, all_has, all_weaker, by_number, cases_Bool, cell_of, each, element_cells, elements_of, eqb-true, eqb_comm, false≢true, fresh_key, had, has, has_id, has_place, housing_cell, housing_cells, housings_of, int_cmp, int_cmp_total, is_eq, is_same, is_taken, length_permutation, list_all, list_any, nodes, office_row, once, or_left, or_right, put_by, put_more, put_rises, put_row, put_rows, same_nat, same_test, some_from, some_has, tied_itself, unit_row, with_boxes, with_numbered}
+use Rattle.catalogue_statements.proofs.Common.{AllByRecursion, BoxKey, Catalogue, Database, ElementRow, Forest}
+use Rattle.catalogue_statements.proofs.Common.{HousingRow, IsDescribed, IsPermutation, IsPermutation-cons}
+use Rattle.catalogue_statements.proofs.Common.{IsPermutation-filter, IsPermutation-sym, IsPermutation-trans}
+use Rattle.catalogue_statements.proofs.Common.{KnowsItsContainers, OfficeRow, Represents, RepresentsNumbered}
+use Rattle.catalogue_statements.proofs.Common.{RepresentsUnits, Trees, Unit, Version, WithHousings, WithTexts, add}
+use Rattle.catalogue_statements.proofs.Common.{add-each, all-permutation, all_both, all_from, all_has, all_weaker}
+use Rattle.catalogue_statements.proofs.Common.{by_number, cases_Bool, cell_of, cells_of_unit, each, elements_of}
+use Rattle.catalogue_statements.proofs.Common.{eqb-true, eqb_comm, false≢true, fresh_key, had, has, has_id, has_place}
+use Rattle.catalogue_statements.proofs.Common.{housing_cell, housing_places, int_cmp, int_cmp_total, is_eq, is_same_box}
+use Rattle.catalogue_statements.proofs.Common.{is_taken, length_permutation, list_all, list_any, nodes}
+use Rattle.catalogue_statements.proofs.Common.{numbered_containers, numbered_texts, office_row, once, or_left, or_right}
+use Rattle.catalogue_statements.proofs.Common.{put_by, put_more, put_rises, put_row, put_rows, same_nat, same_test}
+use Rattle.catalogue_statements.proofs.Common.{some_from, some_has, tied_itself, with_boxes, with_numbered}
 use Rattle.catalogue_statements.proofs.Finding.{itself}
 use Rattle.catalogue_statements.proofs.HousingLemmas.{same_cells}
 use Rattle.catalogue_statements.proofs.Parts.{own_cells, others_cells, all_theirs, without_none}
@@ -25,11 +38,11 @@ numbered_once db f at n there =
 
 -- a number that was free for a row is no unit's
 pub no_unit : (db : Trees) (f : Forest Unit) → (at : RepresentsUnits db f) → (u : Unit)
-    → is_taken (db tables.unit.tree) (unit_row u) ≡ false → has (has_id u.id) f ≡ false
+    → is_taken (db tables.unit.tree) (cells_of_unit u) ≡ false → has (has_id u.id) f ≡ false
 no_unit db f at u free = elim (cases_Bool (has (has_id u.id) f)) [
   | inr none ↦ none
   | inl there ↦ absurd (
-      let apart = fresh_key unit_row (λ (x : Unit). pos x.id) (λ _. refl) u at.units (ap (λ rows. is_taken rows (unit_row u)) (sym at.rows) ∙ free) in
+      let apart = fresh_key cells_of_unit (λ (x : Unit). pos x.id) (λ _. refl) u at.units (ap (λ rows. is_taken rows (cells_of_unit u)) (sym at.rows) ∙ free) in
       let x = some_has (has_id u.id) (nodes f) there in
       let same : u.id ≡ x.0.id = eqb-true u.id x.0.id x.2 in
       all_has (λ (x : Unit). int_cmp (pos x.id) (pos u.id) ≢ Equal) at.units x.0 apart (had at.units (nodes f) (IsPermutation-sym (nodes f) at.units at.are) x.0 x.1)
@@ -40,8 +53,8 @@ no_unit db f at u free = elim (cases_Bool (has (has_id u.id) f)) [
 pub record HasAdded (represents : Trees → Forest ℕ → Type 0) (v : Version) (old new : Database) (o : OfficeRow) (c : Catalogue) (parent : Option ℕ) (u : Unit) (elements : List ElementRow) (housings : List HousingRow) : Type 0 where
   pub schema : new.schema ≡ old.schema
   pub office : new.trees tables.office.tree ≡ office_row v (record o { next_unit = u.id + 1 }) ∷ []
-  pub units : new.trees tables.unit.tree ≡ put_row (unit_row u) (old.trees tables.unit.tree)
-  pub fresh : is_taken (old.trees tables.unit.tree) (unit_row u) ≡ false
+  pub units : new.trees tables.unit.tree ≡ put_row (cells_of_unit u) (old.trees tables.unit.tree)
+  pub fresh : is_taken (old.trees tables.unit.tree) (cells_of_unit u) ≡ false
   pub described : IsDescribed u.id u.values c.containers elements housings new.trees
   pub shown : represents new.trees (add nat_eq parent u.id (each (λ (x : Unit). x.id) c.forest))
 
@@ -73,10 +86,10 @@ module _ (u : Unit) (parent : Option ℕ) (f : Forest Unit) (many : IsPermutatio
   own_here = any_in (has_id u.id) (nodes grown) (u ∷ nodes f) many (or_left (has_id u.id u) (has (has_id u.id) f) (itself u.id))
 
   texts_grown : (xs ys : List ElementRow) → AllByRecursion (λ x. has (has_id x.unit) f ≡ true) xs
-      → WithTexts u.id (element_cells u.values) xs ys
-      → WithTexts u.id (element_cells u.values) (filter (λ x. not (nat_eq u.id x.unit)) xs) ys
+      → WithTexts u.id (numbered_texts u.values) xs ys
+      → WithTexts u.id (numbered_texts u.values) (filter (λ x. not (nat_eq u.id x.unit)) xs) ys
   texts_grown xs ys there told =
-      subst (λ l. WithTexts u.id (element_cells u.values) l ys)
+      subst (λ l. WithTexts u.id (numbered_texts u.values) l ys)
       (sym (without_none (λ (e : ElementRow). e.unit) cell_of u.id xs (all_weaker (λ (x : ElementRow). has (has_id x.unit) f ≡ true) (λ (x : ElementRow). nat_eq u.id x.unit ≡ false) (λ x h. apart x.unit h) xs there))) told
 
   housings_grown : (cells : List (ℕ × ℕ)) (xs ys : List HousingRow)
@@ -87,32 +100,32 @@ module _ (u : Unit) (parent : Option ℕ) (f : Forest Unit) (many : IsPermutatio
       (sym (without_none (λ (h : HousingRow). h.unit) housing_cell u.id xs (all_weaker (λ (x : HousingRow). has (has_id x.unit) f ≡ true) (λ (x : HousingRow). nat_eq u.id x.unit ≡ false) (λ x h. apart x.unit h) xs there))) told
 
   elements_still : (xs ys : List ElementRow)
-      → WithTexts u.id (element_cells u.values) (filter (λ x. not (nat_eq u.id x.unit)) xs) ys
-      → AllByRecursion (λ x. IsPermutation (element_cells x.values) (elements_of x.id xs)) (nodes f)
-      → AllByRecursion (λ x. IsPermutation (element_cells x.values) (elements_of x.id ys)) (nodes grown)
+      → WithTexts u.id (numbered_texts u.values) (filter (λ x. not (nat_eq u.id x.unit)) xs) ys
+      → AllByRecursion (λ x. IsPermutation (numbered_texts x.values) (elements_of x.id xs)) (nodes f)
+      → AllByRecursion (λ x. IsPermutation (numbered_texts x.values) (elements_of x.id ys)) (nodes grown)
   elements_still xs ys told all =
-      let P = λ (x : Unit). IsPermutation (element_cells x.values) (elements_of x.id ys) in
-      of_all P (own_cells (λ (e : ElementRow). e.unit) cell_of u.id (element_cells u.values) xs ys told)
-      (all_both (λ (x : Unit). nat_eq u.id x.id ≡ false) (λ (x : Unit). IsPermutation (element_cells x.values) (elements_of x.id xs)) P
-      (λ x other h. IsPermutation-trans (element_cells x.values) (elements_of x.id xs) (elements_of x.id ys) h (others_cells (λ (e : ElementRow). e.unit) cell_of u.id x.id (element_cells u.values) xs ys other told))
+      let P = λ (x : Unit). IsPermutation (numbered_texts x.values) (elements_of x.id ys) in
+      of_all P (own_cells (λ (e : ElementRow). e.unit) cell_of u.id (numbered_texts u.values) xs ys told)
+      (all_both (λ (x : Unit). nat_eq u.id x.id ≡ false) (λ (x : Unit). IsPermutation (numbered_texts x.values) (elements_of x.id xs)) P
+      (λ x other h. IsPermutation-trans (numbered_texts x.values) (elements_of x.id xs) (elements_of x.id ys) h (others_cells (λ (e : ElementRow). e.unit) cell_of u.id x.id (numbered_texts u.values) xs ys other told))
       (nodes f) others_apart all)
 
   abbrev IsKnown : List BoxKey → Unit → Type 0
-  IsKnown boxes x = list_all (λ box. list_any (is_same box) boxes) x.values.boxes ≡ true
+  IsKnown boxes x = list_all (λ box. list_any (is_same_box box) boxes) x.values.boxes ≡ true
 
   housings_still : (boxes more : List BoxKey) (xs ys : List HousingRow)
-      → ((x : Unit) → IsKnown boxes x → housing_cells more x.values ≡ housing_cells boxes x.values)
-      → WithHousings u.id (housing_cells more u.values) (filter (λ x. not (nat_eq u.id x.unit)) xs) ys
+      → ((x : Unit) → IsKnown boxes x → numbered_containers more x.values ≡ numbered_containers boxes x.values)
+      → WithHousings u.id (numbered_containers more u.values) (filter (λ x. not (nat_eq u.id x.unit)) xs) ys
       → AllByRecursion (IsKnown boxes) (nodes f)
-      → AllByRecursion (λ x. IsPermutation (housing_cells boxes x.values) (housings_of x.id xs)) (nodes f)
-      → AllByRecursion (λ x. IsPermutation (housing_cells more x.values) (housings_of x.id ys)) (nodes grown)
+      → AllByRecursion (λ x. IsPermutation (numbered_containers boxes x.values) (housing_places x.id xs)) (nodes f)
+      → AllByRecursion (λ x. IsPermutation (numbered_containers more x.values) (housing_places x.id ys)) (nodes grown)
   housings_still boxes more xs ys same told known all =
-      let P = λ (x : Unit). IsPermutation (housing_cells more x.values) (housings_of x.id ys) in
-      let Q = λ (x : Unit). IsPermutation (housing_cells more x.values) (housings_of x.id xs) in
-      let still = all_both (IsKnown boxes) (λ (x : Unit). IsPermutation (housing_cells boxes x.values) (housings_of x.id xs)) Q (λ x k h. subst (λ l. IsPermutation l (housings_of x.id xs)) (sym (same x k)) h) (nodes f) known all in
-      of_all P (own_cells (λ (h : HousingRow). h.unit) housing_cell u.id (housing_cells more u.values) xs ys told)
+      let P = λ (x : Unit). IsPermutation (numbered_containers more x.values) (housing_places x.id ys) in
+      let Q = λ (x : Unit). IsPermutation (numbered_containers more x.values) (housing_places x.id xs) in
+      let still = all_both (IsKnown boxes) (λ (x : Unit). IsPermutation (numbered_containers boxes x.values) (housing_places x.id xs)) Q (λ x k h. subst (λ l. IsPermutation l (housing_places x.id xs)) (sym (same x k)) h) (nodes f) known all in
+      of_all P (own_cells (λ (h : HousingRow). h.unit) housing_cell u.id (numbered_containers more u.values) xs ys told)
       (all_both (λ (x : Unit). nat_eq u.id x.id ≡ false) Q P
-      (λ x other h. IsPermutation-trans (housing_cells more x.values) (housings_of x.id xs) (housings_of x.id ys) h (others_cells (λ (h : HousingRow). h.unit) housing_cell u.id x.id (housing_cells more u.values) xs ys other told))
+      (λ x other h. IsPermutation-trans (numbered_containers more x.values) (housing_places x.id xs) (housing_places x.id ys) h (others_cells (λ (h : HousingRow). h.unit) housing_cell u.id x.id (numbered_containers more u.values) xs ys other told))
       (nodes f) others_apart still)
 
 pub shows_added : (v : Version) (represents : Trees → Forest ℕ → Type 0) (old new : Database) (o : OfficeRow) (c : Catalogue) (parent : Option ℕ) (u : Unit) (it : Represents represents v old o c)
@@ -126,10 +139,10 @@ shows_added v represents old new o c parent u it there knows wrote =
     let key = λ (x : Unit). pos x.id in
     let new_id = no_unit old.trees f at.units u wrote.fresh in
     let many = nodes_add has_id parent u f (numbered_once old.trees f at.units) there in
-    let free = fresh_key unit_row key (λ _. refl) u at.units.units (ap (λ rows. is_taken rows (unit_row u)) (sym at.units.rows) ∙ wrote.fresh) in
+    let free = fresh_key cells_of_unit key (λ _. refl) u at.units.units (ap (λ rows. is_taken rows (cells_of_unit u)) (sym at.units.rows) ∙ wrote.fresh) in
     let made = wrote.described in
     let texts = texts_grown u parent f many new_id at.elements.elements made.elements at.elements.others made.texts_more in
-    let housed = housings_grown u parent f many new_id (housing_cells boxes u.values) at.housings.housings made.housings at.housings.others made.housed_more in
+    let housed = housings_grown u parent f many new_id (numbered_containers boxes u.values) at.housings.housings made.housings at.housings.others made.housed_more in
     let grown = add has_id parent u f in
     record {
       catalogue = record {
@@ -138,8 +151,8 @@ shows_added v represents old new o c parent u it there knows wrote =
         next = refl;
         units = record {
           units = put_by key u at.units.units;
-          rows = wrote.units ∙ ap (put_row (unit_row u)) at.units.rows ∙ put_rows unit_row key (λ _. refl) u at.units.units;
-          rise = put_rises unit_row key (λ _. refl) u at.units.units at.units.rise;
+          rows = wrote.units ∙ ap (put_row (cells_of_unit u)) at.units.rows ∙ put_rows cells_of_unit key (λ _. refl) u at.units.units;
+          rise = put_rises cells_of_unit key (λ _. refl) u at.units.units at.units.rise;
           are = IsPermutation-trans (nodes grown) (u ∷ nodes f) (put_by key u at.units.units) many
               (IsPermutation-trans (u ∷ nodes f) (u ∷ at.units.units) (put_by key u at.units.units) (IsPermutation-cons u (nodes f) at.units.units at.units.are) (put_more key u at.units.units free));
         };
@@ -147,7 +160,7 @@ shows_added v represents old new o c parent u it there knows wrote =
           elements = made.elements;
           rows = made.texts.rows;
           are = elements_still u parent f many new_id at.elements.elements made.elements texts at.elements.are;
-          others = all_theirs (λ (e : ElementRow). e.unit) cell_of (λ n. has (has_id n) grown ≡ true) u.id (element_cells u.values) at.elements.elements made.elements (own_here u parent f many new_id)
+          others = all_theirs (λ (e : ElementRow). e.unit) cell_of (λ n. has (has_id n) grown ≡ true) u.id (numbered_texts u.values) at.elements.elements made.elements (own_here u parent f many new_id)
               (all_weaker (λ (e : ElementRow). has (has_id e.unit) f ≡ true) (λ (e : ElementRow). has (has_id e.unit) grown ≡ true) (λ e h. still_here u parent f many new_id e.unit h) at.elements.elements at.elements.others) texts;
         };
         containers = made.housed.containers;
@@ -155,7 +168,7 @@ shows_added v represents old new o c parent u it there knows wrote =
           housings = made.housings;
           rows = made.housed.rows;
           are = housings_still u parent f many new_id c.containers boxes at.housings.housings made.housings (λ x known. same_cells c.containers u.values.boxes x.values.boxes 1 knows.apart known) housed knows.known at.housings.are;
-          others = all_theirs (λ (h : HousingRow). h.unit) housing_cell (λ n. has (has_id n) grown ≡ true) u.id (housing_cells boxes u.values) at.housings.housings made.housings (own_here u parent f many new_id)
+          others = all_theirs (λ (h : HousingRow). h.unit) housing_cell (λ n. has (has_id n) grown ≡ true) u.id (numbered_containers boxes u.values) at.housings.housings made.housings (own_here u parent f many new_id)
               (all_weaker (λ (h : HousingRow). has (has_id h.unit) f ≡ true) (λ (h : HousingRow). has (has_id h.unit) grown ≡ true) (λ h k. still_here u parent f many new_id h.unit k) at.housings.housings at.housings.others) housed;
         };
       };

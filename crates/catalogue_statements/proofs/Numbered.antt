@@ -1,10 +1,16 @@
 -- Containers in their table, numbered one after another.
-use Rattle.std.proofs.Common.{◌≡◌, ℕ, suc, ◌+◌, ◌≤◌, ◌<◌, false, List, [], ◌∷◌, ◌++◌, length, map, filter, slice_get, Option, Some, None, Less, pos, refl, sym, ap, subst, ◌∙◌, arith, inl, inr}
-use Rattle.std.specs.Prelude.{option_map, unwrap_or}
+use Rattle.std.proofs.Common.{◌≡◌, ℕ, suc, ◌+◌, ◌≤◌, ◌<◌, false, List, [], ◌∷◌, ◌++◌, length, map, filter, slice_get}
+use Rattle.std.proofs.Common.{Option, Some, None, Less, pos, refl, sym, ap, subst, ◌∙◌, arith, inl, inr}
 use Rattle.std.proofs.lemmas.Cmp.{back_total}
-use Rattle.office_tables.specs.Schema as tables
+use Rattle.std.specs.Prelude.{option_map, unwrap_or}
 use Rattle.office_tables.proofs.statements.LastOf.{not_below}
-use Rattle.catalogue_statements.proofs.Common.{AllByRecursion, BoxKey, Has, IsOrdered, IsPermutation, IsPermutation-sym, IsSorted, IsTotalOrder, RepresentsContainers, Rises, Trees, all_has, all_weaker, ascending-filter, below_less, by_container, cases_Bool, container_row, counted_from, had, head_below, int_cmp, int_cmp_total, is_lt, is_same, length_permutation, number_in, on_total, only_order, put_by, put_row, put_rows}
+use Rattle.office_tables.specs.Schema as tables
+use Rattle.catalogue_statements.proofs.Common.{AllByRecursion, BoxKey, Has, IsOrdered, IsPermutation, IsPermutation-sym}
+use Rattle.catalogue_statements.proofs.Common.{IsSorted, IsTotalOrder, RepresentsContainers, Rises, Trees, all_has}
+use Rattle.catalogue_statements.proofs.Common.{all_weaker, ascending-filter, below_less, by_container, cases_Bool}
+use Rattle.catalogue_statements.proofs.Common.{counted_from, had, head_below, int_cmp, int_cmp_total, is_lt}
+use Rattle.catalogue_statements.proofs.Common.{is_same_box, length_permutation, number_among, numbered_container_cells}
+use Rattle.catalogue_statements.proofs.Common.{on_total, only_order, put_by, put_row, put_rows}
 use Rattle.catalogue_statements.proofs.ContainerStatements.{from_the_last}
 
 pub by_container_total : IsTotalOrder by_container
@@ -30,12 +36,12 @@ counted_rises n (x ∷ xs) = (counted_above n (n + 1) xs (omega arith), counted_
 -- ---- the number of a container
 
 first_number : (k : ℕ) (cs : List BoxKey) (b : BoxKey)
-    → slice_get (map (λ (c : ℕ × BoxKey). c.0) (filter (λ c. is_same c.1 b) (counted_from (k + 1) cs))) 0 ≡ option_map (λ n. k + n) (number_in cs b)
+    → slice_get (map (λ (c : ℕ × BoxKey). c.0) (filter (λ c. is_same_box c.1 b) (counted_from (k + 1) cs))) 0 ≡ option_map (λ n. k + n) (number_among cs b)
 first_number k [] b = refl
 first_number k (c ∷ cs) b =
-    elim (cases_Bool (is_same c b)) [
+    elim (cases_Bool (is_same_box c b)) [
       | inl same ↦ rw same refl
-      | inr differs ↦ rw differs (first_number (k + 1) cs b ∙ later (number_in cs b))
+      | inr differs ↦ rw differs (first_number (k + 1) cs b ∙ later (number_among cs b))
     ]
   where
     later : (o : Option ℕ) → option_map (λ n. k + 1 + n) o ≡ option_map (λ n. k + n) (option_map suc o)
@@ -47,13 +53,13 @@ as_it_is None = refl
 as_it_is (Some n) = ap Some (omega arith)
 
 pub number_read : (cs : List BoxKey) (b : BoxKey) (ys : List (ℕ × BoxKey))
-    → IsOrdered by_container (filter (λ c. is_same c.1 b) (counted_from 1 cs)) ys
-    → slice_get (map (λ (c : ℕ × BoxKey). c.0) ys) 0 ≡ number_in cs b
+    → IsOrdered by_container (filter (λ c. is_same_box c.1 b) (counted_from 1 cs)) ys
+    → slice_get (map (λ (c : ℕ × BoxKey). c.0) ys) 0 ≡ number_among cs b
 number_read cs b ys at =
-    let kept = filter (λ (c : ℕ × BoxKey). is_same c.1 b) (counted_from 1 cs) in
+    let kept = filter (λ (c : ℕ × BoxKey). is_same_box c.1 b) (counted_from 1 cs) in
     let is : ys ≡ kept =
-    only_order by_container by_container_total kept ys (ascending-filter (λ a c. by_container a c ≡ Less) (λ (c : ℕ × BoxKey). is_same c.1 b) (counted_from 1 cs) (counted_rises 1 cs)) at.1 at.0 in
-    ap (λ l. slice_get (map (λ (c : ℕ × BoxKey). c.0) l) 0) is ∙ first_number 0 cs b ∙ as_it_is (number_in cs b)
+    only_order by_container by_container_total kept ys (ascending-filter (λ a c. by_container a c ≡ Less) (λ (c : ℕ × BoxKey). is_same_box c.1 b) (counted_from 1 cs) (counted_rises 1 cs)) at.1 at.0 in
+    ap (λ l. slice_get (map (λ (c : ℕ × BoxKey). c.0) l) 0) is ∙ first_number 0 cs b ∙ as_it_is (number_among cs b)
 
 -- ---- the greatest number
 
@@ -94,9 +100,9 @@ put_last n b (c ∷ cs) =
 
 pub one_container : (old new : Trees) (n : ℕ) (b : BoxKey) (cs : List BoxKey) → n ≡ length cs + 1
     → RepresentsContainers old cs
-    → new tables.container.tree ≡ put_row (container_row (n, b)) (old tables.container.tree)
+    → new tables.container.tree ≡ put_row (numbered_container_cells (n, b)) (old tables.container.tree)
     → RepresentsContainers new (cs ++ b ∷ [])
 one_container old new n b cs is at puts =
-    puts ∙ ap (put_row (container_row (n, b))) at ∙ put_rows container_row (λ (c : ℕ × BoxKey). pos c.0) (λ _. refl) (n, b) (counted_from 1 cs)
-    ∙ ap (λ m. map container_row (put_by (λ (c : ℕ × BoxKey). pos c.0) (m, b) (counted_from 1 cs))) (is ∙ omega arith)
-    ∙ ap (map container_row) (put_last 1 b cs)
+    puts ∙ ap (put_row (numbered_container_cells (n, b))) at ∙ put_rows numbered_container_cells (λ (c : ℕ × BoxKey). pos c.0) (λ _. refl) (n, b) (counted_from 1 cs)
+    ∙ ap (λ m. map numbered_container_cells (put_by (λ (c : ℕ × BoxKey). pos c.0) (m, b) (counted_from 1 cs))) (is ∙ omega arith)
+    ∙ ap (map numbered_container_cells) (put_last 1 b cs)

@@ -1,12 +1,22 @@
 -- The statements on the office's row, and the counts: what their texts mean, what they leave or tell, and why they fail.
-use Rattle.std.proofs.Common.{◌≡◌, ℕ, pos, List, [], ◌∷◌, length, map, drop, codes, slice_get, true, false, Equal, Option, Some, Result, Ok, OnOk, IfOk, IfErr, refl, ap, ◌∙◌}
+use Rattle.std.proofs.Common.{◌≡◌, ℕ, pos, List, [], ◌∷◌, length, map, drop, codes, slice_get, true, false, Equal}
+use Rattle.std.proofs.Common.{Option, Some, Result, Ok, OnOk, IfOk, IfErr, refl, ap, ◌∙◌}
 use Rattle.std.proofs.lemmas.Bool.{both_ways}
 use Rattle.std.specs.Bool.{⊤}
 use Rattle.sqlite.specs.Listing.{understood}
 use Rattle.sqlite_tied.specs.Compute.{everything}
-use Rattle.catalogue_statements.specs.Settings.{AreLegibleSettings}
 use Rattle.office_tables.proofs.Counts.{summary_query, count_rows, counts}
-use Rattle.catalogue_statements.proofs.Common.{Binary, Command, Compare, Eq, Finds, FoundInside, HasCause, HasRows, IfOk-weaker, Int, IsLive, IsUnlimited, Key, Means, Misses, Null, OfficeRow, OnlyTouches, Program, Ran, Row, Select, Shown, State, StoreFault, Table, Term, Update, Version, accepts_program, all_caused, ascending, asking, by_one_int, cap, cast_int, cast_null, cast_row, caused, choosing, col, container, counts_always, end, found_in, inner, kept_all, le_refl, lit, none_refuse, office, office_kept, office_row, one_permutation, only, op2, read_cause, reads_as, same_number, schema, select_faults, select_finds, settings_of_row, unit, update_faults, update_leaves, update_only, version_number}
+use Rattle.catalogue_statements.specs.Settings.{AreLegibleSettings}
+use Rattle.catalogue_statements.proofs.Common.{Binary, Command, Compare, Eq, Finds, FoundInside, HasCause, HasRows}
+use Rattle.catalogue_statements.proofs.Common.{IfOk-weaker, Int, IsLive, IsUnlimited, Key, Means, Misses, Null}
+use Rattle.catalogue_statements.proofs.Common.{OfficeRow, OnlyTouches, Program, Ran, Row, Select, Shown, State}
+use Rattle.catalogue_statements.proofs.Common.{StoreFault, Table, Term, Update, Version, accepts_program, all_caused}
+use Rattle.catalogue_statements.proofs.Common.{ascending, asking, by_one_int, cap, cast_int, cast_null, cast_row}
+use Rattle.catalogue_statements.proofs.Common.{caused, choosing, col, container, counts_always, end, found_in, inner}
+use Rattle.catalogue_statements.proofs.Common.{kept_all, le_refl, lit, none_refuse, office, office_kept, office_row}
+use Rattle.catalogue_statements.proofs.Common.{one_permutation, only, op2, read_cause, reads_as, same_number, schema}
+use Rattle.catalogue_statements.proofs.Common.{select_faults, select_finds, settings_of_row, unit, update_faults}
+use Rattle.catalogue_statements.proofs.Common.{update_leaves, update_only, version_number}
 
 -- what a row of the table tells: the version, and the rest
 abbrev Telling : Type 0

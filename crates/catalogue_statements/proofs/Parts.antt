@@ -1,8 +1,14 @@
 -- Rows of units that are added one after another, or in place of others: texts and containers alike.
-use Rattle.std.proofs.Common.{◌≡◌, ℕ, List, [], ◌∷◌, ◌++◌, map, filter, Bool, true, false, not, nat_eq, refl, sym, ap, ap₂, subst, ◌∙◌, append-nil}
-use Rattle.std.specs.Prelude.{◌&&◌}
+use Rattle.std.proofs.Common.{◌≡◌, ℕ, List, [], ◌∷◌, ◌++◌, map, filter, Bool, true, false, not, nat_eq, refl, sym, ap}
+use Rattle.std.proofs.Common.{ap₂, subst, ◌∙◌, append-nil}
 use Rattle.std.proofs.lemmas.List.Elements.{filter-append}
-use Rattle.catalogue_statements.proofs.Common.{AllByRecursion, IsPermutation, IsPermutation-append_comm, IsPermutation-append_left, IsPermutation-append_right, IsPermutation-filter, IsPermutation-map, IsPermutation-trans, WithCells, all-append, all-filter, all-permutation, all_weaker, and-false, append_assoc, eq-eqb, eqb-false, eqb-true, filter_all, filter_none, filters, map-append, ne_eqb, same_test}
+use Rattle.std.specs.Prelude.{◌&&◌}
+use Rattle.catalogue_statements.proofs.Common.{AllByRecursion, IsPermutation, IsPermutation-append_comm}
+use Rattle.catalogue_statements.proofs.Common.{IsPermutation-append_left, IsPermutation-append_right}
+use Rattle.catalogue_statements.proofs.Common.{IsPermutation-filter, IsPermutation-map, IsPermutation-trans, WithCells}
+use Rattle.catalogue_statements.proofs.Common.{all-append, all-filter, all-permutation, all_weaker, and-false}
+use Rattle.catalogue_statements.proofs.Common.{append_assoc, eq-eqb, eqb-false, eqb-true, filter_all, filter_none}
+use Rattle.catalogue_statements.proofs.Common.{filters, map-append, ne_eqb, same_test}
 
 module _ {A C : Type 0} (unit_of : A → ℕ) (cell_of : A → C) where
   abbrev With : ℕ → List C → List A → List A → Type 0

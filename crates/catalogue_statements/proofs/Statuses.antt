@@ -1,9 +1,16 @@
 -- What the tables show after units are changed in their places.
-use Rattle.office_tables.specs.Schema as tables
-use Rattle.std.proofs.Common.{◌≡◌, ℕ, pos, List, [], ◌∷◌, ◌++◌, map, Bool, true, false, if◌then◌else◌, cond, ◌||◌, nat_eq, refl, sym, ap, ap₂, subst, ◌∙◌}
+use Rattle.std.proofs.Common.{◌≡◌, ℕ, pos, List, [], ◌∷◌, ◌++◌, map, Bool, true, false, if◌then◌else◌, cond, ◌||◌}
+use Rattle.std.proofs.Common.{nat_eq, refl, sym, ap, ap₂, subst, ◌∙◌}
 use Rattle.std.specs.declared.cmp.Ordering.TheVariants.{Less}
 use Rattle.catalogue_core.specs.Statuses.{with_status, is_chosen}
-use Rattle.catalogue_statements.proofs.Common.{AllByRecursion, Catalogue, Database, ElementRow, Empty, Forest, HasRows, HousingRow, IsPermutation, IsPermutation-map, Node, OfficeRow, Represents, Rises, Trees, Unit, Version, all_weaker, ascending-map, ascending_weaker, by_number, each, element_cells, element_row, elements_of, has, has_id, housing_cells, housing_row, housings_of, int_cmp, list_any, nodes, nodes-each, or-false, or_assoc, still_numbered, tree, unit_row}
+use Rattle.office_tables.specs.Schema as tables
+use Rattle.catalogue_statements.proofs.Common.{AllByRecursion, Catalogue, Database, ElementRow, Empty, Forest, HasRows}
+use Rattle.catalogue_statements.proofs.Common.{HousingRow, IsPermutation, IsPermutation-map, Node, OfficeRow}
+use Rattle.catalogue_statements.proofs.Common.{Represents, Rises, Trees, Unit, Version, all_weaker, ascending-map}
+use Rattle.catalogue_statements.proofs.Common.{ascending_weaker, by_number, cells_of_unit, each, element_row}
+use Rattle.catalogue_statements.proofs.Common.{elements_of, has, has_id, housing_places, housing_row, int_cmp, list_any}
+use Rattle.catalogue_statements.proofs.Common.{nodes, nodes-each, numbered_containers, numbered_texts, or-false}
+use Rattle.catalogue_statements.proofs.Common.{or_assoc, still_numbered, tree}
 
 pub each_each : {A B C : Type 0} (g : A → B) (h : B → C) (k : A → C) → ((x : A) → h (g x) ≡ k x) → (f : Forest A)
     → each h (each g f) ≡ each k f
@@ -36,7 +43,7 @@ module _ (g : Unit → Unit) (same_id : (u : Unit) → (g u).id ≡ u.id) where
     pub shows_changed : (v : Version) (represents : Trees → Forest ℕ → Type 0)
         → ((old new : Trees) (f : Forest ℕ) → new tables.link.tree ≡ old tables.link.tree → represents old f → represents new f)
         → (old new : Database) (o : OfficeRow) (c : Catalogue) (it : Represents represents v old o c)
-        → new.schema ≡ old.schema → HasRows tables.unit.tree (map unit_row (map g it.catalogue.units.units)) old new
+        → new.schema ≡ old.schema → HasRows tables.unit.tree (map cells_of_unit (map g it.catalogue.units.units)) old new
         → Represents represents v new o (record c { forest = each g c.forest })
     shows_changed v represents same old new o c it schema_is wrote =
         let at = it.catalogue in
@@ -56,8 +63,8 @@ module _ (g : Unit → Unit) (same_id : (u : Unit) → (g u).id ≡ u.id) where
             elements = record {
               elements = at.elements.elements;
               rows = still_numbered element_row (old.trees tables.element.tree) (new.trees tables.element.tree) at.elements.elements (kept tables.element.tree refl refl) at.elements.rows;
-              are = subst (AllByRecursion (λ (u : Unit). IsPermutation (element_cells u.values) (elements_of u.id at.elements.elements))) (sym (nodes-each g f))
-                  (all_map g (λ (u : Unit). IsPermutation (element_cells u.values) (elements_of u.id at.elements.elements)) (λ (u : Unit). IsPermutation (element_cells u.values) (elements_of u.id at.elements.elements))
+              are = subst (AllByRecursion (λ (u : Unit). IsPermutation (numbered_texts u.values) (elements_of u.id at.elements.elements))) (sym (nodes-each g f))
+                  (all_map g (λ (u : Unit). IsPermutation (numbered_texts u.values) (elements_of u.id at.elements.elements)) (λ (u : Unit). IsPermutation (numbered_texts u.values) (elements_of u.id at.elements.elements))
                   (λ u h. rw (same_id u, same_values u) h) (nodes f) at.elements.are);
               others = all_weaker (λ (e : ElementRow). has (has_id e.unit) f ≡ true) (λ (e : ElementRow). has (has_id e.unit) (each g f) ≡ true) (λ e h. still_there f e.unit ∙ h) at.elements.elements at.elements.others;
             };
@@ -65,8 +72,8 @@ module _ (g : Unit → Unit) (same_id : (u : Unit) → (g u).id ≡ u.id) where
             housings = record {
               housings = at.housings.housings;
               rows = still_numbered housing_row (old.trees tables.housing.tree) (new.trees tables.housing.tree) at.housings.housings (kept tables.housing.tree refl refl) at.housings.rows;
-              are = subst (AllByRecursion (λ (u : Unit). IsPermutation (housing_cells c.containers u.values) (housings_of u.id at.housings.housings))) (sym (nodes-each g f))
-                  (all_map g (λ (u : Unit). IsPermutation (housing_cells c.containers u.values) (housings_of u.id at.housings.housings)) (λ (u : Unit). IsPermutation (housing_cells c.containers u.values) (housings_of u.id at.housings.housings))
+              are = subst (AllByRecursion (λ (u : Unit). IsPermutation (numbered_containers c.containers u.values) (housing_places u.id at.housings.housings))) (sym (nodes-each g f))
+                  (all_map g (λ (u : Unit). IsPermutation (numbered_containers c.containers u.values) (housing_places u.id at.housings.housings)) (λ (u : Unit). IsPermutation (numbered_containers c.containers u.values) (housing_places u.id at.housings.housings))
                   (λ u h. rw (same_id u, same_values u) h) (nodes f) at.housings.are);
               others = all_weaker (λ (h : HousingRow). has (has_id h.unit) f ≡ true) (λ (h : HousingRow). has (has_id h.unit) (each g f) ≡ true) (λ e h. still_there f e.unit ∙ h) at.housings.housings at.housings.others;
             };
@@ -117,7 +124,7 @@ pub draft_step : (v : Version) (represents : Trees → Forest ℕ → Type 0)
     → ((old new : Trees) (f : Forest ℕ) → new tables.link.tree ≡ old tables.link.tree → represents old f → represents new f)
     → (old new : Database) (o : OfficeRow) (c : Catalogue) (draft : Bool) (ids : List ℕ) (id : ℕ) (it : Represents represents v old o (with_status ids draft c))
     → new.schema ≡ old.schema
-    → HasRows tables.unit.tree (map unit_row (map (λ (u : Unit). drafted draft (has_id id u) u) it.catalogue.units.units)) old new
+    → HasRows tables.unit.tree (map cells_of_unit (map (λ (u : Unit). drafted draft (has_id id u) u) it.catalogue.units.units)) old new
     → Represents represents v new o (with_status (ids ++ id ∷ []) draft c)
 draft_step v represents same old new o c draft ids id it schema_is wrote =
     subst (λ f. Represents represents v new o (record c { forest = f })) (drafts_more draft ids id c)

@@ -1,8 +1,11 @@
 -- Texts that are added one after another.
-use Rattle.std.proofs.Common.{◌≡◌, ℕ, ℤ, ◌+◌, ◌<◌, get_or, List, [], ◌∷◌, ◌++◌, length, map, Option, Some, None, take, refl, sym, ap, ◌∙◌, arith}
+use Rattle.std.proofs.Common.{◌≡◌, ℕ, ℤ, ◌+◌, ◌<◌, get_or, List, [], ◌∷◌, ◌++◌, length, map, Option, Some, None, take}
+use Rattle.std.proofs.Common.{refl, sym, ap, ◌∙◌, arith}
 use Rattle.std.proofs.lemmas.List.{length-take-le}
 use Rattle.office_tables.specs.Schema as tables
-use Rattle.catalogue_statements.proofs.Common.{AreElements, Bytes, Database, ElementRow, IsPermutation-refl, PutsRow, Trees, WithTexts, element_number, element_row, map-append, next_rowid, one_more, take_more, text_cells, texts_from}
+use Rattle.catalogue_statements.proofs.Common.{AreElements, Bytes, Database, ElementRow, IsPermutation-refl, PutsRow}
+use Rattle.catalogue_statements.proofs.Common.{Trees, WithTexts, element_number, element_row, map-append, next_rowid}
+use Rattle.catalogue_statements.proofs.Common.{one_more, take_more, text_cells, texts_from}
 
 abbrev new_row : Trees → ℕ → ℕ → Bytes → ℤ × ElementRow
 new_row db unit k value = (next_rowid (db tables.element.tree), record { unit = unit; k = k; value = value })

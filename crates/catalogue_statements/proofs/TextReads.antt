@@ -1,8 +1,12 @@
 -- Texts that are put at the places of their elements.
-use Rattle.std.proofs.Common.{◌≡◌, ◌≢◌, ℕ, zero, suc, ◌+◌, ◌<◌, List, [], ◌∷◌, ◌++◌, length, map, get_or, set, Option, Some, None, Bool, false, if◌then◌else◌, nat_eq, refl, sym, ap, subst, ◌∙◌, arith, inl, inr}
+use Rattle.std.proofs.Common.{◌≡◌, ◌≢◌, ℕ, zero, suc, ◌+◌, ◌<◌, List, [], ◌∷◌, ◌++◌, length, map, get_or, set, Option}
+use Rattle.std.proofs.Common.{Some, None, Bool, false, if◌then◌else◌, nat_eq, refl, sym, ap, subst, ◌∙◌, arith, inl}
+use Rattle.std.proofs.Common.{inr}
 use Rattle.std.proofs.lemmas.List.Sums.{fold_push}
 use Rattle.isad_core.specs.declared.values.Values.{Values}
-use Rattle.catalogue_statements.proofs.Common.{Bytes, Element, cases_lt, element_cells, element_number, eq-eqb, ext_get_or, fold, get_or-set_other, get_or-set_same, length-set, map-append, ne_eqb, texts_from}
+use Rattle.catalogue_statements.proofs.Common.{Bytes, Element, cases_lt, element_number, eq-eqb, ext_get_or, fold}
+use Rattle.catalogue_statements.proofs.Common.{get_or-set_other, get_or-set_same, length-set, map-append, ne_eqb}
+use Rattle.catalogue_statements.proofs.Common.{numbered_texts, texts_from}
 use Rattle.catalogue_statements.proofs.CellReads.{number_rises}
 
 -- the text at a place, where more cells tell of it
@@ -41,9 +45,9 @@ each_told k (suc i) (Some t ∷ texts) =
     ap (λ (b : Bool). fold (told_at (k + suc i)) (if b then Some t else None) (map (λ (t : ℕ × Bytes). (let c : ℕ × Bytes = (element_number t.0, t.1) in c)) (texts_from (k + 1) texts))) (other_number (k + suc i) k (λ e. omega (arith, e)))
     ∙ (ap (λ p. fold (told_at p) None (map (λ (t : ℕ × Bytes). (let c : ℕ × Bytes = (element_number t.0, t.1) in c)) (texts_from (k + 1) texts))) {x = k + suc i} {y = k + 1 + i} (omega arith) ∙ each_told (k + 1) i texts)
 
-texts_told : (values : Values) (place : ℕ) → text_told place (element_cells values) ≡ get_or values.texts place None
+texts_told : (values : Values) (place : ℕ) → text_told place (numbered_texts values) ≡ get_or values.texts place None
 texts_told values place =
-    ap (λ p. text_told p (element_cells values)) {x = place} {y = 0 + place} (omega arith) ∙ each_told 0 place values.texts
+    ap (λ p. text_told p (numbered_texts values)) {x = place} {y = 0 + place} (omega arith) ∙ each_told 0 place values.texts
 
 -- ---- one after another
 
@@ -86,7 +90,7 @@ one_told texts elements e place low is at = record {
         ∙ sym (told_more i elements e ∙ ap (λ b. if b then Some e.value else text_told i (map cell_of elements)) (ap (nat_eq (element_number i)) is ∙ other_number i place differs))
 
 pub all_told : (texts : List (Option Bytes)) (elements : List Element) (values : Values) → length values.texts ≡ 25
-    → map cell_of elements ≡ element_cells values → AreTold texts elements → texts ≡ values.texts
+    → map cell_of elements ≡ numbered_texts values → AreTold texts elements → texts ≡ values.texts
 all_told texts elements values long are at =
     ext_get_or None texts values.texts (at.long ∙ sym long)
     (λ i within. at.each i (subst (λ n. i < n) at.long within) ∙ ap (text_told i) are ∙ texts_told values i)

@@ -1,12 +1,13 @@
 -- DELETE of a unit, with its elements, its housings and the permits for it.
-use Rattle.office_tables.specs.Schema as tables
-use Rattle.std.proofs.Common.{◌≡◌, inl, inr, ℕ, zero, suc, arith, length, length-append, ℤ, pos, List, [], ◌∷◌, map, filter, find, codes, Bool, true, false, ◌&&◌, ◌||◌, not, cond, Some, None, unwrap_or, Ok, nat_eq, refl, sym, ap, ap₂, subst, ◌∙◌}
+use Rattle.std.proofs.Common.{◌≡◌, inl, inr, ℕ, zero, suc, arith, length, length-append, ℤ, pos, List, [], ◌∷◌, map}
+use Rattle.std.proofs.Common.{filter, find, codes, Bool, true, false, ◌&&◌, ◌||◌, not, cond, Some, None, unwrap_or, Ok}
+use Rattle.std.proofs.Common.{nat_eq, refl, sym, ap, ap₂, subst, ◌∙◌}
 use Rattle.std.specs.declared.cmp.Ordering.TheVariants.{Less}
-use Rattle.sqlite.specs.Ops.{binary}
 use Rattle.sqlite.specs.Command.TheVariants as command
 use Rattle.sqlite.specs.Listing.{understood}
-use Rattle.sqlite.specs.declared.run.Mode.{Mode}
+use Rattle.sqlite.specs.Ops.{binary}
 use Rattle.sqlite.specs.State.{Writes}
+use Rattle.sqlite.specs.declared.run.Mode.{Mode}
 use Rattle.sqlite_rules.specs.Action.{works, Work, pairs, loses, Settles, is_child_of}
 use Rattle.sqlite_rules.specs.Calls.{ids_of}
 use Rattle.sqlite_rules.specs.declared.action.Deed.TheVariants.{Delete}
@@ -17,7 +18,17 @@ use Rattle.sqlite_value.specs.Keys.{joined, first_key}
 use Rattle.office_tables.proofs.Cascades.{IsCascade, three_works, cascade_rows, cascade_apart}
 use Rattle.office_tables.proofs.Rows.{tests as tests_of}
 use Rattle.office_tables.proofs.Updates.{deletes_rows}
-use Rattle.catalogue_statements.proofs.Common.{AllByRecursion, Answers, AreRemoved, Binary, Command, Compare, Database, DeletedWith, ElementRow, Eq, Executes, Given, HasNumbered, HousingRow, Int, IsPermutation, IsPlain, Null, OnlyTouches, PermitRow, Program, Rises, Row, State, Table, Trees, Unit, Version, by_number, cases_Bool, choosing, chosen, col, column, command_of, deleted_with, edit_of, element, element_row, eq-eqb, eqb-true, has_rowid, housing, housing_row, is_true, list_any, mode_of, one_permutation, only, op2, permit, permit_alone, permit_cells, plain, row_at, runs_as, same_nat, same_number, schema, statement_of, taken_by, those_left, to_unit, touched, touched_then, touched_wider, unit, unit_row, unit_tables, without}
+use Rattle.office_tables.specs.Schema as tables
+use Rattle.catalogue_statements.proofs.Common.{AllByRecursion, Answers, AreRemoved, Binary, Command, Compare, Database}
+use Rattle.catalogue_statements.proofs.Common.{DeletedWith, ElementRow, Eq, Executes, Given, HasNumbered, HousingRow}
+use Rattle.catalogue_statements.proofs.Common.{Int, IsPermutation, IsPlain, Null, OnlyTouches, PermitRow, Program}
+use Rattle.catalogue_statements.proofs.Common.{Rises, Row, State, Table, Trees, Unit, Version, by_number, cases_Bool}
+use Rattle.catalogue_statements.proofs.Common.{cells_of_unit, choosing, chosen, col, column, command_of, deleted_with}
+use Rattle.catalogue_statements.proofs.Common.{edit_of, element, element_row, eq-eqb, eqb-true, has_rowid, housing}
+use Rattle.catalogue_statements.proofs.Common.{housing_row, is_true, list_any, mode_of, one_permutation, only, op2}
+use Rattle.catalogue_statements.proofs.Common.{permit, permit_alone, permit_cells, plain, row_at, runs_as, same_nat}
+use Rattle.catalogue_statements.proofs.Common.{same_number, schema, statement_of, taken_by, those_left, to_unit}
+use Rattle.catalogue_statements.proofs.Common.{touched, touched_then, touched_wider, unit, unit_tables, without_records}
 use Rattle.catalogue_statements.proofs.ElementStatements.{element_alone}
 use Rattle.catalogue_statements.proofs.HousingStatements.{housing_alone}
 use Rattle.catalogue_statements.proofs.Moves.{other_number}
@@ -43,18 +54,18 @@ remove_unit_plain v = (refl, refl)
 -- ---- the work on the children of a unit, which tell it at a place
 
 abbrev work_on : Table → ℕ → Unit → Work
-work_on child place u = record { depth = 0; child = child; ref = to_unit place; places = 0 ∷ []; order = plain; deed = Delete; moves = (unit_row u, []) ∷ [] }
+work_on child place u = record { depth = 0; child = child; ref = to_unit place; places = 0 ∷ []; order = plain; deed = Delete; moves = (cells_of_unit u, []) ∷ [] }
 
 no_null : (n : ℤ) → is_true (binary (Compare Eq Binary) (Int n) Null) ≡ false
 unfolding binary
 no_null n = refl
 
-lost : (u : Unit) → loses plain (0 ∷ []) (unit_row u, []) ≡ true
+lost : (u : Unit) → loses plain (0 ∷ []) (cells_of_unit u, []) ≡ true
 unfolding first_key
 lost u = ap₂ (λ a b. (a && true) && not (b && true)) (same_number u.id u.id ∙ eq-eqb u.id u.id refl) (no_null (pos u.id))
 
 works_are : (v : Version) (u : Unit)
-    → works (schema v) Enforced 0 tables.unit.tree (unit_row u ∷ []) [] ≡ work_on permit 2 u ∷ work_on element 1 u ∷ work_on housing 1 u ∷ []
+    → works (schema v) Enforced 0 tables.unit.tree (cells_of_unit u ∷ []) [] ≡ work_on permit 2 u ∷ work_on element 1 u ∷ work_on housing 1 u ∷ []
 unfolding joined same_name
 works_are v u = rw (lost u) refl
 
@@ -109,36 +120,36 @@ strict = record { keys = Enforced; in_doubt = false; may_wait = false }
 
 -- the statement shows the numbers of the units that have this one
 pub shown_units : (old : Database) (id : ℕ) (rows : List Row) → Answers old remove_unit_program (Int (pos id) ∷ []) rows
-    → (xs : List Unit) → old.trees tables.unit.tree ≡ map unit_row xs
+    → (xs : List Unit) → old.trees tables.unit.tree ≡ map cells_of_unit xs
     → (ys : List Unit) × IsPermutation (filter (keep id) xs) ys × (rows ≡ map (λ (x : Unit). Int (pos x.id) ∷ []) ys)
 shown_units old id rows answer xs from =
-    chosen tables.unit.tree (op2 (Compare Eq Binary) (col 1 0) (col 0 0) ∷ []) (col 1 0 ∷ []) old.trees (Int (pos id) ∷ []) unit_row (λ (x : Unit). Int (pos x.id) ∷ []) xs (keep id) from
+    chosen tables.unit.tree (op2 (Compare Eq Binary) (col 1 0) (col 0 0) ∷ []) (col 1 0 ∷ []) old.trees (Int (pos id) ∷ []) cells_of_unit (λ (x : Unit). Int (pos x.id) ∷ []) xs (keep id) from
     (λ x. only (same_number x.id id)) (λ _. refl) rows (answer.answer Null)
 
-module _ (old new : Database) (id : ℕ) (units : List Unit) (u : Unit) (v : Version) (stored : old.trees tables.unit.tree ≡ map unit_row units) (up : Rises by_number units)
+module _ (old new : Database) (id : ℕ) (units : List Unit) (u : Unit) (v : Version) (stored : old.trees tables.unit.tree ≡ map cells_of_unit units) (up : Rises by_number units)
     (id_is : u.id ≡ id) (there : filter (keep id) units ≡ u ∷ []) (it : DeletedWith (schema v) 8 unit refl strict (Int (pos id) ∷ []) remove_unit_program old new) where
-  got : (xs : List Unit) → old.trees tables.unit.tree ≡ map unit_row xs
+  got : (xs : List Unit) → old.trees tables.unit.tree ≡ map cells_of_unit xs
       → (ys : List Unit) × IsPermutation (filter (keep id) xs) ys × (it.rows ≡ map (λ (x : Unit). Int (pos x.id) ∷ []) ys)
   got = shown_units old id it.rows it.answer
 
-  units_left : (xs : List Unit) → old.trees tables.unit.tree ≡ map unit_row xs → Rises by_number xs
-      → it.next tables.unit.tree ≡ map unit_row (without (λ (x : Unit). x.id) (id ∷ []) xs)
+  units_left : (xs : List Unit) → old.trees tables.unit.tree ≡ map cells_of_unit xs → Rises by_number xs
+      → it.next tables.unit.tree ≡ map cells_of_unit (without_records (λ (x : Unit). x.id) (id ∷ []) xs)
   units_left xs from rise =
       let found = got xs from in
-      it.applies.rows ∙ deletes_rows unit unit_row (λ x. pos x.id) (λ _. refl) old.trees xs from rise (keep id) found.0 found.1 (λ (x : Unit). Int (pos x.id) ∷ []) (λ _. refl) it.rows found.2
-      ∙ ap (map unit_row) (without_one (λ (x : Unit). x.id) id xs)
+      it.applies.rows ∙ deletes_rows unit cells_of_unit (λ x. pos x.id) (λ _. refl) old.trees xs from rise (keep id) found.0 found.1 (λ (x : Unit). Int (pos x.id) ∷ []) (λ _. refl) it.rows found.2
+      ∙ ap (map cells_of_unit) (without_one (λ (x : Unit). x.id) id xs)
 
   ids : ids_of it.rows ≡ pos u.id ∷ []
   ids = let found = got units stored in ap ids_of (found.2 ∙ ap (map (λ (x : Unit). Int (pos x.id) ∷ [])) (one_permutation u found.0 (subst (λ l. IsPermutation l found.0) there found.1)))
 
-  same_row : (x : Unit) → has_rowid (pos u.id) (unit_row x) ≡ keep u.id x
-  same_row x = tests_of unit_row (λ x. pos x.id) (λ _. refl) (pos u.id) x ∙ same_nat x.id u.id
+  same_row : (x : Unit) → has_rowid (pos u.id) (cells_of_unit x) ≡ keep u.id x
+  same_row x = tests_of cells_of_unit (λ x. pos x.id) (λ _. refl) (pos u.id) x ∙ same_nat x.id u.id
 
-  taken : taken_by old.trees (edit_of old.trees unit (ids_of it.rows) Given 0 []) ≡ unit_row u ∷ []
+  taken : taken_by old.trees (edit_of old.trees unit (ids_of it.rows) Given 0 []) ≡ cells_of_unit u ∷ []
   taken =
       ap (map (row_at (old.trees tables.unit.tree))) ids
       ∙ ap (λ rows. row_at rows (pos u.id) ∷ []) stored
-      ∙ ap (λ o. unwrap_or o [] ∷ []) (found_one unit_row (has_rowid (pos u.id)) (keep u.id) same_row units u (ap (λ n. filter (keep n) units) id_is ∙ there))
+      ∙ ap (λ o. unwrap_or o [] ∷ []) (found_one cells_of_unit (has_rowid (pos u.id)) (keep u.id) same_row units u (ap (λ n. filter (keep n) units) id_is ∙ there))
 
   cascade : (first : Trees) × (second : Trees) × IsCascade (schema v) Enforced (work_on housing 1 u) it.next first × IsCascade (schema v) Enforced (work_on element 1 u) first second × IsCascade (schema v) Enforced (work_on permit 2 u) second new.trees
   cascade = three_works (schema v) Enforced it.next new.trees (work_on permit 2 u) (work_on element 1 u) (work_on housing 1 u) (permit_alone v) (element_alone v) (housing_alone v)
@@ -163,7 +174,7 @@ module _ (old new : Database) (id : ℕ) (units : List Unit) (u : Unit) (v : Ver
   to_new = touched v (record old { trees = second }) new tables.permit.tree (cascade_apart (schema v) Enforced (work_on permit 2 u) second new.trees cascade.4)
 
   same_test_as : {A : Type 0} (number : A → ℕ) (xs : List A)
-      → filter (λ x. not (nat_eq u.id (number x))) xs ≡ without number (id ∷ []) xs
+      → filter (λ x. not (nat_eq u.id (number x))) xs ≡ without_records number (id ∷ []) xs
   same_test_as number xs = ap (λ n. filter (λ x. not (nat_eq n (number x))) xs) id_is ∙ without_one number id xs
 
   -- the unit is gone, with all that tells of it

@@ -1,42 +1,56 @@
 -- Why the DELETE of a unit fails: what tells of the unit goes with it, and each other row keeps its unit.
-use Rattle.std.proofs.Common.{ℤ, ◌≡◌, ◌≢◌, ◌||◌, ◌&&◌, inl, inr, ℕ, pos, List, [], ◌∷◌, map, filter, length, nat_eq, true, false, Ok, Err, None, Some, refl, sym, ap, ap₂, subst, ◌∙◌, arith}
-use Rattle.sqlite.specs.declared.error.Error.{Error}
+use Rattle.std.proofs.Common.{ℤ, ◌≡◌, ◌≢◌, ◌||◌, ◌&&◌, inl, inr, ℕ, pos, List, [], ◌∷◌, map, filter, length, nat_eq}
+use Rattle.std.proofs.Common.{true, false, Ok, Err, None, Some, refl, sym, ap, ap₂, subst, ◌∙◌, arith}
 use Rattle.sqlite.specs.Listing.{understood}
 use Rattle.sqlite.specs.Ops.{binary}
+use Rattle.sqlite.specs.declared.error.Error.{Error}
+use Rattle.sqlite_rules.proofs.ActionLemmas.{no_works}
+use Rattle.sqlite_rules.proofs.RuleLemmas.{refers_same}
+use Rattle.sqlite_rules.specs.Action.{Writes, loses, pairs, works}
+use Rattle.sqlite_rules.specs.Calls.{ids_of}
+use Rattle.sqlite_rules.specs.declared.action.Deed.TheVariants.{Delete}
 use Rattle.sqlite_schema.specs.Names.{same_name}
 use Rattle.sqlite_schema.specs.declared.schema.Among.TheVariants.{All}
 use Rattle.sqlite_schema.specs.declared.schema.Constraint.TheVariants.{ForeignKey}
 use Rattle.sqlite_schema.specs.declared.schema.Keys.TheVariants.{Enforced}
-use Rattle.sqlite_rules.specs.Action.{Writes, loses, pairs, works}
-use Rattle.sqlite_rules.specs.Calls.{ids_of}
-use Rattle.sqlite_rules.specs.declared.action.Deed.TheVariants.{Delete}
-use Rattle.sqlite_rules.proofs.ActionLemmas.{no_works}
-use Rattle.sqlite_rules.proofs.RuleLemmas.{refers_same}
 use Rattle.sqlite_tied.specs.Compute.{everything}
 use Rattle.sqlite_value.specs.Keys.{joined, first_key}
-use Rattle.office_tables.specs.Schema as tables
 use Rattle.office_tables.proofs.DeleteCauses.{IsLeaf, delete_cause}
-use Rattle.catalogue_statements.proofs.Common.{AllByRecursion, Answers, AreRemoved, Binary, Compare, Database, DeletedWith, ElementRow, Eq, Executes, First, Given, HasCause, HasNumbered, HousingRow, Int, IsLive, IsTold, IsUnlimited, Keeps, Means, Obeys, PermitRow, Refers, RefusesQuery, Row, Second, State, Table, Trees, Unit, Version, agree, all-map, all_from_map, all_has, all_numbered, all_of, all_told, all_weaker, and_parts, ascending-filter, cases_Bool, cases_eq, column, edit_of, element, element_row, encoding, fault_of, has_parent, housing, housing_row, is_held, is_null, is_referred_to, is_true, le_refl, length_permutation, list_all, list_any, list_any-map, none_refuse, one_step, only, parent_key, permit, permit_alone, permit_cells, permit_fits, place_table, plain, references_fit, same_number, schema, sums_nothing, to_unit, unit, unit_row, without, wrote}
+use Rattle.office_tables.specs.Schema as tables
+use Rattle.catalogue_statements.proofs.Common.{AllByRecursion, Answers, AreRemoved, Binary, Compare, Database}
+use Rattle.catalogue_statements.proofs.Common.{DeletedWith, ElementRow, Eq, Executes, First, Given, HasCause}
+use Rattle.catalogue_statements.proofs.Common.{HasNumbered, HasUnitTables, HousingRow, Int, IsLive, IsUnlimited, Keeps}
+use Rattle.catalogue_statements.proofs.Common.{Means, Obeys, PermitRow, Refers, RefusesQuery, Row, Second, State, Table}
+use Rattle.catalogue_statements.proofs.Common.{Trees, Unit, Version, agree, all-map, all_from_map, all_has}
+use Rattle.catalogue_statements.proofs.Common.{all_numbered, all_of, all_told, all_weaker, and_parts, ascending-filter}
+use Rattle.catalogue_statements.proofs.Common.{cases_Bool, cases_eq, cells_of_unit, column, edit_of, element}
+use Rattle.catalogue_statements.proofs.Common.{element_row, encoding, fault_of, has_parent, housing, housing_row}
+use Rattle.catalogue_statements.proofs.Common.{is_held, is_null, is_referred_to, is_true, le_refl, length_permutation}
+use Rattle.catalogue_statements.proofs.Common.{list_all, list_any, list_any-map, none_refuse, one_step, only}
+use Rattle.catalogue_statements.proofs.Common.{parent_key, permit, permit_alone, permit_cells, permit_fits, place_table}
+use Rattle.catalogue_statements.proofs.Common.{plain, references_fit, same_number, schema, sums_nothing, to_unit, unit}
+use Rattle.catalogue_statements.proofs.Common.{without_records, wrote}
 use Rattle.catalogue_statements.proofs.ElementStatements.{element_alone, element_fits}
 use Rattle.catalogue_statements.proofs.HousingStatements.{housing_alone, housing_fits}
 use Rattle.catalogue_statements.proofs.FoundUnits.{none_left, empty}
 use Rattle.catalogue_statements.proofs.Moves.{id_of}
 use Rattle.catalogue_statements.proofs.Removals.{all_kept, still_listed}
-use Rattle.catalogue_statements.proofs.UnitDeletes.{keep, remove_unit_text, remove_unit_program, remove_unit_command, remove_unit_removes, shown_units, strict, the_one}
+use Rattle.catalogue_statements.proofs.UnitDeletes.{keep, remove_unit_text, remove_unit_program, remove_unit_command}
+use Rattle.catalogue_statements.proofs.UnitDeletes.{remove_unit_removes, shown_units, strict, the_one}
 
 -- ---- the tables after some units are gone
 
 -- the tables tell of the units that are left
-pub told_after : (gone : List ℕ) (old new : Database) → IsTold old.trees → AreRemoved gone old new → IsTold new.trees
+pub told_after : (gone : List ℕ) (old new : Database) → HasUnitTables old.trees → AreRemoved gone old new → HasUnitTables new.trees
 told_after gone old new told removed = record {
-  units = without id_of gone told.units;
+  units = without_records id_of gone told.units;
   unit_rows = removed.units told.units told.unit_rows told.units_rise;
   units_rise = ascending-filter _ _ told.units told.units_rise;
-  elements = without (λ (e : ElementRow). e.unit) gone told.elements;
+  elements = without_records (λ (e : ElementRow). e.unit) gone told.elements;
   element_rows = removed.elements told.elements told.element_rows;
-  housings = without (λ (h : HousingRow). h.unit) gone told.housings;
+  housings = without_records (λ (h : HousingRow). h.unit) gone told.housings;
   housing_rows = removed.housings told.housings told.housing_rows;
-  permits = without (λ (p : PermitRow). p.unit) gone told.permits;
+  permits = without_records (λ (p : PermitRow). p.unit) gone told.permits;
   permit_rows = removed.permits told.permits told.permit_rows;
 }
 
@@ -47,25 +61,25 @@ unit_key v place = refl
 
 module _ (v : Version) (place : ℕ) where
   -- a row that tells a number has a parent where a unit has that number
-  parent_of : (db : Trees) (units : List Unit) → db tables.unit.tree ≡ map unit_row units → (r : Row) (n : ℕ)
+  parent_of : (db : Trees) (units : List Unit) → db tables.unit.tree ≡ map cells_of_unit units → (r : Row) (n : ℕ)
       → column r place ≡ Int (pos n)
       → has_parent (schema v).tables db r (to_unit place) ≡ list_any (λ (u : Unit). nat_eq n u.id) units
   unfolding first_key
   parent_of db units stored r n is =
-      let same : (u : Unit) → agree plain (0 ∷ []) (unit_row u) (place ∷ []) r ≡ nat_eq n u.id =
+      let same : (u : Unit) → agree plain (0 ∷ []) (cells_of_unit u) (place ∷ []) r ≡ nat_eq n u.id =
       λ u. ap (λ x. is_true (binary (Compare Eq Binary) (Int (pos u.id)) x) && true) is ∙ only (same_number u.id n) in
       ap₂ ◌||◌ (ap (λ x. is_null x || false) is) (ap (is_held db (place ∷ []) r) (unit_key v place)
       ∙ ap (list_any (λ parent. agree plain (0 ∷ []) parent (place ∷ []) r)) stored
-      ∙ list_any-map (λ parent. agree plain (0 ∷ []) parent (place ∷ []) r) unit_row units
+      ∙ list_any-map (λ parent. agree plain (0 ∷ []) parent (place ∷ []) r) cells_of_unit units
       ∙ (λ i. list_any (λ u. same u i) units))
 
   -- where all rows had their units before, those that are left have them still
   children_left : {R : Type 0} (cells : ℤ × R → Row) (number : R → ℕ)
       → ((x : ℤ × R) → column (cells x) place ≡ Int (pos (number x.1)))
       → (gone : List ℕ) (old new : Trees) (units : List Unit)
-      → old tables.unit.tree ≡ map unit_row units → new tables.unit.tree ≡ map unit_row (without id_of gone units)
+      → old tables.unit.tree ≡ map cells_of_unit units → new tables.unit.tree ≡ map cells_of_unit (without_records id_of gone units)
       → (tree : ℕ) (xs : List R) → HasNumbered cells (old tree) xs
-      → HasNumbered cells (new tree) (without number gone xs)
+      → HasNumbered cells (new tree) (without_records number gone xs)
       → AllByRecursion (λ r. (has_parent (schema v).tables old r (to_unit place) && true) ≡ true) (old tree)
       → AllByRecursion (λ r. (has_parent (schema v).tables new r (to_unit place) && true) ≡ true) (new tree)
   children_left {R} cells number answers gone old new units was now tree xs before after all =
@@ -75,14 +89,14 @@ module _ (v : Version) (place : ℕ) where
       let those : AllByRecursion (named units) xs = all_told cells (old tree) xs before (named units)
       (all_weaker (λ x. P (cells x)) (λ x. named units x.1) (λ x h. sym (parent_of old units was (cells x) (number x.1) (answers x)) ∙ (and_parts _ _ h).0) before.numbered
       (all_from_map P cells before.numbered (subst (AllByRecursion P) before.are all))) in
-      let left : AllByRecursion (named (without id_of gone units)) (without number gone xs) =
-      all_kept (named units) (named (without id_of gone units)) (λ x. list_any (nat_eq (number x)) gone) xs (λ x apart h. still_listed (number x) gone units apart h) those in
+      let left : AllByRecursion (named (without_records id_of gone units)) (without_records number gone xs) =
+      all_kept (named units) (named (without_records id_of gone units)) (λ x. list_any (nat_eq (number x)) gone) xs (λ x apart h. still_listed (number x) gone units apart h) those in
       subst (AllByRecursion Q) (sym after.are) (all-map Q cells after.numbered
-      (all_weaker (λ (x : ℤ × R). named (without id_of gone units) x.1) (λ x. Q (cells x)) (λ x h. ap (λ b. b && true) (parent_of new (without id_of gone units) now (cells x) (number x.1) (answers x) ∙ h)) after.numbered
-      (all_numbered cells (new tree) (without number gone xs) after (named (without id_of gone units)) left)))
+      (all_weaker (λ (x : ℤ × R). named (without_records id_of gone units) x.1) (λ x. Q (cells x)) (λ x h. ap (λ b. b && true) (parent_of new (without_records id_of gone units) now (cells x) (number x.1) (answers x) ∙ h)) after.numbered
+      (all_numbered cells (new tree) (without_records number gone xs) after (named (without_records id_of gone units)) left)))
 
 -- each row that is left has its parents
-parents_left : (v : Version) (old new : Database) (gone : List ℕ) → IsTold old.trees
+parents_left : (v : Version) (old new : Database) (gone : List ℕ) → HasUnitTables old.trees
     → Keeps ForeignKey (schema v) old.trees → AreRemoved gone old new → Refers All (schema v) new.trees
 parents_left v old new gone told keeps removed =
     let now = removed.units told.units told.unit_rows told.units_rise in (
@@ -162,7 +176,7 @@ unit_leaves Second olds = elim (cases_Bool (list_any (loses plain (0 ∷ [])) (p
   | inr none ↦ rw none tt
 ]
 
-module _ (v : Version) (db : Trees) (id : ℕ) (told : IsTold db) (rows : List Row) (answer : Answers (record { schema = schema v; trees = db }) remove_unit_program (Int (pos id) ∷ []) rows) (obeys : Obeys (schema v) db) (after : Trees) where
+module _ (v : Version) (db : Trees) (id : ℕ) (told : HasUnitTables db) (rows : List Row) (answer : Answers (record { schema = schema v; trees = db }) remove_unit_program (Int (pos id) ∷ []) rows) (obeys : Obeys (schema v) db) (after : Trees) where
   abbrev before : Database
   before = record { schema = schema v; trees = db }
 
@@ -195,7 +209,7 @@ module _ (v : Version) (db : Trees) (id : ℕ) (told : IsTold db) (rows : List R
         nothing_gone (found.2 ∙ ap (map (λ (x : Unit). Int (pos x.id) ∷ [])) ys) writes
   ]
 
-pub remove_unit_cause : (old new : State) (id : ℕ) (v : Version) → old.now.schema ≡ schema v → IsTold old.now.trees
+pub remove_unit_cause : (old new : State) (id : ℕ) (v : Version) → old.now.schema ≡ schema v → HasUnitTables old.now.trees
     → IsLive old → IsUnlimited old → (e : Error) → Executes remove_unit_text (Int (pos id) ∷ []) old new (Err e)
     → HasCause old new (fault_of e)
 remove_unit_cause old new id v has told =

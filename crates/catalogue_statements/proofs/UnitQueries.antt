@@ -1,13 +1,20 @@
 -- The queries of the units' rows: what their texts mean, what they tell, and why they fail.
-use Rattle.std.proofs.Common.{◌≡◌, ℕ, ℤ, pos, List, [], ◌∷◌, map, filter, codes, true, Result, IfOk, IfErr, nat_eq, refl, arith, SFits}
+use Rattle.std.proofs.Common.{◌≡◌, ℕ, ℤ, pos, List, [], ◌∷◌, map, filter, codes, true, Result, IfOk, IfErr, nat_eq}
+use Rattle.std.proofs.Common.{refl, arith, SFits}
 use Rattle.std.proofs.lemmas.Int.{ints}
 use Rattle.std.proofs.lemmas.Option.{IfSome_then}
 use Rattle.std.specs.Int.{w32}
-use Rattle.isad_core.specs.Days.{is_day_number}
 use Rattle.sqlite.specs.Listing.{understood}
 use Rattle.sqlite_tied.specs.Compute.{everything}
+use Rattle.isad_core.specs.Days.{is_day_number}
 use Rattle.office_tables.specs.Schema as tables
-use Rattle.catalogue_statements.proofs.Common.{AllByRecursion, Binary, Bytes, Command, Compare, Eq, Finds, HasCause, Holds, IfSome, Int, IsLegibleUnit, IsOrdered, IsTotalOrder, IsUnlimited, Key, Means, Misses, Row, Select, State, StoreFault, Term, Text, Unit, Version, accepts_program, ascending, asking, both, by_number, by_one_int, col, end, eval_all, inner, int_cmp_total, is_from, le_refl, on_total, only, op2, plain_query, same_bytes, same_number, schema, select_faults, select_finds, unit, unit_row}
+use Rattle.catalogue_statements.proofs.Common.{AllByRecursion, Binary, Bytes, Command, Compare, Eq, Finds, HasCause}
+use Rattle.catalogue_statements.proofs.Common.{Holds, IfSome, Int, IsLegibleUnit, IsOrdered, IsTotalOrder, IsUnlimited}
+use Rattle.catalogue_statements.proofs.Common.{Key, Means, Misses, Row, Select, State, StoreFault, Term, Text, Unit}
+use Rattle.catalogue_statements.proofs.Common.{Version, accepts_program, ascending, asking, both, by_number, by_one_int}
+use Rattle.catalogue_statements.proofs.Common.{cells_of_unit, col, end, eval_all, inner, int_cmp_total, is_from}
+use Rattle.catalogue_statements.proofs.Common.{le_refl, on_total, only, op2, plain_query, same_bytes, same_number}
+use Rattle.catalogue_statements.proofs.Common.{schema, select_faults, select_finds, unit}
 use Rattle.catalogue_statements.proofs.UnitWrites.{with_its_number}
 
 pub by_number_total : IsTotalOrder by_number
@@ -31,11 +38,11 @@ pub from_means : (v : Version) → Means v from_text 2 from_command
 unfolding understood everything
 from_means v = record { is = refl; plain = (refl, refl); whole = (le_refl _, refl, refl); unlisted = refl }
 
-module _ (old new : State) (source legacy : Bytes) (v : Version) (has : old.now.schema ≡ schema v) (xs : List Unit) (stored : Holds unit unit_row old xs) {X : Type 0} (items : X → List ℕ) (r : Result X StoreFault) where
+module _ (old new : State) (source legacy : Bytes) (v : Version) (has : old.now.schema ≡ schema v) (xs : List Unit) (stored : Holds unit cells_of_unit old xs) {X : Type 0} (items : X → List ℕ) (r : Result X StoreFault) where
   pub from_finds : IfOk r (λ found. Finds (λ n. Int (pos n) ∷ []) from_text (Text source ∷ Text legacy ∷ []) old new (items found))
       → IfOk r (λ found. (ys : List Unit) × IsOrdered by_number (filter (is_from source legacy) xs) ys × (items found ≡ map (λ (u : Unit). u.id) ys))
   from_finds =
-      select_finds v unit from_text from_there (col 1 0 ∷ []) in_order (codes "id" ∷ []) (Text source ∷ Text legacy ∷ []) (from_means v) old new has unit_row xs stored
+      select_finds v unit from_text from_there (col 1 0 ∷ []) in_order (codes "id" ∷ []) (Text source ∷ Text legacy ∷ []) (from_means v) old new has cells_of_unit xs stored
       (is_from source legacy) (λ u. both (same_bytes u.source source) (same_bytes u.legacy legacy)) (λ u. Int (pos u.id) ∷ []) (λ (u : Unit). Int (pos u.id) ∷ []) (λ _. refl) by_number (λ _. refl) (λ a b. by_one_int (pos a.id) (pos b.id))
       (λ n. Int (pos n) ∷ []) items (λ (u : Unit). u.id) (λ _. refl) r
 
@@ -43,7 +50,7 @@ module _ (old new : State) (source legacy : Bytes) (v : Version) (has : old.now.
       → IfErr r (Misses (λ n. Int (pos n) ∷ []) IsLegible from_text (Text source ∷ Text legacy ∷ []) old new)
       → IfErr r (HasCause old new)
   from_faults IsLegible legible free =
-      select_faults v unit from_text from_there (col 1 0 ∷ []) in_order (codes "id" ∷ []) (Text source ∷ Text legacy ∷ []) (from_means v) old new has unit_row xs stored
+      select_faults v unit from_text from_there (col 1 0 ∷ []) in_order (codes "id" ∷ []) (Text source ∷ Text legacy ∷ []) (from_means v) old new has cells_of_unit xs stored
       (is_from source legacy) (λ u. both (same_bytes u.source source) (same_bytes u.legacy legacy)) (λ u. Int (pos u.id) ∷ []) (λ (u : Unit). Int (pos u.id) ∷ []) (λ _. refl) by_number (λ _. refl) (λ a b. by_one_int (pos a.id) (pos b.id))
       (λ n. Int (pos n) ∷ []) items (λ (u : Unit). u.id) (λ _. refl) IsLegible refl free legible r
 
@@ -51,11 +58,11 @@ module _ (old new : State) (source legacy : Bytes) (v : Version) (has : old.now.
 
 -- a SELECT of some columns of the unit with this number
 module _ (old new : State) (id : ℕ) (v : Version) (has : old.now.schema ≡ schema v) (sql : List ℕ) (project : List Term) (names : List (List ℕ)) (means : Means v sql 1 (Select (asking unit with_its_number project in_order) names))
-    (xs : List Unit) (stored : Holds unit unit_row old xs) {T X : Type 0} (cells : T → Row) (items : X → List T) (tell : Unit → T) (answers : (u : Unit) → eval_all project ((Int (pos id) ∷ []) ∷ unit_row u ∷ []) ≡ cells (tell u)) (r : Result X StoreFault) where
+    (xs : List Unit) (stored : Holds unit cells_of_unit old xs) {T X : Type 0} (cells : T → Row) (items : X → List T) (tell : Unit → T) (answers : (u : Unit) → eval_all project ((Int (pos id) ∷ []) ∷ cells_of_unit u ∷ []) ≡ cells (tell u)) (r : Result X StoreFault) where
   pub numbered_finds : IfOk r (λ found. Finds cells sql (Int (pos id) ∷ []) old new (items found))
       → IfOk r (λ found. (ys : List Unit) × IsOrdered by_number (filter (λ (u : Unit). nat_eq id u.id) xs) ys × (items found ≡ map tell ys))
   numbered_finds =
-      select_finds v unit sql with_its_number project in_order names (Int (pos id) ∷ []) means old new has unit_row xs stored
+      select_finds v unit sql with_its_number project in_order names (Int (pos id) ∷ []) means old new has cells_of_unit xs stored
       (λ (u : Unit). nat_eq id u.id) (λ u. only (same_number u.id id)) (λ u. cells (tell u)) (λ (u : Unit). Int (pos u.id) ∷ []) answers by_number (λ _. refl) (λ a b. by_one_int (pos a.id) (pos b.id))
       cells items tell (λ _. refl) r
 
@@ -64,7 +71,7 @@ module _ (old new : State) (id : ℕ) (v : Version) (has : old.now.schema ≡ sc
       → AllByRecursion (λ u. IsLegible (tell u)) xs → IsUnlimited old
       → IfErr r (Misses cells IsLegible sql (Int (pos id) ∷ []) old new) → IfErr r (HasCause old new)
   numbered_faults IsLegible accepted legible free =
-      select_faults v unit sql with_its_number project in_order names (Int (pos id) ∷ []) means old new has unit_row xs stored
+      select_faults v unit sql with_its_number project in_order names (Int (pos id) ∷ []) means old new has cells_of_unit xs stored
       (λ (u : Unit). nat_eq id u.id) (λ u. only (same_number u.id id)) (λ u. cells (tell u)) (λ (u : Unit). Int (pos u.id) ∷ []) answers by_number (λ _. refl) (λ a b. by_one_int (pos a.id) (pos b.id))
       cells items tell (λ _. refl) IsLegible accepted free legible r
 

@@ -1,14 +1,26 @@
 -- Units of which something is told for the first time: their rows leave room for one more text or container.
-use Rattle.std.proofs.Common.{◌≡◌, ℕ, ℤ, pos, suc, ◌+◌, ◌<◌, ◌≤◌, Less, Equal, Greater, if◌then◌else◌, Bool, true, false, not, cond, nat_eq, List, [], ◌∷◌, ◌++◌, length, map, take, drop, get_or, filter, Option, Some, None, refl, sym, ap, subst, ◌∙◌, arith, inl, inr, length-append, length-take-le}
-use Rattle.std.specs.Prelude.{◌&&◌, option_map, unwrap_or}
+use Rattle.std.proofs.Common.{◌≡◌, ℕ, ℤ, pos, suc, ◌+◌, ◌<◌, ◌≤◌, Less, Equal, Greater, if◌then◌else◌, Bool, true}
+use Rattle.std.proofs.Common.{false, not, cond, nat_eq, List, [], ◌∷◌, ◌++◌, length, map, take, drop, get_or, filter}
+use Rattle.std.proofs.Common.{Option, Some, None, refl, sym, ap, subst, ◌∙◌, arith, inl, inr, length-append}
+use Rattle.std.proofs.Common.{length-take-le}
 use Rattle.std.proofs.Math.Seq.{split_at}
-use Rattle.std.proofs.lemmas.List.Sums.{length-filter, count_by-le-length}
 use Rattle.std.proofs.lemmas.List.Folds.{list_any-append}
-use Rattle.isad_core.specs.declared.values.Values.{Values}
+use Rattle.std.proofs.lemmas.List.Sums.{length-filter, count_by-le-length}
+use Rattle.std.specs.Prelude.{◌&&◌, option_map, unwrap_or}
 use Rattle.isad_core.proofs.BoxLemmas.{same_sym}
-use Rattle.office_tables.specs.Schema as tables
+use Rattle.isad_core.specs.declared.values.Values.{Values}
 use Rattle.catalogue_core.proofs.ImportedAgain.{box_itself}
-use Rattle.catalogue_statements.proofs.Common.{AllByRecursion, BoxKey, Bytes, ElementRow, Forest, Has, HasUnit, HousingRow, Trees, Unit, WithCells, WithHousings, WithTexts, all_from, all_has, all_weaker, and_parts, and_right, box_number, cases_Bool, cell_of, counted_from, distinct, distinct_again, element_number, false≢true, filters, had, has, has_filtered, has_id, has_map, has_right, housing_cell, int_cmp, is_same, kept_all, list_all, list_any, list_any-IsPermutation, match_ordering, ne_eqb, not-true, number_in, or_from, or_parts, put_by, put_row, put_rows, same_box, some_from, some_has, test_from, test_has, texts_from, unit_row, with_boxes}
+use Rattle.office_tables.specs.Schema as tables
+use Rattle.catalogue_statements.proofs.Common.{AllByRecursion, BoxKey, Bytes, ElementRow, Forest, Has, HasUnit}
+use Rattle.catalogue_statements.proofs.Common.{HousingRow, Trees, Unit, WithCells, WithHousings, WithTexts, all_from}
+use Rattle.catalogue_statements.proofs.Common.{all_has, all_weaker, and_parts, and_right, box_number, cases_Bool}
+use Rattle.catalogue_statements.proofs.Common.{cell_of, cells_of_unit, counted_from, distinct, distinct_again}
+use Rattle.catalogue_statements.proofs.Common.{element_number, false≢true, filters, had, has, has_filtered, has_id}
+use Rattle.catalogue_statements.proofs.Common.{has_map, has_right, housing_cell, int_cmp, is_same_box, kept_all}
+use Rattle.catalogue_statements.proofs.Common.{list_all, list_any, list_any-IsPermutation, match_ordering, ne_eqb}
+use Rattle.catalogue_statements.proofs.Common.{not-true, number_among, or_from, or_parts, put_by, put_row, put_rows}
+use Rattle.catalogue_statements.proofs.Common.{same_box, some_from, some_has, test_from, test_has, texts_from}
+use Rattle.catalogue_statements.proofs.Common.{with_boxes}
 use Rattle.catalogue_statements.proofs.BoxNumbers.{all_known, still_known, unknown_unnumbered}
 use Rattle.catalogue_statements.proofs.Finding.{itself}
 use Rattle.catalogue_statements.proofs.HousingLemmas.{cells_in, same_cells}
@@ -66,11 +78,11 @@ place_free k n cs [] low = tt
 place_free k n cs (b ∷ seen) low =
     (ne_eqb n k (λ same. omega (arith, low, same)), place_free (k + 1) n cs seen (omega (arith, low)))
 
-not_nought : (cs : List BoxKey) (b : BoxKey) → number_in cs b ≡ Some 0 → ⊥
+not_nought : (cs : List BoxKey) (b : BoxKey) → number_among cs b ≡ Some 0 → ⊥
 not_nought [] b h = let e : ◌≡◌ {A = Option ℕ} None (Some 0) = h in cc
-not_nought (c ∷ cs) b h = elim (cases_Bool (is_same c b)) [
+not_nought (c ∷ cs) b h = elim (cases_Bool (is_same_box c b)) [
   | inl same ↦ absurd (let e : Some 1 ≡ Some 0 = rw same at h in cc)
-  | inr differs ↦ absurd (let e : option_map suc (number_in cs b) ≡ Some 0 = rw differs at h in later (number_in cs b) e)
+  | inr differs ↦ absurd (let e : option_map suc (number_among cs b) ≡ Some 0 = rw differs at h in later (number_among cs b) e)
 ]
   where
     later : (o : Option ℕ) → option_map suc o ≡ Some 0 → ⊥
@@ -82,39 +94,39 @@ one_less None n h = absurd (let e : ◌≡◌ {A = Option ℕ} None (Some n) = h
 one_less (Some m) n h = (m, refl, let e : Some (suc m) ≡ Some n = h in cc)
 
 -- two containers of one number are one
-one_number : (cs : List BoxKey) (a b : BoxKey) (n : ℕ) → number_in cs a ≡ Some n → number_in cs b ≡ Some n
-    → is_same a b ≡ true
+one_number : (cs : List BoxKey) (a b : BoxKey) (n : ℕ) → number_among cs a ≡ Some n → number_among cs b ≡ Some n
+    → is_same_box a b ≡ true
 one_number [] a b n p q = absurd (let e : ◌≡◌ {A = Option ℕ} None (Some n) = p in cc)
-one_number (c ∷ cs) a b n p q = at (is_same c a) (is_same c b) refl refl p q (one_number cs a b)
+one_number (c ∷ cs) a b n p q = at (is_same_box c a) (is_same_box c b) refl refl p q (one_number cs a b)
   where
-    first : (d : BoxKey) → Some 1 ≡ Some n → option_map suc (number_in cs d) ≡ Some n → ⊥
+    first : (d : BoxKey) → Some 1 ≡ Some n → option_map suc (number_among cs d) ≡ Some n → ⊥
     first d one more =
-        let it = one_less (number_in cs d) n more in
+        let it = one_less (number_among cs d) n more in
         let is : n ≡ 1 = cc in
         not_nought cs d (it.1 ∙ ap Some (omega (arith, is, it.2)))
 
-    at : (x y : Bool) → is_same c a ≡ x → is_same c b ≡ y → cond x (Some 1) (option_map suc (number_in cs a)) ≡ Some n
-        → cond y (Some 1) (option_map suc (number_in cs b)) ≡ Some n
-        → ((m : ℕ) → number_in cs a ≡ Some m → number_in cs b ≡ Some m → is_same a b ≡ true) → is_same a b ≡ true
-    at true true e f p q later = ap (λ d. is_same d b) (sym (same_box c a e)) ∙ f
+    at : (x y : Bool) → is_same_box c a ≡ x → is_same_box c b ≡ y → cond x (Some 1) (option_map suc (number_among cs a)) ≡ Some n
+        → cond y (Some 1) (option_map suc (number_among cs b)) ≡ Some n
+        → ((m : ℕ) → number_among cs a ≡ Some m → number_among cs b ≡ Some m → is_same_box a b ≡ true) → is_same_box a b ≡ true
+    at true true e f p q later = ap (λ d. is_same_box d b) (sym (same_box c a e)) ∙ f
     at true false e f p q later = absurd (first b p q)
     at false true e f p q later = absurd (first a q p)
     at false false e f p q later =
-        let x = one_less (number_in cs a) n p in
-        let y = one_less (number_in cs b) n q in
+        let x = one_less (number_among cs a) n p in
+        let y = one_less (number_among cs b) n q in
         later x.0 x.1 (y.1 ∙ ap Some (omega (arith, x.2, y.2)))
 
 -- a container that is known has a number
-pub numbered : (cs : List BoxKey) (b : BoxKey) → list_any (is_same b) cs ≡ true → (n : ℕ) × (number_in cs b ≡ Some n)
-numbered cs b there = at (number_in cs b) refl
+pub numbered : (cs : List BoxKey) (b : BoxKey) → list_any (is_same_box b) cs ≡ true → (n : ℕ) × (number_among cs b ≡ Some n)
+numbered cs b there = at (number_among cs b) refl
   where
-    at : (o : Option ℕ) → number_in cs b ≡ o → (n : ℕ) × (number_in cs b ≡ Some n)
+    at : (o : Option ℕ) → number_among cs b ≡ o → (n : ℕ) × (number_among cs b ≡ Some n)
     at None e = absurd (false≢true (sym (unknown_unnumbered cs b e) ∙ there))
     at (Some n) e = (n, e)
 
 -- two containers have two numbers
-other_box : (cs : List BoxKey) (a b : BoxKey) → list_any (is_same a) cs ≡ true → list_any (is_same b) cs ≡ true
-    → is_same a b ≡ false → nat_eq (box_number cs a) (box_number cs b) ≡ false
+other_box : (cs : List BoxKey) (a b : BoxKey) → list_any (is_same_box a) cs ≡ true → list_any (is_same_box b) cs ≡ true
+    → is_same_box a b ≡ false → nat_eq (box_number cs a) (box_number cs b) ≡ false
 other_box cs a b p q differs =
     let x = numbered cs a p in
     let y = numbered cs b q in
@@ -123,38 +135,38 @@ other_box cs a b p q differs =
     false≢true (sym differs ∙ one_number cs a b x.0 x.1 (y.1 ∙ ap Some is)))
 
 -- a container that was not told has another number than those that were
-number_free : (k : ℕ) (cs : List BoxKey) (b : BoxKey) (seen : List BoxKey) → list_any (is_same b) cs ≡ true
-    → list_all (λ c. list_any (is_same c) cs) seen ≡ true → list_any (is_same b) seen ≡ false
+number_free : (k : ℕ) (cs : List BoxKey) (b : BoxKey) (seen : List BoxKey) → list_any (is_same_box b) cs ≡ true
+    → list_all (λ c. list_any (is_same_box c) cs) seen ≡ true → list_any (is_same_box b) seen ≡ false
     → AllByRecursion (λ (c : ℕ × ℕ). nat_eq (box_number cs b) c.1 ≡ false) (map (λ (box : ℕ × BoxKey). (let c : ℕ × ℕ = (box.0, box_number cs box.1) in c)) (counted_from k seen))
 number_free k cs b [] there known none = tt
 number_free k cs b (c ∷ seen) there known none =
-    let parts = and_parts (list_any (is_same c) cs) (list_all (λ c. list_any (is_same c) cs) seen) known in
-    let apart = or_parts (is_same b c) (list_any (is_same b) seen) none in
+    let parts = and_parts (list_any (is_same_box c) cs) (list_all (λ c. list_any (is_same_box c) cs) seen) known in
+    let apart = or_parts (is_same_box b c) (list_any (is_same_box b) seen) none in
     (other_box cs b c there parts.0 apart.0, number_free (k + 1) cs b seen there parts.1 apart.1)
 
 -- of containers that stand once, one was not told before its place
 apart_before : (p : BoxKey → Bool) (seen : List BoxKey) (b : BoxKey) (rest : List BoxKey)
-    → filter p (distinct (seen ++ b ∷ rest)) ≡ seen ++ b ∷ rest → list_any (is_same b) seen ≡ false
+    → filter p (distinct (seen ++ b ∷ rest)) ≡ seen ++ b ∷ rest → list_any (is_same_box b) seen ≡ false
 apart_before p [] b rest h = refl
 apart_before p (x ∷ seen) b rest h =
     let all = seen ++ b ∷ rest in
-    let other = λ (y : BoxKey). not (is_same x y) in
+    let other = λ (y : BoxKey). not (is_same_box x y) in
     elim (cases_Bool (p x)) [
       | inl passes ↦
           let whole : x ∷ filter p (filter other (distinct all)) ≡ x ∷ all = rw passes at h in
           let later : filter (λ y. other y && p y) (distinct all) ≡ all = sym (filters other p (distinct all)) ∙ cc in
           let kept = has_filtered (λ y. other y && p y) (distinct all) b (subst (λ l. Has l b) (sym later) (has_right seen (b ∷ rest) b (inl refl))) in
-          let differs : is_same x b ≡ false = not-true (is_same x b) (and_parts (other b) (p b) kept.1).0 in
-          or_from (is_same b x) (list_any (is_same b) seen) (same_sym b x ∙ differs) (apart_before (λ y. other y && p y) seen b rest later)
+          let differs : is_same_box x b ≡ false = not-true (is_same_box x b) (and_parts (other b) (p b) kept.1).0 in
+          or_from (is_same_box b x) (list_any (is_same_box b) seen) (same_sym b x ∙ differs) (apart_before (λ y. other y && p y) seen b rest later)
       | inr stops ↦
           let whole : filter p (filter other (distinct all)) ≡ x ∷ all = rw stops at h in
           let kept = has_filtered p (filter other (distinct all)) x (subst (λ l. Has l x) (sym whole) (inl refl)) in
-          let differs : is_same x x ≡ false = not-true (is_same x x) (has_filtered other (distinct all) x kept.0).1 in
+          let differs : is_same_box x x ≡ false = not-true (is_same_box x x) (has_filtered other (distinct all) x kept.0).1 in
           absurd (false≢true (sym differs ∙ box_itself x))
     ]
 
 pub not_seen : (told : List BoxKey) (i : ℕ) (b : BoxKey) → i < length told → b ≡ get_or told i b → distinct told ≡ told
-    → list_any (is_same b) (take i told) ≡ false
+    → list_any (is_same_box b) (take i told) ≡ false
 not_seen told i b low is once =
     let split : told ≡ take i told ++ b ∷ drop (suc i) told =
     split_at told i b low ∙ ap (λ c. take i told ++ c ∷ drop (suc i) told) (sym is) in
@@ -181,13 +193,13 @@ module _ (unit i : ℕ) (boxes told : List BoxKey) (b : BoxKey) (xs ys : List Ho
       (place_free 1 (i + 1) now seen (omega (arith, length-take-le i told (omega (arith, low)))))
 
   -- nor has its number
-  pub housing_number : list_any (is_same b) seen ≡ false
+  pub housing_number : list_any (is_same_box b) seen ≡ false
       → list_any (λ (h : HousingRow). nat_eq unit h.unit && nat_eq (box_number next b) h.container) ys ≡ false
   housing_number new =
       let known = all_known boxes seen in
-      let here = (and_parts (list_any (is_same b) next) true (all_known now (b ∷ []))).0 in
-      let still : list_all (λ c. list_any (is_same c) next) seen ≡ true =
-      test_from (λ c. list_any (is_same c) next) seen (λ c h. still_known now (b ∷ []) c now_apart (test_has (λ c. list_any (is_same c) now) seen c known h)) in
+      let here = (and_parts (list_any (is_same_box b) next) true (all_known now (b ∷ []))).0 in
+      let still : list_all (λ c. list_any (is_same_box c) next) seen ≡ true =
+      test_from (λ c. list_any (is_same_box c) next) seen (λ c h. still_known now (b ∷ []) c now_apart (test_has (λ c. list_any (is_same_box c) now) seen c known h)) in
       let other = λ (c : ℕ × ℕ). nat_eq (box_number next b) c.1 ≡ false in
       none_told (λ (h : HousingRow). h.unit) housing_cell unit (λ c. nat_eq (box_number next b) c.1) (cells_in now seen) xs ys w none
       (subst (AllByRecursion other) (same_cells now (b ∷ []) seen 1 now_apart known) (number_free 1 next b seen here still new))
@@ -197,7 +209,7 @@ module _ (unit i : ℕ) (boxes told : List BoxKey) (b : BoxKey) (xs ys : List Ho
 fewer : (bs : List BoxKey) → length (distinct bs) ≤ length bs
 fewer [] = omega arith
 fewer (b ∷ bs) =
-    let other = λ (later : BoxKey). not (is_same b later) in
+    let other = λ (later : BoxKey). not (is_same_box b later) in
     omega (arith, length-filter other (distinct bs), count_by-le-length other (distinct bs), fewer bs)
 
 pub boxes_within : (cs bs : List BoxKey) → length (with_boxes cs bs) ≤ length cs + length bs
@@ -211,12 +223,12 @@ next_free k n (c ∷ cs) low =
     or_from (nat_eq n k) (list_any (λ (c : ℕ × BoxKey). nat_eq n c.0) (counted_from (k + 1) cs)) (ne_eqb n k (λ same. omega (arith, low, same))) (next_free (k + 1) n cs (omega (arith, low)))
 
 -- a container that is not known is like none that is numbered
-pub none_alike : (k : ℕ) (cs : List BoxKey) (b : BoxKey) → list_any (is_same b) cs ≡ false
-    → list_any (λ (c : ℕ × BoxKey). is_same c.1 b) (counted_from k cs) ≡ false
+pub none_alike : (k : ℕ) (cs : List BoxKey) (b : BoxKey) → list_any (is_same_box b) cs ≡ false
+    → list_any (λ (c : ℕ × BoxKey). is_same_box c.1 b) (counted_from k cs) ≡ false
 none_alike k [] b none = refl
 none_alike k (c ∷ cs) b none =
-    let parts = or_parts (is_same b c) (list_any (is_same b) cs) none in
-    or_from (is_same c b) (list_any (λ (c : ℕ × BoxKey). is_same c.1 b) (counted_from (k + 1) cs)) (same_sym c b ∙ parts.0) (none_alike (k + 1) cs b parts.1)
+    let parts = or_parts (is_same_box b c) (list_any (is_same_box b) cs) none in
+    or_from (is_same_box c b) (list_any (λ (c : ℕ × BoxKey). is_same_box c.1 b) (counted_from (k + 1) cs)) (same_sym c b ∙ parts.0) (none_alike (k + 1) cs b parts.1)
 
 -- ---- units
 
@@ -246,19 +258,19 @@ put_has key new (x ∷ xs) = elim (int_cmp (key x) (key new)) as (λ o. Has (mat
 ]
 
 -- a unit that was added has its row
-pub unit_added : (old new : Trees) (u : Unit) (units : List Unit) → old tables.unit.tree ≡ map unit_row units
-    → new tables.unit.tree ≡ put_row (unit_row u) (old tables.unit.tree) → HasUnit new u.id
+pub unit_added : (old new : Trees) (u : Unit) (units : List Unit) → old tables.unit.tree ≡ map cells_of_unit units
+    → new tables.unit.tree ≡ put_row (cells_of_unit u) (old tables.unit.tree) → HasUnit new u.id
 unit_added old new u units at put =
     let key = λ (x : Unit). pos x.id in
     record {
       units = put_by key u units;
-      rows = put ∙ ap (put_row (unit_row u)) at ∙ put_rows unit_row key (λ _. refl) u units;
+      rows = put ∙ ap (put_row (cells_of_unit u)) at ∙ put_rows cells_of_unit key (λ _. refl) u units;
       there = some_from (has_id u.id) (put_by key u units) u (put_has key u units) (itself u.id);
     }
 
 -- a unit that was given other values has its row
 pub unit_valued : (new : Trees) (unit : ℕ) (values : Values) (units : List Unit)
-    → new tables.unit.tree ≡ map unit_row (map (λ (x : Unit). if nat_eq unit x.id then record x { values = values } else x) units)
+    → new tables.unit.tree ≡ map cells_of_unit (map (λ (x : Unit). if nat_eq unit x.id then record x { values = values } else x) units)
     → list_any (has_id unit) units ≡ true → HasUnit new unit
 unit_valued new unit values units at there =
     let valued = λ (x : Unit). if nat_eq unit x.id then record x { values = values } else x in

@@ -2,11 +2,17 @@
 use Rattle.std.proofs.Common.{◌≡◌, inl, ℕ, List, true, nat_eq, Ok, Err, Result, OnOk, refl, ap, sym, subst, ◌∙◌}
 use Rattle.std.specs.Prelude.{IfOk}
 use Rattle.sqlite_trees.specs.declared.store.Store as store
-use Rattle.office_tables.specs.declared.fault.StoreFault.TheVariants as fault
 use Rattle.office_tables.proofs.LaterCauses.{next_cause}
 use Rattle.office_tables.proofs.Outcomes.{if_ok_by}
+use Rattle.office_tables.specs.declared.fault.StoreFault.TheVariants as fault
 use Rattle.catalogue_statements.specs.CallClauses.{Writes, WritesOnly, WritesOr}
-use Rattle.catalogue_statements.proofs.Common.{Database, FaultsHaveCause, Goes, Hands, HasCause, HasCleanDisk, Held, IsAborted, IsUnlimited, LeavesOr, LeavesUnchanged, OnlyTouches, Spares, State, StoreFault, Trees, cut_after, cut_then, early, excused_then, goes_then, leaves_last, left_well, list_all, list_any, looked_spares, on_ok_both, on_ok_then, same_fault, same_untouched, state, still_unlimited, touched_again, touched_spares, touched_wider, wider_last}
+use Rattle.catalogue_statements.proofs.Common.{Database, FaultsHaveCause, Goes, Hands, HasCause, HasCleanDisk, Held}
+use Rattle.catalogue_statements.proofs.Common.{IsAborted, IsUnlimited, LeavesOr, LeavesUnchanged, OnlyTouches, Spares}
+use Rattle.catalogue_statements.proofs.Common.{State, StoreFault, Trees, cut_after, cut_then, early, excused_then}
+use Rattle.catalogue_statements.proofs.Common.{goes_then, leaves_last, left_well, list_all, list_any, looked_spares}
+use Rattle.catalogue_statements.proofs.Common.{on_ok_both, on_ok_then, same_fault, same_untouched, state}
+use Rattle.catalogue_statements.proofs.Common.{still_unlimited, touched_again, touched_spares, touched_wider}
+use Rattle.catalogue_statements.proofs.Common.{wider_last}
 
 -- ---- what a step leaves
 

@@ -8,8 +8,9 @@ use Rattle.isad_core.specs.declared.values.BoxKey.{BoxKey}
 use Rattle.isad_core.specs.declared.values.Values.{Values}
 use Rattle.isad_core.specs.Boxes.{distinct}
 use Rattle.office_tables.specs.RowNumbers.{HasNumbered}
-use Rattle.catalogue_statements.specs.Rows.{unit_row, ElementRow, element_row, HousingRow, housing_row}
-use Rattle.catalogue_statements.specs.Representation.{RepresentsContainers, texts_from, element_number, element_cells, housing_cells}
+use Rattle.catalogue_statements.specs.Rows.{cells_of_unit, ElementRow, element_row, HousingRow, housing_row}
+use Rattle.catalogue_statements.specs.Representation.{RepresentsContainers, texts_from, element_number, numbered_texts}
+use Rattle.catalogue_statements.specs.Representation.{numbered_containers}
 use Rattle.catalogue_core.specs.Units.{Unit, has_id}
 pub use Rattle.catalogue_core.specs.Descriptions.{with_boxes}
 
@@ -23,7 +24,7 @@ pub record WithCells {A C : Type 0} (unit_of : A → ℕ) (cell_of : A → C) (u
 -- the unit has its row
 pub record HasUnit (db : Trees) (unit : ℕ) : Type 0 where
   pub units : List Unit
-  pub rows : db tables.unit.tree ≡ map unit_row units
+  pub rows : db tables.unit.tree ≡ map cells_of_unit units
   pub there : list_any (has_id unit) units ≡ true
 
 -- ---- texts
@@ -98,7 +99,7 @@ descriptions_of_others unit d = record {
 pub record IsDescribed (unit : ℕ) (values : Values) (boxes : List BoxKey) (xs : List ElementRow) (hs : List HousingRow) (db : Trees) : Type 0 where
   pub elements : List ElementRow
   pub texts : AreElements db elements
-  pub texts_more : WithTexts unit (element_cells values) xs elements
+  pub texts_more : WithTexts unit (numbered_texts values) xs elements
   pub housings : List HousingRow
   pub housed : AreHoused db (with_boxes boxes values.boxes) housings
-  pub housed_more : WithHousings unit (housing_cells (with_boxes boxes values.boxes) values) hs housings
+  pub housed_more : WithHousings unit (numbered_containers (with_boxes boxes values.boxes) values) hs housings

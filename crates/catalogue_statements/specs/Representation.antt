@@ -1,6 +1,7 @@
 -- When the tables represent a catalogue: each table has the rows that its part of the catalogue names, and no others.
 use Rattle.office_tables.specs.Schema as tables
-use Rattle.std.specs.Prelude.{◌≡◌, ℕ, zero, suc, ◌+◌, nat_eq, true, List, [], ◌∷◌, map, filter, Option, Some, None, IsPermutation}
+use Rattle.std.specs.Prelude.{◌≡◌, ℕ, zero, suc, ◌+◌, nat_eq, true, List, [], ◌∷◌, map, filter, Option, Some, None}
+use Rattle.std.specs.Prelude.{IsPermutation}
 use Rattle.std.specs.List.{AllByRecursion}
 use Rattle.std.proofs.Common.{◌∙◌}
 use Rattle.sqlite.specs.Effect.{Database}
@@ -18,7 +19,9 @@ use Rattle.catalogue_core.specs.Units.{Unit, has_id}
 use Rattle.catalogue_core.specs.CatalogueMerge.{Catalogue, box_number}
 use Rattle.office_tables.specs.RowNumbers.{HasNumbered}
 use Rattle.office_tables.specs.Order.{Rises}
-use Rattle.catalogue_statements.specs.Rows.{office_row, unit_row, by_number, ElementRow, element_row, container_row, counted_from, HousingRow, housing_row, link_row, by_id}
+use Rattle.catalogue_statements.specs.Rows.{office_row, cells_of_unit, by_number, ElementRow, element_row}
+use Rattle.catalogue_statements.specs.Rows.{numbered_container_cells, counted_from, HousingRow, housing_row, link_row}
+use Rattle.catalogue_statements.specs.Rows.{by_id}
 use Rattle.catalogue_statements.specs.declared.office.OfficeRow.{OfficeRow}
 
 -- one row contains the settings, the day and the next unit number
@@ -28,7 +31,7 @@ RepresentsOffice version db office = db tables.office.tree ≡ office_row versio
 -- a row for each unit, in order of the numbers
 pub record RepresentsUnits (db : Trees) (f : Forest Unit) : Type 0 where
   pub units : List Unit
-  pub rows : db tables.unit.tree ≡ map unit_row units
+  pub rows : db tables.unit.tree ≡ map cells_of_unit units
   pub rise : Rises by_number units
   pub are : IsPermutation (nodes f) units
 
@@ -46,8 +49,8 @@ element_number (suc (suc zero)) = 3
 element_number (suc (suc (suc i))) = i + 5
 
 -- the elements of a description other than the level, each as its number and its text
-abbrev pub element_cells : Values → List (ℕ × Bytes)
-element_cells values = map (λ text. (element_number text.0, text.1)) (texts_from 0 values.texts)
+abbrev pub numbered_texts : Values → List (ℕ × Bytes)
+numbered_texts values = map (λ text. (element_number text.0, text.1)) (texts_from 0 values.texts)
 
 -- the numbers and the texts in the rows of a unit
 abbrev pub elements_of : ℕ → List ElementRow → List (ℕ × Bytes)
@@ -57,26 +60,26 @@ elements_of u elements = map (λ e. (e.k, e.value)) (filter (λ e. nat_eq u e.un
 pub record RepresentsElements (db : Trees) (f : Forest Unit) : Type 0 where
   pub elements : List ElementRow
   pub rows : HasNumbered element_row (db tables.element.tree) elements
-  pub are : AllByRecursion (λ u. IsPermutation (element_cells u.values) (elements_of u.id elements)) (nodes f)
+  pub are : AllByRecursion (λ u. IsPermutation (numbered_texts u.values) (elements_of u.id elements)) (nodes f)
   pub others : AllByRecursion (λ e. has (has_id e.unit) f ≡ true) elements
 
 -- a row for each container, numbered from 1
 abbrev pub RepresentsContainers : Trees → List BoxKey → Type 0
-RepresentsContainers db containers = db tables.container.tree ≡ map container_row (counted_from 1 containers)
+RepresentsContainers db containers = db tables.container.tree ≡ map numbered_container_cells (counted_from 1 containers)
 
 -- the containers of a description in its order, each as its place, from 1, and its number
-abbrev pub housing_cells : List BoxKey → Values → List (ℕ × ℕ)
-housing_cells containers values = map (λ box. (box.0, box_number containers box.1)) (counted_from 1 values.boxes)
+abbrev pub numbered_containers : List BoxKey → Values → List (ℕ × ℕ)
+numbered_containers containers values = map (λ box. (box.0, box_number containers box.1)) (counted_from 1 values.boxes)
 
 -- the places and the containers' numbers in the rows of a unit
-abbrev pub housings_of : ℕ → List HousingRow → List (ℕ × ℕ)
-housings_of u housings = map (λ h. (h.ord, h.container)) (filter (λ h. nat_eq u h.unit) housings)
+abbrev pub housing_places : ℕ → List HousingRow → List (ℕ × ℕ)
+housing_places u housings = map (λ h. (h.ord, h.container)) (filter (λ h. nat_eq u h.unit) housings)
 
 -- a row for each container of each unit, at its place in the unit's order from 1
 pub record RepresentsHousings (db : Trees) (f : Forest Unit) (containers : List BoxKey) : Type 0 where
   pub housings : List HousingRow
   pub rows : HasNumbered housing_row (db tables.housing.tree) housings
-  pub are : AllByRecursion (λ u. IsPermutation (housing_cells containers u.values) (housings_of u.id housings)) (nodes f)
+  pub are : AllByRecursion (λ u. IsPermutation (numbered_containers containers u.values) (housing_places u.id housings)) (nodes f)
   pub others : AllByRecursion (λ h. has (has_id h.unit) f ≡ true) housings
 
 -- the link rows represent a forest of unit numbers

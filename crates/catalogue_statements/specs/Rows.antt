@@ -13,8 +13,9 @@ use Rattle.catalogue_core.specs.Units.{Unit}
 use Rattle.catalogue_statements.specs.declared.office.OfficeRow.{OfficeRow}
 pub use Rattle.catalogue_core.specs.CatalogueRows.{ElementRow, HousingRow}
 pub use Rattle.office_tables.specs.Flags.{flag}
-pub use Rattle.office_tables.specs.RowCells.{element_cells as element_row, housing_cells as housing_row, link_cells as link_row}
-pub use Rattle.office_tables.specs.SharedRows.{container_row}
+pub use Rattle.office_tables.specs.RowCells.{element_cells as element_row, housing_cells as housing_row}
+pub use Rattle.office_tables.specs.RowCells.{link_cells as link_row}
+pub use Rattle.office_tables.specs.SharedRows.{numbered_container_cells}
 use Rattle.office_tables.specs.SharedRows.{settings_cells, office_cells}
 use Rattle.catalogue_core.specs.CatalogueRows as row
 
@@ -43,8 +44,8 @@ settings_of_row o = settings_cells (row_of_version First o)
 
 -- ---- units
 
-abbrev pub unit_row : Unit → Row
-unit_row u = Int (pos u.id) ∷ Null ∷ Text u.source ∷ Text u.legacy ∷ Text u.values.level ∷ or_null Int u.until ∷ Int (flag u.draft) ∷ []
+abbrev pub cells_of_unit : Unit → Row
+cells_of_unit u = Int (pos u.id) ∷ Null ∷ Text u.source ∷ Text u.legacy ∷ Text u.values.level ∷ or_null Int u.until ∷ Int (flag u.draft) ∷ []
 
 abbrev pub by_number : Unit → Unit → Ordering
 by_number a b = int_cmp (pos a.id) (pos b.id)

@@ -8,7 +8,7 @@ use Rattle.catalogue_core.specs.CatalogueMerge.{Catalogue}
 use Rattle.office_tables.specs.RowNumbers.{HasNumbered}
 use Rattle.office_tables.specs.Schema as tables
 use Rattle.catalogue_statements.specs.Rows.{ElementRow, element_row}
-use Rattle.catalogue_statements.specs.Representation.{RepresentsCatalogue, element_cells, elements_of}
+use Rattle.catalogue_statements.specs.Representation.{RepresentsCatalogue, numbered_texts, elements_of}
 use Rattle.catalogue_statements.specs.declared.office.OfficeRow.{OfficeRow}
 
 -- the catalogue's tables, except the places, represent units that each have a place for every text
@@ -21,4 +21,4 @@ pub record RepresentsValues (db : Database) (o : OfficeRow) (c : Catalogue) : Ty
 pub record TellsTexts (unit : ℕ) (db : Database) (values : Description) (xs : List ElementRow) : Type 0 where
   pub rows : HasNumbered element_row (db.trees tables.element.tree) xs
   pub places : length values.texts ≡ 25
-  pub are : IsPermutation (element_cells values) (elements_of unit xs)
+  pub are : IsPermutation (numbered_texts values) (elements_of unit xs)

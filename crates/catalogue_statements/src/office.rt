@@ -1,8 +1,9 @@
 //! The row of the office: its settings, its day and its next unit number.
 
-ghost use Rattle.std.specs.Prelude.{◌≡◌, [], ◌∷◌, length, Some, OnOk, IfOk, ⊤};
+ghost use Rattle.std.specs.Prelude.{◌≡◌, [], ◌∷◌, length, Some, OnOk, IfOk};
 ghost use Rattle.sqlite.specs.Held.{state};
 ghost use Rattle.sqlite.specs.State.{HasCleanDisk};
+ghost use Rattle.office_tables.specs.Premises.{◌gives◌};
 ghost use Rattle.office_tables.specs.Versions.{Version};
 ghost use Rattle.office_tables.specs.ChangeStatement.{Leaves};
 ghost use Rattle.office_tables.specs.RowCounts.{cap};
@@ -10,7 +11,7 @@ ghost use Rattle.office_tables.specs.Schema as schema;
 ghost use Rattle.office_tables.specs.Step.{Holds, HasRows};
 ghost use Rattle.office_tables.specs.TableStatements.{LooksUp};
 ghost use Rattle.catalogue_statements.specs.CallClauses.{ChangesOnly, FailsWithCause, OnlyReads};
-ghost use Rattle.catalogue_statements.specs.Rows.{container_row, office_row as row_of_office, unit_row};
+ghost use Rattle.catalogue_statements.specs.Rows.{numbered_container_cells, office_row as row_of_office, cells_of_unit};
 ghost use Rattle.catalogue_statements.specs.Settings.{AreLegibleSettings};
 ghost use Rattle.catalogue_statements.specs.Representation.{RepresentsOffice};
 ghost use Rattle.catalogue_statements.specs.declared.office.OfficeRow.{OfficeRow};
@@ -90,8 +91,8 @@ pub fn count_units<P: Versioned, S: Alter>(
     alloc: Global,
     tables: &mut Tables<P, S>,
 ) -> Result<u64, StoreFault>
-    ensures { LooksUp S.Store (Holds schema.unit unit_row) tables.old tables.new result
-        (λ _. ⊤) (λ _. ⊤) (λ xs units. units ≡ cap (length xs)) }
+    ensures { LooksUp S.Store (Holds schema.unit cells_of_unit) tables.old tables.new result
+        gives λ xs units. units ≡ cap (length xs) }
 {
     let Some(units) = find_one(alloc, tables, "SELECT count(*) FROM unit", &[])? else {
         return Err(StoreFault::Schema);
@@ -104,8 +105,8 @@ pub fn count_containers<P: Versioned, S: Alter>(
     alloc: Global,
     tables: &mut Tables<P, S>,
 ) -> Result<u64, StoreFault>
-    ensures { LooksUp S.Store (Holds schema.container container_row) tables.old tables.new result
-        (λ _. ⊤) (λ _. ⊤) (λ xs containers. containers ≡ cap (length xs)) }
+    ensures { LooksUp S.Store (Holds schema.container numbered_container_cells) tables.old tables.new result
+        gives λ xs containers. containers ≡ cap (length xs) }
 {
     let Some(containers) = find_one(alloc, tables, "SELECT count(*) FROM container", &[])? else {
         return Err(StoreFault::Schema);

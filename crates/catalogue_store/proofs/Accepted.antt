@@ -1,9 +1,12 @@
 -- A call that reads or writes once it has read that it may.
 use Rattle.std.proofs.Common.{◌≡◌, ◌&&◌, ◌∙◌, inl, refl, ℕ, Bool, true, false, List, Ok, Err, Result, sym, subst, IfOk}
 use Rattle.sqlite_trees.specs.declared.store.Store as store
-use Rattle.office_tables.specs.declared.fault.StoreFault.TheVariants as fault
 use Rattle.office_tables.proofs.LaterCauses.{next_cause}
-use Rattle.catalogue_store.proofs.Common.{Database, HasCleanDisk, Held, LeavesUnchanged, OnlyTouches, State, StoreAnswers, StoreFault, StoreUpdates, cut_after, cut_then, early, false≢true, goes_then, looked_spares, looks_then, same_untouched, state, still_unlimited, ⊤}
+use Rattle.office_tables.specs.declared.fault.StoreFault.TheVariants as fault
+use Rattle.catalogue_store.proofs.Common.{Database, HasCleanDisk, Held, LeavesUnchanged, OnlyTouches, State}
+use Rattle.catalogue_store.proofs.Common.{StoreAnswers, StoreFault, StoreUpdates, cut_after, cut_then, early}
+use Rattle.catalogue_store.proofs.Common.{false≢true, goes_then, looked_spares, looks_then, same_untouched, state}
+use Rattle.catalogue_store.proofs.Common.{still_unlimited, ⊤}
 
 pub if_ok_as : {X E : Type 0} (r : Result X E) (P Q : X → Type 0) → ((x : X) → P x → Q x) → IfOk r P → IfOk r Q
 if_ok_as (Ok x) P Q f p = f x p
@@ -20,31 +23,35 @@ not_both x y none first then = (let all : (x && y) ≡ true = rw (first, then) r
 module _ {S Stays Model : Type 0} (g : store.Ghosts S) (represents : Database → Stays → Model → Type 0) (kept : Model → Type 0) (before mid : Held S) (looked : LeavesUnchanged (state g before) (state g mid)) where
   pub tells_after : {X : Type 0} (after : Held S) (r : Result X StoreFault) (told answer : Stays → Model → X → Type 0)
       → (HasCleanDisk (state g mid) → (s : Stays) (m : Model) → represents (state g before).now s m → (x : X) → told s m x → answer s m x)
-      → StoreAnswers g represents kept mid after r (λ _. ⊤) told
-      → StoreAnswers g represents kept before after r (λ _. ⊤) answer
+      → StoreAnswers g represents mid after r (λ _. ⊤) kept told
+      → StoreAnswers g represents before after r (λ _. ⊤) kept answer
   tells_after after (Ok x) told answer turn it =
       let a = state g before in
       let b = state g mid in
       let c = state g after in
       let back = early b c _ it.looks.goes.on.crash in
       record {
-        answers = λ clean s m shown. turn (back clean) s m shown x (it.answers clean s m (subst (λ (db : Database). represents db s m) (sym (looked.same (back clean))) shown));
-        looks = looks_then a b c looked it.looks;
-        aborts = tt;
+        call = record {
+          answers = λ clean s m shown. turn (back clean) s m shown x (it.answers clean s m (subst (λ (db : Database). represents db s m) (sym (looked.same (back clean))) shown));
+          looks = looks_then a b c looked it.looks;
+          aborts = tt;
+          faults = λ s m shown allowed within clean free. tt;
+        };
         spares = λ clean. tt;
-        faults = λ s m shown allowed within clean free. tt;
       }
   tells_after after (Err e) told answer turn it =
       let a = state g before in
       let b = state g mid in
       let c = state g after in
       record {
-        answers = λ clean s m shown. tt;
-        looks = tt;
-        aborts = cut_then a b c looked.goes.on it.aborts;
+        call = record {
+          answers = λ clean s m shown. tt;
+          looks = tt;
+          aborts = cut_then a b c looked.goes.on it.aborts;
+          faults = λ s m shown allowed within clean free.
+              next_cause a b c looked.goes.on it.aborts clean e (λ cleaner. it.faults s m (subst (λ (db : Database). represents db s m) (sym (looked.same cleaner)) shown) tt within clean (still_unlimited a b looked.goes.on free));
+        };
         spares = λ clean. looked_spares a b c looked (early b c _ it.aborts.crash clean) e (it.spares clean);
-        faults = λ s m shown allowed within clean free.
-            next_cause a b c looked.goes.on it.aborts clean e (λ cleaner. it.faults s m (subst (λ (db : Database). represents db s m) (sym (looked.same cleaner)) shown) tt within clean (still_unlimited a b looked.goes.on free));
       }
 
 -- a call that writes
@@ -60,40 +67,46 @@ module _ {S Stays Model : Type 0} (g : store.Ghosts S) (represents : Database �
 
   -- it may
   pub makes_after : {X : Type 0} (after : Held S) (r : Result X StoreFault)
-      → StoreUpdates g represents kept mid after r may made touched
-      → StoreUpdates g represents kept before after r may made touched
+      → StoreUpdates g touched represents mid after r may kept made
+      → StoreUpdates g touched represents before after r may kept made
   makes_after after (Ok x) it =
       let c = state g after in
       let back = early b c _ it.goes.on.crash in
       record {
-        represents_updated = λ clean s m shown allowed. it.represents_updated clean s m (still_shown (back clean) s m shown) allowed;
-        only = λ clean. subst (λ (db : Database). OnlyTouches touched db c.now) (looked.same (back clean)) (it.only clean);
-        goes = goes_then a b c looked.goes it.goes;
-        aborts = tt;
+        call = record {
+          represents_updated = λ clean s m shown allowed. it.represents_updated clean s m (still_shown (back clean) s m shown) allowed;
+          only = λ clean. subst (λ (db : Database). OnlyTouches touched db c.now) (looked.same (back clean)) (it.only clean);
+          goes = goes_then a b c looked.goes it.goes;
+          aborts = tt;
+          faults = λ s m shown allowed within clean free. tt;
+        };
         spares = λ clean. tt;
-        faults = λ s m shown allowed within clean free. tt;
       }
   makes_after after (Err e) it =
       let c = state g after in
       let back = early b c _ it.aborts.crash in
       record {
-        represents_updated = λ clean s m shown allowed. tt;
-        only = λ clean. tt;
-        goes = tt;
-        aborts = cut_then a b c looked.goes.on it.aborts;
+        call = record {
+          represents_updated = λ clean s m shown allowed. tt;
+          only = λ clean. tt;
+          goes = tt;
+          aborts = cut_then a b c looked.goes.on it.aborts;
+          faults = λ s m shown allowed within clean free.
+              next_cause a b c looked.goes.on it.aborts clean e (λ cleaner. it.faults s m (still_shown cleaner s m shown) allowed within clean (still_unlimited a b looked.goes.on free));
+        };
         spares = λ clean. looked_spares a b c looked (back clean) e (it.spares clean);
-        faults = λ s m shown allowed within clean free.
-            next_cause a b c looked.goes.on it.aborts clean e (λ cleaner. it.faults s m (still_shown cleaner s m shown) allowed within clean (still_unlimited a b looked.goes.on free));
       }
 
   -- it may not, and blames the schema
   pub makes_refused : {X : Type 0} → (HasCleanDisk b → (s : Stays) (m : Model) → represents a.now s m → may m → ⊥)
-      → StoreUpdates {X = X} g represents kept before mid (Err fault.Schema) may made touched
+      → StoreUpdates {X = X} g touched represents before mid (Err fault.Schema) may kept made
   makes_refused never = record {
-    represents_updated = λ clean s m shown allowed. tt;
-    only = λ clean. tt;
-    goes = tt;
-    aborts = cut_after a b looked.goes.on;
+    call = record {
+      represents_updated = λ clean s m shown allowed. tt;
+      only = λ clean. tt;
+      goes = tt;
+      aborts = cut_after a b looked.goes.on;
+      faults = λ s m shown allowed within clean free. absurd (never clean s m shown allowed);
+    };
     spares = λ clean. record { disk = tt; rows = inl (same_untouched touched a.now b.now (looked.same clean)) };
-    faults = λ s m shown allowed within clean free. absurd (never clean s m shown allowed);
   }

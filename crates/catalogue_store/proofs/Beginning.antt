@@ -1,10 +1,11 @@
 -- What a new office shows.
-use Rattle.office_tables.specs.Schema as tables
 use Rattle.std.proofs.Common.{◌≡◌, ℕ, [], refl, ap, ◌∙◌}
 use Rattle.sqlite.specs.Change.{KeepsRows}
 use Rattle.office_tables.specs.Creation.{HasMade}
 use Rattle.office_tables.specs.Schema.{schema, desk_tables}
-use Rattle.catalogue_store.proofs.Common.{Database, Empty, Forest, IsPermutation-refl, OfficeRow, PutsRow, Represents, Trees, Version, element_row, housing_row, none_there, office_row, put_row}
+use Rattle.office_tables.specs.Schema as tables
+use Rattle.catalogue_store.proofs.Common.{Database, Empty, Forest, IsPermutation-refl, OfficeRow, PutsRow, Represents}
+use Rattle.catalogue_store.proofs.Common.{Trees, Version, element_row, housing_row, none_there, office_row, put_row}
 
 pub shows_beginning : (v : Version) (represents : Trees → Forest ℕ → Type 0)
     → ((old new : Trees) (f : Forest ℕ) → new tables.link.tree ≡ old tables.link.tree → represents old f → represents new f)

@@ -1,7 +1,7 @@
 -- One unit more, and its marks.
 use Rattle.std.proofs.Common.{◌≡◌, ℕ, ◌+◌, ◌<◌, List, [], ◌∷◌, ◌++◌, length, take, sym, subst}
-use Rattle.tree_places.specs.declared.attached.Attached.{Attached}
 use Rattle.tree_places.specs.Attachments.{AreWholeMarksOf}
+use Rattle.tree_places.specs.declared.attached.Attached.{Attached}
 use Rattle.catalogue_store.proofs.Common.{AreWholeMarksOfEach, Forest, Unit}
 
 each_more : (f : Forest Unit) (ids : List ℕ) (id : ℕ) (found : List Attached) (one : Attached)

@@ -1,16 +1,19 @@
 -- The heads of some units of a forest.
-use Rattle.std.proofs.Common.{◌≡◌, inl, inr, ℕ, List, [], ◌∷◌, ◌++◌, map, Option, Some, None, option_map, true, nat_eq, refl, sym, ap, ◌∙◌}
-use Rattle.std.specs.List.{find}
+use Rattle.std.proofs.Common.{◌≡◌, inl, inr, ℕ, List, [], ◌∷◌, ◌++◌, map, Option, Some, None, option_map, true, nat_eq}
+use Rattle.std.proofs.Common.{refl, sym, ap, ◌∙◌}
 use Rattle.std.proofs.Math.Bool.{or-true}
+use Rattle.std.specs.List.{find}
 use Rattle.isad_core.specs.Values.{identifier, title}
-use Rattle.tree_core.specs.Tops.{tops, below_first, part_below}
 use Rattle.tree_core.proofs.TopsLemmas.{tops-each, part_below-each}
+use Rattle.tree_core.specs.Tops.{tops, below_first, part_below}
 use Rattle.catalogue_core.proofs.EachOf.{all_split}
 use Rattle.catalogue_statements.specs.Standings.{standing_of}
 use Rattle.catalogue_statements.specs.declared.row_types.Standing.{Standing}
-use Rattle.catalogue_store.specs.declared.heads.Head.{Head}
 use Rattle.tree_places.proofs.MarkForests.{all_here, has_right, tree_in}
-use Rattle.catalogue_store.proofs.Common.{AllByRecursion, Bytes, Empty, Forest, Has, Node, RepresentsUnits, Trees, Unit, all_has, all_weaker, cases_Bool, each, eq-eqb, false≢true, found_one, has_id, has_unit, head_at, head_of, list_any, nodes, tree}
+use Rattle.catalogue_store.specs.declared.heads.Head.{Head}
+use Rattle.catalogue_store.proofs.Common.{AllByRecursion, Bytes, Empty, Forest, Has, Node, RepresentsUnits, Trees, Unit}
+use Rattle.catalogue_store.proofs.Common.{all_has, all_weaker, cases_Bool, each, eq-eqb, false≢true, found_one, has_id}
+use Rattle.catalogue_store.proofs.Common.{has_unit, head_at, head_of, list_any, nodes, tree}
 
 abbrev id_of : Unit → ℕ
 id_of u = u.id

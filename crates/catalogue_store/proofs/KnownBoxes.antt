@@ -1,9 +1,13 @@
 -- A catalogue that knows its containers knows them after a unit was added or was given other values.
-use Rattle.std.proofs.Common.{◌≡◌, ℕ, List, [], ◌∷◌, ◌++◌, Bool, true, false, if◌then◌else◌, cond, Option, Some, None, sym, subst}
+use Rattle.std.proofs.Common.{◌≡◌, ℕ, List, [], ◌∷◌, ◌++◌, Bool, true, false, if◌then◌else◌, cond, Option, Some, None}
+use Rattle.std.proofs.Common.{sym, subst}
 use Rattle.catalogue_core.proofs.Imported.{distinct_again}
-use Rattle.catalogue_statements.proofs.BoxNumbers.{all_known, still_known}
 use Rattle.catalogue_core.proofs.NodeLemmas.{nodes_join}
-use Rattle.catalogue_store.proofs.Common.{AllByRecursion, BoxKey, Catalogue, Empty, Forest, KnowsItsContainers, Node, Unit, Values, add, all-append, all_map, all_weaker, distinct, has_id, is_same, join, list_all, list_any, nodes, nodes-each, put_below, test_from, test_has, with_boxes, with_unit, with_values}
+use Rattle.catalogue_statements.proofs.BoxNumbers.{all_known, still_known}
+use Rattle.catalogue_store.proofs.Common.{AllByRecursion, BoxKey, Catalogue, Empty, Forest, KnowsItsContainers, Node}
+use Rattle.catalogue_store.proofs.Common.{Unit, Values, add, all-append, all_map, all_weaker, distinct, has_id}
+use Rattle.catalogue_store.proofs.Common.{is_same_box, join, list_all, list_any, nodes, nodes-each, put_below}
+use Rattle.catalogue_store.proofs.Common.{test_from, test_has, with_boxes, with_unit, with_values}
 
 module _ {A : Type 0} (P : A → Type 0) where
   both : (xs ys : List A) → AllByRecursion P (xs ++ ys) → AllByRecursion P xs × AllByRecursion P ys
@@ -29,11 +33,11 @@ module _ {A : Type 0} (P : A → Type 0) where
   all_added is (Some p) a f new old = all_put (is p) (Node a Empty Empty) f (new, tt) old
 
 abbrev IsKnown : List BoxKey → Unit → Type 0
-IsKnown boxes u = list_all (λ box. list_any (is_same box) boxes) u.values.boxes ≡ true
+IsKnown boxes u = list_all (λ box. list_any (is_same_box box) boxes) u.values.boxes ≡ true
 
 known_still : (cs bs : List BoxKey) → distinct cs ≡ cs → (u : Unit) → IsKnown cs u → IsKnown (with_boxes cs bs) u
 known_still cs bs apart u all =
-    test_from (λ box. list_any (is_same box) (with_boxes cs bs)) u.values.boxes (λ b h. still_known cs bs b apart (test_has (λ box. list_any (is_same box) cs) u.values.boxes b all h))
+    test_from (λ box. list_any (is_same_box box) (with_boxes cs bs)) u.values.boxes (λ b h. still_known cs bs b apart (test_has (λ box. list_any (is_same_box box) cs) u.values.boxes b all h))
 
 pub known_added : (c : Catalogue) (parent : Option ℕ) (u : Unit) → KnowsItsContainers c
     → KnowsItsContainers (with_unit parent u c)

@@ -1,7 +1,9 @@
 -- A call that reads, and whose last step is another call that reads.
 use Rattle.std.proofs.Common.{Result}
 use Rattle.sqlite_trees.specs.declared.store.Store as store
-use Rattle.catalogue_store.proofs.Common.{Database, HasCleanDisk, Held, IfOk-weaker, IsAborted, LeavesUnchanged, State, StoreAnswers, StoreFault, cut_then, early, excused_then, if_ok_by, last_spares, looks_then, on_err_then, on_ok_then, state}
+use Rattle.catalogue_store.proofs.Common.{Database, HasCleanDisk, Held, IfOk-weaker, IsAborted, LeavesUnchanged, State}
+use Rattle.catalogue_store.proofs.Common.{StoreAnswers, StoreFault, cut_then, early, excused_then, if_ok_by}
+use Rattle.catalogue_store.proofs.Common.{last_spares, looks_then, on_err_then, on_ok_then, state}
 
 module _ {S X Stays Part Model Share : Type 0} (g : store.Ghosts S) (represents : Database → Stays → Model → Type 0) (kept may : Model → Type 0) (represents_part : Database → Part → Share → Type 0) (kept_part may_part : Share → Type 0)
     (before mid after : Held S) (r : Result X StoreFault) (answer : Stays → Model → X → Type 0) (answer_part : Part → Share → X → Type 0) where
@@ -24,20 +26,22 @@ module _ {S X Stays Part Model Share : Type 0} (g : store.Ghosts S) (represents 
 
   pub answers_later : LeavesUnchanged a b
       → ((s : Stays) (m : Model) → represents a.now s m → HasCleanDisk b → Shares s m)
-      → StoreAnswers g represents_part kept_part mid after r may_part answer_part
-      → StoreAnswers g represents kept before after r may answer
+      → StoreAnswers g represents_part mid after r may_part kept_part answer_part
+      → StoreAnswers g represents before after r may kept answer
   answers_later looked shares told = record {
-    answers = λ clean s m it.
-        if_ok_by r (LeavesUnchanged b c) (answer s m)
-        (λ last.
-        let of = shares s m it (early b c _ last.goes.on.crash clean) in
-        IfOk-weaker r (answer_part of.part of.share) (answer s m) of.turn (told.answers clean of.part of.share of.shown))
-        told.looks;
-    looks = on_ok_then r (LeavesUnchanged b c) (LeavesUnchanged a c) (looks_then a b c looked) told.looks;
-    aborts = on_err_then r (IsAborted b c) (IsAborted a c) (cut_then a b c looked.goes.on) told.aborts;
+    call = record {
+      answers = λ clean s m it.
+          if_ok_by r (LeavesUnchanged b c) (answer s m)
+          (λ last.
+          let of = shares s m it (early b c _ last.goes.on.crash clean) in
+          IfOk-weaker r (answer_part of.part of.share) (answer s m) of.turn (told.answers clean of.part of.share of.shown))
+          told.looks;
+      looks = on_ok_then r (LeavesUnchanged b c) (LeavesUnchanged a c) (looks_then a b c looked) told.looks;
+      aborts = on_err_then r (IsAborted b c) (IsAborted a c) (cut_then a b c looked.goes.on) told.aborts;
+      faults = λ s m it allowed within. excused_then a b c looked.goes.on r told.aborts (λ before.
+          let of = shares s m it before in
+          let both = of.allowed allowed within in
+          told.faults of.part of.share of.shown both.0 both.1);
+    };
     spares = λ clean. last_spares a b c looked r told.aborts clean (told.spares clean);
-    faults = λ s m it allowed within. excused_then a b c looked.goes.on r told.aborts (λ before.
-        let of = shares s m it before in
-        let both = of.allowed allowed within in
-        told.faults of.part of.share of.shown both.0 both.1);
   }

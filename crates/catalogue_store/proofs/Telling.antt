@@ -1,7 +1,10 @@
 -- Texts and containers, as other tables change.
-use Rattle.office_tables.specs.Schema as tables
 use Rattle.std.proofs.Common.{◌≡◌, ℕ, List, ◌∙◌}
-use Rattle.catalogue_store.proofs.Common.{AreElements, AreHoused, BoxKey, Catalogue, Database, Descriptions, ElementRow, HasDescriptions, HousingRow, IsDescribed, KnowsItsContainers, OfficeRow, RepresentsCatalogue, Trees, Values, Version, element_row, housing_row, still_numbered, with_boxes}
+use Rattle.office_tables.specs.Schema as tables
+use Rattle.catalogue_store.proofs.Common.{AreElements, AreHoused, BoxKey, Catalogue, Database, Descriptions, ElementRow}
+use Rattle.catalogue_store.proofs.Common.{HasDescriptions, HousingRow, IsDescribed, KnowsItsContainers, OfficeRow}
+use Rattle.catalogue_store.proofs.Common.{RepresentsCatalogue, Trees, Values, Version, element_row, housing_row}
+use Rattle.catalogue_store.proofs.Common.{still_numbered, with_boxes}
 
 pub same_elements : (old new : Trees) (xs : List ElementRow) → new tables.element.tree ≡ old tables.element.tree
     → AreElements old xs → AreElements new xs

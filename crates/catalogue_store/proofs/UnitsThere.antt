@@ -1,8 +1,10 @@
 -- A unit that is looked up by its number.
-use Rattle.std.proofs.Common.{◌≡◌, ℕ, ◌<◌, ◌≤◌, ◌^◌, Bool, true, false, cond, List, [], ◌∷◌, find, Some, option_map, refl, sym, ◌∙◌, nat_eq, arith}
-use Rattle.std.specs.Prelude.{◌||◌}
+use Rattle.std.proofs.Common.{◌≡◌, ℕ, ◌<◌, ◌≤◌, ◌^◌, Bool, true, false, cond, List, [], ◌∷◌, find, Some, option_map}
+use Rattle.std.proofs.Common.{refl, sym, ◌∙◌, nat_eq, arith}
 use Rattle.std.proofs.lemmas.Bool.Decides.{nat_tests}
-use Rattle.catalogue_store.proofs.Common.{AllByRecursion, Catalogue, Forest, IsKept, RepresentsUnits, Trees, Unit, each, has-each, has_id, has_unit, is_some, list_any, list_any-IsPermutation, nodes}
+use Rattle.std.specs.Prelude.{◌||◌}
+use Rattle.catalogue_store.proofs.Common.{AllByRecursion, Catalogue, Forest, IsKept, RepresentsUnits, Trees, Unit, each}
+use Rattle.catalogue_store.proofs.Common.{has-each, has_id, has_unit, is_some, list_any, list_any-IsPermutation, nodes}
 
 none_so_high : (n : ℕ) (ids : List ℕ) → 2 ^ 63 ≤ n → AllByRecursion (λ id. id < 2 ^ 63) ids
     → list_any (nat_eq n) ids ≡ false

@@ -1,17 +1,25 @@
 -- What the tables show after a unit takes other values.
+use Rattle.std.proofs.Common.{◌≡◌, ℕ, List, map, filter, true, false, not, inl, inr, if◌then◌else◌, nat_eq, refl, sym}
+use Rattle.std.proofs.Common.{subst, ◌∙◌}
 use Rattle.office_tables.specs.Schema as tables
-use Rattle.std.proofs.Common.{◌≡◌, ℕ, List, map, filter, true, false, not, inl, inr, if◌then◌else◌, nat_eq, refl, sym, subst, ◌∙◌}
-use Rattle.catalogue_statements.specs.DescriptionRows.{cell_of}
 use Rattle.catalogue_statements.proofs.HousingLemmas.{same_cells}
 use Rattle.catalogue_statements.proofs.Parts.{own_cells, others_cells, all_theirs}
-use Rattle.catalogue_store.proofs.Common.{AllByRecursion, BoxKey, Catalogue, Database, ElementRow, Forest, HousingRow, IsDescribed, IsPermutation, IsPermutation-map, IsPermutation-trans, KnowsItsContainers, OfficeRow, Represents, Trees, Unit, Values, Version, WithHousings, WithTexts, all_both, all_map, all_weaker, cases_Bool, each, each_each, element_cells, elements_of, eqb-true, has, has_id, housing_cell, housing_cells, housings_of, is_same, kept_by, list_all, list_any, nodes, nodes-each, rising, still_there, unit_row, with_boxes, with_values}
+use Rattle.catalogue_statements.specs.DescriptionRows.{cell_of}
+use Rattle.catalogue_store.proofs.Common.{AllByRecursion, BoxKey, Catalogue, Database, ElementRow, Forest, HousingRow}
+use Rattle.catalogue_store.proofs.Common.{IsDescribed, IsPermutation, IsPermutation-map, IsPermutation-trans}
+use Rattle.catalogue_store.proofs.Common.{KnowsItsContainers, OfficeRow, Represents, Trees, Unit, Values, Version}
+use Rattle.catalogue_store.proofs.Common.{WithHousings, WithTexts, all_both, all_map, all_weaker, cases_Bool}
+use Rattle.catalogue_store.proofs.Common.{cells_of_unit, each, each_each, elements_of, eqb-true, has, has_id}
+use Rattle.catalogue_store.proofs.Common.{housing_cell, housing_places, is_same_box, kept_by, list_all, list_any, nodes}
+use Rattle.catalogue_store.proofs.Common.{nodes-each, numbered_containers, numbered_texts, rising, still_there}
+use Rattle.catalogue_store.proofs.Common.{with_boxes, with_values}
 
 -- what tells the unit's values in the tables is what tells these, and all else is as it was
 pub record HasValued (old new : Database) (unit : ℕ) (values : Values) (units : List Unit) (elements : List ElementRow) (housings : List HousingRow) (boxes : List BoxKey) : Type 0 where
   pub schema : new.schema ≡ old.schema
   pub office : new.trees tables.office.tree ≡ old.trees tables.office.tree
   pub places : new.trees tables.link.tree ≡ old.trees tables.link.tree
-  pub units_are : new.trees tables.unit.tree ≡ map unit_row (map (λ (u : Unit). if has_id unit u then record u { values = values } else u) units)
+  pub units_are : new.trees tables.unit.tree ≡ map cells_of_unit (map (λ (u : Unit). if has_id unit u then record u { values = values } else u) units)
   pub described : IsDescribed unit values boxes (filter (λ x. not (nat_eq unit x.unit)) elements) (filter (λ x. not (nat_eq unit x.unit)) housings) new.trees
 
 module _ (unit : ℕ) (values : Values) where
@@ -30,34 +38,34 @@ module _ (unit : ℕ) (values : Values) where
   ]
 
   elements_still : (f : Forest Unit) (xs ys : List ElementRow)
-      → WithTexts unit (element_cells values) (filter (λ x. not (nat_eq unit x.unit)) xs) ys
-      → AllByRecursion (λ u. IsPermutation (element_cells u.values) (elements_of u.id xs)) (nodes f)
-      → AllByRecursion (λ u. IsPermutation (element_cells u.values) (elements_of u.id ys)) (nodes (each valued f))
+      → WithTexts unit (numbered_texts values) (filter (λ x. not (nat_eq unit x.unit)) xs) ys
+      → AllByRecursion (λ u. IsPermutation (numbered_texts u.values) (elements_of u.id xs)) (nodes f)
+      → AllByRecursion (λ u. IsPermutation (numbered_texts u.values) (elements_of u.id ys)) (nodes (each valued f))
   elements_still f xs ys told all =
-      let P = λ (n : ℕ) (v : Values). IsPermutation (element_cells v) (elements_of n ys) in
+      let P = λ (n : ℕ) (v : Values). IsPermutation (numbered_texts v) (elements_of n ys) in
       subst (AllByRecursion (λ (u : Unit). P u.id u.values)) (sym (nodes-each valued f))
-      (all_map valued (λ (u : Unit). P u.id u.values) (λ (u : Unit). IsPermutation (element_cells u.values) (elements_of u.id xs))
-      (λ u h. by_values P u (own_cells (λ (e : ElementRow). e.unit) cell_of unit (element_cells values) xs ys told)
-      (λ apart. IsPermutation-trans (element_cells u.values) (elements_of u.id xs) (elements_of u.id ys) h (others_cells (λ (e : ElementRow). e.unit) cell_of unit u.id (element_cells values) xs ys apart told)))
+      (all_map valued (λ (u : Unit). P u.id u.values) (λ (u : Unit). IsPermutation (numbered_texts u.values) (elements_of u.id xs))
+      (λ u h. by_values P u (own_cells (λ (e : ElementRow). e.unit) cell_of unit (numbered_texts values) xs ys told)
+      (λ apart. IsPermutation-trans (numbered_texts u.values) (elements_of u.id xs) (elements_of u.id ys) h (others_cells (λ (e : ElementRow). e.unit) cell_of unit u.id (numbered_texts values) xs ys apart told)))
       (nodes f) all)
 
   abbrev IsKnown : List BoxKey → Unit → Type 0
-  IsKnown boxes u = list_all (λ box. list_any (is_same box) boxes) u.values.boxes ≡ true
+  IsKnown boxes u = list_all (λ box. list_any (is_same_box box) boxes) u.values.boxes ≡ true
 
   housings_still : (f : Forest Unit) (boxes more : List BoxKey) (xs ys : List HousingRow)
-      → ((u : Unit) → IsKnown boxes u → housing_cells more u.values ≡ housing_cells boxes u.values)
-      → WithHousings unit (housing_cells more values) (filter (λ x. not (nat_eq unit x.unit)) xs) ys
+      → ((u : Unit) → IsKnown boxes u → numbered_containers more u.values ≡ numbered_containers boxes u.values)
+      → WithHousings unit (numbered_containers more values) (filter (λ x. not (nat_eq unit x.unit)) xs) ys
       → AllByRecursion (IsKnown boxes) (nodes f)
-      → AllByRecursion (λ u. IsPermutation (housing_cells boxes u.values) (housings_of u.id xs)) (nodes f)
-      → AllByRecursion (λ u. IsPermutation (housing_cells more u.values) (housings_of u.id ys)) (nodes (each valued f))
+      → AllByRecursion (λ u. IsPermutation (numbered_containers boxes u.values) (housing_places u.id xs)) (nodes f)
+      → AllByRecursion (λ u. IsPermutation (numbered_containers more u.values) (housing_places u.id ys)) (nodes (each valued f))
   housings_still f boxes more xs ys same told known all =
-      let P = λ (n : ℕ) (v : Values). IsPermutation (housing_cells more v) (housings_of n ys) in
-      let Q = λ (u : Unit). IsPermutation (housing_cells more u.values) (housings_of u.id xs) in
-      let still = all_both (IsKnown boxes) (λ (u : Unit). IsPermutation (housing_cells boxes u.values) (housings_of u.id xs)) Q (λ u k h. subst (λ l. IsPermutation l (housings_of u.id xs)) (sym (same u k)) h) (nodes f) known all in
+      let P = λ (n : ℕ) (v : Values). IsPermutation (numbered_containers more v) (housing_places n ys) in
+      let Q = λ (u : Unit). IsPermutation (numbered_containers more u.values) (housing_places u.id xs) in
+      let still = all_both (IsKnown boxes) (λ (u : Unit). IsPermutation (numbered_containers boxes u.values) (housing_places u.id xs)) Q (λ u k h. subst (λ l. IsPermutation l (housing_places u.id xs)) (sym (same u k)) h) (nodes f) known all in
       subst (AllByRecursion (λ (u : Unit). P u.id u.values)) (sym (nodes-each valued f))
       (all_map valued (λ (u : Unit). P u.id u.values) Q
-      (λ u h. by_values P u (own_cells (λ (h : HousingRow). h.unit) housing_cell unit (housing_cells more values) xs ys told)
-      (λ apart. IsPermutation-trans (housing_cells more u.values) (housings_of u.id xs) (housings_of u.id ys) h (others_cells (λ (h : HousingRow). h.unit) housing_cell unit u.id (housing_cells more values) xs ys apart told)))
+      (λ u h. by_values P u (own_cells (λ (h : HousingRow). h.unit) housing_cell unit (numbered_containers more values) xs ys told)
+      (λ apart. IsPermutation-trans (numbered_containers more u.values) (housing_places u.id xs) (housing_places u.id ys) h (others_cells (λ (h : HousingRow). h.unit) housing_cell unit u.id (numbered_containers more values) xs ys apart told)))
       (nodes f) still)
 
   pub shows_valued : (v : Version) (represents : Trees → Forest ℕ → Type 0)
@@ -88,7 +96,7 @@ module _ (unit : ℕ) (values : Values) where
             elements = made.elements;
             rows = made.texts.rows;
             are = elements_still f at.elements.elements made.elements made.texts_more at.elements.are;
-            others = all_theirs (λ (e : ElementRow). e.unit) cell_of here unit (element_cells values) at.elements.elements made.elements own
+            others = all_theirs (λ (e : ElementRow). e.unit) cell_of here unit (numbered_texts values) at.elements.elements made.elements own
                 (all_weaker (λ (e : ElementRow). has (has_id e.unit) f ≡ true) (λ (e : ElementRow). here e.unit) (λ e h. still_there valued same_id f e.unit ∙ h) at.elements.elements at.elements.others) made.texts_more;
           };
           containers = made.housed.containers;
@@ -96,7 +104,7 @@ module _ (unit : ℕ) (values : Values) where
             housings = made.housings;
             rows = made.housed.rows;
             are = housings_still f c.containers boxes at.housings.housings made.housings (λ u known. same_cells c.containers values.boxes u.values.boxes 1 knows.apart known) made.housed_more knows.known at.housings.are;
-            others = all_theirs (λ (h : HousingRow). h.unit) housing_cell here unit (housing_cells boxes values) at.housings.housings made.housings own
+            others = all_theirs (λ (h : HousingRow). h.unit) housing_cell here unit (numbered_containers boxes values) at.housings.housings made.housings own
                 (all_weaker (λ (h : HousingRow). has (has_id h.unit) f ≡ true) (λ (h : HousingRow). here h.unit) (λ h k. still_there valued same_id f h.unit ∙ k) at.housings.housings at.housings.others) made.housed_more;
           };
         };

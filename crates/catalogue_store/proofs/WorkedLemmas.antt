@@ -1,14 +1,18 @@
 -- The worked catalogue is within the limits, and its tables show it.
-use Rattle.std.proofs.Common.{◌≡◌, map, ℕ, zero, suc, [], ◌∷◌, true, Option, None, replicate, codes, lit≤, IfSome, IsUtf8, refl, arith}
+use Rattle.std.proofs.Common.{◌≡◌, map, ℕ, zero, suc, [], ◌∷◌, true, Option, None, replicate, codes, lit≤, IfSome}
+use Rattle.std.proofs.Common.{IsUtf8, refl, arith}
+use Rattle.std.proofs.lemmas.Str.{IsUtf8-from_is_utf8}
 use Rattle.std.specs.List.{IsDistinct}
 use Rattle.std.specs.Str.{is_utf8, chars}
 use lib.Utf8.{encode}
-use Rattle.std.proofs.lemmas.Str.{IsUtf8-from_is_utf8}
-use Rattle.tree_core.specs.declared.rows.Link.{Link}
 use Rattle.tree_core.proofs.LinkPaths.{length-path}
-use Rattle.catalogue_store.specs.WorkedExamples.{box, fonds, series, example_catalogue, settings, element_rows, housing_rows, link_rows, tables}
+use Rattle.tree_core.specs.declared.rows.Link.{Link}
 use Rattle.office_tables.proofs.Puts.{not_falling}
-use Rattle.catalogue_store.proofs.Common.{AllByRecursion, Bytes, First, HasAllPlaces, IsKept, IsLegibleUnit, IsPermutation-refl, KnowsItsContainers, Represents, RepresentsLinkRows, Unit, each}
+use Rattle.catalogue_store.specs.WorkedExamples.{first_box, dock_fonds, dock_series, example_catalogue, settings}
+use Rattle.catalogue_store.specs.WorkedExamples.{element_rows, housing_rows, link_rows, example_database}
+use Rattle.catalogue_store.proofs.Common.{AllByRecursion, Bytes, First, HasAllPlaces, IsKept, IsLegibleUnit}
+use Rattle.catalogue_store.proofs.Common.{IsPermutation-refl, KnowsItsContainers, Represents, RepresentsLinkRows, Unit}
+use Rattle.catalogue_store.proofs.Common.{each}
 
 -- texts that are not there
 no_texts : (n : ℕ) → AllByRecursion (λ (text : Option Bytes). IfSome text IsUtf8) (replicate n None)
@@ -19,11 +23,11 @@ no_texts (suc n) = (tt, no_texts n)
 text : (t : Bytes) → is_utf8 t ≡ true → IsUtf8 t
 text = IsUtf8-from_is_utf8
 
-legible_fonds : IsLegibleUnit fonds
+legible_fonds : IsLegibleUnit dock_fonds
 unfolding is_utf8 chars encode
 legible_fonds = record { level = text (codes "Fonds") refl; texts = (text (codes "HUL") refl, (text (codes "Hull Dock Company") refl, no_texts 23)); until = tt }
 
-legible_series : IsLegibleUnit series
+legible_series : IsLegibleUnit dock_series
 unfolding is_utf8 chars encode
 legible_series = record { level = text (codes "Series") refl; texts = (tt, (text (codes "Minutes") refl, (tt, (text (codes "2 m") refl, no_texts 21)))); until = refl }
 
@@ -36,7 +40,7 @@ worked_kept = record {
     shallow = λ id. let short = length-path id (each (λ (u : Unit). u.id) example_catalogue.forest) in omega (arith, short);
   };
   units = (legible_fonds, (legible_series, tt));
-  boxes = (record { name = text box.name refl; location = text box.location refl; kind = text box.kind refl }, tt);
+  boxes = (record { name = text first_box.name refl; location = text first_box.location refl; kind = text first_box.kind refl }, tt);
   few_boxes = lit≤ tt;
 }
 
@@ -46,14 +50,14 @@ worked_known = record { apart = refl; known = (refl, (refl, tt)) }
 pub worked_places : HasAllPlaces example_catalogue
 worked_places = (refl, (refl, tt))
 
-pub worked_shown : Represents RepresentsLinkRows First tables settings example_catalogue
+pub worked_shown : Represents RepresentsLinkRows First example_database settings example_catalogue
 unfolding IsDistinct
 worked_shown = record {
   catalogue = record {
     schema_is = refl;
     office = refl;
     next = refl;
-    units = record { units = fonds ∷ series ∷ []; rows = refl; rise = ((refl, tt), (tt, tt)); are = IsPermutation-refl _ };
+    units = record { units = dock_fonds ∷ dock_series ∷ []; rows = refl; rise = ((refl, tt), (tt, tt)); are = IsPermutation-refl _ };
     elements = record {
       elements = map (λ e. e.1) element_rows;
       rows = record { numbered = element_rows; are = refl; rise = ((refl, (refl, (refl, tt))), ((refl, (refl, tt)), ((refl, tt), (tt, tt)))); tell = IsPermutation-refl _ };

@@ -1,6 +1,6 @@
 //! The calls on the whole catalogue.
 
-ghost use Rattle.std.specs.Prelude.{[], OnOk, ⊤};
+ghost use Rattle.std.specs.Prelude.{[], OnOk};
 ghost use Rattle.sqlite.specs.Held.{state};
 ghost use Rattle.sqlite.specs.State.{HasCleanDisk};
 ghost use Rattle.sqlite.specs.Effect.{Database};
@@ -9,6 +9,7 @@ ghost use Rattle.tree_core.specs.Forest.{Empty};
 ghost use Rattle.office_tables.specs.Calls.{RepresentsAlone, StoreAnswers};
 ghost use Rattle.office_tables.specs.Creation.{IsMaking, LeavesMaking};
 ghost use Rattle.catalogue_core.specs.UnitLookup.{FindsUnit};
+ghost use Rattle.office_tables.specs.Premises.{◌gives◌};
 ghost use Rattle.office_tables.specs.Schema.{desk_schema, desk_tables};
 ghost use Rattle.catalogue_statements.specs.Representation.{Represents, RepresentsUnits};
 ghost use Rattle.catalogue_core.specs.Units.{is_from};
@@ -51,9 +52,8 @@ pub fn known<P: Versioned, S: Alter>(
     source: &Text,
     legacy: &Text,
 ) -> Result<Option<Number>, StoreFault>
-    ensures answers { StoreAnswers S.Store (RepresentsAlone RepresentsUnits) (λ _. ⊤) tables.old tables.new result
-        (λ _. ⊤)
-        (λ _ f. FindsUnit (is_from source.now legacy.now) f) }
+    ensures answers { StoreAnswers S.Store (RepresentsAlone RepresentsUnits) tables.old tables.new result
+        gives λ _ f. FindsUnit (is_from source.now legacy.now) f }
 {
     unit_number(alloc, tables, source, legacy)
 }

@@ -1,6 +1,6 @@
 //! What a unit's own line shows of it.
 
-ghost use Rattle.std.specs.Prelude.{◌≡◌, ⊤, [], Some, find, map, nat_eq, option_map, true, unwrap_or, IfOk};
+ghost use Rattle.std.specs.Prelude.{◌≡◌, [], Some, find, map, nat_eq, option_map, true, unwrap_or, IfOk};
 ghost use Rattle.std.specs.List.{AllByRecursion};
 ghost use Rattle.tree_core.specs.Forest.{nodes, path};
 ghost use Rattle.tree_core.specs.Tops.{part_below, tops};
@@ -8,6 +8,7 @@ ghost use Rattle.catalogue_core.specs.Bounds.{IsKept};
 ghost use Rattle.catalogue_core.specs.UnitLookup.{has_unit};
 ghost use Rattle.catalogue_core.specs.Units.{has_id};
 ghost use Rattle.office_tables.specs.Calls.{StoreAnswers};
+ghost use Rattle.office_tables.specs.Premises.{◌within◌and◌gives◌, ◌within◌gives◌};
 ghost use Rattle.catalogue_statements.specs.Representation.{Represents};
 ghost use Rattle.catalogue_statements.specs.declared.row_types.Element.{Element};
 ghost use Rattle.catalogue_store.specs.Heads.{head_at, head_of};
@@ -56,9 +57,8 @@ pub fn find_head<P: Places, S: Alter>(
     tables: &mut Tables<P, S>,
     unit: Number,
 ) -> Result<Option<Head>, StoreFault>
-    ensures answers { StoreAnswers S.Store (Represents P.represents P.version) IsKept tables.old tables.new result
-        (λ _. ⊤)
-        (λ _ c head. head ≡ option_map head_of (find (has_id unit) (nodes c.forest))) }
+    ensures answers { StoreAnswers S.Store (Represents P.represents P.version) tables.old tables.new result
+        within IsKept gives λ _ c head. head ≡ option_map head_of (find (has_id unit) (nodes c.forest)) }
 {
     let Some(standing) = find_standing(alloc, tables, unit)? else {
         return Ok(None);
@@ -82,9 +82,9 @@ fn heads_of<P: Places, S: Alter>(
     tables: &mut Tables<P, S>,
     units: &[Number],
 ) -> Result<Vec<Head>, StoreFault>
-    ensures answers { StoreAnswers S.Store (Represents P.represents P.version) IsKept tables.old tables.new result
-        (λ c. AllByRecursion (λ unit. has_unit c.forest unit ≡ true) units.now)
-        (λ _ c heads. map Some heads.items ≡ map (head_at c.forest) units.now) }
+    ensures answers { StoreAnswers S.Store (Represents P.represents P.version) tables.old tables.new result
+        within IsKept and (λ c. AllByRecursion (λ unit. has_unit c.forest unit ≡ true) units.now)
+        gives λ _ c heads. map Some heads.items ≡ map (head_at c.forest) units.now }
 {
     let mut heads = Vec::new(alloc);
     for unit in units {
@@ -103,9 +103,8 @@ pub fn path_heads<P: Places, S: Alter>(
     tables: &mut Tables<P, S>,
     unit: Number,
 ) -> Result<Vec<Head>, StoreFault>
-    ensures answers { StoreAnswers S.Store (Represents P.represents P.version) IsKept tables.old tables.new result
-        (λ _. ⊤)
-        (λ _ c heads. heads.items ≡ map head_of (path (has_id unit) c.forest)) }
+    ensures answers { StoreAnswers S.Store (Represents P.represents P.version) tables.old tables.new result
+        within IsKept gives λ _ c heads. heads.items ≡ map head_of (path (has_id unit) c.forest) }
 {
     let units = P::path(alloc, tables, unit)?;
     heads_of(alloc, tables, &units)
@@ -117,9 +116,8 @@ pub fn heads_below<P: Places, S: Alter>(
     tables: &mut Tables<P, S>,
     unit: Option<Number>,
 ) -> Result<Vec<Head>, StoreFault>
-    ensures answers { StoreAnswers S.Store (Represents P.represents P.version) IsKept tables.old tables.new result
-        (λ _. ⊤)
-        (λ _ c heads. heads.items ≡ map head_of (tops (part_below has_id unit c.forest))) }
+    ensures answers { StoreAnswers S.Store (Represents P.represents P.version) tables.old tables.new result
+        within IsKept gives λ _ c heads. heads.items ≡ map head_of (tops (part_below has_id unit c.forest)) }
 {
     let units = P::below(alloc, tables, unit)?;
     heads_of(alloc, tables, &units)

@@ -2,6 +2,7 @@
 //! added at once.
 
 ghost use Rattle.std.specs.Prelude.{ℕ, Option};
+ghost use Rattle.office_tables.specs.Premises.{◌when◌within◌gives◌};
 ghost use Rattle.office_tables.specs.Versions.{Version};
 ghost use Rattle.catalogue_core.specs.Bounds.{IsKept};
 ghost use Rattle.catalogue_core.specs.Descriptions.{AreWhole, HasPlaceFor, IsNew, MayDescribe, with_values};
@@ -26,8 +27,9 @@ pub fn enter_unit<P: Versioned, S: Alter>(
     unit: &NewUnit<'_>,
 ) -> Result<(), StoreFault>
     ensures updates { (version : Version) (parent : Option ℕ)
-        → StoreUpdates S.Store (RepresentsCatalogue version) (λ c. IsKept c × IsNew (unit_of unit.now) c)
-        tables.old tables.new result (HasPlaceFor parent) (with_entered parent (unit_of unit.now)) described_trees }
+        → StoreUpdates S.Store described_trees (RepresentsCatalogue version) tables.old tables.new result
+        when HasPlaceFor parent within (λ c. IsKept c × IsNew (unit_of unit.now) c)
+        gives with_entered parent (unit_of unit.now) }
 {
     insert_unit(tables, unit)?;
     describe(alloc, tables, unit.id, unit.values)
@@ -41,8 +43,8 @@ pub fn enter_values<P: Versioned, S: Alter>(
     values: &Values,
 ) -> Result<(), StoreFault>
     ensures updates { (version : Version)
-        → StoreUpdates S.Store (RepresentsCatalogue version) (λ c. IsKept c × AreWhole values.now)
-        tables.old tables.new result (MayDescribe unit) (with_values unit values.now) described_trees }
+        → StoreUpdates S.Store described_trees (RepresentsCatalogue version) tables.old tables.new result
+        when MayDescribe unit within (λ c. IsKept c × AreWhole values.now) gives with_values unit values.now }
 {
     set_level(tables, unit, values)?;
     clear(tables, unit)?;

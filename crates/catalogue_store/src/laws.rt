@@ -8,7 +8,7 @@ ghost use Rattle.catalogue_core.specs.CatalogueMerge.{Catalogue};
 ghost use Rattle.office_tables.specs.Versions.{First};
 ghost use Rattle.catalogue_statements.specs.Representation.{Represents, RepresentsLinkRows};
 ghost use Rattle.catalogue_core.specs.Units.{«Unit» as Described};
-ghost use Rattle.catalogue_store.specs.WorkedExamples.{settings, tables, example_catalogue};
+ghost use Rattle.catalogue_store.specs.WorkedExamples.{settings, example_database, example_catalogue};
 
 pub use catalogue_core::laws::open_by_marks;
 
@@ -18,7 +18,7 @@ pub fn worked_catalogue()
     ensures kept { IsKept example_catalogue }
     ensures known { KnowsItsContainers example_catalogue }
     ensures places { HasAllPlaces example_catalogue }
-    ensures shown { Represents RepresentsLinkRows First tables settings example_catalogue }
+    ensures shown { Represents RepresentsLinkRows First example_database settings example_catalogue }
 {}
 
 /// A catalogue that knows its containers still knows them after a unit is added or gets other

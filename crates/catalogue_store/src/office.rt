@@ -1,10 +1,11 @@
 //! The office: its row, and how many units and containers it has.
 
-ghost use Rattle.std.specs.Prelude.{◌≡◌, [], OnOk, ⊤};
+ghost use Rattle.std.specs.Prelude.{◌≡◌, [], OnOk};
 ghost use Rattle.sqlite.specs.Held.{state};
 ghost use Rattle.sqlite.specs.State.{HasCleanDisk};
 ghost use Rattle.office_tables.specs.Calls.{StoreAnswers};
 ghost use Rattle.office_tables.specs.ChangeStatement.{Leaves};
+ghost use Rattle.office_tables.specs.Premises.{◌within◌gives◌};
 ghost use Rattle.office_tables.specs.Schema as schema;
 ghost use Rattle.office_tables.specs.Step.{InTransaction, PutsRow};
 ghost use Rattle.catalogue_statements.specs.CallClauses.{FailsWithCause};
@@ -71,8 +72,8 @@ pub fn office_row<P: Places, S: Alter>(
     alloc: Global,
     tables: &mut Tables<P, S>,
 ) -> Result<Office, StoreFault>
-    ensures answers { StoreAnswers S.Store (RepresentsSettings P.represents P.version) AreLegibleSettings tables.old
-        tables.new result (λ _. ⊤) (λ c o office. office ≡ office_with_counts c o) }
+    ensures answers { StoreAnswers S.Store (RepresentsSettings P.represents P.version) tables.old tables.new result
+        within AreLegibleSettings gives λ c o office. office ≡ office_with_counts c o }
 {
     let Some(row) = find_office(alloc, tables)? else {
         return Err(StoreFault::Schema);
@@ -91,8 +92,8 @@ pub fn settings<P: Places, S: Alter>(
     alloc: Global,
     tables: &mut Tables<P, S>,
 ) -> Result<OfficeRow, StoreFault>
-    ensures answers { StoreAnswers S.Store (RepresentsSettings P.represents P.version) AreLegibleSettings tables.old
-        tables.new result (λ _. ⊤) (λ _ o row. row ≡ o) }
+    ensures answers { StoreAnswers S.Store (RepresentsSettings P.represents P.version) tables.old tables.new result
+        within AreLegibleSettings gives λ _ o row. row ≡ o }
 {
     let Some(row) = find_office(alloc, tables)? else {
         return Err(StoreFault::Schema);

@@ -1,11 +1,11 @@
 //! The values of a unit, read from its rows.
 
 ghost use Rattle.std.specs.Prelude.{◌≡◌, ◌≢◌, ◌<◌, ℕ, List, length, map, true, IsPermutation, IsOk, IfOk};
-ghost use Rattle.std.specs.Prelude.{IfSome, IfNone, IfErr, IsUtf8, ⊤};
+ghost use Rattle.std.specs.Prelude.{IfSome, IfNone, IfErr, IsUtf8};
 ghost use Rattle.std.specs.List.{AllByRecursion, list_any, list_all};
 ghost use Rattle.sqlite.specs.Held.{state};
 ghost use Rattle.sqlite.specs.State.{HasCleanDisk};
-ghost use Rattle.isad_core.specs.Boxes.{is_same as is_same_box};
+ghost use Rattle.isad_core.specs.Boxes.{is_same_box};
 ghost use Rattle.isad_core.specs.LegibleValues.{IsLegibleBox};
 ghost use Rattle.isad_core.specs.declared.values.BoxKey.{BoxKey};
 ghost use Rattle.isad_core.specs.declared.values.Values.{«Values» as Description};
@@ -13,17 +13,18 @@ ghost use Rattle.catalogue_core.specs.Bounds.{IsKept};
 ghost use Rattle.catalogue_core.specs.Descriptions.{KnowsItsContainers};
 ghost use Rattle.catalogue_core.specs.CatalogueMerge.{box_number};
 ghost use Rattle.office_tables.specs.Calls.{StoreAnswers};
+ghost use Rattle.office_tables.specs.Premises.{◌within◌and◌gives◌, ◌within◌gives◌};
 ghost use Rattle.office_tables.specs.RowNumbers.{HoldsNumbered};
 ghost use Rattle.office_tables.specs.Schema as schema;
 ghost use Rattle.catalogue_statements.specs.CallClauses.{FailsWithCause, OnlyReads};
 ghost use Rattle.catalogue_statements.specs.Rows.{HousingRow, housing_row};
-ghost use Rattle.catalogue_statements.specs.Representation.{RepresentsContainers, element_cells, housing_cells};
+ghost use Rattle.catalogue_statements.specs.Representation.{RepresentsContainers, numbered_texts, numbered_containers};
 ghost use Rattle.catalogue_statements.specs.Representation.{element_number as number_of_place};
-ghost use Rattle.catalogue_statements.specs.Representation.{housings_of as containers_among};
+ghost use Rattle.catalogue_statements.specs.Representation.{housing_places};
 ghost use Rattle.catalogue_statements.specs.Values.{RepresentsValues, TellsTexts};
 ghost use Rattle.catalogue_statements.specs.declared.row_types.Element.{Element};
 ghost use Rattle.catalogue_statements.specs.declared.row_types.Housing.{Housing};
-ghost use Rattle.catalogue_store.specs.UnitValues.{values_of};
+ghost use Rattle.catalogue_store.specs.UnitValues.{values_of_unit};
 
 use catalogue_statements::containers::{find_container, housings_of};
 use catalogue_statements::elements::elements_of;
@@ -59,10 +60,10 @@ fn place_of(k: u64) -> Option<usize>
 /// The texts of these elements, each at the place of its element.
 fn texts_by_element(elements: Vec<Element>) -> Result<[Option<Text>; 25], StoreFault>
     ensures value { (values : Description) → length values.texts ≡ 25
-        → map (λ (e : Element). (e.k, e.value)) elements.items ≡ element_cells values
+        → map (λ (e : Element). (e.k, e.value)) elements.items ≡ numbered_texts values
         → IfOk result (λ texts. texts ≡ values.texts) }
     ensures places { (values : Description) → length values.texts ≡ 25
-        → map (λ (e : Element). (e.k, e.value)) elements.items ≡ element_cells values → IsOk result }
+        → map (λ (e : Element). (e.k, e.value)) elements.items ≡ numbered_texts values → IsOk result }
     ensures fair { IfErr result (λ e. e ≡ StoreFault.Schema) }
 {
     let mut texts = array::from_fn(|_| None);
@@ -81,8 +82,8 @@ fn texts_of<P: Versioned, S: Alter>(
     tables: &mut Tables<P, S>,
     unit: Number,
 ) -> Result<[Option<Text>; 25], StoreFault>
-    ensures answers { StoreAnswers S.Store (TellsTexts unit) (AllByRecursion (λ e. IsUtf8 e.value)) tables.old
-        tables.new result (λ _. ⊤) (λ values _ texts. texts ≡ values.texts) }
+    ensures answers { StoreAnswers S.Store (TellsTexts unit) tables.old tables.new result
+        within AllByRecursion (λ e. IsUtf8 e.value) gives λ values _ texts. texts ≡ values.texts }
 {
     let found = elements_of(alloc, tables, unit)?;
     texts_by_element(found)
@@ -109,7 +110,7 @@ fn containers_of<P: Versioned, S: Alter>(
     ensures numbers { HasCleanDisk (state S.Store tables.new) → (xs : List HousingRow)
         → HoldsNumbered schema.housing housing_row (state S.Store tables.old) xs
         → (boxes : List BoxKey) (values : Description)
-        → IsPermutation (housing_cells boxes values) (containers_among unit xs)
+        → IsPermutation (numbered_containers boxes values) (housing_places unit xs)
         → IfOk result (λ numbers. numbers ≡ map (box_number boxes) values.boxes) }
     ensures faults { (xs : List HousingRow) → HoldsNumbered schema.housing housing_row (state S.Store tables.old) xs
         → FailsWithCause S.Store tables.old tables.new result }
@@ -167,8 +168,8 @@ pub fn values<P: Versioned, S: Alter>(
     tables: &mut Tables<P, S>,
     unit: Number,
 ) -> Result<Option<UnitValues>, StoreFault>
-    ensures answers { StoreAnswers S.Store RepresentsValues IsKept tables.old tables.new result KnowsItsContainers
-        (λ _ c found. found ≡ values_of unit c) }
+    ensures answers { StoreAnswers S.Store RepresentsValues tables.old tables.new result
+        within IsKept and KnowsItsContainers gives λ _ c found. found ≡ values_of_unit unit c }
 {
     let Some(level) = find_level(alloc, tables, unit)? else {
         return Ok(None);

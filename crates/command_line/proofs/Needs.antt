@@ -1,12 +1,17 @@
 -- What each command of the program needs is there, where the words have no fault.
 use Rattle.std.proofs.Common.{◌≡◌, ℕ, List, [], Option, Some, None, true, false, codes, refl, subst, sym, arith, rules}
-use Rattle.clap.specs.Walk.{Row, Rule, Text, arg_by_id, nothing_held, stop_after, walk_from}
-use Rattle.clap.specs.Faults.{entered_fault, fault_of, level_fault, walk_fault}
 use Rattle.clap.proofs.ValueTestLemmas.{accepts-Accepts}
-use Rattle.command_line.specs.CommandLine.{check_command, import_command, init_command, migrate_command, number_from_to, preview_command, program, serve_command, store_option, talk_command, trial_command, wanted_option, wanted_file, wanted_within}
-use Rattle.command_line.specs.OptionValues.{HasNeeds, HasNumberWithin, HasSettings, HasText, Previews, Begins, Tries, Imports, Talks, Serves, Checks, Migrates}
-use Rattle.command_line.proofs.Common.{IsSome, Shape, built, built_leaf, filled, inherited, names_of, option_map, subcommand_of, with_index}
-use Rattle.command_line.proofs.Rows.{ArePlain, TextOf, entered_level, first_none, has_text, level_rows, second_none, asking, text_rule}
+use Rattle.clap.specs.Faults.{entered_fault, fault_of, level_fault, walk_fault}
+use Rattle.clap.specs.Walk.{Row, Rule, Text, arg_by_id, nothing_held, stop_after, walk_from}
+use Rattle.command_line.specs.CommandLine.{check_command, import_command, init_command, migrate_command, number_from_to}
+use Rattle.command_line.specs.CommandLine.{preview_command, program, serve_command, store_option, talk_command}
+use Rattle.command_line.specs.CommandLine.{trial_command, wanted_option, wanted_file, wanted_within}
+use Rattle.command_line.specs.OptionValues.{HasNeeds, HasNumberWithin, HasSettings, HasText, Previews, Begins, Tries}
+use Rattle.command_line.specs.OptionValues.{Imports, Talks, Serves, Checks, Migrates}
+use Rattle.command_line.proofs.Common.{IsSome, Shape, built, built_leaf, filled, inherited, names_of, option_map}
+use Rattle.command_line.proofs.Common.{subcommand_of, with_index}
+use Rattle.command_line.proofs.Rows.{ArePlain, TextOf, entered_level, first_none, has_text, level_rows, second_none}
+use Rattle.command_line.proofs.Rows.{asking, text_rule}
 
 -- a command as it is built into the program
 abbrev made : Shape → Shape

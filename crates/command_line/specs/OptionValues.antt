@@ -12,8 +12,8 @@ abbrev pub IsValue : List Row → Text → Text → Type 0
 IsValue rows name text = first_of name rows ≡ Some text
 
 -- the same for a number: the value of its digits
-abbrev pub IsNumber : List Row → Text → ℕ → Type 0
-IsNumber rows name n =
+abbrev pub IsOptionNumber : List Row → Text → ℕ → Type 0
+IsOptionNumber rows name n =
     (text : Text) × (one_of name rows ≡ Some text) × (digits_value 10 (without_leading_plus text) ≡ n)
 
 -- the same for a day; there is none if the text is not a day of the calendar

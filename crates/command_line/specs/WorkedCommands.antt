@@ -10,12 +10,12 @@ Takes words taken = takes program words ≡ taken
 abbrev pub store : List Text
 store = codes "--store" ∷ codes "a.db" ∷ []
 
-abbrev pub place : List Text
-place = codes "--country" ∷ codes "GB" ∷ codes "--repo" ∷ codes "0999" ∷ []
+abbrev pub place_words : List Text
+place_words = codes "--country" ∷ codes "GB" ∷ codes "--repo" ∷ codes "0999" ∷ []
 
 -- the number of seats, and the other limits of the reading room and the desk
-abbrev pub room : Text → List Text
-room seats = codes "--seats" ∷ seats ∷ codes "--daily" ∷ codes "3" ∷ codes "--hands" ∷ codes "2" ∷ codes "--run" ∷ codes "8" ∷ []
+abbrev pub room_words : Text → List Text
+room_words seats = codes "--seats" ∷ seats ∷ codes "--daily" ∷ codes "3" ∷ codes "--hands" ∷ codes "2" ∷ codes "--run" ∷ codes "8" ∷ []
 
 abbrev pub day : List Text
 day = codes "--day" ∷ codes "2024-03-01" ∷ []
@@ -24,27 +24,27 @@ abbrev pub preview : List Text → List Text
 preview more = codes "preview" ∷ more
 
 abbrev pub trial : Text → List Text
-trial seats = codes "trial" ∷ place ++ room seats ++ day
+trial seats = codes "trial" ∷ place_words ++ room_words seats ++ day
 
 abbrev pub serve : (port connections : Text) → List Text
 serve port connections = codes "serve" ∷ store ++ codes "--port" ∷ port ∷ codes "--connections" ∷ connections ∷ []
 
 -- `trial` with these words in place of the four numbers
-abbrev pub with_numbers : List Text → List Text
-with_numbers words = codes "trial" ∷ place ++ words ++ day
+abbrev pub with_number_words : List Text → List Text
+with_number_words words = codes "trial" ∷ place_words ++ words ++ day
 
 pub record Previews : Type 0 where
-  pub of_file : Takes (preview (place ++ codes "a.csv" ∷ [])) true
-  pub of_input : Takes (preview place) true
-  pub two_files : Takes (preview (place ++ codes "a.csv" ∷ codes "b.csv" ∷ [])) false
+  pub of_file : Takes (preview (place_words ++ codes "a.csv" ∷ [])) true
+  pub of_input : Takes (preview place_words) true
+  pub two_files : Takes (preview (place_words ++ codes "a.csv" ∷ codes "b.csv" ∷ [])) false
   pub no_country : Takes (preview (codes "--repo" ∷ codes "0999" ∷ [])) false
   pub no_repo : Takes (preview (codes "--country" ∷ codes "GB" ∷ [])) false
   pub no_code : Takes (preview (codes "--country" ∷ codes "GB" ∷ codes "--repo" ∷ [])) false
-  pub with_store : Takes (preview (place ++ store)) false
+  pub with_store : Takes (preview (place_words ++ store)) false
 
 pub record Offices : Type 0 where
-  pub begun : Takes (codes "init" ∷ store ++ place ++ room (codes "10") ++ day) true
-  pub begun_nowhere : Takes (codes "init" ∷ place ++ room (codes "10") ++ day) false
+  pub begun : Takes (codes "init" ∷ store ++ place_words ++ room_words (codes "10") ++ day) true
+  pub begun_nowhere : Takes (codes "init" ∷ place_words ++ room_words (codes "10") ++ day) false
   pub tried : Takes (trial (codes "10")) true
   pub tried_in_store : Takes (trial (codes "10") ++ store) false
   pub most_seats : Takes (trial (codes "4294967295")) true
@@ -52,11 +52,11 @@ pub record Offices : Type 0 where
   pub no_seats : Takes (trial (codes "0")) true
   pub fewer_seats : Takes (trial (codes "-1")) false
   pub ten_seats : Takes (trial (codes "ten")) false
-  pub without_seats : Takes (with_numbers (codes "--daily" ∷ codes "3" ∷ codes "--hands" ∷ codes "2" ∷ codes "--run" ∷ codes "8" ∷ [])) false
-  pub without_daily : Takes (with_numbers (codes "--seats" ∷ codes "9" ∷ codes "--hands" ∷ codes "2" ∷ codes "--run" ∷ codes "8" ∷ [])) false
-  pub without_hands : Takes (with_numbers (codes "--seats" ∷ codes "9" ∷ codes "--daily" ∷ codes "3" ∷ codes "--run" ∷ codes "8" ∷ [])) false
-  pub without_run : Takes (with_numbers (codes "--seats" ∷ codes "9" ∷ codes "--daily" ∷ codes "3" ∷ codes "--hands" ∷ codes "2" ∷ [])) false
-  pub without_day : Takes (codes "trial" ∷ place ++ room (codes "10")) false
+  pub without_seats : Takes (with_number_words (codes "--daily" ∷ codes "3" ∷ codes "--hands" ∷ codes "2" ∷ codes "--run" ∷ codes "8" ∷ [])) false
+  pub without_daily : Takes (with_number_words (codes "--seats" ∷ codes "9" ∷ codes "--hands" ∷ codes "2" ∷ codes "--run" ∷ codes "8" ∷ [])) false
+  pub without_hands : Takes (with_number_words (codes "--seats" ∷ codes "9" ∷ codes "--daily" ∷ codes "3" ∷ codes "--run" ∷ codes "8" ∷ [])) false
+  pub without_run : Takes (with_number_words (codes "--seats" ∷ codes "9" ∷ codes "--daily" ∷ codes "3" ∷ codes "--hands" ∷ codes "2" ∷ [])) false
+  pub without_day : Takes (codes "trial" ∷ place_words ++ room_words (codes "10")) false
 
 pub record Work : Type 0 where
   pub imported : Takes (codes "import" ∷ store ++ codes "--source" ∷ codes "dock" ∷ codes "a.csv" ∷ []) true

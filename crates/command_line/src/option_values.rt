@@ -3,7 +3,7 @@ ghost use Rattle.std.specs.Prelude.{◌≡◌, ◌≤◌, IfOk, codes};
 ghost use Rattle.clap.specs.Matches.{found_of};
 ghost use Rattle.clap.specs.Walk.{first_of, rows_of};
 ghost use Rattle.isad_core.specs.Limits.{most_connections};
-ghost use Rattle.command_line.specs.OptionValues.{HasNumber, HasNumberWithin, HasText, IsDay, IsNumber, IsValue};
+ghost use Rattle.command_line.specs.OptionValues.{HasNumber, HasNumberWithin, HasText, IsDay, IsOptionNumber, IsValue};
 
 use clap::ArgMatches;
 use isad_core::{Day, Text};
@@ -42,7 +42,7 @@ pub fn optional_text(
 /// The value of an option that is a number.
 pub fn number(found: &ArgMatches, name: &str) -> u32
     requires { HasNumber (rows_of (found_of found.now)) name.now }
-    ensures { IsNumber (rows_of (found_of found.now)) name.now result }
+    ensures { IsOptionNumber (rows_of (found_of found.now)) name.now result }
 {
     found.get_one(name).unwrap()
 }
@@ -50,7 +50,7 @@ pub fn number(found: &ArgMatches, name: &str) -> u32
 /// The port, which is 1 or more.
 pub fn port(found: &ArgMatches) -> u16
     requires { HasNumberWithin 1 65535 (rows_of (found_of found.now)) (codes "port") }
-    ensures value { IsNumber (rows_of (found_of found.now)) (codes "port") result }
+    ensures value { IsOptionNumber (rows_of (found_of found.now)) (codes "port") result }
     ensures least { 1 ≤ result }
 {
     found.get_one("port").unwrap()
@@ -59,7 +59,7 @@ pub fn port(found: &ArgMatches) -> u16
 /// The number of connections, which is 1 or more, and no more than a server takes.
 pub fn connections(found: &ArgMatches) -> u32
     requires { HasNumberWithin 1 most_connections (rows_of (found_of found.now)) (codes "connections") }
-    ensures value { IsNumber (rows_of (found_of found.now)) (codes "connections") result }
+    ensures value { IsOptionNumber (rows_of (found_of found.now)) (codes "connections") result }
     ensures least { 1 ≤ result }
     ensures most { result ≤ most_connections }
 {

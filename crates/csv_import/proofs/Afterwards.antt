@@ -2,7 +2,11 @@
 use Rattle.std.proofs.Common.{◌≡◌, ℕ, true, nat_eq, List, Result, Ok, Err, OnOk, sym, subst}
 use Rattle.sqlite_trees.specs.declared.store.Store as store
 use Rattle.office_tables.proofs.Outcomes.{on_ok_by}
-use Rattle.csv_import.proofs.Common.{Catalogue, Database, Forest, Goes, HasCleanDisk, Held, IsAborted, IsErr, IsErrAnd, LeavesUnchanged, OnlyTouches, RepresentsLegible, RepresentsNumbered, StoreFault, Trees, Updates, Version, cut_then, early, excused_then, goes_then, list_all, list_any, makes_passed, nothing_touched, on_err_then, on_ok_then, state, touched_wider}
+use Rattle.csv_import.proofs.Common.{Catalogue, Database, Forest, Goes, HasCleanDisk, Held, IsAborted, IsErr, IsErrAnd}
+use Rattle.csv_import.proofs.Common.{LeavesUnchanged, OnlyTouches, RepresentsLegible, RepresentsNumbered, StoreFault}
+use Rattle.csv_import.proofs.Common.{Trees, Updates, Version, cut_then, early, excused_then, goes_then, list_all}
+use Rattle.csv_import.proofs.Common.{list_any, makes_passed, nothing_touched, on_err_then, on_ok_then, state}
+use Rattle.csv_import.proofs.Common.{touched_wider}
 
 -- what the last step needs, and that it makes what the call does
 pub record Serves {Model : Type 0} (kept_then may_then : Model → Type 0) (made_then made : Model → Model) (m : Model) : Type 0 where
@@ -14,7 +18,7 @@ module _ {S Stays Model : Type 0} {g : store.Ghosts S} {represents : Database �
   -- all stays as it is, and so it should be
   pub makes_nothing : {X : Type 0} {x : X}
       → ((s : Stays) (m : Model) → represents (state g before).now s m → may m → HasCleanDisk (state g mid) → m ≡ made m)
-      → Updates g represents kept before mid (Ok x) may made touched
+      → Updates g touched represents before mid (Ok x) may kept made
   makes_nothing same =
       let a = state g before in
       let b = state g mid in
@@ -28,10 +32,10 @@ module _ {S Stays Model : Type 0} {g : store.Ghosts S} {represents : Database �
 
   -- its last step writes
   pub makes_then : {X : Type 0} {after : Held S} {kept_then may_then : Model → Type 0} {made_then : Model → Model} {touched_less : List ℕ} {r : Result X StoreFault}
-      → Updates g represents kept_then mid after r may_then made_then touched_less
+      → Updates g touched_less represents mid after r may_then kept_then made_then
       → list_all (λ t. list_any (nat_eq t) touched) touched_less ≡ true
       → ((s : Stays) (m : Model) → represents (state g before).now s m → may m → HasCleanDisk (state g mid) → Serves kept_then may_then made_then made m)
-      → Updates g represents kept before after r may made touched
+      → Updates g touched represents before after r may kept made
   makes_then {after = after} {touched_less = touched_less} {r = r} step less serves =
       let a = state g before in
       let b = state g mid in
@@ -60,21 +64,21 @@ module _ {S Stays Model : Type 0} {g : store.Ghosts S} {represents : Database �
 
 -- what it tells besides changes nothing of it
 pub makes_same : {S X Y Stays Model : Type 0} {g : store.Ghosts S} {represents : Database → Stays → Model → Type 0} {kept may : Model → Type 0} {made : Model → Model} {touched : List ℕ} {before after : Held S} {x : X} {y : Y}
-    → Updates g represents kept before after (Ok x) may made touched
-    → Updates g represents kept before after (Ok y) may made touched
+    → Updates g touched represents before after (Ok x) may kept made
+    → Updates g touched represents before after (Ok y) may kept made
 makes_same it = record { represents_updated = it.represents_updated; only = it.only; goes = it.goes; aborts = tt; faults = λ s m shown allowed within clean free. tt }
 
 -- it passes the fault of its last step on
 pub makes_fault : {S X Y Stays Model : Type 0} {g : store.Ghosts S} {represents : Database → Stays → Model → Type 0} {kept may : Model → Type 0} {made : Model → Model} {touched : List ℕ} {before after : Held S} (e : StoreFault) {r : Result Y StoreFault}
-    → IsErr r × IsErrAnd r (λ f. f ≡ e) → Updates {X = X} g represents kept before after (Err e) may made touched
-    → Updates g represents kept before after r may made touched
+    → IsErr r × IsErrAnd r (λ f. f ≡ e) → Updates {X = X} g touched represents before after (Err e) may kept made
+    → Updates g touched represents before after r may kept made
 makes_fault {g = g} {represents = represents} {kept = kept} {may = may} {made = made} {touched = touched} {before = before} {after = after} e {r = r} handed it =
     makes_passed e handed it.aborts it.faults
 
 -- a call that leaves the settings
 pub makes_legible : {S X : Type 0} {g : store.Ghosts S} {places : Trees → Forest ℕ → Type 0} {version : Version} {kept may : Catalogue → Type 0} {made : Catalogue → Catalogue} {touched : List ℕ} {before after : Held S} {r : Result X StoreFault}
-    → Updates g (RepresentsNumbered places version) kept before after r may made touched
-    → Updates g (RepresentsLegible places version) kept before after r may made touched
+    → Updates g touched (RepresentsNumbered places version) before after r may kept made
+    → Updates g touched (RepresentsLegible places version) before after r may kept made
 makes_legible {g = g} {places = places} {version = version} {made = made} {after = after} {r = r} it = record {
   represents_updated = λ clean o c shown allowed.
       on_ok_then r (RepresentsNumbered places version (state g after).now o (made c)) (RepresentsLegible places version (state g after).now o (made c))

@@ -1,6 +1,9 @@
 -- The units that rows bring, told one after another before any is entered.
-use Rattle.std.proofs.Common.{◌≡◌, ℕ, ◌+◌, ◌-◌, Bool, true, false, not, cond, List, [], ◌∷◌, ◌++◌, length, length-append, append_assoc, append-nil, Option, Some, None, refl, sym, ap, ◌∙◌, subst, arith}
-use Rattle.csv_import.proofs.Common.{Arrival, Bytes, Forest, KnowsNumbers, Row, Unit, arrival_at, arrivals_from, arrivals_of, bytes_eq, is_known, new_of, number_of, option_and_then, or_there}
+use Rattle.std.proofs.Common.{◌≡◌, ℕ, ◌+◌, ◌-◌, Bool, true, false, not, cond, List, [], ◌∷◌, ◌++◌, length}
+use Rattle.std.proofs.Common.{length-append, append_assoc, append-nil, Option, Some, None, refl, sym, ap, ◌∙◌, subst}
+use Rattle.std.proofs.Common.{arith}
+use Rattle.csv_import.proofs.Common.{Arrival, Bytes, Forest, KnowsNumbers, Row, Unit, arrival_at, arrivals_from}
+use Rattle.csv_import.proofs.Common.{arrivals_of, bytes_eq, is_known, new_of, option_and_then, or_there, parent_number}
 
 module _ (f : Forest Unit) (source : Bytes) (next : ℕ) where
   -- the rest of the rows is to be looked at; of the others it is told what they bring
@@ -15,7 +18,7 @@ module _ (f : Forest Unit) (source : Bytes) (next : ℕ) where
   -- the unit that a row brings
   abbrev brought_by : List Arrival → List Row → Row → Arrival
   brought_by told above row =
-      record { unit = next + length told; parent = option_and_then (number_of f source (next + length told) above) row.parent }
+      record { unit = next + length told; parent = option_and_then (parent_number f source (next + length told) above) row.parent }
 
   -- what is told of a row by the number that comes next
   pub at_number : (n : ℕ) (numbers : Bytes → Option ℕ) (told : List Arrival) (all rest : List Row) (row : Row) (found : Option Arrival)
@@ -53,9 +56,9 @@ module _ (f : Forest Unit) (source : Bytes) (next : ℕ) where
       record {
         above = row ∷ it.above;
         knows = λ legacy.
-            ap (λ m. cond (bytes_eq legacy row.legacy) (Some m) (number_of f source m it.above legacy)) down
+            ap (λ m. cond (bytes_eq legacy row.legacy) (Some m) (parent_number f source m it.above legacy)) down
             ∙ (numbered legacy (bytes_eq legacy row.legacy)
-            ∙ sym (ap (λ o. or_there o (number_of f source n [] legacy)) (more legacy)));
+            ∙ sym (ap (λ o. or_there o (parent_number f source n [] legacy)) (more legacy)));
         are =
             it.are ∙ (ap (λ (b : Bool). told ++ arrivals_from f source n it.above (sorted b row rest)) so.0
             ∙ (ap (λ (a : Arrival). told ++ (a ∷ arrivals_from f source (n + 1) (row ∷ it.above) (new_of f source rest))) (sym so.1)
@@ -69,7 +72,7 @@ module _ (f : Forest Unit) (source : Bytes) (next : ℕ) where
       brought false h = (refl, cc)
 
       numbered : (legacy : Bytes) (b : Bool)
-          → cond b (Some (next + length told)) (number_of f source (next + length told) it.above legacy) ≡ or_there (cond b (Some (next + length told)) (numbers legacy)) (number_of f source (next + length told) [] legacy)
+          → cond b (Some (next + length told)) (parent_number f source (next + length told) it.above legacy) ≡ or_there (cond b (Some (next + length told)) (numbers legacy)) (parent_number f source (next + length told) [] legacy)
       numbered legacy true = refl
       numbered legacy false = it.knows legacy
 

@@ -1,29 +1,41 @@
 -- Carrying out an import: the rows are entered, and then the outcome is judged.
-use Rattle.std.proofs.Common.{◌≡◌, ℕ, ℤ, Bool, true, false, cond, ◌≤◌, List, [], ◌∷◌, length, map, Option, Some, None, Result, Ok, Err, refl, sym, ap, subst, ◌∙◌}
+use Rattle.std.proofs.Common.{◌≡◌, ℕ, ℤ, Bool, true, false, cond, ◌≤◌, List, [], ◌∷◌, length, map, Option, Some, None}
+use Rattle.std.proofs.Common.{Result, Ok, Err, refl, sym, ap, subst, ◌∙◌}
 use Rattle.sqlite.specs.State as store
 use Rattle.sqlite_trees.specs.declared.store.Store as kept_in
 use Rattle.desk_core.specs.declared.refusal.Refusal.{Refusal}
-use Rattle.desk_store.specs.Representation.{RepresentsDesk}
 use Rattle.catalogue_statements.specs.Settings.{AreLegibleSettings}
+use Rattle.desk_store.specs.Representation.{RepresentsDesk}
 use Rattle.office_core.specs.State.{State}
 use Rattle.office_core.specs.declared.command.Command.{Command}
-use Rattle.office_core.specs.declared.done.Done.{Done}
 use Rattle.office_core.specs.declared.command.Command.TheVariants as command
+use Rattle.office_core.specs.declared.done.Done.{Done}
 use Rattle.state_encoding.specs.OfficeRows.{tables}
-use Rattle.refinement.specs.CommandSteps.{CarriesOut, CarriesOutStep}
-use Rattle.refinement.specs.Gate.{gate_reply, unless_refused}
-use Rattle.refinement.specs.AccessConditions.{RepresentsWhole}
 use Rattle.refinement.proofs.Frames.{desk_kept}
 use Rattle.refinement.proofs.Tellings.{looked_crash}
+use Rattle.refinement.specs.AccessConditions.{RepresentsWhole}
+use Rattle.refinement.specs.CommandSteps.{CarriesOut, CarriesOutStep}
+use Rattle.refinement.specs.Gate.{gate_reply, unless_refused}
 use Rattle.csv_import.specs.PendingImport.{ReadsCatalogue}
 use Rattle.csv_import.specs.declared.row_entry.Outcome.{Outcome}
 use Rattle.csv_import.specs.declared.row_plan.Planned.{Planned}
 use Rattle.csv_import.specs.declared.row_plan.Planned.TheVariants as plans
-use Rattle.csv_import.proofs.Common.{Answers, AreGoodUnits, BadFile, Bytes, CanBePlaced, Catalogue, Counts, Database, File, FitsIn, Forest, Full, Goes, HasCleanDisk, HasLegibleSettings, HasNumbered, HaveUnits, Held, IsAborted, IsOk, IsReady, IsSoundOffice, KnowsUnits, LeavesUnchanged, OfficeRow, Reply, Represents, RepresentsEntering, RepresentsLegible, RepresentsNumbered, RepresentsSettings, RepresentsState, Row, StoreFault, Trees, Updates, Version, accepted, after, catalogue_after, catalogue_trees, counts_of, cut_then, does_then, early, excused_then, file_of, first_that_holds, gate, goes_then, has_room, if_ok_with, import_outcome, is_refused, is_source, le-ltb, ltb-false, most_containers, nat_lt, next_with_room, number_there, office_of, office_settings, on_err_then, on_ok_then, plan_of, refusal, refused, reply_after, result_of, state, when, ⊤}
+use Rattle.csv_import.proofs.Common.{Answers, AreGoodUnits, BadFile, Bytes, CanBePlaced, Catalogue, Counts, Database}
+use Rattle.csv_import.proofs.Common.{File, FitsIn, Forest, Full, Goes, HasCleanDisk, HasLegibleSettings}
+use Rattle.csv_import.proofs.Common.{HasNumberedUnits, HaveUnits, Held, IsAborted, IsOk, IsReady, IsSoundOffice}
+use Rattle.csv_import.proofs.Common.{KnowsUnits, LeavesUnchanged, OfficeRow, Reply, Represents, RepresentsEntering}
+use Rattle.csv_import.proofs.Common.{RepresentsLegible, RepresentsNumbered, RepresentsSettings, RepresentsState, Row}
+use Rattle.csv_import.proofs.Common.{StoreFault, Trees, Updates, Version, accepted, after, catalogue_after}
+use Rattle.csv_import.proofs.Common.{catalogue_trees, counts_of, cut_then, does_then, early, excused_then, file_of}
+use Rattle.csv_import.proofs.Common.{first_that_holds, gate, goes_then, has_room, if_ok_with, import_outcome}
+use Rattle.csv_import.proofs.Common.{is_refused, is_source, le-ltb, ltb-false, most_containers, nat_lt, next_with_room}
+use Rattle.csv_import.proofs.Common.{number_there, office_of, office_settings, on_err_then, on_ok_then, plan_of}
+use Rattle.csv_import.proofs.Common.{refusal, refused, reply_after, result_of, state, when, ⊤}
 use Rattle.csv_import.proofs.Counting.{no_room_there, room_there}
 use Rattle.csv_import.proofs.Frames.{entering_of}
 use Rattle.csv_import.proofs.Refused.{faulty, fits_planned, full}
-use Rattle.csv_import.proofs.Imports.{after_is, can_enter, entered_is, has_imported, now, refusal_is, same_desk, texts_stay, told_is}
+use Rattle.csv_import.proofs.Imports.{after_is, can_enter, entered_is, has_imported, now, refusal_is, same_desk}
+use Rattle.csv_import.proofs.Imports.{texts_stay, told_is}
 
 pub settings_shown : (s : State) → HasLegibleSettings s → AreLegibleSettings (office_of s)
 settings_shown s it = record { country = it.country; repo = it.repo; seats = it.seats; daily = it.daily; hands = it.hands; run_size = it.run_size; day = it.day }
@@ -40,7 +52,7 @@ judged_few s made few = ap (λ (b : Bool). cond b (Err Full) (gate_reply s made)
 
 -- the rows' units are there, once they are entered; the same rows and units may be told otherwise
 pub have_units : (source : Bytes) (file : File) (units : List ℕ) (s : State)
-    → length s.catalogue.containers ≤ most_containers → HasNumbered source file units s
+    → length s.catalogue.containers ≤ most_containers → HasNumberedUnits source file units s
     → (rows : List Row) → rows ≡ file.rows → (result_of : List ℕ) → result_of ≡ units
     → HaveUnits source rows result_of s.catalogue
 have_units source file units s within has rows same result_of alike =
@@ -103,7 +115,7 @@ IsFitting today source file numbers next s =
 abbrev Entered : {S : Type 0} → kept_in.Ghosts S → (Trees → Forest ℕ → Type 0) → Version → Bytes → (Bytes → Option ℕ)
     → ℕ → Held S → Held S → Outcome → List Row → Type 0
 Entered g places version source numbers next before after outcome rows =
-    Updates g (RepresentsLegible places version) (λ _. ⊤) before after (let r : Result Outcome StoreFault = Ok outcome in r) (IsReady source rows numbers next) (catalogue_after source rows) catalogue_trees
+    Updates g catalogue_trees (RepresentsLegible places version) before after (let r : Result Outcome StoreFault = Ok outcome in r) (IsReady source rows numbers next) (λ _. ⊤) (catalogue_after source rows)
     × ReadsCatalogue g (RepresentsLegible places version) (IsReady source rows numbers next) before after (let r : Result Outcome StoreFault = Ok outcome in r)
     (λ c made. (made.counts ≡ counts_of c.forest source rows) × (map Some made.units.items ≡ map (λ row. number_there (catalogue_after source rows c) source row.legacy) rows))
 
@@ -146,7 +158,7 @@ module _ {S : Type 0} (g : kept_in.Ghosts S) (places : Trees → Forest ℕ → 
     -- the outcome, and the units of the rows
     has_numbered : HasCleanDisk b → (s : State) → (sound : IsSoundOffice s) → (so : Known s)
         → RepresentsState places version before.now s
-        → HasNumbered source file units (now s source bytes file read sound so.1 so.2)
+        → HasNumberedUnits source file units (now s source bytes file read sound so.1 so.2)
     has_numbered clean s sound so it = record {
       imported = has_imported s source bytes file read sound so.1 so.2;
       numbered =
@@ -154,7 +166,7 @@ module _ {S : Type 0} (g : kept_in.Ghosts S) (places : Trees → Forest ℕ → 
           ∙ ap (λ (k : Catalogue). map (λ (row : Row). number_there k source row.legacy) file.rows) (entered_is s source bytes file read sound so.1 so.2);
     }
 
-    imports_so : Answers g (RepresentsWhole places version) (HasNumbered source file units) mid after_it r (λ _. ⊤) (λ _ s reply. HasNumbered source file units s → today ≡ s.day → reply ≡ reply_after s (import_outcome source file counts s))
+    imports_so : Answers g (RepresentsWhole places version) mid after_it r (λ _. ⊤) (HasNumberedUnits source file units) (λ _ s reply. HasNumberedUnits source file units s → today ≡ s.day → reply ≡ reply_after s (import_outcome source file counts s))
         → CarriesOut places version (λ s. (today ≡ s.day) × (is_source source ≡ true) × FitsIn source file s × KnowsUnits s.catalogue source file.rows numbers × (next ≡ s.catalogue.next)) (command.Import source bytes) before c r
     imports_so answers =
         let asked = command.Import source bytes in
@@ -168,7 +180,7 @@ module _ {S : Type 0} (g : kept_in.Ghosts S) (places : Trees → Forest ℕ → 
               let shown = shown_now at_b s sound so it in
               let has = has_numbered at_b s sound so it in
               let counts_are = (come.1 at_b (office_of s) s.catalogue (shown_legible places version before.now s sound it) (ready s sound so)).0 in
-              if_ok_with r (LeavesUnchanged b c) (λ reply. HasNumbered source file units t → today ≡ t.day → reply ≡ reply_after t (import_outcome source file counts t)) (λ reply. CarriesOutStep places version s asked reply c.now)
+              if_ok_with r (LeavesUnchanged b c) (λ reply. HasNumberedUnits source file units t → today ≡ t.day → reply ≡ reply_after t (import_outcome source file counts t)) (λ reply. CarriesOutStep places version s asked reply c.now)
               (λ reply looked is.
               judged_step places version s t asked c.now (after_is s source bytes file read sound named fits) (refusal_is s source bytes file read sound named fits) reply
               (is has so.0 ∙ ap (reply_after t) (ap (λ (n : Counts). import_outcome source file n t) counts_are ∙ sym (told_is s source bytes file read sound named fits)))
@@ -184,10 +196,10 @@ module _ {S : Type 0} (g : kept_in.Ghosts S) (places : Trees → Forest ℕ → 
 -- the same, where the rows are told otherwise
 pub imports : {S : Type 0} {g : kept_in.Ghosts S} {places : Trees → Forest ℕ → Type 0} {version : Version} {today : ℤ} {source bytes : Bytes} {file : File} (read : file_of bytes ≡ Ok file) {numbers : Bytes → Option ℕ} {next : ℕ} {held mid after_it : Held S} {r : Result Reply StoreFault} {outcome : Outcome} {rows : List Row}
     → rows ≡ file.rows
-    → Updates g (RepresentsLegible places version) (λ _. ⊤) held mid (let r : Result Outcome StoreFault = Ok outcome in r) (IsReady source rows numbers next) (catalogue_after source rows) catalogue_trees
+    → Updates g catalogue_trees (RepresentsLegible places version) held mid (let r : Result Outcome StoreFault = Ok outcome in r) (IsReady source rows numbers next) (λ _. ⊤) (catalogue_after source rows)
     → ReadsCatalogue g (RepresentsLegible places version) (IsReady source rows numbers next) held mid (let r : Result Outcome StoreFault = Ok outcome in r)
     (λ c made. (made.counts ≡ counts_of c.forest source rows) × (map Some made.units.items ≡ map (λ row. number_there (catalogue_after source rows c) source row.legacy) rows))
-    → Answers g (RepresentsWhole places version) (HasNumbered source file outcome.units.items) mid after_it r (λ _. ⊤) (λ _ s reply. HasNumbered source file outcome.units.items s → today ≡ s.day → reply ≡ reply_after s (import_outcome source file outcome.counts s))
+    → Answers g (RepresentsWhole places version) mid after_it r (λ _. ⊤) (HasNumberedUnits source file outcome.units.items) (λ _ s reply. HasNumberedUnits source file outcome.units.items s → today ≡ s.day → reply ≡ reply_after s (import_outcome source file outcome.counts s))
     → CarriesOut places version (IsFitting today source file numbers next) (command.Import source bytes) (state g held) (state g after_it) r
 imports {g = g} {places = places} {version = version} {today = today} {source = source} {bytes = bytes} {file = file} read {numbers = numbers} {next = next} {held = held} {mid = mid} {after_it = after_it} {r = r} {outcome = outcome} same made finds answers =
     imports_so g places version today source bytes file read numbers next held mid after_it r outcome (subst (Entered g places version source numbers next held mid outcome) same (made, finds)) answers

@@ -1,15 +1,23 @@
 -- The units that rows bring come to stand all at once where they come to stand row by row.
-use Rattle.std.proofs.Common.{◌≡◌, ℕ, ◌+◌, Bool, true, false, not, cond, List, [], ◌∷◌, ◌++◌, length, length-append, Option, Some, None, Result, Ok, refl, sym, ap, ap₂, subst, ◌∙◌, nat_eq, arith}
+use Rattle.std.proofs.Common.{◌≡◌, ℕ, ◌+◌, Bool, true, false, not, cond, List, [], ◌∷◌, ◌++◌, length, length-append}
+use Rattle.std.proofs.Common.{Option, Some, None, Result, Ok, refl, sym, ap, ap₂, subst, ◌∙◌, nat_eq, arith}
 use Rattle.std.specs.List.{IsDistinct}
 use Rattle.tree_core.specs.Arrivals.{CanJoin, added}
 use Rattle.catalogue_core.proofs.EachOf.{none_found}
 use Rattle.catalogue_core.proofs.EachRow.{length-numbered}
-use Rattle.catalogue_core.proofs.RowByRow.{IsApart, StandsSo, depth_same, further, known_more, known_number, known_stands, new_more, new_stands, no_such_number, some_depth}
+use Rattle.catalogue_core.proofs.RowByRow.{IsApart, StandsSo, depth_same, further, known_more, known_number}
+use Rattle.catalogue_core.proofs.RowByRow.{known_stands, new_more, new_stands, no_such_number, some_depth}
 use Rattle.catalogue_core.proofs.RowsMerged.{begins}
 use Rattle.catalogue_statements.proofs.Statuses.{each_each}
-use Rattle.tree_places.specs.Arrivals.{MayJoin}
 use Rattle.tree_places.proofs.Joiners.{size_added}
-use Rattle.csv_import.proofs.Common.{AllByRecursion, AreGoodUnits, AreToCome, Arrival, Bytes, Catalogue, Forest, HasDistinctIds, Row, Unit, add, add-each, all_true, and_then, arrival_of, arrivals_from, arrivals_of, catalogue_after, cause_at, depth_under, each, find, has, has-each, has_id, has_place, has_place-each, is_from, merged, new_at, new_of, new_unit, nodes, nodes-each, none_merged, number_of, number_there, numbered_from, onto, onto-more, option_and_then, or_as_before, size, size-each, some_found, with_new, with_row_at, with_rows, with_values}
+use Rattle.tree_places.specs.Arrivals.{MayJoin}
+use Rattle.csv_import.proofs.Common.{AllByRecursion, AreGoodUnits, AreToCome, Arrival, Bytes, Catalogue, Forest}
+use Rattle.csv_import.proofs.Common.{HasDistinctIds, Row, Unit, add, add-each, all_true, and_then, arrival_of}
+use Rattle.csv_import.proofs.Common.{arrivals_from, arrivals_of, catalogue_after, cause_at, depth_under, each, find}
+use Rattle.csv_import.proofs.Common.{has, has-each, has_id, has_place, has_place-each, is_from, merged, new_at, new_of}
+use Rattle.csv_import.proofs.Common.{new_unit, nodes, nodes-each, none_merged, number_there, numbered_from, onto}
+use Rattle.csv_import.proofs.Common.{onto-more, option_and_then, or_as_before, parent_number, size, size-each}
+use Rattle.csv_import.proofs.Common.{some_found, with_new, with_row_at, with_rows, with_values}
 use Rattle.csv_import.proofs.OneRow.{entered_new, may_come, none_against}
 use Rattle.csv_import.proofs.RowsToCome.{OneEntered, one_entered}
 
@@ -125,11 +133,11 @@ module _ (c : Catalogue) (source : Bytes) (good : AreGoodUnits c) where
           grown more)
         where
           its_parent : (p : Option Bytes)
-              → option_and_then (number_there (so_far before nb) source) p ≡ option_and_then (number_of c.forest source (c.next + length nb) (onto [] nb)) p
+              → option_and_then (number_there (so_far before nb) source) p ≡ option_and_then (parent_number c.forest source (c.next + length nb) (onto [] nb)) p
           its_parent None = refl
           its_parent (Some legacy) = s.numbers legacy
 
-          is_first : arrival_of (new_at (so_far before nb) source row) ≡ record { unit = c.next + length nb; parent = option_and_then (number_of c.forest source (c.next + length nb) (onto [] nb)) row.parent }
+          is_first : arrival_of (new_at (so_far before nb) source row) ≡ record { unit = c.next + length nb; parent = option_and_then (parent_number c.forest source (c.next + length nb) (onto [] nb)) row.parent }
           is_first = ap₂ (λ m p. record { unit = m; parent = p }) (ap (λ k. c.next + k) (length-numbered c.forest source c.next [] nb)) (its_parent row.parent)
 
           next_coming : arrivals_from c.forest source (c.next + length nb + 1) (row ∷ onto [] nb) (new_of c.forest source rest) ≡ coming (nb ++ row ∷ []) rest

@@ -1,8 +1,12 @@
 -- How many units and containers there are, as SQL counts them.
-use Rattle.std.proofs.Common.{◌≡◌, ℕ, ◌+◌, ◌<◌, ◌≤◌, Bool, true, false, cond, ◌&&◌, length, Some, None, refl, sym, ap, ap₂, ◌∙◌, inl, inr, arith}
+use Rattle.std.proofs.Common.{◌≡◌, ℕ, ◌+◌, ◌<◌, ◌≤◌, Bool, true, false, cond, ◌&&◌, length, Some, None, refl, sym, ap}
+use Rattle.std.proofs.Common.{ap₂, ◌∙◌, inl, inr, arith}
 use Rattle.catalogue_core.proofs.NodeLemmas.{length-nodes}
 use Rattle.office_tables.specs.RowCounts.{cap}
-use Rattle.csv_import.proofs.Common.{Catalogue, Forest, RepresentsUnits, Trees, Unit, and_parts, cases_Bool, has_room, le-leb, le-ltb, leb-false, leb-true, length_permutation, lt-leb, lt-ltb, ltb-false, ltb-true, most_containers, most_unit_numbers, most_units, nat_le, nat_lt, next_with_room, nodes, size}
+use Rattle.csv_import.proofs.Common.{Catalogue, Forest, RepresentsUnits, Trees, Unit, and_parts, cases_Bool, has_room}
+use Rattle.csv_import.proofs.Common.{le-leb, le-ltb, leb-false, leb-true, length_permutation, lt-leb, lt-ltb, ltb-false}
+use Rattle.csv_import.proofs.Common.{ltb-true, most_containers, most_unit_numbers, most_units, nat_le, nat_lt}
+use Rattle.csv_import.proofs.Common.{next_with_room, nodes, size}
 
 -- the count has an end, but far above what an office may have
 pub many_counted : (n : ℕ) → nat_lt most_containers (cap n) ≡ nat_lt most_containers n

@@ -1,7 +1,11 @@
 -- The numbers of rows' units, once the rows are entered.
-use Rattle.std.proofs.Common.{◌≡◌, ℕ, ◌+◌, Bool, true, false, not, cond, List, [], ◌∷◌, map, Option, Some, None, refl, sym, ap, ap₂, ◌∙◌, subst}
+use Rattle.std.proofs.Common.{◌≡◌, ℕ, ◌+◌, Bool, true, false, not, cond, List, [], ◌∷◌, map, Option, Some, None, refl}
+use Rattle.std.proofs.Common.{sym, ap, ap₂, ◌∙◌, subst}
 use Rattle.catalogue_core.proofs.EachOf.{none_found}
-use Rattle.csv_import.proofs.Common.{AllByRecursion, AreToCome, Bytes, Catalogue, IsTurn, Row, TellsUnits, Unit, and_from, and_then, bytes_eq, catalogue_after, is_from, is_new, is_some, new_at, new_unit, nodes, number_there, option_map, or_as_before, other_way, placed_added, same_text, units_from, unwrap_or, with_rows}
+use Rattle.csv_import.proofs.Common.{AllByRecursion, AreToCome, Bytes, Catalogue, IsTurn, Row, TellsUnits, Unit}
+use Rattle.csv_import.proofs.Common.{and_from, and_then, bytes_eq, catalogue_after, is_from, is_new, is_some, new_at}
+use Rattle.csv_import.proofs.Common.{new_unit, nodes, number_there, option_map, or_as_before, other_way, placed_added}
+use Rattle.csv_import.proofs.Common.{same_text, units_from, unwrap_or, with_rows}
 use Rattle.csv_import.proofs.KnownUnits.{is_known_by, known_still, number_still, valued_still}
 use Rattle.csv_import.proofs.OneRow.{entered_known, entered_new, may_come, none_there}
 use Rattle.csv_import.proofs.RowsToCome.{one_entered}

@@ -1,16 +1,20 @@
 -- How many rows a file that was read has, and how many containers these name.
-use Rattle.std.proofs.Common.{◌≡◌, ◌≤◌, ◌<◌, ◌+◌, ◌*◌, ◌^◌, ◌⊎◌, inl, inr, ℕ, suc, Bool, true, false, not, cond, List, [], ◌∷◌, ◌++◌, length, length-append, Option, Some, None, Ok, refl, sym, subst, arith}
+use Rattle.std.proofs.Common.{◌≡◌, ◌≤◌, ◌<◌, ◌+◌, ◌*◌, ◌^◌, ◌⊎◌, inl, inr, ℕ, suc, Bool, true, false, not, cond, List}
+use Rattle.std.proofs.Common.{[], ◌∷◌, ◌++◌, length, length-append, Option, Some, None, Ok, refl, sym, subst, arith}
 use Rattle.std.proofs.lemmas.List.FromFn.{length-enumerate_from}
-use Rattle.std.proofs.lemmas.List.Sums.{length-filter}
 use Rattle.std.proofs.lemmas.List.Splits.{length-slice_split}
-use Rattle.isad_core.specs.Boxes.{is_same}
+use Rattle.std.proofs.lemmas.List.Sums.{length-filter}
 use Rattle.atom_csv.specs.Columns.{columns}
-use Rattle.atom_csv.specs.Entries.{entries, entry_of, parts_of}
+use Rattle.atom_csv.specs.Entries.{entries, trimmed_entry, parts_of}
 use Rattle.atom_csv.specs.Fields.{Fields, value}
 use Rattle.atom_csv.specs.Values.{boxes_of, is_named_box, triple, triples}
 use Rattle.atom_csv.specs.declared.column.Column.TheVariants as column
 use Rattle.catalogue_core.proofs.GoodRows.{any_at}
-use Rattle.csv_import.proofs.Common.{AllByRecursion, BoxKey, Bytes, File, Row, answers, boxes_named, cons_option, count_by, distinct, enumerate_from, fault_of, file_of, filter, filter_map, flat_map, is_long, length-map, line_at, lines_below, ltb-false, most_bytes, most_rows, nat_lt, no_fault_cons, read_from, row_number, row_of, row_told, slice_get, ◌==◌}
+use Rattle.csv_import.proofs.Common.{AllByRecursion, BoxKey, Bytes, File, Row, answers, boxes_named, cons_option}
+use Rattle.csv_import.proofs.Common.{count_by, distinct, enumerate_from, file_of, filter, filter_map, flat_map, is_long}
+use Rattle.csv_import.proofs.Common.{is_same_box, length-map, line_at, line_fault, lines_below, ltb-false, most_bytes}
+use Rattle.csv_import.proofs.Common.{most_rows, nat_lt, no_fault_cons, read_from, row_number, row_of, row_told}
+use Rattle.csv_import.proofs.Common.{slice_get, ◌==◌}
 
 -- ---- one row
 
@@ -29,7 +33,7 @@ counted_within p xs = (let kept = length_kept p xs in let count = length-filter 
 length_distinct : (bs : List BoxKey) → length (distinct bs) ≤ length bs
 length_distinct [] = omega arith
 length_distinct (b ∷ bs) =
-    let kept = length_kept (λ later. not (is_same b later)) (distinct bs) in
+    let kept = length_kept (λ later. not (is_same_box b later)) (distinct bs) in
     let rest = length_distinct bs in
     omega (arith, kept, rest)
 
@@ -40,7 +44,7 @@ length_boxes names locations kinds =
     let named = length_kept is_named_box all in
     let made = length-map (enumerate_from 0 (entries names)) (triple (entries locations) (entries kinds)) in
     let numbered = length-enumerate_from 0 (entries names) in
-    let told = length-map (parts_of names) entry_of in
+    let told = length-map (parts_of names) trimmed_entry in
     let parts = length-slice_split (λ b. b == 124) names in
     let bars = counted_within (λ b. b == 124) names in
     omega (arith, once, named, made, numbered, told, parts, bars)
@@ -71,7 +75,7 @@ record AreBoundedBelow (above : List Fields) (rows : List Row) : Type 0 where
   boxes : AllByRecursion HasFewBoxes rows
 
 bounded_below : (header : Fields) (above rest : List Fields)
-    → filter_map (fault_of header) (lines_below above rest) ≡ []
+    → filter_map (line_fault header) (lines_below above rest) ≡ []
     → AreBoundedBelow above (filter_map (row_told header) (lines_below above rest))
 bounded_below header above [] none = record { few = inl refl; boxes = tt }
 bounded_below header above (fields ∷ rest) none =

@@ -1,7 +1,10 @@
 -- The path of the unit that a source has under a number.
-use Rattle.std.proofs.Common.{◌≡◌, ℕ, suc, ◌+◌, Bool, true, false, not, cond, ◌||◌, List, [], ◌∷◌, length, map, Some, None, refl, sym, ap, ap₂, ◌∙◌, nat_eq, arith}
+use Rattle.std.proofs.Common.{◌≡◌, ℕ, suc, ◌+◌, Bool, true, false, not, cond, ◌||◌, List, [], ◌∷◌, length, map, Some}
+use Rattle.std.proofs.Common.{None, refl, sym, ap, ap₂, ◌∙◌, nat_eq, arith}
 use Rattle.refinement.proofs.Paths.{path_there}
-use Rattle.csv_import.proofs.Common.{AllByRecursion, AreGoodUnits, Bytes, Catalogue, Empty, Forest, Node, Unit, all_split, depth_under, each, eqb-true, find, found_numbers, has, has_id, is_from, list_any, nodes, path, path-each}
+use Rattle.csv_import.proofs.Common.{AllByRecursion, AreGoodUnits, Bytes, Catalogue, Empty, Forest, Node, Unit}
+use Rattle.csv_import.proofs.Common.{all_split, depth_under, each, eqb-true, find, found_numbers, has, has_id, is_from}
+use Rattle.csv_import.proofs.Common.{list_any, nodes, path, path-each}
 
 -- ---- paths
 

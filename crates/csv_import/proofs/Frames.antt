@@ -2,9 +2,12 @@
 use Rattle.std.proofs.Common.{◌≡◌, ℕ, true, not, List, Option, None, Result, OnOk, refl, sym, subst, ◌∙◌}
 use Rattle.sqlite_trees.specs.declared.store.Store as store
 use Rattle.catalogue_core.specs.Bounds.{IsKept}
-use Rattle.refinement.proofs.Frames.{are_apart, untouched}
 use Rattle.catalogue_store.specs.ImportEntries.{with_entered}
-use Rattle.csv_import.proofs.Common.{AreWhole, Bytes, Catalogue, Database, HasPlaceFor, Held, IsNew, KnowsItsContainers, MayChange, MayCome, MayDescribe, OfficeRow, OnlyTouches, RepresentsCatalogue, RepresentsEntering, RepresentsOffice, Row, StoreFault, Unit, Updates, Values, Version, described_trees, new_at, state, with_new, with_unit, with_values, ⊤}
+use Rattle.refinement.proofs.Frames.{are_apart, untouched}
+use Rattle.csv_import.proofs.Common.{AreWhole, Bytes, Catalogue, Database, HasPlaceFor, Held, IsNew, KnowsItsContainers}
+use Rattle.csv_import.proofs.Common.{MayChange, MayCome, MayDescribe, OfficeRow, OnlyTouches, RepresentsCatalogue}
+use Rattle.csv_import.proofs.Common.{RepresentsEntering, RepresentsOffice, Row, StoreFault, Unit, Updates, Values}
+use Rattle.csv_import.proofs.Common.{Version, described_trees, new_at, state, with_new, with_unit, with_values, ⊤}
 use Rattle.csv_import.proofs.OneRow.{unit_comes}
 
 -- the catalogue with another number as the next
@@ -60,8 +63,8 @@ module _ (old new : Database) (touched : List ℕ) (only : OnlyTouches touched o
 pub makes_entering : {S X : Type 0} (g : store.Ghosts S) (version : Version) (kept may kept_then may_then : Catalogue → Type 0) (made made_then : Catalogue → Catalogue) (touched : List ℕ) (before after : Held S) (r : Result X StoreFault)
     → ((n : ℕ) (c : Catalogue) → may c → kept_then (at_next n c) × may_then (at_next n c))
     → ((n : ℕ) (c : Catalogue) → may c → made_then (at_next n c) ≡ at_next n (made c))
-    → Updates g (RepresentsCatalogue version) kept_then before after r may_then made_then touched
-    → Updates g (RepresentsEntering version) kept before after r may made touched
+    → Updates g touched (RepresentsCatalogue version) before after r may_then kept_then made_then
+    → Updates g touched (RepresentsEntering version) before after r may kept made
 makes_entering g version kept may kept_then may_then made made_then touched before after r serves same it =
     let new = state g after in
     record {
@@ -75,8 +78,8 @@ makes_entering g version kept may kept_then may_then made made_then touched befo
 
 -- a known unit gets values
 pub makes_valued : {S X : Type 0} {g : store.Ghosts S} {version : Version} {before after : Held S} {r : Result X StoreFault} (unit : ℕ) (values : Values)
-    → Updates g (RepresentsCatalogue version) (λ c. IsKept c × AreWhole values) before after r (MayDescribe unit) (with_values unit values) described_trees
-    → Updates g (RepresentsEntering version) (λ _. ⊤) before after r (MayChange unit values) (with_values unit values) described_trees
+    → Updates g described_trees (RepresentsCatalogue version) before after r (MayDescribe unit) (λ c. IsKept c × AreWhole values) (with_values unit values)
+    → Updates g described_trees (RepresentsEntering version) before after r (MayChange unit values) (λ _. ⊤) (with_values unit values)
 makes_valued {g = g} {version = version} {before = before} {after = after} {r = r} unit values it =
     makes_entering g version (λ _. ⊤) (MayChange unit values) (λ c. IsKept c × AreWhole values) (MayDescribe unit) (with_values unit values) (with_values unit values) described_trees before after r
     (λ n c allowed. ((kept_at n c allowed.kept, allowed.whole), describes_at n unit c allowed.there)) (λ n c allowed. refl) it
@@ -88,8 +91,8 @@ unit_at source row next =
 
 -- it is entered, wherever it stands
 pub makes_new : {S X : Type 0} (g : store.Ghosts S) (version : Version) (source : Bytes) (row : Row) (next : ℕ) (before after : Held S) (r : Result X StoreFault)
-    → ((parent : Option ℕ) → Updates g (RepresentsCatalogue version) (λ c. IsKept c × IsNew (unit_at source row next) c) before after r (HasPlaceFor parent) (with_entered parent (unit_at source row next)) described_trees)
-    → Updates g (RepresentsEntering version) (λ _. ⊤) before after r (MayCome source row next) (with_new source row) described_trees
+    → ((parent : Option ℕ) → Updates g described_trees (RepresentsCatalogue version) before after r (HasPlaceFor parent) (λ c. IsKept c × IsNew (unit_at source row next) c) (with_entered parent (unit_at source row next)))
+    → Updates g described_trees (RepresentsEntering version) before after r (MayCome source row next) (λ _. ⊤) (with_new source row)
 makes_new g version source row next before after r it =
     let new = state g after in
     let any = it None in

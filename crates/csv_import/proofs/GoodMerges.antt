@@ -1,14 +1,20 @@
 -- A catalogue stays good where good rows are merged into it.
-use Rattle.std.proofs.Common.{◌≡◌, ◌+◌, ◌<◌, ◌≤◌, Bool, true, false, cond, not, List, [], ◌++◌, length, Ok, refl, sym, ap, subst, arith}
+use Rattle.std.proofs.Common.{◌≡◌, ◌+◌, ◌<◌, ◌≤◌, Bool, true, false, cond, not, List, [], ◌++◌, length, Ok, refl, sym}
+use Rattle.std.proofs.Common.{ap, subst, arith}
 use Rattle.atom_csv.specs.FileProperties.{IsLegibleRow}
-use Rattle.catalogue_core.specs.LegibleCatalogues.{IsLegibleCatalogue}
 use Rattle.catalogue_core.proofs.AsciiTexts.{source_legible}
 use Rattle.catalogue_core.proofs.ImportedDepth.{merged_depth}
 use Rattle.catalogue_core.proofs.ImportedNumbers.{distinct_numbers, distinct_pairs}
 use Rattle.catalogue_core.proofs.ImportedValues.{AreGoodValues, all_told, good_new, good_revised}
 use Rattle.catalogue_core.proofs.LegibleMerges.{merged_legible}
 use Rattle.catalogue_core.proofs.Rooted.{revised_id}
-use Rattle.csv_import.proofs.Common.{AllByRecursion, AreApartRows, AreGoodUnits, BoxKey, Bytes, Catalogue, Forest, IsGoodRow, IsGoodUnit, IsSomeDay, New, Row, Unit, Values, all_and, all_filtered, all_merged, all_so, all_true, bytes_eq, distinct, faults_below, first_ok, flat_map, ids_between, is_known, is_source, merge, merged, merged_boxes, merged_forest, most_unit_numbers, most_units, new_rows, new_unit, nodes, numbered_from, numbered_rows, revised, size}
+use Rattle.catalogue_core.specs.LegibleCatalogues.{IsLegibleCatalogue}
+use Rattle.csv_import.proofs.Common.{AllByRecursion, AreApartRows, AreGoodUnits, BoxKey, Bytes, Catalogue, Forest}
+use Rattle.csv_import.proofs.Common.{IsGoodRow, IsGoodUnit, IsSomeDay, New, Row, Unit, Values, all_and, all_filtered}
+use Rattle.csv_import.proofs.Common.{all_merged, all_so, all_true, bytes_eq, distinct, faults_below, first_ok, flat_map}
+use Rattle.csv_import.proofs.Common.{ids_between, is_known, is_source, merge, merged, merged_boxes, merged_forest}
+use Rattle.csv_import.proofs.Common.{most_unit_numbers, most_units, new_rows, new_unit, nodes, numbered_from}
+use Rattle.csv_import.proofs.Common.{numbered_rows, revised, size}
 
 module _ (c : Catalogue) (source : Bytes) (rows : List Row) (good : AllByRecursion IsGoodRow rows) (once : AreApartRows rows) (g : AreGoodUnits c) (named : is_source source ≡ true) where
   abbrev news : List Row

@@ -1,29 +1,42 @@
 -- An office after the rows of a file were entered.
-use Rattle.std.proofs.Common.{◌≡◌, ℕ, zero, suc, ◌+◌, ◌<◌, ◌≤◌, Bool, true, false, ◌||◌, List, [], ◌∷◌, ◌++◌, length, map, Option, Some, None, Ok, sym, ap, subst, ◌∙◌, arith, append-nil, length-append, inl, inr}
+use Rattle.std.proofs.Common.{◌≡◌, ℕ, zero, suc, ◌+◌, ◌<◌, ◌≤◌, Bool, true, false, ◌||◌, List, [], ◌∷◌, ◌++◌, length}
+use Rattle.std.proofs.Common.{map, Option, Some, None, Ok, sym, ap, subst, ◌∙◌, arith, append-nil, length-append, inl}
+use Rattle.std.proofs.Common.{inr}
 use Rattle.std.proofs.lemmas.List.Elements.{filter_map-append}
 use Rattle.atom_csv.proofs.LegibleFiles.{file_legible}
 use Rattle.atom_csv.proofs.ToldLemmas.{file_sound}
 use Rattle.desk_core.specs.DeskRows.{HoldingRow}
 use Rattle.desk_core.specs.LegibleDesks.{IsLegible}
 use Rattle.desk_core.specs.declared.reader.Place.TheVariants.{Shelf}
-use Rattle.catalogue_core.specs.Intake.{is_same}
-use Rattle.catalogue_core.specs.LegibleCatalogues.{IsLegibleCatalogue}
 use Rattle.catalogue_core.proofs.GoodRows.{good_rows}
 use Rattle.catalogue_core.proofs.MergedNodes.{merged_nodes}
 use Rattle.catalogue_core.proofs.NamedBoxes.{named_all, named_from, named_told}
 use Rattle.catalogue_core.proofs.NodeLemmas.{length-nodes}
 use Rattle.catalogue_core.proofs.UnitsAfter.{length-numbered}
+use Rattle.catalogue_core.specs.LegibleCatalogues.{IsLegibleCatalogue}
+use Rattle.office_core.proofs.Words.{numbered_within}
 use Rattle.office_core.specs.ImportReply as reply
 use Rattle.office_core.specs.State.{State}
 use Rattle.office_core.specs.Words.{numbers_to}
 use Rattle.office_core.specs.declared.command.Command.TheVariants as command
-use Rattle.office_core.proofs.Words.{numbered_within}
+use Rattle.state_encoding.proofs.LegibleRows.{desk_legible}
 use Rattle.state_encoding.specs.DeskEncoding.{holding_row, holding_rows}
 use Rattle.state_encoding.specs.OfficeRows.{tables}
-use Rattle.state_encoding.proofs.LegibleRows.{desk_legible}
-use Rattle.refinement.specs.AccessConditions.{CanBeJudged}
 use Rattle.refinement.proofs.Judged.{distinct_ids, orders_there}
-use Rattle.csv_import.proofs.Common.{AllByRecursion, AreGoodContainers, AreGoodUnits, AreTexts, BadName, BoxKey, Bytes, CanEnter, Catalogue, File, FitsIn, Full, HasEntered, HasImported, HasItsUnit, IsSomeDay, IsSoundOffice, New, Row, Taken, Unit, Version, after, all_append, all_distinct, all_so, and_parts, apart_rows, bad_file, boxes_grow, cases_Bool, catalogue_after, cons_option, counts_of, distinct, distinct_again, false≢true, file_of, filter_map, first_that_holds, flat_map, gate, has_taken, import_outcome, imported, intake_of, is_blank_text, is_container, is_full, is_source, kept, knows, le-ltb, leb-true, length-map, length_permutation, merge, merged, most_containers, most_unit_numbers, most_units, nat_le, nat_lt, new_boxes, new_of, new_unit, nodes, numbered_from, office_settings, option_map, option_map_or, or_as_before, or_first, refusal, result_of, revised, row_by_row, rows_same, same_values, size, taken_row_by_row, too_much, unit_of, unless, when, with_file, with_rows}
+use Rattle.refinement.specs.AccessConditions.{CanBeJudged}
+use Rattle.csv_import.proofs.Common.{AllByRecursion, AreGoodContainers, AreGoodUnits, AreTexts, BadName, BoxKey, Bytes}
+use Rattle.csv_import.proofs.Common.{CanEnter, Catalogue, File, FitsIn, Full, HasEntered, HasImported, HasItsUnit}
+use Rattle.csv_import.proofs.Common.{IsSomeDay, IsSoundOffice, New, Row, Taken, Unit, Version, after, all_append}
+use Rattle.csv_import.proofs.Common.{all_distinct, all_so, and_parts, apart_rows, bad_file, boxes_grow, cases_Bool}
+use Rattle.csv_import.proofs.Common.{catalogue_after, catalogued_unit, cons_option, counts_of, distinct, distinct_again}
+use Rattle.csv_import.proofs.Common.{false≢true, file_of, filter_map, first_that_holds, flat_map, gate, has_taken}
+use Rattle.csv_import.proofs.Common.{import_outcome, intake_of, is_blank_text, is_container, is_full, is_same}
+use Rattle.csv_import.proofs.Common.{is_source, kept, knows, le-ltb, leb-true, length-map, length_permutation, merge}
+use Rattle.csv_import.proofs.Common.{merged, most_containers, most_unit_numbers, most_units, nat_le, nat_lt, new_boxes}
+use Rattle.csv_import.proofs.Common.{new_of, new_unit, nodes, numbered_from, office_settings, option_map, option_map_or}
+use Rattle.csv_import.proofs.Common.{or_as_before, or_first, refusal, result_of, revised, row_by_row, rows_same}
+use Rattle.csv_import.proofs.Common.{same_values, size, taken_row_by_row, too_much, unless, when, with_file}
+use Rattle.csv_import.proofs.Common.{with_import, with_rows}
 use Rattle.csv_import.proofs.FileBounds.{file_bounded}
 use Rattle.csv_import.proofs.GoodMerges.{legible_with, merged_days, merged_good}
 use Rattle.csv_import.proofs.SameValues.{one_description}
@@ -104,7 +117,7 @@ module _ (s : State) (source bytes : Bytes) (file : File) (read : file_of bytes 
   taken_as = taken_row_by_row s.catalogue source bytes file read g.sound.units g.sound.desk.boxes ∙ ap (with_file file) placed
 
   pub after_is : after s (command.Import source bytes) ≡ now
-  after_is = ap (imported s) taken_as
+  after_is = ap (with_import s) taken_as
 
   abbrev count_room : ℕ
   count_room = length (new_of s.catalogue.forest source file.rows)
@@ -173,7 +186,7 @@ module _ (s : State) (source bytes : Bytes) (file : File) (read : file_of bytes 
   has_entered : HasEntered source file.rows made
   has_entered = record {
     units = units;
-    each = all_so (λ (row : Row). is_same made.forest source row ≡ true) (HasItsUnit made.forest source) (λ row e. its_unit source (unit_of made.forest source row) row e) file.rows
+    each = all_so (λ (row : Row). is_same made.forest source row ≡ true) (HasItsUnit made.forest source) (λ row e. its_unit source (catalogued_unit made.forest source row) row e) file.rows
         (rows_same source file.rows made.forest (apart_rows bytes file read) (has_taken s.catalogue source file.rows (apart_rows bytes file read)));
   }
 
@@ -195,7 +208,7 @@ module _ (s : State) (source bytes : Bytes) (file : File) (read : file_of bytes 
 
   pub refusal_is : refusal s (command.Import source bytes) ≡ first_that_holds (when (nat_lt most_containers (length made.containers)) Full ∷ gate now ∷ [])
   refusal_is =
-      ap (λ (t : Taken). first_that_holds (unless (is_source source) BadName ∷ bad_file t ∷ too_much t ∷ gate (imported s t) ∷ [])) taken_as
+      ap (λ (t : Taken). first_that_holds (unless (is_source source) BadName ∷ bad_file t ∷ too_much t ∷ gate (with_import s t) ∷ [])) taken_as
       ∙ (ap (λ (b : Bool). first_that_holds (unless b BadName ∷ None ∷ when (is_full made) Full ∷ gate now ∷ [])) named
       ∙ ap (λ (b : Bool). first_that_holds (when b Full ∷ gate now ∷ [])) full_is)
 

@@ -1,8 +1,13 @@
 -- The units of a file's rows and their parents, known by their numbers in the source, and known still as rows are entered.
-use Rattle.std.proofs.Common.{◌≡◌, ℕ, Bool, true, false, cond, ◌&&◌, ◌||◌, ◌<◌, ◌+◌, length, get_or, List, [], ◌∷◌, Option, Some, None, refl, sym, ap, ◌∙◌, subst}
+use Rattle.std.proofs.Common.{◌≡◌, ℕ, Bool, true, false, cond, ◌&&◌, ◌||◌, ◌<◌, ◌+◌, length, get_or, List, [], ◌∷◌}
+use Rattle.std.proofs.Common.{Option, Some, None, refl, sym, ap, ◌∙◌, subst}
 use Rattle.std.specs.Prelude.{IfSome, drop}
 use Rattle.catalogue_core.proofs.EachOf.{none_found}
-use Rattle.csv_import.proofs.Common.{AllByRecursion, AreToCome, Bytes, Catalogue, IsAsked, IsTurn, KnowsAsked, KnowsUnits, Row, TellsParentOfNew, TellsUnits, Unit, Values, alike_each, all-get_or, all_so, bytes_eq, catalogue_after, drop_more, false≢true, find, has_id, is_from, is_known, is_some, new_at, new_unit, nodes, number_there, one_text, option_map, same_added, some_found, with_new, with_values}
+use Rattle.csv_import.proofs.Common.{AllByRecursion, AreToCome, Bytes, Catalogue, IsAsked, IsTurn, KnowsAsked}
+use Rattle.csv_import.proofs.Common.{KnowsUnits, Row, TellsParentOfNew, TellsUnits, Unit, Values, alike_each}
+use Rattle.csv_import.proofs.Common.{all-get_or, all_so, bytes_eq, catalogue_after, drop_more, false≢true, find, has_id}
+use Rattle.csv_import.proofs.Common.{is_from, is_known, is_some, new_at, new_unit, nodes, number_there, one_text}
+use Rattle.csv_import.proofs.Common.{option_map, same_added, some_found, with_new, with_values}
 use Rattle.csv_import.proofs.OneRow.{entered_known, entered_new}
 use Rattle.csv_import.proofs.RowsToCome.{one_entered}
 

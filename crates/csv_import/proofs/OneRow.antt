@@ -1,11 +1,18 @@
 -- A row that is placed: its unit is there, or comes below a parent that is.
-use Rattle.std.proofs.Common.{◌≡◌, ◌<◌, ◌≤◌, ℕ, Bool, true, false, cond, ◌&&◌, ◌||◌, ◌+◌, length, inl, inr, List, [], ◌∷◌, Option, Some, None, Ok, refl, sym, ap, ap₂, ◌∙◌, subst, arith}
+use Rattle.std.proofs.Common.{◌≡◌, ◌<◌, ◌≤◌, ℕ, Bool, true, false, cond, ◌&&◌, ◌||◌, ◌+◌, length, inl, inr, List, []}
+use Rattle.std.proofs.Common.{◌∷◌, Option, Some, None, Ok, refl, sym, ap, ap₂, ◌∙◌, subst, arith}
 use Rattle.std.specs.Prelude.{map}
-use Rattle.catalogue_core.specs.UnitLookup.{FindsUnit}
 use Rattle.catalogue_core.proofs.EachOf.{none_found}
-use Rattle.catalogue_store.specs.UnitValues.{values_of}
+use Rattle.catalogue_core.specs.UnitLookup.{FindsUnit}
+use Rattle.catalogue_store.specs.UnitValues.{values_of_unit}
 use Rattle.catalogue_store.specs.declared.unit_values.UnitValues.{UnitValues}
-use Rattle.csv_import.proofs.Common.{AllByRecursion, AreGoodUnits, AreWhole, Bytes, Catalogue, IsGoodRow, IsTurn, MayChange, MayCome, Row, Unit, all_of_found, and_parts, and_then, box_number, catalogue_after, cause_at, depth_there, each_there, eqb-true, false≢true, find, find_none, found_numbers, has, has_id, has_place, is_from, list_any, ne_eqb, new_at, new_unit, nodes, number_there, option_and_then, option_map, or_as_before, or_cases, or_parts, path, some_found, unless_cause, with_new, with_row_at, with_rows, with_values}
+use Rattle.csv_import.proofs.Common.{AllByRecursion, AreGoodUnits, AreWhole, Bytes, Catalogue, IsGoodRow, IsTurn}
+use Rattle.csv_import.proofs.Common.{MayChange, MayCome, Row, Unit, all_of_found, and_parts, and_then, box_number}
+use Rattle.csv_import.proofs.Common.{catalogue_after, cause_at, depth_there, each_there, eqb-true, false≢true, find}
+use Rattle.csv_import.proofs.Common.{find_none, found_numbers, has, has_id, has_place, is_from, list_any, ne_eqb}
+use Rattle.csv_import.proofs.Common.{new_at, new_unit, nodes, number_there, option_and_then, option_map, or_as_before}
+use Rattle.csv_import.proofs.Common.{or_cases, or_parts, path, some_found, unless_cause, with_new, with_row_at}
+use Rattle.csv_import.proofs.Common.{with_rows, with_values}
 
 -- ---- the unit with a number in a source
 
@@ -157,7 +164,7 @@ is_valued c id h = at (find (has_id id) (nodes c.forest)) refl
     at None f = absurd (false≢true (sym (none_found (has_id id) (nodes c.forest) f) ∙ h))
     at (Some v) f = record { unit = v; by_number = f }
 
-pub not_untold : (c : Catalogue) (id : ℕ) → has (has_id id) c.forest ≡ true → None ≡ values_of id c → ⊥
+pub not_untold : (c : Catalogue) (id : ℕ) → has (has_id id) c.forest ≡ true → None ≡ values_of_unit id c → ⊥
 not_untold c id h e =
     let it = is_valued c id h in
     let told : None ≡ Some _ =
@@ -166,7 +173,7 @@ not_untold c id h e =
     cc
 
 pub told_of_it : (c : Catalogue) (id : ℕ) (u : Unit) (told : UnitValues) → find (has_id id) (nodes c.forest) ≡ Some u
-    → Some told ≡ values_of id c → told.values ≡ u.values
+    → Some told ≡ values_of_unit id c → told.values ≡ u.values
 told_of_it c id u told found e =
     let same : Some told ≡ Some (record { values = u.values; containers = map (box_number c.containers) u.values.boxes }) =
     e

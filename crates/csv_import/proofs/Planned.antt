@@ -1,9 +1,12 @@
 -- Rows that are looked at one after another, before any is entered.
-use Rattle.std.proofs.Common.{◌≡◌, ℕ, suc, ◌+◌, Bool, true, false, not, cond, List, [], ◌∷◌, ◌++◌, length, Option, Some, None, refl, sym, ap, ap₂, ◌∙◌, arith}
+use Rattle.std.proofs.Common.{◌≡◌, ℕ, suc, ◌+◌, Bool, true, false, not, cond, List, [], ◌∷◌, ◌++◌, length, Option, Some}
+use Rattle.std.proofs.Common.{None, refl, sym, ap, ap₂, ◌∙◌, arith}
 use Rattle.std.proofs.lemmas.Slice.Eq.{bytes_eq-Decides}
 use Rattle.csv_import.specs.declared.row_plan.Placing.TheVariants as placing
 use Rattle.csv_import.specs.declared.row_plan.Planned.TheVariants as planned
-use Rattle.csv_import.proofs.Common.{Bytes, Forest, KnowsDepths, Row, Unit, as_plan, at_depth, bytes_eq, cause_at, depth_under, faults_below, is_known, most_deep, nat_lt, new_of, option_map, option_to_list, or_first, or_there, placing_of, plan_of}
+use Rattle.csv_import.proofs.Common.{Bytes, Forest, KnowsDepths, Row, Unit, as_plan, at_depth, bytes_eq, cause_at}
+use Rattle.csv_import.proofs.Common.{depth_under, faults_below, is_known, most_deep, nat_lt, new_of, option_map}
+use Rattle.csv_import.proofs.Common.{option_to_list, or_first, or_there, placing_of, plan_of}
 
 module _ (f : Forest Unit) (source : Bytes) where
   -- the rest of the rows is to be looked at, and so many of the others are new

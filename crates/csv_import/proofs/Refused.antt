@@ -1,11 +1,17 @@
 -- Files that are refused before a row of them is entered.
-use Rattle.std.proofs.Common.{◌≡◌, ℕ, ◌+◌, Bool, true, false, ◌||◌, List, [], ◌∷◌, length, Some, Ok, Err, refl, sym, ap, ap₂, ◌∙◌, arith}
+use Rattle.std.proofs.Common.{◌≡◌, ℕ, ◌+◌, Bool, true, false, ◌||◌, List, [], ◌∷◌, length, Some, Ok, Err, refl, sym, ap}
+use Rattle.std.proofs.Common.{ap₂, ◌∙◌, arith}
 use Rattle.std.specs.Prelude.{None}
 use Rattle.catalogue_core.proofs.UnitsAfter.{length-numbered}
 use Rattle.office_core.specs.State.{State}
 use Rattle.office_core.specs.declared.command.Command.TheVariants as command
 use Rattle.csv_import.specs.declared.row_plan.Planned.TheVariants as planned
-use Rattle.csv_import.proofs.Common.{BadFile, BadName, Bytes, CanBePlaced, Catalogue, File, Full, IsSoundOffice, Taken, and_from, as_plan, bad_file, false≢true, faults_below, file_of, first_that_holds, gate, has_room, imported, intake_of, is_full, is_source, le-leb, ltb-false, merged, most_containers, most_unit_numbers, most_units, nat_le, nat_lt, new_of, numbered_from, or_first, plan_of, refusal, size, take_rows, too_much, unless, when, with_file}
+use Rattle.csv_import.proofs.Common.{BadFile, BadName, Bytes, CanBePlaced, Catalogue, File, Full, IsSoundOffice, Taken}
+use Rattle.csv_import.proofs.Common.{and_from, as_plan, bad_file, false≢true, faults_below, file_of, first_that_holds}
+use Rattle.csv_import.proofs.Common.{gate, has_room, intake_of, is_full, is_source, le-leb, ltb-false, merged}
+use Rattle.csv_import.proofs.Common.{most_containers, most_unit_numbers, most_units, nat_le, nat_lt, new_of}
+use Rattle.csv_import.proofs.Common.{numbered_from, or_first, plan_of, refusal, size, take_rows, too_much, unless, when}
+use Rattle.csv_import.proofs.Common.{with_file, with_import}
 use Rattle.csv_import.proofs.Imports.{merged_size}
 
 -- the file itself is at fault
@@ -17,7 +23,7 @@ taken_bad s source bytes row cause e = ap (take_rows s.catalogue source) e
 refused_bad : (s : State) (source bytes : Bytes) (row cause : ℕ) → is_source source ≡ true
     → intake_of s source bytes ≡ Err (row, cause) → refusal s (command.Import source bytes) ≡ Some (BadFile row cause)
 refused_bad s source bytes row cause named e =
-    ap (λ (t : Taken). first_that_holds (unless (is_source source) BadName ∷ bad_file t ∷ too_much t ∷ gate (imported s t) ∷ [])) e
+    ap (λ (t : Taken). first_that_holds (unless (is_source source) BadName ∷ bad_file t ∷ too_much t ∷ gate (with_import s t) ∷ [])) e
     ∙ ap (λ (b : Bool). first_that_holds (unless b BadName ∷ Some (BadFile row cause) ∷ None ∷ gate s ∷ [])) named
 
 pub bad : (s : State) (source bytes : Bytes) (row cause : ℕ) → is_source source ≡ true
@@ -54,7 +60,7 @@ module _ (s : State) (source bytes : Bytes) (file : File) (read : file_of bytes 
   pub full : IsSoundOffice s → is_source source ≡ true → (new : ℕ) → CanBePlaced source file new s
       → has_room new s.catalogue ≡ false → refusal s (command.Import source bytes) ≡ Some Full
   full sound named new fits none =
-      ap (λ (t : Taken). first_that_holds (unless (is_source source) BadName ∷ bad_file t ∷ too_much t ∷ gate (imported s t) ∷ [])) (taken_as ∙ ap (λ found. with_file file (or_first found made)) fits.faults)
+      ap (λ (t : Taken). first_that_holds (unless (is_source source) BadName ∷ bad_file t ∷ too_much t ∷ gate (with_import s t) ∷ [])) (taken_as ∙ ap (λ found. with_file file (or_first found made)) fits.faults)
       ∙ (ap (λ (b : Bool). first_that_holds (unless b BadName ∷ None ∷ when (is_full made) Full ∷ gate (record s { catalogue = made }) ∷ [])) named
       ∙ ap (λ (b : Bool). first_that_holds (when b Full ∷ gate (record s { catalogue = made }) ∷ [])) too_many)
     where

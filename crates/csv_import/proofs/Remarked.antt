@@ -1,11 +1,15 @@
 -- What the path of a row's unit says of it.
-use Rattle.std.proofs.Common.{◌≡◌, ℕ, Bool, true, false, cond, List, [], ◌∷◌, ◌++◌, map, Option, Some, None, refl, sym, ap, subst, ◌∙◌, inl, inr, nat_eq, append_assoc}
+use Rattle.std.proofs.Common.{◌≡◌, ℕ, Bool, true, false, cond, List, [], ◌∷◌, ◌++◌, map, Option, Some, None, refl, sym}
+use Rattle.std.proofs.Common.{ap, subst, ◌∙◌, inl, inr, nat_eq, append_assoc}
 use Rattle.std.specs.List.{IsDistinct}
 use Rattle.tree_core.proofs.Lists.{eqb_comm}
-use Rattle.catalogue_core.specs.Members.{StandsIn}
 use Rattle.catalogue_core.proofs.EachOf.{none_found}
 use Rattle.catalogue_core.proofs.UnitPlaces.{HaveOwnNumbers}
-use Rattle.csv_import.proofs.Common.{AllByRecursion, Bytes, Empty, Forest, HasItsUnit, LacksEssential, LevelTooHigh, Node, Remark, Row, Unit, Values, eq-eqb, find, find-append, has, has_id, is_from, is_level_above, lacks_essential, last_but_one, nodes, option_map, option_to_list, or_else, path, rank_of, remark_if, remark_on, remarks, some_found}
+use Rattle.catalogue_core.specs.Members.{StandsIn}
+use Rattle.csv_import.proofs.Common.{AllByRecursion, Bytes, Empty, Forest, HasItsUnit, LacksEssential, LevelTooHigh}
+use Rattle.csv_import.proofs.Common.{Node, Remark, Row, Unit, Values, eq-eqb, find, find-append, has, has_id, is_from}
+use Rattle.csv_import.proofs.Common.{is_level_above, lacks_essential, last_but_one, nodes, option_map, option_to_list}
+use Rattle.csv_import.proofs.Common.{or_else, path, rank_of, remark_if, remark_on, remarks, some_found}
 
 -- ---- lists
 

@@ -1,6 +1,10 @@
 -- What stands right above the units of rows.
-use Rattle.std.proofs.Common.{◌≡◌, ℕ, ◌+◌, ◌<◌, ◌≤◌, min, List, [], ◌∷◌, ◌++◌, append-nil, drop, get_or, length, map, Option, Some, None, refl, sym, ap, ap₂, subst, ◌∙◌, nat_eq, arith}
-use Rattle.csv_import.proofs.Common.{AreGoodUnits, Bytes, Catalogue, Forest, HasItsUnit, HasParent, HaveParents, Remark, Row, Unit, all-get_or, drop_all, drop_more, each, find, get_or-map, is_from, last_but_one, length-map, nodes, number_above, number_there, option_map, option_to_list, path, remark_on, remarks, right_above}
+use Rattle.std.proofs.Common.{◌≡◌, ℕ, ◌+◌, ◌<◌, ◌≤◌, min, List, [], ◌∷◌, ◌++◌, append-nil, drop, get_or, length, map}
+use Rattle.std.proofs.Common.{Option, Some, None, refl, sym, ap, ap₂, subst, ◌∙◌, nat_eq, arith}
+use Rattle.csv_import.proofs.Common.{AreGoodUnits, Bytes, Catalogue, Forest, HasItsUnit, HasParent, HaveParents, Remark}
+use Rattle.csv_import.proofs.Common.{Row, Unit, all-get_or, drop_all, drop_more, each, find, get_or-map, is_from}
+use Rattle.csv_import.proofs.Common.{last_but_one, length-map, nodes, number_above, number_there, option_map}
+use Rattle.csv_import.proofs.Common.{option_to_list, path, remark_on, remarks, right_above}
 use Rattle.csv_import.proofs.FoundPaths.{path_by_number}
 use Rattle.csv_import.proofs.OneRow.{is_found}
 use Rattle.csv_import.proofs.Remarked.{told_more}

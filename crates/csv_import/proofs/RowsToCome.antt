@@ -1,14 +1,21 @@
 -- Rows that are entered one after another: what holds of those that are still to come.
-use Rattle.std.proofs.Common.{◌≡◌, ◌+◌, ◌<◌, ◌≤◌, ◌&&◌, ◌++◌, ℕ, Bool, true, false, not, cond, List, [], ◌∷◌, length, length-append, Option, Some, None, Result, Ok, Err, refl, sym, ap, ap₂, ◌∙◌, subst, arith}
+use Rattle.std.proofs.Common.{◌≡◌, ◌+◌, ◌<◌, ◌≤◌, ◌&&◌, ◌++◌, ℕ, Bool, true, false, not, cond, List, [], ◌∷◌, length}
+use Rattle.std.proofs.Common.{length-append, Option, Some, None, Result, Ok, Err, refl, sym, ap, ap₂, ◌∙◌, subst, arith}
 use Rattle.std.specs.Prelude.{drop, get_or}
-use Rattle.catalogue_core.specs.Intake.{is_same}
 use Rattle.catalogue_core.proofs.EachOf.{none_found}
 use Rattle.catalogue_core.proofs.RowCounts.{changed_counts, new_counts, same_counts}
 use Rattle.catalogue_statements.proofs.Untold.{boxes_within}
-use Rattle.csv_import.specs.Turns.{entry_of}
 use Rattle.csv_import.specs.declared.row_entry.Entry.{Entry}
 use Rattle.csv_import.specs.declared.row_entry.Entry.TheVariants as entry
-use Rattle.csv_import.proofs.Common.{AllByRecursion, AreToCome, Arrival, BringUnits, Bytes, CanEnter, Catalogue, Counts, Empty, Forest, IsGoodRow, IsReady, IsTurn, Node, Row, Unit, add, and_then, arrivals_of, at_drop_all, catalogue_after, cause_at, count_by, count_entry, count_rows, counts_of, depth_there, distinct, distinct_again, drop_more, find, flat_map, has, has_id, if_ok, is_changed, is_from, is_new, join, kept_within, knows, merge, new_at, new_unit, nodes, option_map, option_map_or, or_as_before, put_below, row_by_row, same_values, size, size-each, some_found, unit_of, unless_cause, with_new, with_row, with_row_at, with_rows, with_values}
+use Rattle.csv_import.proofs.Common.{AllByRecursion, AreToCome, Arrival, BringUnits, Bytes, CanEnter, Catalogue, Counts}
+use Rattle.csv_import.proofs.Common.{Empty, Forest, IsGoodRow, IsReady, IsTurn, Node, Row, Unit, add, and_then}
+use Rattle.csv_import.proofs.Common.{arrivals_of, at_drop_all, catalogue_after, catalogued_unit, cause_at, count_by}
+use Rattle.csv_import.proofs.Common.{count_entry, count_rows, counts_of, depth_there, distinct, distinct_again}
+use Rattle.csv_import.proofs.Common.{drop_more, entry_of, find, flat_map, has, has_id, if_ok, is_changed, is_from}
+use Rattle.csv_import.proofs.Common.{is_new, is_same, join, kept_within, knows, merge, new_at, new_unit, nodes}
+use Rattle.csv_import.proofs.Common.{option_map, option_map_or, or_as_before, put_below, row_by_row, same_values, size}
+use Rattle.csv_import.proofs.Common.{size-each, some_found, unless_cause, with_new, with_row, with_row_at, with_rows}
+use Rattle.csv_import.proofs.Common.{with_values}
 use Rattle.csv_import.proofs.GoodMerges.{legible_with, merged_boxes_are, merged_days, merged_good}
 
 -- ---- a row counts once
@@ -35,7 +42,7 @@ pub record CountsAs (f : Forest Unit) (source : Bytes) (row : Row) (became : Ent
   pub same : is_same f source row ≡ same_by became
 
 pub counts_as : (f : Forest Unit) (source : Bytes) (row : Row)
-    → CountsAs f source row (entry_of (unit_of f source row) row.values)
+    → CountsAs f source row (entry_of (catalogued_unit f source row) row.values)
 counts_as f source row = at (find (is_from source row.legacy) (nodes f)) refl
   where
     there : (v : Unit) (same : Bool)
@@ -44,10 +51,10 @@ counts_as f source row = at (find (is_from source row.legacy) (nodes f)) refl
     there v false = (refl, refl, refl)
 
     at : (r : Option Unit) → find (is_from source row.legacy) (nodes f) ≡ r
-        → CountsAs f source row (entry_of (unit_of f source row) row.values)
+        → CountsAs f source row (entry_of (catalogued_unit f source row) row.values)
     at None e =
         let none : has (is_from source row.legacy) f ≡ false = none_found (is_from source row.legacy) (nodes f) e in
-        let became : entry_of (unit_of f source row) row.values ≡ entry.New = ap (λ u. entry_of u row.values) e in
+        let became : entry_of (catalogued_unit f source row) row.values ≡ entry.New = ap (λ u. entry_of u row.values) e in
         let same : is_same f source row ≡ false =
         ap (λ u. option_map_or (λ (unit : Unit). same_values unit.values row.values) u false) e in
         record {
@@ -57,7 +64,7 @@ counts_as f source row = at (find (is_from source row.legacy) (nodes f)) refl
         }
     at (Some v) e =
         let some : has (is_from source row.legacy) f ≡ true = some_found (is_from source row.legacy) (nodes f) v e in
-        let became : entry_of (unit_of f source row) row.values ≡ entry_of (Some v) row.values =
+        let became : entry_of (catalogued_unit f source row) row.values ≡ entry_of (Some v) row.values =
         ap (λ u. entry_of u row.values) e in
         let same : is_same f source row ≡ same_values v.values row.values =
         ap (λ u. option_map_or (λ (unit : Unit). same_values unit.values row.values) u false) e in
@@ -236,7 +243,7 @@ counts_one entry.Same counts = record { changed = omega arith; new = omega arith
 
 pub next_comes : (source : Bytes) (rows : List Row) (row : Row) (rest : List Row) (next : ℕ) (counts : Counts) (c d : Catalogue) (became : Entry)
     → (h : HaveCome source rows (row ∷ rest) next counts c d)
-    → became ≡ entry_of (unit_of d.forest source row) row.values
+    → became ≡ entry_of (catalogued_unit d.forest source row) row.values
     → HaveCome source rows rest next (count_entry became counts) c (catalogue_after source (row ∷ []) d)
 next_comes source rows row rest next counts c d became h is =
     let it = one_entered source row rest (next + counts.new) d h.come in

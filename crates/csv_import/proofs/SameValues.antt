@@ -1,11 +1,15 @@
 -- Values that are the same change nothing.
-use Rattle.std.proofs.Common.{◌≡◌, ℕ, Bool, true, false, not, cond, ◌&&◌, List, [], ◌∷◌, ◌++◌, Option, Some, None, refl, sym, ap, ap₂, ◌∙◌, subst, nat_eq, append-nil}
-use Rattle.std.specs.Prelude.{map, ◌||◌}
+use Rattle.std.proofs.Common.{◌≡◌, ℕ, Bool, true, false, not, cond, ◌&&◌, List, [], ◌∷◌, ◌++◌, Option, Some, None, refl}
+use Rattle.std.proofs.Common.{sym, ap, ap₂, ◌∙◌, subst, nat_eq, append-nil}
 use Rattle.std.specs.Cmp.Lexicographic.{pointwise}
 use Rattle.std.specs.List.{IsDistinct}
-use Rattle.isad_core.specs.Boxes.{is_same}
+use Rattle.std.specs.Prelude.{map, ◌||◌}
 use Rattle.catalogue_core.proofs.UnitPlaces.{HaveOwnNumbers}
-use Rattle.csv_import.proofs.Common.{AllByRecursion, AreGoodUnits, BoxKey, Bytes, Catalogue, Empty, Forest, KnowsItsContainers, Node, Unit, Values, all_distinct, all_of_found, all_so, all_split, and_parts, box_itself, bytes_eq, distinct, distinct_append, each, eqb-true, false≢true, filter, find, has_id, list_all, list_any, nodes, one_text, option_eq, or_right, same_box, same_values, with_boxes, with_values}
+use Rattle.csv_import.proofs.Common.{AllByRecursion, AreGoodUnits, BoxKey, Bytes, Catalogue, Empty, Forest}
+use Rattle.csv_import.proofs.Common.{KnowsItsContainers, Node, Unit, Values, all_distinct, all_of_found, all_so}
+use Rattle.csv_import.proofs.Common.{all_split, and_parts, box_itself, bytes_eq, distinct, distinct_append, each}
+use Rattle.csv_import.proofs.Common.{eqb-true, false≢true, filter, find, has_id, is_same_box, list_all, list_any, nodes}
+use Rattle.csv_import.proofs.Common.{one_text, option_eq, or_right, same_box, same_values, with_boxes, with_values}
 
 -- ---- the same values are one
 
@@ -26,11 +30,11 @@ one_option (Some a) (Some b) e = ap Some (one_text a b e)
 
 pub one_description : (a b : Values) → same_values a b ≡ true → a ≡ b
 one_description a b e =
-    let x = and_parts (bytes_eq a.level b.level) (pointwise (option_eq bytes_eq) a.texts b.texts && pointwise is_same a.boxes b.boxes) e in
-    let y = and_parts (pointwise (option_eq bytes_eq) a.texts b.texts) (pointwise is_same a.boxes b.boxes) x.1 in
+    let x = and_parts (bytes_eq a.level b.level) (pointwise (option_eq bytes_eq) a.texts b.texts && pointwise is_same_box a.boxes b.boxes) e in
+    let y = and_parts (pointwise (option_eq bytes_eq) a.texts b.texts) (pointwise is_same_box a.boxes b.boxes) x.1 in
     ap (λ t. record { level = t; texts = a.texts; boxes = a.boxes }) (one_text a.level b.level x.0)
     ∙ (ap (λ t. record { level = b.level; texts = t; boxes = a.boxes }) (all_equal (option_eq bytes_eq) one_option a.texts b.texts y.0)
-    ∙ ap (λ t. record { level = b.level; texts = b.texts; boxes = t }) (all_equal is_same same_box a.boxes b.boxes y.1))
+    ∙ ap (λ t. record { level = b.level; texts = b.texts; boxes = t }) (all_equal is_same_box same_box a.boxes b.boxes y.1))
 
 -- ---- the units stay
 
@@ -64,34 +68,34 @@ each_stays g (Node u c o) h =
 
 -- ---- the containers stay
 
-none_left : (boxes bs : List BoxKey) → AllByRecursion (λ b. list_any (λ x. is_same x b) boxes ≡ true) bs
-    → filter (λ b. not (list_any (λ x. is_same x b) boxes)) bs ≡ []
+none_left : (boxes bs : List BoxKey) → AllByRecursion (λ b. list_any (λ x. is_same_box x b) boxes ≡ true) bs
+    → filter (λ b. not (list_any (λ x. is_same_box x b) boxes)) bs ≡ []
 none_left boxes [] h = refl
 none_left boxes (b ∷ bs) h =
-    ap (λ k. cond (not k) (b ∷ filter (λ b. not (list_any (λ x. is_same x b) boxes)) bs) (filter (λ b. not (list_any (λ x. is_same x b) boxes)) bs)) h.0
+    ap (λ k. cond (not k) (b ∷ filter (λ b. not (list_any (λ x. is_same_box x b) boxes)) bs) (filter (λ b. not (list_any (λ x. is_same_box x b) boxes)) bs)) h.0
     ∙ none_left boxes bs h.1
 
-turned : (b : BoxKey) (boxes : List BoxKey) → list_any (is_same b) boxes ≡ true
-    → list_any (λ x. is_same x b) boxes ≡ true
+turned : (b : BoxKey) (boxes : List BoxKey) → list_any (is_same_box b) boxes ≡ true
+    → list_any (λ x. is_same_box x b) boxes ≡ true
 turned b [] h = h
-turned b (x ∷ xs) h = at (is_same b x) refl h (turned b xs)
+turned b (x ∷ xs) h = at (is_same_box b x) refl h (turned b xs)
   where
-    at : (k : Bool) → is_same b x ≡ k → (k || list_any (is_same b) xs) ≡ true
-        → (list_any (is_same b) xs ≡ true → list_any (λ y. is_same y b) xs ≡ true)
-        → list_any (λ y. is_same y b) (x ∷ xs) ≡ true
-    at true e k more = ap (λ t. t || list_any (λ y. is_same y b) xs) (subst (λ (y : BoxKey). is_same y b ≡ true) (same_box b x e) (box_itself b))
-    at false e k more = or_right (is_same x b) (list_any (λ y. is_same y b) xs) (more k)
+    at : (k : Bool) → is_same_box b x ≡ k → (k || list_any (is_same_box b) xs) ≡ true
+        → (list_any (is_same_box b) xs ≡ true → list_any (λ y. is_same_box y b) xs ≡ true)
+        → list_any (λ y. is_same_box y b) (x ∷ xs) ≡ true
+    at true e k more = ap (λ t. t || list_any (λ y. is_same_box y b) xs) (subst (λ (y : BoxKey). is_same_box y b ≡ true) (same_box b x e) (box_itself b))
+    at false e k more = or_right (is_same_box x b) (list_any (λ y. is_same_box y b) xs) (more k)
 
-all_turned : (boxes bs : List BoxKey) → list_all (λ b. list_any (is_same b) boxes) bs ≡ true
-    → AllByRecursion (λ b. list_any (λ x. is_same x b) boxes ≡ true) bs
+all_turned : (boxes bs : List BoxKey) → list_all (λ b. list_any (is_same_box b) boxes) bs ≡ true
+    → AllByRecursion (λ b. list_any (λ x. is_same_box x b) boxes ≡ true) bs
 all_turned boxes [] h = tt
-all_turned boxes (b ∷ bs) h = let parts = and_parts (list_any (is_same b) boxes) (list_all (λ b. list_any (is_same b) boxes) bs) h in (turned b boxes parts.0, all_turned boxes bs parts.1)
+all_turned boxes (b ∷ bs) h = let parts = and_parts (list_any (is_same_box b) boxes) (list_all (λ b. list_any (is_same_box b) boxes) bs) h in (turned b boxes parts.0, all_turned boxes bs parts.1)
 
-boxes_stay : (boxes bs : List BoxKey) → distinct boxes ≡ boxes → list_all (λ b. list_any (is_same b) boxes) bs ≡ true
+boxes_stay : (boxes bs : List BoxKey) → distinct boxes ≡ boxes → list_all (λ b. list_any (is_same_box b) boxes) bs ≡ true
     → with_boxes boxes bs ≡ boxes
 boxes_stay boxes bs apart known =
     distinct_append boxes bs
-    ∙ (ap₂ (λ xs ys. xs ++ ys) apart (none_left boxes (distinct bs) (all_distinct (λ b. list_any (λ x. is_same x b) boxes ≡ true) bs (all_turned boxes bs known)))
+    ∙ (ap₂ (λ xs ys. xs ++ ys) apart (none_left boxes (distinct bs) (all_distinct (λ b. list_any (λ x. is_same_box x b) boxes ≡ true) bs (all_turned boxes bs known)))
     ∙ append-nil boxes)
 
 -- ---- all of it
@@ -101,7 +105,7 @@ pub nothing_changes : (c : Catalogue) (id : ℕ) (v : Unit) (values : Values) �
     → find (has_id id) (nodes c.forest) ≡ Some v → same_values v.values values ≡ true → with_values id values c ≡ c
 nothing_changes c id v values good knows found same =
     let is : v.values ≡ values = one_description v.values values same in
-    let known = subst (λ (w : Values). list_all (λ b. list_any (is_same b) c.containers) w.boxes ≡ true) is (all_of_found (λ (u : Unit). list_all (λ b. list_any (is_same b) c.containers) u.values.boxes ≡ true) (has_id id) (nodes c.forest) v found knows.known) in
+    let known = subst (λ (w : Values). list_all (λ b. list_any (is_same_box b) c.containers) w.boxes ≡ true) is (all_of_found (λ (u : Unit). list_all (λ b. list_any (is_same_box b) c.containers) u.values.boxes ≡ true) (has_id id) (nodes c.forest) v found knows.known) in
     ap₂ (λ f bs. made f bs)
     (each_stays (λ u. cond (has_id id u) (record u { values = values }) u) c.forest
     (all_so (λ u. has_id id u ≡ true → u.values ≡ v.values) (λ u. cond (has_id id u) (record u { values = values }) u ≡ u) (λ u h. at u (has_id id u) refl (λ e. h e ∙ is)) (nodes c.forest) (its_values id (nodes c.forest) v good.ids found)))

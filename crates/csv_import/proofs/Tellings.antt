@@ -3,13 +3,15 @@ use Rattle.std.proofs.Common.{◌≡◌, Result, Ok, Err, OnOk, OnErr}
 use Rattle.sqlite.specs.State.{State}
 use Rattle.sqlite_trees.specs.declared.store.Store as store
 use Rattle.office_tables.specs.Faults.{HasCause, IsUnlimited}
-use Rattle.csv_import.proofs.Common.{Answers, Database, HasCleanDisk, Held, IsAborted, IsErr, IsErrAnd, LeavesUnchanged, StoreFault, Survives, cut_then, early, excused_then, if_ok_then, looks_then, on_err_then, on_ok_then, same_fault, state, tells_cut}
+use Rattle.csv_import.proofs.Common.{Answers, Database, HasCleanDisk, Held, IsAborted, IsErr, IsErrAnd, LeavesUnchanged}
+use Rattle.csv_import.proofs.Common.{StoreFault, Survives, cut_then, early, excused_then, if_ok_then, looks_then}
+use Rattle.csv_import.proofs.Common.{on_err_then, on_ok_then, same_fault, state, tells_cut}
 
 -- it tells what was read
 pub tells_so : {S X A B : Type 0} {g : store.Ghosts S} {represents : Database → A → B → Type 0} {kept may : B → Type 0} {before after : Held S} {x : X} {answer : A → B → X → Type 0}
     → LeavesUnchanged (state g before) (state g after)
     → (HasCleanDisk (state g after) → (s : A) (m : B) → represents (state g before).now s m → answer s m x)
-    → Answers g represents kept before after (Ok x) may answer
+    → Answers g represents before after (Ok x) may kept answer
 tells_so looked told = record { answers = told; looks = looked; aborts = tt; faults = λ s m shown allowed within clean free. tt }
 
 -- it looked first, and passes the fault of a later step on
@@ -17,7 +19,7 @@ pub tells_cut_later : {S X A B : Type 0} {g : store.Ghosts S} {represents : Data
     → IsErr r × IsErrAnd r (λ f. f ≡ e)
     → LeavesUnchanged (state g before) (state g mid) → IsAborted (state g mid) (state g after)
     → ((s : A) (m : B) → represents (state g before).now s m → may m → kept m → HasCleanDisk (state g mid) → HasCleanDisk (state g after) → IsUnlimited (state g mid) → HasCause (state g mid) (state g after) e)
-    → Answers g represents kept before after r may answer
+    → Answers g represents before after r may kept answer
 tells_cut_later {g = g} {represents = represents} {kept = kept} {may = may} {before = before} mid {after = after} e {r = r} {answer = answer} handed looked cut why =
     tells_cut g represents kept may before mid after r answer e (same_fault r e handed.0 handed.1) looked cut why
 
@@ -34,10 +36,10 @@ pub record IsAlso {A B C D : Type 0} (represents : Database → A → B → Type
 
 module _ {S Y A B C D : Type 0} {g : store.Ghosts S} {represents : Database → A → B → Type 0} {kept : B → Type 0} {others : Database → C → D → Type 0} {other_kept other_may : D → Type 0} {before mid after : Held S} {r : Result Y StoreFault} where
   pub told_last : (beside : A → B → C) (model : A → B → D) {may : B → Type 0} {told : C → D → Y → Type 0} {answer : A → B → Y → Type 0}
-      → Answers g others other_kept mid after r other_may told → LeavesUnchanged (state g before) (state g mid)
+      → Answers g others mid after r other_may other_kept told → LeavesUnchanged (state g before) (state g mid)
       → IsAlso represents may kept others other_may other_kept beside model (state g before) (state g mid)
       → (HasCleanDisk (state g mid) → (s : A) (m : B) → represents (state g before).now s m → (y : Y) → told (beside s m) (model s m) y → answer s m y)
-      → Answers g represents kept before after r may answer
+      → Answers g represents before after r may kept answer
   told_last beside model {told = told} {answer = answer} last looked also means =
       let a = state g before in
       let b = state g mid in

@@ -4,7 +4,7 @@ use Rattle.isad_core.specs.Texts.{Bytes}
 use Rattle.atom_csv.specs.declared.file.Row.{Row}
 use Rattle.tree_core.specs.Forest.{Forest}
 use Rattle.tree_core.specs.declared.arrivals.Arrival.{Arrival}
-use Rattle.catalogue_core.specs.CatalogueMerge.{Catalogue, New, is_known, number_of, numbered_from}
+use Rattle.catalogue_core.specs.CatalogueMerge.{Catalogue, New, is_known, parent_number, numbered_from}
 use Rattle.catalogue_core.specs.Units.{Unit}
 use Rattle.csv_import.specs.KnownUnits.{KnowsUnits, TellsUnits}
 use Rattle.csv_import.specs.RowEntry.{CanEnter}
@@ -28,12 +28,12 @@ arrivals_of f source n rows = arrivals_from f source n [] (new_of f source rows)
 abbrev pub arrival_at : Forest Unit → Bytes → ℕ → List Row → Row → Option Arrival
 arrival_at f source n above row =
     if is_known f source row then None
-    else Some (record { unit = n; parent = option_and_then (number_of f source n above) row.parent })
+    else Some (record { unit = n; parent = option_and_then (parent_number f source n above) row.parent })
 
 -- `numbers` has the number that each of the new rows above got; any other unit is in the catalogue
 abbrev pub KnowsNumbers : Forest Unit → Bytes → ℕ → List Row → (Bytes → Option ℕ) → Type 0
 KnowsNumbers f source n above numbers =
-    (legacy : Bytes) → number_of f source n above legacy ≡ or_there (numbers legacy) (number_of f source n [] legacy)
+    (legacy : Bytes) → parent_number f source n above legacy ≡ or_there (numbers legacy) (parent_number f source n [] legacy)
 
 -- the rows can be entered; what the catalogue has of their units and parents is known, and so is the next number
 pub record IsReady (source : Bytes) (rows : List Row) (numbers : Bytes → Option ℕ) (next : ℕ) (c : Catalogue) : Type 0 where

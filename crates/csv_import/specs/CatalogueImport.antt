@@ -1,5 +1,6 @@
 -- A file that is imported into an office.
-use Rattle.std.specs.Prelude.{◌≡◌, ℕ, ◌+◌, ◌≤◌, Bool, true, nat_le, nat_lt, ◌&&◌, if◌then◌else◌, List, [], length, map, Option, Some, None, Err}
+use Rattle.std.specs.Prelude.{◌≡◌, ℕ, ◌+◌, ◌≤◌, Bool, true, nat_le, nat_lt, ◌&&◌, if◌then◌else◌, List, [], length, map}
+use Rattle.std.specs.Prelude.{Option, Some, None, Err}
 use Rattle.isad_core.specs.Limits.{most_containers, most_unit_numbers, most_units}
 use Rattle.isad_core.specs.Texts.{Bytes}
 use Rattle.atom_csv.specs.declared.file.File.{File}
@@ -53,6 +54,6 @@ pub record HasImported (source : Bytes) (file : File) (s : State) : Type 0 where
   pub entered : length s.catalogue.containers ≤ most_containers → HasEntered source file.rows s.catalogue
 
 -- the same, and these are the units of the file's rows
-pub record HasNumbered (source : Bytes) (file : File) (units : List ℕ) (s : State) : Type 0 where
+pub record HasNumberedUnits (source : Bytes) (file : File) (units : List ℕ) (s : State) : Type 0 where
   pub imported : HasImported source file s
   pub numbered : map Some units ≡ map (λ row. number_there s.catalogue source row.legacy) file.rows

@@ -37,7 +37,7 @@ abbrev pub AreNext : Import → Catalogue → Type 0
 AreNext i c = AreToCome i.source.now i.rows.now i.next c
     × TellsUnits c i.source.now i.rows.now (get_by_text i.catalogued.now)
 
--- over tables of a catalogue for which `may` holds, the result of a call that succeeds is as `answer` says
+-- over tables of a catalogue that is as the call `needs`, the result of a call that succeeds is as `answer` says
 abbrev pub ReadsCatalogue : {S X : Type 0} → store.Ghosts S → (Database → OfficeRow → Catalogue → Type 0) → (Catalogue → Type 0) → Held S → Held S → Result X StoreFault → (Catalogue → X → Type 0) → Type 0
-ReadsCatalogue g represents may before after r answer = HasCleanDisk (state g after) → (o : OfficeRow) (c : Catalogue)
-    → represents (state g before).now o c → may c → IfOk r (answer c)
+ReadsCatalogue g represents needs before after r answer = HasCleanDisk (state g after) → (o : OfficeRow) (c : Catalogue)
+    → represents (state g before).now o c → needs c → IfOk r (answer c)

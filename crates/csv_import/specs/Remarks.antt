@@ -7,7 +7,7 @@ use Rattle.atom_csv.specs.declared.file.Row.{Row}
 use Rattle.tree_core.specs.Forest.{Forest, nodes}
 use Rattle.tree_core.specs.Tops.{right_above}
 use Rattle.catalogue_core.specs.GoodCatalogues.{AreGoodUnits}
-use Rattle.catalogue_core.specs.Intake.{unit_of}
+use Rattle.catalogue_core.specs.Intake.{catalogued_unit}
 use Rattle.catalogue_core.specs.CatalogueMerge.{Catalogue}
 use Rattle.catalogue_core.specs.EntryByRow.{number_there}
 use Rattle.catalogue_core.specs.Units.{Unit, has_id, is_from}
@@ -15,7 +15,7 @@ use Rattle.csv_import.specs.declared.remarks.Ranked.{Ranked}
 
 -- the row's unit exists, and has the row's values
 abbrev pub HasItsUnit : Forest Unit → Bytes → Row → Type 0
-HasItsUnit f source row = option_map (λ unit. unit.values) (unit_of f source row) ≡ Some row.values
+HasItsUnit f source row = option_map (λ unit. unit.values) (catalogued_unit f source row) ≡ Some row.values
 
 -- a good catalogue in which the rows of a file from a source are entered
 pub record HasEntered (source : Bytes) (rows : List Row) (c : Catalogue) : Type 0 where

@@ -1,5 +1,6 @@
 -- What is known about a file's rows before any is entered: whether each can be placed, and how many are new.
-use Rattle.std.specs.Prelude.{◌≡◌, ℕ, suc, if◌then◌else◌, nat_lt, List, [], filter, length, Option, Some, None, Result, Ok, Err}
+use Rattle.std.specs.Prelude.{◌≡◌, ℕ, suc, if◌then◌else◌, nat_lt, List, [], filter, length, Option, Some, None, Result}
+use Rattle.std.specs.Prelude.{Ok, Err}
 use Rattle.isad_core.specs.Limits.{most_deep}
 use Rattle.isad_core.specs.Texts.{Bytes}
 use Rattle.atom_csv.specs.declared.file.Row.{Row}

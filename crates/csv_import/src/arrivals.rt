@@ -4,7 +4,7 @@ ghost use Rattle.std.specs.Prelude.{◌≡◌, ℕ, List, option_and_then, IfOk,
 ghost use Rattle.std.specs.BTreeMap.{get_by_text};
 ghost use Rattle.isad_core.specs.Texts.{Bytes};
 ghost use Rattle.atom_csv.specs.declared.file.Row.{«Row» as RowTold};
-ghost use Rattle.catalogue_core.specs.CatalogueMerge.{Catalogue, number_of as number_among};
+ghost use Rattle.catalogue_core.specs.CatalogueMerge.{Catalogue, parent_number};
 ghost use Rattle.catalogue_core.specs.EntryByRow.{number_there};
 ghost use Rattle.csv_import.specs.Arrivals.{KnowsNumbers, arrival_at, arrivals_of};
 ghost use Rattle.csv_import.specs.KnownUnits.{KnowsUnits, TellsParent, TellsParentOfNew};
@@ -21,7 +21,7 @@ use tree_places::NumberedArrival;
 fn parent_of(catalogued: &UnitNumbers, numbers: &UnitNumbers, row: &Row) -> Option<Number>
     ensures answers { (c : Catalogue) (source : Bytes) → TellsParent c source (get_by_text catalogued.now) row.now
         → (next : ℕ) (above : List RowTold) → KnowsNumbers c.forest source next above (get_by_text numbers.now)
-        → result ≡ option_and_then (number_among c.forest source next above) row.now.parent }
+        → result ≡ option_and_then (parent_number c.forest source next above) row.now.parent }
 {
     let Some(parent) = &row.parent else {
         return None;

@@ -1,17 +1,18 @@
 //! The import of a file into the catalogue.
 
-ghost use Rattle.std.specs.Prelude.{◌≡◌, ◌+◌, ◌≤◌, ◌&&◌, true, length, nat_le, nat_lt, Ok, IfOk, IfSome, ⊤};
+ghost use Rattle.std.specs.Prelude.{◌≡◌, ◌+◌, ◌≤◌, ◌&&◌, true, length, nat_le, nat_lt, Ok, IfOk, IfSome};
 ghost use Rattle.isad_core.specs.Limits.{most_containers, most_rows, most_unit_numbers, most_units};
 ghost use Rattle.isad_core.specs.Texts.{Bytes};
 ghost use Rattle.atom_csv.specs.FileContents.{file_of};
 ghost use Rattle.catalogue_core.specs.Sources.{is_source};
 ghost use Rattle.office_core.specs.declared.command.Command.TheVariants as command;
 ghost use Rattle.office_tables.specs.Calls.{Answers};
+ghost use Rattle.office_tables.specs.Premises.{◌within◌gives◌};
 ghost use Rattle.catalogue_statements.specs.Settings.{AreLegibleSettings};
 ghost use Rattle.catalogue_statements.specs.Representation.{RepresentsSettings};
-ghost use Rattle.refinement.specs.CommandSteps.{Performs};
+ghost use Rattle.refinement.specs.CommandSteps.{PerformsKnowing};
 ghost use Rattle.refinement.specs.AccessConditions.{RepresentsWhole};
-ghost use Rattle.csv_import.specs.CatalogueImport.{HasNumbered, reply_after, import_outcome};
+ghost use Rattle.csv_import.specs.CatalogueImport.{HasNumberedUnits, reply_after, import_outcome};
 ghost use Rattle.csv_import.specs.CatalogueImport as spec;
 
 use crate::numbers::known_units;
@@ -45,8 +46,8 @@ fn next_with_room<P: Places, S: Alter>(
     tables: &mut Tables<P, S>,
     new: u64,
 ) -> Result<Option<u64>, StoreFault>
-    ensures answers { Answers S.Store (RepresentsSettings P.represents P.version) AreLegibleSettings tables.old
-        tables.new result (λ _. ⊤) (λ c _ next. next ≡ spec.next_with_room new c) }
+    ensures answers { Answers S.Store (RepresentsSettings P.represents P.version) tables.old tables.new result
+        within AreLegibleSettings gives λ c _ next. next ≡ spec.next_with_room new c }
     ensures low { IfOk result (λ next. IfSome next (λ number. number ≤ most_unit_numbers + 1)) }
 {
     let office = settings(alloc, tables)?;
@@ -63,8 +64,8 @@ fn has_many_containers<P: Places, S: Alter>(
     alloc: Global,
     tables: &mut Tables<P, S>,
 ) -> Result<bool, StoreFault>
-    ensures answers { Answers S.Store (RepresentsSettings P.represents P.version) AreLegibleSettings tables.old
-        tables.new result (λ _. ⊤) (λ c _ many. many ≡ nat_lt most_containers (length c.containers)) }
+    ensures answers { Answers S.Store (RepresentsSettings P.represents P.version) tables.old tables.new result
+        within AreLegibleSettings gives λ c _ many. many ≡ nat_lt most_containers (length c.containers) }
 {
     let containers = count_containers(alloc, tables)?;
     Ok(containers > MOST_CONTAINERS)
@@ -80,9 +81,10 @@ fn judge<P: Places, S: Alter>(
     outcome: &Outcome,
 ) -> Result<Result<Done, Refusal>, StoreFault>
     ensures answers { (source : Bytes) → Answers S.Store (RepresentsWhole P.represents P.version)
-        (HasNumbered source file.now outcome.now.units.items) tables.old tables.new result (λ _. ⊤)
-        (λ _ s reply. HasNumbered source file.now outcome.now.units.items s → today ≡ s.day
-        → reply ≡ reply_after s (import_outcome source file.now outcome.now.counts s)) }
+        tables.old tables.new result
+        within HasNumberedUnits source file.now outcome.now.units.items
+        gives λ _ s reply. HasNumberedUnits source file.now outcome.now.units.items s → today ≡ s.day
+        → reply ≡ reply_after s (import_outcome source file.now outcome.now.counts s) }
 {
     if has_many_containers(alloc, tables)? {
         return Ok(Err(Refusal::Full));
@@ -109,7 +111,7 @@ fn import_read<P: Places, S: Alter>(
     file: &File,
 ) -> Result<Result<Done, Refusal>, StoreFault>
     requires few { length file.now.rows ≤ most_rows }
-    ensures { (bytes : Bytes) → file_of bytes ≡ Ok file.now → Performs P.represents P.version S.Store
+    ensures { (bytes : Bytes) → file_of bytes ≡ Ok file.now → PerformsKnowing P.represents P.version S.Store
         (λ s. (today ≡ s.day) × (is_source source.now ≡ true)) (command.Import source.now bytes)
         tables.old tables.new result }
 {
@@ -146,7 +148,7 @@ pub fn import<P: Places, S: Alter>(
     source: &Text,
     file: &[u8],
 ) -> Result<Result<Done, Refusal>, StoreFault>
-    ensures { Performs P.represents P.version S.Store (λ s. (today ≡ s.day) × (is_source source.now ≡ true))
+    ensures { PerformsKnowing P.represents P.version S.Store (λ s. (today ≡ s.day) × (is_source source.now ≡ true))
         (command.Import source.now file.now) tables.old tables.new result }
 {
     match read_file(alloc, file) {

@@ -1,6 +1,6 @@
 //! The numbers of units by their numbers in their source.
 
-ghost use Rattle.std.specs.Prelude.{◌≡◌, ◌||◌, true, OnOk, ⊤};
+ghost use Rattle.std.specs.Prelude.{◌≡◌, ◌||◌, true, OnOk};
 ghost use Rattle.std.specs.BTreeMap.{get_by_text};
 ghost use Rattle.std.specs.BTreeSet.{contains_text};
 ghost use Rattle.std.specs.Str.{bytes_eq};
@@ -8,6 +8,7 @@ ghost use Rattle.isad_core.specs.Texts.{Bytes};
 ghost use Rattle.catalogue_core.specs.GoodCatalogues.{AreGoodUnits};
 ghost use Rattle.catalogue_core.specs.EntryByRow.{number_there};
 ghost use Rattle.office_tables.specs.Calls.{Answers};
+ghost use Rattle.office_tables.specs.Premises.{◌within◌gives◌};
 ghost use Rattle.csv_import.specs.RowEntry.{RepresentsEntering};
 ghost use Rattle.csv_import.specs.KnownUnits.{IsAsked, KnowsAsked, KnowsUnits};
 
@@ -26,8 +27,8 @@ fn number_of<P: Places, S: Alter>(
     source: &Text,
     legacy: &Text,
 ) -> Result<Option<Number>, StoreFault>
-    ensures answers { Answers S.Store (RepresentsEntering P.version) (λ _. ⊤) tables.old tables.new result AreGoodUnits
-        (λ _ c found. AreGoodUnits c → found ≡ number_there c source.now legacy.now) }
+    ensures answers { Answers S.Store (RepresentsEntering P.version) tables.old tables.new result
+        within AreGoodUnits gives λ _ c found. AreGoodUnits c → found ≡ number_there c source.now legacy.now }
 {
     known(alloc, tables, source, legacy)
 }
@@ -42,9 +43,10 @@ fn look_up<P: Places, S: Alter>(
     numbers: &mut UnitNumbers,
     legacy: &Text,
 ) -> Result<(), StoreFault>
-    ensures answers { Answers S.Store (RepresentsEntering P.version) (λ _. ⊤) tables.old tables.new result AreGoodUnits
-        (λ _ c _. AreGoodUnits c → KnowsAsked c source.now (contains_text asked.old) (get_by_text numbers.old)
-        → KnowsAsked c source.now (contains_text asked.new) (get_by_text numbers.new)) }
+    ensures answers { Answers S.Store (RepresentsEntering P.version) tables.old tables.new result
+        within AreGoodUnits
+        gives λ _ c _. AreGoodUnits c → KnowsAsked c source.now (contains_text asked.old) (get_by_text numbers.old)
+        → KnowsAsked c source.now (contains_text asked.new) (get_by_text numbers.new) }
     ensures asked { OnOk result ((q : Bytes) → contains_text asked.new q
         ≡ (bytes_eq q legacy.now || contains_text asked.old q)) }
 {
@@ -68,10 +70,11 @@ fn look_up_row<P: Places, S: Alter>(
     numbers: &mut UnitNumbers,
     row: &Row,
 ) -> Result<(), StoreFault>
-    ensures answers { Answers S.Store (RepresentsEntering P.version) (λ _. ⊤) tables.old tables.new result AreGoodUnits
-        (λ _ c _. AreGoodUnits c → KnowsAsked c source.now (contains_text asked.old) (get_by_text numbers.old)
+    ensures answers { Answers S.Store (RepresentsEntering P.version) tables.old tables.new result
+        within AreGoodUnits
+        gives λ _ c _. AreGoodUnits c → KnowsAsked c source.now (contains_text asked.old) (get_by_text numbers.old)
         → KnowsAsked c source.now (contains_text asked.new) (get_by_text numbers.new)
-        × IsAsked c source.now (contains_text asked.new) row.now) }
+        × IsAsked c source.now (contains_text asked.new) row.now }
     ensures more { OnOk result ((q : Bytes) → contains_text asked.old q ≡ true → contains_text asked.new q ≡ true) }
 {
     look_up(alloc, tables, source, asked, numbers, &row.legacy)?;
@@ -93,8 +96,9 @@ pub(crate) fn known_units<P: Places, S: Alter>(
     source: &Text,
     rows: &[Row],
 ) -> Result<UnitNumbers, StoreFault>
-    ensures answers { Answers S.Store (RepresentsEntering P.version) (λ _. ⊤) tables.old tables.new result AreGoodUnits
-        (λ _ c numbers. AreGoodUnits c → KnowsUnits c source.now rows.now (get_by_text numbers)) }
+    ensures answers { Answers S.Store (RepresentsEntering P.version) tables.old tables.new result
+        within AreGoodUnits
+        gives λ _ c numbers. AreGoodUnits c → KnowsUnits c source.now rows.now (get_by_text numbers) }
 {
     let mut asked = Legacies::new(alloc);
     let mut numbers = UnitNumbers::new(alloc);

@@ -1,6 +1,6 @@
 //! The paths of the units that a file's rows name.
 
-ghost use Rattle.std.specs.Prelude.{◌≡◌, map, ⊤};
+ghost use Rattle.std.specs.Prelude.{◌≡◌, map};
 ghost use Rattle.isad_core.specs.Texts.{Bytes};
 ghost use Rattle.tree_core.specs.Forest.{path};
 ghost use Rattle.catalogue_core.specs.Bounds.{IsKept};
@@ -8,6 +8,7 @@ ghost use Rattle.catalogue_core.specs.GoodCatalogues.{AreGoodUnits};
 ghost use Rattle.catalogue_core.specs.EntryByRow.{number_there};
 ghost use Rattle.catalogue_core.specs.Units.{is_from};
 ghost use Rattle.office_tables.specs.Calls.{Answers};
+ghost use Rattle.office_tables.specs.Premises.{◌within◌gives◌};
 ghost use Rattle.catalogue_statements.specs.Representation.{Represents};
 
 use catalogue_store::Places;
@@ -21,9 +22,9 @@ pub(crate) fn path_of<P: Places, S: Alter>(
     tables: &mut Tables<P, S>,
     unit: Option<Number>,
 ) -> Result<Vec<Number>, StoreFault>
-    ensures answers { Answers S.Store (Represents P.represents P.version) IsKept tables.old tables.new result (λ _. ⊤)
-        (λ _ c ids. AreGoodUnits c → (source legacy : Bytes) → unit ≡ number_there c source legacy
-        → ids.items ≡ map (λ unit. unit.id) (path (is_from source legacy) c.forest)) }
+    ensures answers { Answers S.Store (Represents P.represents P.version) tables.old tables.new result
+        within IsKept gives λ _ c ids. AreGoodUnits c → (source legacy : Bytes) → unit ≡ number_there c source legacy
+        → ids.items ≡ map (λ unit. unit.id) (path (is_from source legacy) c.forest) }
 {
     let Some(unit) = unit else {
         return Ok(Vec::new(alloc));

@@ -1,6 +1,6 @@
 //! The remarks on the rows of a file, after these were entered.
 
-ghost use Rattle.std.specs.Prelude.{◌≡◌, Some, find, is_some, IfSome, ⊤};
+ghost use Rattle.std.specs.Prelude.{◌≡◌, Some, find, is_some, IfSome};
 ghost use Rattle.std.specs.List.{list_all};
 ghost use Rattle.std.specs.Option.{option_to_list};
 ghost use Rattle.isad_core.specs.Levels.{rank_of};
@@ -14,6 +14,7 @@ ghost use Rattle.office_core.specs.ImportReply.{is_level_above, remark_if};
 ghost use Rattle.office_core.specs.ImportReply as reply;
 ghost use Rattle.office_core.specs.declared.done.Remark.TheVariants.{LacksEssential, LevelTooHigh};
 ghost use Rattle.office_tables.specs.Calls.{Answers};
+ghost use Rattle.office_tables.specs.Premises.{◌within◌and◌gives◌, ◌within◌gives◌};
 ghost use Rattle.catalogue_statements.specs.Representation.{Represents};
 ghost use Rattle.csv_import.specs.Remarks.{HasParent, HaveParents, HaveUnits, IsRankOf, IsRanked};
 
@@ -85,8 +86,8 @@ fn rank_there<P: Places, S: Alter>(
     tables: &mut Tables<P, S>,
     unit: Number,
 ) -> Result<Option<u8>, StoreFault>
-    ensures answers { Answers S.Store (Represents P.represents P.version) IsKept tables.old tables.new result (λ _. ⊤)
-        (λ _ c rank. IsRankOf c unit rank) }
+    ensures answers { Answers S.Store (Represents P.represents P.version) tables.old tables.new result
+        within IsKept gives λ _ c rank. IsRankOf c unit rank }
 {
     let Some(level) = find_level(alloc, tables, unit)? else {
         return Ok(None);
@@ -101,8 +102,8 @@ fn kept_rank<P: Places, S: Alter>(
     last: &mut Option<Ranked>,
     unit: Number,
 ) -> Result<Option<u8>, StoreFault>
-    ensures answers { Answers S.Store (Represents P.represents P.version) IsKept tables.old tables.new result (λ _. ⊤)
-        (λ _ c rank. IsRanked c last.old → IsRankOf c unit rank × IsRanked c last.new) }
+    ensures answers { Answers S.Store (Represents P.represents P.version) tables.old tables.new result
+        within IsKept gives λ _ c rank. IsRanked c last.old → IsRankOf c unit rank × IsRanked c last.new }
 {
     if let Some(ranked) = kept_of(last, unit) {
         return Ok(ranked.rank);
@@ -120,12 +121,12 @@ fn remark_below<P: Places, S: Alter>(
     parent: Number,
     row: &Row,
 ) -> Result<Option<Remark>, StoreFault>
-    ensures answers { Answers S.Store (Represents P.represents P.version) IsKept tables.old tables.new result
-        (λ c. (unit : Described) × (find (has_id parent) (nodes c.forest) ≡ Some unit))
-        (λ _ c told. IsRanked c last.old → IsRanked c last.new
+    ensures answers { Answers S.Store (Represents P.represents P.version) tables.old tables.new result
+        within IsKept and (λ c. (unit : Described) × (find (has_id parent) (nodes c.forest) ≡ Some unit))
+        gives λ _ c told. IsRanked c last.old → IsRanked c last.new
         × ((unit : Described) → find (has_id parent) (nodes c.forest) ≡ Some unit
         → option_to_list told ≡ remark_if (is_level_above (rank_of row.now.values.level) (rank_of unit.values.level))
-        (LevelTooHigh row.now.row))) }
+        (LevelTooHigh row.now.row)) }
 {
     let above = kept_rank(alloc, tables, last, parent)?;
     if is_above(rank(row.values.level.as_str()), above) {
@@ -152,10 +153,11 @@ fn remark_on<P: Places, S: Alter>(
     parent: &Option<Number>,
     row: &Row,
 ) -> Result<Option<Remark>, StoreFault>
-    ensures answers { (source : Bytes) → Answers S.Store (Represents P.represents P.version) IsKept tables.old
-        tables.new result (HasParent source row.now parent.now) (λ _ c told. IsRanked c last.old
+    ensures answers { (source : Bytes) → Answers S.Store (Represents P.represents P.version)
+        tables.old tables.new result
+        within IsKept and HasParent source row.now parent.now gives λ _ c told. IsRanked c last.old
         → HasParent source row.now parent.now c → IsRanked c last.new
-        × (option_to_list told ≡ reply.remark_on row.now.row (path (is_from source row.now.legacy) c.forest))) }
+        × (option_to_list told ≡ reply.remark_on row.now.row (path (is_from source row.now.legacy) c.forest)) }
 {
     match parent {
         Some(parent) => remark_below(alloc, tables, last, *parent, row),
@@ -170,9 +172,11 @@ fn remarks_below<P: Places, S: Alter>(
     parents: &[Option<Number>],
     rows: &[Row],
 ) -> Result<List<Remark>, StoreFault>
-    ensures answers { (source : Bytes) → Answers S.Store (Represents P.represents P.version) IsKept tables.old
-        tables.new result (HaveParents source rows.now parents.now) (λ _ c told. HaveParents source rows.now parents.now
-        c → told ≡ reply.remarks c.forest source rows.now) }
+    ensures answers { (source : Bytes) → Answers S.Store (Represents P.represents P.version)
+        tables.old tables.new result
+        within IsKept and HaveParents source rows.now parents.now
+        gives λ _ c told. HaveParents source rows.now parents.now
+        c → told ≡ reply.remarks c.forest source rows.now }
 {
     let mut told = List::new(alloc);
     let mut last = None;
@@ -192,9 +196,10 @@ pub(crate) fn remarks<P: Places, S: Alter>(
     units: &[Number],
     rows: &[Row],
 ) -> Result<List<Remark>, StoreFault>
-    ensures answers { (source : Bytes) → Answers S.Store (Represents P.represents P.version) IsKept tables.old
-        tables.new result (HaveUnits source rows.now units.now)
-        (λ _ c told. HaveUnits source rows.now units.now c → told ≡ reply.remarks c.forest source rows.now) }
+    ensures answers { (source : Bytes) → Answers S.Store (Represents P.represents P.version)
+        tables.old tables.new result
+        within IsKept and HaveUnits source rows.now units.now
+        gives λ _ c told. HaveUnits source rows.now units.now c → told ≡ reply.remarks c.forest source rows.now }
 {
     let parents = P::parents(alloc, tables, units)?;
     remarks_below(alloc, tables, &parents, rows)

@@ -1,19 +1,20 @@
 //! The rows of a file, entered into the tables of a catalogue.
 
 ghost use Rattle.std.specs.Prelude.{◌≡◌, ◌+◌, ◌<◌, ◌≤◌, ◌^◌, [], ◌∷◌, find, length, map, None, Some};
-ghost use Rattle.std.specs.Prelude.{IfOk, IfErr, ⊤};
+ghost use Rattle.std.specs.Prelude.{IfOk, IfErr};
 ghost use Rattle.std.specs.BTreeMap.{get_by_text};
 ghost use Rattle.sqlite.specs.Held.{state};
 ghost use Rattle.sqlite.specs.State.{HasCleanDisk};
 ghost use Rattle.tree_core.specs.Forest.{nodes};
 ghost use Rattle.catalogue_core.specs.Descriptions.{with_values};
-ghost use Rattle.catalogue_core.specs.Intake.{same_values, unit_of};
+ghost use Rattle.catalogue_core.specs.Intake.{same_values, catalogued_unit};
 ghost use Rattle.catalogue_core.specs.CatalogueMerge.{Catalogue};
 ghost use Rattle.catalogue_core.specs.EntryByRow.{number_there, with_new};
 ghost use Rattle.catalogue_core.specs.Units.{«Unit» as Described, has_id};
 ghost use Rattle.catalogue_statements.specs.Representation.{RepresentsNumbered, catalogue_trees, described_trees};
 ghost use Rattle.catalogue_statements.specs.declared.office.OfficeRow.{OfficeRow};
 ghost use Rattle.office_tables.specs.Calls.{Updates};
+ghost use Rattle.office_tables.specs.Premises.{◌when◌gives◌};
 ghost use Rattle.csv_import.specs.PendingImport.{AreNext, Brings, ReadsCatalogue, IsPending, counted_in, imported};
 ghost use Rattle.csv_import.specs.RowEntry.{RepresentsEntering, RepresentsLegible, catalogue_after};
 ghost use Rattle.csv_import.specs.KnownUnits.{units_from};
@@ -71,8 +72,8 @@ fn enter_known<P: Places, S: Alter>(
     unit: Number,
     values: &Values,
 ) -> Result<Entry, StoreFault>
-    ensures updates { Updates S.Store (RepresentsEntering P.version) (λ _. ⊤) tables.old tables.new result
-        (MayChange unit values.now) (with_values unit values.now) described_trees }
+    ensures updates { Updates S.Store described_trees (RepresentsEntering P.version) tables.old tables.new result
+        when MayChange unit values.now gives with_values unit values.now }
     ensures told { HasCleanDisk (state S.Store tables.new) → (o : OfficeRow) (c : Catalogue)
         → RepresentsEntering P.version (state S.Store tables.old).now o c → MayChange unit values.now c
         → (u : Described) → find (has_id unit) (nodes c.forest) ≡ Some u
@@ -96,8 +97,8 @@ fn enter_new<P: Places, S: Alter>(
     next: Number,
     row: &Row,
 ) -> Result<Entry, StoreFault>
-    ensures updates { Updates S.Store (RepresentsEntering P.version) (λ _. ⊤) tables.old tables.new result
-        (MayCome source.now row.now next) (with_new source.now row.now) described_trees }
+    ensures updates { Updates S.Store described_trees (RepresentsEntering P.version) tables.old tables.new result
+        when MayCome source.now row.now next gives with_new source.now row.now }
     ensures told { IfOk result (λ entry. entry ≡ entry_of None row.now.values) }
 {
     let unit = NewUnit {
@@ -121,11 +122,11 @@ fn enter_row<P: Places, S: Alter>(
     next: Number,
     row: &Row,
 ) -> Result<Entry, StoreFault>
-    ensures updates { Updates S.Store (RepresentsEntering P.version) (λ _. ⊤) tables.old tables.new result
-        (IsTurnOf source.now row.now number next) (catalogue_after source.now (row.now ∷ [])) described_trees }
+    ensures updates { Updates S.Store described_trees (RepresentsEntering P.version) tables.old tables.new result
+        when IsTurnOf source.now row.now number next gives catalogue_after source.now (row.now ∷ []) }
     ensures told { ReadsCatalogue S.Store (RepresentsEntering P.version) (IsTurnOf source.now row.now number next)
         tables.old
-        tables.new result (λ c entry. entry ≡ entry_of (unit_of c.forest source.now row.now) row.now.values) }
+        tables.new result (λ c entry. entry ≡ entry_of (catalogued_unit c.forest source.now row.now) row.now.values) }
 {
     match number {
         Some(unit) => enter_known(alloc, tables, unit, &row.values),
@@ -160,8 +161,8 @@ fn enter_each<P: Places, S: Alter>(
     tables: &mut Tables<P, S>,
     import: &Import<'_>,
 ) -> Result<Counts, StoreFault>
-    ensures updates { Updates S.Store (RepresentsEntering P.version) (λ _. ⊤) tables.old tables.new result
-        (AreNext import.now) (imported import.now) described_trees }
+    ensures updates { Updates S.Store described_trees (RepresentsEntering P.version) tables.old tables.new result
+        when AreNext import.now gives imported import.now }
     ensures counts { ReadsCatalogue S.Store (RepresentsEntering P.version) (AreNext import.now) tables.old tables.new
         result
         (λ c counts. (counts ≡ counted_in c import.now)
@@ -210,8 +211,9 @@ fn enter_with_places<P: Places, S: Alter>(
     import: &Import<'_>,
     arrivals: &[NumberedArrival],
 ) -> Result<Counts, StoreFault>
-    ensures updates { Updates S.Store (RepresentsNumbered P.represents P.version) (λ _. ⊤) tables.old tables.new result
-        (Brings import.now arrivals.now) (imported import.now) catalogue_trees }
+    ensures updates { Updates S.Store catalogue_trees (RepresentsNumbered P.represents P.version)
+        tables.old tables.new result
+        when Brings import.now arrivals.now gives imported import.now }
     ensures counts { ReadsCatalogue S.Store (RepresentsNumbered P.represents P.version) (Brings import.now arrivals.now)
         tables.old tables.new result (λ c counts. counts ≡ counted_in c import.now) }
 {
@@ -228,8 +230,9 @@ pub(crate) fn enter_rows<P: Places, S: Alter>(
     tables: &mut Tables<P, S>,
     import: &Import<'_>,
 ) -> Result<Outcome, StoreFault>
-    ensures updates { Updates S.Store (RepresentsLegible P.represents P.version) (λ _. ⊤) tables.old tables.new result
-        (IsPending import.now) (imported import.now) catalogue_trees }
+    ensures updates { Updates S.Store catalogue_trees (RepresentsLegible P.represents P.version)
+        tables.old tables.new result
+        when IsPending import.now gives imported import.now }
     ensures finds { ReadsCatalogue S.Store (RepresentsLegible P.represents P.version) (IsPending import.now)
         tables.old tables.new
         result (λ c made. (made.counts ≡ counted_in c import.now) × (map Some made.units.items

@@ -1,6 +1,6 @@
 //! What is known about a file's rows before any is entered.
 
-ghost use Rattle.std.specs.Prelude.{◌≡◌, List, ⊤};
+ghost use Rattle.std.specs.Prelude.{◌≡◌, List};
 ghost use Rattle.std.specs.BTreeMap.{get_by_text};
 ghost use Rattle.isad_core.specs.Texts.{Bytes};
 ghost use Rattle.atom_csv.specs.declared.file.Row.{«Row» as RowTold};
@@ -8,6 +8,7 @@ ghost use Rattle.catalogue_core.specs.Bounds.{IsKept};
 ghost use Rattle.catalogue_core.specs.GoodCatalogues.{AreGoodUnits};
 ghost use Rattle.catalogue_core.specs.CatalogueMerge.{depth_under};
 ghost use Rattle.office_tables.specs.Calls.{Answers};
+ghost use Rattle.office_tables.specs.Premises.{◌within◌gives◌};
 ghost use Rattle.catalogue_statements.specs.Representation.{Represents};
 ghost use Rattle.catalogue_core.specs.EntryByRow.{number_there};
 ghost use Rattle.csv_import.specs.KnownUnits.{KnowsUnits, TellsParent, TellsParentOfNew};
@@ -59,11 +60,12 @@ fn depth_of<P: Places, S: Alter>(
     depths: &mut DepthsBelow,
     row: &Row,
 ) -> Result<Option<u64>, StoreFault>
-    ensures answers { Answers S.Store (Represents P.represents P.version) IsKept tables.old tables.new result (λ _. ⊤)
-        (λ _ c depth. AreGoodUnits c → (source : Bytes) → TellsParent c source (get_by_text catalogued.now) row.now
+    ensures answers { Answers S.Store (Represents P.represents P.version) tables.old tables.new result
+        within IsKept
+        gives λ _ c depth. AreGoodUnits c → (source : Bytes) → TellsParent c source (get_by_text catalogued.now) row.now
         → (above : List RowTold) → KnowsDepths c.forest source above (get_by_text depths.old)
         → (depth ≡ depth_under c.forest source row.now.parent above)
-        × KnowsDepths c.forest source above (get_by_text depths.new)) }
+        × KnowsDepths c.forest source above (get_by_text depths.new) }
 {
     let Some(parent) = &row.parent else {
         return Ok(Some(1));
@@ -100,13 +102,13 @@ fn place<P: Places, S: Alter>(
     depths: &mut DepthsBelow,
     row: &Row,
 ) -> Result<Placing, StoreFault>
-    ensures answers { Answers S.Store (Represents P.represents P.version) IsKept tables.old tables.new result (λ _. ⊤)
-        (λ _ c placing. AreGoodUnits c → (source : Bytes)
+    ensures answers { Answers S.Store (Represents P.represents P.version) tables.old tables.new result
+        within IsKept gives λ _ c placing. AreGoodUnits c → (source : Bytes)
         → get_by_text catalogued.now row.now.legacy ≡ number_there c source row.now.legacy
         → TellsParentOfNew c source (get_by_text catalogued.now) row.now
         → (above : List RowTold) → KnowsDepths c.forest source above (get_by_text depths.old)
         → (placing ≡ placing_of c.forest source above row.now)
-        × KnowsDepths c.forest source above (get_by_text depths.new)) }
+        × KnowsDepths c.forest source above (get_by_text depths.new) }
 {
     if kept_number(catalogued, &row.legacy).is_some() {
         return Ok(Placing::Known);
@@ -123,9 +125,10 @@ pub(crate) fn plan<P: Places, S: Alter>(
     catalogued: &UnitNumbers,
     rows: &[Row],
 ) -> Result<Planned, StoreFault>
-    ensures answers { Answers S.Store (Represents P.represents P.version) IsKept tables.old tables.new result (λ _. ⊤)
-        (λ _ c told. AreGoodUnits c → (source : Bytes) → KnowsUnits c source rows.now (get_by_text catalogued.now)
-        → told ≡ plan_of c.forest source rows.now) }
+    ensures answers { Answers S.Store (Represents P.represents P.version) tables.old tables.new result
+        within IsKept
+        gives λ _ c told. AreGoodUnits c → (source : Bytes) → KnowsUnits c source rows.now (get_by_text catalogued.now)
+        → told ≡ plan_of c.forest source rows.now }
 {
     let mut depths = depths_below_many(alloc, tables, rows, catalogued)?;
     let mut new = 0;

@@ -1,13 +1,18 @@
 -- An order that is cancelled, in the rows of the desk.
-use Rattle.std.proofs.Common.{◌≡◌, ℕ, true, false, nat_eq, List, [], ◌∷◌, Option, Some, None, Ok, Err, refl, sym, ap, ◌∙◌}
+use Rattle.std.proofs.Common.{◌≡◌, ℕ, true, false, nat_eq, List, [], ◌∷◌, Option, Some, None, Ok, Err, refl, sym, ap}
+use Rattle.std.proofs.Common.{◌∙◌}
+use Rattle.office_tables.specs.Schema as schema
 use Rattle.desk_store.specs.Orders as store
 use Rattle.desk_store.specs.declared.orders.OrderState.{OrderState}
 use Rattle.desk_store.specs.declared.orders.OrderState.TheVariants as states
 use Rattle.office_core.specs.declared.command.Command.TheVariants as command
 use Rattle.office_core.specs.declared.done.Done.TheVariants as done
-use Rattle.state_encoding.specs.DeskEncoding.{state_number}
-use Rattle.office_tables.specs.Schema as schema
-use Rattle.desk_commands.proofs.Common.{Cancelled, CarriesOutStep, Command, Database, Forest, IsSoundOffice, OnlyTouches, OrderNotWaiting, OrderRow, RepresentsDesk, RepresentsState, Standing, State, Trees, UnknownOrder, Version, accepts, cancelled, container_of, false≢true, is_cancelled, is_out_for, is_some, only_cancels, order_rows, refusal, refuses, rows_moved, some_and, standing, stands, stands_past, tables, waits, waits_by_row, with_order_state, with_state}
+use Rattle.desk_commands.proofs.Common.{Cancelled, CarriesOutStep, Command, Database, Forest, IsSoundOffice}
+use Rattle.desk_commands.proofs.Common.{OnlyTouches, OrderNotWaiting, OrderRow, RepresentsDesk, RepresentsState}
+use Rattle.desk_commands.proofs.Common.{Standing, State, Trees, UnknownOrder, Version, accepts, cancelled, container_of}
+use Rattle.desk_commands.proofs.Common.{false≢true, is_cancelled, is_out_for, is_some, only_cancels, order_rows}
+use Rattle.desk_commands.proofs.Common.{refusal, refuses, rows_moved, some_and, standing, stands, stands_past}
+use Rattle.desk_commands.proofs.Common.{state_number, tables, waits, waits_by_row, with_order_state, with_state}
 
 module _ (places : Trees → Forest ℕ → Type 0) (version : Version) (s : State) (o : ℕ) where
   abbrev asked : Command
@@ -22,8 +27,8 @@ module _ (places : Trees → Forest ℕ → Type 0) (version : Version) (s : Sta
   not_waiting db known not_so = let why : refusal s asked ≡ Some OrderNotWaiting = rw (known, not_so) refl in refuses places version s asked db OrderNotWaiting why
 
   -- the state of the row tells whether the order waits
-  pub waits_or_not : (state : OrderState) → store.state_number state ≡ state_number (standing s o)
-      → waits s o ≡ nat_eq (store.state_number state) 1
+  pub waits_or_not : (state : OrderState) → store.order_state_number state ≡ state_number (standing s o)
+      → waits s o ≡ nat_eq (store.order_state_number state) 1
   waits_or_not state is = sym (waits_by_row s o) ∙ ap (λ n. nat_eq n 1) (sym is)
 
   rows_after : IsSoundOffice s → (c : ℕ) → container_of s o ≡ Some c → stands o (s.queue c) ≡ true

@@ -1,14 +1,17 @@
 -- A day that begins, in the tables.
 use Rattle.std.proofs.Common.{◌≡◌, ℕ, true, false, List, [], ◌∷◌, Some, None, Ok, Err, refl, sym, ap, subst}
 use Rattle.std.specs.Prelude.{ℤ}
-use Rattle.desk_store.specs.OfficeDay.{House, RepresentsBoth, opened}
+use Rattle.office_tables.specs.Schema as schema
+use Rattle.desk_store.specs.OfficeDay.{House, RepresentsBoth, opened_house}
 use Rattle.desk_store.specs.Seats.{all_free}
 use Rattle.office_core.specs.declared.command.Command.TheVariants as command
 use Rattle.office_core.specs.declared.done.Done.TheVariants as done
-use Rattle.office_tables.specs.Schema as schema
-use Rattle.refinement.proofs.Frames.{catalogue_with_office}
 use Rattle.refinement.proofs.EmptySeats.{none_seated}
-use Rattle.desk_commands.proofs.Common.{AreTexts, CarriesOutStep, Command, Database, Forest, OnlyTouches, Reply, RepresentsDesk, RepresentsState, SeatRow, State, StillIssued, Trees, Version, accepted, after, always_texts, containers, int_lt, is_out, list_any, office_of, refusal, refused, tables, version_number}
+use Rattle.refinement.proofs.Frames.{catalogue_with_office}
+use Rattle.desk_commands.proofs.Common.{AreTexts, CarriesOutStep, Command, Database, Forest, OnlyTouches, Reply}
+use Rattle.desk_commands.proofs.Common.{RepresentsDesk, RepresentsState, SeatRow, State, StillIssued, Trees, Version}
+use Rattle.desk_commands.proofs.Common.{accepted, after, always_texts, containers, int_lt, is_out, list_any, office_of}
+use Rattle.desk_commands.proofs.Common.{refusal, refused, tables, version_number}
 
 -- the desk of a state, and what the office's own row tells
 abbrev pub house_of : Version → State → House
@@ -59,7 +62,7 @@ module _ (version : Version) (s : State) (day : ℤ) (later : int_lt s.day day �
       → (before now : Database) → list_any (is_out s) (containers s) ≡ false → RepresentsState places version before s
       → now.schema ≡ before.schema
       → OnlyTouches (schema.seat.tree ∷ schema.office.tree ∷ []) before now
-      → RepresentsBoth now tt (opened day (house_of version s))
+      → RepresentsBoth now tt (opened_house day (house_of version s))
       → CarriesOutStep places version s asked (Ok (done.OpenDay day)) now
   opens_day places same before now none it schema_is only house =
       let one = accepted s asked (not_refused none) in

@@ -1,16 +1,27 @@
 -- What a run takes, by the rows of the desk and in the state: its lines, its containers and its number.
-use Rattle.std.proofs.Common.{◌≡◌, ℕ, zero, suc, ◌+◌, ◌-◌, ◌<◌, ◌≤◌, drop, Bool, true, false, cond, ◌&&◌, ◌||◌, nat_eq, List, [], ◌∷◌, ◌++◌, length, map, filter, take, Option, Some, None, inl, inr, refl, sym, ap, subst, ◌∙◌, arith}
+use Rattle.std.proofs.Common.{◌≡◌, ℕ, zero, suc, ◌+◌, ◌-◌, ◌<◌, ◌≤◌, drop, Bool, true, false, cond, ◌&&◌, ◌||◌, nat_eq}
+use Rattle.std.proofs.Common.{List, [], ◌∷◌, ◌++◌, length, map, filter, take, Option, Some, None, inl, inr, refl, sym}
+use Rattle.std.proofs.Common.{ap, subst, ◌∙◌, arith}
+use Rattle.std.proofs.lemmas.List.{append-nil, append_assoc}
 use Rattle.std.proofs.lemmas.List.Elements.{filter-append}
 use Rattle.std.specs.List.{IsDistinct}
-use Rattle.desk_core.specs.Orders.{in_order}
 use Rattle.desk_core.proofs.OrderLemmas.{in_order-permutation}
+use Rattle.desk_core.specs.Orders.{in_order}
 use Rattle.desk_store.proofs.PickingCalls.{filter_both}
-use Rattle.desk_store.specs.Runs.{next_run}
-use Rattle.office_core.specs.State as state
 use Rattle.office_core.proofs.Counts.{numbered_from_one}
 use Rattle.office_core.proofs.LineOrder.{any-in_order}
-use Rattle.std.proofs.lemmas.List.{append-nil, append_assoc}
-use Rattle.desk_commands.proofs.Common.{AllByRecursion, ContainerOrder, IsAscending, IsPermutation, IsPermutation-append_right, IsPermutation-map, IsSoundOffice, Line, Order, OrderRow, Run, RunLineRow, StandsIn, State, TakesEachOnce, Version, all_of_in, and_parts, brings, candidates_of, cases_Bool, cons_option, eqb-true, false≢true, filter_map, first, flipped, in_filter, in_map, in_rows, is_due, is_empty, is_first, is_line_before, is_on_shelf, is_shelf, length-map, length-rows, line_for, line_of, lines_from, list_any, most_runs, nat_le, nat_lt, nat_tests, nth, numbered_within, numbers_to, opens, option_map, order_row, order_rows, orders_of_run, picked_due, run_line_row, run_line_rows, run_row, some_and, stands, tables, take-append-drop, take-map, take_all, taken_by}
+use Rattle.office_core.specs.State as state
+use Rattle.desk_commands.proofs.Common.{AllByRecursion, ContainerOrder, IsAscending, IsPermutation}
+use Rattle.desk_commands.proofs.Common.{IsPermutation-append_right, IsPermutation-map, IsSoundOffice, Line, Order}
+use Rattle.desk_commands.proofs.Common.{OrderRow, Run, RunLineRow, StandsIn, State, TakesEachOnce, Version, all_of_in}
+use Rattle.desk_commands.proofs.Common.{and_parts, brings, candidates_of, cases_Bool, cons_option, eqb-true, false≢true}
+use Rattle.desk_commands.proofs.Common.{filter_map, first, flipped, in_filter, in_map, in_rows, is_due, is_empty}
+use Rattle.desk_commands.proofs.Common.{is_first_waiting, is_line_before, is_on_shelf, is_shelf, length-map}
+use Rattle.desk_commands.proofs.Common.{length-rows, line_for, line_of_run, lines_from, list_any, most_runs, nat_le}
+use Rattle.desk_commands.proofs.Common.{nat_lt, nat_tests, next_run, nth, numbered_within, numbers_to, opens}
+use Rattle.desk_commands.proofs.Common.{option_map, order_row, order_rows, orders_of_run, picked_due, run_line_row}
+use Rattle.desk_commands.proofs.Common.{run_line_rows, run_row, some_and, stands, tables, take-append-drop, take-map}
+use Rattle.desk_commands.proofs.Common.{take_all, taken_by}
 use Rattle.desk_commands.proofs.MovedAll.{AreWithin, all_taken}
 use Rattle.desk_commands.proofs.Picked.{due_shown, is_open_for}
 use Rattle.desk_commands.proofs.Reshelved.{all_left, rising_left, rising_to}
@@ -102,9 +113,9 @@ lines_end : (runs : List Run) (run : Run)
     → lines_from 1 (runs ++ run ∷ []) ≡ lines_from 1 runs ++ map (run_line_row (suc (length runs))) run.lines
 lines_end runs run = lines_more 1 runs run ∙ ap (λ k. lines_from 1 runs ++ map (run_line_row k) run.lines) (let e : 1 + length runs ≡ suc (length runs) = omega arith in e)
 
-line_rows : (n : ℕ) (os : List ContainerOrder) → map (run_line_row n) (map as_line os) ≡ map (line_of n) os
+line_rows : (n : ℕ) (os : List ContainerOrder) → map (run_line_row n) (map as_line os) ≡ map (line_of_run n) os
 line_rows n [] = refl
-line_rows n (o ∷ os) = ap (λ l. line_of n o ∷ l) (line_rows n os)
+line_rows n (o ∷ os) = ap (λ l. line_of_run n o ∷ l) (line_rows n os)
 
 any_line : (c : ℕ) (os : List ContainerOrder)
     → list_any (λ (line : Line). nat_eq line.container c) (map as_line os) ≡ stands c (map (λ (o : ContainerOrder). o.container) os)
@@ -182,7 +193,7 @@ module _ (version : Version) (s : State) where
       let as_first : OrderRow → ContainerOrder =
       λ row. record { container = row.container; order = row.id; ticket = row.ticket } in
       let test : OrderRow → Bool =
-      λ row. is_first (tables version s).desk row && is_on_shelf (tables version s).desk row.container in
+      λ row. is_first_waiting (tables version s).desk row && is_on_shelf (tables version s).desk row.container in
       let i = in_map as_first (filter test (order_rows s)) o k in
       let m = in_rows (order_row s) s.orders i.0 (in_filter test (order_rows s) i.0 i.1).0 in
       subst (IsPlaced s) (sym (i.2 ∙ ap as_first m.3)) (record { order = m.1; there = m.2; container = refl; ticket = refl })
@@ -205,26 +216,26 @@ module _ (version : Version) (s : State) where
     pub none_taken : is_empty (orders_of_run s) ≡ is_empty (taken_by version s)
     none_taken = ap is_empty picked_are ∙ none_mapped (λ (o : ContainerOrder). o.order) (taken_by version s)
 
-    lines_are : (state.next_run s).lines ≡ in_order is_line_before (map as_line (taken_by version s))
+    lines_are : (state.new_run s).lines ≡ in_order is_line_before (map as_line (taken_by version s))
     lines_are =
         ap (λ os. in_order is_line_before (filter_map (line_for s) os)) picked_are
         ∙ ap (in_order is_line_before) (lines_for s (taken_by version s) taken_placed)
 
     pub brought : (c : ℕ)
-        → brings (state.next_run s) c ≡ stands c (map (λ (o : ContainerOrder). o.container) (taken_by version s))
+        → brings (state.new_run s) c ≡ stands c (map (λ (o : ContainerOrder). o.container) (taken_by version s))
     brought c =
         ap (list_any (λ (line : Line). nat_eq line.container c)) lines_are
         ∙ any-in_order is_line_before (λ (line : Line). nat_eq line.container c) (map as_line (taken_by version s))
         ∙ any_line c (taken_by version s)
 
     -- the rows of the lines, as they are put and as they stand in the run
-    pub same_lines : IsPermutation (run_line_rows s ++ map (line_of (suc (length s.runs))) (taken_by version s)) (lines_from 1 (s.runs ++ state.next_run s ∷ []))
+    pub same_lines : IsPermutation (run_line_rows s ++ map (line_of_run (suc (length s.runs))) (taken_by version s)) (lines_from 1 (s.runs ++ state.new_run s ∷ []))
     same_lines =
         let n = suc (length s.runs) in
-        subst (IsPermutation (run_line_rows s ++ map (line_of n) (taken_by version s))) (sym (lines_end s.runs (state.next_run s)))
-        (IsPermutation-append_right (run_line_rows s) (map (line_of n) (taken_by version s)) (map (run_line_row n) (state.next_run s).lines)
-        (subst (λ (l : List RunLineRow). IsPermutation l (map (run_line_row n) (state.next_run s).lines)) (line_rows n (taken_by version s))
-        (IsPermutation-map (run_line_row n) (map as_line (taken_by version s)) (state.next_run s).lines
+        subst (IsPermutation (run_line_rows s ++ map (line_of_run n) (taken_by version s))) (sym (lines_end s.runs (state.new_run s)))
+        (IsPermutation-append_right (run_line_rows s) (map (line_of_run n) (taken_by version s)) (map (run_line_row n) (state.new_run s).lines)
+        (subst (λ (l : List RunLineRow). IsPermutation l (map (run_line_row n) (state.new_run s).lines)) (line_rows n (taken_by version s))
+        (IsPermutation-map (run_line_row n) (map as_line (taken_by version s)) (state.new_run s).lines
         (subst (IsPermutation (map as_line (taken_by version s))) (sym lines_are) (in_order-permutation is_line_before (map as_line (taken_by version s)))))))
 
     pub taken_once : TakesEachOnce (taken_by version s)

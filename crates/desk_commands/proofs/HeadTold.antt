@@ -4,7 +4,10 @@ use Rattle.std.proofs.Common.{◌≡◌, ℕ, true, false, ◌||◌, List, [], �
 use Rattle.isad_core.specs.declared.values.BoxKey.{BoxKey}
 use Rattle.refinement.proofs.QueuesShown.{place_shown, told_queue}
 use Rattle.desk_commands.specs.Issuance.{IsQueuedFor, first_waiting}
-use Rattle.desk_commands.proofs.Common.{IsHeaded, IsSoundOffice, Order, QueueHead, State, Version, WaitingOrder, cons_option, container_of, container_with, filter_map, first, has_container, is_container, is_out_for, is_some, nth, option_and_then, option_map, same_number, slice_get, stands, storage_of, waiting}
+use Rattle.desk_commands.proofs.Common.{IsHeaded, IsSoundOffice, Order, QueueHead, State, Version, WaitingOrder}
+use Rattle.desk_commands.proofs.Common.{cons_option, container_of, container_with, filter_map, first, has_container}
+use Rattle.desk_commands.proofs.Common.{is_container, is_out_for, is_some, nth, option_and_then, option_map}
+use Rattle.desk_commands.proofs.Common.{same_number, slice_get, stands, storage_of, waiting}
 
 -- an order that waits, with its ticket
 abbrev pub waiter : ℕ → Order → WaitingOrder

@@ -1,18 +1,28 @@
 -- A container that is given to a reader, in the rows of the desk; and when it may be.
-use Rattle.std.proofs.Common.{◌≡◌, ℕ, Bool, true, false, cond, ◌||◌, nat_eq, List, [], ◌∷◌, Option, Some, None, Ok, inl, inr, refl, sym, ap, subst, ◌∙◌, arith}
+use Rattle.std.proofs.Common.{◌≡◌, ℕ, Bool, true, false, cond, ◌||◌, nat_eq, List, [], ◌∷◌, Option, Some, None, Ok, inl}
+use Rattle.std.proofs.Common.{inr, refl, sym, ap, subst, ◌∙◌, arith}
 use Rattle.std.specs.Prelude.{ℤ}
 use Rattle.desk_core.specs.Decisions as decided
 use Rattle.desk_core.specs.declared.reader.Place.TheVariants.{Desk}
 use Rattle.desk_core.specs.declared.reader.Reader.{Reader as Sitter}
+use Rattle.office_tables.specs.Schema as schema
 use Rattle.desk_store.specs.declared.orders.OrderState.TheVariants as states
 use Rattle.office_core.specs.declared.command.Command.TheVariants as command
 use Rattle.office_core.specs.declared.done.Done.TheVariants as done
-use Rattle.state_encoding.specs.DeskEncoding.{state_number}
-use Rattle.office_tables.specs.Schema as schema
-use Rattle.refinement.specs.Sitters.{sitter, sitter_of}
 use Rattle.refinement.proofs.SeatsShown.{some_placed}
+use Rattle.refinement.specs.Sitters.{sitter, sitter_of}
 use Rattle.desk_commands.specs.Issuance.{IsQueuedFor, asked_for, first_waiting}
-use Rattle.desk_commands.proofs.Common.{CarriesOutStep, Command, Database, Forest, HoldingRow, IsNumber, IsSoundOffice, IssueFacts, Limits, NotAtDesk, NotFirst, OnlyTouches, Order, OrderRow, Out, Place, Reader, Refusal, RepresentsDesk, RepresentsState, Shelf, Standing, State, Trees, UnknownContainer, Version, WaitingOrder, accepts, cases_Bool, checks, container_of, eqb-true, false≢true, first, first_that_holds, handed_over, held_count, held_so, holder_shown, int_lt, is_by, is_container, is_desk, is_expired, is_issued, is_out_for, is_seat_of, is_seated, is_some, is_ticket, issue_checks, issue_facts, issued, limits_of, nth, only_issues, opens, option_and_then, option_map, order_rows, passes, place_after, refusal, rows_moved, same_number, seat_of, some_and, stands, stands_out, tables, ticket_holder, unwrap_or, waits_within, with_state}
+use Rattle.desk_commands.proofs.Common.{CarriesOutStep, Command, Database, Forest, HoldingRow, IsNumber, IsSoundOffice}
+use Rattle.desk_commands.proofs.Common.{IssueFacts, Limits, NotAtDesk, NotFirst, OnlyTouches, Order, OrderRow, Out}
+use Rattle.desk_commands.proofs.Common.{Place, Reader, Refusal, RepresentsDesk, RepresentsState, Shelf, Standing, State}
+use Rattle.desk_commands.proofs.Common.{Trees, UnknownContainer, Version, WaitingOrder, accepts, cases_Bool, checks}
+use Rattle.desk_commands.proofs.Common.{container_of, eqb-true, false≢true, first, first_that_holds, handed_over}
+use Rattle.desk_commands.proofs.Common.{held_count, holder_shown, int_lt, is_by, is_container, is_desk, is_expired}
+use Rattle.desk_commands.proofs.Common.{is_issued, is_out_for, is_seat_of, is_seated, is_some, is_ticket, issue_checks}
+use Rattle.desk_commands.proofs.Common.{issue_facts, issued, limits_of, nth, only_issues, opens, option_and_then}
+use Rattle.desk_commands.proofs.Common.{option_map, order_rows, passed_issue, passes, place_after, refusal, rows_moved}
+use Rattle.desk_commands.proofs.Common.{same_number, seat_of, some_and, stands, stands_out, state_number, tables}
+use Rattle.desk_commands.proofs.Common.{ticket_holder, unwrap_or, waits_within, with_state}
 use Rattle.desk_commands.proofs.HeadTold.{waiter}
 
 -- ---- who may have it
@@ -34,12 +44,12 @@ desk_alike (Out o) = refl
 module _ (s : State) (c t : ℕ) where
   -- the first order is the ticket's
   heads : (k : Option ℕ)
-      → decided.is_ticket t (option_map (λ (w : WaitingOrder). w.ticket) (option_and_then (λ o. option_map (λ (order : Order). (let w : WaitingOrder = record { order = o; ticket = order.ticket } in w)) (nth s.orders o)) k)) ≡ some_and (is_by s t) k
+      → decided.is_ticket_of_head t (option_map (λ (w : WaitingOrder). w.ticket) (option_and_then (λ o. option_map (λ (order : Order). (let w : WaitingOrder = record { order = o; ticket = order.ticket } in w)) (nth s.orders o)) k)) ≡ some_and (is_by s t) k
   heads None = refl
   heads (Some o) = at (nth s.orders o)
     where
       at : (order : Option Order)
-          → decided.is_ticket t (option_map (λ (w : WaitingOrder). w.ticket) (option_map (λ (order : Order). (let w : WaitingOrder = record { order = o; ticket = order.ticket } in w)) order)) ≡ some_and (λ (order : Order). nat_eq order.ticket t) order
+          → decided.is_ticket_of_head t (option_map (λ (w : WaitingOrder). w.ticket) (option_map (λ (order : Order). (let w : WaitingOrder = record { order = o; ticket = order.ticket } in w)) order)) ≡ some_and (λ (order : Order). nat_eq order.ticket t) order
       at None = refl
       at (Some order) = refl
 
@@ -72,9 +82,9 @@ module _ (s : State) (c t : ℕ) where
       at_desk : decided.is_desk place ≡ is_desk (s.place c)
       at_desk = desk_alike place ∙ ap is_desk is_at
 
-      head_is : decided.is_ticket t (option_map (λ (w : WaitingOrder). w.ticket) head) ≡ some_and (is_by s t) (first (s.queue c))
+      head_is : decided.is_ticket_of_head t (option_map (λ (w : WaitingOrder). w.ticket) head) ≡ some_and (is_by s t) (first (s.queue c))
       head_is =
-          ap (λ (h : Option WaitingOrder). decided.is_ticket t (option_map (λ (w : WaitingOrder). w.ticket) h)) is_first
+          ap (λ (h : Option WaitingOrder). decided.is_ticket_of_head t (option_map (λ (w : WaitingOrder). w.ticket) h)) is_first
           ∙ heads (first (s.queue c))
 
       at : (who : Option Reader) → nth s.readers t ≡ who
@@ -91,9 +101,9 @@ module _ (s : State) (c t : ℕ) where
           let expired : int_lt reader.until s.day ≡ is_expired s t =
           ap (some_and (λ (reader : Reader). int_lt reader.until s.day)) (sym is) in
           ap (decides place head opened) is
-          ∙ ap (λ a. first_that_holds (issue_checks (facts_with (int_lt reader.until s.day) (is_some (seat_of s t)) (held_count s t) s.settings.hands true (decided.is_desk place) (decided.is_ticket t (option_map (λ (w : WaitingOrder). w.ticket) head)) a))) is_open
-          ∙ ap (λ b. ruled b (decided.is_desk place) (decided.is_ticket t (option_map (λ (w : WaitingOrder). w.ticket) head)) (int_lt reader.until s.day) (is_some (seat_of s t))) (sym known)
-          ∙ ap (λ b. ruled (is_container s c) b (decided.is_ticket t (option_map (λ (w : WaitingOrder). w.ticket) head)) (int_lt reader.until s.day) (is_some (seat_of s t))) at_desk
+          ∙ ap (λ a. first_that_holds (issue_checks (facts_with (int_lt reader.until s.day) (is_some (seat_of s t)) (held_count s t) s.settings.hands true (decided.is_desk place) (decided.is_ticket_of_head t (option_map (λ (w : WaitingOrder). w.ticket) head)) a))) is_open
+          ∙ ap (λ b. ruled b (decided.is_desk place) (decided.is_ticket_of_head t (option_map (λ (w : WaitingOrder). w.ticket) head)) (int_lt reader.until s.day) (is_some (seat_of s t))) (sym known)
+          ∙ ap (λ b. ruled (is_container s c) b (decided.is_ticket_of_head t (option_map (λ (w : WaitingOrder). w.ticket) head)) (int_lt reader.until s.day) (is_some (seat_of s t))) at_desk
           ∙ ap (λ b. ruled (is_container s c) (is_desk (s.place c)) b (int_lt reader.until s.day) (is_some (seat_of s t))) head_is
           ∙ ap (λ b. ruled (is_container s c) (is_desk (s.place c)) (some_and (is_by s t) (first (s.queue c))) b (is_some (seat_of s t))) expired
           ∙ ap (λ b. ruled (is_container s c) (is_desk (s.place c)) (some_and (is_by s t) (first (s.queue c))) (is_expired s t) b) (some_placed (is_seat_of t) s.seats)
@@ -157,14 +167,12 @@ module _ (places : Trees → Forest ℕ → Type 0) (version : Version) (s : Sta
       at (p ∷ os) is h =
           let one : p ≡ o = cc in
           let first_is : s.queue c ≡ o ∷ os = is ∙ ap (λ k. k ∷ os) one in
-          let ok = passes (checks s asked) why in
-          let known : is_container s c ≡ true = held_so (is_container s c) UnknownContainer ok.0 in
-          let at_desk : is_desk (s.place c) ≡ true = held_so (is_desk (s.place c)) NotAtDesk ok.1.0 in
+          let ok = passed_issue s c t (passes (checks s asked) why) in
           accepts places version s asked same before now (schema.orders.tree ∷ schema.holding.tree ∷ []) refl why tt it schema_is only
           (issued s c (o ∷ os)) (ap (issued s c) first_is) refl refl
           (handed_over c (Out o) o states.Out (tables version s).desk) shown
-          (ap (λ (rows : List OrderRow). record (tables version (issued s c (o ∷ os))).desk { orders = rows }) (rows_after sound o os first_is at_desk)
-          ∙ ap (λ (rows : List HoldingRow). record (tables version s).desk { orders = with_state o 2 (order_rows s); holdings = rows }) (place_after s c (Out o) known))
+          (ap (λ (rows : List OrderRow). record (tables version (issued s c (o ∷ os))).desk { orders = rows }) (rows_after sound o os first_is ok.at_desk)
+          ∙ ap (λ (rows : List HoldingRow). record (tables version s).desk { orders = with_state o 2 (order_rows s); holdings = rows }) (place_after s c (Out o) ok.known))
           (done.Issue o) (ap (λ q. done.Issue (unwrap_or (first q) 0)) first_is)
 
 -- ---- the decision on what was read

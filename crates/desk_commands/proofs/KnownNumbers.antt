@@ -1,10 +1,15 @@
 -- What a sound office has, has a number that a table can keep.
-use Rattle.std.proofs.Common.{◌≡◌, ℕ, ℤ, ◌<◌, Bool, true, ◌^◌, nat_eq, List, [], ◌∷◌, map, Option, Some, None, inl, inr, refl, sym, ap, subst, ◌∙◌, arith}
+use Rattle.std.proofs.Common.{◌≡◌, ℕ, ℤ, ◌<◌, Bool, true, ◌^◌, nat_eq, List, [], ◌∷◌, map, Option, Some, None, inl, inr}
+use Rattle.std.proofs.Common.{refl, sym, ap, subst, ◌∙◌, arith}
 use Rattle.tree_core.proofs.EachLemmas.{nodes-each}
-use Rattle.office_core.specs.declared.command.Command.TheVariants as command
 use Rattle.office_core.proofs.Places.{out_known}
+use Rattle.office_core.specs.declared.command.Command.TheVariants as command
 use Rattle.refinement.proofs.OpenByRows.{opens_none}
-use Rattle.desk_commands.proofs.Common.{AllByRecursion, IsNumber, IsSoundOffice, Order, Out, State, Unit, cases_Bool, checks, eqb-true, false≢true, has_id, has_unit, held_so, is_container, is_some, is_ticket, judged_now, list_any, ltb-false, ltb-true, nat_lt, nodes, nth, numbered_within, opens, option_map, order_out, passes, refusal, some_and, waits}
+use Rattle.desk_commands.proofs.Common.{AllByRecursion, IsNumber, IsSoundOffice, Order, Out, State, Unit, cases_Bool}
+use Rattle.desk_commands.proofs.Common.{checks, eqb-true, false≢true, has_id, has_unit, is_container, is_some}
+use Rattle.desk_commands.proofs.Common.{is_ticket, judged_now, list_any, ltb-false, ltb-true, nat_lt, nodes, nth}
+use Rattle.desk_commands.proofs.Common.{numbered_within, opens, option_map, order_out, passed_issue, passed_order}
+use Rattle.desk_commands.proofs.Common.{passed_permit, passed_take_seat, passes, refusal, some_and, waits}
 
 -- a test that holds of one of the units
 has_low : (u : ℕ) (xs : List Unit) → list_any (has_id u) xs ≡ true
@@ -48,17 +53,17 @@ module _ (s : State) (sound : IsSoundOffice s) where
   -- a command that no check refuses
   pub kept_ordered : (t c : ℕ) → refusal s (command.Order t c) ≡ None → IsNumber t × IsNumber c
   kept_ordered t c allowed =
-      let ok = passes (checks s (command.Order t c)) allowed in
-      (kept_ticket t (held_so (is_ticket s t) _ ok.0), kept_open t c (held_so (opens s t c) _ ok.1.1.0))
+      let ok = passed_order s t c (passes (checks s (command.Order t c)) allowed) in
+      (kept_ticket t ok.known, kept_open t c ok.is_open)
 
   pub kept_issued : (c t : ℕ) → refusal s (command.Issue c t) ≡ None → IsNumber c
   kept_issued c t allowed =
-      kept_container c (held_so (is_container s c) _ (passes (checks s (command.Issue c t)) allowed).0)
+      kept_container c (passed_issue s c t (passes (checks s (command.Issue c t)) allowed)).known
 
   pub kept_seated : (t : ℕ) → refusal s (command.TakeSeat t) ≡ None → IsNumber t
-  kept_seated t allowed = kept_ticket t (held_so (is_ticket s t) _ (passes (checks s (command.TakeSeat t)) allowed).0)
+  kept_seated t allowed = kept_ticket t (passed_take_seat s t (passes (checks s (command.TakeSeat t)) allowed)).known
 
   pub kept_permitted : (t u : ℕ) (day : ℤ) → refusal s (command.Permit t u day) ≡ None → IsNumber t × IsNumber u
   kept_permitted t u day allowed =
-      let ok = passes (checks s (command.Permit t u day)) allowed in
-      (kept_ticket t (held_so (is_ticket s t) _ ok.0), kept_unit u (held_so (has_unit s.catalogue.forest u) _ ok.1.0))
+      let ok = passed_permit s t u day (passes (checks s (command.Permit t u day)) allowed) in
+      (kept_ticket t ok.known, kept_unit u ok.unit)

@@ -1,10 +1,13 @@
 -- Containers that go to one place, one after the other, in the rows of the desk.
-use Rattle.std.proofs.Common.{◌≡◌, ℕ, ◌<◌, ◌≤◌, get_or, Bool, true, false, cond, ◌||◌, nat_eq, List, [], ◌∷◌, ◌++◌, length, take, zero, suc, refl, sym, ap, ◌∙◌, arith}
+use Rattle.std.proofs.Common.{◌≡◌, ℕ, ◌<◌, ◌≤◌, get_or, Bool, true, false, cond, ◌||◌, nat_eq, List, [], ◌∷◌, ◌++◌}
+use Rattle.std.proofs.Common.{length, take, zero, suc, refl, sym, ap, ◌∙◌, arith}
 use Rattle.std.proofs.Math.Path.{fun_ext}
 use Rattle.desk_core.specs.DeskRows.{Desk}
-use Rattle.state_encoding.specs.DeskEncoding.{state_number}
 use Rattle.desk_store.proofs.MadeInTurn.{legible_place}
-use Rattle.desk_commands.proofs.Common.{AllByRecursion, HoldingRow, IsLegible, IsNumber, Order, Place, State, all_placed, flipped, numbers_to, order_row, order_rows, placed_at, placed_to, rows_from, rows_of, standing, stands, update_at, with_all_placed, with_place}
+use Rattle.desk_commands.proofs.Common.{AllByRecursion, HoldingRow, IsLegible, IsNumber, Order, Place, State}
+use Rattle.desk_commands.proofs.Common.{all_placed, flipped, numbers_to, order_row, order_rows, placed_at, placed_to}
+use Rattle.desk_commands.proofs.Common.{rows_from, rows_of, standing, stands, state_number, update_at, with_all_placed}
+use Rattle.desk_commands.proofs.Common.{with_place}
 
 -- ---- one container more
 

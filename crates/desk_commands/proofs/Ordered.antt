@@ -1,14 +1,22 @@
 -- An order that is placed, in the rows of the desk.
-use Rattle.std.proofs.Common.{◌≡◌, ℕ, ℤ, suc, ◌+◌, ◌<◌, Bool, true, false, List, [], ◌∷◌, ◌++◌, length, Option, Some, None, Ok, refl, sym, ap, subst, ◌∙◌, arith}
+use Rattle.std.proofs.Common.{◌≡◌, ℕ, ℤ, suc, ◌+◌, ◌<◌, Bool, true, false, List, [], ◌∷◌, ◌++◌, length, Option, Some}
+use Rattle.std.proofs.Common.{None, Ok, refl, sym, ap, subst, ◌∙◌, arith}
 use Rattle.desk_core.specs.declared.order.Ask.{Ask}
+use Rattle.office_tables.specs.Schema as schema
 use Rattle.desk_store.specs.declared.reader_summary.ReaderCard.{ReaderCard}
 use Rattle.office_core.specs.declared.command.Command.TheVariants as command
 use Rattle.office_core.specs.declared.done.Done.TheVariants as done
-use Rattle.state_encoding.specs.DeskEncoding.{state_number}
-use Rattle.office_tables.specs.Schema as schema
 use Rattle.refinement.proofs.OrdersShown.{ordered_shown}
-use Rattle.desk_commands.specs.OrderPlacement.{IsCardOf, MayOrder, ask_of}
-use Rattle.desk_commands.proofs.Common.{CarriesOutStep, Database, Forest, IsNextOrder, IsSoundOffice, Limits, OnlyTouches, Order, OrderRow, Reader, Refusal, RepresentsDesk, RepresentsState, State, Trees, UnknownTicket, Version, Waiting, accepts, after, card, card_shown, checks, container_of, first_that_holds, goes_same, has_ordered, held_not, int_lt, is_ordered, is_out_for, is_some, is_ticket, leb-false, length-rows, limits_of, most_orders, nat_le, nth, only_orders, opens, option_map, order_checks, order_facts, order_row, order_rows, ordered, orders_placed, passes, refusal, rows_from, some_and, standing, stands, stands_waiting, tables, with_order}
+use Rattle.desk_commands.specs.OrderPlacement.{IsCardOf, MayPlaceOrder, ask_of}
+use Rattle.desk_commands.proofs.Common.{CarriesOutStep, Database, Forest, IsNextOrder, IsSoundOffice, Limits}
+use Rattle.desk_commands.proofs.Common.{OnlyTouches, Order, OrderRow, Reader, Refusal, RepresentsDesk, RepresentsState}
+use Rattle.desk_commands.proofs.Common.{State, Trees, UnknownTicket, Version, Waiting, accepts, after, card, card_shown}
+use Rattle.desk_commands.proofs.Common.{checks, container_of, first_that_holds, goes_same, has_ordered, int_lt}
+use Rattle.desk_commands.proofs.Common.{is_ordered, is_out_for, is_some, is_ticket, leb-false, length-rows, limits_of}
+use Rattle.desk_commands.proofs.Common.{most_orders, nth, only_orders, opens, option_map, order_checks, order_facts}
+use Rattle.desk_commands.proofs.Common.{order_row, order_rows, ordered, orders_placed, passed_order, passes, refusal}
+use Rattle.desk_commands.proofs.Common.{rows_from, some_and, standing, stands, stands_waiting, state_number, tables}
+use Rattle.desk_commands.proofs.Common.{with_order}
 use Rattle.desk_commands.proofs.Registered.{rows_end}
 
 pub not_known : (s : State) (t c : ℕ) → is_ticket s t ≡ false → refusal s (command.Order t c) ≡ Some UnknownTicket
@@ -58,7 +66,7 @@ module _ (version : Version) (s : State) (sound : IsSoundOffice s) (t c : ℕ) w
 
     pub may_order : (order : ℕ) → order ≡ mine.orders + 1
         → None ≡ first_that_holds (order_checks (order_facts (Some mine.reader) today asked limits))
-        → MayOrder s t c order today
+        → MayPlaceOrder s t c order today
     may_order order number free = record {
       allowed = sym checked ∙ sym free;
       day = day;
@@ -106,10 +114,10 @@ module _ (version : Version) (s : State) (sound : IsSoundOffice s) (t c : ℕ) w
       ∙ ap (λ n. order_rows s ++ (let row : OrderRow = record { id = suc n; ticket = t; container = c; day = s.day; state = 1 } in row) ∷ []) (sym (length-rows (order_row s) 1 s.orders))
 
   -- there is room for one more, and this is its number
-  pub may_append : (order : ℕ) (today : ℤ) → MayOrder s t c order today → IsNextOrder order (tables version s).desk
+  pub may_append : (order : ℕ) (today : ℤ) → MayPlaceOrder s t c order today → IsNextOrder order (tables version s).desk
   may_append order today may =
-      let ok = passes (checks s (command.Order t c)) may.allowed in
-      let few = leb-false most_orders (length s.orders) (held_not (nat_le most_orders (length s.orders)) _ ok.1.1.1.1.1.0) in
+      let ok = passed_order s t c (passes (checks s (command.Order t c)) may.allowed) in
+      let few = leb-false most_orders (length s.orders) ok.room in
       let many = length-rows (order_row s) 1 s.orders in
       let number = may.number in
       (omega (arith, few, many), number ∙ ap suc (sym many))
@@ -118,7 +126,7 @@ module _ (version : Version) (s : State) (sound : IsSoundOffice s) (t c : ℕ) w
       → ((old new : Trees) (f : Forest ℕ) → new schema.link.tree ≡ old schema.link.tree → places old f → places new f)
       → (before now : Database) → RepresentsState places version before s → now.schema ≡ before.schema
       → OnlyTouches (schema.orders.tree ∷ []) before now
-      → (order : ℕ) (today : ℤ) → MayOrder s t c order today
+      → (order : ℕ) (today : ℤ) → MayPlaceOrder s t c order today
       → RepresentsDesk now.trees (with_order t c today (tables version s).desk)
       → CarriesOutStep places version s (command.Order t c) (Ok (done.Order order)) now
   orders places same before now it schema_is only order today may shown =

@@ -1,19 +1,28 @@
 -- A permit that is granted, in the rows of the desk.
-use Rattle.std.proofs.Common.{◌≡◌, ℕ, ℤ, ◌<◌, pos, Bool, true, false, not, cond, ◌&&◌, ◌||◌, nat_eq, List, [], ◌∷◌, length, map, Some, None, Ok, Less, inl, inr, refl, sym, ap, subst, ◌∙◌, arith}
+use Rattle.std.proofs.Common.{◌≡◌, ℕ, ℤ, ◌<◌, pos, Bool, true, false, not, cond, ◌&&◌, ◌||◌, nat_eq, List, [], ◌∷◌}
+use Rattle.std.proofs.Common.{length, map, Some, None, Ok, Less, inl, inr, refl, sym, ap, subst, ◌∙◌, arith}
 use Rattle.std.specs.Ordering.{int_cmp}
 use Rattle.sqlite.specs.Order.{Row}
 use Rattle.sqlite.specs.declared.types.Value.TheVariants.{Int}
-use Rattle.catalogue_statements.specs.Rows.{unit_row}
-use Rattle.desk_store.specs.declared.reader_permits.Permit.{Permit as Told}
-use Rattle.office_core.specs.declared.command.Command.TheVariants as command
-use Rattle.office_core.specs.declared.done.Done.TheVariants as done
-use Rattle.office_core.proofs.Counts.{numbered_from_one}
-use Rattle.office_tables.specs.Schema as schema
 use Rattle.office_tables.proofs.Sorted.{only_order}
 use Rattle.office_tables.proofs.numbered.Counted.{below_less}
+use Rattle.office_tables.specs.Schema as schema
+use Rattle.catalogue_statements.specs.Rows.{cells_of_unit}
+use Rattle.desk_store.specs.declared.reader_permits.Permit.{Permit as Told}
+use Rattle.office_core.proofs.Counts.{numbered_from_one}
+use Rattle.office_core.specs.declared.command.Command.TheVariants as command
+use Rattle.office_core.specs.declared.done.Done.TheVariants as done
 use Rattle.refinement.proofs.PermitsShown.{granted_rows, permits_reordered, permits_shown, told_of, by_unit_total}
 use Rattle.desk_commands.specs.Permits.{MayPermit, later_of, until_for}
-use Rattle.desk_commands.proofs.Common.{AllByRecursion, ByUnit, CarriesOutStep, Database, Forest, Full, HasUnitRow, IsOrdered, IsPermutation, IsSoundOffice, MayHave, OnlyTouches, Permit, RepresentsDesk, RepresentsState, Rises, StandsIn, State, Trees, Unit, UnknownTicket, UnknownUnit, Version, accepts, after, by_unit, checks, eqb-true, find, granted_until, has_id, has_permit, has_unit, held_so, int_lt, is_some, is_ticket, length-map, length-rows, list_any, list_any-IsPermutation, most_permits, nat_le, nodes, numbered_within, option_map, passes, permit_rows, permits_of, reader_row, refusal, rowid, some_in, tables, with_permit}
+use Rattle.desk_commands.proofs.Common.{AllByRecursion, ByUnit, CarriesOutStep, Database, Forest, Full, HasUnitRow}
+use Rattle.desk_commands.proofs.Common.{IsOrdered, IsPermutation, IsSoundOffice, MayHave, OnlyTouches, Permit}
+use Rattle.desk_commands.proofs.Common.{RepresentsDesk, RepresentsState, Rises, StandsIn, State, Trees, Unit}
+use Rattle.desk_commands.proofs.Common.{UnknownTicket, UnknownUnit, Version, accepts, after, by_permitted_unit, checks}
+use Rattle.desk_commands.proofs.Common.{desk_with_permit, eqb-true, find, granted_until, has_id, has_permit, has_unit}
+use Rattle.desk_commands.proofs.Common.{held_so, int_lt, is_some, is_ticket, length-map, length-rows, list_any}
+use Rattle.desk_commands.proofs.Common.{list_any-IsPermutation, most_permits, nat_le, nodes, numbered_within}
+use Rattle.desk_commands.proofs.Common.{option_map, passed_permit, passes, permit_rows, permits_of, reader_row, refusal}
+use Rattle.desk_commands.proofs.Common.{rowid, some_in, tables}
 
 -- ---- the permits that are read
 
@@ -22,17 +31,17 @@ all_above : (n : ℕ) (ps : List Permit) → AllByRecursion (λ (q : Permit). n 
 all_above n [] above = tt
 all_above n (p ∷ ps) above = (below_less n p.unit above.0, all_above n ps above.1)
 
-rise : (ps : List Permit) → ByUnit ps → Rises by_unit (map told_of ps)
+rise : (ps : List Permit) → ByUnit ps → Rises by_permitted_unit (map told_of ps)
 rise [] by = tt
 rise (p ∷ ps) by = (all_above p.unit ps by.0, rise ps by.1)
 
 -- they are the ticket's, as the state has them
 pub read_are : (version : Version) (s : State) → IsSoundOffice s → (t : ℕ) (held : List Told)
-    → IsOrdered by_unit (permits_of t (tables version s).desk) held → held ≡ map told_of (s.permits t)
+    → IsOrdered by_permitted_unit (permits_of t (tables version s).desk) held → held ≡ map told_of (s.permits t)
 read_are version s sound t held ordered =
     let good = sound.sound.desk.permits in
     let is = permits_shown version s good t in
-    only_order by_unit by_unit_total (map told_of (s.permits t)) held (rise (s.permits t) (good.by_unit t)) ordered.1 (subst (λ l. IsPermutation l held) is ordered.0)
+    only_order by_permitted_unit by_unit_total (map told_of (s.permits t)) held (rise (s.permits t) (good.by_unit t)) ordered.1 (subst (λ l. IsPermutation l held) is ordered.0)
 
 some_until : (u : ℕ) (ps : List Permit)
     → is_some (until_for u (map told_of ps)) ≡ list_any (λ (p : Permit). nat_eq p.unit u) ps
@@ -54,7 +63,7 @@ later_until u day (p ∷ ps) = at (nat_eq p.unit u) (later_until u day ps)
     at true rest = refl
     at false rest = rest
 
-module _ (version : Version) (s : State) (sound : IsSoundOffice s) (t u : ℕ) (held : List Told) (read : IsOrdered by_unit (permits_of t (tables version s).desk) held) where
+module _ (version : Version) (s : State) (sound : IsSoundOffice s) (t u : ℕ) (held : List Told) (read : IsOrdered by_permitted_unit (permits_of t (tables version s).desk) held) where
   pub has_read : is_some (until_for u held) ≡ has_permit s t u
   has_read = ap (λ l. is_some (until_for u l)) (read_are version s sound t held read) ∙ some_until u (s.permits t)
 
@@ -100,30 +109,30 @@ has_unit_row : (places : Trees → Forest ℕ → Type 0) (version : Version) (s
 has_unit_row places version s db u it there =
     let shown = it.catalogue.catalogue.units in
     let found = some_in (has_id u) shown.units (sym (list_any-IsPermutation (has_id u) (nodes s.catalogue.forest) shown.units shown.are) ∙ there) in
-    subst (λ (rows : List Row). HasUnitRow u (λ _. rows)) (sym shown.rows) (has_number unit_row (λ (x : Unit). x.id) (λ x. refl) u shown.units found.0 found.1 found.2)
+    subst (λ (rows : List Row). HasUnitRow u (λ _. rows)) (sym shown.rows) (has_number cells_of_unit (λ (x : Unit). x.id) (λ x. refl) u shown.units found.0 found.1 found.2)
 
 module _ (version : Version) (s : State) (sound : IsSoundOffice s) (t u : ℕ) (asked until : ℤ) (may : MayPermit s t u asked until) where
   pub may_have : (places : Trees → Forest ℕ → Type 0) (db : Database) → RepresentsState places version db s
       → MayHave t u db.trees (tables version s).desk
   may_have places db it =
-      let ok = passes (checks s (command.Permit t u asked)) may.allowed in
-      let known = held_so (is_ticket s t) _ ok.0 in
+      let ok = passed_permit s t u asked (passes (checks s (command.Permit t u asked)) may.allowed) in
+      let known = ok.known in
       let within = numbered_within s.readers t known in
       let many = length-rows reader_row 1 s.readers in
-      ((numbered_from_one s.readers t known, omega (arith, within, many)), has_unit_row places version s db u it (held_so (has_unit s.catalogue.forest u) _ ok.1.0))
+      ((numbered_from_one s.readers t known, omega (arith, within, many)), has_unit_row places version s db u it ok.unit)
 
   pub permits : (places : Trees → Forest ℕ → Type 0)
       → ((old new : Trees) (f : Forest ℕ) → new schema.link.tree ≡ old schema.link.tree → places old f → places new f)
       → (before now : Database) → RepresentsState places version before s → now.schema ≡ before.schema
       → OnlyTouches (schema.permit.tree ∷ []) before now
-      → RepresentsDesk now.trees (with_permit t u until (tables version s).desk)
+      → RepresentsDesk now.trees (desk_with_permit t u until (tables version s).desk)
       → CarriesOutStep places version s (command.Permit t u asked) (Ok (done.Permit t u until)) now
   permits places same before now it schema_is only shown =
       let next = after s (command.Permit t u asked) in
       let known = held_so (is_ticket s t) _ (passes (checks s (command.Permit t u asked)) may.allowed).0 in
       let reordered = granted_rows s t u asked sound.sound.desk.permits (numbered_from_one s.readers t known) (numbered_within s.readers t known) in
-      let stands = subst (λ day. RepresentsDesk now.trees (with_permit t u day (tables version s).desk)) may.stands shown in
+      let stands = subst (λ day. RepresentsDesk now.trees (desk_with_permit t u day (tables version s).desk)) may.stands shown in
       accepts places version s (command.Permit t u asked) same before now (schema.permit.tree ∷ []) refl may.allowed tt it schema_is only
       next refl refl refl (tables version next).desk
-      (permits_reordered now.trees (with_permit t u (granted_until u asked (s.permits t)) (tables version s).desk) (permit_rows next) reordered stands)
+      (permits_reordered now.trees (desk_with_permit t u (granted_until u asked (s.permits t)) (tables version s).desk) (permit_rows next) reordered stands)
       refl (done.Permit t u until) (ap (done.Permit t u) (sym may.stands))

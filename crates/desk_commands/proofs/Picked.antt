@@ -1,8 +1,15 @@
 -- The orders that a run takes, by the rows of the desk.
-use Rattle.std.proofs.Common.{◌≡◌, ℕ, suc, ◌<◌, Bool, true, false, not, cond, ◌&&◌, ◌||◌, nat_eq, List, [], ◌∷◌, length, map, filter, Option, inl, inr, refl, sym, ap, subst, ◌∙◌, arith}
-use Rattle.desk_core.specs.declared.reader.Place.TheVariants.{Desk}
+use Rattle.std.proofs.Common.{◌≡◌, ℕ, suc, ◌<◌, Bool, true, false, not, cond, ◌&&◌, ◌||◌, nat_eq, List, [], ◌∷◌, length}
+use Rattle.std.proofs.Common.{map, filter, Option, inl, inr, refl, sym, ap, subst, ◌∙◌, arith}
 use Rattle.std.proofs.Math.Bool.{and_comm}
-use Rattle.desk_commands.proofs.Common.{AllByRecursion, ContainerOrder, HoldingRow, IsAscending, IsSoundOffice, Order, OrderRow, Out, Place, StandsIn, State, Version, any_same, below_none, candidates_of, cases_Bool, eqb-true, first, flipped, holding_rows, in_rows, is_due, is_first, is_on_shelf, is_shelf, list_any, nat_lt, nat_tests, numbers_from, numbers_to, opens, option_map, order_row, order_rows, place_from, place_in, reads_back, rows_from, some_and, stands, tables, to_from, unwrap_or, waits_by_row, waits_for}
+use Rattle.desk_core.specs.declared.reader.Place.TheVariants.{Desk}
+use Rattle.desk_commands.proofs.Common.{AllByRecursion, ContainerOrder, HoldingRow, IsAscending, IsSoundOffice, Order}
+use Rattle.desk_commands.proofs.Common.{OrderRow, Out, Place, StandsIn, State, Version, any_same, below_none}
+use Rattle.desk_commands.proofs.Common.{candidates_of, cases_Bool, eqb-true, first, flipped, holding_rows, in_rows}
+use Rattle.desk_commands.proofs.Common.{is_due, is_first_waiting, is_on_shelf, is_shelf, list_any, nat_lt, nat_tests}
+use Rattle.desk_commands.proofs.Common.{numbers_from, numbers_to, opens, option_map, order_row, order_rows, place_from}
+use Rattle.desk_commands.proofs.Common.{place_in, reads_back, rows_from, some_and, stands, tables, to_from, unwrap_or}
+use Rattle.desk_commands.proofs.Common.{waits_by_row, waits_for}
 
 -- ---- a container without a row is on the shelf
 
@@ -71,7 +78,7 @@ any_kept test f p (x ∷ xs) = at (test x) (any_kept test f p xs)
 module _ (version : Version) (s : State) (sound : IsSoundOffice s) where
   -- a row is that of the first order for its container
   first_by_rows : (row : OrderRow) → StandsIn row (order_rows s)
-      → is_first (tables version s).desk row ≡ some_and (nat_eq row.id) (first (s.queue row.container))
+      → is_first_waiting (tables version s).desk row ≡ some_and (nat_eq row.id) (first (s.queue row.container))
   first_by_rows row k =
       let i = in_rows (order_row s) s.orders row k in
       let waits_here : nat_eq 1 row.state ≡ stands row.id (s.queue row.container) =
@@ -92,14 +99,14 @@ module _ (version : Version) (s : State) (sound : IsSoundOffice s) where
       ∙ ap (λ (place : ℕ → Place). is_shelf (place c)) (reads_back s sound.sound.desk).places
 
   due_by_rows : (row : OrderRow) → StandsIn row (order_rows s)
-      → is_due s row.id ≡ ((is_first (tables version s).desk row && is_on_shelf (tables version s).desk row.container) && opens s row.ticket row.container)
+      → is_due s row.id ≡ ((is_first_waiting (tables version s).desk row && is_on_shelf (tables version s).desk row.container) && opens s row.ticket row.container)
   due_by_rows row k =
       let i = in_rows (order_row s) s.orders row k in
       subst (λ (r : OrderRow). is_due s r.id ≡ (some_and (nat_eq r.id) (first (s.queue r.container)) && (is_shelf (s.place r.container) && opens s r.ticket r.container))) (sym i.3)
       (ap (some_and (λ (order : Order). some_and (nat_eq i.0) (first (s.queue order.container)) && (is_shelf (s.place order.container) && opens s order.ticket order.container))) i.2)
       ∙ ap (λ b. b && (is_shelf (s.place row.container) && opens s row.ticket row.container)) (sym (first_by_rows row k))
-      ∙ ap (λ b. is_first (tables version s).desk row && (b && opens s row.ticket row.container)) (sym (shelf_by_rows row.container))
-      ∙ assoc (is_first (tables version s).desk row) (is_on_shelf (tables version s).desk row.container) (opens s row.ticket row.container)
+      ∙ ap (λ b. is_first_waiting (tables version s).desk row && (b && opens s row.ticket row.container)) (sym (shelf_by_rows row.container))
+      ∙ assoc (is_first_waiting (tables version s).desk row) (is_on_shelf (tables version s).desk row.container) (opens s row.ticket row.container)
     where
       assoc : (a b c : Bool) → (a && (b && c)) ≡ ((a && b) && c)
       assoc true b c = refl
@@ -116,20 +123,20 @@ module _ (version : Version) (s : State) (sound : IsSoundOffice s) where
 
   due_among : (rows : List OrderRow) → ((row : OrderRow) → StandsIn row rows → StandsIn row (order_rows s))
       → filter (is_due s) (map (λ (row : OrderRow). row.id) rows)
-      ≡ map (λ (o : ContainerOrder). o.order) (filter is_open_for (map (λ (o : OrderRow). record { container = o.container; order = o.id; ticket = o.ticket }) (filter (λ o. is_first (tables version s).desk o && is_on_shelf (tables version s).desk o.container) rows)))
+      ≡ map (λ (o : ContainerOrder). o.order) (filter is_open_for (map (λ (o : OrderRow). record { container = o.container; order = o.id; ticket = o.ticket }) (filter (λ o. is_first_waiting (tables version s).desk o && is_on_shelf (tables version s).desk o.container) rows)))
   due_among [] within = refl
   due_among (row ∷ rows) within =
       let rest = due_among rows (λ r k. within r (inr k)) in
       ap (λ b. cond b (row.id ∷ filter (is_due s) (map (λ (row : OrderRow). row.id) rows)) (filter (is_due s) (map (λ (row : OrderRow). row.id) rows))) (due_by_rows row (within row (inl refl)))
-      ∙ ap (λ l. cond ((is_first (tables version s).desk row && is_on_shelf (tables version s).desk row.container) && opens s row.ticket row.container) (row.id ∷ l) l) rest
-      ∙ at (is_first (tables version s).desk row && is_on_shelf (tables version s).desk row.container) (opens s row.ticket row.container) refl
+      ∙ ap (λ l. cond ((is_first_waiting (tables version s).desk row && is_on_shelf (tables version s).desk row.container) && opens s row.ticket row.container) (row.id ∷ l) l) rest
+      ∙ at (is_first_waiting (tables version s).desk row && is_on_shelf (tables version s).desk row.container) (opens s row.ticket row.container) refl
     where
       later : List ContainerOrder
-      later = map (λ (o : OrderRow). record { container = o.container; order = o.id; ticket = o.ticket }) (filter (λ o. is_first (tables version s).desk o && is_on_shelf (tables version s).desk o.container) rows)
+      later = map (λ (o : OrderRow). record { container = o.container; order = o.id; ticket = o.ticket }) (filter (λ o. is_first_waiting (tables version s).desk o && is_on_shelf (tables version s).desk o.container) rows)
 
       at : (a b : Bool) → opens s row.ticket row.container ≡ b
           → cond (a && b) (row.id ∷ map (λ (o : ContainerOrder). o.order) (filter is_open_for later)) (map (λ (o : ContainerOrder). o.order) (filter is_open_for later))
-          ≡ map (λ (o : ContainerOrder). o.order) (filter is_open_for (map (λ (o : OrderRow). record { container = o.container; order = o.id; ticket = o.ticket }) (cond a (row ∷ filter (λ o. is_first (tables version s).desk o && is_on_shelf (tables version s).desk o.container) rows) (filter (λ o. is_first (tables version s).desk o && is_on_shelf (tables version s).desk o.container) rows))))
+          ≡ map (λ (o : ContainerOrder). o.order) (filter is_open_for (map (λ (o : OrderRow). record { container = o.container; order = o.id; ticket = o.ticket }) (cond a (row ∷ filter (λ o. is_first_waiting (tables version s).desk o && is_on_shelf (tables version s).desk o.container) rows) (filter (λ o. is_first_waiting (tables version s).desk o && is_on_shelf (tables version s).desk o.container) rows))))
       at true true e = rw e refl
       at true false e = rw e refl
       at false b e = refl

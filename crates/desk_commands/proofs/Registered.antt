@@ -1,12 +1,18 @@
 -- A reader who is registered, in the rows of the desk.
-use Rattle.std.proofs.Common.{◌≡◌, ℕ, suc, ◌+◌, Bool, true, false, cond, List, [], ◌∷◌, ◌++◌, length, map, Option, Some, None, Ok, Err, refl, sym, ap, subst, ◌∙◌, arith}
+use Rattle.std.proofs.Common.{◌≡◌, ℕ, suc, ◌+◌, Bool, true, false, cond, List, [], ◌∷◌, ◌++◌, length, map, Option, Some}
+use Rattle.std.proofs.Common.{None, Ok, Err, refl, sym, ap, subst, ◌∙◌, arith}
 use Rattle.std.specs.Prelude.{ℤ}
 use Rattle.isad_core.specs.Texts.{Bytes}
 use Rattle.desk_core.specs.DeskRows.{Desk}
+use Rattle.office_tables.specs.Schema as schema
 use Rattle.office_core.specs.declared.command.Command.TheVariants as command
 use Rattle.office_core.specs.declared.done.Done.TheVariants as done
-use Rattle.office_tables.specs.Schema as schema
-use Rattle.desk_commands.proofs.Common.{CarriesOutStep, Command, Database, Forest, Full, IsOk, IsSoundOffice, IsUtf8, OnlyTouches, PermitRow, Reader, ReaderRow, Reply, RepresentsDesk, RepresentsState, State, Trees, Version, accepted, after, always_texts, desk_step, flat_map, is_name, is_some, length-append, length-rows, most_tickets, nat_le, nat_lt, nat_tests, next_ticket, nth, numbers_to, permit_row, permit_rows, reader_row, refusal, refused, rows_from, tables, with_reader}
+use Rattle.desk_commands.proofs.Common.{CarriesOutStep, Command, Database, Forest, Full, IsOk, IsSoundOffice, IsUtf8}
+use Rattle.desk_commands.proofs.Common.{OnlyTouches, PermitRow, Reader, ReaderRow, Reply, RepresentsDesk}
+use Rattle.desk_commands.proofs.Common.{RepresentsState, State, Trees, Version, accepted, after, always_texts}
+use Rattle.desk_commands.proofs.Common.{desk_step, flat_map, is_name, is_some, length-append, length-rows, most_tickets}
+use Rattle.desk_commands.proofs.Common.{nat_le, nat_lt, nat_tests, next_ticket, nth, numbers_to, permit_row}
+use Rattle.desk_commands.proofs.Common.{permit_rows, reader_row, refusal, refused, rows_from, tables, with_reader}
 
 rows_more : {X Y : Type 0} (row : ℕ → X → Y) (n : ℕ) (xs : List X) (x : X)
     → rows_from row n (xs ++ x ∷ []) ≡ rows_from row n xs ++ row (n + length xs) x ∷ []

@@ -1,13 +1,21 @@
 -- Containers that go back to the shelf, in the rows of the desk.
-use Rattle.std.proofs.Common.{◌≡◌, ℕ, zero, suc, ◌||◌, ◌<◌, ◌≤◌, Bool, true, false, not, cond, ◌&&◌, nat_eq, List, [], ◌∷◌, length, map, filter, Some, None, Ok, Err, refl, sym, ap, ◌∙◌, arith}
+use Rattle.std.proofs.Common.{◌≡◌, ℕ, zero, suc, ◌||◌, ◌<◌, ◌≤◌, Bool, true, false, not, cond, ◌&&◌, nat_eq, List, []}
+use Rattle.std.proofs.Common.{◌∷◌, length, map, filter, Some, None, Ok, Err, refl, sym, ap, ◌∙◌, arith}
+use Rattle.std.proofs.Math.Bool.{and_comm}
 use Rattle.desk_core.specs.Orders.{in_order, put_in_order}
 use Rattle.desk_core.specs.Runs as decided
 use Rattle.desk_core.specs.declared.reader.Place.TheVariants.{Desk}
+use Rattle.office_tables.specs.Schema as schema
 use Rattle.office_core.specs.declared.command.Command.TheVariants as command
 use Rattle.office_core.specs.declared.done.Done.TheVariants as done
-use Rattle.office_tables.specs.Schema as schema
-use Rattle.std.proofs.Math.Bool.{and_comm}
-use Rattle.desk_commands.proofs.Common.{AllByRecursion, CarriesOutStep, Database, Forest, HoldingRow, IsAscending, IsNumber, IsSoundOffice, NothingToMove, OnlyTouches, OrderRow, Out, Place, RepresentsDesk, RepresentsState, Shelf, State, Trees, Version, accepts, all_of_in, any_same, ascending-push, at_desk_of, cons_option, containers, flipped, goes_same, holding_row, idle, in_filter, in_numbers, is_desk, is_empty, is_idle, list_any, nat_lt, nat_tests, numbers_to, order_rows, reads_back, refusal, refuses, reshelved, reshelved_out, rows_of, some_and, tables, waits_for, with_all_placed}
+use Rattle.desk_commands.proofs.Common.{AllByRecursion, CarriesOutStep, Database, Forest, HoldingRow, IsAscending}
+use Rattle.desk_commands.proofs.Common.{IsNumber, IsSoundOffice, NothingToMove, OnlyTouches, OrderRow, Out, Place}
+use Rattle.desk_commands.proofs.Common.{RepresentsDesk, RepresentsState, Shelf, State, Trees, Version, accepts}
+use Rattle.desk_commands.proofs.Common.{all_of_in, any_same, ascending-push, at_desk_of, cons_option, containers}
+use Rattle.desk_commands.proofs.Common.{flipped, goes_same, holding_row, idle, in_filter, in_numbers, is_desk, is_empty}
+use Rattle.desk_commands.proofs.Common.{is_idle, list_any, nat_lt, nat_tests, numbers_to, order_rows, reads_back}
+use Rattle.desk_commands.proofs.Common.{refusal, refuses, reshelved, reshelved_out, rows_of, some_and, tables}
+use Rattle.desk_commands.proofs.Common.{waits_for, with_all_placed}
 use Rattle.desk_commands.proofs.MovedAll.{AreWithin, all_moved, rows_stay}
 
 -- ---- whether an order waits for a container
@@ -36,7 +44,7 @@ abbrev told_of : State → List HoldingRow → List (ℕ × Bool)
 told_of s rows = map (λ (h : HoldingRow). (h.container, list_any (waits_for h.container) (order_rows s))) (filter (λ h. nat_eq 1 h.place) rows)
 
 told_idle : (s : State) → IsSoundOffice s → (cs : List ℕ)
-    → decided.idle (told_of s (rows_of s.place cs)) ≡ filter (is_idle s) cs
+    → decided.idle_containers (told_of s (rows_of s.place cs)) ≡ filter (is_idle s) cs
 told_idle s sound [] = refl
 told_idle s sound (c ∷ cs) = at (s.place c) (told_idle s sound cs)
   where
@@ -45,8 +53,8 @@ told_idle s sound (c ∷ cs) = at (s.place c) (told_idle s sound cs)
     kept true rest = refl
     kept false rest = refl
 
-    at : (p : Place) → decided.idle (told_of s (rows_of s.place cs)) ≡ filter (is_idle s) cs
-        → decided.idle (told_of s (cons_option (holding_row c p) (rows_of s.place cs))) ≡ cond (is_desk p && is_empty (s.queue c)) (c ∷ filter (is_idle s) cs) (filter (is_idle s) cs)
+    at : (p : Place) → decided.idle_containers (told_of s (rows_of s.place cs)) ≡ filter (is_idle s) cs
+        → decided.idle_containers (told_of s (cons_option (holding_row c p) (rows_of s.place cs))) ≡ cond (is_desk p && is_empty (s.queue c)) (c ∷ filter (is_idle s) cs) (filter (is_idle s) cs)
     at Shelf rest = rest
     at (Out o) rest = rest
     at Desk rest =
@@ -89,7 +97,7 @@ rising_to (suc n) = ascending-push (numbers_to n) (suc n) (rising_to n) (all_of_
 
 module _ (version : Version) (s : State) (sound : IsSoundOffice s) where
   -- what is picked of what is told
-  pub picks_idle : decided.reshelved (at_desk_of (tables version s).desk) ≡ idle s
+  pub picks_idle : decided.reshelved_containers (at_desk_of (tables version s).desk) ≡ idle s
   picks_idle =
       ap (in_order nat_lt) (told_idle s sound (containers s))
       ∙ rising_order (idle s) (rising_left (is_idle s) (containers s) (rising_to (length s.catalogue.containers)))

@@ -1,13 +1,19 @@
 -- A container that comes back, in the rows of the desk.
-use Rattle.std.proofs.Common.{◌≡◌, ℕ, true, false, List, [], ◌∷◌, Option, Some, None, Ok, Err, refl, sym, ap, ◌∙◌, arith}
+use Rattle.std.proofs.Common.{◌≡◌, ℕ, true, false, List, [], ◌∷◌, Option, Some, None, Ok, Err, refl, sym, ap, ◌∙◌}
+use Rattle.std.proofs.Common.{arith}
 use Rattle.desk_core.specs.declared.reader.Place.TheVariants.{Desk}
+use Rattle.office_tables.specs.Schema as schema
 use Rattle.desk_store.specs.declared.orders.OrderState.TheVariants as states
+use Rattle.office_core.proofs.Places.{out_known, out_order}
 use Rattle.office_core.specs.declared.command.Command.TheVariants as command
 use Rattle.office_core.specs.declared.done.Done.TheVariants as done
-use Rattle.office_core.proofs.Places.{out_known, out_order}
-use Rattle.state_encoding.specs.DeskEncoding.{state_number}
-use Rattle.office_tables.specs.Schema as schema
-use Rattle.desk_commands.proofs.Common.{CarriesOutStep, Command, Database, Done, Forest, HoldingRow, IsNumber, IsSoundOffice, NotIssued, OnlyTouches, OrderRow, Out, Place, Refusal, RepresentsDesk, RepresentsState, Shelf, Standing, State, Trees, UnknownContainer, Version, accepts, container_of, handed_over, is_container, is_out, is_out_for, is_returned, is_some, numbered_within, only_returns, order_out, order_rows, place_after, refusal, refuses, returned, rows_moved, stands, stands_past, tables, unwrap_or, with_state}
+use Rattle.desk_commands.proofs.Common.{CarriesOutStep, Command, Database, Done, Forest, HoldingRow, IsNumber}
+use Rattle.desk_commands.proofs.Common.{IsSoundOffice, NotIssued, OnlyTouches, OrderRow, Out, Place, Refusal}
+use Rattle.desk_commands.proofs.Common.{RepresentsDesk, RepresentsState, Shelf, Standing, State, Trees}
+use Rattle.desk_commands.proofs.Common.{UnknownContainer, Version, accepts, container_of, handed_over, is_container}
+use Rattle.desk_commands.proofs.Common.{is_out, is_out_for, is_returned, is_some, numbered_within, only_returns}
+use Rattle.desk_commands.proofs.Common.{order_out, order_rows, place_after, refusal, refuses, returned, rows_moved}
+use Rattle.desk_commands.proofs.Common.{stands, stands_past, state_number, tables, unwrap_or, with_state}
 
 -- the order that a container is out with is one of those that were placed
 pub small_order : (s : State) → IsSoundOffice s → (c o : ℕ) → s.place c ≡ Out o → IsNumber o

@@ -1,17 +1,22 @@
 -- A permit that is taken back, in the rows of the desk.
-use Rattle.std.proofs.Common.{◌≡◌, ℕ, Bool, true, false, not, cond, List, [], ◌∷◌, filter, Some, inl, inr, refl, sym, ap, subst, ◌∙◌, nat_eq}
+use Rattle.std.proofs.Common.{◌≡◌, ℕ, Bool, true, false, not, cond, List, [], ◌∷◌, filter, Some, inl, inr, refl, sym}
+use Rattle.std.proofs.Common.{ap, subst, ◌∙◌, nat_eq}
 use Rattle.isad_core.specs.Days.{is_day_number}
-use Rattle.catalogue_core.proofs.DistinctLists.{all_so}
 use Rattle.tree_core.proofs.Lists.{eqb_comm}
-use Rattle.desk_store.specs.Permits.{revoked as without_it}
-use Rattle.office_core.specs.declared.command.Command.TheVariants as command
+use Rattle.catalogue_core.proofs.DistinctLists.{all_so}
 use Rattle.office_tables.specs.Schema as schema
-use Rattle.refinement.specs.Gate.{OthersAreOpen}
+use Rattle.office_core.specs.AccessRestrictions.{MayRevoke}
+use Rattle.office_core.specs.declared.command.Command.TheVariants as command
 use Rattle.refinement.proofs.OpenByPermits.{IsAlike, permitted_left}
 use Rattle.refinement.proofs.OpenElsewhere.{none_left, stays_permitted, still_open}
 use Rattle.refinement.proofs.PermitsShown.{revoked_rows}
-use Rattle.desk_commands.specs.Revocation.{HasPermit}
-use Rattle.desk_commands.proofs.Common.{AllByRecursion, AreTexts, CanBeJudged, Database, Forest, IsLegible, IsSoundOffice, NoPermit, OnlyTouches, Permit, PermitRow, RepresentsDesk, RepresentsState, State, Trees, Unit, UnknownTicket, UnknownUnit, Version, after, cases_eq, cut, desk_step, eqb-true, first_that_holds, gate, has_id, has_permit, has_unit, is_permit, is_permitted, is_ticket, judged_now, nodes, permit_rows, put_here, put_there, refusal, revoked, tables, update_at}
+use Rattle.refinement.specs.Gate.{OthersAreOpen}
+use Rattle.desk_commands.proofs.Common.{AllByRecursion, AreTexts, CanBeJudged, Database, Forest, IsLegible}
+use Rattle.desk_commands.proofs.Common.{IsSoundOffice, NoPermit, OnlyTouches, Permit, PermitRow, RepresentsDesk}
+use Rattle.desk_commands.proofs.Common.{RepresentsState, State, Trees, Unit, UnknownTicket, UnknownUnit, Version, after}
+use Rattle.desk_commands.proofs.Common.{cases_eq, cut, desk_step, desk_without_permit, eqb-true, first_that_holds, gate}
+use Rattle.desk_commands.proofs.Common.{has_id, has_permit, has_unit, is_permit, is_permitted, is_ticket, judged_now}
+use Rattle.desk_commands.proofs.Common.{nodes, permit_rows, put_here, put_there, refusal, revoked, tables, update_at}
 
 all_kept : {X : Type 0} (P : X → Type 0) (p : X → Bool) (xs : List X) → AllByRecursion P xs
     → AllByRecursion P (filter p xs)
@@ -36,9 +41,9 @@ pub no_permit : (s : State) (t u : ℕ) → is_ticket s t ≡ true → has_unit 
 no_permit s t u ticket unit none = rw (ticket, unit, none) refl
 
 -- only the gate is left to be asked
-pub gate_is_left : (s : State) (t u : ℕ) → HasPermit s t u
+pub gate_is_left : (s : State) (t u : ℕ) → MayRevoke s t u
     → refusal s (command.Revoke t u) ≡ first_that_holds (gate (after s (command.Revoke t u)) ∷ [])
-gate_is_left s t u has = rw (has.ticket_there, has.unit_there, has.held) refl
+gate_is_left s t u has = rw (has.ticket, has.unit, has.permit) refl
 
 -- ---- the rows
 
@@ -86,9 +91,9 @@ module _ (s : State) (sound : IsSoundOffice s) (t u : ℕ) where
       → ((old new : Trees) (f : Forest ℕ) → new schema.link.tree ≡ old schema.link.tree → places old f → places new f)
       → (version : Version) (before now : Database) → RepresentsState places version before s
       → now.schema ≡ before.schema → OnlyTouches (schema.permit.tree ∷ []) before now
-      → RepresentsDesk now.trees (without_it t u (tables version s).desk) → RepresentsState places version now next
+      → RepresentsDesk now.trees (desk_without_permit t u (tables version s).desk) → RepresentsState places version now next
   represents places same version before now it schema_is only shown =
-      desk_step places same version s next before now (schema.permit.tree ∷ []) refl schema_is only it (without_it t u (tables version s).desk) shown
+      desk_step places same version s next before now (schema.permit.tree ∷ []) refl schema_is only it (desk_without_permit t u (tables version s).desk) shown
       (ap (λ (rows : List PermitRow). record (tables version s).desk { permits = rows }) (revoked_rows t u s)) refl refl (texts it.texts)
 
   -- ---- the gate

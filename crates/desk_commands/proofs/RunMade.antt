@@ -1,18 +1,25 @@
 -- A run that is made, in the rows of the desk.
-use Rattle.std.proofs.Common.{◌≡◌, ℕ, suc, true, false, cond, nat_eq, List, [], ◌∷◌, ◌++◌, length, map, Option, Some, None, Ok, Err, refl, sym, ap, subst, ◌∙◌}
-use Rattle.std.specs.Prelude.{ℤ}
+use Rattle.std.proofs.Common.{◌≡◌, ℕ, suc, true, false, cond, nat_eq, List, [], ◌∷◌, ◌++◌, length, map, Option, Some}
+use Rattle.std.proofs.Common.{None, Ok, Err, refl, sym, ap, subst, ◌∙◌}
 use Rattle.std.proofs.Math.Path.{fun_ext}
 use Rattle.std.proofs.lemmas.List.Elements.{All-from_recursion, recursion_from_All}
-use Rattle.isad_core.specs.Days.{IsDayNumber, is_day_number}
+use Rattle.std.specs.Prelude.{ℤ}
 use Rattle.isad_core.proofs.DayLemmas.{is_day_number-true}
+use Rattle.isad_core.specs.Days.{IsDayNumber, is_day_number}
 use Rattle.desk_core.specs.DeskRows.{Desk as Rows}
 use Rattle.desk_core.specs.declared.reader.Place.TheVariants.{Desk}
+use Rattle.office_tables.specs.Schema as schema
 use Rattle.desk_store.specs.Runs as stored
-use Rattle.office_core.specs.State.{next_run}
 use Rattle.office_core.specs.declared.command.Command.TheVariants as command
 use Rattle.office_core.specs.declared.done.Done.TheVariants as done
-use Rattle.office_tables.specs.Schema as schema
-use Rattle.desk_commands.proofs.Common.{All-permutation, AllByRecursion, CarriesOutStep, ContainerOrder, Database, Forest, Full, HoldingRow, IsLegible, IsNumberOf, IsPermutation, IsPermutation-sym, IsPermutation-trans, IsSoundOffice, NothingToMove, OnlyTouches, OrderRow, Place, RepresentsDesk, RepresentsState, RunLineRow, RunRow, State, Trees, Version, accepts, all_placed, fetched, fetched_out, goes_same, holding_rows, is_empty, most_runs, nat_le, numbers_to, order_rows, orders_of_run, refusal, refuses, rows_of, run_line_rows, run_row, some_and, tables, taken_by, with_all_placed, with_run}
+use Rattle.desk_commands.proofs.Common.{All-permutation, AllByRecursion, CarriesOutStep, ContainerOrder, Database}
+use Rattle.desk_commands.proofs.Common.{Forest, Full, HoldingRow, IsLegible, IsNumberOf, IsPermutation}
+use Rattle.desk_commands.proofs.Common.{IsPermutation-sym, IsPermutation-trans, IsSoundOffice, NothingToMove}
+use Rattle.desk_commands.proofs.Common.{OnlyTouches, OrderRow, Place, RepresentsDesk, RepresentsState, RunLineRow}
+use Rattle.desk_commands.proofs.Common.{RunRow, State, Trees, Version, accepts, all_placed, fetched, fetched_out}
+use Rattle.desk_commands.proofs.Common.{goes_same, holding_rows, is_empty, most_runs, nat_le, new_run, numbers_to}
+use Rattle.desk_commands.proofs.Common.{order_rows, orders_of_run, refusal, refuses, rows_of, run_line_rows, run_row}
+use Rattle.desk_commands.proofs.Common.{some_and, tables, taken_by, with_all_placed, with_run}
 use Rattle.desk_commands.proofs.Fetched.{as_many, brought, none_left, none_taken, one_left, same_lines, taken_within}
 use Rattle.desk_commands.proofs.MovedAll.{all_moved, rows_stay}
 use Rattle.desk_commands.proofs.Registered.{rows_end}
@@ -95,7 +102,7 @@ module _ (version : Version) (s : State) (sound : IsSoundOffice s) where
   desk_after =
       ap (λ (rows : List OrderRow). record (tables version (fetched s)).desk { orders = rows }) orders_stay
       ∙ ap (λ (rows : List HoldingRow). record (tables version (fetched s)).desk { orders = order_rows s; holdings = rows }) holdings_moved
-      ∙ ap (λ (rows : List RunRow). record desk { holdings = all_placed Desk containers_taken (holding_rows s); runs = rows; run_lines = run_line_rows (fetched s) }) (rows_end run_row s.runs (next_run s))
+      ∙ ap (λ (rows : List RunRow). record desk { holdings = all_placed Desk containers_taken (holding_rows s); runs = rows; run_lines = run_line_rows (fetched s) }) (rows_end run_row s.runs (new_run s))
 
   module _ (places : Trees → Forest ℕ → Type 0) where
     pub nothing_due : (db : Database) → is_empty taken ≡ true

@@ -3,15 +3,21 @@ use Rattle.std.proofs.Common.{◌≡◌, ℕ, ℤ, nat_eq, List, [], ◌∷◌, 
 use Rattle.tree_core.proofs.Lists.{list_any-map}
 use Rattle.desk_core.specs.Decisions as decision
 use Rattle.desk_core.specs.declared.reader.Reader.{Reader as Sitter}
+use Rattle.office_tables.specs.Schema as schema
 use Rattle.desk_store.specs.Seats.{MayTake, taken_seats, with_seat}
 use Rattle.desk_store.specs.declared.taken_seats.TakenSeat.{TakenSeat}
 use Rattle.office_core.specs.declared.command.Command.TheVariants as command
 use Rattle.office_core.specs.declared.done.Done.TheVariants as done
-use Rattle.office_tables.specs.Schema as schema
-use Rattle.refinement.specs.Sitters.{sitter, sitter_of}
 use Rattle.refinement.proofs.SeatsShown.{free_is, is_free, risen, sat, sits_by_row, some_placed}
+use Rattle.refinement.specs.Sitters.{sitter, sitter_of}
 use Rattle.desk_commands.specs.Seats.{MayLeave, MaySit}
-use Rattle.desk_commands.proofs.Common.{CarriesOutStep, Database, Forest, IsPermutation, IsSoundOffice, Limits, OnlyTouches, Reader, Refusal, RepresentsDesk, RepresentsState, SeatRow, State, Trees, Version, accepts, after, checks, first_that_holds, free_seat, held_count, held_not, int_lt, is_seat_of, is_seated, is_some, leave_seat_checks, leave_seat_facts, limits_of, list_any, list_any-IsPermutation, nth, option_map, passes, refusal, seat_of, seat_rows, some_and, tables, take_seat_checks, take_seat_facts, unwrap_or}
+use Rattle.desk_commands.proofs.Common.{CarriesOutStep, Database, Forest, IsPermutation, IsSoundOffice, Limits}
+use Rattle.desk_commands.proofs.Common.{OnlyTouches, Reader, Refusal, RepresentsDesk, RepresentsState, SeatRow, State}
+use Rattle.desk_commands.proofs.Common.{Trees, Version, accepts, after, checks, first_that_holds, held_count, int_lt}
+use Rattle.desk_commands.proofs.Common.{is_seat_of, is_seated, is_some, leave_seat_checks, leave_seat_facts, limits_of}
+use Rattle.desk_commands.proofs.Common.{list_any, list_any-IsPermutation, lowest_free_seat, nth, option_map}
+use Rattle.desk_commands.proofs.Common.{passed_take_seat, passes, refusal, seat_of, seat_rows, some_and, tables}
+use Rattle.desk_commands.proofs.Common.{take_seat_checks, take_seat_facts, unwrap_or}
 
 module _ (s : State) (sound : IsSoundOffice s) (t : ℕ) where
   -- ---- the checks, of the reader as the desk sees him
@@ -25,37 +31,37 @@ module _ (s : State) (sound : IsSoundOffice s) (t : ℕ) where
   pub leave_checked : first_that_holds (leave_seat_checks (leave_seat_facts (sitter s t))) ≡ refusal s (command.LeaveSeat t)
   leave_checked = leave_at (nth s.readers t)
 
-  take_at : (taken : List ℕ) → decision.free_seat taken s.settings.seats ≡ free_seat s → (o : Option Reader)
+  take_at : (taken : List ℕ) → decision.free_seat taken s.settings.seats ≡ lowest_free_seat s → (o : Option Reader)
       → first_that_holds (take_seat_checks (take_seat_facts (option_map (sitter_of s t) o) s.day taken (limits_of s)))
-      ≡ first_that_holds (take_seat_checks (record { known = is_some o; expired = some_and (λ reader. int_lt reader.until s.day) o; seated = is_seated s t; free = free_seat s }))
+      ≡ first_that_holds (take_seat_checks (record { known = is_some o; expired = some_and (λ reader. int_lt reader.until s.day) o; seated = is_seated s t; free = lowest_free_seat s }))
   take_at taken free None = refl
   take_at taken free (Some reader) = rw (some_placed (is_seat_of t) s.seats, free) refl
 
   -- the numbers of the rows, in whatever order, tell the least free seat
   pub least_free : (taken : List ℕ)
       → ((k : ℕ) → list_any (nat_eq k) taken ≡ list_any (nat_eq k) (map (λ (r : SeatRow). r.seat) (seat_rows s)))
-      → decision.free_seat taken s.settings.seats ≡ free_seat s
+      → decision.free_seat taken s.settings.seats ≡ lowest_free_seat s
   least_free taken same = ap (decision.free_seat taken) (sym sound.sound.desk.seats.count) ∙ free_is taken s.seats same
 
   pub take_checked : (today : ℤ) (limits : Limits) (taken : List ℕ) → today ≡ s.day → limits ≡ limits_of s
-      → decision.free_seat taken s.settings.seats ≡ free_seat s
+      → decision.free_seat taken s.settings.seats ≡ lowest_free_seat s
       → first_that_holds (take_seat_checks (take_seat_facts (sitter s t) today taken limits)) ≡ refusal s (command.TakeSeat t)
   take_checked today limits taken day is free =
       ap (λ d. first_that_holds (take_seat_checks (take_seat_facts (sitter s t) d taken limits))) day
       ∙ ap (λ l. first_that_holds (take_seat_checks (take_seat_facts (sitter s t) s.day taken l))) is
       ∙ take_at taken free (nth s.readers t)
 
-  seat_at : (k : ℕ) (o : Option Reader) → decision.seat_of (option_map (sitter_of s t) o) ≡ Some k
+  seat_at : (k : ℕ) (o : Option Reader) → decision.reader_seat (option_map (sitter_of s t) o) ≡ Some k
       → seat_of s t ≡ Some k
   seat_at k None e = absurd (cc)
   seat_at k (Some reader) e = e
 
   pub may_leave : (who : Option Sitter) (k : ℕ) → who ≡ sitter s t
-      → None ≡ first_that_holds (leave_seat_checks (leave_seat_facts who)) → decision.seat_of who ≡ Some k
+      → None ≡ first_that_holds (leave_seat_checks (leave_seat_facts who)) → decision.reader_seat who ≡ Some k
       → MayLeave s t k
   may_leave who k is passes seat = record {
     allowed = sym leave_checked ∙ ap (λ w. first_that_holds (leave_seat_checks (leave_seat_facts w))) (sym is) ∙ sym passes;
-    seat = seat_at k (nth s.readers t) (ap decision.seat_of (sym is) ∙ seat);
+    seat = seat_at k (nth s.readers t) (ap decision.reader_seat (sym is) ∙ seat);
   }
 
   pub must_stay : (who : Option Sitter) (why : Refusal) → who ≡ sitter s t
@@ -117,5 +123,5 @@ module _ (s : State) (sound : IsSoundOffice s) (t : ℕ) where
   -- nobody sits there, and the ticket sits nowhere
   pub may_take : (version : Version) (k : ℕ) → MaySit s t k → MayTake k (Some t) (tables version s).desk
   may_take version k may =
-      let ok = passes (checks s (command.TakeSeat t)) may.allowed in
-      (is_free k s.seats may.seat, sits_by_row t 1 s.seats ∙ held_not (is_seated s t) _ ok.1.1.0)
+      let ok = passed_take_seat s t (passes (checks s (command.TakeSeat t)) may.allowed) in
+      (is_free k s.seats may.seat, sits_by_row t 1 s.seats ∙ ok.stands)

@@ -2,7 +2,10 @@
 use Rattle.std.proofs.Common.{◌≡◌, ℕ, true, false, not, nat_eq, List, [], ◌∷◌, Option, Some, None, refl, sym, ap, ◌∙◌}
 use Rattle.desk_core.specs.declared.reader.Place.TheVariants.{Desk}
 use Rattle.refinement.proofs.RowsOfLists.{found_row}
-use Rattle.desk_commands.proofs.Common.{IsFiled, IsSoundOffice, Order, OrderRow, Out, Place, Shelf, State, Version, containers, false≢true, filter_map, find, holding_row, is_empty, is_out, is_out_for, is_some, issued_by, issued_of, list_any, nth, option_map, order_row, order_rows, same_number, tables}
+use Rattle.desk_commands.proofs.Common.{IsFiled, IsSoundOffice, Order, OrderRow, Out, Place, Shelf, State, Version}
+use Rattle.desk_commands.proofs.Common.{containers, false≢true, filter_map, find, holding_row, is_empty, is_out}
+use Rattle.desk_commands.proofs.Common.{is_out_for, is_some, issued_by, issued_of, list_any, nth, option_map, order_row}
+use Rattle.desk_commands.proofs.Common.{order_rows, same_number, tables}
 
 some_mapped : {X Y : Type 0} (f : X → Y) (o : Option X) → is_some o ≡ true → is_some (option_map f o) ≡ true
 some_mapped f None h = absurd (cc)

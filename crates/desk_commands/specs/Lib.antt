@@ -2,6 +2,5 @@ pub mod Seats
 pub mod OrderPlacement
 pub mod Permits
 pub mod ContainerMoves
-pub mod Revocation
 pub mod Issuance
 pub mod RunCreation

@@ -25,7 +25,7 @@ ask_of card container is_open = record {
 }
 
 -- no rule forbids the ticket to order the container today, and this is the order's number
-pub record MayOrder (s : State) (ticket container order : ℕ) (today : ℤ) : Type 0 where
+pub record MayPlaceOrder (s : State) (ticket container order : ℕ) (today : ℤ) : Type 0 where
   pub allowed : refusal s (command.Order ticket container) ≡ None
   pub day : today ≡ s.day
   pub number : order ≡ suc (length s.orders)

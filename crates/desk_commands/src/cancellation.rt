@@ -1,11 +1,11 @@
 //! Cancelling an order that waits.
 
-ghost use Rattle.std.specs.Prelude.{◌≡◌, nat_eq, true, ⊤};
+ghost use Rattle.std.specs.Prelude.{◌≡◌, nat_eq, true};
 ghost use Rattle.sqlite.specs.Held.{state};
-ghost use Rattle.desk_store.specs.Orders.{state_number};
+ghost use Rattle.desk_store.specs.Orders.{order_state_number};
 ghost use Rattle.office_core.specs.State.{waits};
 ghost use Rattle.office_core.specs.declared.command.Command.TheVariants as command;
-ghost use Rattle.refinement.specs.CommandSteps.{Performs};
+ghost use Rattle.refinement.specs.CommandSteps.{Performs, PerformsKnowing};
 
 use catalogue_store::Places;
 use desk_store::{OrderState, end_order, order};
@@ -16,7 +16,7 @@ use std::alloc::Global;
 
 /// Whether an order in this state waits.
 fn is_waiting(state: OrderState) -> bool
-    ensures { result ≡ nat_eq (state_number state) 1 }
+    ensures { result ≡ nat_eq (order_state_number state) 1 }
 {
     matches!(state, OrderState::Waiting)
 }
@@ -26,8 +26,8 @@ fn end_waiting<P: Places, S: Alter>(
     tables: &mut Tables<P, S>,
     order: u64,
 ) -> Result<Result<Done, Refusal>, StoreFault>
-    ensures { Performs P.represents P.version S.Store (λ s. waits s order ≡ true) (command.Cancel order) tables.old
-        tables.new result }
+    ensures { PerformsKnowing P.represents P.version S.Store (λ s. waits s order ≡ true) (command.Cancel order)
+        tables.old tables.new result }
 {
     let number = known_number(order)?;
     end_order(tables, number, OrderState::Cancelled)?;
@@ -41,7 +41,7 @@ pub fn cancel<P: Places, S: Alter>(
     tables: &mut Tables<P, S>,
     number: u64,
 ) -> Result<Result<Done, Refusal>, StoreFault>
-    ensures { Performs P.represents P.version S.Store (λ _. ⊤) (command.Cancel number) tables.old tables.new result }
+    ensures { Performs P.represents P.version S.Store (command.Cancel number) tables.old tables.new result }
 {
     let Some(placed) = order(alloc, tables, number)? else {
         return Ok(Err(Refusal::UnknownOrder));

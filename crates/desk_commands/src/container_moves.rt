@@ -1,11 +1,12 @@
 //! Moving containers from one place to another.
 
-ghost use Rattle.std.specs.Prelude.{[], ◌∷◌, IfSome, ⊤};
+ghost use Rattle.std.specs.Prelude.{[], ◌∷◌, IfSome};
 ghost use Rattle.std.specs.List.{AllByRecursion};
 ghost use Rattle.isad_core.specs.Limits.{IsNumber};
-ghost use Rattle.desk_store.specs.Holdings.{by_order};
+ghost use Rattle.desk_core.specs.Decisions.{order_out};
 ghost use Rattle.desk_store.specs.Representation.{IsLegible, RepresentsDeskAlone};
 ghost use Rattle.office_tables.specs.Calls.{Updates};
+ghost use Rattle.office_tables.specs.Premises.{◌when◌within◌gives◌, ◌within◌gives◌};
 ghost use Rattle.office_tables.specs.Schema as schema;
 ghost use Rattle.desk_commands.specs.ContainerMoves.{handed_over, with_all_placed};
 
@@ -22,9 +23,10 @@ pub(crate) fn hand_over<P: Versioned, S: Alter>(
     order: Number,
     next: OrderState,
 ) -> Result<(), StoreFault>
-    requires known { IfSome (by_order place) IsNumber }
-    ensures updates { Updates S.Store RepresentsDeskAlone IsLegible tables.old tables.new result (λ _. ⊤)
-        (handed_over container place order next) (schema.orders.tree ∷ schema.holding.tree ∷ []) }
+    requires known { IfSome (order_out place) IsNumber }
+    ensures updates { Updates S.Store (schema.orders.tree ∷ schema.holding.tree ∷ []) RepresentsDeskAlone
+        tables.old tables.new result
+        within IsLegible gives handed_over container place order next }
 {
     end_order(tables, order, next)?;
     set_place(tables, container, place)
@@ -36,10 +38,9 @@ pub(crate) fn move_all<P: Versioned, S: Alter>(
     containers: &[u64],
     place: Place,
 ) -> Result<(), StoreFault>
-    requires known { IfSome (by_order place) IsNumber }
-    ensures updates { Updates S.Store RepresentsDeskAlone IsLegible tables.old tables.new result
-        (λ _. AllByRecursion IsNumber containers.now) (with_all_placed place containers.now)
-        (schema.holding.tree ∷ []) }
+    requires known { IfSome (order_out place) IsNumber }
+    ensures updates { Updates S.Store (schema.holding.tree ∷ []) RepresentsDeskAlone tables.old tables.new result
+        when (λ _. AllByRecursion IsNumber containers.now) within IsLegible gives with_all_placed place containers.now }
 {
     for container in containers {
         let container = known_number(*container)?;

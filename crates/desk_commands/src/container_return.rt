@@ -1,9 +1,9 @@
 //! Taking a container back from its reader.
 
-ghost use Rattle.std.specs.Prelude.{◌≡◌, ⊤};
+ghost use Rattle.std.specs.Prelude.{◌≡◌};
 ghost use Rattle.desk_core.specs.declared.reader.Place.TheVariants.{Out};
 ghost use Rattle.office_core.specs.declared.command.Command.TheVariants as command;
-ghost use Rattle.refinement.specs.CommandSteps.{Performs};
+ghost use Rattle.refinement.specs.CommandSteps.{Performs, PerformsKnowing};
 
 use crate::container_moves::hand_over;
 use catalogue_store::Places;
@@ -20,8 +20,8 @@ fn take_back<P: Places, S: Alter>(
     container: u64,
     order: u64,
 ) -> Result<Result<Done, Refusal>, StoreFault>
-    ensures { Performs P.represents P.version S.Store (λ s. s.place container ≡ Out order) (command.Return container)
-        tables.old tables.new result }
+    ensures { PerformsKnowing P.represents P.version S.Store (λ s. s.place container ≡ Out order)
+        (command.Return container) tables.old tables.new result }
 {
     let from = known_number(container)?;
     let with = known_number(order)?;
@@ -36,7 +36,7 @@ pub fn return_container<P: Places, S: Alter>(
     tables: &mut Tables<P, S>,
     container: u64,
 ) -> Result<Result<Done, Refusal>, StoreFault>
-    ensures { Performs P.represents P.version S.Store (λ _. ⊤) (command.Return container) tables.old tables.new result }
+    ensures { Performs P.represents P.version S.Store (command.Return container) tables.old tables.new result }
 {
     let found = queue_head(alloc, tables, container)?;
     let head = match known_container(found) {

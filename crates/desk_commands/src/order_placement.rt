@@ -6,8 +6,8 @@ ghost use Rattle.desk_store.specs.declared.reader_summary.LiveOrder.{LiveOrder a
 ghost use Rattle.office_core.specs.State.{opens};
 ghost use Rattle.office_core.specs.declared.command.Command.TheVariants as command;
 ghost use Rattle.refinement.specs.ReadingRoomLimits.{limits_of};
-ghost use Rattle.refinement.specs.CommandSteps.{Performs};
-ghost use Rattle.desk_commands.specs.OrderPlacement.{IsCardOf, MayOrder, ask_of};
+ghost use Rattle.refinement.specs.CommandSteps.{PerformsKnowing};
+ghost use Rattle.desk_commands.specs.OrderPlacement.{IsCardOf, MayPlaceOrder, ask_of};
 
 use catalogue_store::Places;
 use desk_core::{Ask, Limits, may_order};
@@ -46,9 +46,8 @@ fn append<P: Places, S: Alter>(
     container: u64,
     order: u64,
 ) -> Result<Result<Done, Refusal>, StoreFault>
-    ensures { Performs P.represents P.version S.Store (λ s. MayOrder s ticket container order today)
-        (command.Order ticket container)
-        tables.old tables.new result }
+    ensures { PerformsKnowing P.represents P.version S.Store (λ s. MayPlaceOrder s ticket container order today)
+        (command.Order ticket container) tables.old tables.new result }
 {
     let number = known_number(order)?;
     let reader = known_number(ticket)?;
@@ -67,9 +66,9 @@ fn decide<P: Places, S: Alter>(
     container: u64,
     is_open: bool,
 ) -> Result<Result<Done, Refusal>, StoreFault>
-    ensures { Performs P.represents P.version S.Store (λ s. (today ≡ s.day) × (limits.now ≡ limits_of s)
-        × IsCardOf P.version s ticket card.now × (is_open ≡ opens s ticket container)) (command.Order ticket container)
-        tables.old tables.new result }
+    ensures { PerformsKnowing P.represents P.version S.Store
+        (λ s. (today ≡ s.day) × (limits.now ≡ limits_of s) × IsCardOf P.version s ticket card.now
+        × (is_open ≡ opens s ticket container)) (command.Order ticket container) tables.old tables.new result }
 {
     match may_order(
         Some(&card.reader),
@@ -92,7 +91,7 @@ fn order_by<P: Places, S: Alter>(
     ticket: u64,
     container: u64,
 ) -> Result<Result<Done, Refusal>, StoreFault>
-    ensures { Performs P.represents P.version S.Store
+    ensures { PerformsKnowing P.represents P.version S.Store
         (λ s. (today ≡ s.day) × (limits.now ≡ limits_of s) × IsCardOf P.version s ticket card.now)
         (command.Order ticket container) tables.old tables.new result }
 {
@@ -113,7 +112,7 @@ pub fn order<P: Places, S: Alter>(
     ticket: u64,
     container: u64,
 ) -> Result<Result<Done, Refusal>, StoreFault>
-    ensures { Performs P.represents P.version S.Store (λ s. (today ≡ s.day) × (limits.now ≡ limits_of s))
+    ensures { PerformsKnowing P.represents P.version S.Store (λ s. (today ≡ s.day) × (limits.now ≡ limits_of s))
         (command.Order ticket container) tables.old tables.new result }
 {
     let Some(card) = reader(alloc, tables, ticket, today)? else {

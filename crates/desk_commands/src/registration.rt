@@ -1,6 +1,6 @@
 //! Registering readers.
 
-ghost use Rattle.std.specs.Prelude.{◌≡◌, true, IsUtf8, ⊤};
+ghost use Rattle.std.specs.Prelude.{◌≡◌, true, IsUtf8};
 ghost use Rattle.office_core.specs.Rules.{is_name};
 ghost use Rattle.office_core.specs.declared.command.Command.TheVariants as command;
 ghost use Rattle.refinement.specs.CommandSteps.{Performs};
@@ -21,8 +21,7 @@ pub fn register<P: Places, S: Alter>(
 ) -> Result<Result<Done, Refusal>, StoreFault>
     requires named { is_name name.now ≡ true }
     requires text { IsUtf8 name.now }
-    ensures { Performs P.represents P.version S.Store (λ _. ⊤) (command.Register name.now until) tables.old tables.new
-        result }
+    ensures { Performs P.represents P.version S.Store (command.Register name.now until) tables.old tables.new result }
 {
     let Some(ticket) = add_reader(tables, name, until)? else {
         return Ok(Err(Refusal::Full));

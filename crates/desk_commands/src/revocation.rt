@@ -4,8 +4,8 @@ ghost use Rattle.std.specs.Prelude.{◌≡◌, true};
 ghost use Rattle.catalogue_core.specs.UnitLookup.{has_unit};
 ghost use Rattle.office_core.specs.State.{is_ticket};
 ghost use Rattle.office_core.specs.declared.command.Command.TheVariants as command;
-ghost use Rattle.refinement.specs.CommandSteps.{Performs};
-ghost use Rattle.desk_commands.specs.Revocation.{HasPermit};
+ghost use Rattle.refinement.specs.CommandSteps.{PerformsKnowing};
+ghost use Rattle.office_core.specs.AccessRestrictions.{MayRevoke};
 
 use crate::permits::last_day;
 use catalogue_store::{Places, is_unit};
@@ -25,9 +25,8 @@ fn take_back<P: Places, S: Alter>(
     ticket: u64,
     unit: u64,
 ) -> Result<Result<Done, Refusal>, StoreFault>
-    ensures { Performs P.represents P.version S.Store (λ s. (today ≡ s.day) × HasPermit s ticket unit)
-        (command.Revoke ticket unit)
-        tables.old tables.new result }
+    ensures { PerformsKnowing P.represents P.version S.Store (λ s. (today ≡ s.day) × MayRevoke s ticket unit)
+        (command.Revoke ticket unit) tables.old tables.new result }
 {
     let reader = known_number(ticket)?;
     let read = known_number(unit)?;
@@ -43,7 +42,7 @@ fn take_back_held<P: Places, S: Alter>(
     ticket: u64,
     unit: u64,
 ) -> Result<Result<Done, Refusal>, StoreFault>
-    ensures { Performs P.represents P.version S.Store
+    ensures { PerformsKnowing P.represents P.version S.Store
         (λ s. (today ≡ s.day) × (is_ticket s ticket ≡ true) × (has_unit s.catalogue.forest unit ≡ true))
         (command.Revoke ticket unit) tables.old tables.new result }
 {
@@ -63,7 +62,7 @@ fn take_back_for<P: Places, S: Alter>(
     ticket: u64,
     unit: u64,
 ) -> Result<Result<Done, Refusal>, StoreFault>
-    ensures { Performs P.represents P.version S.Store (λ s. (today ≡ s.day) × (is_ticket s ticket ≡ true))
+    ensures { PerformsKnowing P.represents P.version S.Store (λ s. (today ≡ s.day) × (is_ticket s ticket ≡ true))
         (command.Revoke ticket unit) tables.old tables.new result }
 {
     let there = is_unit(alloc, tables, unit)?;
@@ -83,8 +82,8 @@ pub fn revoke_permit<P: Places, S: Alter>(
     ticket: u64,
     unit: u64,
 ) -> Result<Result<Done, Refusal>, StoreFault>
-    ensures { Performs P.represents P.version S.Store (λ s. today ≡ s.day) (command.Revoke ticket unit) tables.old
-        tables.new result }
+    ensures { PerformsKnowing P.represents P.version S.Store (λ s. today ≡ s.day) (command.Revoke ticket unit)
+        tables.old tables.new result }
 {
     let known = is_registered(alloc, tables, ticket)?;
     if !known {

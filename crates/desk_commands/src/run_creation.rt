@@ -1,6 +1,6 @@
 //! Making runs, which bring containers to the desk.
 
-ghost use Rattle.std.specs.Prelude.{◌≡◌, ◌++◌, false, map, take, IfOk, ⊤};
+ghost use Rattle.std.specs.Prelude.{◌≡◌, ◌++◌, false, map, take, IfOk};
 ghost use Rattle.std.specs.List.{AllByRecursion};
 ghost use Rattle.isad_core.specs.Limits.{IsNumber};
 ghost use Rattle.desk_store.specs.Holdings.{on_shelf as those_on_shelf};
@@ -8,10 +8,11 @@ ghost use Rattle.desk_store.specs.declared.container_orders.ContainerOrder.{Cont
 ghost use Rattle.office_core.specs.Words.{is_empty};
 ghost use Rattle.office_core.specs.declared.command.Command.TheVariants as command;
 ghost use Rattle.office_tables.specs.Calls.{Answers};
+ghost use Rattle.office_tables.specs.Premises.{◌within◌gives◌};
 ghost use Rattle.state_encoding.specs.OfficeRows.{tables as rows_of};
 ghost use Rattle.refinement.specs.KnownUnits.{AreTold, open_ones};
 ghost use Rattle.refinement.specs.ReadingRoomLimits.{limits_of};
-ghost use Rattle.refinement.specs.CommandSteps.{Performs};
+ghost use Rattle.refinement.specs.CommandSteps.{PerformsKnowing};
 ghost use Rattle.refinement.specs.AccessConditions.{CanBeJudged, RepresentsWhole};
 ghost use Rattle.desk_commands.specs.RunCreation.{open_orders, taken_by};
 
@@ -38,9 +39,9 @@ fn found_and_open<P: Places, S: Alter>(
     first: OpenOrders,
     waiting: &[ContainerOrder],
 ) -> Result<Vec<ContainerOrder>, StoreFault>
-    ensures answers { Answers S.Store (RepresentsWhole P.represents P.version) CanBeJudged tables.old tables.new result
-        (λ _. ⊤) (λ _ s due. CanBeJudged s → today ≡ s.day → AreTold today s.catalogue.forest first.known
-        → due.items ≡ take most (first.orders.items ++ open_ones s waiting.now)) }
+    ensures answers { Answers S.Store (RepresentsWhole P.represents P.version) tables.old tables.new result
+        within CanBeJudged gives λ _ s due. CanBeJudged s → today ≡ s.day → AreTold today s.catalogue.forest first.known
+        → due.items ≡ take most (first.orders.items ++ open_ones s waiting.now) }
 {
     let mut due = first.orders;
     let mut known = first.known;
@@ -67,9 +68,9 @@ fn first_open<P: Places, S: Alter>(
     most: u32,
     waiting: &[ContainerOrder],
 ) -> Result<Vec<ContainerOrder>, StoreFault>
-    ensures answers { Answers S.Store (RepresentsWhole P.represents P.version) CanBeJudged tables.old tables.new result
-        (λ _. ⊤) (λ _ s due. CanBeJudged s → today ≡ s.day
-        → due.items ≡ open_orders s most (those_on_shelf (rows_of P.version s).desk waiting.now)) }
+    ensures answers { Answers S.Store (RepresentsWhole P.represents P.version) tables.old tables.new result
+        within CanBeJudged gives λ _ s due. CanBeJudged s → today ≡ s.day
+        → due.items ≡ open_orders s most (those_on_shelf (rows_of P.version s).desk waiting.now) }
 {
     let end = waiting.len().min(most as usize);
     let near = on_shelf(alloc, tables, &waiting[..end])?;
@@ -103,7 +104,7 @@ fn bring<P: Places, S: Alter>(
 ) -> Result<Result<Done, Refusal>, StoreFault>
     requires numbers { AllByRecursion IsNumber containers.now }
     requires theirs { containers.now ≡ map (λ (o : Taken). o.container) due.now }
-    ensures { Performs P.represents P.version S.Store
+    ensures { PerformsKnowing P.represents P.version S.Store
         (λ s. (today ≡ s.day) × (due.now ≡ taken_by P.version s) × (is_empty due.now ≡ false)) command.Run
         tables.old tables.new result }
 {
@@ -124,7 +125,7 @@ fn bring_due<P: Places, S: Alter>(
     today: Day,
     due: &[ContainerOrder],
 ) -> Result<Result<Done, Refusal>, StoreFault>
-    ensures { Performs P.represents P.version S.Store
+    ensures { PerformsKnowing P.represents P.version S.Store
         (λ s. (today ≡ s.day) × (due.now ≡ taken_by P.version s) × (is_empty due.now ≡ false)) command.Run
         tables.old tables.new result }
 {
@@ -142,8 +143,8 @@ pub fn fetch<P: Places, S: Alter>(
     today: Day,
     limits: &Limits,
 ) -> Result<Result<Done, Refusal>, StoreFault>
-    ensures { Performs P.represents P.version S.Store (λ s. (today ≡ s.day) × (limits.now ≡ limits_of s)) command.Run
-        tables.old tables.new result }
+    ensures { PerformsKnowing P.represents P.version S.Store (λ s. (today ≡ s.day) × (limits.now ≡ limits_of s))
+        command.Run tables.old tables.new result }
 {
     let waiting = first_orders(alloc, tables)?;
     let due = first_open(alloc, tables, today, limits.run, &waiting)?;

@@ -1,11 +1,11 @@
 //! Taking and leaving seats.
 
-ghost use Rattle.std.specs.Prelude.{◌≡◌, ⊤, IfOk, IsPermutation, map};
+ghost use Rattle.std.specs.Prelude.{◌≡◌, IfOk, IsPermutation, map};
 ghost use Rattle.std.specs.List.Sorted.{IsNonDecreasing};
 ghost use Rattle.desk_store.specs.declared.taken_seats.TakenSeat.{TakenSeat as Taken};
 ghost use Rattle.office_core.specs.declared.command.Command.TheVariants as command;
 ghost use Rattle.refinement.specs.ReadingRoomLimits.{limits_of};
-ghost use Rattle.refinement.specs.CommandSteps.{Performs};
+ghost use Rattle.refinement.specs.CommandSteps.{Performs, PerformsKnowing};
 ghost use Rattle.refinement.specs.Sitters.{sitter};
 ghost use Rattle.desk_commands.specs.Seats.{MayLeave, MaySit};
 
@@ -24,7 +24,7 @@ fn free_seat<P: Places, S: Alter>(
     ticket: u64,
     seat: u32,
 ) -> Result<Result<Done, Refusal>, StoreFault>
-    ensures { Performs P.represents P.version S.Store (λ s. MayLeave s ticket seat) (command.LeaveSeat ticket)
+    ensures { PerformsKnowing P.represents P.version S.Store (λ s. MayLeave s ticket seat) (command.LeaveSeat ticket)
         tables.old tables.new result }
 {
     set_seat(tables, seat, None)?;
@@ -38,7 +38,7 @@ pub fn leave_seat<P: Places, S: Alter>(
     tables: &mut Tables<P, S>,
     ticket: u64,
 ) -> Result<Result<Done, Refusal>, StoreFault>
-    ensures { Performs P.represents P.version S.Store (λ _. ⊤) (command.LeaveSeat ticket) tables.old tables.new result }
+    ensures { Performs P.represents P.version S.Store (command.LeaveSeat ticket) tables.old tables.new result }
 {
     let who = ticket_holder(alloc, tables, ticket)?;
     match may_leave(who.as_ref()) {
@@ -66,8 +66,8 @@ fn take<P: Places, S: Alter>(
     ticket: u64,
     seat: u32,
 ) -> Result<Result<Done, Refusal>, StoreFault>
-    ensures { Performs P.represents P.version S.Store (λ s. MaySit s ticket seat) (command.TakeSeat ticket) tables.old
-        tables.new result }
+    ensures { PerformsKnowing P.represents P.version S.Store (λ s. MaySit s ticket seat) (command.TakeSeat ticket)
+        tables.old tables.new result }
 {
     let number = known_number(ticket)?;
     set_seat(tables, seat, Some(number))?;
@@ -83,9 +83,9 @@ fn sit_down<P: Places, S: Alter>(
     ticket: u64,
     who: Option<Reader>,
 ) -> Result<Result<Done, Refusal>, StoreFault>
-    ensures { Performs P.represents P.version S.Store
-        (λ s. (today ≡ s.day) × (limits.now ≡ limits_of s) × (who ≡ sitter s ticket))
-        (command.TakeSeat ticket) tables.old tables.new result }
+    ensures { PerformsKnowing P.represents P.version S.Store
+        (λ s. (today ≡ s.day) × (limits.now ≡ limits_of s) × (who ≡ sitter s ticket)) (command.TakeSeat ticket)
+        tables.old tables.new result }
 {
     let taken = seats(alloc, tables)?;
     let numbers = numbers_of(alloc, &taken)?;
@@ -105,9 +105,8 @@ pub fn take_seat<P: Places, S: Alter>(
     limits: &Limits,
     ticket: u64,
 ) -> Result<Result<Done, Refusal>, StoreFault>
-    ensures { Performs P.represents P.version S.Store (λ s. (today ≡ s.day) × (limits.now ≡ limits_of s))
-        (command.TakeSeat ticket)
-        tables.old tables.new result }
+    ensures { PerformsKnowing P.represents P.version S.Store (λ s. (today ≡ s.day) × (limits.now ≡ limits_of s))
+        (command.TakeSeat ticket) tables.old tables.new result }
 {
     let who = ticket_holder(alloc, tables, ticket)?;
     sit_down(alloc, tables, today, limits, ticket, who)

@@ -1,10 +1,10 @@
 //! Moving containers that nobody waits for back to the shelf.
 
-ghost use Rattle.std.specs.Prelude.{◌≡◌, false, ⊤};
+ghost use Rattle.std.specs.Prelude.{◌≡◌, false};
 ghost use Rattle.office_core.specs.State.{idle};
 ghost use Rattle.office_core.specs.Words.{is_empty};
 ghost use Rattle.office_core.specs.declared.command.Command.TheVariants as command;
-ghost use Rattle.refinement.specs.CommandSteps.{Performs};
+ghost use Rattle.refinement.specs.CommandSteps.{Performs, PerformsKnowing};
 
 use crate::container_moves::move_all;
 use crate::emptiness::are_none;
@@ -22,8 +22,8 @@ fn shelve<P: Places, S: Alter>(
     tables: &mut Tables<P, S>,
     containers: Vec<u64>,
 ) -> Result<Result<Done, Refusal>, StoreFault>
-    ensures { Performs P.represents P.version S.Store (λ s. (containers.items ≡ idle s) × (is_empty (idle s) ≡ false))
-        command.Reshelve tables.old tables.new result }
+    ensures { PerformsKnowing P.represents P.version S.Store
+        (λ s. (containers.items ≡ idle s) × (is_empty (idle s) ≡ false)) command.Reshelve tables.old tables.new result }
 {
     move_all(tables, &containers, Place::Shelf)?;
     Ok(Ok(Done::Reshelve {
@@ -37,7 +37,7 @@ pub fn reshelve<P: Places, S: Alter>(
     alloc: Global,
     tables: &mut Tables<P, S>,
 ) -> Result<Result<Done, Refusal>, StoreFault>
-    ensures { Performs P.represents P.version S.Store (λ _. ⊤) command.Reshelve tables.old tables.new result }
+    ensures { Performs P.represents P.version S.Store command.Reshelve tables.old tables.new result }
 {
     let told = at_desk(alloc, tables)?;
     let idle = pick_reshelve(alloc, &told)?;

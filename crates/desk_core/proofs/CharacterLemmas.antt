@@ -1,10 +1,12 @@
 -- A character begins with one byte of those that begin characters (UTF-8).
-use Rattle.std.proofs.Common.{◌≡◌, ℕ, ◌+◌, ◌<◌, ◌≤◌, Bool, true, false, cond, List, [], ◌∷◌, ◌++◌, length, filter, map, suc, eqb, subst, ⊎_elim, refl, sym, ap, ◌∙◌, arith, ltb, lt-ltb, ◌/◌, ◌%◌}
-use Rattle.std.specs.Str.{IsUtf8, chars}
+use Rattle.std.proofs.Common.{◌≡◌, ℕ, ◌+◌, ◌<◌, ◌≤◌, Bool, true, false, cond, List, [], ◌∷◌, ◌++◌, length, filter, map}
+use Rattle.std.proofs.Common.{suc, eqb, subst, ⊎_elim, refl, sym, ap, ◌∙◌, arith, ltb, lt-ltb, ◌/◌, ◌%◌}
 use Rattle.std.proofs.lemmas.Str.{encodes-chars}
+use Rattle.std.specs.Str.{IsUtf8, chars}
 use lib.Utf8.{encode, encodes}
 use Rattle.isad_core.specs.Texts.{is_line_break, one_line, single_breaks, byte_or_space}
-use Rattle.desk_core.proofs.Common.{begins_character, cases_Bool, characters, eqb-true, filter-append, le-leb, le-ltb, length-append, length-map, lt-leb, ltb-true, ne_eqb}
+use Rattle.desk_core.proofs.Common.{begins_character, cases_Bool, characters, eqb-true, filter-append, le-leb, le-ltb}
+use Rattle.desk_core.proofs.Common.{length-append, length-map, lt-leb, ltb-true, ne_eqb}
 
 characters-append : (xs ys : List ℕ) → characters (xs ++ ys) ≡ characters xs + characters ys
 characters-append xs ys = ap length (filter-append begins_character xs ys) ∙ length-append _ _

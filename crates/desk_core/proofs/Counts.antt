@@ -1,5 +1,6 @@
 -- How many of a list pass a test.
-use Rattle.std.proofs.Common.{◌≡◌, ◌+◌, Bool, true, false, not, ◌&&◌, ◌||◌, cond, List, [], ◌∷◌, refl, sym, ap, ◌∙◌, inl, inr, arith, map, filter, nat_lt, zero-add}
+use Rattle.std.proofs.Common.{◌≡◌, ◌+◌, Bool, true, false, not, ◌&&◌, ◌||◌, cond, List, [], ◌∷◌, refl, sym, ap, ◌∙◌}
+use Rattle.std.proofs.Common.{inl, inr, arith, map, filter, nat_lt, zero-add}
 use Rattle.std.proofs.lemmas.Bool.{lt-ltb}
 use Rattle.desk_core.proofs.Common.{In, count_by, list_any, or_parts, sum_by-cons}
 

@@ -1,8 +1,12 @@
 -- Rows that are numbered from 1 without a gap.
-use Rattle.std.proofs.Common.{◌≡◌, ℕ, zero, suc, ◌+◌, ◌-◌, ◌<◌, ◌≤◌, Bool, true, false, ◌&&◌, ◌||◌, cond, List, [], ◌∷◌, length, Option, Some, None, refl, sym, ap, ◌∙◌, subst, inl, inr, arith, map, nat_eq, nat_le, nat_lt, zero-add}
-use Rattle.std.proofs.lemmas.Bool.{eq-eqb, lt-ltb}
+use Rattle.std.proofs.Common.{◌≡◌, ℕ, zero, suc, ◌+◌, ◌-◌, ◌<◌, ◌≤◌, Bool, true, false, ◌&&◌, ◌||◌, cond, List, [], ◌∷◌}
+use Rattle.std.proofs.Common.{length, Option, Some, None, refl, sym, ap, ◌∙◌, subst, inl, inr, arith, map, nat_eq}
+use Rattle.std.proofs.Common.{nat_le, nat_lt, zero-add}
 use Rattle.std.proofs.Math.Bool.{or-false}
-use Rattle.desk_core.proofs.Common.{In, and_left, and_parts, are_numbered_from, cases_lt, cases_order, count_by, eqb-true, is_between, le-leb, le-ltb, list_any, lt-leb, ne_eqb, or_from, slice_get, some_and}
+use Rattle.std.proofs.lemmas.Bool.{eq-eqb, lt-ltb}
+use Rattle.desk_core.proofs.Common.{In, and_left, and_parts, are_numbered_from, cases_lt, cases_order, count_by}
+use Rattle.desk_core.proofs.Common.{eqb-true, is_between, le-leb, le-ltb, list_any, lt-leb, ne_eqb, or_from, slice_get}
+use Rattle.desk_core.proofs.Common.{some_and}
 use Rattle.desk_core.proofs.Counts.{count_cons, count_none}
 
 -- the row with this number

@@ -1,7 +1,12 @@
 -- Lists in an order: what `in_order` gives, and that a stable sort gives nothing else.
-use Rattle.std.proofs.Common.{◌≡◌, ℕ, zero, suc, ◌+◌, ◌<◌, ◌≤◌, Bool, true, false, not, ◌&&◌, cond, List, [], ◌∷◌, length, get_or, map, refl, sym, ap, ◌∙◌, subst, arith, nat_lt, ◌==◌}
+use Rattle.std.proofs.Common.{◌≡◌, ℕ, zero, suc, ◌+◌, ◌<◌, ◌≤◌, Bool, true, false, not, ◌&&◌, cond, List, [], ◌∷◌}
+use Rattle.std.proofs.Common.{length, get_or, map, refl, sym, ap, ◌∙◌, subst, arith, nat_lt, ◌==◌}
 use Rattle.std.specs.List.{filter}
-use Rattle.desk_core.proofs.Common.{All-from_recursion, AllByRecursion, Equal, Greater, IsInOrder, IsPermutation, IsPermutation-cons, IsPermutation-middle, IsPermutation-refl, IsPermutation-sym, IsPermutation-trans, IsSortedBy, IsSortedByKey, IsStableBy, IsStableByKey, IsStrictWeakOrder, Less, false≢true, in_order, is_lt, nat_cmp, nat_cmp_total, put_in_order, ranks_by, recursion_from_All, sorted_far, ties}
+use Rattle.desk_core.proofs.Common.{All-from_recursion, AllByRecursion, Equal, Greater, IsInOrder, IsPermutation}
+use Rattle.desk_core.proofs.Common.{IsPermutation-cons, IsPermutation-middle, IsPermutation-refl, IsPermutation-sym}
+use Rattle.desk_core.proofs.Common.{IsPermutation-trans, IsSortedBy, IsSortedByKey, IsStableBy, IsStableByKey}
+use Rattle.desk_core.proofs.Common.{IsStrictWeakOrder, Less, false≢true, in_order, is_lt, nat_cmp, nat_cmp_total}
+use Rattle.desk_core.proofs.Common.{put_in_order, ranks_by, recursion_from_All, sorted_far, ties}
 
 -- a fact of each element, by recursion on the list
 each-filter : {X : Type 0} (P : X → Type 0) (test : X → Bool) (xs : List X) → AllByRecursion P xs

@@ -1,9 +1,15 @@
 -- What a run takes, and what goes back to the shelf.
-use Rattle.std.proofs.Common.{◌≡◌, ℕ, ◌≤◌, true, List, length, map, take, drop, get_or, min, ◌<◌, ◌+◌, ◌-◌, subst, length-drop, sym, ap, ◌∙◌, arith, nat_lt, Bor}
+use Rattle.std.proofs.Common.{◌≡◌, ℕ, ◌≤◌, true, List, length, map, take, drop, get_or, min, ◌<◌, ◌+◌, ◌-◌, subst}
+use Rattle.std.proofs.Common.{length-drop, sym, ap, ◌∙◌, arith, nat_lt, Bor}
 use Rattle.std.specs.List.{filter}
 use Rattle.desk_core.specs.Runs.{IsRun, has_lesser_order, run_of}
-use Rattle.desk_core.proofs.Common.{All, All-weaker, Candidate, IsNonDecreasingBy-take, IsPermutation, IsSorted, IsStableBy, IsStrictWeakOrder, IsStrictWeakOrder-by_number, filter_passes, get_or-drop, get_or-take, get_or_default, in_order, is_lt, length-filter, length-take, length_permutation, ltb-false, nat_cmp, nat_cmp_total, ranks_by, same_lists, sum_by-IsPermutation, take-append-drop, take-map, take_all, ties}
-use Rattle.desk_core.proofs.OrderLemmas.{far-in_order, in_order-agree, in_order-is, in_order-map, in_order-permutation, is_lt-nat_cmp, neither, sorted-is}
+use Rattle.desk_core.proofs.Common.{All, All-weaker, Candidate, IsNonDecreasingBy-take, IsPermutation, IsSorted}
+use Rattle.desk_core.proofs.Common.{IsStableBy, IsStrictWeakOrder, IsStrictWeakOrder-by_number, filter_passes}
+use Rattle.desk_core.proofs.Common.{get_or-drop, get_or-take, get_or_default, in_order, is_lt, length-filter}
+use Rattle.desk_core.proofs.Common.{length-take, length_permutation, ltb-false, nat_cmp, nat_cmp_total, ranks_by}
+use Rattle.desk_core.proofs.Common.{same_lists, sum_by-IsPermutation, take-append-drop, take-map, take_all, ties}
+use Rattle.desk_core.proofs.OrderLemmas.{far-in_order, in_order-agree, in_order-is, in_order-map, in_order-permutation}
+use Rattle.desk_core.proofs.OrderLemmas.{is_lt-nat_cmp, neither, sorted-is}
 
 -- copies of the first of a queue that is in order
 pub run_of-copies : (candidates run : List Candidate) (lent sorted items : List (Bor Candidate)) (most n : ℕ)

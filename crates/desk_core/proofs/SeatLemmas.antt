@@ -1,5 +1,6 @@
 -- The least free seat, against a walk along the taken ones.
-use Rattle.std.proofs.Common.{◌≡◌, ℕ, zero, suc, ◌+◌, ◌<◌, ◌≤◌, Bool, true, false, not, cond, List, length, get_or, Option, Some, None, refl, sym, ap, ◌∙◌, ⊎_elim, arith, nat_eq, eqb, find}
+use Rattle.std.proofs.Common.{◌≡◌, ℕ, zero, suc, ◌+◌, ◌<◌, ◌≤◌, Bool, true, false, not, cond, List, length, get_or}
+use Rattle.std.proofs.Common.{Option, Some, None, refl, sym, ap, ◌∙◌, ⊎_elim, arith, nat_eq, eqb, find}
 use Rattle.std.proofs.lemmas.Bool.Decides.{eqb_tells}
 use Rattle.desk_core.specs.Decisions.{free_seat}
 use Rattle.desk_core.proofs.Common.{All, cases_lt, false≢true, get_or_default, list_any, list_any_none, range_with_len}

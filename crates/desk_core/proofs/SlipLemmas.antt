@@ -1,10 +1,14 @@
 -- The lines of a slip: their order, and what a format with places writes.
-use Rattle.std.proofs.Common.{◌≡◌, ℕ, ◌-◌, ◌^◌, ◌<◌, ◌≤◌, List, [], ◌∷◌, ◌++◌, length, map, take, replicate, refl, sym, ap, ◌∙◌, arith, lt-ltb, suc, append_assoc, Bor}
+use Rattle.std.proofs.Common.{◌≡◌, ℕ, ◌-◌, ◌^◌, ◌<◌, ◌≤◌, List, [], ◌∷◌, ◌++◌, length, map, take, replicate, refl, sym}
+use Rattle.std.proofs.Common.{ap, ◌∙◌, arith, lt-ltb, suc, append_assoc, Bor}
 use Rattle.std.proofs.Padding.{padded_integral_right, styled_decimal_is}
+use Rattle.std.proofs.lemmas.Fmt.{IsAscii-decimal}
 use Rattle.std.specs.Cmp.Lexicographic.{on_texts}
 use Rattle.std.specs.Str.{IsAscii}
-use Rattle.std.proofs.lemmas.Fmt.{IsAscii-decimal}
-use Rattle.desk_core.proofs.Common.{Candidate, IsSortedBy, IsStableBy, IsTotalOrder, at_right, characters, decimal, flat_map, format_spec, in_order, is_lt, is_shelved_before, nat_cmp_total, on_total, ranks_by, shelf_order, slip_line, slip_numbers, styled_decimal, take_all, then_total}
+use Rattle.desk_core.proofs.Common.{Candidate, IsSortedBy, IsStableBy, IsTotalOrder, at_right, characters, decimal}
+use Rattle.desk_core.proofs.Common.{flat_map, format_spec, in_order, is_lt, is_shelved_before, nat_cmp_total, on_total}
+use Rattle.desk_core.proofs.Common.{ranks_by, shelf_order, slip_line, slip_numbers, styled_decimal, take_all}
+use Rattle.desk_core.proofs.Common.{then_total}
 use Rattle.desk_core.proofs.OrderLemmas.{in_order-map, sorted-is}
 
 -- ASCII has a byte for each character

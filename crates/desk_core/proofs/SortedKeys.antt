@@ -1,9 +1,14 @@
 -- Keys that are sorted: equal ones stand side by side.
-use Rattle.std.proofs.Common.{◌≡◌, ℕ, suc, ◌+◌, ◌-◌, ◌<◌, ◌≤◌, Bool, true, false, ◌||◌, cond, List, [], ◌∷◌, length, get_or, drop, drop-cons, zero-add, refl, sym, ap, ◌∙◌, subst, inl, inr, arith, nat_le, nat_lt}
-use Rattle.std.specs.declared.cmp.Ordering.{Ordering}
+use Rattle.std.proofs.Common.{◌≡◌, ℕ, suc, ◌+◌, ◌-◌, ◌<◌, ◌≤◌, Bool, true, false, ◌||◌, cond, List, [], ◌∷◌, length}
+use Rattle.std.proofs.Common.{get_or, drop, drop-cons, zero-add, refl, sym, ap, ◌∙◌, subst, inl, inr, arith, nat_le}
+use Rattle.std.proofs.Common.{nat_lt}
 use Rattle.std.proofs.lemmas.Cmp.{tied_itself, alike_right}
-use Rattle.desk_core.specs.KeyCounts.{standing, occurs_more_than}
-use Rattle.desk_core.proofs.Common.{Contains-from_In, Equal, Greater, In, IsPermutation, IsSorted, IsTotalOrder, Less, any_agree, any_none, cases_Bool, drop_all, false≢true, is_eq, is_lt, le-leb, le-ltb, leb-false, list_any, list_any-IsPermutation, lt-leb, ltb-false, none_any, or_from, or_parts, ordering_reverse, ranks_by, sorted_far, sum_by-IsPermutation}
+use Rattle.std.specs.declared.cmp.Ordering.{Ordering}
+use Rattle.desk_core.specs.KeyCounts.{key_count, key_occurs_more_than}
+use Rattle.desk_core.proofs.Common.{Contains-from_In, Equal, Greater, In, IsPermutation, IsSorted, IsTotalOrder, Less}
+use Rattle.desk_core.proofs.Common.{any_agree, any_none, cases_Bool, drop_all, false≢true, is_eq, is_lt, le-leb, le-ltb}
+use Rattle.desk_core.proofs.Common.{leb-false, list_any, list_any-IsPermutation, lt-leb, ltb-false, none_any, or_from}
+use Rattle.desk_core.proofs.Common.{or_parts, ordering_reverse, ranks_by, sorted_far, sum_by-IsPermutation}
 use Rattle.desk_core.proofs.Counts.{count_cons, count_agree, count_none}
 use Rattle.desk_core.proofs.Tests.{false_together}
 
@@ -61,7 +66,7 @@ module _ {K : Type 0} {R : K → K → Ordering} (o : IsTotalOrder R) where
             absurd (false≢true (sym (none y i) ∙ ap is_lt (sym same ∙ less)))
       ]
 
-  cons : (q k : K) (ks : List K) → standing R q (k ∷ ks) ≡ cond (is_eq (R q k)) 1 0 + standing R q ks
+  cons : (q k : K) (ks : List K) → key_count R q (k ∷ ks) ≡ cond (is_eq (R q k)) 1 0 + key_count R q ks
   cons q k ks = count_cons (λ y. is_eq (R q y)) k ks
 
   most_of : (b : Bool) (n : ℕ) → cond b n 0 ≤ n
@@ -70,7 +75,7 @@ module _ {K : Type 0} {R : K → K → Ordering} (o : IsTotalOrder R) where
 
   -- where no key is told too often, none stands there too often
   within : (most : ℕ) (last : K) (before : ℕ) (ks : List K) → NoneBefore last ks → Rises ks → before ≤ most
-      → run_over R most last before ks ≡ false → (q : K) → cond (is_eq (R q last)) before 0 + standing R q ks ≤ most
+      → run_over R most last before ks ≡ false → (q : K) → cond (is_eq (R q last)) before 0 + key_count R q ks ≤ most
   within most last before [] low up le h q = let m = most_of (is_eq (R q last)) before in omega (arith, m, le)
   within most last before (k ∷ ks) low up le h q =
       elim (cases_Bool (is_eq (R last k))) [
@@ -79,7 +84,7 @@ module _ {K : Type 0} {R : K → K → Ordering} (o : IsTotalOrder R) where
             let lt = leb-false most before parts.0 in
             let rest = within most last (suc before) ks (λ y i. low y (inr i)) up.1 (omega (arith, lt)) parts.1 q in
             let alike = ap is_eq (alike_right o last k q (is_equal (R last k) t)) in
-            again (is_eq (R q last)) (is_eq (R q k)) alike (standing R q ks) (standing R q (k ∷ ks)) (cons q k ks) rest
+            again (is_eq (R q last)) (is_eq (R q k)) alike (key_count R q ks) (key_count R q (k ∷ ks)) (cons q k ks) rest
         | inr f ↦
             let parts = or_parts (nat_le most 0) (run_over R most k 1 ks) (rw f at h) in
             let lt = leb-false most 0 parts.0 in
@@ -90,8 +95,8 @@ module _ {K : Type 0} {R : K → K → Ordering} (o : IsTotalOrder R) where
                   let same = is_equal (R q last) s in
                   let not_here : is_eq (R q k) ≡ false = ap is_eq (o.congr q last k same) ∙ f in
                   let none = count_none (λ y. is_eq (R q y)) ks (any_none (λ y. is_eq (R q y)) ks (λ y i. ap is_eq (o.congr q last y same) ∙ none_like last k ks (low k (inl refl)) f up.0 y i)) in
-                  let w : standing R q (k ∷ ks) ≡ 0 =
-                  cons q k ks ∙ ap (λ b. cond b 1 0 + standing R q ks) not_here ∙ zero-add (standing R q ks) ∙ none in
+                  let w : key_count R q (k ∷ ks) ≡ 0 =
+                  cons q k ks ∙ ap (λ b. cond b 1 0 + key_count R q ks) not_here ∙ zero-add (key_count R q ks) ∙ none in
                   rw s (omega (arith, w, le))
             ]
       ]
@@ -105,7 +110,7 @@ module _ {K : Type 0} {R : K → K → Ordering} (o : IsTotalOrder R) where
 
   -- and the other way round
   told : (most : ℕ) (last : K) (before : ℕ) (ks : List K)
-      → ((q : K) → cond (is_eq (R q last)) before 0 + standing R q ks ≤ most) → run_over R most last before ks ≡ false
+      → ((q : K) → cond (is_eq (R q last)) before 0 + key_count R q ks ≤ most) → run_over R most last before ks ≡ false
   told most last before [] h = refl
   told most last before (k ∷ ks) h =
       elim (cases_Bool (is_eq (R last k))) [
@@ -114,14 +119,14 @@ module _ {K : Type 0} {R : K → K → Ordering} (o : IsTotalOrder R) where
             let here = h last in
             let w = cons last k ks in
             let lt : before < most =
-            room (is_eq (R last last)) (is_eq (R last k)) itself t (standing R last ks) (standing R last (k ∷ ks)) w here in
+            room (is_eq (R last last)) (is_eq (R last k)) itself t (key_count R last ks) (key_count R last (k ∷ ks)) w here in
             rw t (or_from (nat_le most before) (run_over R most last (suc before) ks) (lt-leb most before lt)
-            (told most last (suc before) ks (λ q. more (is_eq (R q last)) (is_eq (R q k)) (ap is_eq (alike_right o last k q (is_equal (R last k) t))) (standing R q ks) (standing R q (k ∷ ks)) (cons q k ks) (h q))))
+            (told most last (suc before) ks (λ q. more (is_eq (R q last)) (is_eq (R q k)) (ap is_eq (alike_right o last k q (is_equal (R last k) t))) (key_count R q ks) (key_count R q (k ∷ ks)) (cons q k ks) (h q))))
         | inr f ↦
             let itself = ap is_eq (tied_itself o k) in
             let here = h k in
-            let w : standing R k (k ∷ ks) ≡ 1 + standing R k ks =
-            cons k k ks ∙ ap (λ b. cond b 1 0 + standing R k ks) itself in
+            let w : key_count R k (k ∷ ks) ≡ 1 + key_count R k ks =
+            cons k k ks ∙ ap (λ b. cond b 1 0 + key_count R k ks) itself in
             let lt : 0 < most = omega (arith, w, here) in
             rw f (or_from (nat_le most 0) (run_over R most k 1 ks) (lt-leb most 0 lt)
             (told most k 1 ks (λ q. let u = cons q k ks in let v = h q in omega (arith, u, v))))
@@ -140,33 +145,33 @@ module _ {K : Type 0} {R : K → K → Ordering} (o : IsTotalOrder R) where
       more false true e n m w h = absurd (false≢true e)
       more false false e n m w h = omega (arith, w, h)
 
-  none_over : (most : ℕ) (ks : List K) → ((q : K) → standing R q ks ≤ most) → occurs_more_than R most ks ≡ false
-  none_over most ks h = any_none (λ k. nat_lt most (standing R k ks)) ks (λ k i. le-ltb most (standing R k ks) (h k))
+  none_over : (most : ℕ) (ks : List K) → ((q : K) → key_count R q ks ≤ most) → key_occurs_more_than R most ks ≡ false
+  none_over most ks h = any_none (λ k. nat_lt most (key_count R k ks)) ks (λ k i. le-ltb most (key_count R k ks) (h k))
 
-  all_within : (most : ℕ) (ks : List K) → occurs_more_than R most ks ≡ false → (q : K) → standing R q ks ≤ most
+  all_within : (most : ℕ) (ks : List K) → key_occurs_more_than R most ks ≡ false → (q : K) → key_count R q ks ≤ most
   all_within most ks h q =
       elim (cases_Bool (list_any (λ y. is_eq (R q y)) ks)) [
         | inr f ↦ let none = count_none (λ y. is_eq (R q y)) ks f in omega (arith, none)
         | inl t ↦
             let s = any_some (λ y. is_eq (R q y)) ks t in
-            let same : standing R q ks ≡ standing R s.0 ks =
+            let same : key_count R q ks ≡ key_count R s.0 ks =
             count_agree (λ y. is_eq (R q y)) (λ y. is_eq (R s.0 y)) ks (λ y i. ap is_eq (o.congr q s.0 y (is_equal (R q s.0) s.2))) in
-            let le = ltb-false most (standing R s.0 ks) (none_any (λ k. nat_lt most (standing R k ks)) ks s.0 h s.1) in
+            let le = ltb-false most (key_count R s.0 ks) (none_any (λ k. nat_lt most (key_count R k ks)) ks s.0 h s.1) in
             omega (arith, same, le)
       ]
 
   -- told key by key, of sorted keys
   pub runs_told : (most : ℕ) (ks : List K) (d : K) → IsSorted R ks
-      → run_over R most (get_or ks 0 d) 0 ks ≡ occurs_more_than R most ks
+      → run_over R most (get_or ks 0 d) 0 ks ≡ key_occurs_more_than R most ks
   runs_told most [] d up = refl
   runs_told most (k ∷ ks) d up =
       let order = ranks_by o (λ (x : K). x) in
       let rise = rises (k ∷ ks) (λ i j e le lt. sorted_far (λ x y. is_lt (R x y)) order (k ∷ ks) up i j e le lt) in
       let none : (y : K) → In y (k ∷ ks) → is_lt (R y k) ≡ false =
       λ y i. elim i [ inl e ↦ ap is_lt (ap (λ z. R z k) e ∙ tied_itself o k) | inr j ↦ rise.0 y j ] in
-      false_together (run_over R most k 0 (k ∷ ks)) (occurs_more_than R most (k ∷ ks))
+      false_together (run_over R most k 0 (k ∷ ks)) (key_occurs_more_than R most (k ∷ ks))
       (λ h. none_over most (k ∷ ks) (λ q. let w = within most k 0 (k ∷ ks) none rise (omega arith) h q in omega (arith, w)))
-      (λ h. told most k 0 (k ∷ ks) (λ q. let w = all_within most (k ∷ ks) h q in zero_too (is_eq (R q k)) (standing R q (k ∷ ks)) w))
+      (λ h. told most k 0 (k ∷ ks) (λ q. let w = all_within most (k ∷ ks) h q in zero_too (is_eq (R q k)) (key_count R q (k ∷ ks)) w))
     where
       zero_too : (b : Bool) (n : ℕ) → n ≤ most → cond b 0 0 + n ≤ most
       zero_too true n h = omega (arith, h)
@@ -174,10 +179,10 @@ module _ {K : Type 0} {R : K → K → Ordering} (o : IsTotalOrder R) where
 
 -- in whatever order the keys are
 pub over_permuted : {K : Type 0} (R : K → K → Ordering) (most : ℕ) (xs ys : List K) → IsPermutation xs ys
-    → occurs_more_than R most ys ≡ occurs_more_than R most xs
+    → key_occurs_more_than R most ys ≡ key_occurs_more_than R most xs
 over_permuted R most xs ys p =
-    any_agree (λ k. nat_lt most (standing R k ys)) (λ k. nat_lt most (standing R k xs)) ys (λ k. ap (nat_lt most) (sum_by-IsPermutation (λ y. cond (is_eq (R k y)) 1 0) xs ys p))
-    ∙ sym (list_any-IsPermutation (λ k. nat_lt most (standing R k xs)) xs ys p)
+    any_agree (λ k. nat_lt most (key_count R k ys)) (λ k. nat_lt most (key_count R k xs)) ys (λ k. ap (nat_lt most) (sum_by-IsPermutation (λ y. cond (is_eq (R k y)) 1 0) xs ys p))
+    ∙ sym (list_any-IsPermutation (λ k. nat_lt most (key_count R k xs)) xs ys p)
 
 -- ---- the loop over sorted keys
 
@@ -215,7 +220,7 @@ module _ {K : Type 0} (R : K → K → Ordering) (most : ℕ) where
   pub met_over : (o : IsTotalOrder R) (ks : List K) (i first next : ℕ) → i < length ks → first ≤ i
       → ((d : K) → next ≡ cond (is_eq (R (get_or ks first d) (get_or ks i d))) first i)
       → ((d : K) → run_over R most (get_or ks first d) (i - first) (drop i ks) ≡ run_over R most (get_or ks 0 d) 0 ks)
-      → most ≤ i - next → IsSorted R ks → true ≡ occurs_more_than R most ks
+      → most ≤ i - next → IsSorted R ks → true ≡ key_occurs_more_than R most ks
   met_over o [] i first next lt le is so over up = absurd (omega arith)
   met_over o (k ∷ ks) i first next lt le is so over up =
       sym (ap (λ b. b || run_over R most (get_or (k ∷ ks) next k) (i + 1 - next) (drop (i + 1) (k ∷ ks))) (le-leb most (i - next) over))
@@ -235,7 +240,7 @@ module _ {K : Type 0} (R : K → K → Ordering) (most : ℕ) where
 
   pub met_all : (o : IsTotalOrder R) (ks : List K) (i first : ℕ) → length ks ≤ i
       → ((d : K) → run_over R most (get_or ks first d) (i - first) (drop i ks) ≡ run_over R most (get_or ks 0 d) 0 ks)
-      → IsSorted R ks → false ≡ occurs_more_than R most ks
+      → IsSorted R ks → false ≡ key_occurs_more_than R most ks
   met_all o [] i first le so up = refl
   met_all o (k ∷ ks) i first le so up =
       sym (ap (run_over R most (get_or (k ∷ ks) first k) (i - first)) (drop_all i (k ∷ ks) le))

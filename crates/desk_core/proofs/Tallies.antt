@@ -1,7 +1,9 @@
 -- The loop that counts how often each number stands in a list.
-use Rattle.std.proofs.Common.{◌≡◌, ℕ, ◌+◌, ◌<◌, ◌≤◌, List, length, get_or, set, take, ap, sym, ◌∙◌, inl, inr, arith, nat_eq}
+use Rattle.std.proofs.Common.{◌≡◌, ℕ, ◌+◌, ◌<◌, ◌≤◌, List, length, get_or, set, take, ap, sym, ◌∙◌, inl, inr, arith}
+use Rattle.std.proofs.Common.{nat_eq}
 use Rattle.std.proofs.lemmas.Bool.{eq-eqb}
-use Rattle.desk_core.proofs.Common.{cases_eq, count_by, count_by_more_no, count_by_more_yes, get_or-set_other, get_or-set_same, ne_eqb}
+use Rattle.desk_core.proofs.Common.{cases_eq, count_by, count_by_more_no, count_by_more_yes, get_or-set_other}
+use Rattle.desk_core.proofs.Common.{get_or-set_same, ne_eqb}
 
 -- the next number has a slot
 pub tally_more : (xs counts : List ℕ) (i n : ℕ) → i < length xs → get_or xs i 0 < length counts

@@ -1,7 +1,10 @@
 -- The facts that the desk checks before an order, an issue, taking a seat and leaving a seat, in order.
 use Rattle.std.specs.Prelude.{ℕ, Bool, nat_le, nat_lt, List, [], ◌∷◌, Option, is_none}
 use Rattle.isad_core.specs.Limits.{most_orders}
-use Rattle.desk_core.specs.declared.refusal.Refusal.TheVariants.{UnknownTicket, TicketExpired, NotAvailable, AlreadyOrdered, DailyLimit, NoSeatFree, AlreadySeated, NotSeated, HoldsContainers, NotAtDesk, NotFirst, HandsFull, Full}
+use Rattle.desk_core.specs.declared.refusal.Refusal.TheVariants.{UnknownTicket, TicketExpired, NotAvailable}
+use Rattle.desk_core.specs.declared.refusal.Refusal.TheVariants.{AlreadyOrdered, DailyLimit, NoSeatFree, AlreadySeated}
+use Rattle.desk_core.specs.declared.refusal.Refusal.TheVariants.{NotSeated, HoldsContainers, NotAtDesk, NotFirst}
+use Rattle.desk_core.specs.declared.refusal.Refusal.TheVariants.{HandsFull, Full}
 use Rattle.desk_core.specs.Refusals.{Check, known_container, when, unless}
 
 -- ---- a ticket orders a container

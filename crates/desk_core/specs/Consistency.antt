@@ -1,5 +1,6 @@
 -- The definitions of the desk's causes, row by row, as they are checked from the values at hand.
-use Rattle.std.specs.Prelude.{ℕ, ℤ, Bool, not, ◌&&◌, ◌||◌, cond, List, Option, None, nat_eq, nat_le, slice_get, slice_index, ◌-◌}
+use Rattle.std.specs.Prelude.{ℕ, ℤ, Bool, not, ◌&&◌, ◌||◌, cond, List, Option, None, nat_eq, nat_le, slice_get}
+use Rattle.std.specs.Prelude.{slice_index, ◌-◌}
 use Rattle.std.specs.List.{list_any}
 use Rattle.std.specs.Option.{option_map_or, unwrap_or}
 use Rattle.std.specs.Ordering.{int_cmp, nat_cmp, ordering_then}
@@ -65,13 +66,13 @@ nth_order orders n = cond (nat_le 1 n) (slice_get orders (n - 1)) None
 -- ---- holdings
 
 -- the order with this number is out, and is for that container
-abbrev pub is_out_for : List OrderRow → ℕ → ℕ → Bool
-is_out_for orders c o = some_and (λ (order : OrderRow). nat_eq order.container c && nat_eq order.state 2) (nth_order orders o)
+abbrev pub is_order_out_for : List OrderRow → ℕ → ℕ → Bool
+is_order_out_for orders c o = some_and (λ (order : OrderRow). nat_eq order.container c && nat_eq order.state 2) (nth_order orders o)
 
 -- at the desk without an order, or out with an order for it that is out
 abbrev pub lies_well : List OrderRow → HoldingRow → Bool
 lies_well orders row =
-    option_map_or (λ o. nat_eq row.place 2 && is_out_for orders row.container o) row.held_by (nat_eq row.place 1)
+    option_map_or (λ o. nat_eq row.place 2 && is_order_out_for orders row.container o) row.held_by (nat_eq row.place 1)
 
 abbrev pub is_fit_holding : Around → List OrderRow → HoldingRow → Bool
 is_fit_holding s orders row = list_any (nat_eq row.container) s.containers && lies_well orders row

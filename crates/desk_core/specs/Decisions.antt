@@ -13,13 +13,13 @@ use Rattle.desk_core.specs.Checks.{OrderFacts, IssueFacts, TakeSeatFacts, LeaveS
 -- ---- of a reader, or of none where the ticket was not given
 
 -- the last day is before today
-abbrev pub is_expired : ℤ → Option Reader → Bool
-is_expired today None = false
-is_expired today (Some reader) = int_lt reader.until today
+abbrev pub has_expired : ℤ → Option Reader → Bool
+has_expired today None = false
+has_expired today (Some reader) = int_lt reader.until today
 
-abbrev pub seat_of : Option Reader → Option ℕ
-seat_of None = None
-seat_of (Some reader) = reader.seat
+abbrev pub reader_seat : Option Reader → Option ℕ
+reader_seat None = None
+reader_seat (Some reader) = reader.seat
 
 -- how many containers are out with the ticket
 abbrev pub held_by : Option Reader → ℕ
@@ -33,22 +33,28 @@ is_desk Shelf = false
 is_desk Desk = true
 is_desk (Out order) = false
 
+-- the order that a container is out with
+abbrev pub order_out : Place → Option ℕ
+order_out Shelf = None
+order_out Desk = None
+order_out (Out order) = Some order
+
 abbrev pub is_at_desk : Option AtDesk → Bool
 is_at_desk None = false
 is_at_desk (Some container) = is_desk container.place
 
-abbrev pub is_open : Option AtDesk → Bool
-is_open None = false
-is_open (Some container) = container.is_open
+abbrev pub is_open_at_desk : Option AtDesk → Bool
+is_open_at_desk None = false
+is_open_at_desk (Some container) = container.is_open
 
-abbrev pub is_ticket : ℕ → Option ℕ → Bool
-is_ticket ticket None = false
-is_ticket ticket (Some head) = head == ticket
+abbrev pub is_ticket_of_head : ℕ → Option ℕ → Bool
+is_ticket_of_head ticket None = false
+is_ticket_of_head ticket (Some head) = head == ticket
 
 -- the first order that waits for it is the ticket's
 abbrev pub is_headed_by : ℕ → Option AtDesk → Bool
 is_headed_by ticket None = false
-is_headed_by ticket (Some container) = is_ticket ticket container.head
+is_headed_by ticket (Some container) = is_ticket_of_head ticket container.head
 
 -- ---- of the seats
 
@@ -61,7 +67,7 @@ free_seat taken seats = find (λ seat. not (list_any (nat_eq seat) taken)) (rang
 abbrev pub order_facts : Option Reader → ℤ → Ask → Limits → OrderFacts
 order_facts reader today ask limits = record {
   known = is_some reader;
-  expired = is_expired today reader;
+  expired = has_expired today reader;
   available = ask.is_open;
   ordered = ask.already;
   placed = ask.placed;
@@ -75,24 +81,24 @@ issue_facts container ticket reader today limits = record {
   known = is_some container;
   at_desk = is_at_desk container;
   first = is_some reader && is_headed_by ticket container;
-  expired = is_expired today reader;
-  seated = is_some (seat_of reader);
+  expired = has_expired today reader;
+  seated = is_some (reader_seat reader);
   held = held_by reader;
   hands = limits.hands;
-  available = is_open container;
+  available = is_open_at_desk container;
 }
 
 abbrev pub take_seat_facts : Option Reader → ℤ → List ℕ → Limits → TakeSeatFacts
 take_seat_facts reader today taken limits = record {
   known = is_some reader;
-  expired = is_expired today reader;
-  seated = is_some (seat_of reader);
+  expired = has_expired today reader;
+  seated = is_some (reader_seat reader);
   free = free_seat taken limits.seats;
 }
 
 abbrev pub leave_seat_facts : Option Reader → LeaveSeatFacts
 leave_seat_facts reader = record {
   known = is_some reader;
-  seated = is_some (seat_of reader);
+  seated = is_some (reader_seat reader);
   held = held_by reader;
 }

@@ -1,6 +1,7 @@
 -- Why rows of doubtful origin represent no desk, causes 6 to 9: what is checked in the tables of the reading room. Also
 -- the keys of the rows. The rows of a table are in the order of its key, as they are read.
-use Rattle.std.specs.Prelude.{◌≡◌, ◌≢◌, ◌⊎◌, ℕ, ℤ, ◌<◌, int_le, Bool, not, ◌&&◌, ◌||◌, List, [], ◌∷◌, length, count_by, is_none, nat_eq, nat_le}
+use Rattle.std.specs.Prelude.{◌≡◌, ◌≢◌, ◌⊎◌, ℕ, ℤ, ◌<◌, int_le, Bool, not, ◌&&◌, ◌||◌, List, [], ◌∷◌, length, count_by}
+use Rattle.std.specs.Prelude.{is_none, nat_eq, nat_le}
 use Rattle.std.specs.Ordering.{int_eq}
 use Rattle.std.specs.List.{list_any, list_all, AllByRecursion}
 use Rattle.isad_core.specs.Days.{is_day_number}

@@ -1,69 +1,75 @@
 -- Refusals: their numbers and names, and the first check of a command that holds.
 use Rattle.std.specs.Prelude.{ℕ, Bool, true, false, List, [], ◌∷◌, Option, Some, None, codes}
 use Rattle.desk_core.specs.declared.refusal.Refusal.{Refusal}
-use Rattle.desk_core.specs.declared.refusal.Refusal.TheVariants.{UnknownUnit, UnknownTicket, UnknownContainer, TicketExpired, NotAvailable, AlreadyOrdered, DailyLimit, NoSeatFree, AlreadySeated, NotSeated, HoldsContainers, UnknownOrder, OrderNotWaiting, NotAtDesk, NotFirst, HandsFull, NotIssued, DayNotLater, StillIssued, IntoItself, WithReader, BadFile, Full, NothingToMove, TooDeep, UnknownRun, BadName, NoPermit}
+use Rattle.desk_core.specs.declared.refusal.Refusal.TheVariants.{UnknownUnit, UnknownTicket, UnknownContainer}
+use Rattle.desk_core.specs.declared.refusal.Refusal.TheVariants.{TicketExpired, NotAvailable, AlreadyOrdered}
+use Rattle.desk_core.specs.declared.refusal.Refusal.TheVariants.{DailyLimit, NoSeatFree, AlreadySeated, NotSeated}
+use Rattle.desk_core.specs.declared.refusal.Refusal.TheVariants.{HoldsContainers, UnknownOrder, OrderNotWaiting}
+use Rattle.desk_core.specs.declared.refusal.Refusal.TheVariants.{NotAtDesk, NotFirst, HandsFull, NotIssued, DayNotLater}
+use Rattle.desk_core.specs.declared.refusal.Refusal.TheVariants.{StillIssued, IntoItself, WithReader, BadFile, Full}
+use Rattle.desk_core.specs.declared.refusal.Refusal.TheVariants.{NothingToMove, TooDeep, UnknownRun, BadName, NoPermit}
 
 -- the number of a refusal
-abbrev pub number_of : Refusal → ℕ
-number_of UnknownUnit = 1
-number_of UnknownTicket = 2
-number_of UnknownContainer = 3
-number_of TicketExpired = 4
-number_of NotAvailable = 5
-number_of AlreadyOrdered = 6
-number_of DailyLimit = 7
-number_of NoSeatFree = 8
-number_of AlreadySeated = 9
-number_of NotSeated = 10
-number_of HoldsContainers = 11
-number_of UnknownOrder = 12
-number_of OrderNotWaiting = 13
-number_of NotAtDesk = 14
-number_of NotFirst = 15
-number_of HandsFull = 16
-number_of NotIssued = 17
-number_of DayNotLater = 18
-number_of StillIssued = 19
-number_of IntoItself = 20
-number_of (WithReader container) = 21
-number_of (BadFile row cause) = 22
-number_of Full = 23
-number_of NothingToMove = 24
-number_of TooDeep = 25
-number_of UnknownRun = 26
-number_of BadName = 27
-number_of NoPermit = 28
+abbrev pub refusal_number : Refusal → ℕ
+refusal_number UnknownUnit = 1
+refusal_number UnknownTicket = 2
+refusal_number UnknownContainer = 3
+refusal_number TicketExpired = 4
+refusal_number NotAvailable = 5
+refusal_number AlreadyOrdered = 6
+refusal_number DailyLimit = 7
+refusal_number NoSeatFree = 8
+refusal_number AlreadySeated = 9
+refusal_number NotSeated = 10
+refusal_number HoldsContainers = 11
+refusal_number UnknownOrder = 12
+refusal_number OrderNotWaiting = 13
+refusal_number NotAtDesk = 14
+refusal_number NotFirst = 15
+refusal_number HandsFull = 16
+refusal_number NotIssued = 17
+refusal_number DayNotLater = 18
+refusal_number StillIssued = 19
+refusal_number IntoItself = 20
+refusal_number (WithReader container) = 21
+refusal_number (BadFile row cause) = 22
+refusal_number Full = 23
+refusal_number NothingToMove = 24
+refusal_number TooDeep = 25
+refusal_number UnknownRun = 26
+refusal_number BadName = 27
+refusal_number NoPermit = 28
 
 -- the name of a refusal
-abbrev pub name_of : Refusal → List ℕ
-name_of UnknownUnit = codes "UnknownUnit"
-name_of UnknownTicket = codes "UnknownTicket"
-name_of UnknownContainer = codes "UnknownContainer"
-name_of TicketExpired = codes "TicketExpired"
-name_of NotAvailable = codes "NotAvailable"
-name_of AlreadyOrdered = codes "AlreadyOrdered"
-name_of DailyLimit = codes "DailyLimit"
-name_of NoSeatFree = codes "NoSeatFree"
-name_of AlreadySeated = codes "AlreadySeated"
-name_of NotSeated = codes "NotSeated"
-name_of HoldsContainers = codes "HoldsContainers"
-name_of UnknownOrder = codes "UnknownOrder"
-name_of OrderNotWaiting = codes "OrderNotWaiting"
-name_of NotAtDesk = codes "NotAtDesk"
-name_of NotFirst = codes "NotFirst"
-name_of HandsFull = codes "HandsFull"
-name_of NotIssued = codes "NotIssued"
-name_of DayNotLater = codes "DayNotLater"
-name_of StillIssued = codes "StillIssued"
-name_of IntoItself = codes "IntoItself"
-name_of (WithReader container) = codes "WithReader"
-name_of (BadFile row cause) = codes "BadFile"
-name_of Full = codes "Full"
-name_of NothingToMove = codes "NothingToMove"
-name_of TooDeep = codes "TooDeep"
-name_of UnknownRun = codes "UnknownRun"
-name_of BadName = codes "BadName"
-name_of NoPermit = codes "NoPermit"
+abbrev pub refusal_name : Refusal → List ℕ
+refusal_name UnknownUnit = codes "UnknownUnit"
+refusal_name UnknownTicket = codes "UnknownTicket"
+refusal_name UnknownContainer = codes "UnknownContainer"
+refusal_name TicketExpired = codes "TicketExpired"
+refusal_name NotAvailable = codes "NotAvailable"
+refusal_name AlreadyOrdered = codes "AlreadyOrdered"
+refusal_name DailyLimit = codes "DailyLimit"
+refusal_name NoSeatFree = codes "NoSeatFree"
+refusal_name AlreadySeated = codes "AlreadySeated"
+refusal_name NotSeated = codes "NotSeated"
+refusal_name HoldsContainers = codes "HoldsContainers"
+refusal_name UnknownOrder = codes "UnknownOrder"
+refusal_name OrderNotWaiting = codes "OrderNotWaiting"
+refusal_name NotAtDesk = codes "NotAtDesk"
+refusal_name NotFirst = codes "NotFirst"
+refusal_name HandsFull = codes "HandsFull"
+refusal_name NotIssued = codes "NotIssued"
+refusal_name DayNotLater = codes "DayNotLater"
+refusal_name StillIssued = codes "StillIssued"
+refusal_name IntoItself = codes "IntoItself"
+refusal_name (WithReader container) = codes "WithReader"
+refusal_name (BadFile row cause) = codes "BadFile"
+refusal_name Full = codes "Full"
+refusal_name NothingToMove = codes "NothingToMove"
+refusal_name TooDeep = codes "TooDeep"
+refusal_name UnknownRun = codes "UnknownRun"
+refusal_name BadName = codes "BadName"
+refusal_name NoPermit = codes "NoPermit"
 
 -- a check of a command: the refusal to return, if the check holds
 abbrev pub Check : Type 0

@@ -15,23 +15,23 @@ use Rattle.desk_core.specs.declared.consistency.rows.SeatRow.{SeatRow}
 
 -- ---- rows
 
-abbrev pub seat_row : SeatRow → desk.SeatRow
-seat_row row = record { seat = row.seat; ticket = row.ticket }
+abbrev pub seat_record : SeatRow → desk.SeatRow
+seat_record row = record { seat = row.seat; ticket = row.ticket }
 
-abbrev pub order_row : OrderRow → desk.OrderRow
-order_row row = record { id = row.id; ticket = row.ticket; container = row.container; day = row.day; state = row.state }
+abbrev pub order_record : OrderRow → desk.OrderRow
+order_record row = record { id = row.id; ticket = row.ticket; container = row.container; day = row.day; state = row.state }
 
-abbrev pub holding_row : HoldingRow → desk.HoldingRow
-holding_row row = record { container = row.container; place = row.place; held_by = row.held_by }
+abbrev pub holding_record : HoldingRow → desk.HoldingRow
+holding_record row = record { container = row.container; place = row.place; held_by = row.held_by }
 
-abbrev pub run_row : RunRow → desk.RunRow
-run_row row = record { id = row.id; day = row.day }
+abbrev pub run_record : RunRow → desk.RunRow
+run_record row = record { id = row.id; day = row.day }
 
-abbrev pub run_line_row : RunLineRow → desk.RunLineRow
-run_line_row row = record { run = row.run; container = row.container; order_no = row.order_no; ticket = row.ticket }
+abbrev pub run_line_record : RunLineRow → desk.RunLineRow
+run_line_record row = record { run = row.run; container = row.container; order_no = row.order_no; ticket = row.ticket }
 
-abbrev pub permit_row : PermitRow → desk.PermitRow
-permit_row row = record { ticket = row.ticket; unit = row.unit; until = row.until }
+abbrev pub permit_record : PermitRow → desk.PermitRow
+permit_record row = record { ticket = row.ticket; unit = row.unit; until = row.until }
 
 -- ---- what they are held against
 

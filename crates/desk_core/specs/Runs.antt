@@ -22,9 +22,9 @@ pub record IsRun (candidates run : List Candidate) (most : ℕ) : Type 0 where
   pub least : All (λ taken. All (λ other. taken.order ≤ other.order) left) run
 
 -- the containers at the desk that no order waits for; each comes with whether an order waits for it
-abbrev pub idle : List (ℕ × Bool) → List ℕ
-idle desk = map (λ c. c.0) (filter (λ c. not c.1) desk)
+abbrev pub idle_containers : List (ℕ × Bool) → List ℕ
+idle_containers desk = map (λ c. c.0) (filter (λ c. not c.1) desk)
 
 -- the containers that go back to the shelf, ascending
-abbrev pub reshelved : List (ℕ × Bool) → List ℕ
-reshelved desk = in_order nat_lt (idle desk)
+abbrev pub reshelved_containers : List (ℕ × Bool) → List ℕ
+reshelved_containers desk = in_order nat_lt (idle_containers desk)

@@ -1,7 +1,8 @@
 //! Why a command or a query is refused.
 ghost use Rattle.std.specs.Prelude.{◌≡◌, [], ◌∷◌, Some, IfOk, is_some};
 ghost use Rattle.std.specs.Result.{result_err};
-ghost use Rattle.desk_core.specs.Refusals.{first_that_holds, known_container as checks_container, name_of, number_of};
+ghost use Rattle.desk_core.specs.Refusals.{first_that_holds, known_container as checks_container, refusal_name};
+ghost use Rattle.desk_core.specs.Refusals.{refusal_number};
 
 /// A refusal. The variants are in the order of their numbers.
 #[derive(Debug, Clone, Copy, PartialEq, Eq)]
@@ -67,7 +68,7 @@ pub enum Refusal {
 impl Refusal {
     /// Its number, from 1 to 28.
     pub fn code(self) -> u32
-        ensures { result ≡ number_of self }
+        ensures { result ≡ refusal_number self }
     {
         match self {
             Refusal::UnknownUnit => 1,
@@ -103,7 +104,7 @@ impl Refusal {
 
     /// Its name, as shown to whoever asked.
     pub fn name(self) -> &'static str
-        ensures { result.now ≡ name_of self }
+        ensures { result.now ≡ refusal_name self }
     {
         match self {
             Refusal::UnknownUnit => "UnknownUnit",

@@ -1,6 +1,6 @@
 //! What a run brings to the desk, and what goes back to the shelf.
 ghost use Rattle.std.specs.Prelude.{◌≡◌, IfOk};
-ghost use Rattle.desk_core.specs.Runs.{idle, reshelved, run_of};
+ghost use Rattle.desk_core.specs.Runs.{idle_containers, reshelved_containers, run_of};
 
 use isad_core::Text;
 use std::alloc::{AllocError, Global};
@@ -41,7 +41,7 @@ pub fn pick_run(
 /// The containers at the desk that no order waits for, ascending. `desk` has each container with
 /// whether an order waits for it.
 pub fn pick_reshelve(alloc: Global, desk: &[(u64, bool)]) -> Result<Vec<u64>, AllocError>
-    ensures { IfOk result (λ containers. containers.items ≡ reshelved desk.now) }
+    ensures { IfOk result (λ containers. containers.items ≡ reshelved_containers desk.now) }
 {
     let mut idle = not_waited_for(alloc, desk)?;
     idle.sort_unstable();
@@ -49,7 +49,7 @@ pub fn pick_reshelve(alloc: Global, desk: &[(u64, bool)]) -> Result<Vec<u64>, Al
 }
 
 fn not_waited_for(alloc: Global, desk: &[(u64, bool)]) -> Result<Vec<u64>, AllocError>
-    ensures { IfOk result (λ containers. containers.items ≡ idle desk.now) }
+    ensures { IfOk result (λ containers. containers.items ≡ idle_containers desk.now) }
 {
     desk.iter()
         .filter(|container| !container.1)

@@ -4,7 +4,7 @@ ghost use Rattle.std.specs.Result.{result_err};
 ghost use Rattle.std.specs.Option.{option_copied};
 ghost use Rattle.std.specs.List.Sorted.{IsNonDecreasing};
 ghost use Rattle.desk_core.specs.Checks.{leave_seat_checks, take_seat_checks};
-ghost use Rattle.desk_core.specs.Decisions.{free_seat, leave_seat_facts, seat_of, take_seat_facts};
+ghost use Rattle.desk_core.specs.Decisions.{free_seat, leave_seat_facts, reader_seat, take_seat_facts};
 ghost use Rattle.desk_core.specs.Refusals.{first_that_holds};
 
 use crate::reader::{Limits, Reader};
@@ -57,7 +57,7 @@ fn least_free_seat(taken: &[u32], seats: u32) -> Option<u32>
 pub fn may_leave(reader: Option<&Reader>) -> Result<u32, Refusal>
     ensures refused { result_err result
         ≡ first_that_holds (leave_seat_checks (leave_seat_facts (option_copied reader.entry))) }
-    ensures seat { IfOk result (λ seat. seat_of (option_copied reader.entry) ≡ Some seat) }
+    ensures seat { IfOk result (λ seat. reader_seat (option_copied reader.entry) ≡ Some seat) }
 {
     let Some(reader) = reader else {
         return Err(Refusal::UnknownTicket);

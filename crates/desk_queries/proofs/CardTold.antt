@@ -1,9 +1,11 @@
 -- What is told of a reader is what the rules tell of him.
-use Rattle.std.proofs.Common.{◌≡◌, ℕ, ℤ, suc, Bool, true, false, cond, ◌&&◌, ◌||◌, nat_eq, List, [], ◌∷◌, length, map, filter, Option, Some, None, inl, inr, refl, sym, ap, subst, ◌∙◌}
+use Rattle.std.proofs.Common.{◌≡◌, ℕ, ℤ, suc, Bool, true, false, cond, ◌&&◌, ◌||◌, nat_eq, List, [], ◌∷◌, length, map}
+use Rattle.std.proofs.Common.{filter, Option, Some, None, inl, inr, refl, sym, ap, subst, ◌∙◌}
 use Rattle.std.proofs.lemmas.Bool.{and_parts}
 use Rattle.isad_core.specs.Texts.{Bytes}
+use Rattle.desk_core.specs.Decisions.{order_out}
 use Rattle.catalogue_core.specs.Members.{StandsIn}
-use Rattle.desk_store.specs.Readers.{card_of, is_live}
+use Rattle.desk_store.specs.Readers.{card_of, has_not_ended}
 use Rattle.desk_store.specs.Readers as store
 use Rattle.desk_store.specs.declared.reader_summary.LiveOrder.{LiveOrder}
 use Rattle.desk_store.specs.declared.reader_summary.ReaderCard.{ReaderCard}
@@ -14,7 +16,13 @@ use Rattle.state_encoding.proofs.Members.{in_filter, to_from}
 use Rattle.state_encoding.proofs.NumberedRows.{in_rows}
 use Rattle.refinement.proofs.CardsShown.{card, card_shown}
 use Rattle.refinement.proofs.QueuesShown.{told_rows}
-use Rattle.desk_queries.proofs.Common.{Cancelled, Data, Done, End, ExactlyOne, IsFiled, IsSoundOffice, Order, OrderRow, Reader, State, UnknownTicket, Version, answer, card_data, codes, container_of, count, date, fields, filter_map, has_float, is_by, is_out_for, is_out_now, is_some, known_json, list, live_data, live_orders, map-map, nat_lt, no_float, nth, option_map, or_null, order_from, order_json, order_out, order_row, order_rows, reader_json, rows_from, seat_of, some_and, stands, state_number, string, tables, waits}
+use Rattle.desk_queries.proofs.Common.{Cancelled, Data, Done, End, ExactlyOne, IsFiled, IsSoundOffice, Order, OrderRow}
+use Rattle.desk_queries.proofs.Common.{Reader, State, UnknownTicket, Version, answer, card_data, codes, container_of}
+use Rattle.desk_queries.proofs.Common.{count, date, fields, filter_map, has_float, is_by, is_out_for, is_out_now}
+use Rattle.desk_queries.proofs.Common.{is_some, known_json, list, live_data, live_orders, map-map, nat_lt, no_float}
+use Rattle.desk_queries.proofs.Common.{nth, option_map, or_null, order_from, order_json, order_row, order_rows}
+use Rattle.desk_queries.proofs.Common.{reader_json, rows_from, seat_of, some_and, stands, state_number, string, tables}
+use Rattle.desk_queries.proofs.Common.{waits}
 
 -- ---- none of it is a number with a fraction
 
@@ -96,7 +104,7 @@ module _ (version : Version) (s : State) (sound : IsSoundOffice s) (t : ℕ) whe
   is_theirs o = is_by s t o && (waits s o || is_out_now s o)
 
   abbrev is_kept : OrderRow → Bool
-  is_kept row = nat_eq t row.ticket && is_live row
+  is_kept row = nat_eq t row.ticket && has_not_ended row
 
   module _ (m : ℕ) (x : Order) (is : nth s.orders m ≡ Some x) where
     for_it : container_of s m ≡ Some x.container
@@ -139,7 +147,7 @@ module _ (version : Version) (s : State) (sound : IsSoundOffice s) (t : ℕ) whe
       let i = in_rows (order_row s) s.orders row k in
       subst (λ (r : OrderRow). is_kept r ≡ true → told r.id (order_from r) ≡ live_data (live_of r)) (sym i.3) (tell_at i.0 i.1 i.2)
 
-  live_told : map live_data (store.live_orders t (tables version s).desk) ≡ filter_map (order_json s) (live_orders s t)
+  live_told : map live_data (store.orders_not_ended t (tables version s).desk) ≡ filter_map (order_json s) (live_orders s t)
   live_told = sym
       (ap (λ ns. filter_map (order_json s) (filter is_theirs ns)) (to_from (length s.orders) ∙ sym (ids (order_row s) (λ n x. refl) 1 s.orders))
       ∙ ap (filter_map (order_json s)) (filtered is_theirs (order_rows s))

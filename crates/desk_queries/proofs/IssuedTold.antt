@@ -5,7 +5,9 @@ use Rattle.desk_core.specs.declared.reader.Place.TheVariants.{Shelf, Desk, Out}
 use Rattle.desk_store.specs.Holdings.{issued_by, issued_of}
 use Rattle.desk_store.specs.declared.container_orders.ContainerOrder.{ContainerOrder}
 use Rattle.refinement.proofs.RowsOfLists.{found_row}
-use Rattle.desk_queries.proofs.Common.{Data, Order, OrderRow, State, Version, codes, cons_option, containers, count, fields, filter_map, holding_row, issued_json, loan_data, nth, option_map, order_row, order_rows, tables}
+use Rattle.desk_queries.proofs.Common.{Data, Order, OrderRow, State, Version, codes, cons_option, containers, count}
+use Rattle.desk_queries.proofs.Common.{fields, filter_map, holding_row, issued_json, loan_data, nth, option_map}
+use Rattle.desk_queries.proofs.Common.{order_row, order_rows, tables}
 
 module _ (s : State) where
   -- one that is out, with the order of that number

@@ -1,6 +1,7 @@
 -- What is told of a container is what the rules tell of it.
 use Rattle.std.proofs.Common.{◌≡◌, ℕ, false, List, [], ◌∷◌, map, filter, Option, Some, None, refl, sym, ap, subst, ◌∙◌}
 use Rattle.isad_core.specs.declared.values.BoxKey.{BoxKey}
+use Rattle.desk_core.specs.Decisions.{order_out}
 use Rattle.desk_core.specs.declared.reader.Place.{Place}
 use Rattle.desk_core.specs.declared.reader.Place.TheVariants.{Shelf, Desk, Out}
 use Rattle.desk_store.specs.Orders.{queue_of}
@@ -9,7 +10,10 @@ use Rattle.desk_store.specs.declared.orders.WaitingOrder.{WaitingOrder}
 use Rattle.desk_store.specs.declared.queues.ContainerQueue.{ContainerQueue}
 use Rattle.office_core.specs.declared.query.Query.TheVariants as query
 use Rattle.refinement.proofs.QueuesShown.{place_shown, told_queue, waits_in}
-use Rattle.desk_queries.proofs.Common.{Data, IsSoundOffice, OrderRow, State, UnknownContainer, Version, answer, box_row, codes, count, fields, filter_map, has_float, known_json, list, map-map, no_float, nth, option_map, or_null, order_out, order_rows, place_name, queue_data, queue_json, storage_of, string, tables, waiting_data, waiting_json}
+use Rattle.desk_queries.proofs.Common.{Data, IsSoundOffice, OrderRow, State, UnknownContainer, Version, answer, box_row}
+use Rattle.desk_queries.proofs.Common.{codes, count, fields, filter_map, has_float, known_json, list, map-map, no_float}
+use Rattle.desk_queries.proofs.Common.{nth, option_map, or_null, order_rows, place_name, queue_data, queue_json}
+use Rattle.desk_queries.proofs.Common.{storage_of, string, tables, waiting_data, waiting_json}
 
 -- none of it is a number with a fraction
 pub queue_whole : (c : ℕ) (q : ContainerQueue) → has_float (queue_data c q) ≡ false

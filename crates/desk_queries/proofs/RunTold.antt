@@ -1,12 +1,14 @@
 -- What is told of a run is what the rules tell of it.
-use Rattle.std.proofs.Common.{◌≡◌, ◌⊎◌, ℕ, suc, ◌<◌, true, nat_eq, List, [], ◌∷◌, ◌++◌, map, Option, Some, None, inl, inr, refl, sym, ap, subst, ◌∙◌}
-use Rattle.std.specs.Prelude.{ℤ}
-use Rattle.std.specs.List.Sorted.{IsPermutation}
+use Rattle.std.proofs.Common.{◌≡◌, ◌⊎◌, ℕ, suc, ◌<◌, true, nat_eq, List, [], ◌∷◌, ◌++◌, map, Option, Some, None, inl}
+use Rattle.std.proofs.Common.{inr, refl, sym, ap, subst, ◌∙◌}
 use Rattle.std.proofs.lemmas.List.Sorted.{IsPermutation-map}
+use Rattle.std.specs.List.Sorted.{IsPermutation}
+use Rattle.std.specs.Prelude.{ℤ}
 use Rattle.sqlite_trees.proofs.ListLemmas.{IsPermutation-flat_map}
 use Rattle.isad_core.specs.declared.values.BoxKey.{BoxKey}
-use Rattle.catalogue_core.specs.Members.{StandsIn}
 use Rattle.desk_core.specs.declared.run.Candidate.{Candidate}
+use Rattle.catalogue_core.specs.Members.{StandsIn}
+use Rattle.office_tables.proofs.Rows.{same_test}
 use Rattle.desk_store.specs.Runs.{IsCandidate, lines_of, run_with}
 use Rattle.desk_store.specs.Storage.{AreKnown, IsBrought, IsKnownLine, IsToldLine, IsToldRun, container_with}
 use Rattle.desk_store.specs.declared.runs.Brought.{Brought}
@@ -16,9 +18,12 @@ use Rattle.state_encoding.proofs.DeskLookups.{flipped, some_is}
 use Rattle.state_encoding.proofs.Members.{all_in, all_of_in, in_append, in_filter, in_map}
 use Rattle.state_encoding.proofs.NumberedRows.{numbered-map, numbered-rows, stands_at}
 use Rattle.state_encoding.proofs.ReadBack.{runs_back}
-use Rattle.office_tables.proofs.Rows.{same_test}
 use Rattle.refinement.proofs.RowsOfLists.{found_row}
-use Rattle.desk_queries.proofs.Common.{AllByRecursion, AllZip, ByContainer, IsGoodLine, IsSoundOffice, Line, Order, Run, RunLineRow, RunRow, State, Text, Unknown, UnknownRun, Version, answer, box_row, candidate_of, cons_option, filter_map, flat_map, has_container, is_container, line_from, lines_from, map-map, nth, option_map, rows_from, run_answer, run_from, run_line_row, run_row, slip, storage_of, tables}
+use Rattle.desk_queries.proofs.Common.{AllByRecursion, AllZip, ByContainer, IsGoodLine, IsSoundOffice, Line, Order, Run}
+use Rattle.desk_queries.proofs.Common.{RunLineRow, RunRow, State, Text, Unknown, UnknownRun, Version, answer, box_row}
+use Rattle.desk_queries.proofs.Common.{candidate_of, cons_option, filter_map, flat_map, has_container, is_container}
+use Rattle.desk_queries.proofs.Common.{line_from, lines_from, map-map, nth, option_map, rows_from, run_answer, run_from}
+use Rattle.desk_queries.proofs.Common.{run_line_row, run_row, slip, storage_of, tables}
 use Rattle.desk_queries.proofs.SlipTold.{Rise, same_slip}
 
 -- what the slip says where no line is told

@@ -1,16 +1,18 @@
 -- The slip of a run has the lines that the rules tell of it.
-use Rattle.std.proofs.Common.{◌≡◌, ℕ, ◌<◌, ◌≤◌, Bool, true, false, cond, nat_eq, List, [], ◌∷◌, ◌++◌, length, filter, Ordering, Less, Equal, Greater, refl, sym, ap, subst, ◌∙◌, arith}
-use Rattle.std.specs.Prelude.{ℤ}
-use Rattle.std.specs.List.Sorted.{IsPermutation, ties}
-use Rattle.std.specs.Ordering.{is_lt, nat_cmp, ordering_reverse, ordering_then}
+use Rattle.std.proofs.Common.{◌≡◌, ℕ, ◌<◌, ◌≤◌, Bool, true, false, cond, nat_eq, List, [], ◌∷◌, ◌++◌, length, filter}
+use Rattle.std.proofs.Common.{Ordering, Less, Equal, Greater, refl, sym, ap, subst, ◌∙◌, arith}
 use Rattle.std.proofs.lemmas.Bool.{eqb-true}
 use Rattle.std.proofs.lemmas.List.Sorted.{length_permutation, ranks_by}
+use Rattle.std.specs.List.Sorted.{IsPermutation, ties}
+use Rattle.std.specs.Ordering.{is_lt, nat_cmp, ordering_reverse, ordering_then}
+use Rattle.std.specs.Prelude.{ℤ}
 use Rattle.sqlite_trees.proofs.ListLemmas.{IsPermutation-filter, all-permutation}
-use Rattle.desk_core.specs.Orders.{in_order}
-use Rattle.desk_core.specs.declared.run.Candidate.{Candidate}
 use Rattle.desk_core.proofs.OrderLemmas.{in_order-is, in_order-stable, neither, same_in_order}
 use Rattle.desk_core.proofs.SlipLemmas.{shelf_order-ranks}
-use Rattle.desk_queries.proofs.Common.{AllByRecursion, bytes_order, flat_map, is_shelved_before, nat_lt, shelf_order, slip, slip_head, slip_line}
+use Rattle.desk_core.specs.Orders.{in_order}
+use Rattle.desk_core.specs.declared.run.Candidate.{Candidate}
+use Rattle.desk_queries.proofs.Common.{AllByRecursion, bytes_order, flat_map, is_shelved_before, nat_lt, shelf_order}
+use Rattle.desk_queries.proofs.Common.{slip, slip_head, slip_line}
 
 -- ---- two that stand at one place of the shelves are one container
 

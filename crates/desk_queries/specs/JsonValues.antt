@@ -3,7 +3,7 @@ use Rattle.std.specs.Prelude.{ℕ, [], ◌∷◌, cond, map, option_map, codes}
 use Rattle.serde_json.specs.Data.{Data, string}
 use Rattle.office_core.specs.Json.{count, date, list, or_null, fields}
 use Rattle.office_core.specs.Queries.{permit_json, place_name}
-use Rattle.office_core.specs.State.{order_out}
+use Rattle.desk_core.specs.Decisions.{order_out}
 use Rattle.desk_store.specs.declared.reader_summary.LiveOrder.{LiveOrder}
 use Rattle.desk_store.specs.declared.reader_summary.ReaderCard.{ReaderCard}
 use Rattle.desk_store.specs.declared.reader_permits.Permit.{Permit}

@@ -5,7 +5,7 @@ ghost use Rattle.serde_json.specs.View.{view};
 ghost use Rattle.serde_json.specs.Written.{compact_text};
 ghost use Rattle.office_core.specs.Json.{count, or_null};
 ghost use Rattle.office_core.specs.Queries.{place_name};
-ghost use Rattle.office_core.specs.State.{order_out};
+ghost use Rattle.desk_core.specs.Decisions.{order_out};
 ghost use Rattle.office_core.specs.declared.query.Query.TheVariants as query;
 ghost use Rattle.refinement.specs.QueryAnswers.{Responds};
 ghost use Rattle.desk_queries.specs.JsonValues.{queue_data};

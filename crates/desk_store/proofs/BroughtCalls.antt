@@ -3,7 +3,9 @@ use Rattle.std.proofs.Common.{◌≡◌, ℕ, List, [], ◌∷◌, map, Option, 
 use Rattle.std.proofs.lemmas.List.Sorted.{All-permutation}
 use Rattle.desk_core.specs.declared.run.Candidate.{Candidate}
 use Rattle.desk_store.specs.declared.run_lines.RunDay.{RunDay}
-use Rattle.desk_store.proofs.Common.{All-from_recursion, AllByRecursion, AllZip, AreKnown, ContainerOrder, IsKnownLine, IsPermutation, IsToldLine, IsToldRun, RunLineRow, RunRow, Storage, lines_of, option_map, recursion_from_All, run_with}
+use Rattle.desk_store.proofs.Common.{All-from_recursion, AllByRecursion, AllZip, AreKnown, ContainerOrder, IsKnownLine}
+use Rattle.desk_store.proofs.Common.{IsPermutation, IsToldLine, IsToldRun, RunLineRow, RunRow, Storage, lines_of}
+use Rattle.desk_store.proofs.Common.{option_map, recursion_from_All, run_with}
 use Rattle.desk_store.proofs.BroughtRows.{day_of, same_run}
 use Rattle.desk_store.proofs.RunRows.{taken_line}
 

@@ -1,10 +1,16 @@
 -- The statement on the day of a run: what its text means, what it tells, and why it fails. And the lines of a run, as they are told.
-use Rattle.std.proofs.Common.{◌≡◌, ℕ, pos, Bool, List, [], ◌∷◌, ◌++◌, map, filter, find, codes, true, cond, Option, Some, None, Result, IfOk, IfErr, nat_eq, inl, inr, refl, sym, ap, ap₂, subst, ◌∙◌}
+use Rattle.std.proofs.Common.{◌≡◌, ℕ, pos, Bool, List, [], ◌∷◌, ◌++◌, map, filter, find, codes, true, cond, Option}
+use Rattle.std.proofs.Common.{Some, None, Result, IfOk, IfErr, nat_eq, inl, inr, refl, sym, ap, ap₂, subst, ◌∙◌}
+use Rattle.std.specs.declared.cmp.Ordering.{Ordering}
 use Rattle.sqlite.specs.Listing.{understood}
 use Rattle.sqlite_tied.specs.Compute.{everything}
-use Rattle.std.specs.declared.cmp.Ordering.{Ordering}
 use Rattle.desk_store.specs.declared.run_lines.RunDay.{RunDay}
-use Rattle.desk_store.proofs.Common.{AllByRecursion, AllZip, Binary, BoxKey, Command, Compare, ContainerOrder, Eq, Finds, HasCause, Holds, Int, IsOrdered, IsToldLine, IsTotalOrder, IsUnlimited, Means, Misses, Row, RunRow, Select, State, Storage, StoreFault, Term, Version, asking, by_one_int, cases_Bool, col, container_with, eqb-true, int_cmp, int_cmp_total, is_day_number, le_refl, on_total, only, op2, option_map, run, run_cells, same_number, schema, select_faults, select_finds}
+use Rattle.desk_store.proofs.Common.{AllByRecursion, AllZip, Binary, BoxKey, Command, Compare, ContainerOrder, Eq}
+use Rattle.desk_store.proofs.Common.{Finds, HasCause, Holds, Int, IsOrdered, IsToldLine, IsTotalOrder, IsUnlimited}
+use Rattle.desk_store.proofs.Common.{Means, Misses, Row, RunRow, Select, State, Storage, StoreFault, Term, Version}
+use Rattle.desk_store.proofs.Common.{asking, by_one_int, cases_Bool, col, container_with, eqb-true, int_cmp}
+use Rattle.desk_store.proofs.Common.{int_cmp_total, is_day_number, le_refl, on_total, only, op2, option_map, run}
+use Rattle.desk_store.proofs.Common.{run_cells, same_number, schema, select_faults, select_finds}
 use Rattle.desk_store.proofs.BoxRows.{Numbered}
 use Rattle.desk_store.proofs.CardRows.{in_order}
 

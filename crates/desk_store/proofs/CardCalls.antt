@@ -1,12 +1,16 @@
 -- A reader's card, and the holder of a ticket: the parts are read one after another, and nothing is changed between them.
-use Rattle.std.proofs.Common.{◌≡◌, ℕ, ℤ, suc, ◌+◌, ◌<◌, ◌≤◌, ◌^◌, ◌&&◌, true, false, Bool, cond, nat_eq, List, [], ◌∷◌, map, filter, length, find, Option, Some, None, refl, sym, ap, subst, ◌∙◌, arith}
+use Rattle.std.proofs.Common.{◌≡◌, ℕ, ℤ, suc, ◌+◌, ◌<◌, ◌≤◌, ◌^◌, ◌&&◌, true, false, Bool, cond, nat_eq, List, [], ◌∷◌}
+use Rattle.std.proofs.Common.{map, filter, length, find, Option, Some, None, refl, sym, ap, subst, ◌∙◌, arith}
 use Rattle.std.proofs.lemmas.List.Sums.{length-filter, count_by-le-length}
-use Rattle.desk_core.specs.declared.reader.Reader.{Reader}
 use Rattle.desk_core.proofs.Counts.{count_map}
+use Rattle.desk_core.specs.declared.reader.Reader.{Reader}
 use Rattle.desk_store.specs.declared.reader_summary.ReaderCard.{ReaderCard}
 use Rattle.desk_store.specs.declared.readers.NamedReader.{NamedReader}
 use Rattle.desk_store.specs.declared.taken_seats.TakenSeat.{TakenSeat}
-use Rattle.desk_store.proofs.Common.{AllByRecursion, AreCounted, Desk, OrderLine, OrderRow, SeatRow, card_of, count_by, counted_within, held_with, is_live, is_some, length-map, live_orders, most_orders, nat_lt, nat_tests, option_map, placed_on, reader_with, seat_of, ticket_holder}
+use Rattle.desk_store.proofs.Common.{AllByRecursion, AreCounted, Desk, OrderLine, OrderRow, SeatRow, card_of, count_by}
+use Rattle.desk_store.proofs.Common.{counted_within, has_not_ended, held_with, is_some, length-map, most_orders, nat_lt}
+use Rattle.desk_store.proofs.Common.{nat_tests, option_map, orders_not_ended, placed_on, reader_with, seat_of_ticket}
+use Rattle.desk_store.proofs.Common.{ticket_holder}
 use Rattle.desk_store.proofs.CardRows.{line_of}
 use Rattle.desk_store.proofs.ReaderRows.{named}
 use Rattle.desk_store.proofs.SeatRows.{taken}
@@ -39,7 +43,7 @@ out_among = filter (λ (o : OrderRow). nat_eq o.state 2)
 
 -- one order more; an order that is out has not ended
 one_more : (mine : Bool) (o : OrderRow) (live out : List OrderRow) → length (out_among live) ≡ length out
-    → length (out_among (cond (mine && is_live o) (o ∷ live) live)) ≡ length (cond (mine && nat_eq o.state 2) (o ∷ out) out)
+    → length (out_among (cond (mine && has_not_ended o) (o ∷ live) live)) ≡ length (cond (mine && nat_eq o.state 2) (o ∷ out) out)
 one_more false o live out same = same
 one_more true o live out same = by (nat_lt o.state 3) (nat_eq o.state 2) refl refl
   where
@@ -51,15 +55,15 @@ one_more true o live out same = by (nat_lt o.state 3) (nat_eq o.state 2) refl re
     by false false h k = rw k same
 
 same_out : (t : ℕ) (xs : List OrderRow)
-    → length (out_among (filter (λ (o : OrderRow). nat_eq t o.ticket && is_live o) xs)) ≡ length (filter (λ (o : OrderRow). nat_eq t o.ticket && nat_eq o.state 2) xs)
+    → length (out_among (filter (λ (o : OrderRow). nat_eq t o.ticket && has_not_ended o) xs)) ≡ length (filter (λ (o : OrderRow). nat_eq t o.ticket && nat_eq o.state 2) xs)
 same_out t [] = refl
 same_out t (o ∷ xs) =
-    one_more (nat_eq t o.ticket) o (filter (λ (o : OrderRow). nat_eq t o.ticket && is_live o) xs) (filter (λ (o : OrderRow). nat_eq t o.ticket && nat_eq o.state 2) xs) (same_out t xs)
+    one_more (nat_eq t o.ticket) o (filter (λ (o : OrderRow). nat_eq t o.ticket && has_not_ended o) xs) (filter (λ (o : OrderRow). nat_eq t o.ticket && nat_eq o.state 2) xs) (same_out t xs)
 
 pub out_of_lines : (t : ℕ) (xs : List OrderRow)
-    → count_by (λ (l : OrderLine). nat_eq l.state 2) (map line_of (filter (λ (o : OrderRow). nat_eq t o.ticket && is_live o) xs)) ≡ count_by (λ (o : OrderRow). nat_eq t o.ticket && nat_eq o.state 2) xs
+    → count_by (λ (l : OrderLine). nat_eq l.state 2) (map line_of (filter (λ (o : OrderRow). nat_eq t o.ticket && has_not_ended o) xs)) ≡ count_by (λ (o : OrderRow). nat_eq t o.ticket && nat_eq o.state 2) xs
 out_of_lines t xs =
-    let kept = filter (λ (o : OrderRow). nat_eq t o.ticket && is_live o) xs in
+    let kept = filter (λ (o : OrderRow). nat_eq t o.ticket && has_not_ended o) xs in
     count_map (λ (l : OrderLine). nat_eq l.state 2) line_of kept ∙ sym (length-filter (λ (o : OrderRow). nat_eq o.state 2) kept)
     ∙ same_out t xs ∙ length-filter (λ (o : OrderRow). nat_eq t o.ticket && nat_eq o.state 2) xs
 
@@ -68,11 +72,11 @@ few_kept : (p : OrderRow → Bool) (xs : List OrderRow) → length (filter p xs)
 few_kept p xs = subst (λ n. n ≤ length xs) (sym (length-filter p xs)) (count_by-le-length p xs)
 
 pub few_lines : (t : ℕ) (d : Desk) → length d.orders ≤ most_orders
-    → length (map line_of (filter (λ (o : OrderRow). nat_eq t o.ticket && is_live o) d.orders)) < 2 ^ 32
+    → length (map line_of (filter (λ (o : OrderRow). nat_eq t o.ticket && has_not_ended o) d.orders)) < 2 ^ 32
 few_lines t d few =
-    let kept = filter (λ (o : OrderRow). nat_eq t o.ticket && is_live o) d.orders in
+    let kept = filter (λ (o : OrderRow). nat_eq t o.ticket && has_not_ended o) d.orders in
     let same = length-map kept line_of in
-    let fewer = few_kept (λ (o : OrderRow). nat_eq t o.ticket && is_live o) d.orders in
+    let fewer = few_kept (λ (o : OrderRow). nat_eq t o.ticket && has_not_ended o) d.orders in
     omega (arith, same, fewer, few)
 
 -- ---- the card
@@ -84,7 +88,7 @@ mapped_twice f h (Some x) = refl
 
 pub seat_told : (t : ℕ) (d : Desk) (seat : Option TakenSeat)
     → seat ≡ option_map taken (find (λ (s : SeatRow). nat_eq t s.ticket) d.seats)
-    → option_map (λ (s : TakenSeat). s.seat) seat ≡ seat_of t d
+    → option_map (λ (s : TakenSeat). s.seat) seat ≡ seat_of_ticket t d
 seat_told t d seat is =
     ap (option_map (λ (s : TakenSeat). s.seat)) is
     ∙ mapped_twice taken (λ (s : TakenSeat). s.seat) (find (λ (s : SeatRow). nat_eq t s.ticket) d.seats)
@@ -92,9 +96,9 @@ seat_told t d seat is =
 -- the card that the ticket's row makes
 abbrev pub card_with : ℕ → ℤ → Desk → NamedReader → ReaderCard
 card_with t today d x = record {
-  reader = record { ticket = t; until = x.until; seat = seat_of t d; held = held_with t d };
+  reader = record { ticket = t; until = x.until; seat = seat_of_ticket t d; held = held_with t d };
   name = x.name;
-  live = live_orders t d;
+  live = orders_not_ended t d;
   placed = placed_on t today d;
   orders = length d.orders;
 }
@@ -108,7 +112,7 @@ card_told t today d row is =
 
 -- the holder that the ticket's row makes
 abbrev pub holder_with : ℕ → Desk → NamedReader → Reader
-holder_with t d x = record { ticket = t; until = x.until; seat = seat_of t d; held = held_with t d }
+holder_with t d x = record { ticket = t; until = x.until; seat = seat_of_ticket t d; held = held_with t d }
 
 pub holder_told : (t : ℕ) (d : Desk) (row : Option NamedReader) → row ≡ option_map named (reader_with t d)
     → option_map (holder_with t d) row ≡ ticket_holder t d

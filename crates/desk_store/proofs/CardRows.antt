@@ -1,11 +1,19 @@
 -- The statements on what was ordered that a reader's card tells: what their texts mean, what they tell, and why they fail.
-use Rattle.std.proofs.Common.{◌≡◌, ◌≤◌, ◌<◌, ◌^◌, ℕ, ℤ, pos, List, [], ◌∷◌, length, codes, ◌&&◌, Result, IfOk, IfErr, nat_eq, refl, arith, map, filter, true, false, Bool, cond, Less, Equal, Greater, Ordering, ap, ◌∙◌}
-use Rattle.sqlite.specs.Ops.{binary, is_true}
-use Rattle.sqlite_value.proofs.OrderLemmas.{value_cmp-Int}
+use Rattle.std.proofs.Common.{◌≡◌, ◌≤◌, ◌<◌, ◌^◌, ℕ, ℤ, pos, List, [], ◌∷◌, length, codes, ◌&&◌, Result, IfOk, IfErr}
+use Rattle.std.proofs.Common.{nat_eq, refl, arith, map, filter, true, false, Bool, cond, Less, Equal, Greater, Ordering}
+use Rattle.std.proofs.Common.{ap, ◌∙◌}
 use Rattle.sqlite.specs.Listing.{understood}
+use Rattle.sqlite.specs.Ops.{binary, is_true}
 use Rattle.sqlite_tied.specs.Compute.{everything}
+use Rattle.sqlite_value.proofs.OrderLemmas.{value_cmp-Int}
 use Rattle.office_tables.proofs.statements.CountOf.{counting, count_finds, count_faults}
-use Rattle.desk_store.proofs.Common.{AllByRecursion, AreCounted, Binary, Command, Compare, Eq, Finds, FindsFirst, HasCause, Holds, Int, IsOrdered, IsTotalOrder, IsUnlimited, Key, Lt, Means, Misses, OrderLine, OrderRow, Row, Select, State, StoreFault, Term, Version, ascending, asking, both, by_one_int, col, count_by, eq_ints, flag, int_cmp, int_cmp_total, int_eq, is_live, is_lt, last_faults, last_finds, last_of, le_refl, lit, most_orders, nat_lt, on_total, op2, order_cells, orders, same_number, schema, select_faults, select_finds, ⊤}
+use Rattle.desk_store.proofs.Common.{AllByRecursion, AreCounted, Binary, Command, Compare, Eq, Finds, FindsFirst}
+use Rattle.desk_store.proofs.Common.{HasCause, Holds, Int, IsOrdered, IsTotalOrder, IsUnlimited, Key, Lt, Means, Misses}
+use Rattle.desk_store.proofs.Common.{OrderLine, OrderRow, Row, Select, State, StoreFault, Term, Version, ascending}
+use Rattle.desk_store.proofs.Common.{asking, both, by_one_int, col, count_by, eq_ints, flag, has_not_ended, int_cmp}
+use Rattle.desk_store.proofs.Common.{int_cmp_total, int_eq, is_lt, last_faults, last_finds, last_of, le_refl, lit}
+use Rattle.desk_store.proofs.Common.{most_orders, nat_lt, on_total, op2, order_cells, orders, same_number, schema}
+use Rattle.desk_store.proofs.Common.{select_faults, select_finds, ⊤}
 
 -- ---- how many orders there are
 
@@ -73,17 +81,17 @@ each_read (x ∷ xs) = (tt, each_read xs)
 
 module _ (old new : State) (t : ℕ) (v : Version) (has : old.now.schema ≡ schema v) (xs : List OrderRow) (stored : Holds orders order_cells old xs) {X : Type 0} (items : X → List OrderLine) (r : Result X StoreFault) where
   pub live_finds : IfOk r (λ found. Finds line_cells live_text (Int (pos t) ∷ []) old new (items found))
-      → IfOk r (λ found. (ys : List OrderRow) × IsOrdered by_order (filter (λ (o : OrderRow). nat_eq t o.ticket && is_live o) xs) ys × (items found ≡ map line_of ys))
+      → IfOk r (λ found. (ys : List OrderRow) × IsOrdered by_order (filter (λ (o : OrderRow). nat_eq t o.ticket && has_not_ended o) xs) ys × (items found ≡ map line_of ys))
   live_finds =
       select_finds v orders live_text live_there live_columns in_order live_names (Int (pos t) ∷ []) (live_means v) old new has order_cells xs stored
-      (λ (o : OrderRow). nat_eq t o.ticket && is_live o) (λ o. both (same_number o.ticket t) (below o.state 3)) (λ o. line_cells (line_of o)) (λ (o : OrderRow). Int (pos o.id) ∷ []) (λ _. refl) by_order (λ _. refl) (λ a b. by_one_int (pos a.id) (pos b.id))
+      (λ (o : OrderRow). nat_eq t o.ticket && has_not_ended o) (λ o. both (same_number o.ticket t) (below o.state 3)) (λ o. line_cells (line_of o)) (λ (o : OrderRow). Int (pos o.id) ∷ []) (λ _. refl) by_order (λ _. refl) (λ a b. by_one_int (pos a.id) (pos b.id))
       line_cells items line_of (λ _. refl) r
 
   pub live_faults : IsUnlimited old → IfErr r (Misses line_cells (λ _. ⊤) live_text (Int (pos t) ∷ []) old new)
       → IfErr r (HasCause old new)
   live_faults free =
       select_faults v orders live_text live_there live_columns in_order live_names (Int (pos t) ∷ []) (live_means v) old new has order_cells xs stored
-      (λ (o : OrderRow). nat_eq t o.ticket && is_live o) (λ o. both (same_number o.ticket t) (below o.state 3)) (λ o. line_cells (line_of o)) (λ (o : OrderRow). Int (pos o.id) ∷ []) (λ _. refl) by_order (λ _. refl) (λ a b. by_one_int (pos a.id) (pos b.id))
+      (λ (o : OrderRow). nat_eq t o.ticket && has_not_ended o) (λ o. both (same_number o.ticket t) (below o.state 3)) (λ o. line_cells (line_of o)) (λ (o : OrderRow). Int (pos o.id) ∷ []) (λ _. refl) by_order (λ _. refl) (λ a b. by_one_int (pos a.id) (pos b.id))
       line_cells items line_of (λ _. refl) (λ _. ⊤) refl free (each_read xs) r
 
 -- ---- how many a ticket placed on a day

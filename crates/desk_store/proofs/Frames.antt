@@ -1,7 +1,11 @@
 -- A desk of which one part changes: the tables show the others as before.
 use Rattle.std.proofs.Common.{◌≡◌, ◌≤◌, List, [], ◌∷◌, map, length, refl, ◌∙◌}
 use Rattle.office_tables.specs.Schema as tables
-use Rattle.desk_store.proofs.Common.{AllByRecursion, AreByNumber, AreCounted, Database, Desk, HasNumbered, HoldingRow, IsNumberOf, OnlyTouches, OrderRow, PermitRow, ReaderRow, RepresentsDesk, RunLineRow, RunRow, SeatRow, holding_cells, most_orders, most_runs, most_tickets, order_cells, permit_cells, reader_cells, run_cells, run_line_cells, seat_cells, still_numbered}
+use Rattle.desk_store.proofs.Common.{AllByRecursion, AreByNumber, AreCounted, Database, Desk, HasNumbered, HoldingRow}
+use Rattle.desk_store.proofs.Common.{IsNumberOf, OnlyTouches, OrderRow, PermitRow, ReaderRow, RepresentsDesk}
+use Rattle.desk_store.proofs.Common.{RunLineRow, RunRow, SeatRow, holding_cells, most_orders, most_runs, most_tickets}
+use Rattle.desk_store.proofs.Common.{order_cells, permit_cells, reader_cells, run_cells, run_line_cells, seat_cells}
+use Rattle.desk_store.proofs.Common.{still_numbered}
 use Rattle.desk_store.proofs.NumbersOf.{widened}
 
 module _ (old new : Database) (d : Desk) (shown : RepresentsDesk old.trees d) where

@@ -1,17 +1,28 @@
 -- The statements that change the rows of holdings: what their texts mean, what they leave, and why they fail; and what that is on the whole desk.
-use Rattle.std.proofs.Common.{◌≡◌, ℕ, pos, List, [], ◌∷◌, map, filter, codes, true, false, not, Option, Some, None, Ok, Result, OnOk, IfErr, nat_eq, refl, ap, ◌∙◌}
+use Rattle.std.proofs.Common.{◌≡◌, ℕ, pos, List, [], ◌∷◌, map, filter, codes, true, false, not, Option, Some, None, Ok}
+use Rattle.std.proofs.Common.{Result, OnOk, IfErr, nat_eq, refl, ap, ◌∙◌}
 use Rattle.std.proofs.lemmas.Map.Views.{any-filter_same}
 use Rattle.sqlite.specs.Listing.{understood}
+use Rattle.sqlite_rules.specs.Steps.{is_typed}
 use Rattle.sqlite_schema.specs.Names.{same_name}
 use Rattle.sqlite_tied.specs.Compute.{everything}
 use Rattle.sqlite_trees.specs.declared.store.Store as store
 use Rattle.sqlite_typing.specs.Types.{accepts_terms}
-use Rattle.sqlite_rules.specs.Steps.{is_typed}
 use Rattle.sqlite_value.specs.Keys.{joined}
-use Rattle.office_tables.specs.Schema as tables
 use Rattle.office_tables.proofs.Steps.{is_referred_to}
 use Rattle.office_tables.proofs.numbered.PutAgain.{put_gone}
-use Rattle.desk_store.proofs.Common.{AreByNumber, Binary, Chosen, Command, Compare, Delete, Desk, Eq, FaultsHaveCause, Goes, HasCause, HasCleanDisk, HasRows, Held, HoldingRow, Holds, Insert, Int, IsLegible, IsLive, IsUnlimited, IsWelcome, Leaves, Means, Null, OnlyTouches, PutsRow, Ran, RepresentsDesk, RepresentsDeskAlone, Row, Shelf, State, StoreFault, StoreUpdates, Term, Trees, Values, Version, ascending-filter, cast_int, cast_maybe, cast_null, choosing, col, cut_then, delete_faults, delete_leaves, delete_only, early, edit_of, goes_then, holding, holding_cells, insert_faults, insert_puts, last_cause, last_touched, le_refl, list_any, lit, number_welcome, on_err_then, on_ok_then, only, op2, option_map, or_null, put_down, put_rises, put_row, put_rows, references_fit, same_number, schema, state, still_unlimited, touched_again, untouched_last, value_rows, with_place, ⊤}
+use Rattle.office_tables.specs.Schema as tables
+use Rattle.desk_store.proofs.Common.{AreByNumber, Binary, Chosen, Command, Compare, Delete, Desk, Eq, FaultsHaveCause}
+use Rattle.desk_store.proofs.Common.{Goes, HasCause, HasCleanDisk, HasRows, Held, HoldingRow, Holds, Insert, Int}
+use Rattle.desk_store.proofs.Common.{IsLegible, IsLive, IsUnlimited, IsWelcome, Leaves, Means, Null, OnlyTouches}
+use Rattle.desk_store.proofs.Common.{PutsRow, Ran, RepresentsDesk, RepresentsDeskAlone, Row, Shelf, State, StoreFault}
+use Rattle.desk_store.proofs.Common.{StoreUpdates, Term, Trees, Values, Version, ascending-filter, cast_int, cast_maybe}
+use Rattle.desk_store.proofs.Common.{cast_null, choosing, col, cut_then, delete_faults, delete_leaves, delete_only}
+use Rattle.desk_store.proofs.Common.{early, edit_of, goes_then, holding, holding_cells, insert_faults, insert_puts}
+use Rattle.desk_store.proofs.Common.{last_cause, last_touched, le_refl, list_any, lit, number_welcome, on_err_then}
+use Rattle.desk_store.proofs.Common.{on_ok_then, only, op2, option_map, or_null, put_down, put_rises, put_row, put_rows}
+use Rattle.desk_store.proofs.Common.{references_fit, same_number, schema, state, still_unlimited, touched_again}
+use Rattle.desk_store.proofs.Common.{untouched_last, value_rows, with_place, ⊤}
 use Rattle.desk_store.proofs.Frames.{with_holdings}
 
 -- ---- a container has no row any more
@@ -120,16 +131,18 @@ module _ {S : Type 0} (g : store.Ghosts S) (before mid : Held S) (n : ℕ) where
 
   module _ (goes : Goes a b) (rows : HasCleanDisk b → (xs : List HoldingRow) → Holds holding holding_cells a xs → AreByNumber (λ (x : HoldingRow). x.container) xs → HasRows tables.holding.tree (map holding_cells (without n xs)) a.now b.now)
       (only : HasCleanDisk b → OnlyTouches (tables.holding.tree ∷ []) a.now b.now) where
-    pub shelved : StoreUpdates g RepresentsDeskAlone IsLegible before mid (Ok (tt {0})) (λ _. ⊤) (with_place n Shelf) (tables.holding.tree ∷ [])
+    pub shelved : StoreUpdates g (tables.holding.tree ∷ []) RepresentsDeskAlone before mid (Ok (tt {0})) (λ _. ⊤) IsLegible (with_place n Shelf)
     shelved = record {
-      represents_updated = λ clean beside d shown may.
-          let has = rows clean d.holdings shown.holdings shown.holdings_rise in
-          with_holdings a.now b.now d shown _ has.only has.are (ascending-filter _ (λ (x : HoldingRow). not (nat_eq n x.container)) d.holdings shown.holdings_rise);
-      only = only;
-      goes = goes;
-      aborts = tt;
+      call = record {
+        represents_updated = λ clean beside d shown may.
+            let has = rows clean d.holdings shown.holdings shown.holdings_rise in
+            with_holdings a.now b.now d shown _ has.only has.are (ascending-filter _ (λ (x : HoldingRow). not (nat_eq n x.container)) d.holdings shown.holdings_rise);
+        only = only;
+        goes = goes;
+        aborts = tt;
+        faults = λ beside d shown may kept clean free. tt;
+      };
       spares = λ clean. tt;
-      faults = λ beside d shown may kept clean free. tt;
     }
 
     module _ (after : Held S) (p : ℕ) (o : Option ℕ) where
@@ -154,13 +167,15 @@ module _ {S : Type 0} (g : store.Ghosts S) (before mid : Held S) (n : ℕ) where
             ∙ ap (map holding_cells) (put_gone (λ (x : HoldingRow). x.container) here d.holdings shown.holdings_rise))
             (put_rises holding_cells (λ (x : HoldingRow). pos x.container) (λ _. refl) here d.holdings shown.holdings_rise)
 
-        pub placed : StoreUpdates g RepresentsDeskAlone IsLegible before after r (λ _. ⊤) (λ d. record d { holdings = put_down here d.holdings }) (tables.holding.tree ∷ [])
+        pub placed : StoreUpdates g (tables.holding.tree ∷ []) RepresentsDeskAlone before after r (λ _. ⊤) IsLegible (λ d. record d { holdings = put_down here d.holdings })
         placed = record {
-          represents_updated = λ clean beside d shown may. on_ok_then r _ _ (λ put. moved clean put d shown) (puts clean);
-          only = λ clean. on_ok_then r _ _ (λ put. touched_again (tables.holding.tree ∷ []) a.now b.now z.now (only (back clean)) put.only) (puts clean);
-          goes = on_ok_then r _ _ (goes_then a b z goes) leaves.goes;
-          aborts = on_err_then r _ _ (cut_then a b z goes.on) leaves.aborts;
+          call = record {
+            represents_updated = λ clean beside d shown may. on_ok_then r _ _ (λ put. moved clean put d shown) (puts clean);
+            only = λ clean. on_ok_then r _ _ (λ put. touched_again (tables.holding.tree ∷ []) a.now b.now z.now (only (back clean)) put.only) (puts clean);
+            goes = on_ok_then r _ _ (goes_then a b z goes) leaves.goes;
+            aborts = on_err_then r _ _ (cut_then a b z goes.on) leaves.aborts;
+            faults = λ beside d shown may kept clean free. last_cause a b z goes.on r leaves.aborts clean (λ cleaner.
+                faults (without n d.holdings) (rows cleaner d.holdings shown.holdings shown.holdings_rise).are (none_without n d.holdings) clean (still_unlimited a b goes.on free));
+          };
           spares = λ clean. last_touched (tables.holding.tree ∷ []) a b z goes.on only r leaves.aborts clean (untouched_last (tables.holding.tree ∷ []) b z r (leaves.spares clean));
-          faults = λ beside d shown may kept clean free. last_cause a b z goes.on r leaves.aborts clean (λ cleaner.
-              faults (without n d.holdings) (rows cleaner d.holdings shown.holdings shown.holdings_rise).are (none_without n d.holdings) clean (still_unlimited a b goes.on free));
         }

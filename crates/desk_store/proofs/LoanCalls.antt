@@ -1,7 +1,8 @@
 -- With whom a container is: the ticket of the order that it is out with.
 use Rattle.std.proofs.Common.{◌≡◌, ℕ, ◌+◌, ◌<◌, ◌≤◌, List, [], ◌∷◌, ◌++◌, map, length, take, Option, refl, sym, ap, ◌∙◌}
 use Rattle.std.specs.Prelude.{get_or}
-use Rattle.desk_store.proofs.Common.{ContainerOrder, HoldingLine, HoldingRow, OrderRow, cons_option, filter_map, filter_map-append, issued_by, loan_by, take_all, take_more}
+use Rattle.desk_store.proofs.Common.{ContainerOrder, HoldingLine, HoldingRow, OrderRow, cons_option, filter_map}
+use Rattle.desk_store.proofs.Common.{filter_map-append, issued_by, loan_by, take_all, take_more}
 use Rattle.desk_store.proofs.LoanRows.{line_of}
 
 -- ---- the loans of the lines, one after another

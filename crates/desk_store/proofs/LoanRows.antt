@@ -3,7 +3,12 @@ use Rattle.std.proofs.Common.{◌≡◌, ℕ, pos, List, [], ◌∷◌, map, fil
 use Rattle.std.specs.declared.cmp.Ordering.{Ordering}
 use Rattle.sqlite.specs.Listing.{understood}
 use Rattle.sqlite_tied.specs.Compute.{everything}
-use Rattle.desk_store.proofs.Common.{Binary, Command, Compare, Eq, Finds, HasCause, HoldingLine, HoldingRow, Holds, Int, IsOrdered, IsTotalOrder, IsUnlimited, Key, Means, Misses, OrderRow, Row, Select, State, StoreFault, Term, Version, all_of, ascending, asking, by_one_int, col, holding, holding_cells, int_cmp, int_cmp_total, le_refl, on_total, only, op2, option_map, or_null, order_cells, orders, same_number, schema, select_faults, select_finds, ⊤}
+use Rattle.desk_store.proofs.Common.{Binary, Command, Compare, Eq, Finds, HasCause, HoldingLine, HoldingRow, Holds, Int}
+use Rattle.desk_store.proofs.Common.{IsOrdered, IsTotalOrder, IsUnlimited, Key, Means, Misses, OrderRow, Row, Select}
+use Rattle.desk_store.proofs.Common.{State, StoreFault, Term, Version, all_of, ascending, asking, by_one_int, col}
+use Rattle.desk_store.proofs.Common.{holding, holding_cells, int_cmp, int_cmp_total, le_refl, on_total, only, op2}
+use Rattle.desk_store.proofs.Common.{option_map, or_null, order_cells, orders, same_number, schema, select_faults}
+use Rattle.desk_store.proofs.Common.{select_finds, ⊤}
 use Rattle.desk_store.proofs.CardRows.{by_order}
 
 abbrev in_order : List (Term × Key)

@@ -1,12 +1,17 @@
 -- Two calls that change the desk, one after the other; and that what they make can be read back.
-use Rattle.std.proofs.Common.{◌≡◌, ℕ, ◌≤◌, pos, Bool, true, false, not, cond, nat_eq, List, [], ◌∷◌, filter, Some, None, Ok, Err, Result, Less, Equal, Greater, inr, refl, arith}
+use Rattle.std.proofs.Common.{◌≡◌, ℕ, ◌≤◌, pos, Bool, true, false, not, cond, nat_eq, List, [], ◌∷◌, filter, Some, None}
+use Rattle.std.proofs.Common.{Ok, Err, Result, Less, Equal, Greater, inr, refl, arith}
 use Rattle.std.specs.Prelude.{OnErr, OnOk}
 use Rattle.sqlite_trees.specs.declared.store.Store as store
 use Rattle.desk_core.specs.LegibleDesks.{IsLegibleHolding, IsLegibleOrder}
 use Rattle.desk_core.specs.declared.reader.Place.TheVariants.{Desk as AtTheDesk}
 use Rattle.desk_store.specs.declared.orders.OrderState.{OrderState}
 use Rattle.desk_store.specs.declared.orders.OrderState.TheVariants.{Waiting, «Out» as WithReader, Done, Cancelled}
-use Rattle.desk_store.proofs.Common.{AllByRecursion, Desk, Goes, Held, HoldingRow, IsAborted, IsLegible, IsNumber, OrderRow, Out, Place, RepresentsDeskAlone, Shelf, State, StoreFault, Survives, Updates, cut_then, early, excused_then, goes_then, int_cmp, list_all, list_any, match_ordering, on_err_then, on_ok_then, placed_at, put_down, state, state_number, touched_again, touched_wider, with_order_state, with_place, with_state}
+use Rattle.desk_store.proofs.Common.{AllByRecursion, Desk, Goes, Held, HoldingRow, IsAborted, IsLegible, IsNumber}
+use Rattle.desk_store.proofs.Common.{OrderRow, Out, Place, RepresentsDeskAlone, Shelf, State, StoreFault, Survives}
+use Rattle.desk_store.proofs.Common.{Updates, cut_then, early, excused_then, goes_then, int_cmp, list_all, list_any}
+use Rattle.desk_store.proofs.Common.{match_ordering, on_err_then, on_ok_then, order_state_number, placed_at, put_down}
+use Rattle.desk_store.proofs.Common.{state, touched_again, touched_wider, with_order_state, with_place, with_state}
 
 -- ---- one call, and then another
 
@@ -25,11 +30,11 @@ module _ {S X Y : Type 0} (g : store.Ghosts S) (before mid after : Held S) (done
   abbrev c : State
   c = state g after
 
-  pub makes_then : Updates g RepresentsDeskAlone IsLegible before mid (Ok done) may first one
-      → Updates g RepresentsDeskAlone IsLegible mid after r later second two
+  pub makes_then : Updates g one RepresentsDeskAlone before mid (Ok done) may IsLegible first
+      → Updates g two RepresentsDeskAlone mid after r later IsLegible second
       → ((d : Desk) → may d → later (first d)) → ((d : Desk) → IsLegible d → IsLegible (first d))
       → list_all (λ t. list_any (nat_eq t) touched) one ≡ true → list_all (λ t. list_any (nat_eq t) touched) two ≡ true
-      → Updates g RepresentsDeskAlone IsLegible before after r may (λ d. second (first d)) touched
+      → Updates g touched RepresentsDeskAlone before after r may IsLegible (λ d. second (first d))
   makes_then begins goes_on may_then kept_then these those =
       let left = went r b c goes_on.goes goes_on.aborts in
       record {
@@ -44,18 +49,18 @@ module _ {S X Y : Type 0} (g : store.Ghosts S) (before mid after : Held S) (done
 
 -- ---- what can be read back
 
-one_of : (k : OrderState) → (1 ≤ state_number k) × (state_number k ≤ 4)
+one_of : (k : OrderState) → (1 ≤ order_state_number k) × (order_state_number k ≤ 4)
 one_of Waiting = (omega arith, omega arith)
 one_of WithReader = (omega arith, omega arith)
 one_of Done = (omega arith, omega arith)
 one_of Cancelled = (omega arith, omega arith)
 
 orders_kept : (o : ℕ) (k : OrderState) (rows : List OrderRow) → AllByRecursion IsLegibleOrder rows
-    → AllByRecursion IsLegibleOrder (with_state o (state_number k) rows)
+    → AllByRecursion IsLegibleOrder (with_state o (order_state_number k) rows)
 orders_kept o k [] h = tt
 orders_kept o k (row ∷ rows) h = (at (nat_eq row.id o), orders_kept o k rows h.1)
   where
-    at : (b : Bool) → IsLegibleOrder (cond b (record row { state = state_number k }) row)
+    at : (b : Bool) → IsLegibleOrder (cond b (record row { state = order_state_number k }) row)
     at true = record { day = h.0.day; some_state = (one_of k).0; state = (one_of k).1 }
     at false = h.0
 

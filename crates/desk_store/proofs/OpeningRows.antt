@@ -1,9 +1,15 @@
 -- The statements of a new day: what their texts mean, what they leave, and why they fail.
-use Rattle.std.proofs.Common.{◌≡◌, ℕ, ℤ, pos, List, [], ◌∷◌, map, filter, drop, codes, true, false, Result, OnOk, IfErr, refl, subst}
+use Rattle.std.proofs.Common.{◌≡◌, ℕ, ℤ, pos, List, [], ◌∷◌, map, filter, drop, codes, true, false, Result, OnOk, IfErr}
+use Rattle.std.proofs.Common.{refl, subst}
 use Rattle.sqlite.specs.Listing.{understood}
 use Rattle.sqlite_tied.specs.Compute.{everything}
 use Rattle.office_tables.specs.Schema as tables
-use Rattle.desk_store.proofs.Common.{AreByNumber, Binary, Command, Compare, Delete, Eq, HasCause, HasRows, Holds, Int, IsLive, IsUnlimited, Means, Null, OfficeRow, OnlyTouches, Ran, Row, SeatRow, State, StoreFault, Term, Update, Version, cast_int, cast_null, cast_row, choosing, col, delete_faults, delete_leaves, delete_only, le_refl, lit, office, office_cells, office_kept, only, op2, same_number, schema, seat, seat_alone, seat_cells, seat_fits, update_faults, update_leaves, update_only}
+use Rattle.desk_store.proofs.Common.{AreByNumber, Binary, Command, Compare, Delete, Eq, HasCause, HasRows, Holds, Int}
+use Rattle.desk_store.proofs.Common.{IsLive, IsUnlimited, Means, Null, OfficeRow, OnlyTouches, Ran, Row, SeatRow, State}
+use Rattle.desk_store.proofs.Common.{StoreFault, Term, Update, Version, cast_int, cast_null, cast_row, choosing, col}
+use Rattle.desk_store.proofs.Common.{delete_faults, delete_leaves, delete_only, le_refl, lit, office, office_cells}
+use Rattle.desk_store.proofs.Common.{office_kept, only, op2, same_number, schema, seat, seat_alone, seat_cells}
+use Rattle.desk_store.proofs.Common.{seat_fits, update_faults, update_leaves, update_only}
 
 -- ---- all seats become free
 

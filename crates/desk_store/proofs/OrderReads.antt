@@ -1,11 +1,16 @@
 -- The statement that finds an order: what its text means, what it tells, and why it fails.
-use Rattle.std.proofs.Common.{◌≡◌, ◌≤◌, ℕ, pos, List, [], ◌∷◌, map, filter, find, codes, true, false, Bool, cond, Option, Some, None, Result, IfOk, IfErr, nat_eq, refl, sym, ap, subst, ◌∙◌}
+use Rattle.std.proofs.Common.{◌≡◌, ◌≤◌, ℕ, pos, List, [], ◌∷◌, map, filter, find, codes, true, false, Bool, cond}
+use Rattle.std.proofs.Common.{Option, Some, None, Result, IfOk, IfErr, nat_eq, refl, sym, ap, subst, ◌∙◌}
 use Rattle.sqlite.specs.Listing.{understood}
 use Rattle.sqlite_tied.specs.Compute.{everything}
 use Rattle.desk_store.specs.Representation.{IsLegibleOrder}
 use Rattle.desk_store.specs.declared.orders.OrderEntry.{OrderEntry}
 use Rattle.desk_store.specs.declared.orders.PlacedOrder.{PlacedOrder}
-use Rattle.desk_store.proofs.Common.{AllByRecursion, Binary, Command, Compare, Eq, Finds, HasCause, Holds, Int, IsOrdered, IsThere, IsUnlimited, Means, Misses, OrderRow, Row, Select, State, StoreFault, Term, Version, all_weaker, asking, by_one_int, col, is_day_number, le_refl, only, op2, option_map, order_cells, orders, same_number, schema, select_faults, select_finds, state_number}
+use Rattle.desk_store.proofs.Common.{AllByRecursion, Binary, Command, Compare, Eq, Finds, HasCause, Holds, Int}
+use Rattle.desk_store.proofs.Common.{IsOrdered, IsThere, IsUnlimited, Means, Misses, OrderRow, Row, Select, State}
+use Rattle.desk_store.proofs.Common.{StoreFault, Term, Version, all_weaker, asking, by_one_int, col, is_day_number}
+use Rattle.desk_store.proofs.Common.{le_refl, only, op2, option_map, order_cells, order_state_number, orders}
+use Rattle.desk_store.proofs.Common.{same_number, schema, select_faults, select_finds}
 use Rattle.desk_store.proofs.CardRows.{by_order, in_order}
 
 abbrev pub entry_of : OrderRow → OrderEntry
@@ -58,7 +63,7 @@ told_none None h = refl
 told_none (Some row) h = absurd (cc)
 
 pub told_there : (row : Option OrderRow) (e : OrderEntry) (o : PlacedOrder) → option_map entry_of row ≡ Some e
-    → o.ticket ≡ e.ticket → o.container ≡ e.container → o.day ≡ e.day → state_number o.state ≡ e.state
+    → o.ticket ≡ e.ticket → o.container ≡ e.container → o.day ≡ e.day → order_state_number o.state ≡ e.state
     → IsThere row (Some o)
 told_there None e o h ticket container day state = absurd (cc)
 told_there (Some row) e o h ticket container day state =

@@ -1,15 +1,26 @@
 -- The statements that change the rows of orders: what their texts mean, what they leave, and why they fail; and what that is on the whole desk.
-use Rattle.std.proofs.Common.{◌≡◌, ◌≤◌, ◌+◌, ℕ, zero, suc, ℤ, pos, List, [], ◌∷◌, ◌++◌, map, length, drop, codes, Bool, true, false, cond, ltb, Result, OnOk, IfErr, nat_eq, refl, sym, ap, subst, ◌∙◌, arith}
+use Rattle.std.proofs.Common.{◌≡◌, ◌≤◌, ◌+◌, ℕ, zero, suc, ℤ, pos, List, [], ◌∷◌, ◌++◌, map, length, drop, codes, Bool}
+use Rattle.std.proofs.Common.{true, false, cond, ltb, Result, OnOk, IfErr, nat_eq, refl, sym, ap, subst, ◌∙◌, arith}
 use Rattle.sqlite.specs.Listing.{understood}
 use Rattle.sqlite_schema.specs.Names.{same_name}
 use Rattle.sqlite_tied.specs.Compute.{everything}
 use Rattle.sqlite_trees.specs.declared.store.Store as store
 use Rattle.sqlite_value.specs.Keys.{joined}
 use Rattle.tree_core.proofs.Lists.{eqb_comm}
+use Rattle.office_tables.proofs.UpdateCauses.{KeepsTable}
 use Rattle.office_tables.specs.Schema as tables
 use Rattle.desk_store.specs.declared.orders.OrderState.{OrderState}
-use Rattle.office_tables.proofs.UpdateCauses.{KeepsTable}
-use Rattle.desk_store.proofs.Common.{AreCounted, Binary, Chosen, Command, Compare, Eq, FaultsHaveCause, First, HasCause, HasCleanDisk, HasRows, Held, Holds, Insert, Int, IsLegible, IsLive, IsNextOrder, IsUnlimited, IsWelcome, Leaves, Means, Null, OnlyTouches, OrderRow, PutsRow, Ran, RepresentsDeskAlone, Row, Second, State, StoreFault, StoreUpdates, Term, Trees, Update, Values, Version, cast_int, cast_null, cast_row, choosing, col, column, counted_again, counted_free, counted_more, counted_rises, edit_of, insert_faults, insert_puts, le_refl, length-append, length-map, list_any, lit, ltb-true, most_orders, number_welcome, on_ok_then, only, op2, order_cells, orders, put_end, put_row, put_rows, same_number, schema, state, state_number, untouched_last, update_faults, update_leaves, update_only, value_rows, with_order, with_order_state, with_state, ⊤}
+use Rattle.desk_store.proofs.Common.{AreCounted, Binary, Chosen, Command, Compare, Eq, FaultsHaveCause, First, HasCause}
+use Rattle.desk_store.proofs.Common.{HasCleanDisk, HasRows, Held, Holds, Insert, Int, IsLegible, IsLive, IsNextOrder}
+use Rattle.desk_store.proofs.Common.{IsUnlimited, IsWelcome, Leaves, Means, Null, OnlyTouches, OrderRow, PutsRow, Ran}
+use Rattle.desk_store.proofs.Common.{RepresentsDeskAlone, Row, Second, State, StoreFault, StoreUpdates, Term, Trees}
+use Rattle.desk_store.proofs.Common.{Update, Values, Version, cast_int, cast_null, cast_row, choosing, col, column}
+use Rattle.desk_store.proofs.Common.{counted_again, counted_free, counted_more, counted_rises, edit_of, insert_faults}
+use Rattle.desk_store.proofs.Common.{insert_puts, le_refl, length-append, length-map, list_any, lit, ltb-true}
+use Rattle.desk_store.proofs.Common.{most_orders, number_welcome, on_ok_then, only, op2, order_cells}
+use Rattle.desk_store.proofs.Common.{order_state_number, orders, put_end, put_row, put_rows, same_number, schema, state}
+use Rattle.desk_store.proofs.Common.{untouched_last, update_faults, update_leaves, update_only, value_rows, with_order}
+use Rattle.desk_store.proofs.Common.{with_order_state, with_state, ⊤}
 use Rattle.desk_store.proofs.Frames.{with_orders}
 
 -- ---- a new order
@@ -128,43 +139,47 @@ module _ {S : Type 0} (g : store.Ghosts S) (before after : Held S) (r : Result U
   pub appended : (ticket container : ℕ) (day : ℤ) → Leaves old new r
       → (HasCleanDisk new → OnOk r (PutsRow tables.orders.tree (order_cells (record { id = id; ticket = ticket; container = container; day = day; state = 1 })) old.now new.now))
       → ((xs : List OrderRow) → Holds orders order_cells old xs → list_any (λ (o : OrderRow). nat_eq id o.id) xs ≡ false → FaultsHaveCause old new r)
-      → StoreUpdates g RepresentsDeskAlone IsLegible before after r (IsNextOrder id) (with_order ticket container day) (tables.orders.tree ∷ [])
+      → StoreUpdates g (tables.orders.tree ∷ []) RepresentsDeskAlone before after r (IsNextOrder id) IsLegible (with_order ticket container day)
   appended ticket container day leaves puts faults = record {
-    represents_updated = λ clean beside d shown may. on_ok_then r _ _ (λ put.
-        let n = may.1 in
-        let few = may.0 in
-        let next : id ≡ 1 + length d.orders = n ∙ omega arith in
-        let row : OrderRow =
-        record { id = suc (length d.orders); ticket = ticket; container = container; day = day; state = 1 } in
-        let is : suc (length d.orders) ≡ 1 + length d.orders = omega arith in
-        with_orders old.now new.now d shown (d.orders ++ row ∷ []) put.only
-        (put.rows ∙ ap (λ (i : ℕ). put_row (order_cells (record { id = i; ticket = ticket; container = container; day = day; state = 1 })) (old.now.trees tables.orders.tree)) n ∙ ap (put_row (order_cells row)) shown.orders
-        ∙ put_rows order_cells (λ (o : OrderRow). pos o.id) (λ _. refl) row d.orders
-        ∙ ap (map order_cells) (put_end (λ (o : OrderRow). o.id) 1 d.orders row shown.order_numbers is))
-        (counted_more (λ (o : OrderRow). o.id) 1 d.orders row shown.order_numbers is)
-        (let size = length-append d.orders (row ∷ []) in omega (arith, size, few))) (puts clean);
-    only = λ clean. on_ok_then r _ _ (λ put. put.only) (puts clean);
-    goes = leaves.goes;
-    aborts = leaves.aborts;
+    call = record {
+      represents_updated = λ clean beside d shown may. on_ok_then r _ _ (λ put.
+          let n = may.1 in
+          let few = may.0 in
+          let next : id ≡ 1 + length d.orders = n ∙ omega arith in
+          let row : OrderRow =
+          record { id = suc (length d.orders); ticket = ticket; container = container; day = day; state = 1 } in
+          let is : suc (length d.orders) ≡ 1 + length d.orders = omega arith in
+          with_orders old.now new.now d shown (d.orders ++ row ∷ []) put.only
+          (put.rows ∙ ap (λ (i : ℕ). put_row (order_cells (record { id = i; ticket = ticket; container = container; day = day; state = 1 })) (old.now.trees tables.orders.tree)) n ∙ ap (put_row (order_cells row)) shown.orders
+          ∙ put_rows order_cells (λ (o : OrderRow). pos o.id) (λ _. refl) row d.orders
+          ∙ ap (map order_cells) (put_end (λ (o : OrderRow). o.id) 1 d.orders row shown.order_numbers is))
+          (counted_more (λ (o : OrderRow). o.id) 1 d.orders row shown.order_numbers is)
+          (let size = length-append d.orders (row ∷ []) in omega (arith, size, few))) (puts clean);
+      only = λ clean. on_ok_then r _ _ (λ put. put.only) (puts clean);
+      goes = leaves.goes;
+      aborts = leaves.aborts;
+      faults = λ beside d shown may kept.
+          let n = may.1 in
+          faults d.orders shown.orders (counted_free (λ (o : OrderRow). o.id) 1 d.orders id shown.order_numbers (n ∙ omega arith));
+    };
     spares = λ clean. untouched_last (tables.orders.tree ∷ []) old new r (leaves.spares clean);
-    faults = λ beside d shown may kept.
-        let n = may.1 in
-        faults d.orders shown.orders (counted_free (λ (o : OrderRow). o.id) 1 d.orders id shown.order_numbers (n ∙ omega arith));
   }
 
   pub brought : (next : OrderState) → Leaves old new r
-      → (HasCleanDisk new → (xs : List OrderRow) → Holds orders order_cells old xs → AreCounted (λ (o : OrderRow). o.id) xs → OnOk r (HasRows tables.orders.tree (map order_cells (with_state id (state_number next) xs)) old.now new.now))
+      → (HasCleanDisk new → (xs : List OrderRow) → Holds orders order_cells old xs → AreCounted (λ (o : OrderRow). o.id) xs → OnOk r (HasRows tables.orders.tree (map order_cells (with_state id (order_state_number next) xs)) old.now new.now))
       → (HasCleanDisk new → OnOk r (OnlyTouches (tables.orders.tree ∷ []) old.now new.now))
       → ((xs : List OrderRow) → Holds orders order_cells old xs → AreCounted (λ (o : OrderRow). o.id) xs → FaultsHaveCause old new r)
-      → StoreUpdates g RepresentsDeskAlone IsLegible before after r (λ _. ⊤) (with_order_state id next) (tables.orders.tree ∷ [])
+      → StoreUpdates g (tables.orders.tree ∷ []) RepresentsDeskAlone before after r (λ _. ⊤) IsLegible (with_order_state id next)
   brought next leaves rows only faults = record {
-    represents_updated = λ clean beside d shown may. on_ok_then r _ _ (λ has.
-        with_orders old.now new.now d shown _ has.only has.are
-        (counted_again (λ (o : OrderRow). o.id) 1 _ (same_orders id (state_number next)) d.orders shown.order_numbers)
-        (subst (λ n. n ≤ most_orders) (sym (length-map d.orders _)) shown.few_orders)) (rows clean d.orders shown.orders shown.order_numbers);
-    only = only;
-    goes = leaves.goes;
-    aborts = leaves.aborts;
+    call = record {
+      represents_updated = λ clean beside d shown may. on_ok_then r _ _ (λ has.
+          with_orders old.now new.now d shown _ has.only has.are
+          (counted_again (λ (o : OrderRow). o.id) 1 _ (same_orders id (order_state_number next)) d.orders shown.order_numbers)
+          (subst (λ n. n ≤ most_orders) (sym (length-map d.orders _)) shown.few_orders)) (rows clean d.orders shown.orders shown.order_numbers);
+      only = only;
+      goes = leaves.goes;
+      aborts = leaves.aborts;
+      faults = λ beside d shown may kept. faults d.orders shown.orders shown.order_numbers;
+    };
     spares = λ clean. untouched_last (tables.orders.tree ∷ []) old new r (leaves.spares clean);
-    faults = λ beside d shown may kept. faults d.orders shown.orders shown.order_numbers;
   }

@@ -1,5 +1,6 @@
 -- The statements on the rows of permits: what their texts mean, what they leave or tell, and why they fail.
-use Rattle.std.proofs.Common.{◌≡◌, ℕ, ℤ, pos, List, [], ◌∷◌, map, filter, codes, true, false, Result, OnOk, IfOk, IfErr, nat_eq, refl, ◌∙◌}
+use Rattle.std.proofs.Common.{◌≡◌, ℕ, ℤ, pos, List, [], ◌∷◌, map, filter, codes, true, false, Result, OnOk, IfOk, IfErr}
+use Rattle.std.proofs.Common.{nat_eq, refl, ◌∙◌}
 use Rattle.std.specs.declared.cmp.Ordering.{Ordering}
 use Rattle.sqlite.specs.Listing.{understood}
 use Rattle.sqlite_schema.specs.Names.{same_name}
@@ -7,7 +8,17 @@ use Rattle.sqlite_tied.specs.Compute.{everything}
 use Rattle.sqlite_value.specs.Keys.{joined, first_key}
 use Rattle.office_tables.specs.Schema as tables
 use Rattle.desk_store.specs.declared.reader_permits.Permit.{Permit}
-use Rattle.desk_store.proofs.Common.{AllByRecursion, Binary, Chosen, Command, Compare, Delete, Eq, Finds, HasCause, HasNumbered, HasUnitRow, Insert, Int, IsLive, IsOrdered, IsUnlimited, IsWelcome, Key, Means, Misses, Null, OnlyTouches, PermitRow, PutsRow, Ran, Row, Select, State, StoreFault, Term, Trees, Values, Version, agree, all_numbered, ascending, asking, both, by_two_ints, cast_int, cast_null, choosing, col, column, delete_faults, delete_leaves, delete_only, edit_of, either_first, eq-eqb, has_null, has_parent, insert_faults, insert_puts, int_cmp, is_day_number, is_key_of, is_permit, le_refl, list_all, list_any, lit, next_rowid, next_welcome, none_agrees, on_ok_then, only, op2, or_right, ordering_then, permit, permit_alone, permit_cells, permit_fits, plain, same_number, schema, select_faults, select_finds, some_from, those_left, to_unit, unit, value_rows, without_permit}
+use Rattle.desk_store.proofs.Common.{AllByRecursion, Binary, Chosen, Command, Compare, Delete, Eq, Finds, HasCause}
+use Rattle.desk_store.proofs.Common.{HasNumbered, HasUnitRow, Insert, Int, IsLive, IsOrdered, IsUnlimited, IsWelcome}
+use Rattle.desk_store.proofs.Common.{Key, Means, Misses, Null, OnlyTouches, PermitRow, PutsRow, Ran, Row, Select, State}
+use Rattle.desk_store.proofs.Common.{StoreFault, Term, Trees, Values, Version, agree, all_numbered, ascending, asking}
+use Rattle.desk_store.proofs.Common.{both, by_two_ints, cast_int, cast_null, choosing, col, column, delete_faults}
+use Rattle.desk_store.proofs.Common.{delete_leaves, delete_only, edit_of, either_first, eq-eqb, has_null, has_parent}
+use Rattle.desk_store.proofs.Common.{insert_faults, insert_puts, int_cmp, is_day_number, is_key_of, is_permit, le_refl}
+use Rattle.desk_store.proofs.Common.{list_all, list_any, lit, next_rowid, next_welcome, none_agrees, on_ok_then, only}
+use Rattle.desk_store.proofs.Common.{op2, or_right, ordering_then, permit, permit_alone, permit_cells, permit_fits}
+use Rattle.desk_store.proofs.Common.{plain, same_number, schema, select_faults, select_finds, some_from, those_left}
+use Rattle.desk_store.proofs.Common.{to_unit, unit, value_rows, without_permit}
 
 -- ---- a permit for a unit that has its row
 

@@ -1,7 +1,11 @@
 -- What a run may take, from the orders that wait and where their containers are.
-use Rattle.std.proofs.Common.{◌≡◌, ℕ, pos, Bool, true, false, cond, not, ◌&&◌, ◌||◌, nat_eq, List, [], ◌∷◌, map, filter, find, Some, Less, refl, ap, ap₂, ◌∙◌}
+use Rattle.std.proofs.Common.{◌≡◌, ℕ, pos, Bool, true, false, cond, not, ◌&&◌, ◌||◌, nat_eq, List, [], ◌∷◌, map, filter}
+use Rattle.std.proofs.Common.{find, Some, Less, refl, ap, ap₂, ◌∙◌}
 use Rattle.desk_core.specs.declared.reader.Place.TheVariants.{Desk as AtTheDesk}
-use Rattle.desk_store.proofs.Common.{AreByNumber, AreCounted, ContainerOrder, Desk, HoldingLine, HoldingRow, IsAt, OrderRow, Out, Place, Shelf, ascending-filter, ascending-map, candidates_of, counted_rises, filter-map, firsts_of, int_cmp, is_earliest, is_first, is_on_shelf, list_any, nat_lt, on_shelf, waits_for}
+use Rattle.desk_store.proofs.Common.{AreByNumber, AreCounted, ContainerOrder, Desk, HoldingLine, HoldingRow, IsAt}
+use Rattle.desk_store.proofs.Common.{OrderRow, Out, Place, Shelf, ascending-filter, ascending-map, candidates_of}
+use Rattle.desk_store.proofs.Common.{counted_rises, filter-map, firsts_of, int_cmp, is_earliest, is_first_waiting}
+use Rattle.desk_store.proofs.Common.{is_on_shelf, list_any, nat_lt, on_shelf, waits_for}
 use Rattle.desk_store.proofs.LoanRows.{line_of}
 use Rattle.desk_store.proofs.PickingRows.{first_of}
 
@@ -47,14 +51,14 @@ firsts_are d orders are =
     ∙ filter-map (λ (o : ContainerOrder). is_earliest o (map first_of (filter waits d.orders))) first_of (filter waits d.orders)
     ∙ ap (map first_of) (filter_both (λ (o : OrderRow). is_earliest (first_of o) (map first_of (filter waits d.orders))) waits d.orders ∙ filter_same _ _ each d.orders)
   where
-    each : (o : OrderRow) → (waits o && is_earliest (first_of o) (map first_of (filter waits d.orders))) ≡ is_first d o
+    each : (o : OrderRow) → (waits o && is_earliest (first_of o) (map first_of (filter waits d.orders))) ≡ is_first_waiting d o
     each o = ap (λ b. waits o && not b) (any_waiting o.container o.id d.orders)
 
 -- those of them that are on the shelf are what a run may take
 pub candidates_are : (d : Desk) → on_shelf d (firsts_of d) ≡ candidates_of d
 candidates_are d =
-    filter-map (λ (o : ContainerOrder). is_on_shelf d o.container) first_of (filter (is_first d) d.orders)
-    ∙ ap (map first_of) (filter_both (λ (o : OrderRow). is_on_shelf d o.container) (is_first d) d.orders)
+    filter-map (λ (o : ContainerOrder). is_on_shelf d o.container) first_of (filter (is_first_waiting d) d.orders)
+    ∙ ap (map first_of) (filter_both (λ (o : OrderRow). is_on_shelf d o.container) (is_first_waiting d) d.orders)
 
 -- ---- where a container is
 

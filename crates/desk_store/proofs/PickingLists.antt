@@ -1,8 +1,11 @@
 -- The first order for each container, among those that rise by their numbers.
-use Rattle.std.proofs.Common.{◌≡◌, ℕ, zero, suc, ◌+◌, ◌<◌, pos, Bool, true, false, cond, not, ◌&&◌, ◌||◌, nat_eq, List, [], ◌∷◌, ◌++◌, filter, length, take, Less, Greater, Equal, refl, sym, ap, ap₂, ◌∙◌, arith}
-use Rattle.std.specs.Prelude.{get_or}
+use Rattle.std.proofs.Common.{◌≡◌, ℕ, zero, suc, ◌+◌, ◌<◌, pos, Bool, true, false, cond, not, ◌&&◌, ◌||◌, nat_eq, List}
+use Rattle.std.proofs.Common.{[], ◌∷◌, ◌++◌, filter, length, take, Less, Greater, Equal, refl, sym, ap, ap₂, ◌∙◌, arith}
 use Rattle.std.proofs.lemmas.List.Folds.{list_any-append}
-use Rattle.desk_store.proofs.Common.{AllByRecursion, AreByNumber, ContainerOrder, all_has, filter-append, has_at, int_cmp, is_earliest, is_eq, less_below, list_any, lt-ltb, nat_cmp, nat_lt, nat_tests, take_more}
+use Rattle.std.specs.Prelude.{get_or}
+use Rattle.desk_store.proofs.Common.{AllByRecursion, AreByNumber, ContainerOrder, all_has, filter-append, has_at}
+use Rattle.desk_store.proofs.Common.{int_cmp, is_earliest, is_eq, less_below, list_any, lt-ltb, nat_cmp, nat_lt}
+use Rattle.desk_store.proofs.Common.{nat_tests, take_more}
 
 -- ---- a set of numbers
 

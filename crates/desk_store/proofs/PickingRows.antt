@@ -2,7 +2,10 @@
 use Rattle.std.proofs.Common.{◌≡◌, ℕ, pos, List, [], ◌∷◌, map, filter, codes, Result, IfOk, IfErr, nat_eq, refl}
 use Rattle.sqlite.specs.Listing.{understood}
 use Rattle.sqlite_tied.specs.Compute.{everything}
-use Rattle.desk_store.proofs.Common.{Binary, Command, Compare, ContainerOrder, Eq, Finds, HasCause, Holds, Int, IsOrdered, IsUnlimited, Means, Misses, OrderRow, Row, Select, State, StoreFault, Term, Version, all_of, asking, by_one_int, col, le_refl, lit, only, op2, order_cells, orders, same_number, schema, select_faults, select_finds, ⊤}
+use Rattle.desk_store.proofs.Common.{Binary, Command, Compare, ContainerOrder, Eq, Finds, HasCause, Holds, Int}
+use Rattle.desk_store.proofs.Common.{IsOrdered, IsUnlimited, Means, Misses, OrderRow, Row, Select, State, StoreFault}
+use Rattle.desk_store.proofs.Common.{Term, Version, all_of, asking, by_one_int, col, le_refl, lit, only, op2}
+use Rattle.desk_store.proofs.Common.{order_cells, orders, same_number, schema, select_faults, select_finds, ⊤}
 use Rattle.desk_store.proofs.CardRows.{by_order, in_order}
 
 abbrev pub first_of : OrderRow → ContainerOrder

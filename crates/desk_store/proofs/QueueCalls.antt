@@ -2,7 +2,8 @@
 -- there such a container, where is it, and who is the first.
 use Rattle.std.proofs.Common.{◌≡◌, ℕ, true, false, List, Option, Some, None, refl, sym, ap}
 use Rattle.desk_store.specs.declared.orders.WaitingOrder.{WaitingOrder}
-use Rattle.desk_store.proofs.Common.{BoxKey, IsAt, IsHeaded, IsQueued, Place, Storage, holding_of, is_some, option_map, queue_of, slice_get}
+use Rattle.desk_store.proofs.Common.{BoxKey, IsAt, IsHeaded, IsQueued, Place, Storage, holding_of, is_some, option_map}
+use Rattle.desk_store.proofs.Common.{queue_of, slice_get}
 use Rattle.desk_store.proofs.BoxRows.{Numbered}
 
 abbrev written : Option Numbered → Option BoxKey

@@ -1,9 +1,16 @@
 -- A reader more, on the whole desk: first the next ticket is read, then the row is put.
-use Rattle.std.proofs.Common.{◌≡◌, ℕ, suc, ◌+◌, ◌<◌, ℤ, pos, false, cond, nat_eq, List, [], ◌∷◌, ◌++◌, map, length, Option, Some, None, Ok, Err, inl, inr, refl, sym, ap, subst, ◌∙◌, arith}
-use Rattle.isad_core.specs.Texts.{Bytes}
+use Rattle.std.proofs.Common.{◌≡◌, ℕ, suc, ◌+◌, ◌<◌, ℤ, pos, false, cond, nat_eq, List, [], ◌∷◌, ◌++◌, map, length}
+use Rattle.std.proofs.Common.{Option, Some, None, Ok, Err, inl, inr, refl, sym, ap, subst, ◌∙◌, arith}
 use Rattle.sqlite_trees.specs.declared.store.Store as store
+use Rattle.isad_core.specs.Texts.{Bytes}
 use Rattle.office_tables.specs.Schema as tables
-use Rattle.desk_store.proofs.Common.{Database, Desk, Goes, HasCause, HasCleanDisk, Held, Holds, IsAborted, IsLegible, IsSame, IsUnlimited, LeavesUnchanged, OnlyTouches, PutsRow, ReaderRow, RepresentsDesk, RepresentsDeskAlone, Spares, State, StoreFault, StoreUpdates, cases_Bool, counted_free, counted_more, cut_then, early, goes_then, length-append, list_any, looked_spares, ltb-true, most_tickets, nat_lt, next_cause, next_ticket, put_end, put_row, put_rows, reader, reader_cells, state, still_unlimited, untouched, with_reader, ⊤}
+use Rattle.desk_store.proofs.Common.{Database, Desk, Goes, HasCause, HasCleanDisk, Held, Holds, IsAborted, IsLegible}
+use Rattle.desk_store.proofs.Common.{IsSame, IsUnlimited, LeavesUnchanged, OnlyTouches, PutsRow, ReaderRow}
+use Rattle.desk_store.proofs.Common.{RepresentsDesk, RepresentsDeskAlone, Spares, State, StoreFault, StoreUpdates}
+use Rattle.desk_store.proofs.Common.{cases_Bool, counted_free, counted_more, cut_then, early, goes_then, length-append}
+use Rattle.desk_store.proofs.Common.{list_any, looked_spares, ltb-true, most_tickets, nat_lt, next_cause, next_ticket}
+use Rattle.desk_store.proofs.Common.{put_end, put_row, put_rows, reader, reader_cells, state, still_unlimited}
+use Rattle.desk_store.proofs.Common.{untouched, with_reader, ⊤}
 use Rattle.desk_store.proofs.Frames.{with_readers}
 
 -- where there is a next ticket, it is one more than those that were given
@@ -45,27 +52,31 @@ module _ {S : Type 0} (g : store.Ghosts S) (before mid after : Held S) (name : B
         (let size = length-append d.readers (row ∷ []) in omega (arith, size, few)) (let size = length-append d.readers (row ∷ []) in omega (arith, size)))
 
     pub added : Goes b c → (HasCleanDisk c → PutsRow tables.reader.tree (reader_cells row) b.now c.now)
-        → StoreUpdates g RepresentsDeskAlone IsLegible before after (Ok (Some ticket)) (λ _. ⊤) (λ d. with_reader (next_ticket d) name until d) (tables.reader.tree ∷ [])
+        → StoreUpdates g (tables.reader.tree ∷ []) RepresentsDeskAlone before after (Ok (Some ticket)) (λ _. ⊤) IsLegible (λ d. with_reader (next_ticket d) name until d)
     added goes puts =
         let back = early b c _ goes.on.crash in
         record {
-          represents_updated = λ clean beside d shown may. put (back clean) (puts clean) d shown;
-          only = λ clean. subst (λ (db : Database). OnlyTouches (tables.reader.tree ∷ []) db c.now) (looked.same (back clean)) (puts clean).only;
-          goes = goes_then a b c looked.goes goes;
-          aborts = tt;
+          call = record {
+            represents_updated = λ clean beside d shown may. put (back clean) (puts clean) d shown;
+            only = λ clean. subst (λ (db : Database). OnlyTouches (tables.reader.tree ∷ []) db c.now) (looked.same (back clean)) (puts clean).only;
+            goes = goes_then a b c looked.goes goes;
+            aborts = tt;
+            faults = λ beside d shown may kept clean free. tt;
+          };
           spares = λ clean. tt;
-          faults = λ beside d shown may kept clean free. tt;
         }
 
     pub failed : (e : StoreFault) → IsAborted b c → (HasCleanDisk c → Spares IsSame b c e)
         → ((xs : List ReaderRow) → Holds reader reader_cells b xs → list_any (λ (r : ReaderRow). nat_eq ticket r.ticket) xs ≡ false → HasCleanDisk c → IsUnlimited b → HasCause b c e)
-        → StoreUpdates {X = Option ℕ} g RepresentsDeskAlone IsLegible before after (Err e) (λ _. ⊤) (λ d. with_reader (next_ticket d) name until d) (tables.reader.tree ∷ [])
+        → StoreUpdates {X = Option ℕ} g (tables.reader.tree ∷ []) RepresentsDeskAlone before after (Err e) (λ _. ⊤) IsLegible (λ d. with_reader (next_ticket d) name until d)
     failed e cut spares why = record {
-      represents_updated = λ clean beside d shown may. tt;
-      only = λ clean. tt;
-      goes = tt;
-      aborts = cut_then a b c looked.goes.on cut;
+      call = record {
+        represents_updated = λ clean beside d shown may. tt;
+        only = λ clean. tt;
+        goes = tt;
+        aborts = cut_then a b c looked.goes.on cut;
+        faults = λ beside d shown may kept clean free. next_cause a b c looked.goes.on cut clean e (λ cleaner.
+            why d.readers (still_shown cleaner d shown).readers (counted_free (λ (r : ReaderRow). r.ticket) 1 d.readers ticket shown.tickets (next_is d ticket (is cleaner d shown)).0) clean (still_unlimited a b looked.goes.on free));
+      };
       spares = λ clean. untouched (tables.reader.tree ∷ []) a c e (looked_spares a b c looked (early b c _ cut.crash clean) e (spares clean));
-      faults = λ beside d shown may kept clean free. next_cause a b c looked.goes.on cut clean e (λ cleaner.
-          why d.readers (still_shown cleaner d shown).readers (counted_free (λ (r : ReaderRow). r.ticket) 1 d.readers ticket shown.tickets (next_is d ticket (is cleaner d shown)).0) clean (still_unlimited a b looked.goes.on free));
     }

@@ -1,14 +1,25 @@
 -- The statements on the rows of readers: what their texts mean, what they leave or tell, and why they fail.
-use Rattle.std.proofs.Common.{◌≡◌, ◌≤◌, ◌<◌, ◌^◌, ℕ, zero, suc, ℤ, pos, List, [], ◌∷◌, map, filter, length, drop, codes, Bool, true, false, if◌then◌else◌, ltb, Result, OnOk, IfOk, IfErr, nat_eq, refl, arith}
+use Rattle.std.proofs.Common.{◌≡◌, ◌≤◌, ◌<◌, ◌^◌, ℕ, zero, suc, ℤ, pos, List, [], ◌∷◌, map, filter, length, drop, codes}
+use Rattle.std.proofs.Common.{Bool, true, false, if◌then◌else◌, ltb, Result, OnOk, IfOk, IfErr, nat_eq, refl, arith}
 use Rattle.std.specs.declared.cmp.Ordering.{Ordering}
 use Rattle.sqlite.specs.Listing.{understood}
 use Rattle.sqlite_schema.specs.Names.{same_name}
 use Rattle.sqlite_tied.specs.Compute.{everything}
 use Rattle.sqlite_value.specs.Keys.{joined}
+use Rattle.office_tables.proofs.UpdateCauses.{KeepsTable}
 use Rattle.office_tables.specs.Schema as tables
 use Rattle.desk_store.specs.declared.readers.NamedReader.{NamedReader}
-use Rattle.office_tables.proofs.UpdateCauses.{KeepsTable}
-use Rattle.desk_store.proofs.Common.{AllByRecursion, AreCounted, Binary, Chosen, Command, Compare, Eq, Finds, FindsFirst, First, HasCause, HasRows, Holds, Insert, Int, IsLegibleReader, IsLive, IsOrdered, IsTotalOrder, IsUnlimited, IsUtf8, IsWelcome, Key, Means, Misses, Null, OnlyTouches, PutsRow, Ran, ReaderRow, Row, Second, Select, State, StoreFault, Term, Text, Trees, Update, Values, Version, all_weaker, ascending, asking, by_one_int, cast_int, cast_null, cast_row, choosing, col, column, counted_rises, edit_of, insert_faults, insert_puts, int_cmp, int_cmp_total, is_day_number, last_faults, last_finds, last_of, le_refl, list_any, lit, ltb-true, most_tickets, number_welcome, on_total, only, op2, reader, reader_cells, renewed, same_number, schema, select_faults, select_finds, update_faults, update_leaves, update_only, value_rows}
+use Rattle.desk_store.proofs.Common.{AllByRecursion, AreCounted, Binary, Chosen, Command, Compare, Eq, Finds}
+use Rattle.desk_store.proofs.Common.{FindsFirst, First, HasCause, HasRows, Holds, Insert, Int, IsLegibleReader, IsLive}
+use Rattle.desk_store.proofs.Common.{IsOrdered, IsTotalOrder, IsUnlimited, IsUtf8, IsWelcome, Key, Means, Misses, Null}
+use Rattle.desk_store.proofs.Common.{OnlyTouches, PutsRow, Ran, ReaderRow, Row, Second, Select, State, StoreFault, Term}
+use Rattle.desk_store.proofs.Common.{Text, Trees, Update, Values, Version, all_weaker, ascending, asking, by_one_int}
+use Rattle.desk_store.proofs.Common.{cast_int, cast_null, cast_row, choosing, col, column, counted_rises, edit_of}
+use Rattle.desk_store.proofs.Common.{insert_faults, insert_puts, int_cmp, int_cmp_total, is_day_number, last_faults}
+use Rattle.desk_store.proofs.Common.{last_finds, last_of, le_refl, list_any, lit, ltb-true, most_tickets}
+use Rattle.desk_store.proofs.Common.{number_welcome, on_total, only, op2, reader, reader_cells, renewed_readers}
+use Rattle.desk_store.proofs.Common.{same_number, schema, select_faults, select_finds, update_faults, update_leaves}
+use Rattle.desk_store.proofs.Common.{update_only, value_rows}
 
 -- ---- a new reader
 
@@ -96,7 +107,7 @@ module _ (old new : State) (t : ℕ) (until : ℤ) (v : Version) (has : old.now.
     casts : (x : ReaderRow) → cast_row reader (drop 1 (source x)) ≡ reader_cells (renewed_to until x)
     casts x = rw (cast_int (pos x.ticket), cast_null, cast_int until) refl
 
-    pub set_last_day_leaves : OnOk r (HasRows tables.reader.tree (map reader_cells (renewed t until xs)) old.now new.now)
+    pub set_last_day_leaves : OnOk r (HasRows tables.reader.tree (map reader_cells (renewed_readers t until xs)) old.now new.now)
     set_last_day_leaves =
         update_leaves v 0 reader refl set_last_day_text with_its_number set_last_day_columns (Int (pos t) ∷ Int until ∷ []) (set_last_day_means v) old new has reader_cells (λ x. pos x.ticket) (λ _. refl) xs stored (counted_rises (λ (x : ReaderRow). x.ticket) 1 xs counted)
         (λ (x : ReaderRow). nat_eq t x.ticket) (λ x. only (same_number x.ticket t)) source (λ _. refl) (λ _. refl) (renewed_to until) (λ _. refl) (λ x _ _. casts x) r ran

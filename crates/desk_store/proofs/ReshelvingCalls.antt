@@ -1,7 +1,9 @@
 -- The containers at the desk are read, and then for each whether an order waits for it.
-use Rattle.std.proofs.Common.{◌≡◌, ℕ, ◌+◌, ◌<◌, ◌≤◌, Bool, nat_eq, List, [], ◌∷◌, ◌++◌, map, filter, length, take, sym, ap, ◌∙◌}
+use Rattle.std.proofs.Common.{◌≡◌, ℕ, ◌+◌, ◌<◌, ◌≤◌, Bool, nat_eq, List, [], ◌∷◌, ◌++◌, map, filter, length, take, sym}
+use Rattle.std.proofs.Common.{ap, ◌∙◌}
 use Rattle.std.specs.Prelude.{get_or}
-use Rattle.desk_store.proofs.Common.{Desk, HoldingRow, OrderRow, at_desk_of, list_any, map-append, map-map, take_all, take_more, waits_for}
+use Rattle.desk_store.proofs.Common.{Desk, HoldingRow, OrderRow, at_desk_of, list_any, map-append, map-map, take_all}
+use Rattle.desk_store.proofs.Common.{take_more, waits_for}
 
 abbrev pub is_at_desk : HoldingRow → Bool
 is_at_desk h = nat_eq 1 h.place

@@ -2,7 +2,10 @@
 use Rattle.std.proofs.Common.{◌≡◌, ℕ, pos, List, [], ◌∷◌, map, filter, codes, Result, IfOk, IfErr, nat_eq, refl}
 use Rattle.sqlite.specs.Listing.{understood}
 use Rattle.sqlite_tied.specs.Compute.{everything}
-use Rattle.desk_store.proofs.Common.{Binary, Command, Compare, Eq, Finds, HasCause, HoldingRow, Holds, Int, IsOrdered, IsUnlimited, Means, Misses, Row, Select, State, StoreFault, Term, Version, all_of, asking, by_one_int, col, holding, holding_cells, le_refl, lit, only, op2, same_number, schema, select_faults, select_finds, ⊤}
+use Rattle.desk_store.proofs.Common.{Binary, Command, Compare, Eq, Finds, HasCause, HoldingRow, Holds, Int, IsOrdered}
+use Rattle.desk_store.proofs.Common.{IsUnlimited, Means, Misses, Row, Select, State, StoreFault, Term, Version, all_of}
+use Rattle.desk_store.proofs.Common.{asking, by_one_int, col, holding, holding_cells, le_refl, lit, only, op2}
+use Rattle.desk_store.proofs.Common.{same_number, schema, select_faults, select_finds, ⊤}
 use Rattle.desk_store.proofs.CardRows.{in_order}
 use Rattle.desk_store.proofs.LoanRows.{by_container}
 

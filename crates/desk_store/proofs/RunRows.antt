@@ -1,11 +1,20 @@
 -- The statements on the rows of runs and of their lines: what their texts mean, what they leave or tell, and why they fail.
-use Rattle.std.proofs.Common.{◌≡◌, ◌≤◌, ◌<◌, ◌^◌, ℕ, ℤ, pos, List, [], ◌∷◌, length, map, filter, codes, false, ◌&&◌, Result, OnOk, IfOk, IfErr, nat_eq, refl, sym, subst, arith}
+use Rattle.std.proofs.Common.{◌≡◌, ◌≤◌, ◌<◌, ◌^◌, ℕ, ℤ, pos, List, [], ◌∷◌, length, map, filter, codes, false, ◌&&◌}
+use Rattle.std.proofs.Common.{Result, OnOk, IfOk, IfErr, nat_eq, refl, sym, subst, arith}
 use Rattle.std.specs.declared.cmp.Ordering.{Ordering}
 use Rattle.sqlite.specs.Listing.{understood}
 use Rattle.sqlite_tied.specs.Compute.{everything}
 use Rattle.sqlite_value.specs.Keys.{first_key}
 use Rattle.office_tables.specs.Schema as tables
-use Rattle.desk_store.proofs.Common.{AreCounted, Binary, Chosen, Command, Compare, ContainerOrder, Eq, Finds, FindsFirst, HasCause, HasNumbered, Holds, IfOk-weaker, Insert, Int, IsLive, IsPermutation, IsUnlimited, IsWelcome, Key, Means, Misses, Null, PutsRow, Ran, Row, RunLineRow, RunRow, Select, State, StoreFault, Term, Trees, Values, Version, agree, all_of, ascending, asking, both, by_two_ints, cast_int, cast_null, col, edit_of, insert_faults, insert_puts, int_cmp, last_faults, last_finds, last_of, le_refl, list_any, lit, most_runs, next_rowid, next_welcome, none_agrees, number_welcome, only, op2, ordering_then, plain, run, run_cells, run_line, run_line_cells, same_number, schema, select_faults, select_finds, told_permuted, value_rows, ⊤}
+use Rattle.desk_store.proofs.Common.{AreCounted, Binary, Chosen, Command, Compare, ContainerOrder, Eq, Finds}
+use Rattle.desk_store.proofs.Common.{FindsFirst, HasCause, HasNumbered, Holds, IfOk-weaker, Insert, Int, IsLive}
+use Rattle.desk_store.proofs.Common.{IsPermutation, IsUnlimited, IsWelcome, Key, Means, Misses, Null, PutsRow, Ran, Row}
+use Rattle.desk_store.proofs.Common.{RunLineRow, RunRow, Select, State, StoreFault, Term, Trees, Values, Version, agree}
+use Rattle.desk_store.proofs.Common.{all_of, ascending, asking, both, by_two_ints, cast_int, cast_null, col, edit_of}
+use Rattle.desk_store.proofs.Common.{insert_faults, insert_puts, int_cmp, last_faults, last_finds, last_of, le_refl}
+use Rattle.desk_store.proofs.Common.{list_any, lit, most_runs, next_rowid, next_welcome, none_agrees, number_welcome}
+use Rattle.desk_store.proofs.Common.{only, op2, ordering_then, plain, run, run_cells, run_line, run_line_cells}
+use Rattle.desk_store.proofs.Common.{same_number, schema, select_faults, select_finds, told_permuted, value_rows, ⊤}
 
 -- ---- the last run
 

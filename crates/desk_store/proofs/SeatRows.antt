@@ -1,13 +1,22 @@
 -- The statements on the rows of seats: what their texts mean, what they leave or tell, and why they fail.
-use Rattle.std.proofs.Common.{◌≡◌, ◌<◌, ◌^◌, ℕ, pos, List, [], ◌∷◌, map, filter, codes, true, false, not, Result, OnOk, IfOk, IfErr, nat_eq, refl, ap, ◌∙◌}
+use Rattle.std.proofs.Common.{◌≡◌, ◌<◌, ◌^◌, ℕ, pos, List, [], ◌∷◌, map, filter, codes, true, false, not, Result, OnOk}
+use Rattle.std.proofs.Common.{IfOk, IfErr, nat_eq, refl, ap, ◌∙◌}
 use Rattle.std.specs.declared.cmp.Ordering.{Ordering}
 use Rattle.sqlite.specs.Listing.{understood}
 use Rattle.sqlite_tied.specs.Compute.{everything}
 use Rattle.sqlite_value.specs.Keys.{first_key}
+use Rattle.office_tables.proofs.Fresh.{any_mapped}
 use Rattle.office_tables.specs.Schema as tables
 use Rattle.desk_store.specs.declared.taken_seats.TakenSeat.{TakenSeat}
-use Rattle.office_tables.proofs.Fresh.{any_mapped}
-use Rattle.desk_store.proofs.Common.{AllByRecursion, AreByNumber, Binary, Chosen, Command, Compare, Delete, Eq, Finds, HasCause, HasRows, Holds, Insert, Int, IsLive, IsOrdered, IsTotalOrder, IsUnlimited, IsWelcome, Key, Means, Misses, Null, OnlyTouches, PutsRow, Ran, Row, SeatRow, Select, State, StoreFault, Term, Trees, Values, Version, agree, ascending, asking, by_one_int, cast_int, cast_null, choosing, col, delete_faults, delete_leaves, delete_only, edit_of, insert_faults, insert_puts, int_cmp, int_cmp_total, le_refl, list_any, lit, number_welcome, on_total, only, op2, plain, same_number, schema, seat, seat_alone, seat_cells, seat_fits, select_faults, select_finds, value_rows}
+use Rattle.desk_store.proofs.Common.{AllByRecursion, AreByNumber, Binary, Chosen, Command, Compare, Delete, Eq, Finds}
+use Rattle.desk_store.proofs.Common.{HasCause, HasRows, Holds, Insert, Int, IsLive, IsOrdered, IsTotalOrder}
+use Rattle.desk_store.proofs.Common.{IsUnlimited, IsWelcome, Key, Means, Misses, Null, OnlyTouches, PutsRow, Ran, Row}
+use Rattle.desk_store.proofs.Common.{SeatRow, Select, State, StoreFault, Term, Trees, Values, Version, agree, ascending}
+use Rattle.desk_store.proofs.Common.{asking, by_one_int, cast_int, cast_null, choosing, col, delete_faults}
+use Rattle.desk_store.proofs.Common.{delete_leaves, delete_only, edit_of, insert_faults, insert_puts, int_cmp}
+use Rattle.desk_store.proofs.Common.{int_cmp_total, le_refl, list_any, lit, number_welcome, on_total, only, op2, plain}
+use Rattle.desk_store.proofs.Common.{same_number, schema, seat, seat_alone, seat_cells, seat_fits, select_faults}
+use Rattle.desk_store.proofs.Common.{select_finds, value_rows}
 
 -- ---- a seat is taken
 

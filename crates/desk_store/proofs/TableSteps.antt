@@ -1,11 +1,12 @@
 -- How the steps of a creation of tables follow one another.
 use Rattle.std.proofs.Common.{◌≡◌, ℕ, List, [], Result, Ok, Err, OnOk, OnErr, IfErr, sym, subst}
-use Rattle.sqlite_trees.specs.declared.store.Store as store
 use Rattle.sqlite.specs.Schema.{Schema}
 use Rattle.sqlite.specs.Table.{Table}
+use Rattle.sqlite_trees.specs.declared.store.Store as store
 use Rattle.office_tables.specs.Creation.{DefinesTable, IsMaking}
 use Rattle.desk_store.specs.TableCreation.{Makes}
-use Rattle.desk_store.proofs.Common.{Continues, Database, HasCause, HasCleanDisk, Held, IsAborted, StoreFault, continues_then, cut_then, last_cause, on_err_then, on_ok_then, state}
+use Rattle.desk_store.proofs.Common.{Continues, Database, HasCause, HasCleanDisk, Held, IsAborted, StoreFault}
+use Rattle.desk_store.proofs.Common.{continues_then, cut_then, last_cause, on_err_then, on_ok_then, state}
 
 -- a step fails
 pub makes_not : {S : Type 0} {g : store.Ghosts S} {here next last : Schema} {before after : Held S} {r : Result Unit StoreFault} {e : StoreFault}

@@ -2,7 +2,8 @@
 use Rattle.std.proofs.Common.{◌≡◌, true, false, Result, Ok, Err, IfErr, sym, subst}
 use Rattle.sqlite_trees.specs.declared.store.Store as store
 use Rattle.office_tables.proofs.CallEnds.{tells_cut, tells_not}
-use Rattle.desk_store.proofs.Common.{Answers, Database, HasCause, HasCleanDisk, Held, IsAborted, IsOk, IsUnlimited, LeavesUnchanged, Memory, State, StoreFault, cut_after, state, ⊤}
+use Rattle.desk_store.proofs.Common.{Answers, Database, HasCause, HasCleanDisk, Held, IsAborted, IsOk, IsUnlimited}
+use Rattle.desk_store.proofs.Common.{LeavesUnchanged, Memory, State, StoreFault, cut_after, state, ⊤}
 
 module _ {Model : Type 0} (represents : Database → ⊤ → Model → Type 0) where
   -- the same is still shown, and was shown before
@@ -27,7 +28,7 @@ module _ {Model : Type 0} (represents : Database → ⊤ → Model → Type 0) w
     -- it ends with the fault of a step
     pub ends_not : LeavesUnchanged a b → (e : StoreFault) → IsAborted b c
         → ((m : Model) → represents b.now tt m → may m → kept m → HasCleanDisk c → IsUnlimited b → HasCause b c e)
-        → (r : Result Y StoreFault) → r ≡ Err e → Answers g represents kept before after r may answer
+        → (r : Result Y StoreFault) → r ≡ Err e → Answers g represents before after r may kept answer
     ends_not looked e cut why r is =
         tells_cut g represents kept may before mid after r answer e is looked cut
         (λ beside m shown allowed legible cleaner clean free. why m (shown_on a b looked cleaner m shown) allowed legible clean free)
@@ -35,12 +36,12 @@ module _ {Model : Type 0} (represents : Database → ⊤ → Model → Type 0) w
     -- it ends with what was read
     pub ends_well : LeavesUnchanged a c → (y : Y)
         → (HasCleanDisk c → (m : Model) → represents a.now tt m → answer tt m y)
-        → Answers g represents kept before after (Ok y) may answer
+        → Answers g represents before after (Ok y) may kept answer
     ends_well looked y is = record { answers = λ clean beside m shown. is clean m shown; looks = looked; aborts = tt; faults = λ beside m shown allowed legible clean free. tt }
 
     -- there was no memory for what was read
     pub ends_full : LeavesUnchanged a c → (r : Result Y StoreFault) → r ≡ Err Memory
-        → Answers g represents kept before after r may answer
+        → Answers g represents before after r may kept answer
     ends_full looked r is = tells_not g represents kept may before after r answer Memory is (cut_after a c looked.goes.on) (λ beside m shown allowed legible clean free. tt)
 
 -- what always succeeds has no fault to excuse

@@ -1,16 +1,22 @@
 -- The statements on the orders that wait: what their texts mean, what they tell, and why they fail.
-use Rattle.std.proofs.Common.{◌≡◌, ◌≤◌, ◌<◌, ◌^◌, ℕ, pos, List, [], ◌∷◌, length, map, filter, take, codes, true, false, Bool, cond, ◌||◌, Result, IfOk, IfErr, refl, sym, ap, ◌∙◌, arith}
+use Rattle.std.proofs.Common.{◌≡◌, ◌≤◌, ◌<◌, ◌^◌, ℕ, pos, List, [], ◌∷◌, length, map, filter, take, codes, true, false}
+use Rattle.std.proofs.Common.{Bool, cond, ◌||◌, Result, IfOk, IfErr, refl, sym, ap, ◌∙◌, arith}
 use Rattle.std.proofs.lemmas.List.Sums.{length-filter}
-use Rattle.sqlite.specs.Query.{inner, end}
-use Rattle.sqlite.specs.Listing.{understood}
 use Rattle.sqlite.proofs.Callers.{reads_as}
+use Rattle.sqlite.specs.Listing.{understood}
+use Rattle.sqlite.specs.Query.{inner, end}
 use Rattle.sqlite_schema.specs.declared.program.Program.{Program}
 use Rattle.sqlite_tied.specs.Compute.{everything}
 use Rattle.office_tables.proofs.Limits.{limited_query, first_answers}
 use Rattle.office_tables.proofs.RowReads.{all_caused}
-use Rattle.desk_store.specs.declared.orders.WaitingOrder.{WaitingOrder}
 use Rattle.office_tables.proofs.statements.CountOf.{counting, count_finds, count_faults}
-use Rattle.desk_store.proofs.Common.{Binary, Command, Compare, Eq, Finds, FindsFirst, HasCause, Holds, IfOk-weaker, Int, IsOrdered, IsUnlimited, Means, Misses, Null, OrderRow, Row, Select, Shown, State, StoreFault, Term, Version, all_of, asking, both, by_one_int, col, count_by, le_refl, list_any, lit, lt-ltb, map-map, most_orders, nat_lt, none_refuse, op2, order_cells, orders, read_cause, same_number, schema, select_faults, select_finds, slice_get, sums_nothing, waits_for, ⊤}
+use Rattle.desk_store.specs.declared.orders.WaitingOrder.{WaitingOrder}
+use Rattle.desk_store.proofs.Common.{Binary, Command, Compare, Eq, Finds, FindsFirst, HasCause, Holds, IfOk-weaker, Int}
+use Rattle.desk_store.proofs.Common.{IsOrdered, IsUnlimited, Means, Misses, Null, OrderRow, Row, Select, Shown, State}
+use Rattle.desk_store.proofs.Common.{StoreFault, Term, Version, all_of, asking, both, by_one_int, col, count_by}
+use Rattle.desk_store.proofs.Common.{le_refl, list_any, lit, lt-ltb, map-map, most_orders, nat_lt, none_refuse, op2}
+use Rattle.desk_store.proofs.Common.{order_cells, orders, read_cause, same_number, schema, select_faults, select_finds}
+use Rattle.desk_store.proofs.Common.{slice_get, sums_nothing, waits_for, ⊤}
 use Rattle.desk_store.proofs.CardRows.{by_order, in_order}
 
 -- it waits, and for this container

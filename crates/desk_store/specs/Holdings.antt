@@ -1,5 +1,6 @@
 -- Where containers are, and which of them may move.
-use Rattle.std.specs.Prelude.{ℕ, pos, Bool, not, ◌&&◌, nat_eq, nat_lt, List, map, filter, filter_map, find, Option, Some, None, option_map, option_and_then}
+use Rattle.std.specs.Prelude.{ℕ, pos, Bool, not, ◌&&◌, nat_eq, nat_lt, List, map, filter, filter_map, find, Option}
+use Rattle.std.specs.Prelude.{Some, None, option_map, option_and_then}
 use Rattle.std.specs.List.{list_any}
 use Rattle.desk_core.specs.declared.reader.Place.{Place}
 use Rattle.desk_core.specs.declared.reader.Place.TheVariants.{Shelf, Desk as AtTheDesk, Out}
@@ -8,12 +9,6 @@ use Rattle.office_tables.specs.OrderedInsertion.{put_by}
 use Rattle.desk_store.specs.declared.container_orders.ContainerOrder.{ContainerOrder}
 
 -- ---- a container goes to another place
-
--- the order that a container in this place is out with
-abbrev pub by_order : Place → Option ℕ
-by_order Shelf = None
-by_order AtTheDesk = None
-by_order (Out o) = Some o
 
 abbrev pub put_down : HoldingRow → List HoldingRow → List HoldingRow
 put_down = put_by (λ (h : HoldingRow). pos h.container)
@@ -60,13 +55,13 @@ abbrev pub is_on_shelf : Desk → ℕ → Bool
 is_on_shelf d c = not (list_any (λ (h : HoldingRow). nat_eq c h.container) d.holdings)
 
 -- the order waits, and no order that waits for its container came before it
-abbrev pub is_first : Desk → OrderRow → Bool
-is_first d o = nat_eq 1 o.state && not (list_any (λ other. waits_for o.container other && nat_lt other.id o.id) d.orders)
+abbrev pub is_first_waiting : Desk → OrderRow → Bool
+is_first_waiting d o = nat_eq 1 o.state && not (list_any (λ other. waits_for o.container other && nat_lt other.id o.id) d.orders)
 
 -- the first order of each container for which one waits, sorted by the numbers of these orders
 abbrev pub firsts_of : Desk → List ContainerOrder
 firsts_of d =
-    map (λ (o : OrderRow). record { container = o.container; order = o.id; ticket = o.ticket }) (filter (is_first d) d.orders)
+    map (λ (o : OrderRow). record { container = o.container; order = o.id; ticket = o.ticket }) (filter (is_first_waiting d) d.orders)
 
 -- those of these orders whose containers are on the shelf
 abbrev pub on_shelf : Desk → List ContainerOrder → List ContainerOrder
@@ -77,4 +72,4 @@ on_shelf d orders = filter (λ (o : ContainerOrder). is_on_shelf d o.container) 
 abbrev pub candidates_of : Desk → List ContainerOrder
 candidates_of d =
     map (λ (o : OrderRow). record { container = o.container; order = o.id; ticket = o.ticket })
-    (filter (λ o. is_first d o && is_on_shelf d o.container) d.orders)
+    (filter (λ o. is_first_waiting d o && is_on_shelf d o.container) d.orders)

@@ -21,5 +21,5 @@ abbrev pub IsLegibleHouse : House → Type 0
 IsLegibleHouse house = IsLegible house.desk
 
 -- it is another day, and nobody sits; nothing else is changed
-abbrev pub opened : ℤ → House → House
-opened day house = record { office = record house.office { day = day }; desk = all_free house.desk }
+abbrev pub opened_house : ℤ → House → House
+opened_house day house = record { office = record house.office { day = day }; desk = all_free house.desk }

@@ -1,5 +1,6 @@
 -- What was ordered, and who waits for a container.
-use Rattle.std.specs.Prelude.{◌≡◌, ℕ, suc, ℤ, ◌&&◌, ◌<◌, nat_eq, List, [], ◌∷◌, ◌++◌, length, map, filter, find, slice_get, Option, Some, None}
+use Rattle.std.specs.Prelude.{◌≡◌, ℕ, suc, ℤ, ◌&&◌, ◌<◌, nat_eq, List, [], ◌∷◌, ◌++◌, length, map, filter, find}
+use Rattle.std.specs.Prelude.{slice_get, Option, Some, None}
 use Rattle.isad_core.specs.declared.values.BoxKey.{BoxKey}
 use Rattle.desk_core.specs.declared.reader.Place.{Place}
 use Rattle.desk_core.specs.declared.reader.Place.TheVariants.{Shelf, Desk as AtTheDesk, Out}
@@ -15,15 +16,15 @@ use Rattle.desk_store.specs.declared.queues.ContainerQueue.{ContainerQueue}
 -- ---- orders
 
 -- the number that represents a state in the table
-abbrev pub state_number : OrderState → ℕ
-state_number Waiting = 1
-state_number WithReader = 2
-state_number Done = 3
-state_number Cancelled = 4
+abbrev pub order_state_number : OrderState → ℕ
+order_state_number Waiting = 1
+order_state_number WithReader = 2
+order_state_number Done = 3
+order_state_number Cancelled = 4
 
 -- the order has the ticket, the container, the day and the state of its row
 abbrev pub IsOrder : OrderRow → PlacedOrder → Type 0
-IsOrder row o = (o.ticket ≡ row.ticket) × (o.container ≡ row.container) × (o.day ≡ row.day) × (state_number o.state ≡ row.state)
+IsOrder row o = (o.ticket ≡ row.ticket) × (o.container ≡ row.container) × (o.day ≡ row.day) × (order_state_number o.state ≡ row.state)
 
 abbrev pub order_with : ℕ → Desk → Option OrderRow
 order_with o d = find (λ (row : OrderRow). nat_eq o row.id) d.orders
@@ -45,7 +46,7 @@ IsNextOrder o d = (length d.orders < most_orders) × (o ≡ suc (length d.orders
 
 -- the desk with the order in this state
 abbrev pub with_order_state : ℕ → OrderState → Desk → Desk
-with_order_state o state d = record d { orders = with_state o (state_number state) d.orders }
+with_order_state o state d = record d { orders = with_state o (order_state_number state) d.orders }
 
 -- ---- the queue of a container
 

@@ -16,8 +16,8 @@ abbrev pub permits_of : ℕ → Desk → List Permit
 permits_of t d =
     map (λ (p : PermitRow). record { unit = p.unit; until = p.until }) (filter (λ (p : PermitRow). nat_eq t p.ticket) d.permits)
 
-abbrev pub by_unit : Permit → Permit → Ordering
-by_unit a b = int_cmp (pos a.unit) (pos b.unit)
+abbrev pub by_permitted_unit : Permit → Permit → Ordering
+by_permitted_unit a b = int_cmp (pos a.unit) (pos b.unit)
 
 -- the row is the ticket's permit for the unit
 abbrev pub is_permit : ℕ → ℕ → PermitRow → Bool
@@ -27,14 +27,14 @@ abbrev pub without_permit : ℕ → ℕ → List PermitRow → List PermitRow
 without_permit t u permits = filter (λ p. not (is_permit t u p)) permits
 
 -- the ticket has a permit for the unit up to this day, and no other permit for the unit
-abbrev pub granted : ℕ → ℕ → ℤ → List PermitRow → List PermitRow
-granted t u until permits = record { ticket = t; unit = u; until = until } ∷ without_permit t u permits
+abbrev pub with_permit_row : ℕ → ℕ → ℤ → List PermitRow → List PermitRow
+with_permit_row t u until permits = record { ticket = t; unit = u; until = until } ∷ without_permit t u permits
 
-abbrev pub with_permit : ℕ → ℕ → ℤ → Desk → Desk
-with_permit t u until d = record d { permits = granted t u until d.permits }
+abbrev pub desk_with_permit : ℕ → ℕ → ℤ → Desk → Desk
+desk_with_permit t u until d = record d { permits = with_permit_row t u until d.permits }
 
-abbrev pub revoked : ℕ → ℕ → Desk → Desk
-revoked t u d = record d { permits = without_permit t u d.permits }
+abbrev pub desk_without_permit : ℕ → ℕ → Desk → Desk
+desk_without_permit t u d = record d { permits = without_permit t u d.permits }
 
 -- the unit has its row in the catalogue
 abbrev pub HasUnitRow : ℕ → Trees → Type 0

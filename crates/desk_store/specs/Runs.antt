@@ -1,5 +1,6 @@
 -- What runs bring to the desk.
-use Rattle.std.specs.Prelude.{◌≡◌, ℕ, suc, ℤ, cond, nat_eq, nat_lt, List, [], ◌∷◌, ◌++◌, length, map, filter, find, Option, Some, None}
+use Rattle.std.specs.Prelude.{◌≡◌, ℕ, suc, ℤ, cond, nat_eq, nat_lt, List, [], ◌∷◌, ◌++◌, length, map, filter, find}
+use Rattle.std.specs.Prelude.{Option, Some, None}
 use Rattle.std.specs.List.{IsDistinct}
 use Rattle.isad_core.specs.declared.values.BoxKey.{BoxKey}
 use Rattle.desk_core.specs.declared.run.Candidate.{Candidate}
@@ -11,14 +12,14 @@ use Rattle.desk_store.specs.declared.container_orders.ContainerOrder.{ContainerO
 abbrev pub next_run : Desk → Option ℕ
 next_run d = cond (nat_lt (length d.runs) most_runs) (Some (suc (length d.runs))) None
 
-abbrev pub line_of : ℕ → ContainerOrder → RunLineRow
-line_of n taken = record { run = n; container = taken.container; order_no = taken.order; ticket = taken.ticket }
+abbrev pub line_of_run : ℕ → ContainerOrder → RunLineRow
+line_of_run n taken = record { run = n; container = taken.container; order_no = taken.order; ticket = taken.ticket }
 
 -- the desk with one more run, which has a line for each container that it takes; without a number, the desk as it is
 abbrev pub with_run : Option ℕ → ℤ → List ContainerOrder → Desk → Desk
 with_run None day taken d = d
 with_run (Some n) day taken d =
-    record d { runs = d.runs ++ record { id = n; day = day } ∷ []; run_lines = d.run_lines ++ map (line_of n) taken }
+    record d { runs = d.runs ++ record { id = n; day = day } ∷ []; run_lines = d.run_lines ++ map (line_of_run n) taken }
 
 abbrev pub run_with : ℕ → Desk → Option RunRow
 run_with n d = find (λ (r : RunRow). nat_eq n r.id) d.runs

@@ -7,7 +7,7 @@ use Rattle.isad_core.specs.Limits.{most_containers}
 use Rattle.isad_core.specs.declared.values.BoxKey.{BoxKey}
 use Rattle.desk_core.specs.DeskRows.{Desk, RunRow, RunLineRow}
 use Rattle.office_tables.specs.Schema as tables
-use Rattle.office_tables.specs.SharedRows.{container_row}
+use Rattle.office_tables.specs.SharedRows.{numbered_container_cells}
 use Rattle.desk_store.specs.Orders.{IsQueue, IsHead}
 use Rattle.desk_store.specs.Runs.{lines_of, IsCandidate}
 use Rattle.desk_store.specs.Representation.{RepresentsDesk, IsLegible}
@@ -25,7 +25,7 @@ pub record Storage : Type 0 where
 
 -- containers are numbered from 1, up to the most that there may be
 pub record RepresentsQueues (db : Database) (beside : ⊤) (storage : Storage) : Type 0 where
-  pub containers : db.trees tables.container.tree ≡ map container_row storage.containers
+  pub containers : db.trees tables.container.tree ≡ map numbered_container_cells storage.containers
   pub numbers : AreCounted (λ (b : ℕ × BoxKey). b.0) storage.containers
   pub few : length storage.containers ≤ most_containers
   pub desk : RepresentsDesk db.trees storage.desk

@@ -1,8 +1,9 @@
 //! Containers at the desk.
 
-ghost use Rattle.std.specs.Prelude.{◌≡◌, nat_eq, map, filter, ⊤};
+ghost use Rattle.std.specs.Prelude.{◌≡◌, nat_eq, map, filter};
 ghost use Rattle.desk_core.specs.DeskRows.{HoldingRow};
 ghost use Rattle.office_tables.specs.Calls.{StoreAnswers};
+ghost use Rattle.office_tables.specs.Premises.{◌when◌gives◌, ◌within◌gives◌};
 ghost use Rattle.office_tables.specs.Schema as schema;
 ghost use Rattle.office_tables.specs.Step.{Holds};
 ghost use Rattle.office_tables.specs.TableStatements.{LooksUp};
@@ -23,9 +24,8 @@ fn desk_lines<P: Versioned, S: Alter>(
     tables: &mut Tables<P, S>,
 ) -> Result<Vec<Number>, StoreFault>
     ensures { LooksUp S.Store (Holds schema.holding holding_cells) tables.old tables.new result
-        (AreByNumber (λ h. h.container)) (λ _. ⊤)
-        (λ xs found. found.items ≡ map (λ (h : HoldingRow). h.container)
-        (filter (λ (h : HoldingRow). nat_eq 1 h.place) xs)) }
+        when AreByNumber (λ h. h.container) gives λ xs found. found.items ≡ map (λ (h : HoldingRow). h.container)
+        (filter (λ (h : HoldingRow). nat_eq 1 h.place) xs) }
 {
     find(
         alloc,
@@ -40,8 +40,8 @@ pub fn at_desk<P: Versioned, S: Alter>(
     alloc: Global,
     tables: &mut Tables<P, S>,
 ) -> Result<Vec<(u64, bool)>, StoreFault>
-    ensures answers { StoreAnswers S.Store RepresentsDeskAlone IsLegible tables.old tables.new result (λ _. ⊤)
-        (λ _ d all. all.items ≡ at_desk_of d) }
+    ensures answers { StoreAnswers S.Store RepresentsDeskAlone tables.old tables.new result
+        within IsLegible gives λ _ d all. all.items ≡ at_desk_of d }
 {
     let containers = desk_lines(alloc, tables)?;
     let mut told = Vec::new(alloc);

@@ -1,12 +1,14 @@
 //! Where containers are.
 
-ghost use Rattle.std.specs.Prelude.{◌≡◌, not, nat_eq, false, [], ◌∷◌, filter, IfSome, ⊤};
+ghost use Rattle.std.specs.Prelude.{◌≡◌, not, nat_eq, false, [], ◌∷◌, filter, IfSome};
 ghost use Rattle.std.specs.List.{list_any};
 ghost use Rattle.isad_core.specs.Limits.{IsNumber};
 ghost use Rattle.office_tables.specs.Calls.{StoreUpdates};
+ghost use Rattle.office_tables.specs.Premises.{◌when◌leaves◌, ◌within◌adds◌, ◌within◌gives◌};
 ghost use Rattle.office_tables.specs.Schema as schema;
 ghost use Rattle.office_tables.specs.TableStatements.{Puts, Thins};
-ghost use Rattle.desk_store.specs.Holdings.{by_order, with_place};
+ghost use Rattle.desk_core.specs.Decisions.{order_out};
+ghost use Rattle.desk_store.specs.Holdings.{with_place};
 ghost use Rattle.desk_store.specs.Rows.{holding_cells};
 ghost use Rattle.desk_store.specs.Representation.{RepresentsDeskAlone, IsLegible};
 ghost use Rattle.office_tables.specs.RowNumbers.{AreByNumber};
@@ -20,8 +22,8 @@ fn clear_holding<P: Versioned, S: Alter>(
     tables: &mut Tables<P, S>,
     container: Number,
 ) -> Result<(), StoreFault>
-    ensures { Thins S.Store schema.holding holding_cells tables.old tables.new result (AreByNumber (λ h. h.container))
-        (filter (λ h. not (nat_eq container h.container))) }
+    ensures { Thins S.Store schema.holding holding_cells tables.old tables.new result
+        when AreByNumber (λ h. h.container) leaves filter (λ h. not (nat_eq container h.container)) }
 {
     change(
         tables,
@@ -38,8 +40,8 @@ fn insert_holding<P: Versioned, S: Alter>(
     held_by: Option<Number>,
 ) -> Result<(), StoreFault>
     ensures { Puts S.Store schema.holding holding_cells tables.old tables.new result
-        (record { container = container; place = place; held_by = held_by })
-        (λ xs. list_any (λ h. nat_eq container h.container) xs ≡ false) }
+        within (λ xs. list_any (λ h. nat_eq container h.container) xs ≡ false)
+        adds record { container = container; place = place; held_by = held_by } }
 {
     change(
         tables,
@@ -54,9 +56,9 @@ pub fn set_place<P: Versioned, S: Alter>(
     container: Number,
     place: Place,
 ) -> Result<(), StoreFault>
-    requires known { IfSome (by_order place) IsNumber }
-    ensures updates { StoreUpdates S.Store RepresentsDeskAlone IsLegible tables.old tables.new result (λ _. ⊤)
-        (with_place container place) (schema.holding.tree ∷ []) }
+    requires known { IfSome (order_out place) IsNumber }
+    ensures updates { StoreUpdates S.Store (schema.holding.tree ∷ []) RepresentsDeskAlone tables.old tables.new result
+        within IsLegible gives with_place container place }
 {
     clear_holding(tables, container)?;
     match place {

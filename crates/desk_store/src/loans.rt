@@ -3,6 +3,7 @@
 ghost use Rattle.std.specs.Prelude.{◌≡◌, map, ⊤};
 ghost use Rattle.desk_core.specs.DeskRows.{HoldingRow};
 ghost use Rattle.office_tables.specs.Calls.{StoreAnswers};
+ghost use Rattle.office_tables.specs.Premises.{◌when◌gives◌, ◌within◌gives◌};
 ghost use Rattle.office_tables.specs.Schema as schema;
 ghost use Rattle.office_tables.specs.Step.{Holds};
 ghost use Rattle.office_tables.specs.TableStatements.{LooksUp};
@@ -49,9 +50,8 @@ pub(crate) fn holding_lines<P: Versioned, S: Alter>(
     tables: &mut Tables<P, S>,
 ) -> Result<Vec<HoldingLine>, StoreFault>
     ensures { LooksUp S.Store (Holds schema.holding holding_cells) tables.old tables.new result
-        (AreByNumber (λ h. h.container)) (λ _. ⊤)
-        (λ xs found. found.items
-        ≡ map (λ (h : HoldingRow). record { container = h.container; held_by = h.held_by }) xs) }
+        when AreByNumber (λ h. h.container) gives λ xs found. found.items
+        ≡ map (λ (h : HoldingRow). record { container = h.container; held_by = h.held_by }) xs }
 {
     find(
         alloc,
@@ -68,7 +68,7 @@ fn find_ticket<P: Versioned, S: Alter>(
     order: Number,
 ) -> Result<Option<Number>, StoreFault>
     ensures { LooksUp S.Store (Holds schema.orders order_cells) tables.old tables.new result
-        (AreCounted (λ o. o.id)) (λ _. ⊤) (λ xs found. found ≡ ticket_of xs order) }
+        when AreCounted (λ o. o.id) gives λ xs found. found ≡ ticket_of xs order }
 {
     find_one(
         alloc,
@@ -84,8 +84,8 @@ fn holder_of<P: Versioned, S: Alter>(
     tables: &mut Tables<P, S>,
     order: Number,
 ) -> Result<Option<Number>, StoreFault>
-    ensures answers { StoreAnswers S.Store RepresentsDeskAlone IsLegible tables.old tables.new result (λ _. ⊤)
-        (λ _ d ticket. ticket ≡ ticket_of d.orders order) }
+    ensures answers { StoreAnswers S.Store RepresentsDeskAlone tables.old tables.new result
+        within IsLegible gives λ _ d ticket. ticket ≡ ticket_of d.orders order }
 {
     find_ticket(alloc, tables, order)
 }
@@ -96,8 +96,8 @@ fn loan_of<P: Versioned, S: Alter>(
     tables: &mut Tables<P, S>,
     line: HoldingLine,
 ) -> Result<Option<ContainerOrder>, StoreFault>
-    ensures answers { StoreAnswers S.Store RepresentsDeskAlone IsLegible tables.old tables.new result (λ _. ⊤)
-        (λ _ d loan. loan ≡ loan_by d.orders line.container line.held_by) }
+    ensures answers { StoreAnswers S.Store RepresentsDeskAlone tables.old tables.new result
+        within IsLegible gives λ _ d loan. loan ≡ loan_by d.orders line.container line.held_by }
 {
     let Some(order) = line.held_by else {
         return Ok(None);
@@ -117,8 +117,8 @@ pub fn issued<P: Versioned, S: Alter>(
     alloc: Global,
     tables: &mut Tables<P, S>,
 ) -> Result<Vec<ContainerOrder>, StoreFault>
-    ensures answers { StoreAnswers S.Store RepresentsDeskAlone IsLegible tables.old tables.new result (λ _. ⊤)
-        (λ _ d all. all.items ≡ issued_of d) }
+    ensures answers { StoreAnswers S.Store RepresentsDeskAlone tables.old tables.new result
+        within IsLegible gives λ _ d all. all.items ≡ issued_of d }
 {
     let lines = holding_lines(alloc, tables)?;
     let mut loans = Vec::new(alloc);

@@ -1,16 +1,17 @@
 //! Opening a new day.
 
-ghost use Rattle.std.specs.Prelude.{[], ◌∷◌, OnOk, ⊤};
+ghost use Rattle.std.specs.Prelude.{[], ◌∷◌, OnOk};
 ghost use Rattle.sqlite.specs.Held.{state};
 ghost use Rattle.sqlite.specs.State.{HasCleanDisk};
 ghost use Rattle.office_tables.specs.Calls.{StoreUpdates};
 ghost use Rattle.office_tables.specs.ChangeStatement.{Leaves};
 ghost use Rattle.office_tables.specs.Faults.{FaultsHaveCause};
+ghost use Rattle.office_tables.specs.Premises.{◌when◌leaves◌, ◌within◌gives◌};
 ghost use Rattle.office_tables.specs.Schema as schema;
 ghost use Rattle.office_tables.specs.SharedRows.{OfficeRow, office_cells};
 ghost use Rattle.office_tables.specs.Step.{Holds, HasRows, OnlyTouches};
 ghost use Rattle.office_tables.specs.TableStatements.{Thins};
-ghost use Rattle.desk_store.specs.OfficeDay.{RepresentsBoth, IsLegibleHouse, opened};
+ghost use Rattle.desk_store.specs.OfficeDay.{RepresentsBoth, IsLegibleHouse, opened_house};
 ghost use Rattle.desk_store.specs.Rows.{seat_cells};
 ghost use Rattle.office_tables.specs.RowNumbers.{AreByNumber};
 
@@ -21,7 +22,8 @@ use sqlite::Alter;
 
 /// Frees all seats: deletes all rows of the table, which has a row for each taken seat.
 fn free_seats<P: Versioned, S: Alter>(tables: &mut Tables<P, S>) -> Result<(), StoreFault>
-    ensures { Thins S.Store schema.seat seat_cells tables.old tables.new result (AreByNumber (λ s. s.seat)) (λ _. []) }
+    ensures { Thins S.Store schema.seat seat_cells tables.old tables.new result
+        when AreByNumber (λ s. s.seat) leaves λ _. [] }
 {
     change(tables, "DELETE FROM seat", &[])
 }
@@ -51,8 +53,9 @@ pub fn open_day<P: Versioned, S: Alter>(
     tables: &mut Tables<P, S>,
     on: Day,
 ) -> Result<(), StoreFault>
-    ensures updates { StoreUpdates S.Store RepresentsBoth IsLegibleHouse tables.old tables.new result (λ _. ⊤)
-        (opened on) (schema.seat.tree ∷ schema.office.tree ∷ []) }
+    ensures updates { StoreUpdates S.Store (schema.seat.tree ∷ schema.office.tree ∷ []) RepresentsBoth
+        tables.old tables.new result
+        within IsLegibleHouse gives opened_house on }
 {
     free_seats(tables)?;
     set_day(tables, on)

@@ -1,15 +1,16 @@
 //! Placing orders and changing their states.
 
-ghost use Rattle.std.specs.Prelude.{◌≡◌, nat_eq, false, [], ◌∷◌, OnOk, ⊤};
+ghost use Rattle.std.specs.Prelude.{◌≡◌, nat_eq, false, [], ◌∷◌, OnOk};
 ghost use Rattle.std.specs.List.{list_any};
 ghost use Rattle.sqlite.specs.Held.{state};
 ghost use Rattle.sqlite.specs.State.{HasCleanDisk};
 ghost use Rattle.desk_core.specs.DeskRows.{with_state};
 ghost use Rattle.office_tables.specs.Calls.{StoreUpdates};
+ghost use Rattle.office_tables.specs.Premises.{◌when◌leaves◌, ◌when◌within◌gives◌, ◌within◌adds◌, ◌within◌gives◌};
 ghost use Rattle.office_tables.specs.Schema as schema;
 ghost use Rattle.office_tables.specs.Step.{PutsRow};
 ghost use Rattle.office_tables.specs.TableStatements.{Changes, Puts};
-ghost use Rattle.desk_store.specs.Orders.{state_number, with_order, with_order_state, IsNextOrder};
+ghost use Rattle.desk_store.specs.Orders.{order_state_number, with_order, with_order_state, IsNextOrder};
 ghost use Rattle.desk_store.specs.Rows.{order_cells};
 ghost use Rattle.desk_store.specs.Representation.{RepresentsDeskAlone, IsLegible};
 ghost use Rattle.office_tables.specs.RowNumbers.{AreCounted};
@@ -29,8 +30,8 @@ fn insert_order<P: Versioned, S: Alter>(
     on: Day,
 ) -> Result<(), StoreFault>
     ensures { Puts S.Store schema.orders order_cells tables.old tables.new result
-        (record { id = order; ticket = ticket; container = container; day = on; state = 1 })
-        (λ xs. list_any (λ o. nat_eq order o.id) xs ≡ false) }
+        within (λ xs. list_any (λ o. nat_eq order o.id) xs ≡ false)
+        adds record { id = order; ticket = ticket; container = container; day = on; state = 1 } }
 {
     change(
         tables,
@@ -48,8 +49,8 @@ pub fn append_order<P: Versioned, S: Alter>(
     container: Number,
     on: Day,
 ) -> Result<(), StoreFault>
-    ensures updates { StoreUpdates S.Store RepresentsDeskAlone IsLegible tables.old tables.new result
-        (IsNextOrder order) (with_order ticket container on) (schema.orders.tree ∷ []) }
+    ensures updates { StoreUpdates S.Store (schema.orders.tree ∷ []) RepresentsDeskAlone tables.old tables.new result
+        when IsNextOrder order within IsLegible gives with_order ticket container on }
     ensures puts { HasCleanDisk (state S.Store tables.new)
         → OnOk result (PutsRow schema.orders.tree
         (order_cells (record { id = order; ticket = ticket; container = container; day = on; state = 1 }))
@@ -60,7 +61,7 @@ pub fn append_order<P: Versioned, S: Alter>(
 
 /// The number that represents a state in the table.
 fn number_of(next: OrderState) -> Number
-    ensures { result ≡ state_number next }
+    ensures { result ≡ order_state_number next }
 {
     match next {
         OrderState::Waiting => Number::from(1),
@@ -76,8 +77,8 @@ fn set_state<P: Versioned, S: Alter>(
     order: Number,
     next: Number,
 ) -> Result<(), StoreFault>
-    ensures { Changes S.Store schema.orders order_cells tables.old tables.new result (AreCounted (λ o. o.id))
-        (with_state order next) }
+    ensures { Changes S.Store schema.orders order_cells tables.old tables.new result
+        when AreCounted (λ o. o.id) leaves with_state order next }
 {
     change(
         tables,
@@ -92,8 +93,8 @@ pub fn end_order<P: Versioned, S: Alter>(
     order: Number,
     next: OrderState,
 ) -> Result<(), StoreFault>
-    ensures updates { StoreUpdates S.Store RepresentsDeskAlone IsLegible tables.old tables.new result (λ _. ⊤)
-        (with_order_state order next) (schema.orders.tree ∷ []) }
+    ensures updates { StoreUpdates S.Store (schema.orders.tree ∷ []) RepresentsDeskAlone tables.old tables.new result
+        within IsLegible gives with_order_state order next }
 {
     set_state(tables, order, number_of(next))
 }

@@ -1,15 +1,16 @@
 //! Orders, from when they are placed to when they end.
 
 ghost use Rattle.std.specs.Prelude.{◌≡◌, ◌≤◌, nat_eq, find, option_map, IfOk, ◌≢◌, IfErr};
-ghost use Rattle.std.specs.Prelude.{IsOk, ⊤};
+ghost use Rattle.std.specs.Prelude.{IsOk};
 ghost use Rattle.std.specs.List.{AllByRecursion};
 ghost use Rattle.sqlite.specs.Held.{state};
 ghost use Rattle.desk_core.specs.DeskRows.{OrderRow};
 ghost use Rattle.office_tables.specs.Calls.{StoreAnswers};
+ghost use Rattle.office_tables.specs.Premises.{◌when◌within◌gives◌, ◌within◌gives◌};
 ghost use Rattle.office_tables.specs.Schema as schema;
 ghost use Rattle.office_tables.specs.Step.{Holds};
 ghost use Rattle.office_tables.specs.TableStatements.{LooksUp};
-ghost use Rattle.desk_store.specs.Orders.{state_number, order_with, IsThere};
+ghost use Rattle.desk_store.specs.Orders.{order_state_number, order_with, IsThere};
 ghost use Rattle.desk_store.specs.Rows.{order_cells};
 ghost use Rattle.desk_store.specs.Representation.{IsLegibleOrder, RepresentsDeskAlone, IsLegible};
 ghost use Rattle.office_tables.specs.RowNumbers.{AreCounted};
@@ -86,10 +87,10 @@ fn find_order<P: Versioned, S: Alter>(
     order: Number,
 ) -> Result<Option<OrderEntry>, StoreFault>
     ensures { LooksUp S.Store (Holds schema.orders order_cells) tables.old tables.new result
-        (AreCounted (λ o. o.id)) (AllByRecursion IsLegibleOrder)
-        (λ xs found. found ≡ option_map (λ (o : OrderRow).
+        when AreCounted (λ o. o.id) within AllByRecursion IsLegibleOrder
+        gives λ xs found. found ≡ option_map (λ (o : OrderRow).
         record { ticket = o.ticket; container = o.container; day = o.day; state = o.state })
-        (find (λ o. nat_eq order o.id) xs)) }
+        (find (λ o. nat_eq order o.id) xs) }
 {
     find_one(
         alloc,
@@ -105,7 +106,7 @@ impl OrderEntry {
         ensures ticket { IfOk result (λ o. o.ticket ≡ self.now.ticket) }
         ensures container { IfOk result (λ o. o.container ≡ self.now.container) }
         ensures day { IfOk result (λ o. o.day ≡ self.now.day) }
-        ensures state { IfOk result (λ o. state_number o.state ≡ self.now.state) }
+        ensures state { IfOk result (λ o. order_state_number o.state ≡ self.now.state) }
         ensures known { 1 ≤ self.now.state → self.now.state ≤ 4 → IsOk result }
         ensures fair { IfErr result (λ e. e ≢ StoreFault.Disk) }
     {
@@ -131,8 +132,8 @@ fn find_placed<P: Versioned, S: Alter>(
     tables: &mut Tables<P, S>,
     order: Number,
 ) -> Result<Option<PlacedOrder>, StoreFault>
-    ensures answers { StoreAnswers S.Store RepresentsDeskAlone IsLegible tables.old tables.new result (λ _. ⊤)
-        (λ _ d found. IsThere (order_with order d) found) }
+    ensures answers { StoreAnswers S.Store RepresentsDeskAlone tables.old tables.new result
+        within IsLegible gives λ _ d found. IsThere (order_with order d) found }
 {
     let Some(entry) = find_order(alloc, tables, order)? else {
         return Ok(None);
@@ -147,8 +148,8 @@ pub fn order<P: Versioned, S: Alter>(
     tables: &mut Tables<P, S>,
     order: u64,
 ) -> Result<Option<PlacedOrder>, StoreFault>
-    ensures answers { StoreAnswers S.Store RepresentsDeskAlone IsLegible tables.old tables.new result (λ _. ⊤)
-        (λ _ d found. IsThere (order_with order d) found) }
+    ensures answers { StoreAnswers S.Store RepresentsDeskAlone tables.old tables.new result
+        within IsLegible gives λ _ d found. IsThere (order_with order d) found }
 {
     match Number::of(order) {
         Some(number) => find_placed(alloc, tables, number),

@@ -1,7 +1,7 @@
 //! The heads of queues: where containers are, and who is the first that waits.
 
-ghost use Rattle.std.specs.Prelude.{⊤};
 ghost use Rattle.office_tables.specs.Calls.{StoreAnswers};
+ghost use Rattle.office_tables.specs.Premises.{◌within◌gives◌};
 ghost use Rattle.desk_store.specs.Storage.{RepresentsQueues, IsLegibleStorage, container_with, IsHeaded};
 
 use crate::container_labels::is_known;
@@ -28,8 +28,9 @@ fn find_head<P: Versioned, S: Alter>(
     tables: &mut Tables<P, S>,
     container: Number,
 ) -> Result<Option<QueueHead>, StoreFault>
-    ensures answers { StoreAnswers S.Store RepresentsQueues IsLegibleStorage tables.old tables.new result (λ _. ⊤)
-        (λ _ storage found. IsHeaded container storage (container_with container storage) found) }
+    ensures answers { StoreAnswers S.Store RepresentsQueues tables.old tables.new result
+        within IsLegibleStorage
+        gives λ _ storage found. IsHeaded container storage (container_with container storage) found }
 {
     let known = is_known(alloc, tables, container)?;
     if !known {
@@ -46,8 +47,9 @@ pub fn queue_head<P: Versioned, S: Alter>(
     tables: &mut Tables<P, S>,
     container: u64,
 ) -> Result<Option<QueueHead>, StoreFault>
-    ensures answers { StoreAnswers S.Store RepresentsQueues IsLegibleStorage tables.old tables.new result (λ _. ⊤)
-        (λ _ storage found. IsHeaded container storage (container_with container storage) found) }
+    ensures answers { StoreAnswers S.Store RepresentsQueues tables.old tables.new result
+        within IsLegibleStorage
+        gives λ _ storage found. IsHeaded container storage (container_with container storage) found }
 {
     match Number::of(container) {
         Some(number) => find_head(alloc, tables, number),

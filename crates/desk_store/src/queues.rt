@@ -3,6 +3,7 @@
 ghost use Rattle.std.specs.Prelude.{◌≡◌, ◌≢◌, nat_eq, find, option_map, IfOk, IfErr, IsOk, ⊤};
 ghost use Rattle.desk_core.specs.DeskRows.{HoldingRow};
 ghost use Rattle.office_tables.specs.Calls.{StoreAnswers};
+ghost use Rattle.office_tables.specs.Premises.{◌when◌gives◌, ◌within◌gives◌};
 ghost use Rattle.office_tables.specs.Schema as schema;
 ghost use Rattle.office_tables.specs.Step.{Holds};
 ghost use Rattle.office_tables.specs.TableStatements.{LooksUp};
@@ -82,9 +83,9 @@ fn find_place<P: Versioned, S: Alter>(
     container: Number,
 ) -> Result<Option<PlaceEntry>, StoreFault>
     ensures { LooksUp S.Store (Holds schema.holding holding_cells) tables.old tables.new result
-        (AreByNumber (λ h. h.container)) (λ _. ⊤)
-        (λ xs found. found ≡ option_map (λ (h : HoldingRow). record { place = h.place; held_by = h.held_by })
-        (find (λ (h : HoldingRow). nat_eq container h.container) xs)) }
+        when AreByNumber (λ h. h.container)
+        gives λ xs found. found ≡ option_map (λ (h : HoldingRow). record { place = h.place; held_by = h.held_by })
+        (find (λ (h : HoldingRow). nat_eq container h.container) xs) }
 {
     find_one(
         alloc,
@@ -100,8 +101,8 @@ pub(crate) fn place_of<P: Versioned, S: Alter>(
     tables: &mut Tables<P, S>,
     container: Number,
 ) -> Result<Place, StoreFault>
-    ensures answers { StoreAnswers S.Store RepresentsDeskAlone IsLegible tables.old tables.new result (λ _. ⊤)
-        (λ _ d place. IsAt (holding_of container d) place) }
+    ensures answers { StoreAnswers S.Store RepresentsDeskAlone tables.old tables.new result
+        within IsLegible gives λ _ d place. IsAt (holding_of container d) place }
 {
     match find_place(alloc, tables, container)? {
         Some(entry) => entry.place(),
@@ -115,8 +116,9 @@ fn find_queue<P: Versioned, S: Alter>(
     tables: &mut Tables<P, S>,
     container: Number,
 ) -> Result<Option<ContainerQueue>, StoreFault>
-    ensures answers { StoreAnswers S.Store RepresentsQueues IsLegibleStorage tables.old tables.new result (λ _. ⊤)
-        (λ _ storage found. IsQueued container storage (container_with container storage) found) }
+    ensures answers { StoreAnswers S.Store RepresentsQueues tables.old tables.new result
+        within IsLegibleStorage
+        gives λ _ storage found. IsQueued container storage (container_with container storage) found }
 {
     let Some(known) = box_of(alloc, tables, container)? else {
         return Ok(None);
@@ -137,8 +139,9 @@ pub fn queue<P: Versioned, S: Alter>(
     tables: &mut Tables<P, S>,
     container: u64,
 ) -> Result<Option<ContainerQueue>, StoreFault>
-    ensures answers { StoreAnswers S.Store RepresentsQueues IsLegibleStorage tables.old tables.new result (λ _. ⊤)
-        (λ _ storage found. IsQueued container storage (container_with container storage) found) }
+    ensures answers { StoreAnswers S.Store RepresentsQueues tables.old tables.new result
+        within IsLegibleStorage
+        gives λ _ storage found. IsQueued container storage (container_with container storage) found }
 {
     match Number::of(container) {
         Some(number) => find_queue(alloc, tables, number),

@@ -1,16 +1,18 @@
 //! Permits for closed units.
 
-ghost use Rattle.std.specs.Prelude.{◌≡◌, false, List, [], ◌∷◌, OnOk, ⊤};
+ghost use Rattle.std.specs.Prelude.{◌≡◌, false, List, [], ◌∷◌, OnOk};
 ghost use Rattle.std.specs.List.{list_any};
 ghost use Rattle.sqlite.specs.Held.{state};
 ghost use Rattle.sqlite.specs.State.{HasCleanDisk};
 ghost use Rattle.desk_core.specs.DeskRows.{PermitRow};
 ghost use Rattle.office_tables.specs.Calls.{StoreUpdates, StoreAnswers};
 ghost use Rattle.office_tables.specs.Order.{IsOrdered};
+ghost use Rattle.office_tables.specs.Premises.{◌when◌within◌gives◌, ◌within◌adds◌, ◌within◌gives◌};
 ghost use Rattle.office_tables.specs.Schema as schema;
 ghost use Rattle.office_tables.specs.NumberedStatements.{PutsNumbered, ThinsNumbered};
-ghost use Rattle.desk_store.specs.Permits.{permits_of, by_unit, is_permit, without_permit, with_permit, granted};
-ghost use Rattle.desk_store.specs.Permits.{revoked, HasUnitRow, MayHave};
+ghost use Rattle.desk_store.specs.Permits.{permits_of, by_permitted_unit, is_permit, without_permit, desk_with_permit};
+ghost use Rattle.desk_store.specs.Permits.{with_permit_row};
+ghost use Rattle.desk_store.specs.Permits.{desk_without_permit, HasUnitRow, MayHave};
 ghost use Rattle.office_tables.specs.Permits.{permit_cells};
 ghost use Rattle.desk_store.specs.Representation.{RepresentsDeskAlone, IsLegible};
 ghost use Rattle.office_tables.specs.RowNumbers.{HasNumbered};
@@ -56,8 +58,8 @@ fn permits_with<P: Versioned, S: Alter>(
     tables: &mut Tables<P, S>,
     ticket: Number,
 ) -> Result<Vec<Permit>, StoreFault>
-    ensures answers { StoreAnswers S.Store RepresentsDeskAlone IsLegible tables.old tables.new result (λ _. ⊤)
-        (λ _ d all. IsOrdered by_unit (permits_of ticket d) all.items) }
+    ensures answers { StoreAnswers S.Store RepresentsDeskAlone tables.old tables.new result
+        within IsLegible gives λ _ d all. IsOrdered by_permitted_unit (permits_of ticket d) all.items }
 {
     find(
         alloc,
@@ -73,8 +75,8 @@ pub fn permits<P: Versioned, S: Alter>(
     tables: &mut Tables<P, S>,
     ticket: u64,
 ) -> Result<Vec<Permit>, StoreFault>
-    ensures answers { StoreAnswers S.Store RepresentsDeskAlone IsLegible tables.old tables.new result (λ _. ⊤)
-        (λ _ d all. IsOrdered by_unit (permits_of ticket d) all.items) }
+    ensures answers { StoreAnswers S.Store RepresentsDeskAlone tables.old tables.new result
+        within IsLegible gives λ _ d all. IsOrdered by_permitted_unit (permits_of ticket d) all.items }
 {
     match Number::of(ticket) {
         Some(number) => permits_with(alloc, tables, number),
@@ -90,8 +92,8 @@ fn insert_permit<P: Versioned, S: Alter>(
     until: Day,
 ) -> Result<(), StoreFault>
     ensures { PutsNumbered S.Store schema.permit permit_cells tables.old tables.new result
-        (record { ticket = ticket; unit = unit; until = until })
-        (λ s ps. (list_any (is_permit ticket unit) ps ≡ false) × HasUnitRow unit s.now.trees) }
+        within (λ s ps. (list_any (is_permit ticket unit) ps ≡ false) × HasUnitRow unit s.now.trees)
+        adds record { ticket = ticket; unit = unit; until = until } }
 {
     change(
         tables,
@@ -124,13 +126,13 @@ pub fn grant<P: Versioned, S: Alter>(
     unit: Number,
     until: Day,
 ) -> Result<(), StoreFault>
-    ensures updates { StoreUpdates S.Store RepresentsDeskAlone IsLegible tables.old tables.new result
-        (MayHave ticket unit (state S.Store tables.old).now.trees) (with_permit ticket unit until)
-        (schema.permit.tree ∷ []) }
+    ensures updates { StoreUpdates S.Store (schema.permit.tree ∷ []) RepresentsDeskAlone tables.old tables.new result
+        when MayHave ticket unit (state S.Store tables.old).now.trees within IsLegible
+        gives desk_with_permit ticket unit until }
     ensures rows { HasCleanDisk (state S.Store tables.new) → (ps : List PermitRow)
         → HasNumbered permit_cells ((state S.Store tables.old).now.trees schema.permit.tree) ps
         → OnOk result (HasNumbered permit_cells ((state S.Store tables.new).now.trees schema.permit.tree)
-        (granted ticket unit until ps)) }
+        (with_permit_row ticket unit until ps)) }
 {
     clear_permit(tables, ticket, unit)?;
     insert_permit(tables, ticket, unit, until)
@@ -142,8 +144,8 @@ pub fn revoke<P: Versioned, S: Alter>(
     ticket: Number,
     unit: Number,
 ) -> Result<(), StoreFault>
-    ensures updates { StoreUpdates S.Store RepresentsDeskAlone IsLegible tables.old tables.new result (λ _. ⊤)
-        (revoked ticket unit) (schema.permit.tree ∷ []) }
+    ensures updates { StoreUpdates S.Store (schema.permit.tree ∷ []) RepresentsDeskAlone tables.old tables.new result
+        within IsLegible gives desk_without_permit ticket unit }
 {
     clear_permit(tables, ticket, unit)
 }

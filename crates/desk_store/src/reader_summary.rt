@@ -8,10 +8,11 @@ ghost use Rattle.sqlite.specs.Held.{state};
 ghost use Rattle.isad_core.specs.Limits.{most_orders};
 ghost use Rattle.desk_core.specs.DeskRows.{OrderRow};
 ghost use Rattle.office_tables.specs.Calls.{StoreAnswers};
+ghost use Rattle.office_tables.specs.Premises.{◌when◌gives◌, ◌when◌within◌gives◌, ◌within◌gives◌};
 ghost use Rattle.office_tables.specs.Schema as schema;
 ghost use Rattle.office_tables.specs.Step.{Holds};
 ghost use Rattle.office_tables.specs.TableStatements.{LooksUp};
-ghost use Rattle.desk_store.specs.Readers.{is_live, live_orders, held_with, placed_on, card_of};
+ghost use Rattle.desk_store.specs.Readers.{has_not_ended, orders_not_ended, held_with, placed_on, card_of};
 ghost use Rattle.desk_store.specs.Rows.{order_cells};
 ghost use Rattle.desk_store.specs.Representation.{RepresentsDeskAlone, IsLegible};
 ghost use Rattle.office_tables.specs.RowNumbers.{AreCounted};
@@ -82,10 +83,9 @@ pub(crate) fn live_lines<P: Versioned, S: Alter>(
     ticket: Number,
 ) -> Result<Vec<OrderLine>, StoreFault>
     ensures { LooksUp S.Store (Holds schema.orders order_cells) tables.old tables.new result
-        (AreCounted (λ o. o.id)) (λ _. ⊤)
-        (λ xs found. found.items
+        when AreCounted (λ o. o.id) gives λ xs found. found.items
         ≡ map (λ (o : OrderRow). record { order = o.id; container = o.container; state = o.state })
-        (filter (λ o. nat_eq ticket o.ticket && is_live o) xs)) }
+        (filter (λ o. nat_eq ticket o.ticket && has_not_ended o) xs) }
 {
     find(
         alloc,
@@ -100,9 +100,8 @@ pub(crate) fn last_order<P: Versioned, S: Alter>(
     tables: &mut Tables<P, S>,
 ) -> Result<u32, StoreFault>
     ensures { LooksUp S.Store (Holds schema.orders order_cells) tables.old tables.new result
-        (λ xs. (length xs ≤ most_orders) × AreCounted (λ o. o.id) xs)
-        (λ xs. (length xs ≤ most_orders) × AreCounted (λ o. o.id) xs)
-        (λ xs n. n ≡ length xs) }
+        when (λ xs. (length xs ≤ most_orders) × AreCounted (λ o. o.id) xs)
+        within (λ xs. (length xs ≤ most_orders) × AreCounted (λ o. o.id) xs) gives λ xs n. n ≡ length xs }
 {
     find_number(
         tables,
@@ -119,8 +118,8 @@ pub(crate) fn placed_on<P: Versioned, S: Alter>(
     on: Day,
 ) -> Result<u32, StoreFault>
     ensures { LooksUp S.Store (Holds schema.orders order_cells) tables.old tables.new result
-        (λ xs. length xs ≤ most_orders) (λ xs. length xs ≤ most_orders)
-        (λ xs n. n ≡ count_by (λ (o : OrderRow). nat_eq ticket o.ticket && int_eq o.day on) xs) }
+        when (λ xs. length xs ≤ most_orders) within (λ xs. length xs ≤ most_orders)
+        gives λ xs n. n ≡ count_by (λ (o : OrderRow). nat_eq ticket o.ticket && int_eq o.day on) xs }
 {
     find_number(
         tables,
@@ -178,14 +177,14 @@ fn orders_of<P: Versioned, S: Alter>(
     ticket: Number,
     today: Day,
 ) -> Result<TicketOrders, StoreFault>
-    ensures answers { StoreAnswers S.Store RepresentsDeskAlone IsLegible tables.old tables.new result (λ _. ⊤)
-        (λ _ d told.
+    ensures answers { StoreAnswers S.Store RepresentsDeskAlone tables.old tables.new result
+        within IsLegible gives λ _ d told.
         told ≡ record {
-          live = live_orders ticket d;
+          live = orders_not_ended ticket d;
           held = held_with ticket d;
           placed = placed_on ticket today d;
           orders = length d.orders;
-        }) }
+        } }
 {
     let lines = live_lines(alloc, tables, ticket)?;
     let live = live_in(alloc, &lines)?;
@@ -207,8 +206,8 @@ fn find_card<P: Versioned, S: Alter>(
     ticket: Number,
     today: Day,
 ) -> Result<Option<ReaderCard>, StoreFault>
-    ensures answers { StoreAnswers S.Store RepresentsDeskAlone IsLegible tables.old tables.new result (λ _. ⊤)
-        (λ _ d card. card ≡ card_of ticket today d) }
+    ensures answers { StoreAnswers S.Store RepresentsDeskAlone tables.old tables.new result
+        within IsLegible gives λ _ d card. card ≡ card_of ticket today d }
 {
     let Some(NamedReader { name, until }) = find_reader(alloc, tables, ticket)? else {
         return Ok(None);
@@ -236,8 +235,8 @@ pub fn reader<P: Versioned, S: Alter>(
     ticket: u64,
     today: Day,
 ) -> Result<Option<ReaderCard>, StoreFault>
-    ensures answers { StoreAnswers S.Store RepresentsDeskAlone IsLegible tables.old tables.new result (λ _. ⊤)
-        (λ _ d card. card ≡ card_of ticket today d) }
+    ensures answers { StoreAnswers S.Store RepresentsDeskAlone tables.old tables.new result
+        within IsLegible gives λ _ d card. card ≡ card_of ticket today d }
 {
     match Number::of(ticket) {
         Some(number) => find_card(alloc, tables, number, today),

@@ -1,19 +1,20 @@
 //! Tickets and their readers.
 
 ghost use Rattle.std.specs.Prelude.{◌≡◌, ◌<◌, ◌≤◌, nat_eq, true, false, [], ◌∷◌, find};
-ghost use Rattle.std.specs.Prelude.{length, option_map, IfOk, is_some, ⊤};
+ghost use Rattle.std.specs.Prelude.{length, option_map, IfOk, is_some};
 ghost use Rattle.std.specs.List.{AllByRecursion, list_any};
 ghost use Rattle.sqlite.specs.Held.{state};
 ghost use Rattle.sqlite.specs.State.{HasCleanDisk};
 ghost use Rattle.isad_core.specs.Limits.{most_tickets};
 ghost use Rattle.desk_core.specs.DeskRows.{Desk, ReaderRow};
+ghost use Rattle.office_tables.specs.Premises.{◌when◌leaves◌, ◌when◌within◌gives◌, ◌within◌adds◌, ◌within◌gives◌};
 ghost use Rattle.office_tables.specs.Query.{Reads};
 ghost use Rattle.office_tables.specs.Calls.{StoreUpdates, StoreAnswers};
 ghost use Rattle.office_tables.specs.Faults.{FaultsHaveCause};
 ghost use Rattle.office_tables.specs.Schema as schema;
 ghost use Rattle.office_tables.specs.Step.{Holds};
 ghost use Rattle.office_tables.specs.TableStatements.{Changes, LooksUp, Puts};
-ghost use Rattle.desk_store.specs.Readers.{next_ticket, reader_with, with_reader, renewed, with_last_day};
+ghost use Rattle.desk_store.specs.Readers.{next_ticket, reader_with, with_reader, renewed_readers, with_last_day};
 ghost use Rattle.desk_store.specs.Rows.{reader_cells};
 ghost use Rattle.desk_store.specs.Representation.{IsLegibleReader, RepresentsDesk, RepresentsDeskAlone, IsLegible};
 ghost use Rattle.office_tables.specs.RowNumbers.{AreCounted};
@@ -64,9 +65,9 @@ pub(crate) fn find_reader<P: Versioned, S: Alter>(
     ticket: Number,
 ) -> Result<Option<NamedReader>, StoreFault>
     ensures { LooksUp S.Store (Holds schema.reader reader_cells) tables.old tables.new result
-        (AreCounted (λ r. r.ticket)) (AllByRecursion IsLegibleReader)
-        (λ xs found. found ≡ option_map (λ (r : ReaderRow). record { name = r.name; until = r.until })
-        (find (λ r. nat_eq ticket r.ticket) xs)) }
+        when AreCounted (λ r. r.ticket) within AllByRecursion IsLegibleReader
+        gives λ xs found. found ≡ option_map (λ (r : ReaderRow). record { name = r.name; until = r.until })
+        (find (λ r. nat_eq ticket r.ticket) xs) }
 {
     find_one(
         alloc,
@@ -79,8 +80,8 @@ pub(crate) fn find_reader<P: Versioned, S: Alter>(
 /// How many tickets were given. This is the greatest ticket, in the table's last row.
 fn last_ticket<P: Versioned, S: Alter>(tables: &mut Tables<P, S>) -> Result<u32, StoreFault>
     ensures { LooksUp S.Store (Holds schema.reader reader_cells) tables.old tables.new result
-        (AreCounted (λ r. r.ticket)) (λ xs. AreCounted (λ r. r.ticket) xs × (length xs ≤ most_tickets))
-        (λ xs n. n ≡ length xs) }
+        when AreCounted (λ r. r.ticket) within (λ xs. AreCounted (λ r. r.ticket) xs × (length xs ≤ most_tickets))
+        gives λ xs n. n ≡ length xs }
 {
     find_number(
         tables,
@@ -97,8 +98,8 @@ fn insert_reader<P: Versioned, S: Alter>(
     until: Day,
 ) -> Result<(), StoreFault>
     ensures { Puts S.Store schema.reader reader_cells tables.old tables.new result
-        (record { ticket = ticket; name = name.now; until = until })
-        (λ xs. list_any (λ r. nat_eq ticket r.ticket) xs ≡ false) }
+        within (λ xs. list_any (λ r. nat_eq ticket r.ticket) xs ≡ false)
+        adds record { ticket = ticket; name = name.now; until = until } }
 {
     change(
         tables,
@@ -113,8 +114,8 @@ fn set_last_day<P: Versioned, S: Alter>(
     ticket: Number,
     until: Day,
 ) -> Result<(), StoreFault>
-    ensures { Changes S.Store schema.reader reader_cells tables.old tables.new result (AreCounted (λ r. r.ticket))
-        (renewed ticket until) }
+    ensures { Changes S.Store schema.reader reader_cells tables.old tables.new result
+        when AreCounted (λ r. r.ticket) leaves renewed_readers ticket until }
 {
     change(
         tables,
@@ -129,8 +130,8 @@ pub fn renew<P: Versioned, S: Alter>(
     ticket: Number,
     until: Day,
 ) -> Result<(), StoreFault>
-    ensures updates { StoreUpdates S.Store RepresentsDeskAlone IsLegible tables.old tables.new result (λ _. ⊤)
-        (with_last_day ticket until) (schema.reader.tree ∷ []) }
+    ensures updates { StoreUpdates S.Store (schema.reader.tree ∷ []) RepresentsDeskAlone tables.old tables.new result
+        within IsLegible gives with_last_day ticket until }
 {
     set_last_day(tables, ticket, until)
 }
@@ -161,8 +162,8 @@ pub fn add_reader<P: Versioned, S: Alter>(
 ) -> Result<Option<Number>, StoreFault>
     ensures number { HasCleanDisk (state S.Store tables.new) → (d : Desk)
         → RepresentsDesk (state S.Store tables.old).now.trees d → IfOk result (λ ticket. ticket ≡ next_ticket d) }
-    ensures updates { StoreUpdates S.Store RepresentsDeskAlone IsLegible tables.old tables.new result (λ _. ⊤)
-        (λ d. with_reader (next_ticket d) name.now until d) (schema.reader.tree ∷ []) }
+    ensures updates { StoreUpdates S.Store (schema.reader.tree ∷ []) RepresentsDeskAlone tables.old tables.new result
+        within IsLegible gives λ d. with_reader (next_ticket d) name.now until d }
 {
     let Some(ticket) = next_number(tables)? else {
         return Ok(None);
@@ -177,8 +178,8 @@ fn is_given<P: Versioned, S: Alter>(
     tables: &mut Tables<P, S>,
     ticket: Number,
 ) -> Result<bool, StoreFault>
-    ensures answers { StoreAnswers S.Store RepresentsDeskAlone IsLegible tables.old tables.new result (λ _. ⊤)
-        (λ _ d known. known ≡ is_some (reader_with ticket d)) }
+    ensures answers { StoreAnswers S.Store RepresentsDeskAlone tables.old tables.new result
+        within IsLegible gives λ _ d known. known ≡ is_some (reader_with ticket d) }
 {
     let found = find_reader(alloc, tables, ticket)?;
     Ok(found.is_some())
@@ -190,8 +191,8 @@ pub fn is_registered<P: Versioned, S: Alter>(
     tables: &mut Tables<P, S>,
     ticket: u64,
 ) -> Result<bool, StoreFault>
-    ensures answers { StoreAnswers S.Store RepresentsDeskAlone IsLegible tables.old tables.new result (λ _. ⊤)
-        (λ _ d known. known ≡ is_some (reader_with ticket d)) }
+    ensures answers { StoreAnswers S.Store RepresentsDeskAlone tables.old tables.new result
+        within IsLegible gives λ _ d known. known ≡ is_some (reader_with ticket d) }
 {
     match Number::of(ticket) {
         Some(number) => is_given(alloc, tables, number),

@@ -1,9 +1,10 @@
 //! What a run may take.
 
-ghost use Rattle.std.specs.Prelude.{◌≡◌, ◌||◌, ℕ, not, nat_eq, map, filter, IfOk, OnOk, ⊤};
+ghost use Rattle.std.specs.Prelude.{◌≡◌, ◌||◌, ℕ, not, nat_eq, map, filter, IfOk, OnOk};
 ghost use Rattle.std.specs.List.{list_any};
 ghost use Rattle.desk_core.specs.DeskRows.{OrderRow};
 ghost use Rattle.office_tables.specs.Calls.{StoreAnswers};
+ghost use Rattle.office_tables.specs.Premises.{◌when◌gives◌, ◌within◌gives◌};
 ghost use Rattle.office_tables.specs.Schema as schema;
 ghost use Rattle.office_tables.specs.Step.{Holds};
 ghost use Rattle.office_tables.specs.TableStatements.{LooksUp};
@@ -30,10 +31,9 @@ fn waiting_orders<P: Versioned, S: Alter>(
     tables: &mut Tables<P, S>,
 ) -> Result<Vec<ContainerOrder>, StoreFault>
     ensures { LooksUp S.Store (Holds schema.orders order_cells) tables.old tables.new result
-        (AreCounted (λ o. o.id)) (λ _. ⊤)
-        (λ xs found. found.items
+        when AreCounted (λ o. o.id) gives λ xs found. found.items
         ≡ map (λ (o : OrderRow). record { container = o.container; order = o.id; ticket = o.ticket })
-        (filter (λ (o : OrderRow). nat_eq 1 o.state) xs)) }
+        (filter (λ (o : OrderRow). nat_eq 1 o.state) xs) }
 {
     find(
         alloc,
@@ -74,8 +74,8 @@ pub fn first_orders<P: Versioned, S: Alter>(
     alloc: Global,
     tables: &mut Tables<P, S>,
 ) -> Result<Vec<ContainerOrder>, StoreFault>
-    ensures answers { StoreAnswers S.Store RepresentsDeskAlone IsLegible tables.old tables.new result (λ _. ⊤)
-        (λ _ d all. all.items ≡ firsts_of d) }
+    ensures answers { StoreAnswers S.Store RepresentsDeskAlone tables.old tables.new result
+        within IsLegible gives λ _ d all. all.items ≡ firsts_of d }
 {
     let orders = waiting_orders(alloc, tables)?;
     let firsts = firsts(alloc, &orders)?;
@@ -125,8 +125,8 @@ fn on_shelf_by_list<P: Versioned, S: Alter>(
     tables: &mut Tables<P, S>,
     orders: &[ContainerOrder],
 ) -> Result<Vec<ContainerOrder>, StoreFault>
-    ensures answers { StoreAnswers S.Store RepresentsDeskAlone IsLegible tables.old tables.new result (λ _. ⊤)
-        (λ _ d kept. kept.items ≡ on_shelf d orders.now) }
+    ensures answers { StoreAnswers S.Store RepresentsDeskAlone tables.old tables.new result
+        within IsLegible gives λ _ d kept. kept.items ≡ on_shelf d orders.now }
 {
     let lines = holding_lines(alloc, tables)?;
     let known = containers_off_shelf(alloc, &lines)?;
@@ -139,8 +139,8 @@ fn on_shelf_by_number<P: Versioned, S: Alter>(
     tables: &mut Tables<P, S>,
     orders: &[ContainerOrder],
 ) -> Result<Vec<ContainerOrder>, StoreFault>
-    ensures answers { StoreAnswers S.Store RepresentsDeskAlone IsLegible tables.old tables.new result (λ _. ⊤)
-        (λ _ d kept. kept.items ≡ on_shelf d orders.now) }
+    ensures answers { StoreAnswers S.Store RepresentsDeskAlone tables.old tables.new result
+        within IsLegible gives λ _ d kept. kept.items ≡ on_shelf d orders.now }
 {
     let mut kept = Vec::new(alloc);
     for order in orders {
@@ -158,8 +158,8 @@ pub fn on_shelf<P: Versioned, S: Alter>(
     tables: &mut Tables<P, S>,
     orders: &[ContainerOrder],
 ) -> Result<Vec<ContainerOrder>, StoreFault>
-    ensures answers { StoreAnswers S.Store RepresentsDeskAlone IsLegible tables.old tables.new result (λ _. ⊤)
-        (λ _ d kept. kept.items ≡ on_shelf d orders.now) }
+    ensures answers { StoreAnswers S.Store RepresentsDeskAlone tables.old tables.new result
+        within IsLegible gives λ _ d kept. kept.items ≡ on_shelf d orders.now }
 {
     if orders.len() > FEW_ORDERS {
         return on_shelf_by_list(alloc, tables, orders);

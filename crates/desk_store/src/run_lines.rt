@@ -5,6 +5,7 @@ ghost use Rattle.std.specs.List.{AllByRecursion, AllZip};
 ghost use Rattle.isad_core.specs.Days.{is_day_number};
 ghost use Rattle.desk_core.specs.DeskRows.{RunRow};
 ghost use Rattle.office_tables.specs.Calls.{StoreAnswers};
+ghost use Rattle.office_tables.specs.Premises.{◌when◌within◌gives◌, ◌within◌and◌gives◌};
 ghost use Rattle.office_tables.specs.Schema as schema;
 ghost use Rattle.office_tables.specs.Step.{Holds};
 ghost use Rattle.office_tables.specs.TableStatements.{LooksUp};
@@ -55,8 +56,8 @@ fn find_day<P: Versioned, S: Alter>(
     run: Number,
 ) -> Result<Option<RunDay>, StoreFault>
     ensures { LooksUp S.Store (Holds schema.run run_cells) tables.old tables.new result
-        (AreCounted (λ r. r.id)) (AllByRecursion (λ r. is_day_number r.day ≡ true))
-        (λ xs found. found ≡ option_map (λ (r : RunRow). record { day = r.day }) (find (λ r. nat_eq run r.id) xs)) }
+        when AreCounted (λ r. r.id) within AllByRecursion (λ r. is_day_number r.day ≡ true)
+        gives λ xs found. found ≡ option_map (λ (r : RunRow). record { day = r.day }) (find (λ r. nat_eq run r.id) xs) }
 {
     find_one(
         alloc,
@@ -72,8 +73,8 @@ fn candidate<P: Versioned, S: Alter>(
     tables: &mut Tables<P, S>,
     line: &ContainerOrder,
 ) -> Result<Candidate, StoreFault>
-    ensures answers { StoreAnswers S.Store RepresentsQueues IsLegibleStorage tables.old tables.new result (IsKnownLine
-        line.now) (λ _ storage told. IsToldLine storage line.now told) }
+    ensures answers { StoreAnswers S.Store RepresentsQueues tables.old tables.new result
+        within IsLegibleStorage and IsKnownLine line.now gives λ _ storage told. IsToldLine storage line.now told }
 {
     let Some(written) = box_of(alloc, tables, line.container)? else {
         return Err(StoreFault::Schema);
@@ -94,9 +95,9 @@ fn candidates_of<P: Versioned, S: Alter>(
     tables: &mut Tables<P, S>,
     lines: &[ContainerOrder],
 ) -> Result<Vec<Candidate>, StoreFault>
-    ensures answers { StoreAnswers S.Store RepresentsQueues IsLegibleStorage tables.old tables.new result
-        (λ storage. AllByRecursion (λ l. IsKnownLine l storage) lines.now)
-        (λ _ storage told. AllZip (IsToldLine storage) lines.now told.items) }
+    ensures answers { StoreAnswers S.Store RepresentsQueues tables.old tables.new result
+        within IsLegibleStorage and (λ storage. AllByRecursion (λ l. IsKnownLine l storage) lines.now)
+        gives λ _ storage told. AllZip (IsToldLine storage) lines.now told.items }
 {
     let mut told = Vec::new(alloc);
     for line in lines {
@@ -113,8 +114,9 @@ fn find_run<P: Versioned, S: Alter>(
     tables: &mut Tables<P, S>,
     run: Number,
 ) -> Result<Option<Brought>, StoreFault>
-    ensures answers { StoreAnswers S.Store RepresentsQueues IsLegibleStorage tables.old tables.new result (AreKnown run)
-        (λ _ storage found. IsToldRun storage (run_with run storage.desk) found) }
+    ensures answers { StoreAnswers S.Store RepresentsQueues tables.old tables.new result
+        within IsLegibleStorage and AreKnown run
+        gives λ _ storage found. IsToldRun storage (run_with run storage.desk) found }
 {
     let Some(made) = find_day(alloc, tables, run)? else {
         return Ok(None);
@@ -133,8 +135,9 @@ pub fn run<P: Versioned, S: Alter>(
     tables: &mut Tables<P, S>,
     run: u64,
 ) -> Result<Option<Brought>, StoreFault>
-    ensures answers { StoreAnswers S.Store RepresentsQueues IsLegibleStorage tables.old tables.new result (AreKnown run)
-        (λ _ storage found. IsToldRun storage (run_with run storage.desk) found) }
+    ensures answers { StoreAnswers S.Store RepresentsQueues tables.old tables.new result
+        within IsLegibleStorage and AreKnown run
+        gives λ _ storage found. IsToldRun storage (run_with run storage.desk) found }
 {
     match Number::of(run) {
         Some(number) => find_run(alloc, tables, number),

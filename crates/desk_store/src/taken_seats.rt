@@ -1,12 +1,13 @@
 //! The seats that are taken, and who has them.
 
 ghost use Rattle.std.specs.Prelude.{◌≡◌, ◌<◌, ◌^◌, not, nat_eq, false, [], ◌∷◌, filter, find, option_map, OnOk};
-ghost use Rattle.std.specs.Prelude.{IfSome, ⊤};
+ghost use Rattle.std.specs.Prelude.{IfSome};
 ghost use Rattle.std.specs.List.{AllByRecursion, list_any};
 ghost use Rattle.sqlite.specs.Held.{state};
 ghost use Rattle.sqlite.specs.State.{HasCleanDisk};
 ghost use Rattle.desk_core.specs.DeskRows.{SeatRow};
 ghost use Rattle.office_tables.specs.Calls.{StoreUpdates, StoreAnswers};
+ghost use Rattle.office_tables.specs.Premises.{◌when◌leaves◌, ◌when◌within◌gives◌, ◌within◌adds◌, ◌within◌gives◌};
 ghost use Rattle.office_tables.specs.Schema as schema;
 ghost use Rattle.office_tables.specs.Step.{Holds, PutsRow};
 ghost use Rattle.office_tables.specs.TableStatements.{LooksUp, Puts, Thins};
@@ -49,8 +50,8 @@ pub fn seats<P: Versioned, S: Alter>(
     alloc: Global,
     tables: &mut Tables<P, S>,
 ) -> Result<Vec<TakenSeat>, StoreFault>
-    ensures answers { StoreAnswers S.Store RepresentsDeskAlone IsLegible tables.old tables.new result (λ _. ⊤)
-        (λ _ d all. all.items ≡ taken_seats d) }
+    ensures answers { StoreAnswers S.Store RepresentsDeskAlone tables.old tables.new result
+        within IsLegible gives λ _ d all. all.items ≡ taken_seats d }
 {
     find(
         alloc,
@@ -67,9 +68,9 @@ pub(crate) fn find_seat<P: Versioned, S: Alter>(
     ticket: Number,
 ) -> Result<Option<TakenSeat>, StoreFault>
     ensures { LooksUp S.Store (Holds schema.seat seat_cells) tables.old tables.new result
-        (AreByNumber (λ s. s.seat)) (AllByRecursion (λ s. s.seat < 2 ^ 32))
-        (λ xs found. found ≡ option_map (λ (s : SeatRow). record { seat = s.seat; ticket = s.ticket })
-        (find (λ s. nat_eq ticket s.ticket) xs)) }
+        when AreByNumber (λ s. s.seat) within AllByRecursion (λ s. s.seat < 2 ^ 32)
+        gives λ xs found. found ≡ option_map (λ (s : SeatRow). record { seat = s.seat; ticket = s.ticket })
+        (find (λ s. nat_eq ticket s.ticket) xs) }
 {
     find_one(
         alloc,
@@ -85,9 +86,10 @@ fn insert_seat<P: Versioned, S: Alter>(
     seat: Number,
     ticket: Number,
 ) -> Result<(), StoreFault>
-    ensures { Puts S.Store schema.seat seat_cells tables.old tables.new result (record { seat = seat; ticket = ticket })
-        (λ xs. (list_any (λ s. nat_eq seat s.seat) xs ≡ false)
-        × (list_any (λ s. nat_eq ticket s.ticket) xs ≡ false)) }
+    ensures { Puts S.Store schema.seat seat_cells tables.old tables.new result
+        within (λ xs. (list_any (λ s. nat_eq seat s.seat) xs ≡ false)
+        × (list_any (λ s. nat_eq ticket s.ticket) xs ≡ false))
+        adds record { seat = seat; ticket = ticket } }
 {
     change(
         tables,
@@ -101,8 +103,8 @@ fn clear_seat<P: Versioned, S: Alter>(
     tables: &mut Tables<P, S>,
     seat: Number,
 ) -> Result<(), StoreFault>
-    ensures { Thins S.Store schema.seat seat_cells tables.old tables.new result (AreByNumber (λ s. s.seat))
-        (filter (λ s. not (nat_eq seat s.seat))) }
+    ensures { Thins S.Store schema.seat seat_cells tables.old tables.new result
+        when AreByNumber (λ s. s.seat) leaves filter (λ s. not (nat_eq seat s.seat)) }
 {
     change(tables, "DELETE FROM seat WHERE seat = ?1", &[seat.cell()])
 }
@@ -114,8 +116,8 @@ pub fn set_seat<P: Versioned, S: Alter>(
     seat: u32,
     who: Option<Number>,
 ) -> Result<(), StoreFault>
-    ensures updates { StoreUpdates S.Store RepresentsDeskAlone IsLegible tables.old tables.new result (MayTake seat who)
-        (with_seat seat who) (schema.seat.tree ∷ []) }
+    ensures updates { StoreUpdates S.Store (schema.seat.tree ∷ []) RepresentsDeskAlone tables.old tables.new result
+        when MayTake seat who within IsLegible gives with_seat seat who }
     ensures puts { HasCleanDisk (state S.Store tables.new)
         → IfSome who (λ ticket. OnOk result (PutsRow schema.seat.tree
         (seat_cells (record { seat = seat; ticket = ticket })) (state S.Store tables.old).now

@@ -1,7 +1,8 @@
 //! The reader who has a ticket.
 
-ghost use Rattle.std.specs.Prelude.{◌≡◌, ⊤};
+ghost use Rattle.std.specs.Prelude.{◌≡◌};
 ghost use Rattle.office_tables.specs.Calls.{StoreAnswers};
+ghost use Rattle.office_tables.specs.Premises.{◌within◌gives◌};
 ghost use Rattle.desk_store.specs.Readers.{ticket_holder};
 ghost use Rattle.desk_store.specs.Representation.{RepresentsDeskAlone, IsLegible};
 
@@ -20,8 +21,8 @@ fn find_holder<P: Versioned, S: Alter>(
     tables: &mut Tables<P, S>,
     ticket: Number,
 ) -> Result<Option<Reader>, StoreFault>
-    ensures answers { StoreAnswers S.Store RepresentsDeskAlone IsLegible tables.old tables.new result (λ _. ⊤)
-        (λ _ d holder. holder ≡ ticket_holder ticket d) }
+    ensures answers { StoreAnswers S.Store RepresentsDeskAlone tables.old tables.new result
+        within IsLegible gives λ _ d holder. holder ≡ ticket_holder ticket d }
 {
     let Some(row) = find_reader(alloc, tables, ticket)? else {
         return Ok(None);
@@ -42,8 +43,8 @@ pub fn ticket_holder<P: Versioned, S: Alter>(
     tables: &mut Tables<P, S>,
     ticket: u64,
 ) -> Result<Option<Reader>, StoreFault>
-    ensures answers { StoreAnswers S.Store RepresentsDeskAlone IsLegible tables.old tables.new result (λ _. ⊤)
-        (λ _ d holder. holder ≡ ticket_holder ticket d) }
+    ensures answers { StoreAnswers S.Store RepresentsDeskAlone tables.old tables.new result
+        within IsLegible gives λ _ d holder. holder ≡ ticket_holder ticket d }
 {
     match Number::of(ticket) {
         Some(number) => find_holder(alloc, tables, number),

@@ -6,6 +6,7 @@ ghost use Rattle.sqlite.specs.Held.{state};
 ghost use Rattle.isad_core.specs.Limits.{most_orders};
 ghost use Rattle.desk_core.specs.DeskRows.{OrderRow};
 ghost use Rattle.office_tables.specs.Calls.{StoreAnswers};
+ghost use Rattle.office_tables.specs.Premises.{◌when◌gives◌, ◌when◌within◌gives◌, ◌within◌gives◌};
 ghost use Rattle.office_tables.specs.Schema as schema;
 ghost use Rattle.office_tables.specs.Step.{Holds};
 ghost use Rattle.office_tables.specs.TableStatements.{LooksUp};
@@ -44,9 +45,9 @@ pub(crate) fn waiting_for<P: Versioned, S: Alter>(
     container: Number,
 ) -> Result<Vec<WaitingOrder>, StoreFault>
     ensures { LooksUp S.Store (Holds schema.orders order_cells) tables.old tables.new result
-        (AreCounted (λ o. o.id)) (λ _. ⊤)
-        (λ xs found. found.items ≡ map (λ (o : OrderRow). record { order = o.id; ticket = o.ticket })
-        (filter (waits_for container) xs)) }
+        when AreCounted (λ o. o.id)
+        gives λ xs found. found.items ≡ map (λ (o : OrderRow). record { order = o.id; ticket = o.ticket })
+        (filter (waits_for container) xs) }
 {
     find(
         alloc,
@@ -64,9 +65,9 @@ pub(crate) fn first_for<P: Versioned, S: Alter>(
     container: Number,
 ) -> Result<Option<WaitingOrder>, StoreFault>
     ensures { LooksUp S.Store (Holds schema.orders order_cells) tables.old tables.new result
-        (AreCounted (λ o. o.id)) (λ _. ⊤)
-        (λ xs found. found ≡ option_map (λ (o : OrderRow). record { order = o.id; ticket = o.ticket })
-        (find (waits_for container) xs)) }
+        when AreCounted (λ o. o.id)
+        gives λ xs found. found ≡ option_map (λ (o : OrderRow). record { order = o.id; ticket = o.ticket })
+        (find (waits_for container) xs) }
 {
     find_one(
         alloc,
@@ -82,8 +83,8 @@ fn count_waiting<P: Versioned, S: Alter>(
     container: Number,
 ) -> Result<u32, StoreFault>
     ensures { LooksUp S.Store (Holds schema.orders order_cells) tables.old tables.new result
-        (λ xs. length xs ≤ most_orders) (λ xs. length xs ≤ most_orders)
-        (λ xs n. n ≡ count_by (waits_for container) xs) }
+        when (λ xs. length xs ≤ most_orders) within (λ xs. length xs ≤ most_orders)
+        gives λ xs n. n ≡ count_by (waits_for container) xs }
 {
     find_number(
         tables,
@@ -97,8 +98,8 @@ pub(crate) fn is_awaited<P: Versioned, S: Alter>(
     tables: &mut Tables<P, S>,
     container: Number,
 ) -> Result<bool, StoreFault>
-    ensures answers { StoreAnswers S.Store RepresentsDeskAlone IsLegible tables.old tables.new result (λ _. ⊤)
-        (λ _ d awaited. awaited ≡ list_any (waits_for container) d.orders) }
+    ensures answers { StoreAnswers S.Store RepresentsDeskAlone tables.old tables.new result
+        within IsLegible gives λ _ d awaited. awaited ≡ list_any (waits_for container) d.orders }
 {
     let waiting = count_waiting(tables, container)?;
     Ok(waiting > 0)

@@ -1,10 +1,16 @@
 -- Places of rows: what the code looks up is what the rows above say.
-use Rattle.std.proofs.Common.{◌≡◌, ℕ, zero, suc, ◌+◌, ◌<◌, ◌≤◌, true, false, nat_eq, nat_lt, List, [], ◌∷◌, ◌++◌, length, get_or, take, drop, reverse, Option, Some, None, refl, sym, ap, ◌∙◌, subst, arith, append_assoc, add-one, inl, inr}
-use Rattle.std.specs.Option.{option_to_list}
+use Rattle.std.proofs.Common.{◌≡◌, ℕ, zero, suc, ◌+◌, ◌<◌, ◌≤◌, true, false, nat_eq, nat_lt, List, [], ◌∷◌, ◌++◌}
+use Rattle.std.proofs.Common.{length, get_or, take, drop, reverse, Option, Some, None, refl, sym, ap, ◌∙◌, subst, arith}
+use Rattle.std.proofs.Common.{append_assoc, add-one, inl, inr}
 use Rattle.std.proofs.lemmas.List.Elements.{All-push}
+use Rattle.std.specs.Option.{option_to_list}
 use Rattle.std.specs.Str.{bytes_eq}
 use Rattle.finding_aids.specs.declared.previews.places.RowPosition.{RowPosition}
-use Rattle.finding_aids.proofs.Common.{AllPlaced, Bytes, Empty, IsPlaced, IsPlacing, Row, append-nil, cases_Bool, cause_at, depth_below, drop_more, eq-eqb, eqb-false, eqb-true, faults, faults_below, has_legacy, if◌then◌else◌, index_of, le-ltb, length-append, length-reverse, lt-ltb, most_deep, ne_eqb, option_and_then, option_map, place_at, place_of, reverse-append, slice_get, take-append-drop, take_more}
+use Rattle.finding_aids.proofs.Common.{AllPlaced, Bytes, Empty, IsPlaced, IsPlacing, Row, append-nil, cases_Bool}
+use Rattle.finding_aids.proofs.Common.{cause_at, depth_below, drop_more, eq-eqb, eqb-false, eqb-true, faults}
+use Rattle.finding_aids.proofs.Common.{faults_below, has_legacy, if◌then◌else◌, index_of, le-ltb, length-append}
+use Rattle.finding_aids.proofs.Common.{length-reverse, lt-ltb, most_deep, ne_eqb, option_and_then, option_map, place_at}
+use Rattle.finding_aids.proofs.Common.{place_below, reverse-append, slice_get, take-append-drop, take_more}
 
 -- the place with this index, in a list that has the last place first
 abbrev pub from_last : List RowPosition → ℕ → Option RowPosition
@@ -100,7 +106,7 @@ depth_found (Some above) j = ap Some (add-one above.depth)
 
 pub place_of-depth : (known : Bytes → Option ℕ) (above : List Row) (places : List RowPosition) (parent : Option Bytes)
     → ((legacy : Bytes) → known legacy ≡ index_of legacy above) → AllPlaced above (reverse places)
-    → option_map (λ (p : RowPosition). p.depth) (place_of known places parent) ≡ depth_below above parent
+    → option_map (λ (p : RowPosition). p.depth) (place_below known places parent) ≡ depth_below above parent
 place_of-depth known above places None knows placed = refl
 place_of-depth known above places (Some legacy) knows placed =
     ap (λ (o : Option ℕ). option_map (λ (p : RowPosition). p.depth) (option_and_then (place_at places) o)) (knows legacy)
@@ -114,7 +120,7 @@ place_of-depth known above places (Some legacy) knows placed =
         ∙ ap (option_map (λ (p : RowPosition). suc p.depth)) (sym (from_last-reverse places j))
 
 pub place_of-parent : (known : Bytes → Option ℕ) (above : List Row) (places : List RowPosition) (parent : Option Bytes) (place : RowPosition)
-    → ((legacy : Bytes) → known legacy ≡ index_of legacy above) → place_of known places parent ≡ Some place
+    → ((legacy : Bytes) → known legacy ≡ index_of legacy above) → place_below known places parent ≡ Some place
     → place.parent ≡ option_and_then (λ legacy. index_of legacy above) parent
 place_of-parent known above places None place knows found =
     ap (λ (o : Option RowPosition). option_and_then (λ (p : RowPosition). p.parent) o) (sym found)
@@ -156,7 +162,7 @@ faults-at xs x ys none =
 -- ---- one more row
 
 pub placing_more : (xs : List Row) (x : Row) (known more : Bytes → Option ℕ) (places : List RowPosition) (place : RowPosition)
-    → IsPlacing xs known places → place_of known places x.parent ≡ Some place → place.depth ≤ most_deep
+    → IsPlacing xs known places → place_below known places x.parent ≡ Some place → place.depth ≤ most_deep
     → ((legacy : Bytes) → more legacy ≡ (if bytes_eq legacy x.legacy then Some (length xs) else known legacy))
     → IsPlacing (xs ++ x ∷ []) more (places ++ place ∷ [])
 placing_more xs x known more places place h found shallow grows =
@@ -184,7 +190,7 @@ placing_more xs x known more places place h found shallow grows =
 -- ---- a row that has no place
 
 pub fault_missing : (xs : List Row) (x : Row) (ys : List Row) (known : Bytes → Option ℕ) (places : List RowPosition)
-    → IsPlacing xs known places → place_of known places x.parent ≡ None
+    → IsPlacing xs known places → place_below known places x.parent ≡ None
     → (later : List (ℕ × ℕ)) × (faults (xs ++ x ∷ ys) ≡ (x.row, 11) ∷ later)
 fault_missing xs x ys known places h missing =
     let depth : depth_below (reverse xs) x.parent ≡ None =
@@ -192,7 +198,7 @@ fault_missing xs x ys known places h missing =
     (faults_below Empty [] (x ∷ reverse xs) ys, faults-at xs x ys h.none_bad ∙ rw depth refl)
 
 pub fault_deep : (xs : List Row) (x : Row) (ys : List Row) (known : Bytes → Option ℕ) (places : List RowPosition) (place : RowPosition)
-    → IsPlacing xs known places → place_of known places x.parent ≡ Some place → 64 < place.depth
+    → IsPlacing xs known places → place_below known places x.parent ≡ Some place → 64 < place.depth
     → (later : List (ℕ × ℕ)) × (faults (xs ++ x ∷ ys) ≡ (x.row, 12) ∷ later)
 fault_deep xs x ys known places place h found deep =
     let depth : depth_below (reverse xs) x.parent ≡ Some place.depth =

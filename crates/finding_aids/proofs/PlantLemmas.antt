@@ -1,12 +1,22 @@
 -- A forest that grows from the last row up is what the public sees of the rows.
-use Rattle.std.proofs.Common.{◌≡◌, ℕ, zero, suc, ◌+◌, ◌-◌, ◌<◌, ◌≤◌, max, Bool, true, false, nat_eq, pos, List, [], ◌∷◌, ◌++◌, length, get_or, take, drop, reverse, map, Option, Some, None, refl, sym, ap, ◌∙◌, subst, arith, add-one, inl, inr}
-use Rattle.std.specs.Option.{option_eq, option_map_or}
+use Rattle.std.proofs.Common.{◌≡◌, ℕ, zero, suc, ◌+◌, ◌-◌, ◌<◌, ◌≤◌, max, Bool, true, false, nat_eq, pos, List, [], ◌∷◌}
+use Rattle.std.proofs.Common.{◌++◌, length, get_or, take, drop, reverse, map, Option, Some, None, refl, sym, ap, ◌∙◌}
+use Rattle.std.proofs.Common.{subst, arith, add-one, inl, inr}
 use Rattle.std.proofs.Math.Dec.{eqb-suc-suc}
 use Rattle.std.proofs.lemmas.Option.{get_or_from_slice_get, slice_get-map, slice_get_within}
+use Rattle.std.specs.Option.{option_eq, option_map_or}
 use Rattle.finding_aids.specs.declared.previews.places.RowPosition.{RowPosition}
 use Rattle.finding_aids.specs.declared.previews.trees.Tree.TheFolds.{fold_out-Tree}
-use Rattle.finding_aids.proofs.Common.{All, AllPlaced, ArePlaced, Bytes, Empty, Forest, HasGrown, IsBelow, IsPlaced, New, Node, PublicUnit, Row, Slot, Told, Tree, branches, cases_Bool, depth_at, depth_below, drop_all, drop_more, each, eqb-true, forest_of_trees, grove, grown_at, has_legacy, height, height_of_all, height_step, highest, if◌then◌else◌, in_order, index_of, join, length-map, length-reverse, length-take-le, map-append, most_deep, new_unit, number_of, numbered_from, option_and_then, option_map, out-Tree, public_of, rest_of, reverse-append, seen_below, side_by_side, slice_get, take_all, tree_of, tree_step}
-use Rattle.finding_aids.proofs.PlaceLemmas.{as_many, depth_below-named, depth_by, from_last-reverse, index_of_within, reverse-push, rows_to}
+use Rattle.finding_aids.proofs.Common.{All, AllPlaced, ArePlaced, Bytes, Empty, Forest, HasGrown, IsBelow, IsPlaced}
+use Rattle.finding_aids.proofs.Common.{New, Node, PublicUnit, Row, Slot, Told, Tree, branches, cases_Bool, depth_at}
+use Rattle.finding_aids.proofs.Common.{depth_below, drop_all, drop_more, each, eqb-true, forest_of_trees, grove}
+use Rattle.finding_aids.proofs.Common.{grown_at, has_legacy, height_of_all, height_step, highest, if◌then◌else◌}
+use Rattle.finding_aids.proofs.Common.{index_of, join, length-map, length-reverse, length-take-le, map-append}
+use Rattle.finding_aids.proofs.Common.{most_deep, new_unit, numbered_from, option_and_then, option_map, out-Tree}
+use Rattle.finding_aids.proofs.Common.{parent_number, public_of, rest_of, reverse-append, seen_below, side_by_side}
+use Rattle.finding_aids.proofs.Common.{side_by_side_backwards, slice_get, take_all, tree_height, tree_of, tree_step}
+use Rattle.finding_aids.proofs.PlaceLemmas.{as_many, depth_below-named, depth_by, from_last-reverse, index_of_within}
+use Rattle.finding_aids.proofs.PlaceLemmas.{reverse-push, rows_to}
 
 -- ---- forests side by side
 
@@ -18,16 +28,16 @@ join-join : {A : Type 0} → (f g h : Forest A) → join (join f g) h ≡ join f
 join-join Empty g h = refl
 join-join (Node a children others) g h = ap (Node a children) (join-join others g h)
 
-in_order-push : (fs : List (Forest PublicUnit)) (f : Forest PublicUnit) → in_order (fs ++ f ∷ []) ≡ join f (in_order fs)
+in_order-push : (fs : List (Forest PublicUnit)) (f : Forest PublicUnit) → side_by_side_backwards (fs ++ f ∷ []) ≡ join f (side_by_side_backwards fs)
 in_order-push [] f = sym (join-Empty f)
-in_order-push (g ∷ fs) f = ap (λ (h : Forest PublicUnit). join h g) (in_order-push fs f) ∙ join-join f (in_order fs) g
+in_order-push (g ∷ fs) f = ap (λ (h : Forest PublicUnit). join h g) (in_order-push fs f) ∙ join-join f (side_by_side_backwards fs) g
 
 pub side_by_side-push : (fs : List (Forest PublicUnit)) (f : Forest PublicUnit)
     → side_by_side (fs ++ f ∷ []) ≡ join (side_by_side fs) f
 side_by_side-push [] f = join-Empty f
 side_by_side-push (g ∷ fs) f = ap (join g) (side_by_side-push fs f) ∙ sym (join-join g (side_by_side fs) f)
 
-side_by_side-reverse : (fs : List (Forest PublicUnit)) → side_by_side (reverse fs) ≡ in_order fs
+side_by_side-reverse : (fs : List (Forest PublicUnit)) → side_by_side (reverse fs) ≡ side_by_side_backwards fs
 side_by_side-reverse [] = refl
 side_by_side-reverse (f ∷ fs) =
     ap side_by_side (reverse-append (f ∷ []) fs)
@@ -52,7 +62,7 @@ tree_of-parts = fold_out-Tree (Forest PublicUnit) tree_step
 pub planted-push : (trees : List Tree) (t : Tree)
     → forest_of_trees (trees ++ t ∷ []) ≡ Node (Told (out-Tree t).id (out-Tree t).row.now.values) (grove (out-Tree t).children.items) (forest_of_trees trees)
 planted-push trees t =
-    ap in_order (map-append tree_of trees (t ∷ []))
+    ap side_by_side_backwards (map-append tree_of trees (t ∷ []))
     ∙ (in_order-push (map tree_of trees) (tree_of t)
     ∙ ap (λ (f : Forest PublicUnit). join f (forest_of_trees trees)) (tree_of-parts t))
 
@@ -68,19 +78,19 @@ highest-reverse (n ∷ ns) =
     omega (arith, ap highest (reverse-append (n ∷ []) ns), highest-push (reverse ns) n, highest-reverse ns)
 
 pub height_of_all-reverse : (trees : List Tree) → height_of_all (reverse trees) ≡ height_of_all trees
-height_of_all-reverse trees = ap highest (map-reverse height trees) ∙ highest-reverse (map height trees)
+height_of_all-reverse trees = ap highest (map-reverse tree_height trees) ∙ highest-reverse (map tree_height trees)
 
-pub height-parts : (t : Tree) → height t ≡ suc (height_of_all (out-Tree t).children.items)
+pub height-parts : (t : Tree) → tree_height t ≡ suc (height_of_all (out-Tree t).children.items)
 height-parts = fold_out-Tree ℕ height_step
 
 height_of_all-push : (trees : List Tree) (t : Tree)
-    → height_of_all (trees ++ t ∷ []) ≡ max (height_of_all trees) (height t)
-height_of_all-push trees t = ap highest (map-append height trees (t ∷ [])) ∙ highest-push (map height trees) (height t)
+    → height_of_all (trees ++ t ∷ []) ≡ max (height_of_all trees) (tree_height t)
+height_of_all-push trees t = ap highest (map-append tree_height trees (t ∷ [])) ∙ highest-push (map tree_height trees) (tree_height t)
 
 -- ---- numbers of rows
 
 number_of-index : (legacy : Bytes) (above : List Row)
-    → number_of Empty [] (suc (length above)) above legacy ≡ option_map suc (index_of legacy above)
+    → parent_number Empty [] (suc (length above)) above legacy ≡ option_map suc (index_of legacy above)
 number_of-index legacy [] = refl
 number_of-index legacy (row ∷ above) =
     let back : suc (suc (length above)) - 1 ≡ suc (length above) = omega arith in
@@ -90,7 +100,7 @@ number_of-index legacy (row ∷ above) =
     ]
 
 parent-index : (parent : Option Bytes) (above : List Row)
-    → option_and_then (number_of Empty [] (suc (length above)) above) parent ≡ option_map suc (option_and_then (λ legacy. index_of legacy above) parent)
+    → option_and_then (parent_number Empty [] (suc (length above)) above) parent ≡ option_map suc (option_and_then (λ legacy. index_of legacy above) parent)
 parent-index None above = refl
 parent-index (Some legacy) above = number_of-index legacy above
 
@@ -108,8 +118,8 @@ rest_of-row rows k x place within is placed =
     drop_more rows k x within ∙ ap (λ (y : Row). y ∷ drop (k + 1) rows) (sym is) in
     let turned : reverse (take (suc k) rows) ≡ x ∷ above =
     ap (λ (n : ℕ). reverse (take n rows)) (sym (add-one k)) ∙ (ap reverse (rows_to rows k x within is) ∙ reverse-push (take k rows) x) in
-    let parent : option_and_then (number_of Empty [] (suc k) above) x.parent ≡ option_map suc place.parent =
-    subst (λ (n : ℕ). option_and_then (number_of Empty [] (suc n) above) x.parent ≡ option_map suc place.parent) count
+    let parent : option_and_then (parent_number Empty [] (suc k) above) x.parent ≡ option_map suc place.parent =
+    subst (λ (n : ℕ). option_and_then (parent_number Empty [] (suc n) above) x.parent ≡ option_map suc place.parent) count
     (parent-index x.parent above ∙ ap (option_map suc) (sym placed.parent)) in
     ap (numbered_from Empty [] (suc k) above) here
     ∙ (ap (λ (p : Option ℕ). record { id = suc k; parent = p; row = x } ∷ numbered_from Empty [] (suc k + 1) (x ∷ above) (drop (k + 1) rows)) parent
@@ -348,7 +358,7 @@ grown_published rows slots more slot tops later x t h is published id row childr
     low_at p true e below =
         let same : depth_at slots slot.place.parent ≡ depth_at slots p =
         ap (depth_at slots) (option_eq-true slot.place.parent p e) in
-        let tall : height t ≡ suc (height_of_all slot.children.items) =
+        let tall : tree_height t ≡ suc (height_of_all slot.children.items) =
         height-parts t ∙ ap suc (ap height_of_all children ∙ height_of_all-reverse slot.children.items) in
         omega (arith, height_of_all-push (grown_at slots tops p) t, h.low p below, h.low_children, h.deep)
     low_at p false e below = h.low p below

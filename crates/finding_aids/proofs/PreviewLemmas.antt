@@ -1,12 +1,15 @@
 -- What the code prints of a file's rows are the finding aids of the merged catalogue.
 use Rattle.std.proofs.Common.{◌≡◌, ℕ, List, [], ◌∷◌, ◌++◌, None, Ok, Err, refl, sym, ap, ◌∙◌}
 use Rattle.std.proofs.Math.Path.{fun_ext}
+use Rattle.isad_core.specs.Boxes.{distinct}
 use Rattle.atom_csv.specs.ReadProgress.{IsBad}
 use Rattle.atom_csv.specs.declared.file.FileFault.{FileFault}
 use Rattle.atom_csv.specs.declared.file.FileFault.TheVariants.{Bad, Memory}
-use Rattle.isad_core.specs.Boxes.{distinct}
 use Rattle.finding_aids.specs.Preview.{after_merging}
-use Rattle.finding_aids.proofs.Common.{AreNumbered, BTreeMap, BoxKey, Bytes, Empty, Forest, PublicUnit, Repository, Row, Texts, Tree, aid, box_number, empty_catalogue, faults, filter, flat_map, grove, is_known, merge, merged, not, number_by, numbered_from, or_first, seen_below, shown_by, unwrap_or}
+use Rattle.finding_aids.proofs.Common.{AreNumbered, BTreeMap, BoxKey, Bytes, Empty, Forest, PublicUnit, Repository, Row}
+use Rattle.finding_aids.proofs.Common.{Texts, Tree, aid, box_number, empty_catalogue, faults, filter, flat_map, grove}
+use Rattle.finding_aids.proofs.Common.{is_known, merge, merged, not, number_by, numbered_from, or_first, seen_below}
+use Rattle.finding_aids.proofs.Common.{shown_by, unwrap_or}
 
 -- ---- every row of a file is new
 

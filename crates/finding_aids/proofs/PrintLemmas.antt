@@ -1,18 +1,22 @@
 -- One more tree is printed.
-use Rattle.std.proofs.Common.{◌≡◌, ℕ, zero, suc, ◌+◌, ◌-◌, ◌<◌, ◌≤◌, List, [], ◌∷◌, ◌++◌, length, get_or, take, map, refl, sym, ap, ◌∙◌, arith, append_assoc}
+use Rattle.std.proofs.Common.{◌≡◌, ℕ, zero, suc, ◌+◌, ◌-◌, ◌<◌, ◌≤◌, List, [], ◌∷◌, ◌++◌, length, get_or, take, map}
+use Rattle.std.proofs.Common.{refl, sym, ap, ◌∙◌, arith, append_assoc}
 use Rattle.std.proofs.Math.Seq.{take-append_seam}
 use Rattle.std.proofs.lemmas.Grind.{flat_map-append}
 use Rattle.isad_core.specs.Values.{identifier}
 use Rattle.isad_core.specs.declared.display.Shown.{Shown}
-use Rattle.finding_aids.proofs.Common.{BoxKey, Bytes, Empty, Forest, Node, PublicUnit, Repository, Tree, aid, append-nil, grove, height, height_of_all, identifier_of, join, map-append, most_deep, out-Tree, shown_by, shown_told, shown_unit_by, side_by_side, take_more, tree_of, unit_lines}
+use Rattle.finding_aids.proofs.Common.{BoxKey, Bytes, Empty, Forest, Node, PublicUnit, Repository, Tree, aid}
+use Rattle.finding_aids.proofs.Common.{append-nil, grove, height_of_all, identifier_of, join, map-append, most_deep}
+use Rattle.finding_aids.proofs.Common.{out-Tree, shown_by, shown_told, shown_unit_by, side_by_side, take_more}
+use Rattle.finding_aids.proofs.Common.{tree_height, tree_of, unit_lines}
 use Rattle.finding_aids.proofs.PlantLemmas.{height-parts, length-push, side_by_side-push, tree_of-parts}
 
 -- ---- no child is too deep
 
 highest-le : (trees : List Tree) (i : ℕ) (t : Tree) → i < length trees → t ≡ get_or trees i t
-    → height t ≤ height_of_all trees
+    → tree_height t ≤ height_of_all trees
 highest-le [] i t within is = absurd (omega arith)
-highest-le (u ∷ trees) zero t within is = omega (arith, ap height is)
+highest-le (u ∷ trees) zero t within is = omega (arith, ap tree_height is)
 highest-le (u ∷ trees) (suc i) t within is = omega (arith, highest-le trees i t (omega arith) is)
 
 pub child_fits : (depth : ℕ) (trees : List Tree) (i : ℕ) (t : Tree) → i < length trees → t ≡ get_or trees i t

@@ -8,7 +8,7 @@ use Rattle.std.specs.declared.cmp.Ordering.{Ordering}
 use Rattle.isad_core.specs.Texts.{Bytes}
 use Rattle.isad_core.specs.declared.values.BoxKey.{BoxKey}
 use Rattle.isad_core.specs.Boxes.{distinct}
-use Rattle.catalogue_core.specs.CatalogueMerge.{number_in}
+use Rattle.catalogue_core.specs.CatalogueMerge.{number_among}
 
 -- a container by references to its three texts: its name, its location and its kind
 abbrev pub Texts : Type 0
@@ -19,14 +19,14 @@ abbrev pub compare_container : Bytes → Bytes → Bytes → Texts → Ordering
 compare_container name location kind other = ordering_then (ordering_then (slice_cmp nat_cmp name other.0.now) (slice_cmp nat_cmp location other.1.now)) (slice_cmp nat_cmp kind other.2.now)
 
 -- the number of a container in the map
-abbrev pub number_at : BTreeMap Texts ℕ → BoxKey → Option ℕ
-number_at numbers b = get_by (compare_container b.name b.location b.kind) numbers
+abbrev pub mapped_number : BTreeMap Texts ℕ → BoxKey → Option ℕ
+mapped_number numbers b = get_by (compare_container b.name b.location b.kind) numbers
 
 -- the map has the numbers of these containers, in the order in which they first appear
 pub record AreNumbered (seen : List BoxKey) (numbers : BTreeMap Texts ℕ) : Type 0 where
-  pub numbered : (b : BoxKey) → number_at numbers b ≡ number_in (distinct seen) b
+  pub numbered : (b : BoxKey) → mapped_number numbers b ≡ number_among (distinct seen) b
   pub count : btree_map_len numbers ≡ length (distinct seen)
 
 -- the number of a container, by the map; 0 if it has none
 abbrev pub number_by : BTreeMap Texts ℕ → BoxKey → ℕ
-number_by numbers b = unwrap_or (number_at numbers b) 0
+number_by numbers b = unwrap_or (mapped_number numbers b) 0

@@ -1,5 +1,6 @@
 -- The places of a file's rows, in an office that has nothing yet.
-use Rattle.std.specs.Prelude.{◌≡◌, ℕ, ◌+◌, ◌≤◌, if◌then◌else◌, List, [], ◌∷◌, length, reverse, Option, Some, None, option_and_then, option_map, slice_get}
+use Rattle.std.specs.Prelude.{◌≡◌, ℕ, ◌+◌, ◌≤◌, if◌then◌else◌, List, [], ◌∷◌, length, reverse, Option, Some, None}
+use Rattle.std.specs.Prelude.{option_and_then, option_map, slice_get}
 use Rattle.std.specs.List.{All}
 use Rattle.isad_core.specs.Limits.{most_deep}
 use Rattle.isad_core.specs.Texts.{Bytes}
@@ -42,9 +43,9 @@ ArePlaced rows places = AllPlaced (reverse rows) (reverse places)
 abbrev pub place_at : List RowPosition → ℕ → Option RowPosition
 place_at places index = option_map (λ above. record { parent = Some index; depth = above.depth + 1 }) (slice_get places index)
 
-abbrev pub place_of : (Bytes → Option ℕ) → List RowPosition → Option Bytes → Option RowPosition
-place_of known places None = Some (record { parent = None; depth = 1 })
-place_of known places (Some parent) = option_and_then (place_at places) (known parent)
+abbrev pub place_below : (Bytes → Option ℕ) → List RowPosition → Option Bytes → Option RowPosition
+place_below known places None = Some (record { parent = None; depth = 1 })
+place_below known places (Some parent) = option_and_then (place_at places) (known parent)
 
 -- after these rows, none of which is faulty, the code knows the index of each legacyId and has the places
 pub record IsPlacing (rows : List Row) (known : Bytes → Option ℕ) (places : List RowPosition) : Type 0 where

@@ -26,12 +26,12 @@ abbrev pub grove : List Tree → Forest PublicUnit
 grove trees = side_by_side (map tree_of trees)
 
 -- the same for trees with the last one first
-abbrev pub in_order : List (Forest PublicUnit) → Forest PublicUnit
-in_order [] = Empty
-in_order (f ∷ fs) = join (in_order fs) f
+abbrev pub side_by_side_backwards : List (Forest PublicUnit) → Forest PublicUnit
+side_by_side_backwards [] = Empty
+side_by_side_backwards (f ∷ fs) = join (side_by_side_backwards fs) f
 
 abbrev pub forest_of_trees : List Tree → Forest PublicUnit
-forest_of_trees trees = in_order (map tree_of trees)
+forest_of_trees trees = side_by_side_backwards (map tree_of trees)
 
 -- the height of a tree: the most units below one another
 abbrev pub highest : List ℕ → ℕ
@@ -41,11 +41,11 @@ highest (n ∷ ns) = max n (highest ns)
 abbrev pub height_step : Tree-F ℕ → ℕ
 height_step t = suc (highest t.children.items)
 
-abbrev pub height : Tree → ℕ
-height = fold-Tree ℕ height_step
+abbrev pub tree_height : Tree → ℕ
+tree_height = fold-Tree ℕ height_step
 
 abbrev pub height_of_all : List Tree → ℕ
-height_of_all trees = highest (map height trees)
+height_of_all trees = highest (map tree_height trees)
 
 -- what the public would see of new rows right below a parent
 abbrev pub seen_below : Option ℕ → List New → Forest PublicUnit

@@ -1,5 +1,6 @@
 -- What has grown below each row and at the top.
-use Rattle.std.specs.Prelude.{◌≡◌, ℕ, suc, ◌+◌, ◌≤◌, ◌<◌, List, [], length, map, take, reverse, Option, Some, None, option_map, slice_get}
+use Rattle.std.specs.Prelude.{◌≡◌, ℕ, suc, ◌+◌, ◌≤◌, ◌<◌, List, [], length, map, take, reverse, Option, Some, None}
+use Rattle.std.specs.Prelude.{option_map, slice_get}
 use Rattle.std.specs.Option.{option_map_or}
 use Rattle.isad_core.specs.Limits.{most_deep}
 use Rattle.atom_csv.specs.declared.file.Row.{Row}

@@ -1,13 +1,20 @@
 -- Sessions that a bound ended in a text.
-use Rattle.std.proofs.Common.{◌≡◌, ◌≤◌, ◌+◌, ℕ, List, [], ◌++◌, length, take, drop, refl, sym, ap, ◌∙◌, subst, true, false, Bool, append_assoc, inl, inr, Option}
+use Rattle.std.proofs.Common.{◌≡◌, ◌≤◌, ◌+◌, ℕ, List, [], ◌++◌, length, take, drop, refl, sym, ap, ◌∙◌, subst, true}
+use Rattle.std.proofs.Common.{false, Bool, append_assoc, inl, inr, Option}
 use Rattle.std.specs.Prelude.{◌||◌, Ok, Err}
-use Rattle.http_desk.specs.declared.session_end.Ended.TheVariants.{Bound}
-use Rattle.http_desk.specs.declared.output.Sent.TheVariants.{All, Failed, Bound as OutOfTurns}
 use Rattle.http_messages.specs.Answers.{continue_text}
-use Rattle.http_desk.specs.Session.{state_after}
-use Rattle.http_desk.specs.Exchanges.{Refused}
 use Rattle.http_messages.specs.declared.status.Status.TheVariants.{Busy}
-use Rattle.http_desk.proofs.Common.{Accepted, Answer, Answers, Appends, Appends-trans, Bytes, Closed, Command, Consumes, Consumes-nil, Consumes-trans, Ends, ExchangeBounded, Fails, HasHead, IfOk, IsFront, IsLastAnswer, Last, MatchResult, Message, Next, OnErr, Replies, Request, Result, Sends, Sent, SessionBounded, Stands, State, Status, StopsBounded, Stream, TellsWriteBound, TextIsUsedUp, Through, after_answer, after_sending, answer_text, body_length, closes, continue_if, error, is_head, last_text, leave_of, message_answer, most_answers, nat_eq, refusal, response, state_after_all, state_after_last}
+use Rattle.http_desk.specs.Exchanges.{Refused}
+use Rattle.http_desk.specs.declared.output.Sent.TheVariants.{All, Failed, Bound as OutOfTurns}
+use Rattle.http_desk.specs.declared.session_end.Ended.TheVariants.{Bound}
+use Rattle.http_desk.proofs.Common.{Accepted, Answer, Answers, Appends, Appends-trans, Bytes, Closed, Command, Consumes}
+use Rattle.http_desk.proofs.Common.{Consumes-nil, Consumes-trans, Ends, ExchangeBounded, Fails, HasHead, IfOk, IsFront}
+use Rattle.http_desk.proofs.Common.{IsLastAnswer, Last, MatchResult, Message, Next, OnErr, Request, Result, Sends}
+use Rattle.http_desk.proofs.Common.{SendsAnswer, Sent, SessionBounded, Stands, State, Status, StopsBounded, Stream}
+use Rattle.http_desk.proofs.Common.{TellsWriteBound, TextIsUsedUp, Through, after_answer, after_sending, answer_text}
+use Rattle.http_desk.proofs.Common.{body_length, closes, continue_if, error, is_head, last_text, leave_of}
+use Rattle.http_desk.proofs.Common.{message_answer, most_answers, nat_eq, refusal_text, response, state_after_last}
+use Rattle.http_desk.proofs.Common.{state_after_message, state_after_messages}
 use Rattle.http_desk.proofs.Faults.{bound_sent, closed_no_bound, goes_no_bound}
 use Rattle.http_desk.proofs.Turns.{front_after, head_more, may_fail_after, message_at}
 use Rattle.http_desk.proofs.Sessions.{Begun, Carried, cuts_longer}
@@ -33,7 +40,7 @@ begun_bounded : (number : ℕ) (s t u : State) (read written buffer more out : B
     → StopsBounded number t (buffer ++ more) out u writer → SessionBounded s (read ++ more) (written ++ out) u writer
 begun_bounded number s t u read written buffer more out writer b g =
     let there = subst (λ x. StopsBounded number x (buffer ++ more) out u writer) b.leaves g in
-    let (stops, bounded) = subst (λ n. StopsBounded n (state_after_all s b.messages) (buffer ++ more) out u writer) (sym b.count) there in (
+    let (stops, bounded) = subst (λ n. StopsBounded n (state_after_messages s b.messages) (buffer ++ more) out u writer) (sym b.count) there in (
       record {
         messages = b.messages;
         rest = buffer ++ more;
@@ -50,14 +57,14 @@ begun_bounded number s t u read written buffer more out writer b g =
 module _ {M : Type 0} (represents : M → State → Type 0) (is_intact is_open : M → Type 0) (recovers : M → List Command → State → Type 0) where
   -- a fixed answer broke off
   pub refused_to_bound : (number : ℕ) (old new : M) (input before : Bytes) (last : Last) (bare : Bool) (status : Status) (a b : Option Bytes) (next : Next) (writer : Stream)
-      → Refused a b bare status next → TellsWriteBound (refusal bare (error status)) writer next → Stands input last
+      → Refused a b bare status next → TellsWriteBound (refusal_text bare (error status)) writer next → Stands input last
       → before ≡ continue_if (leave_of last)
-      → ((s : State) → IsLastAnswer number s last (refusal bare (error status)))
-      → ((s : State) → (before ++ refusal bare (error status) ≡ last_text number s last) × (s ≡ state_after_last s last))
+      → ((s : State) → IsLastAnswer number s last (refusal_text bare (error status)))
+      → ((s : State) → (before ++ refusal_text bare (error status) ≡ last_text number s last) × (s ≡ state_after_last s last))
       → (is_intact new → (s : State) → represents old s → represents new s) → next ≡ Ends Bound
       → (written : Bytes) × Appends a b written × Through represents is_intact old new (λ s t. StopsBounded number s input (before ++ written) t writer)
   refused_to_bound number old new input before last bare status a b next writer (sent, sends, e) told x lead answer alone kept bound =
-      let text = refusal bare (error status) in
+      let text = refusal_text bare (error status) in
       let (front, is_front, appended) = sent_front sent (Ends Closed) a b text closed_no_bound (sym e ∙ bound) sends in (
         front,
         appended,
@@ -76,8 +83,8 @@ module _ {M : Type 0} (represents : M → State → Type 0) (is_intact is_open :
       → HasHead items (take size items) (Accepted request) (drop size items) → size + n ≤ length items
       → n ≡ body_length request
       → bare ≡ is_head request.method → (request.closes || nat_eq number most_answers) ≡ closing
-      → MatchResult made (λ x. Replies a b closing (answer_text bare closing (answer x)) next) (λ e. Refused a b false Busy next)
-      → MatchResult made (λ x. TellsWriteBound (answer_text bare closing (answer x)) writer next) (λ e. TellsWriteBound (refusal false (error Busy)) writer next)
+      → MatchResult made (λ x. SendsAnswer a b closing (answer_text bare closing (answer x)) next) (λ e. Refused a b false Busy next)
+      → MatchResult made (λ x. TellsWriteBound (answer_text bare closing (answer x)) writer next) (λ e. TellsWriteBound (refusal_text false (error Busy)) writer next)
       → IfOk made (λ x. is_intact new → (s : State) → represents old s → represents new (response s request (take n (drop size items))).1 × (answer x ≡ (response s request (take n (drop size items))).0))
       → OnErr made (is_intact new → (s : State) → represents old s → represents new s) → next ≡ Ends Bound
       → (written : Bytes) × Appends a b written × Through represents is_intact old new (λ s t. StopsBounded number s items (continue_if request.waits ++ written) t writer)
@@ -95,7 +102,7 @@ module _ {M : Type 0} (represents : M → State → Type 0) (is_intact is_open :
             let same : text ≡ answer_text (is_head request.method) (closes number message) (message_answer s message) =
             λ j. answer_text (is_bare j) (sym is_closing j) (told_is j) in
             let says : continue_if request.waits ++ text ≡ last_text number s (Answers message) = ap (λ l. continue_if request.waits ++ l) same in (
-              state_after s message,
+              state_after_message s message,
               shown_after,
               (
                 record { last = Answers message; stands = (rest, begins); ends = tt; written = subst (IsFront (continue_if request.waits ++ front)) says (front_after (continue_if request.waits) front text is_front); leaves = refl },
@@ -132,7 +139,7 @@ module _ {M : Type 0} (represents : M → State → Type 0) (is_intact is_open :
               last = Fails request.waits false;
               stands = may_fail_after (items ++ []) block (more ++ []) request there;
               ends = tt;
-              written = front_longer front (continue_if request.waits) (refusal false (error Busy)) is_front;
+              written = front_longer front (continue_if request.waits) (refusal_text false (error Busy)) is_front;
               leaves = refl;
             },
             (continue_text, inl (due is, refl, leave), used is),

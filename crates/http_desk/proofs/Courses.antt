@@ -1,8 +1,13 @@
 -- Two courses of one input go together until one of them is busy.
-use Rattle.std.proofs.Common.{◌≡◌, ◌<◌, ℕ, suc, ◌+◌, List, [], ◌∷◌, ◌++◌, length, refl, sym, ap, ◌∙◌, subst, arith, true, false, Bool}
+use Rattle.std.proofs.Common.{◌≡◌, ◌<◌, ℕ, suc, ◌+◌, List, [], ◌∷◌, ◌++◌, length, refl, sym, ap, ◌∙◌, subst, arith}
+use Rattle.std.proofs.Common.{true, false, Bool}
 use Rattle.std.specs.Prelude.{◌||◌}
 use Rattle.http_desk.specs.declared.session_end.Ended.TheVariants.{Cut, Bound}
-use Rattle.http_desk.proofs.Common.{AllByRecursion, Answers, Begins, BodyCut, Bytes, Closed, Cuts, End, Ended, EndsSo, Fails, HasEnded, HeadCut, IsClosing, IsSame, IsStopped, Last, Message, NoHead, Nothing, ReadFault, Refuses, Session, Stands, State, StaysOpen, WriteFault, Written, is_busy, last_text, most_answers, nat_eq, nat_tests, state_after_all, state_after_last, text_after_all, was_busy}
+use Rattle.http_desk.proofs.Common.{AllByRecursion, Answers, AreSameOutcomes, Begins, BodyCut, Bytes, Closed, Cuts, End}
+use Rattle.http_desk.proofs.Common.{Ended, EndsSo, Fails, HasEnded, HeadCut, IsClosing, IsCutOff, Last, Message, NoHead}
+use Rattle.http_desk.proofs.Common.{Nothing, ReadFault, Refuses, Session, Stands, State, StaysOpen, WriteFault, Written}
+use Rattle.http_desk.proofs.Common.{is_busy, last_text, most_answers, nat_eq, nat_tests, state_after_last}
+use Rattle.http_desk.proofs.Common.{state_after_messages, text_after_all, was_busy}
 use Rattle.http_desk.proofs.Cutting.{begins_unique, stands_unique}
 
 pub data Meet (ms : List Message) (l : Last) (ns : List Message) (k : Last) : Type 0 where
@@ -89,7 +94,7 @@ written_all ReadFault bytes out h w = w
 written_all WriteFault bytes out h w = absurd h
 written_all Bound bytes out h w = absurd h
 
-not_stopped : (number : ℕ) (l : Last) → IsStopped l → IsClosing number l → ⊥
+not_stopped : (number : ℕ) (l : Last) → IsCutOff l → IsClosing number l → ⊥
 not_stopped number Nothing s c = s
 not_stopped number HeadCut s c = c
 not_stopped number (BodyCut r) s c = c
@@ -101,9 +106,9 @@ not_stopped number (Fails a b) s c = s
 pub ends_unique : (number : ℕ) (l : Last) (e f : Ended) → EndsSo number l e → EndsSo number l f → HasEnded e
     → HasEnded f → e ≡ f
 ends_unique number l End End x y h k = refl
-ends_unique number l End Cut x y h k = absurd (subst IsStopped x y)
+ends_unique number l End Cut x y h k = absurd (subst IsCutOff x y)
 ends_unique number l End Closed x y h k = absurd (subst (IsClosing number) x y)
-ends_unique number l Cut End x y h k = absurd (subst IsStopped y x)
+ends_unique number l Cut End x y h k = absurd (subst IsCutOff y x)
 ends_unique number l Cut Cut x y h k = refl
 ends_unique number l Cut Closed x y h k = absurd (not_stopped number l x y)
 ends_unique number l Closed End x y h k = absurd (subst (IsClosing number) y x)
@@ -137,17 +142,17 @@ meeting s t input out out2 end fin new new2 a b h k =
 -- all that is written
 pub whole_text : (s : State) (input out : Bytes) (end : Ended) (new : State) (a : Session s input out end new)
     → HasEnded end
-    → out ≡ text_after_all s a.messages ++ last_text (suc (length a.messages)) (state_after_all s a.messages) a.stops.last
+    → out ≡ text_after_all s a.messages ++ last_text (suc (length a.messages)) (state_after_messages s a.messages) a.stops.last
 whole_text s input out end new a h =
     a.says ∙ ap (λ l. text_after_all s a.messages ++ l) (written_all end _ a.out h a.stops.written)
 
 same_course : (s : State) (input out out2 : Bytes) (end fin : Ended) (new new2 : State)
     (a : Session s input out end new) (b : Session s input out2 fin new2) → HasEnded end → HasEnded fin
-    → a.messages ≡ b.messages → a.stops.last ≡ b.stops.last → IsSame out out2 end fin new new2
+    → a.messages ≡ b.messages → a.stops.last ≡ b.stops.last → AreSameOutcomes out out2 end fin new new2
 same_course s input out out2 end fin new new2 a b h k e f =
     let text : List Message → Last → Bytes =
-    λ ms l. text_after_all s ms ++ last_text (suc (length ms)) (state_after_all s ms) l in
-    let after : List Message → Last → State = λ ms l. state_after_last (state_after_all s ms) l in
+    λ ms l. text_after_all s ms ++ last_text (suc (length ms)) (state_after_messages s ms) l in
+    let after : List Message → Last → State = λ ms l. state_after_last (state_after_messages s ms) l in
     let texts : text a.messages a.stops.last ≡ text b.messages b.stops.last = λ i. text (e i) (f i) in
     let states : after a.messages a.stops.last ≡ after b.messages b.stops.last = λ i. after (e i) (f i) in
     let numbers : suc (length a.messages) ≡ suc (length b.messages) = ap (λ ms. suc (length ms)) e in
@@ -164,9 +169,9 @@ true_not_false b e f = cc
 
 pub determined : (s : State) (input out out2 : Bytes) (end fin : Ended) (new new2 : State)
     (a : Session s input out end new) (b : Session s input out2 fin new2)
-    → HasEnded end → HasEnded fin → was_busy a ≡ false → was_busy b ≡ false → IsSame out out2 end fin new new2
+    → HasEnded end → HasEnded fin → was_busy a ≡ false → was_busy b ≡ false → AreSameOutcomes out out2 end fin new new2
 determined s input out out2 end fin new new2 a b h k quiet quiet2 =
-    elim (meeting s s input out out2 end fin new new2 a b h k) as (λ m. IsSame out out2 end fin new new2) [
+    elim (meeting s s input out out2 end fin new new2 a b h k) as (λ m. AreSameOutcomes out out2 end fin new new2) [
       | same e f ↦ same_course s input out out2 end fin new new2 a b h k e f
       | first_fails more e f ↦ absurd (true_not_false _ f quiet)
       | second_fails more e f ↦ absurd (true_not_false _ f quiet2)

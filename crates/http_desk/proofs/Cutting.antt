@@ -1,11 +1,14 @@
 -- An input has one message at its front, if any.
-use Rattle.std.proofs.Common.{◌≡◌, ◌≢◌, ◌<◌, ◌≤◌, inl, inr, ℕ, [], ◌∷◌, ◌++◌, length, take, take_all, refl, sym, ap, ◌∙◌, subst, arith, false, Bool, length-append}
+use Rattle.std.proofs.Common.{◌≡◌, ◌≢◌, ◌<◌, ◌≤◌, inl, inr, ℕ, [], ◌∷◌, ◌++◌, length, take, take_all, refl, sym, ap}
+use Rattle.std.proofs.Common.{◌∙◌, subst, arith, false, Bool, length-append}
 use Rattle.httparse.proofs.GrammarLemmas.{request_unique}
-use Rattle.http_messages.specs.declared.head_scan.HeadScanState.{HeadScanState}
-use Rattle.http_messages.specs.declared.head_scan.Scan.{Scan}
 use Rattle.http_messages.specs.HeadScan.{scan}
 use Rattle.http_messages.specs.Heads.{Refused}
-use Rattle.http_desk.proofs.Common.{Accepted, Answers, Begins, BodyCut, Bytes, Fails, HasHead, HeadCut, Judges, Last, Lead, Message, NoHead, Nothing, Open, Refuses, Request, Stands, Status, Verdict, Whole, body_length, is_busy, longest_head, verdict_on}
+use Rattle.http_messages.specs.declared.head_scan.HeadScanState.{HeadScanState}
+use Rattle.http_messages.specs.declared.head_scan.Scan.{Scan}
+use Rattle.http_desk.proofs.Common.{Accepted, Answers, Begins, BodyCut, Bytes, Fails, HasHead, HeadCut, JudgesHead}
+use Rattle.http_desk.proofs.Common.{Last, Lead, Message, NoHead, Nothing, Open, Refuses, Request, Stands, Status}
+use Rattle.http_desk.proofs.Common.{Verdict, Whole, body_length, is_busy, longest_head, verdict_on}
 
 -- two splits of a list at one place
 pub split_unique : (a c b d : Bytes) → a ++ b ≡ c ++ d → length a ≡ length c → (a ≡ c) × (b ≡ d)
@@ -20,7 +23,7 @@ split_unique (x ∷ a) (y ∷ c) b d e l =
     ((λ i. heads i ∷ f i), g)
 
 -- a block has one worth
-pub verdict_unique : (block : Bytes) (v w : Verdict) → Judges block v → Judges block w → v ≡ w
+pub verdict_unique : (block : Bytes) (v w : Verdict) → JudgesHead block v → JudgesHead block w → v ≡ w
 verdict_unique block v w (inl (h, a, e)) (inl (k, b, f)) =
     e ∙ ap verdict_on (request_unique block h k [] [] a.0 b.0).0 ∙ sym f
 verdict_unique block v w (inl (h, a, e)) (inr (none, f)) = absurd (none h a)
@@ -37,7 +40,7 @@ head_unique input b c v w more more2 x y =
     let ends : Whole (length b) ≡ Whole (length c) = sym x.ends ∙ y.ends in
     let lengths : length b ≡ length c = cc in
     let (blocks, mores) = split_unique b c more more2 (sym x.whole ∙ y.whole) lengths in
-    record { verdicts = verdict_unique c v w (subst (λ l. Judges l v) blocks x.judged) y.judged; mores = mores }
+    record { verdicts = verdict_unique c v w (subst (λ l. JudgesHead l v) blocks x.judged) y.judged; mores = mores }
 
 pub record SameMessage (m n : Message) (rest rest2 : Bytes) : Type 0 where
   pub messages : m ≡ n

@@ -3,8 +3,11 @@ use Rattle.std.proofs.Common.{◌≡◌, refl, ap, ◌∙◌, sym, true, false, 
 use Rattle.std.specs.Prelude.{◌||◌}
 use Rattle.http_desk.specs.declared.output.Sent.TheVariants.{All, Bound}
 use Rattle.http_desk.specs.declared.session_end.Ended.TheVariants as ends
-use Rattle.http_desk.proofs.Common.{AtEndIf, Bytes, Ends, EndsAsCalled, Goes, IsNoEnd, IsUsedUp, Next, Sent, Stream, TakesCalls, TakesTurns, TellsReadFault, TellsSomeWriteBound, WritesAsCalled, after_answer, after_sending, is_read_fault, is_write_fault, most_reads, send_failed}
-use Rattle.http_desk.proofs.Faults.{bound_sent, closed_no_bound, flushed_after, flushed_then, goes_no_bound, no_end_after, writes_told}
+use Rattle.http_desk.proofs.Common.{AtEndIf, Bytes, Ends, EndsAsCalled, Goes, IsNoEnd, IsUsedUp, Next, Sent, Stream}
+use Rattle.http_desk.proofs.Common.{TakesCalls, TakesTurns, TellsReadFault, TellsSomeWriteBound, WritesAsCalled}
+use Rattle.http_desk.proofs.Common.{after_answer, after_sending, is_read_fault, is_write_fault, most_reads, send_failed}
+use Rattle.http_desk.proofs.Faults.{bound_sent, closed_no_bound, flushed_after, flushed_then, goes_no_bound}
+use Rattle.http_desk.proofs.Faults.{no_end_after, writes_told}
 
 -- ---- one step after another
 

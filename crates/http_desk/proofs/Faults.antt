@@ -2,9 +2,11 @@
 use Rattle.std.proofs.Common.{◌≡◌, refl, ap, ◌∙◌, ℕ, ◌+◌, ◌≤◌, sym, true, false, subst, arith}
 use Rattle.std.proofs.Math.Nat.{min-le_left}
 use Rattle.std.specs.Prelude.{◌||◌, Bool, Ok, Err}
-use Rattle.http_desk.specs.declared.session_end.Ended.TheVariants as ends
 use Rattle.http_desk.specs.declared.output.Sent.TheVariants.{All, Failed, Bound}
-use Rattle.http_desk.proofs.Common.{Bytes, Ends, Goes, IsFlushed, IsNoEnd, IsUsedUp, MatchResult, Next, Result, Sent, Stream, TakesTurns, TellsSomeWriteBound, TellsWriteBound, TextIsUsedUp, after_answer, after_sending, is_write_fault, one_more_call, send_failed}
+use Rattle.http_desk.specs.declared.session_end.Ended.TheVariants as ends
+use Rattle.http_desk.proofs.Common.{Bytes, Ends, Goes, IsFlushed, IsNoEnd, IsUsedUp, MatchResult, Next, Result, Sent}
+use Rattle.http_desk.proofs.Common.{Stream, TakesTurns, TellsSomeWriteBound, TellsWriteBound, TextIsUsedUp}
+use Rattle.http_desk.proofs.Common.{after_answer, after_sending, is_write_fault, one_more_call, send_failed}
 
 a_write : (sent : Sent) (next : Next) → is_write_fault next ≡ false
     → is_write_fault (after_sending sent next) ≡ send_failed sent

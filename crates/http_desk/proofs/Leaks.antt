@@ -1,9 +1,14 @@
 -- Sessions of the public in offices whose public parts are equal.
-use Rattle.std.proofs.Common.{◌≡◌, inl, inr, ℕ, suc, List, [], ◌∷◌, ◌++◌, length, refl, sym, ap, ◌∙◌, subst, true, false, Bool, append_assoc, append-nil}
+use Rattle.std.proofs.Common.{◌≡◌, inl, inr, ℕ, suc, List, [], ◌∷◌, ◌++◌, length, refl, sym, ap, ◌∙◌, subst, true}
+use Rattle.std.proofs.Common.{false, Bool, append_assoc, append-nil}
 use Rattle.office_core.proofs.NoLeak.{answers_alike}
-use Rattle.http_desk.specs.Session.{state_after}
-use Rattle.http_desk.proofs.Common.{AllByRecursion, Answers, AnswersAlike, AreAlike, AsksThePublic, Begins, BodyCut, Bytes, Cuts, Ended, EndsSo, Fails, HasEnded, HeadCut, IsFront, IsPublicGet, Last, Message, NoHead, Nothing, Refuses, SamePublic, Session, Stands, State, closes, is_busy, last_text, message_text, state_after_all, text_after_all, until_busy, was_busy}
-use Rattle.http_desk.proofs.Courses.{Meet, same, first_fails, second_fails, meeting, whole_text, ends_unique, true_not_false}
+use Rattle.http_desk.proofs.Common.{AllByRecursion, Answers, AnswersAlike, AreAlike, AsksThePublic, Begins, BodyCut}
+use Rattle.http_desk.proofs.Common.{Bytes, Cuts, Ended, EndsSo, Fails, HasEnded, HeadCut, IsFront, IsPublicGet, Last}
+use Rattle.http_desk.proofs.Common.{Message, NoHead, Nothing, Refuses, SamePublic, Session, Stands, State, closes}
+use Rattle.http_desk.proofs.Common.{is_busy, last_text, message_text, state_after_message, state_after_messages}
+use Rattle.http_desk.proofs.Common.{text_after_all, until_busy, was_busy}
+use Rattle.http_desk.proofs.Courses.{Meet, same, first_fails, second_fails, meeting, whole_text, ends_unique}
+use Rattle.http_desk.proofs.Courses.{true_not_false}
 use Rattle.http_desk.proofs.Public.{text_alike, all_alike}
 
 pub cuts_more : (input : Bytes) (ms : List Message) (middle : Bytes) (m : Message) (rest : Bytes) → Cuts input ms middle
@@ -29,11 +34,11 @@ last_alike number s t input rest ms (Answers m) alike asks cut x =
 last_alike number s t input rest ms (Fails a b) alike asks cut x = refl
 
 pub text_append : (ms ns : List Message) (s : State)
-    → text_after_all s (ms ++ ns) ≡ text_after_all s ms ++ text_after_all (state_after_all s ms) ns
+    → text_after_all s (ms ++ ns) ≡ text_after_all s ms ++ text_after_all (state_after_messages s ms) ns
 text_append [] ns s = refl
 text_append (m ∷ ms) ns s =
-    ap (λ l. message_text false s m ++ l) (text_append ms ns (state_after s m))
-    ∙ sym (append_assoc (message_text false s m) (text_after_all (state_after s m) ms) (text_after_all (state_after_all (state_after s m) ms) ns))
+    ap (λ l. message_text false s m ++ l) (text_append ms ns (state_after_message s m))
+    ∙ sym (append_assoc (message_text false s m) (text_after_all (state_after_message s m) ms) (text_after_all (state_after_messages (state_after_message s m) ms) ns))
 
 front_equal : (x y : Bytes) → x ≡ y → IsFront x y
 front_equal x y e = ([], sym e ∙ sym (append-nil x))
@@ -43,10 +48,10 @@ front_of_other : (s t : State) (ms ns more : List Message) (out tail : Bytes) �
     → AllByRecursion IsPublicGet ms
     → ns ≡ ms ++ more → out ≡ text_after_all t ns ++ tail → IsFront (text_after_all s ms) out
 front_of_other s t ms ns more out tail alike p e f = (
-  text_after_all (state_after_all t ms) more ++ tail,
+  text_after_all (state_after_messages t ms) more ++ tail,
   f ∙ ap (λ l. text_after_all t l ++ tail) e ∙ ap (λ l. l ++ tail) (text_append ms more t)
-      ∙ append_assoc (text_after_all t ms) (text_after_all (state_after_all t ms) more) tail
-      ∙ ap (λ l. l ++ (text_after_all (state_after_all t ms) more ++ tail)) (sym (all_alike s t ms alike p).texts),
+      ∙ append_assoc (text_after_all t ms) (text_after_all (state_after_messages t ms) more) tail
+      ∙ ap (λ l. l ++ (text_after_all (state_after_messages t ms) more ++ tail)) (sym (all_alike s t ms alike p).texts),
 )
 
 alike_back : (s t : State) → AnswersAlike s t → AnswersAlike t s
@@ -72,16 +77,16 @@ module _ (s t : State) (input out out2 : Bytes) (end fin : Ended) (new new2 : St
       let pa = all_alike s t a.messages alike (asks a.messages a.rest a.cut) in
       let number = suc (length b.messages) in
       let numbers : suc (length a.messages) ≡ number = ap (λ ms. suc (length ms)) e in
-      let mine : last_text (suc (length a.messages)) (state_after_all s a.messages) a.stops.last ≡ last_text (suc (length a.messages)) s a.stops.last =
+      let mine : last_text (suc (length a.messages)) (state_after_messages s a.messages) a.stops.last ≡ last_text (suc (length a.messages)) s a.stops.last =
       ap (λ x. last_text (suc (length a.messages)) x a.stops.last) pa.kept in
-      let theirs : last_text (suc (length a.messages)) (state_after_all t a.messages) a.stops.last ≡ last_text (suc (length a.messages)) t a.stops.last =
+      let theirs : last_text (suc (length a.messages)) (state_after_messages t a.messages) a.stops.last ≡ last_text (suc (length a.messages)) t a.stops.last =
       ap (λ x. last_text (suc (length a.messages)) x a.stops.last) pa.kept_too in
       let lasts =
       mine
       ∙ last_alike (suc (length a.messages)) s t input a.rest a.messages a.stops.last alike asks a.cut a.stops.stands
       ∙ sym theirs in
       let text : List Message → Last → Bytes =
-      λ ms l. text_after_all t ms ++ last_text (suc (length ms)) (state_after_all t ms) l in
+      λ ms l. text_after_all t ms ++ last_text (suc (length ms)) (state_after_messages t ms) l in
       let moved : text a.messages a.stops.last ≡ text b.messages b.stops.last = λ i. text (e i) (f i) in
       let there : EndsSo number b.stops.last end = subst (λ l. EndsSo number l end) f (subst (λ n. EndsSo n a.stops.last end) numbers a.stops.ends) in (
         whole_text s input out end new a h ∙ (λ i. pa.texts i ++ lasts i) ∙ moved ∙ sym (whole_text t input out2 fin new2 b k),

@@ -2,11 +2,17 @@
 use Rattle.std.proofs.Common.{◌≡◌, Bool, true, false, List, [], ◌∷◌, ◌++◌, refl, sym, ap, ◌∙◌, Option, None, Some, cond}
 use Rattle.std.specs.Prelude.{◌&&◌}
 use Rattle.catalogue_core.proofs.EachOf.{all_and}
-use Rattle.office_core.specs.declared.command.Command.TheVariants.{Import}
 use Rattle.office_core.specs.Rules as machine
+use Rattle.office_core.specs.declared.command.Command.TheVariants.{Import}
 use Rattle.http_messages.specs.Answers as answers
-use Rattle.http_desk.specs.Session.{state_after}
-use Rattle.http_desk.proofs.Common.{AllByRecursion, AllMean, Answer, Answers, Asks, BadRequest, BodyCut, Bytes, Command, Does, Ended, Fails, Fixed, HasCarriedOut, HeadCut, IfSome, Last, LengthRequired, Meaning, Message, NamesDays, NamesTexts, NoHead, NotFound, Nothing, Puts, Refuses, Request, Route, Session, State, TakesFile, TakesForm, ToDo, ToTell, all_messages, answers_of, by_route, bytes_eq, carried_out, command_in, commands_among, done_if_read, error, is_none, is_post, machines_answers, message_in, method_of, not, not_allowed, path_of, route_of, state_after_all, state_after_last}
+use Rattle.http_desk.proofs.Common.{AllByRecursion, AllMean, Answer, Answers, Asks, BadRequest, BodyCut, Bytes, Command}
+use Rattle.http_desk.proofs.Common.{Does, Ended, Fails, Fixed, HasCarriedOut, HeadCut, IfSome, Last, LengthRequired}
+use Rattle.http_desk.proofs.Common.{Meaning, Message, NamesDays, NamesTexts, NoHead, NotFound, Nothing, Puts, Refuses}
+use Rattle.http_desk.proofs.Common.{Request, Route, Session, State, TakesFile, TakesForm, ToDo, ToTell, all_messages}
+use Rattle.http_desk.proofs.Common.{answers_of, by_route, bytes_eq, carried_out, command_in, commands_among}
+use Rattle.http_desk.proofs.Common.{done_if_read, error, is_none, is_post, machines_answers, message_in, method_of, not}
+use Rattle.http_desk.proofs.Common.{not_allowed, path_of, route_of, state_after_last, state_after_message}
+use Rattle.http_desk.proofs.Common.{state_after_messages}
 use Rattle.http_desk.proofs.Named.{Names, IsNamed, bodies_name, routes_named}
 
 -- ---- one message
@@ -27,7 +33,7 @@ read_meant : (o : Option Command) → IfSome o Names → IsMeant (λ s. done_if_
 read_meant None h = fixed (error BadRequest)
 read_meant (Some asked) h = record { meaning = Puts (ToDo asked); is = λ s. refl; names = (h, tt) }
 
-route_meant : (body : Bytes) (route : Route) → IsNamed route → IsMeant (λ s. answers.carried_out s body route)
+route_meant : (body : Bytes) (route : Route) → IsNamed route → IsMeant (λ s. answers.route_carried_out s body route)
 route_meant body (Asks asked) h = record { meaning = Puts (ToTell asked); is = λ s. refl; names = tt }
 route_meant body (Does asked) h = record { meaning = Puts (ToDo asked); is = λ s. refl; names = (h, tt) }
 route_meant body (TakesFile source) h =
@@ -71,12 +77,12 @@ one_state s (Puts (ToTell query)) ks = refl
 one_state s (Fixed told) ks = refl
 
 machines_state : (ms : List Message) (ks : List Meaning) (s : State) → AllMean ms ks
-    → state_after_all s ms ≡ machine.state_after s (commands_among ks)
+    → state_after_messages s ms ≡ machine.state_after s (commands_among ks)
 machines_state [] [] s h = refl
 machines_state [] (k ∷ ks) s h = absurd h
 machines_state (m ∷ ms) [] s h = absurd h
 machines_state (m ∷ ms) (k ∷ ks) s h =
-    ap (λ p. state_after_all p.1 ms) (h.0 s) ∙ machines_state ms ks (carried_out s k).1 h.1 ∙ one_state s k ks
+    ap (λ p. state_after_messages p.1 ms) (h.0 s) ∙ machines_state ms ks (carried_out s k).1 h.1 ∙ one_state s k ks
 
 pub same_answers : (ms : List Message) (ks : List Meaning) (s : State) → AllMean ms ks
     → answers_of s ms ≡ machines_answers s ks
@@ -88,7 +94,7 @@ same_answers (m ∷ ms) (k ∷ ks) s h =
 
 -- ---- a session
 
-last_state : (s : State) (l : Last) → state_after_last s l ≡ state_after_all s (message_in l)
+last_state : (s : State) (l : Last) → state_after_last s l ≡ state_after_messages s (message_in l)
 last_state s Nothing = refl
 last_state s HeadCut = refl
 last_state s (BodyCut request) = refl
@@ -97,9 +103,9 @@ last_state s (Refuses status bare) = refl
 last_state s (Answers message) = refl
 last_state s (Fails leave bare) = refl
 
-state_on : (ms ns : List Message) (s : State) → state_after_all s (ms ++ ns) ≡ state_after_all (state_after_all s ms) ns
+state_on : (ms ns : List Message) (s : State) → state_after_messages s (ms ++ ns) ≡ state_after_messages (state_after_messages s ms) ns
 state_on [] ns s = refl
-state_on (m ∷ ms) ns s = state_on ms ns (state_after s m)
+state_on (m ∷ ms) ns s = state_on ms ns (state_after_message s m)
 
 pub runs_the_machine : (s new : State) (input output : Bytes) (end : Ended) (session : Session s input output end new)
     → (commands : List Command) × HasCarriedOut session commands
@@ -111,7 +117,7 @@ runs_the_machine s new input output end session =
         mean = all.mean;
         are = refl;
         answers = same_answers (all_messages session) all.meanings s all.mean;
-        leaves = session.stops.leaves ∙ last_state (state_after_all s session.messages) session.stops.last
+        leaves = session.stops.leaves ∙ last_state (state_after_messages s session.messages) session.stops.last
             ∙ sym (state_on session.messages (message_in session.stops.last) s) ∙ machines_state (all_messages session) all.meanings s all.mean;
         days = all_and Names Names NamesDays (λ command both _. both.0) (commands_among all.meanings) all.names all.names;
         texts = all_and Names Names NamesTexts (λ command both _. both.1) (commands_among all.meanings) all.names all.names;

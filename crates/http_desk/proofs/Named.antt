@@ -1,8 +1,8 @@
 -- A request's command names days of the calendar, and a text that is UTF-8.
 use Rattle.std.proofs.Common.{ℕ, true, false, List, [], ◌∷◌, IsUtf8, Option, None, Some, cond, codes}
+use Rattle.std.proofs.lemmas.Bool.{and_parts}
 use Rattle.std.specs.Prelude.{◌==◌, ◌&&◌, ◌+◌, ◌*◌}
 use Rattle.std.specs.Str.{is_utf8}
-use Rattle.std.proofs.lemmas.Bool.{and_parts}
 use Rattle.serde_json.specs.Data.{Data}
 use Rattle.serde_json.specs.Data as values
 use Rattle.serde_json.specs.Find.{get, as_str}
@@ -13,7 +13,11 @@ use Rattle.http_messages.specs.declared.body_form.Form.{Form}
 use Rattle.http_messages.specs.declared.body_form.Form.TheVariants as form
 use Rattle.http_messages.specs.declared.table.Leads.{Leads}
 use Rattle.http_messages.specs.declared.table.Leads.TheVariants as leads
-use Rattle.http_desk.proofs.Common.{Asks, Bytes, Command, Does, IfSome, IsDayNumber, NamesDays, NamesTexts, Route, TakesFile, TakesForm, as_day, command_in, command_of, day_at, day_of, day_or_null_at, draft_at, first_route, flag_at, leads_to, number_at, number_in, number_of_date, number_or_null_at, or_else, or_null, parameter_in, question, route_of, table, text_at, two_digits, value_of}
+use Rattle.http_desk.proofs.Common.{Asks, Bytes, Command, Does, IfSome, IsDayNumber, NamesDays, NamesTexts, Route}
+use Rattle.http_desk.proofs.Common.{TakesFile, TakesForm, as_day, command_in, command_of_form, day_at, day_of}
+use Rattle.http_desk.proofs.Common.{day_or_null_at, draft_at, first_route, flag_at, leads_to, null_or, number_at}
+use Rattle.http_desk.proofs.Common.{number_from_digits, number_of_date, number_or_null_at, or_else, parameter_in}
+use Rattle.http_desk.proofs.Common.{question, route_of, route_table, text_at, two_digits, value_of}
 use Rattle.http_desk.proofs.Options.{each_then, each_map, known_then, known_map, if_some, if_then}
 use Rattle.http_desk.proofs.Values.{HasStrings, values_have, texts_at}
 
@@ -46,7 +50,7 @@ days_of_texts (a ∷ b ∷ c ∷ d ∷ x ∷ e ∷ f ∷ y ∷ g ∷ h ∷ more 
 days_of_values : (value : Data) → IfSome (as_day value) IsDayNumber
 days_of_values value = each_then IsDayNumber day_of (as_str value) days_of_texts
 
-days_or_null : (value : Data) → IfSome (or_null as_day value) IsSomeDay
+days_or_null : (value : Data) → IfSome (null_or as_day value) IsSomeDay
 days_or_null values.null = tt
 days_or_null (values.boolean _) = tt
 days_or_null (values.number _) = tt
@@ -59,11 +63,11 @@ days_at : (key : Bytes) (value : Data) → IfSome (day_at key value) IsDayNumber
 days_at key value = each_then IsDayNumber as_day (get key value) days_of_values
 
 days_or_null_at : (key : Bytes) (value : Data) → IfSome (day_or_null_at key value) IsSomeDay
-days_or_null_at key value = each_then IsSomeDay (or_null as_day) (get key value) days_or_null
+days_or_null_at key value = each_then IsSomeDay (null_or as_day) (get key value) days_or_null
 
 -- ---- the members of a body
 
-members_name : (asked : Form) (v : Data) → HasStrings v → IfSome (command_of asked v) Names
+members_name : (asked : Form) (v : Data) → HasStrings v → IfSome (command_of_form asked v) Names
 members_name form.Order v has =
     each_then Names _ (number_at (codes "ticket") v) (λ t. each_map Names (command.Order t) (number_at (codes "container") v) (λ c. (tt, tt)))
 members_name form.OpenDay v has =
@@ -97,7 +101,7 @@ members_name form.Revoke v has =
 
 pub bodies_name : (asked : Form) (body : Bytes) → IfSome (command_in asked body) Names
 bodies_name asked body =
-    known_then Names HasStrings (command_of asked) (value_of body) (values_have body) (members_name asked)
+    known_then Names HasStrings (command_of_form asked) (value_of body) (values_have body) (members_name asked)
 
 -- ---- routes
 
@@ -115,7 +119,7 @@ either_named (Some route) b x y = x
 led_to_named : (to : Leads) (parameter : Bytes) → IfSome (leads_to to parameter) IsNamed
 led_to_named (leads.Asks asked) parameter = tt
 led_to_named (leads.AsksOf asked) parameter =
-    each_map IsNamed (λ n. Asks (question asked n)) (number_in parameter) (λ n. tt)
+    each_map IsNamed (λ n. Asks (question asked n)) (number_from_digits parameter) (λ n. tt)
 led_to_named leads.Run parameter = (tt, tt)
 led_to_named leads.Reshelve parameter = (tt, tt)
 led_to_named leads.Import parameter = tt
@@ -127,4 +131,4 @@ first_named ((pattern, to) ∷ others) path =
     either_named _ _ (each_then IsNamed (leads_to to) (parameter_in pattern path) (led_to_named to)) (first_named others path)
 
 pub routes_named : (path : Bytes) → IfSome (route_of path) IsNamed
-routes_named path = elim (is_utf8 path) as (λ b. IfSome (cond b (first_route table path) None) IsNamed) [ true ↦ first_named table path | false ↦ tt ]
+routes_named path = elim (is_utf8 path) as (λ b. IfSome (cond b (first_route route_table path) None) IsNamed) [ true ↦ first_named route_table path | false ↦ tt ]

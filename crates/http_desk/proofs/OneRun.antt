@@ -1,15 +1,17 @@
 -- Sessions and calls make one run of the machine.
 use Rattle.std.proofs.Common.{◌≡◌, List, [], ◌∷◌, ◌++◌, refl, sym, ap, ◌∙◌, subst, None, Some}
 use Rattle.catalogue_core.proofs.EachOf.{all_append, all_split}
-use Rattle.office_core.specs.Rules.{state_after, step}
 use Rattle.office_core.proofs.OrderLaws.{out_apart, issues_the_first}
 use Rattle.office_core.proofs.Published.{only_published}
 use Rattle.office_core.proofs.SoundDesk.{open_to_holders}
 use Rattle.office_core.proofs.StaysSound.{always_sound}
 use Rattle.office_core.proofs.Texts.{always_sound_office}
+use Rattle.office_core.specs.Rules.{state_after, step}
 use Rattle.http_desk.specs.Headline.{KeepsTheRules, IsOneRun, MakeVisits}
 use Rattle.http_desk.specs.Runs.{Answered}
-use Rattle.http_desk.proofs.Common.{AllBring, AllByRecursion, AllHappen, AreVisits, Brings, ByHttp, CallsNameDays, CallsNameTexts, Command, Directly, Happens, IsOk, IsSound, NamesDays, NamesTexts, Replied, State, ToDo, ToTell, Visit, VisitLeavesOpen, VisitsLeaveOpen}
+use Rattle.http_desk.proofs.Common.{AllBring, AllByRecursion, AllHappen, AreVisits, ByHttp, CallsNameDays}
+use Rattle.http_desk.proofs.Common.{CallsNameTexts, Command, Directly, Happens, IsOk, IsSound, NamesDays, NamesTexts}
+use Rattle.http_desk.proofs.Common.{Replied, State, ToDo, ToTell, Visit, VisitBrings, VisitLeavesOpen, VisitsLeaveOpen}
 use Rattle.http_desk.proofs.Meanings.{runs_the_machine}
 use Rattle.http_desk.proofs.Openings.{not_known, visits_open}
 
@@ -31,7 +33,7 @@ record HasRun (Bring : List Command → Type 0) (CallsAreNamed : Type 0) (s new 
   leaves : new ≡ state_after s commands
 
 one_visit : (s new : State) (visit : Visit) → CallsNameDays visit → Happens s visit new
-    → HasRun (λ commands. Brings s visit commands new) (CallsNameTexts visit) s new
+    → HasRun (λ commands. VisitBrings s visit commands new) (CallsNameTexts visit) s new
 one_visit s new (ByHttp input output end) named session =
     let it = runs_the_machine s new input output end session in
     record { commands = it.0; bring = (session, it.1); days = it.1.days; texts = λ _. it.1.texts; leaves = it.1.leaves }
@@ -47,7 +49,7 @@ after_both [] others s = refl
 after_both (asked ∷ first) others s = after_both first others (step s asked).0
 
 two_runs : (s mid new : State) (visit : Visit) (later : List Visit)
-    → HasRun (λ commands. Brings s visit commands mid) (CallsNameTexts visit) s mid
+    → HasRun (λ commands. VisitBrings s visit commands mid) (CallsNameTexts visit) s mid
     → HasRun (λ commands. AllBring mid later commands new) (AllByRecursion CallsNameTexts later) mid new
     → HasRun (λ commands. AllBring s (visit ∷ later) commands new) (AllByRecursion CallsNameTexts (visit ∷ later)) s new
 two_runs s mid new visit later one more = record {

@@ -1,13 +1,15 @@
 -- What leaves an office open.
 use Rattle.std.proofs.Common.{List, [], ◌∷◌, ◌++◌, None, Some}
-use Rattle.http_desk.specs.Session.{state_after}
-use Rattle.http_desk.proofs.Common.{AllHappen, AllLeaveOpen, Answers, Asked, BodyCut, ByHttp, Bytes, Directly, Ended, Fails, Happens, HeadCut, IsAccepted, Last, LastLeavesOpen, LeavesOpen, Message, NoHead, Nothing, Refuses, Session, State, ToDo, ToTell, Visit, VisitLeavesOpen, VisitsLeaveOpen, state_after_all}
+use Rattle.http_desk.proofs.Common.{AllHappen, AllLeaveOpen, Answers, Asked, BodyCut, ByHttp, Bytes, Directly, Ended}
+use Rattle.http_desk.proofs.Common.{Fails, Happens, HeadCut, IsAccepted, Last, LastLeavesOpen, LeavesOpen, Message}
+use Rattle.http_desk.proofs.Common.{NoHead, Nothing, Refuses, Session, State, ToDo, ToTell, Visit, VisitLeavesOpen}
+use Rattle.http_desk.proofs.Common.{VisitsLeaveOpen, state_after_message, state_after_messages}
 
 -- the last message is the one that counts
 pub last_accepted : (ms : List Message) (m : Message) (s : State) (was : Type 0) → AllLeaveOpen was s (ms ++ m ∷ [])
-    → IsAccepted (state_after_all s ms) m
+    → IsAccepted (state_after_messages s ms) m
 last_accepted [] m s was h = h
-last_accepted (n ∷ ms) m s was h = last_accepted ms m (state_after s n) (IsAccepted s n) h
+last_accepted (n ∷ ms) m s was h = last_accepted ms m (state_after_message s n) (IsAccepted s n) h
 
 module _ (was now : Type 0) (still : was → now) where
   pub last_open : (s : State) (last : Last) → LastLeavesOpen was s last → LastLeavesOpen now s last
@@ -29,7 +31,7 @@ pub session_open : (was now : Type 0) → (was → now)
     → LeavesOpen was session → LeavesOpen now session
 session_open was now still s new input output end session h =
     last_open (AllLeaveOpen was s session.messages) (AllLeaveOpen now s session.messages) (all_open was now still s session.messages)
-    (state_after_all s session.messages) session.stops.last h
+    (state_after_messages s session.messages) session.stops.last h
 
 visit_open : (was now : Type 0) → (was → now) → (s new : State) (visit : Visit) (it : Happens s visit new)
     → VisitLeavesOpen was s visit new it → VisitLeavesOpen now s visit new it

@@ -1,9 +1,10 @@
 -- Lemmas on what stands where a head is looked for.
 use Rattle.std.proofs.Common.{◌≡◌, ◌<◌, ◌≤◌, ◌⊎◌, inl, inr, ℕ, List, length, ◌++◌, take, take_all, ap, sym, ◌∙◌, arith}
 use Rattle.std.proofs.Math.Seq.{take-append_seam}
-use Rattle.http_messages.specs.declared.head_scan.HeadScanState.{HeadScanState}
 use Rattle.http_messages.specs.HeadScan.{scan}
-use Rattle.http_desk.proofs.Common.{IsBlank, IsHeadCut, Lead, LeadReturn, Middle, Open, Start, StartReturn, longest_head}
+use Rattle.http_messages.specs.declared.head_scan.HeadScanState.{HeadScanState}
+use Rattle.http_desk.proofs.Common.{IsBlank, IsHeadCut, Lead, LeadReturn, Middle, Open, Start, StartReturn}
+use Rattle.http_desk.proofs.Common.{longest_head}
 
 -- an open head is nothing but empty lines, or it has begun
 pub blank_or_cut : (input : List ℕ) (p : HeadScanState) → length input < longest_head → scan input ≡ Open p

@@ -1,16 +1,21 @@
 -- What the public is answered is the same in offices whose public parts are equal.
-use Rattle.std.proofs.Common.{◌≡◌, ℕ, List, [], ◌∷◌, ◌++◌, refl, sym, ap, ◌∙◌, subst, true, false, Bool, Option, None, Some, cond, codes}
+use Rattle.std.proofs.Common.{◌≡◌, ℕ, List, [], ◌∷◌, ◌++◌, refl, sym, ap, ◌∙◌, subst, true, false, Bool, Option, None}
+use Rattle.std.proofs.Common.{Some, cond, codes}
 use Rattle.std.specs.Prelude.{◌==◌}
 use Rattle.std.specs.Str.{is_utf8}
 use Rattle.office_core.specs.Queries.{is_public}
 use Rattle.office_core.specs.declared.query.Query.{Query}
+use Rattle.http_messages.proofs.Bodies.{never_true}
 use Rattle.http_messages.specs.declared.body_form.Form.TheVariants as form
 use Rattle.http_messages.specs.declared.table.Leads.{Leads}
 use Rattle.http_messages.specs.declared.table.Leads.TheVariants as leads
 use Rattle.http_messages.specs.declared.table.Numbered.{Numbered}
 use Rattle.http_messages.specs.declared.table.Numbered.TheVariants as numbered
-use Rattle.http_messages.proofs.Bodies.{never_true}
-use Rattle.http_desk.proofs.Common.{AllByRecursion, Answer, AnswersAlike, Asks, Bytes, Does, IsPublicGet, Message, Request, Route, State, TakesFile, TakesForm, answer_text, by_route, continue_if, first_route, is_head, leads_to, message_text, number_in, of_told, option_and_then, option_map, or_else, parameter_in, path_of, question, response, route_of, state_after_all, table, text_after_all}
+use Rattle.http_desk.proofs.Common.{AllByRecursion, Answer, AnswersAlike, Asks, Bytes, Does, IsPublicGet, Message}
+use Rattle.http_desk.proofs.Common.{Request, Route, State, TakesFile, TakesForm, answer_text, by_route, continue_if}
+use Rattle.http_desk.proofs.Common.{first_route, is_head, leads_to, message_text, number_from_digits, of_told}
+use Rattle.http_desk.proofs.Common.{option_and_then, option_map, or_else, parameter_in, path_of, question, response}
+use Rattle.http_desk.proofs.Common.{route_of, route_table, state_after_messages, text_after_all}
 
 -- ---- routes below /public
 
@@ -83,16 +88,16 @@ first_open ((pattern, to) ∷ others) x h =
     by deep false e (this, more) =
         either_open _ _ (then_open (leads_to to) (parameter_in pattern (codes "/public/" ++ x)) this) (deep more)
 
-table_open : AreOpen table
+table_open : AreOpen route_table
 table_open = ((λ y. refl), (asks_of numbered.Aid (λ n. refl), (asks_of numbered.Page (λ n. refl), ((λ y. tt), tt))))
   where
     asks_of : (asked : Numbered) → ((n : ℕ) → IsOpen (Some (Asks (question asked n)))) → (y : Bytes)
         → IsOpen (leads_to (leads.AsksOf asked) y)
-    asks_of asked h y = map_open (question asked) (number_in y) h
+    asks_of asked h y = map_open (question asked) (number_from_digits y) h
 
 pub public_routes : (x : Bytes) → IsOpen (route_of (codes "/public/" ++ x))
 public_routes x =
-    elim (is_utf8 (codes "/public/" ++ x)) as (λ b. IsOpen (cond b (first_route table (codes "/public/" ++ x)) None)) [ true ↦ first_open table x table_open | false ↦ tt ]
+    elim (is_utf8 (codes "/public/" ++ x)) as (λ b. IsOpen (cond b (first_route route_table (codes "/public/" ++ x)) None)) [ true ↦ first_open route_table x table_open | false ↦ tt ]
 
 -- ---- one message
 
@@ -130,8 +135,8 @@ text_alike s t closing m same p = unfold said in ap (λ a. said closing m a) (me
 
 pub record AreAllAlike (s t : State) (ms : List Message) : Type 0 where
   pub texts : text_after_all s ms ≡ text_after_all t ms
-  pub kept : state_after_all s ms ≡ s
-  pub kept_too : state_after_all t ms ≡ t
+  pub kept : state_after_messages s ms ≡ s
+  pub kept_too : state_after_messages t ms ≡ t
 
 pub all_alike : (s t : State) (ms : List Message) → AnswersAlike s t → AllByRecursion IsPublicGet ms
     → AreAllAlike s t ms
@@ -143,6 +148,6 @@ all_alike s t (m ∷ ms) same p =
       texts = (λ i. text_alike s t false m same p.0 i ++ text_after_all (one.kept i) ms)
           ∙ ap (λ l. message_text false t m ++ l) more.texts
           ∙ (λ i. message_text false t m ++ text_after_all (sym one.kept_too i) ms);
-      kept = ap (λ x. state_after_all x ms) one.kept ∙ more.kept;
-      kept_too = ap (λ x. state_after_all x ms) one.kept_too ∙ more.kept_too;
+      kept = ap (λ x. state_after_messages x ms) one.kept ∙ more.kept;
+      kept_too = ap (λ x. state_after_messages x ms) one.kept_too ∙ more.kept_too;
     }

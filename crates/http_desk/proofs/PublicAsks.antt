@@ -1,17 +1,22 @@
 -- What the public may put to an office by HTTP, and what it is shown.
-use Rattle.std.proofs.Common.{◌≡◌, Bool, true, false, List, [], ◌∷◌, codes, refl, sym, ap, ◌∙◌, subst, Option, None, Some, cond}
+use Rattle.std.proofs.Common.{◌≡◌, Bool, true, false, List, [], ◌∷◌, codes, refl, sym, ap, ◌∙◌, subst, Option, None}
+use Rattle.std.proofs.Common.{Some, cond}
 use Rattle.std.specs.Prelude.{◌&&◌}
+use Rattle.office_core.proofs.Published.{only_published}
+use Rattle.office_core.specs.Queries.{answer}
 use Rattle.office_core.specs.declared.command.Command.TheVariants as command
 use Rattle.office_core.specs.declared.query.Answer.{Answer as Told}
 use Rattle.office_core.specs.declared.query.Answer.TheVariants as told
 use Rattle.office_core.specs.declared.query.Query.{Query}
-use Rattle.office_core.specs.Queries.{answer}
-use Rattle.office_core.proofs.Published.{only_published}
-use Rattle.http_messages.specs.declared.body_form.Form.TheVariants as form
 use Rattle.http_messages.specs.Answers as answers
+use Rattle.http_messages.specs.declared.body_form.Form.TheVariants as form
 use Rattle.http_desk.specs.PublicSessions.{IsBelowPublic, IsForThePublic, IsAnsweredInPublic, AreAnsweredInPublic}
-use Rattle.http_desk.specs.Session.{state_after}
-use Rattle.http_desk.proofs.Common.{Answer, Asks, BadRequest, Bytes, Command, Does, Ended, Fixed, IfSome, LengthRequired, Meaning, Message, NotFound, PrintsPublished, Puts, Request, Route, Session, State, TakesFile, TakesForm, ToDo, ToTell, all_messages, by_route, bytes_eq, carried_out, command_in, command_of, done_if_read, error, is_none, is_post, method_of, not, not_allowed, number_at, of_told, path_of, route_of, value_of}
+use Rattle.http_desk.proofs.Common.{Answer, Asks, BadRequest, Bytes, Command, Does, Ended, Fixed, IfSome}
+use Rattle.http_desk.proofs.Common.{LengthRequired, Meaning, Message, NotFound, PrintsPublished, Puts, Request, Route}
+use Rattle.http_desk.proofs.Common.{Session, State, TakesFile, TakesForm, ToDo, ToTell, all_messages, by_route}
+use Rattle.http_desk.proofs.Common.{bytes_eq, carried_out, command_in, command_of_form, done_if_read, error, is_none}
+use Rattle.http_desk.proofs.Common.{is_post, method_of, not, not_allowed, number_at, of_told, path_of, route_of}
+use Rattle.http_desk.proofs.Common.{state_after_message, value_of}
 use Rattle.http_desk.proofs.Options.{each_then, each_map}
 use Rattle.http_desk.proofs.Public.{IsOpen, public_routes}
 
@@ -35,7 +40,7 @@ IsOrder asked = IsForThePublic (Puts (ToDo asked))
 
 orders : (body : Bytes) → IfSome (command_in form.Order body) IsOrder
 orders body =
-    each_then IsOrder (command_of form.Order) (value_of body)
+    each_then IsOrder (command_of_form form.Order) (value_of body)
     (λ v. each_then IsOrder _ (number_at (codes "ticket") v) (λ t. each_map IsOrder (command.Order t) (number_at (codes "container") v) (λ c. tt)))
 
 read_meant : (o : Option Command) → IfSome o IsOrder → IsOpenlyMeant (λ s. done_if_read s o)
@@ -43,7 +48,7 @@ read_meant None h = fixed (error BadRequest) refl
 read_meant (Some asked) h = record { meaning = Puts (ToDo asked); is = λ s. refl; asks = h }
 
 route_meant : (body : Bytes) (route : Route) → IsOpen (Some route)
-    → IsOpenlyMeant (λ s. answers.carried_out s body route)
+    → IsOpenlyMeant (λ s. answers.route_carried_out s body route)
 route_meant body (Asks asked) h = record { meaning = Puts (ToTell asked); is = λ s. refl; asks = h }
 route_meant body (Does asked) h = absurd h
 route_meant body (TakesFile source) h = absurd h
@@ -97,7 +102,7 @@ answered_in_public s m (below, path) =
 
 all_answered : (s : State) (ms : List Message) → AreAnsweredInPublic s ms
 all_answered s [] = tt
-all_answered s (m ∷ ms) = (answered_in_public s m, all_answered (state_after s m) ms)
+all_answered s (m ∷ ms) = (answered_in_public s m, all_answered (state_after_message s m) ms)
 
 pub sessions_show_only_published : (s new : State) (input output : Bytes) (end : Ended) (session : Session s input output end new)
     → AreAnsweredInPublic s (all_messages session)

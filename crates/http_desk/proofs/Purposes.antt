@@ -1,7 +1,7 @@
 -- An answer that is told in another way.
 use Rattle.std.proofs.Common.{◌≡◌, List, sym, ◌∙◌, subst, Ok, Err, inl, inr}
-use Rattle.http_messages.specs.declared.answers.Answered.{Answered}
 use Rattle.office_core.specs.declared.machine.Busy.{Busy}
+use Rattle.http_messages.specs.declared.answers.Answered.{Answered}
 use Rattle.http_desk.specs.MachineAnswers.{AnswersAs}
 use Rattle.http_desk.proofs.Common.{Answer, Command, Result, State, StaysFound, answer_in}
 

@@ -1,8 +1,12 @@
 -- Lemmas on sessions, one place after the other.
-use Rattle.std.proofs.Common.{◌≡◌, ◌<◌, ◌+◌, ℕ, suc, List, [], ◌∷◌, ◌++◌, length, refl, sym, ap, ◌∙◌, subst, arith, true, false, Bool, append-nil, Option, length-append}
+use Rattle.std.proofs.Common.{◌≡◌, ◌<◌, ◌+◌, ℕ, suc, List, [], ◌∷◌, ◌++◌, length, refl, sym, ap, ◌∙◌, subst, arith}
+use Rattle.std.proofs.Common.{true, false, Bool, append-nil, Option, length-append}
 use Rattle.std.specs.Prelude.{◌||◌}
-use Rattle.http_desk.specs.Session.{state_after}
-use Rattle.http_desk.proofs.Common.{AllByRecursion, AllLeaveOpen, Appends, Appends-nil, Appends-trans, Bytes, Command, Consumes, Consumes-nil, Consumes-trans, Cuts, Ended, Ends, Exchange, Goes, GoesOn, IsAccepted, Keeps, Message, Next, State, StaysFound, StaysOpen, Talks, Through, Turn, message_text, most_answers, nat_eq, nat_tests, state_after_all, text_after_all}
+use Rattle.http_desk.proofs.Common.{AllByRecursion, AllLeaveOpen, Appends, Appends-nil, Appends-trans, Bytes, Command}
+use Rattle.http_desk.proofs.Common.{Consumes, Consumes-nil, Consumes-trans, Cuts, Ended, Ends, Exchange, ExchangeGoesOn}
+use Rattle.http_desk.proofs.Common.{Goes, IsAccepted, Keeps, Message, Next, State, StaysFound, StaysOpen, Talks}
+use Rattle.http_desk.proofs.Common.{Through, Turn, message_text, most_answers, nat_eq, nat_tests, state_after_message}
+use Rattle.http_desk.proofs.Common.{state_after_messages, text_after_all}
 use Rattle.http_desk.proofs.Turns.{LastTurn, begins_more}
 use Rattle.http_desk.proofs.Leaks.{cuts_more, text_append}
 use Rattle.http_desk.proofs.Openings.{last_accepted, last_open}
@@ -19,9 +23,9 @@ all_and_one P [] m h p = (p, tt)
 all_and_one P (n ∷ ms) m h p = (h.0, all_and_one P ms m h.1 p)
 
 pub state_append : (ms : List Message) (m : Message) (s : State)
-    → state_after_all s (ms ++ m ∷ []) ≡ state_after (state_after_all s ms) m
+    → state_after_messages s (ms ++ m ∷ []) ≡ state_after_message (state_after_messages s ms) m
 state_append [] m s = refl
-state_append (n ∷ ms) m s = state_append ms m (state_after s n)
+state_append (n ∷ ms) m s = state_append ms m (state_after_message s n)
 
 -- so many messages were answered, and each left the connection open
 pub record Begun (number : ℕ) (s : State) (read written : Bytes) (t : State) (rest : Bytes) : Type 0 where
@@ -31,7 +35,7 @@ pub record Begun (number : ℕ) (s : State) (read written : Bytes) (t : State) (
   pub few : length messages < most_answers
   pub count : suc (length messages) ≡ number
   pub says : written ≡ text_after_all s messages
-  pub leaves : t ≡ state_after_all s messages
+  pub leaves : t ≡ state_after_messages s messages
 
 -- the same; an office that they leave open is open then, and what a crash found before, it finds then
 abbrev BegunOpen : Type 0 → Type 0 → (had has : List Command → State → Type 0) → ℕ → State → Bytes → Bytes → State
@@ -58,10 +62,10 @@ still_few n number few e h = grind (arith, nat_tests)
 
 begun_on : (was now : Type 0) (had mid has : List Command → State → Type 0) (number : ℕ) (s t u : State) (read written buffer more out rest : Bytes)
     → Begun number s read written t buffer → StaysFound had mid s t
-    → (goes : GoesOn number t (buffer ++ more) out u rest) → (IsAccepted t goes.message → now) → StaysFound mid has t u
+    → (goes : ExchangeGoesOn number t (buffer ++ more) out u rest) → (IsAccepted t goes.message → now) → StaysFound mid has t u
     → BegunOpen was now had has (number + 1) s (read ++ more) (written ++ out) u rest
 begun_on was now had mid has number s t u read written buffer more out rest b first g kept second =
-    let before = state_after_all s b.messages in
+    let before = state_after_messages s b.messages in
     let one : out ≡ message_text false before g.message = g.says ∙ ap (λ x. message_text false x g.message) b.leaves in
     let len = length-append b.messages (g.message ∷ []) in
     let few : suc (length b.messages) < most_answers = still_few (length b.messages) number b.few b.count (not_last g.message.request.closes (nat_eq number most_answers) g.stays) in (
@@ -72,7 +76,7 @@ begun_on was now had mid has number s t u read written buffer more out rest b fi
         few = omega arith;
         count = omega (arith, b.count);
         says = (λ i. b.says i ++ one i) ∙ ap (λ l. text_after_all s b.messages ++ l) (sym (append-nil (message_text false before g.message))) ∙ sym (text_append b.messages (g.message ∷ []) s);
-        leaves = g.leaves ∙ ap (λ x. state_after x g.message) b.leaves ∙ sym (state_append b.messages g.message s);
+        leaves = g.leaves ∙ ap (λ x. state_after_message x g.message) b.leaves ∙ sym (state_append b.messages g.message s);
       },
       (λ h. kept (subst (λ x. IsAccepted x g.message) (sym b.leaves) (last_accepted b.messages g.message s was h))),
       (λ asked before. second asked (first asked before)),
@@ -84,11 +88,11 @@ begun_ends : (was between now : Type 0) (had mid has : List Command → State �
     → LastTurn between now mid has number t (buffer ++ more) out end u
     → Keeps was now had has s (read ++ more) (written ++ out) end u
 begun_ends was between now had mid has number s t u read written buffer more out end b stays first g =
-    let carried : StaysFound had mid s (state_after_all s b.messages) =
+    let carried : StaysFound had mid s (state_after_messages s b.messages) =
     subst (λ x. StaysFound had mid s x) b.leaves first in
-    let there : LastTurn between now mid has number (state_after_all s b.messages) (buffer ++ more) out end u =
+    let there : LastTurn between now mid has number (state_after_messages s b.messages) (buffer ++ more) out end u =
     subst (λ x. LastTurn between now mid has number x (buffer ++ more) out end u) b.leaves g in
-    let (stops, kept, found) = subst (λ n. LastTurn between now mid has n (state_after_all s b.messages) (buffer ++ more) out end u) (sym b.count) there in (
+    let (stops, kept, found) = subst (λ n. LastTurn between now mid has n (state_after_messages s b.messages) (buffer ++ more) out end u) (sym b.count) there in (
       record {
         messages = b.messages;
         rest = buffer ++ more;
@@ -99,7 +103,7 @@ begun_ends was between now had mid has number s t u read written buffer more out
         stops = stops;
         says = ap (λ l. l ++ out) b.says;
       },
-      (λ h. kept (last_open (AllLeaveOpen was s b.messages) between stays (state_after_all s b.messages) stops.last h)),
+      (λ h. kept (last_open (AllLeaveOpen was s b.messages) between stays (state_after_messages s b.messages) stops.last h)),
       (λ asked before. found asked (carried asked before)),
     )
 

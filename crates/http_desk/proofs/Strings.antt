@@ -1,19 +1,25 @@
 -- The strings among the tokens of a JSON text in UTF-8 are UTF-8: they are cut out at ASCII bytes, and an escape stands
 -- for a character.
-use Rattle.std.proofs.Common.{◌≡◌, ℕ, ◌<◌, ◌+◌, ◌-◌, Bool, true, false, cond, ◌&&◌, ◌||◌, ◌==◌, List, [], ◌∷◌, ◌++◌, length, take, drop, get_or, IsUtf8, Option, Some, None, refl, sym, subst, arith, append_assoc, nat_lt}
-use Rattle.std.specs.Char.{digit_value, is_digit, encode_utf8, IsScalar}
+use Rattle.std.proofs.Common.{◌≡◌, ℕ, ◌<◌, ◌+◌, ◌-◌, Bool, true, false, cond, ◌&&◌, ◌||◌, ◌==◌, List, [], ◌∷◌, ◌++◌}
+use Rattle.std.proofs.Common.{length, take, drop, get_or, IsUtf8, Option, Some, None, refl, sym, subst, arith}
+use Rattle.std.proofs.Common.{append_assoc, nat_lt}
+use Rattle.std.proofs.Math.Seq.{take-append_seam, drop-append-add, get_or-append_seam}
 use Rattle.std.proofs.lemmas.Bool.{and_parts, eqb-true}
 use Rattle.std.proofs.lemmas.List.{append-nil, length-append}
-use Rattle.std.proofs.Math.Seq.{take-append_seam, drop-append-add, get_or-append_seam}
-use lib.Utf8.{low_scalar}
-use Rattle.json.specs.Text.{code_unit, short_escape, is_high_surrogate, is_low_surrogate, surrogate_pair, Within, plain, after_backslash, after_u, after_high, prepend, content}
+use Rattle.std.specs.Char.{digit_value, is_digit, encode_utf8, IsScalar}
+use Rattle.json.specs.Ascii as ascii
+use Rattle.json.specs.Lex.{Lexeme, Mode, Class, class, string_token, operator_lexeme, lex_byte, lex, begins_colon}
+use Rattle.json.specs.Lex.{if_allowed, place_token, may_begin, may_close, Place, punctuate, tokens}
+use Rattle.json.specs.Lex as lexing
+use Rattle.json.specs.Text.{code_unit, short_escape, is_high_surrogate, is_low_surrogate, surrogate_pair, Within, plain}
+use Rattle.json.specs.Text.{after_backslash, after_u, after_high, prepend, content}
 use Rattle.json.specs.Token.{Token}
 use Rattle.json.specs.Token as kinds
 use Rattle.json.specs.Word.{literal, number_before, after_number, head, ends_word, word}
-use Rattle.json.specs.Lex as lexing
-use Rattle.json.specs.Lex.{Lexeme, Mode, Class, class, string_token, operator_lexeme, lex_byte, lex, begins_colon, if_allowed, place_token, may_begin, may_close, Place, punctuate, tokens}
-use Rattle.json.specs.Ascii as ascii
-use Rattle.http_desk.proofs.Common.{AllByRecursion, IfSome, IsCharBoundary-after_ascii, IsCharBoundary-before_ascii, IsUtf8-append, IsUtf8-drop, IsUtf8-encode, IsUtf8-take, encode_ascii, nat_eq, nat_tests, starts_with}
+use lib.Utf8.{low_scalar}
+use Rattle.http_desk.proofs.Common.{AllByRecursion, IfSome, IsCharBoundary-after_ascii, IsCharBoundary-before_ascii}
+use Rattle.http_desk.proofs.Common.{IsUtf8-append, IsUtf8-drop, IsUtf8-encode, IsUtf8-take, encode_ascii, nat_eq}
+use Rattle.http_desk.proofs.Common.{nat_tests, starts_with}
 use Rattle.http_desk.proofs.Options.{known_map, known_then, either_way, if_some, if_then}
 
 -- ---- texts are cut at ASCII bytes

@@ -1,13 +1,22 @@
 -- Lemmas on one message's place.
-use Rattle.std.proofs.Common.{◌≡◌, ◌<◌, ◌≤◌, ◌+◌, ◌⊎◌, inl, inr, ℕ, List, [], ◌++◌, length, take, drop, refl, sym, ap, ◌∙◌, subst, arith, true, false, Bool, codes, append_assoc, Option, length-take, length-drop, length-append, take-append-drop, drop-drop}
+use Rattle.std.proofs.Common.{◌≡◌, ◌<◌, ◌≤◌, ◌+◌, ◌⊎◌, inl, inr, ℕ, List, [], ◌++◌, length, take, drop, refl, sym, ap}
+use Rattle.std.proofs.Common.{◌∙◌, subst, arith, true, false, Bool, codes, append_assoc, Option, length-take}
+use Rattle.std.proofs.Common.{length-drop, length-append, take-append-drop, drop-drop}
 use Rattle.std.specs.Prelude.{◌||◌, Ok, Err}
-use Rattle.http_desk.specs.declared.session_end.Ended.TheVariants.{Cut, Bound}
-use Rattle.http_desk.specs.declared.output.Sent.TheVariants.{All, Failed, Bound as OutOfTurns}
 use Rattle.http_messages.specs.HeadScan.{scan}
-use Rattle.http_desk.specs.Session.{state_after}
-use Rattle.http_desk.specs.Exchanges.{Refused}
 use Rattle.http_messages.specs.declared.status.Status.TheVariants.{Busy}
-use Rattle.http_desk.proofs.Common.{Accepted, Answer, Answers, AnswersTo, Appends, Begins, BodyCut, Bytes, Closed, Command, Consumes-nil, Ended, Ends, Exchange, Fails, Fine, Goes, HasHead, HeadCut, IfOk, IsAccepted, IsBlank, IsBusyWith, IsClosing, IsFront, IsHeadCut, Judges, Last, LastLeavesOpen, MatchResult, MayFail, Message, Next, Nothing, OnErr, OnOk, ReadFault, Replies, Request, Result, Sends, Sent, Stands, State, Status, StaysFound, StaysFoundOrBusy, Stops, Through, Turn, Verdict, Whole, after_sending, answer_text, body_length, closes, continue_if, drop-append-le, error, is_head, last_text, longest_head, message_text, most_answers, nat_eq, refusal, response, scan_take_more, state_after_last, take-append-le}
+use Rattle.http_desk.specs.Exchanges.{Refused}
+use Rattle.http_desk.specs.declared.output.Sent.TheVariants.{All, Failed, Bound as OutOfTurns}
+use Rattle.http_desk.specs.declared.session_end.Ended.TheVariants.{Cut, Bound}
+use Rattle.http_desk.proofs.Common.{Accepted, Answer, Answers, AnswersTo, Appends, Begins, BodyCut, Bytes, Closed}
+use Rattle.http_desk.proofs.Common.{Command, Consumes-nil, Ended, Ends, Exchange, Fails, Fine, Goes, HasHead, HeadCut}
+use Rattle.http_desk.proofs.Common.{IfOk, IsAccepted, IsBlank, IsBusyWith, IsClosing, IsFront, IsHeadCut, JudgesHead}
+use Rattle.http_desk.proofs.Common.{Last, LastLeavesOpen, MatchResult, MayFail, Message, Next, Nothing, OnErr, OnOk}
+use Rattle.http_desk.proofs.Common.{ReadFault, Request, Result, Sends, SendsAnswer, Sent, Stands, State, Status}
+use Rattle.http_desk.proofs.Common.{StaysFound, StaysFoundOrBusy, Stops, Through, Turn, Verdict, Whole, after_sending}
+use Rattle.http_desk.proofs.Common.{answer_text, body_length, closes, continue_if, drop-append-le, error, is_head}
+use Rattle.http_desk.proofs.Common.{last_text, longest_head, message_text, most_answers, nat_eq, refusal_text, response}
+use Rattle.http_desk.proofs.Common.{scan_take_more, state_after_last, state_after_message, take-append-le}
 
 -- ---- heads
 
@@ -22,7 +31,7 @@ head_more input block v more rest h = record {
 
 -- the head that was found
 pub head_found : (items : Bytes) (size : ℕ) (v : Verdict) → scan (take longest_head items) ≡ Whole size
-    → size ≤ length items → Judges (take size items) v → HasHead items (take size items) v (drop size items)
+    → size ≤ length items → JudgesHead (take size items) v → HasHead items (take size items) v (drop size items)
 head_found items size v e h j =
     let len : length (take size items) ≡ size = omega (arith, length-take size items) in
     record { ends = e ∙ ap Whole (sym len); whole = sym (take-append-drop size items); judged = j }
@@ -68,7 +77,7 @@ closed_turn was now had has number s input before full written rest new last Out
 
 -- the answer that leaves the connection open was sent, or broken off
 pub open_turn : (was now : Type 0) (had has : List Command → State → Type 0) (number : ℕ) (s : State) (input before full written rest : Bytes) (new : State) (m : Message) (sent : Sent)
-    → Begins input m rest → closes number m ≡ false → before ++ full ≡ message_text false s m → new ≡ state_after s m
+    → Begins input m rest → closes number m ≡ false → before ++ full ≡ message_text false s m → new ≡ state_after_message s m
     → IsWritten sent full written → (IsAccepted s m → now)
     → StaysFound had has s new
     → Turn was now had has number s input (after_sending sent Goes) (before ++ written) new rest
@@ -110,20 +119,20 @@ module _ {M : Type 0} (represents : M → State → Type 0) (is_intact is_open :
   -- a fixed answer was sent
   pub refused : (number : ℕ) (old new : M) (input before rest : Bytes) (last : Last) (bare : Bool) (status : Status) (a b : Option Bytes) (next : Next)
       → Refused a b bare status next → Stands input last → IsClosing number last
-      → AloneAt number last (before ++ refusal bare (error status))
+      → AloneAt number last (before ++ refusal_text bare (error status))
       → (is_intact new → (s : State) → represents old s → represents new s)
       → ((s : State) → LastLeavesOpen (is_open old) s last → is_open new)
       → (is_intact new → (s : State) → represents old s → StaysFoundOrBusy (recovers old) (recovers new) (IsBusyWith input last) s s)
       → (written : Bytes) × Appends a b written × Through represents is_intact old new (λ s t. Turn (is_open old) (is_open new) (recovers old) (recovers new) number s input next (before ++ written) t rest)
   refused number old new input before rest last bare status a b next (sent, sends, e) x c alone kept stays found =
-      let (written, appended, is) = written_of a b (refusal bare (error status)) sent sends in (
+      let (written, appended, is) = written_of a b (refusal_text bare (error status)) sent sends in (
         written,
         appended,
         λ i s h. (
           s,
           kept i s h,
           subst (λ n. Turn (is_open old) (is_open new) (recovers old) (recovers new) number s input n (before ++ written) s rest) (sym e)
-              (closed_turn (is_open old) (is_open new) (recovers old) (recovers new) number s input before (refusal bare (error status)) written rest s last sent x c (alone s).0 (alone s).1 is (stays s) (found i s h)),
+              (closed_turn (is_open old) (is_open new) (recovers old) (recovers new) number s input before (refusal_text bare (error status)) written rest s last sent x c (alone s).0 (alone s).1 is (stays s) (found i s h)),
         ),
       )
 
@@ -165,10 +174,10 @@ module _ {M : Type 0} (represents : M → State → Type 0) (is_intact is_open :
             let (shown_after, told_is) = answers i s shown in
             let says : continue_if request.waits ++ answer_text bare true told ≡ last_text number s (Answers message) =
             λ j. continue_if request.waits ++ answer_text (is_bare j) (sym closing j) (told_is j) in (
-              state_after s message,
+              state_after_message s message,
               shown_after,
-              subst (λ x. Turn (is_open old) (is_open new) (recovers old) (recovers new) number s items x (continue_if request.waits ++ written) (state_after s message) rest) (sym ends)
-                  (closed_turn (is_open old) (is_open new) (recovers old) (recovers new) number s items (continue_if request.waits) (answer_text bare true told) written rest (state_after s message) (Answers message) sent
+              subst (λ x. Turn (is_open old) (is_open new) (recovers old) (recovers new) number s items x (continue_if request.waits ++ written) (state_after_message s message) rest) (sym ends)
+                  (closed_turn (is_open old) (is_open new) (recovers old) (recovers new) number s items (continue_if request.waits) (answer_text bare true told) written rest (state_after_message s message) (Answers message) sent
                   (rest, begins) closing says refl is (λ accepted. kept accepted.0 i (ap (λ (x : Answer). x.status) told_is ∙ accepted.1)) (λ asked before. inl (found i s shown asked before))),
             ),
       )
@@ -193,10 +202,10 @@ module _ {M : Type 0} (represents : M → State → Type 0) (is_intact is_open :
             let (shown_after, told_is) = answers i s shown in
             let says : continue_if request.waits ++ answer_text bare false told ≡ message_text false s message =
             λ j. continue_if request.waits ++ answer_text (is_bare j) false (told_is j) in (
-              state_after s message,
+              state_after_message s message,
               shown_after,
-              subst (λ x. Turn (is_open old) (is_open new) (recovers old) (recovers new) number s items x (continue_if request.waits ++ written) (state_after s message) rest) (sym ends)
-                  (open_turn (is_open old) (is_open new) (recovers old) (recovers new) number s items (continue_if request.waits) (answer_text bare false told) written rest (state_after s message) message sent begins closing says refl is
+              subst (λ x. Turn (is_open old) (is_open new) (recovers old) (recovers new) number s items x (continue_if request.waits ++ written) (state_after_message s message) rest) (sym ends)
+                  (open_turn (is_open old) (is_open new) (recovers old) (recovers new) number s items (continue_if request.waits) (answer_text bare false told) written rest (state_after_message s message) message sent begins closing says refl is
                   (λ accepted. kept accepted.0 i (ap (λ (x : Answer). x.status) told_is ∙ accepted.1)) (found i s shown)),
             ),
       )
@@ -206,7 +215,7 @@ module _ {M : Type 0} (represents : M → State → Type 0) (is_intact is_open :
       → HasHead items (take size items) (Accepted request) (drop size items) → size + n ≤ length items
       → n ≡ body_length request → rest ≡ drop (size + n) items
       → bare ≡ is_head request.method → (request.closes || nat_eq number most_answers) ≡ closing
-      → Replies a b closing (answer_text bare closing told) next
+      → SendsAnswer a b closing (answer_text bare closing told) next
       → (is_intact new → (s : State) → represents old s → represents new (response s request (body_at items size n)).1 × (told ≡ (response s request (body_at items size n)).0))
       → (request.method ≡ codes "POST" → is_intact new → told.status ≡ Fine → is_open new)
       → (is_intact new → (s : State) → represents old s → StaysFound (recovers old) (recovers new) s (response s request (body_at items size n)).1)
@@ -221,7 +230,7 @@ module _ {M : Type 0} (represents : M → State → Type 0) (is_intact is_open :
       → HasHead items (take size items) (Accepted request) (drop size items) → size + n ≤ length items
       → n ≡ body_length request → OnOk made (rest ≡ drop (size + n) items)
       → bare ≡ is_head request.method → (request.closes || nat_eq number most_answers) ≡ closing
-      → MatchResult made (λ x. Replies a b closing (answer_text bare closing (answer x)) next) (λ e. Refused a b false Busy next)
+      → MatchResult made (λ x. SendsAnswer a b closing (answer_text bare closing (answer x)) next) (λ e. Refused a b false Busy next)
       → IfOk made (λ x. is_intact new → (s : State) → represents old s → represents new (response s request (body_at items size n)).1 × (answer x ≡ (response s request (body_at items size n)).0))
       → OnErr made (is_intact new → (s : State) → represents old s → represents new s)
       → (request.method ≡ codes "POST" → IfOk made (λ x. is_intact new → (answer x).status ≡ Fine → is_open new))
@@ -258,7 +267,7 @@ module _ {M : Type 0} (represents : M → State → Type 0) (is_intact is_open :
               last = Fails request.waits false;
               stands = may_fail_after (items ++ []) block (more ++ []) request there;
               ends = tt;
-              written = (others ++ refusal false (error Busy), ap (λ l. l ++ refusal false (error Busy)) f ∙ append_assoc front others (refusal false (error Busy)));
+              written = (others ++ refusal_text false (error Busy), ap (λ l. l ++ refusal_text false (error Busy)) f ∙ append_assoc front others (refusal_text false (error Busy)));
               leaves = refl;
             },
             (λ never. absurd never),
@@ -280,7 +289,7 @@ module _ {M : Type 0} (represents : M → State → Type 0) (is_intact is_open :
               last = Fails request.waits false;
               stands = may_fail_after (items ++ []) block (more ++ []) request there;
               ends = tt;
-              written = (others ++ refusal false (error Busy), ap (λ l. l ++ refusal false (error Busy)) f ∙ append_assoc front others (refusal false (error Busy)));
+              written = (others ++ refusal_text false (error Busy), ap (λ l. l ++ refusal_text false (error Busy)) f ∙ append_assoc front others (refusal_text false (error Busy)));
               leaves = refl;
             },
             (λ never. absurd never),
@@ -337,4 +346,4 @@ stops_early was had number s input (inr h) =
 pub bound_here : (was : Type 0) (had : List Command → State → Type 0) (number : ℕ) (s : State) (input : Bytes) (leave : Bool)
     → MayFail input leave false → LastTurn was was had had number s input (continue_if leave) Bound s
 bound_here was had number s input leave m =
-    (record { last = Fails leave false; stands = m; ends = tt; written = (refusal false (error Busy), refl); leaves = refl }, (λ never. absurd never), (λ asked before. inl before))
+    (record { last = Fails leave false; stands = m; ends = tt; written = (refusal_text false (error Busy), refl); leaves = refl }, (λ never. absurd never), (λ asked before. inl before))

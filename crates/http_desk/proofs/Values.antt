@@ -1,17 +1,19 @@
 -- The strings of a value that is read from a JSON text in UTF-8 are UTF-8.
-use Rattle.std.proofs.Common.{ℕ, zero, suc, List, [], ◌∷◌, length, IsUtf8, Option, Some, None, Ordering, Less, Equal, Greater}
-use Rattle.std.specs.Ordering.{nat_cmp, match_ordering}
+use Rattle.std.proofs.Common.{ℕ, zero, suc, List, [], ◌∷◌, length, IsUtf8, Option, Some, None, Ordering, Less, Equal}
+use Rattle.std.proofs.Common.{Greater}
 use Rattle.std.specs.Cmp.Lexicographic.{slice_cmp}
+use Rattle.std.specs.Ordering.{nat_cmp, match_ordering}
 use Rattle.std.specs.Str.{is_utf8}
+use Rattle.json.specs.Json.{Parse, parse_map, after_end_array, read_key, items_step, members_step, items, members}
+use Rattle.json.specs.Json.{value_with, value, if_last}
+use Rattle.json.specs.Json as json
+use Rattle.json.specs.Lex.{tokens}
 use Rattle.json.specs.Token.{Token}
 use Rattle.json.specs.Token as kinds
-use Rattle.json.specs.Lex.{tokens}
-use Rattle.json.specs.Json as json
-use Rattle.json.specs.Json.{Parse, parse_map, after_end_array, read_key, items_step, members_step, items, members, value_with, value, if_last}
-use Rattle.serde_json.specs.Data as values
 use Rattle.serde_json.specs.Data.{Data, put}
-use Rattle.serde_json.specs.Read.{number_of, of_json, of_items, of_members, max_depth, read}
+use Rattle.serde_json.specs.Data as values
 use Rattle.serde_json.specs.Find.{get_member, get, as_str}
+use Rattle.serde_json.specs.Read.{number_of, of_json, of_items, of_members, max_depth, read}
 use Rattle.http_desk.proofs.Common.{AllByRecursion, Bytes, IfSome, IsUtf8-from_is_utf8, text_at, value_of}
 use Rattle.http_desk.proofs.Options.{each_map, known_map, known_then, if_then}
 use Rattle.http_desk.proofs.Strings.{HasText, tokens_have_texts}

@@ -1,8 +1,8 @@
 -- What holds of an answer's view holds of the answer.
 use Rattle.std.proofs.Common.{subst}
 use Rattle.std.specs.Prelude.{Ok, Err}
-use Rattle.http_messages.specs.declared.answers.Answered.{Answered}
 use Rattle.http_messages.specs.declared.answers.AnswerView.{AnswerView}
+use Rattle.http_messages.specs.declared.answers.Answered.{Answered}
 use Rattle.http_desk.proofs.Common.{Answer, IsViewOf, MatchResult, Result, answer_in, answer_of_view}
 
 pub of_view : {E : Type 0} (P : Answer → Type 0) (Q : E → Type 0) (view : Result AnswerView E) (made : Result Answered E)

@@ -1,8 +1,12 @@
 -- The session of the whole input: what follows a closing answer means nothing.
-use Rattle.std.proofs.Common.{◌≡◌, ℕ, suc, List, [], ◌++◌, length, length-append, Option, None, Some, Bool, inl, inr, sym, ap, ◌∙◌, subst, append-nil, arith}
-use Rattle.http_desk.specs.declared.session_end.Ended.TheVariants.{Cut, Bound}
+use Rattle.std.proofs.Common.{◌≡◌, ℕ, suc, List, [], ◌++◌, length, length-append, Option, None, Some, Bool, inl, inr}
+use Rattle.std.proofs.Common.{sym, ap, ◌∙◌, subst, append-nil, arith}
 use Rattle.http_messages.specs.HeadScan.{scan}
-use Rattle.http_desk.proofs.Common.{Answers, AtEndIf, BodyCut, Bytes, Closed, Command, End, Ended, Ends, Fails, HeadCut, IsBusyWith, IsClosing, IsTooLong, Keeps, Last, NoHead, Nothing, ReadFault, Refuses, SomeHead, Stands, State, Talks, TalksWhole, Verdict, WriteFault, longest_head, take-append-le}
+use Rattle.http_desk.specs.declared.session_end.Ended.TheVariants.{Cut, Bound}
+use Rattle.http_desk.proofs.Common.{Answers, AtEndIf, BodyCut, Bytes, Closed, Command, End, Ended, Ends, Fails, HeadCut}
+use Rattle.http_desk.proofs.Common.{IsBusyWith, IsClosing, IsTooLong, Keeps, Last, NoHead, Nothing, ReadFault, Refuses}
+use Rattle.http_desk.proofs.Common.{SomeHead, Stands, State, Talks, TalksWhole, Verdict, WriteFault, longest_head}
+use Rattle.http_desk.proofs.Common.{take-append-le}
 use Rattle.http_desk.proofs.Turns.{head_more, begins_more}
 use Rattle.http_desk.proofs.Sessions.{cuts_longer}
 

@@ -1,15 +1,20 @@
 -- Heads of worked requests, and sessions of two messages from their pieces.
-use Rattle.std.proofs.Common.{◌≡◌, ◌<◌, ◌≤◌, ℕ, List, [], ◌∷◌, ◌++◌, length, take, refl, sym, ap, ◌∙◌, lit<, inl, true, false, codes, append-nil, Some, None}
-use Rattle.std.specs.List.{All}
-use Rattle.std.specs.Str.{is_utf8, chars}
+use Rattle.std.proofs.Common.{◌≡◌, ◌<◌, ◌≤◌, ℕ, List, [], ◌∷◌, ◌++◌, length, take, refl, sym, ap, ◌∙◌, lit<, inl, true}
+use Rattle.std.proofs.Common.{false, codes, append-nil, Some, None}
 use Rattle.std.proofs.Math.Utf8.{encode}
 use Rattle.std.proofs.lemmas.List.Elements.{All-nil, All-cons}
 use Rattle.std.proofs.lemmas.List.Sums.{AllPass-from_list_all}
-use Rattle.httparse.specs.Grammar.{Field, IsField, RequestHead, IsRequestHead, print_request, crlf, is_token_byte, is_uri_byte, is_value_byte, trim_ows, IsToken}
+use Rattle.std.specs.List.{All}
+use Rattle.std.specs.Str.{is_utf8, chars}
+use Rattle.httparse.specs.Grammar.{Field, IsField, RequestHead, IsRequestHead, print_request, crlf, is_token_byte}
+use Rattle.httparse.specs.Grammar.{is_uri_byte, is_value_byte, trim_ows, IsToken}
 use Rattle.http_messages.specs.HeadScan.{scan}
 use Rattle.http_desk.specs.declared.session_end.Ended.TheVariants.{Cut}
-use Rattle.http_desk.specs.Session.{state_after}
-use Rattle.http_desk.proofs.Common.{Accepted, Begins, BodyCut, Bytes, End, HasHead, IsBlank, IsUtf8-from_is_utf8, Message, Nothing, Request, Session, Stands, State, StaysOpen, Verdict, Whole, continue_if, draft_head, list_all, list_request, longest_head, message_text, page_request, register_head, scan_take_more, text_after_all, verdict_on}
+use Rattle.http_desk.proofs.Common.{Accepted, Begins, BodyCut, Bytes, End, HasHead, IsBlank, IsUtf8-from_is_utf8}
+use Rattle.http_desk.proofs.Common.{Message, Nothing, Request, Session, Stands, State, StaysOpen, Verdict, Whole}
+use Rattle.http_desk.proofs.Common.{continue_if, draft_head, list_all, list_request, longest_head, message_text}
+use Rattle.http_desk.proofs.Common.{page_request, register_head, scan_take_more, state_after_message, text_after_all}
+use Rattle.http_desk.proofs.Common.{verdict_on}
 
 -- ---- heads
 
@@ -135,11 +140,11 @@ draft_has more = has_head draft_head more drafting (Accepted (orders_at (codes "
 
 -- ---- sessions
 
-pub two_texts : (s t : State) (m n : Message) (a b : Bytes) → message_text false s m ≡ a → state_after s m ≡ t
+pub two_texts : (s t : State) (m n : Message) (a b : Bytes) → message_text false s m ≡ a → state_after_message s m ≡ t
     → message_text false t n ≡ b
     → a ++ b ≡ text_after_all s (m ∷ n ∷ []) ++ []
 two_texts s t m n a b e kept f =
-    let later : message_text false (state_after s m) n ≡ b = ap (λ x. message_text false x n) kept ∙ f in
+    let later : message_text false (state_after_message s m) n ≡ b = ap (λ x. message_text false x n) kept ∙ f in
     sym (append-nil (text_after_all s (m ∷ n ∷ [])) ∙ (λ i. e i ++ (later i ++ [])) ∙ ap (λ l. a ++ l) (append-nil b))
 
 pub nothing_is_blank : IsBlank []
@@ -149,7 +154,7 @@ nothing_is_blank = (lit< tt, refl)
 -- two messages are answered, and the input ends
 abbrev pub two_answered : (s t u : State) (input more : Bytes) (m n : Message) (a b : Bytes) → Begins input m more
     → Begins more n [] → StaysOpen m → StaysOpen n
-    → message_text false s m ≡ a → state_after s m ≡ t → message_text false t n ≡ b → state_after t n ≡ u
+    → message_text false s m ≡ a → state_after_message s m ≡ t → message_text false t n ≡ b → state_after_message t n ≡ u
     → Session s input (a ++ b) End u
 two_answered s t u input more m n a b first second stays stays2 e kept f left = record {
   messages = m ∷ n ∷ [];
@@ -158,14 +163,14 @@ two_answered s t u input more m n a b first second stays stays2 e kept f left = 
   cut = (more, first, ([], second, refl));
   stay = (stays, (stays2, tt));
   few = lit< tt;
-  stops = record { last = Nothing; stands = nothing_is_blank; ends = refl; written = refl; leaves = sym (ap (λ x. state_after x n) kept ∙ left) };
+  stops = record { last = Nothing; stands = nothing_is_blank; ends = refl; written = refl; leaves = sym (ap (λ x. state_after_message x n) kept ∙ left) };
   says = two_texts s t m n a b e kept f;
 }
 
 -- one message is answered, and the input ends inside the body of the next
 abbrev pub one_answered : (s t : State) (input more : Bytes) (m : Message) (next : Request) (a : Bytes)
     → Begins input m more → StaysOpen m
-    → message_text false s m ≡ a → state_after s m ≡ t → Stands more (BodyCut next) → continue_if next.waits ≡ []
+    → message_text false s m ≡ a → state_after_message s m ≡ t → Stands more (BodyCut next) → continue_if next.waits ≡ []
     → Session s input a Cut t
 one_answered s t input more m next a first stays e kept stands none = record {
   messages = m ∷ [];

@@ -1,19 +1,19 @@
 -- What worked messages are answered, and what state they leave.
 use Rattle.std.proofs.Common.{◌≡◌, refl, false, codes, []}
-use Rattle.http_messages.specs.Answers.{head_text, continue_text}
+use Rattle.std.proofs.Math.Utf8.{encode}
 use Rattle.std.specs.Fmt.{digits}
 use Rattle.std.specs.Str.{is_utf8, chars}
-use Rattle.std.proofs.Math.Utf8.{encode}
-use Rattle.csv.specs.Reading.{records_from, strip_bom}
 use Rattle.csv.specs.Machine.{next_record}
+use Rattle.csv.specs.Reading.{records_from, strip_bom}
 use Rattle.serde_json.proofs.OnLiterals.{serde_json_on_literals}
 use Rattle.isad_core.specs.Days.{day_text}
 use Rattle.atom_csv.specs.Columns.{columns}
 use Rattle.atom_csv.specs.Values.{text_elements}
 use Rattle.catalogue_core.specs.ContainerContents.{is_open}
 use Rattle.catalogue_core.specs.Intake.{take}
-use Rattle.http_desk.specs.Session.{state_after}
-use Rattle.http_desk.proofs.Common.{Message, State, filled_office, fonds_list, message_text, not_found, one_unit, with_draft}
+use Rattle.http_messages.specs.Answers.{head_text, continue_text}
+use Rattle.http_desk.proofs.Common.{Message, State, filled_office, fonds_list, message_text, not_found, one_unit}
+use Rattle.http_desk.proofs.Common.{state_after_message, with_draft}
 use Rattle.http_desk.proofs.WorkedHeads.{asks_for, orders_at}
 
 abbrev pub list_message : Message
@@ -30,11 +30,11 @@ unfolding head_text continue_text is_open take is_utf8 chars encode records_from
 list_told = refl
 
 -- questions change nothing
-pub list_keeps : (s : State) → state_after s list_message ≡ s
+pub list_keeps : (s : State) → state_after_message s list_message ≡ s
 unfolding is_utf8 chars encode
 list_keeps s = refl
 
-pub page_keeps : (s : State) → state_after s page_message ≡ s
+pub page_keeps : (s : State) → state_after_message s page_message ≡ s
 unfolding digits is_utf8 chars encode
 page_keeps s = refl
 
@@ -42,7 +42,7 @@ pub draft_told : message_text false filled_office draft_message ≡ one_unit
 unfolding head_text continue_text is_open take is_utf8 chars encode records_from strip_bom next_record columns text_elements digits day_text serde_json_on_literals
 draft_told = refl
 
-pub draft_leaves : state_after filled_office draft_message ≡ with_draft
+pub draft_leaves : state_after_message filled_office draft_message ≡ with_draft
 unfolding is_utf8 chars encode digits day_text serde_json_on_literals
 draft_leaves = refl
 

@@ -7,7 +7,7 @@ use Rattle.http_messages.specs.Answers.{Answer}
 use Rattle.http_messages.specs.Heads.{Request}
 use Rattle.http_desk.specs.declared.session_end.Ended.{Ended}
 use Rattle.http_desk.specs.Messages.{Message, Last, Nothing, HeadCut, BodyCut, NoHead, Refuses, Answers, Fails}
-use Rattle.http_desk.specs.Session.{Session, message_answer, state_after, state_after_all}
+use Rattle.http_desk.specs.Session.{Session, message_answer, state_after_message, state_after_messages}
 
 -- a command was accepted: a POST is answered 200
 abbrev pub Accepts : Request → Answer → Type 0
@@ -19,7 +19,7 @@ IsAccepted s message = Accepts message.request (message_answer s message)
 -- the last message is a command that was accepted; if there are none, the office was open before
 abbrev pub AllLeaveOpen : Type 0 → State → List Message → Type 0
 AllLeaveOpen was_open s [] = was_open
-AllLeaveOpen was_open s (message ∷ later) = AllLeaveOpen (IsAccepted s message) (state_after s message) later
+AllLeaveOpen was_open s (message ∷ later) = AllLeaveOpen (IsAccepted s message) (state_after_message s message) later
 
 -- The last place has such a command; or it has nothing for the office, and the office was open before it. After 503
 -- this is not known.
@@ -36,4 +36,4 @@ LastLeavesOpen was_open s (Fails leave bare) = ⊥
 abbrev pub LeavesOpen : Type 0 → {s new : State} {input output : Bytes} {end : Ended} → Session s input output end new
     → Type 0
 LeavesOpen was_open {s} {new} {input} {output} {end} session =
-    LastLeavesOpen (AllLeaveOpen was_open s session.messages) (state_after_all s session.messages) session.stops.last
+    LastLeavesOpen (AllLeaveOpen was_open s session.messages) (state_after_messages s session.messages) session.stops.last

@@ -8,7 +8,8 @@ use Rattle.http_messages.specs.declared.status.Status.TheVariants.{BadRequest, B
 use Rattle.http_messages.specs.Heads.{is_head}
 use Rattle.http_messages.specs.Answers.{answer_text, continue_text, error}
 use Rattle.http_desk.specs.Messages.{Last, Nothing, HeadCut, BodyCut, NoHead, Refuses, Answers, Fails}
-use Rattle.http_desk.specs.Session.{IsFront, Session, Stops, closes, continue_if, message_answer, refusal, state_after_all}
+use Rattle.http_desk.specs.Session.{IsFront, Session, Stops, closes, continue_if, message_answer, refusal_text}
+use Rattle.http_desk.specs.Session.{state_after_messages}
 use Rattle.http_desk.specs.StreamFaults.{IsUsedUp, TextIsUsedUp}
 use Rattle.http_desk.specs.Streams.{Stream, most_reads}
 use Rattle.http_desk.specs.Exchanges.{Through}
@@ -28,11 +29,11 @@ abbrev pub IsLastAnswer : ℕ → State → Last → Bytes → Type 0
 IsLastAnswer number s Nothing text = ⊥
 IsLastAnswer number s HeadCut text = ⊥
 IsLastAnswer number s (BodyCut request) text = ⊥
-IsLastAnswer number s NoHead text = text ≡ refusal false (error BadRequest)
-IsLastAnswer number s (Refuses status bare) text = text ≡ refusal bare (error status)
+IsLastAnswer number s NoHead text = text ≡ refusal_text false (error BadRequest)
+IsLastAnswer number s (Refuses status bare) text = text ≡ refusal_text bare (error status)
 IsLastAnswer number s (Answers message) text =
     text ≡ answer_text (is_head message.request.method) (closes number message) (message_answer s message)
-IsLastAnswer number s (Fails leave bare) text = text ≡ refusal bare (error Busy)
+IsLastAnswer number s (Fails leave bare) text = text ≡ refusal_text bare (error Busy)
 
 -- in the last place this text broke off: it is 100 Continue, and `out` is a front of it; or it is the answer, and `out`
 -- ends with a front of it
@@ -43,19 +44,19 @@ BreaksOff number s last out text =
     × ((front : Bytes) × (out ≡ continue_if (leave_of last) ++ front) × IsFront front text))
 
 -- the text that broke off had as many writes and flushes as it has bytes, and 16 more
-abbrev pub IsBounded : ℕ → State → Last → Bytes → Stream → Type 0
-IsBounded number s last out writer = (text : Bytes) × BreaksOff number s last out text × TextIsUsedUp text writer
+abbrev pub IsWriterBounded : ℕ → State → Last → Bytes → Stream → Type 0
+IsWriterBounded number s last out writer = (text : Bytes) × BreaksOff number s last out text × TextIsUsedUp text writer
 
 -- a session ends so in the place of the message with this number
 abbrev pub StopsBounded : ℕ → State → Bytes → Bytes → State → Stream → Type 0
 StopsBounded number s input out new writer =
-    (stops : Stops number s input out Bound new) × IsBounded number s stops.last out writer
+    (stops : Stops number s input out Bound new) × IsWriterBounded number s stops.last out writer
 
 -- a session that ends so
 abbrev pub SessionBounded : State → Bytes → Bytes → State → Stream → Type 0
 SessionBounded s input output new writer =
     (session : Session s input output Bound new)
-    × IsBounded (suc (length session.messages)) (state_after_all s session.messages) session.stops.last session.out writer
+    × IsWriterBounded (suc (length session.messages)) (state_after_messages s session.messages) session.stops.last session.out writer
 
 -- the bytes of a buffer, those that a reader then gave, and those that were written are such a place
 abbrev pub ExchangeBounded : {M : Type 0} → (M → State → Type 0) → (M → Type 0) → ℕ → Option Bytes → Option Bytes

@@ -13,8 +13,8 @@ abbrev pub AnswersTo : (State → Answer × State) → Command → Type 0
 AnswersTo told command = (s : State) → told s ≡ command_answer s command
 
 -- the message asks this command
-abbrev pub Asks : Message → Command → Type 0
-Asks message command = AnswersTo (λ s. response s message.request message.body) command
+abbrev pub AsksCommand : Message → Command → Type 0
+AsksCommand message command = AnswersTo (λ s. response s message.request message.body) command
 
 -- In the last place there is a message that asks this command, and 503 is answered.
 abbrev pub IsBusyWith : Bytes → Last → Command → Type 0
@@ -25,7 +25,7 @@ IsBusyWith input NoHead command = ⊥
 IsBusyWith input (Refuses status bare) command = ⊥
 IsBusyWith input (Answers message) command = ⊥
 IsBusyWith input (Fails leave bare) command = (message : Message) × (rest : Bytes) × Begins input message rest
-    × Asks message command
+    × AsksCommand message command
 
 -- The last message of the session asks this command, and 503 is answered. No other message of a session is answered so.
 abbrev pub WasBusyWith : {s new : State} {input output : Bytes} {end : Ended} → Session s input output end new

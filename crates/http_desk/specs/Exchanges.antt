@@ -16,25 +16,26 @@ use Rattle.http_desk.specs.AnswerOutput.{Sends}
 use Rattle.http_desk.specs.AcceptedMessages.{IsAccepted, LastLeavesOpen, LeavesOpen}
 use Rattle.http_desk.specs.BusyMessages.{IsBusyWith, StaysFound, StaysFoundOrBusy, WasBusyWith}
 use Rattle.http_desk.specs.Messages.{Message, Begins}
-use Rattle.http_desk.specs.Session.{closes, message_text, state_after, refusal, Stops, Session}
+use Rattle.http_desk.specs.Session.{closes, message_text, state_after_message, refusal_text, Stops, Session}
 use Rattle.http_desk.specs.Laws.{HasEnded}
-use Rattle.http_desk.specs.StreamFaults.{FlushesAll, IsFlushed, NoBound, NoWriteBound, TellsBound, TellsReadFault, TellsWriteFault}
+use Rattle.http_desk.specs.StreamFaults.{FlushesAll, IsFlushed, NoBound, NoWriteBound, TellsBound, TellsReadFault}
+use Rattle.http_desk.specs.StreamFaults.{TellsWriteFault}
 use Rattle.http_desk.specs.Streams.{Stream}
 
 -- a message was answered, and the next may come
-pub record GoesOn (number : ℕ) (s : State) (input out : Bytes) (new : State) (rest : Bytes) : Type 0 where
+pub record ExchangeGoesOn (number : ℕ) (s : State) (input out : Bytes) (new : State) (rest : Bytes) : Type 0 where
   pub message : Message
   pub begins : Begins input message rest
   pub stays : closes number message ≡ false
   pub says : out ≡ message_text false s message
-  pub leaves : new ≡ state_after s message
+  pub leaves : new ≡ state_after_message s message
 
 -- What happens in the place of one message. An office that it leaves open is open afterwards. What a crash found
 -- before, it finds afterwards, or that after one command more, with which the office was busy.
 abbrev pub Turn : Type 0 → Type 0 → (found finds : List Command → State → Type 0) → ℕ → State → Bytes → Next → Bytes
     → State → Bytes → Type 0
 Turn was_open is_open found finds number s input Goes out new rest =
-    (goes : GoesOn number s input out new rest) × (IsAccepted s goes.message → is_open) × StaysFound found finds s new
+    (goes : ExchangeGoesOn number s input out new rest) × (IsAccepted s goes.message → is_open) × StaysFound found finds s new
 Turn was_open is_open found finds number s input (Ends end) out new rest =
     (stops : Stops number s input out end new) × (LastLeavesOpen was_open s stops.last → is_open)
     × StaysFoundOrBusy found finds (IsBusyWith input stops.last) s new
@@ -91,7 +92,7 @@ IsNoEnd _ = Unit {0}
 
 -- an answer was sent after which the connection is closed
 abbrev pub Refused : Option Bytes → Option Bytes → Bool → Status → Next → Type 0
-Refused held held_after bare status next = (sent : Sent) × Sends held held_after (refusal bare (error status)) sent
+Refused held held_after bare status next = (sent : Sent) × Sends held held_after (refusal_text bare (error status)) sent
     × (next ≡ after_sending sent (Ends Closed))
 
 -- what comes after an answer that was sent
@@ -100,8 +101,8 @@ after_answer true = Ends Closed
 after_answer false = Goes
 
 -- an answer was sent
-abbrev pub Replies : Option Bytes → Option Bytes → Bool → Bytes → Next → Type 0
-Replies held held_after closing text next = (sent : Sent) × Sends held held_after text sent
+abbrev pub SendsAnswer : Option Bytes → Option Bytes → Bool → Bytes → Next → Type 0
+SendsAnswer held held_after closing text next = (sent : Sent) × Sends held held_after text sent
     × (next ≡ after_sending sent (after_answer closing))
 
 -- a session of the whole input that a reader had, unless a fault broke it off

@@ -17,7 +17,8 @@ use Rattle.office_core.specs.SoundOffice.{IsSoundOffice, NamesTexts}
 use Rattle.office_core.specs.Soundness.{IsSound, NamesDays}
 use Rattle.office_core.specs.State.{State}
 use Rattle.http_desk.specs.declared.session_end.Ended.{Ended}
-use Rattle.http_desk.specs.Runs.{HasCarriedOut, Visit, ByHttp, Directly, Replied, Answered, CallsNameDays, CallsNameTexts}
+use Rattle.http_desk.specs.Runs.{HasCarriedOut, Visit, ByHttp, Directly, Replied, Answered, CallsNameDays}
+use Rattle.http_desk.specs.Runs.{CallsNameTexts}
 use Rattle.http_desk.specs.Runs.{AllHappen, AllBring, IsVisited, AreVisits, VisitsLeaveOpen}
 use Rattle.http_desk.specs.Session.{Session}
 use Rattle.http_desk.specs.Exchanges.{Talks}

@@ -35,7 +35,7 @@ HasEnded Bound = ⊥
 
 -- ---- without 503 and without a fault, the state and the input determine the output, the end and the new state
 
-pub record IsSame (out out2 : Bytes) (end fin : Ended) (new new2 : State) : Type 0 where
+pub record AreSameOutcomes (out out2 : Bytes) (end fin : Ended) (new new2 : State) : Type 0 where
   pub output : out ≡ out2
   pub ended : end ≡ fin
   pub state : new ≡ new2
@@ -44,7 +44,7 @@ abbrev pub AreDetermined : Type 0
 AreDetermined =
     (s : State) (input out out2 : Bytes) (end fin : Ended) (new new2 : State)
     (a : Session s input out end new) (b : Session s input out2 fin new2)
-    → HasEnded end → HasEnded fin → was_busy a ≡ false → was_busy b ≡ false → IsSame out out2 end fin new new2
+    → HasEnded end → HasEnded fin → was_busy a ≡ false → was_busy b ≡ false → AreSameOutcomes out out2 end fin new new2
 
 -- ---- the bytes of a session of the public show only what is public
 

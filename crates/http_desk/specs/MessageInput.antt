@@ -3,15 +3,18 @@ use Rattle.std.specs.Prelude.{◌≡◌, ℕ, ◌<◌, ◌≤◌, ◌⊎◌, Lis
 use Rattle.std.specs.Io.KnownBytes.{Consumes, IsAtEnd}
 use Rattle.http_messages.specs.declared.head_scan.Scan.TheVariants.{Whole as Ends}
 use Rattle.http_desk.specs.declared.message_input.FoundHead.{FoundHead}
-use Rattle.http_desk.specs.declared.message_input.FoundHead.TheVariants.{Whole, TooLong, Blank, Cut, Failed, Bound, NoMemory}
+use Rattle.http_desk.specs.declared.message_input.FoundHead.TheVariants.{Whole, TooLong, Blank, Cut, Failed, Bound}
+use Rattle.http_desk.specs.declared.message_input.FoundHead.TheVariants.{NoMemory}
 use Rattle.http_desk.specs.declared.message_input.FoundBody.{FoundBody}
-use Rattle.http_desk.specs.declared.message_input.FoundBody.TheVariants.{Whole as BodyWhole, Cut as BodyCut, Failed as BodyFailed, Bound as BodyBound, NoMemory as BodyNoMemory}
+use Rattle.http_desk.specs.declared.message_input.FoundBody.TheVariants.{Whole as BodyWhole, Cut as BodyCut}
+use Rattle.http_desk.specs.declared.message_input.FoundBody.TheVariants.{Failed as BodyFailed, Bound as BodyBound}
+use Rattle.http_desk.specs.declared.message_input.FoundBody.TheVariants.{NoMemory as BodyNoMemory}
 use Rattle.http_messages.specs.HeadScan.{scan}
 use Rattle.http_desk.specs.Messages.{IsBlank, IsHeadCut, IsTooLong, longest_head}
 
 -- what a reader gave was added at the end of a buffer
-abbrev pub Reads : Option (List ℕ) → Option (List ℕ) → List ℕ → List ℕ → Type 0
-Reads left left_after buffer buffer_after = (got : List ℕ) × Consumes left left_after got
+abbrev pub ReadsIntoBuffer : Option (List ℕ) → Option (List ℕ) → List ℕ → List ℕ → Type 0
+ReadsIntoBuffer left left_after buffer buffer_after = (got : List ℕ) × Consumes left left_after got
     × (buffer_after ≡ buffer ++ got)
 
 -- what was found at the front of the input

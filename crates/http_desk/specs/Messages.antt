@@ -7,7 +7,7 @@ use Rattle.http_messages.specs.declared.head_scan.Scan.TheVariants.{Whole, Open}
 use Rattle.http_messages.specs.declared.status.Status.{Status}
 use Rattle.http_messages.specs.HeadScan.{scan}
 use Rattle.http_desk.specs.declared.message_input.TheConstants.{HEAD_LIMIT}
-use Rattle.http_messages.specs.Heads.{Request, Verdict, Refused, Accepted, Judges, is_head, body_length}
+use Rattle.http_messages.specs.Heads.{Request, Verdict, Refused, Accepted, JudgesHead, is_head, body_length}
 
 -- ---- heads
 
@@ -31,7 +31,7 @@ IsTooLong input = (longest_head ≤ length input) × (place : HeadScanState) × 
 pub record HasHead (input block : Bytes) (verdict : Verdict) (more : Bytes) : Type 0 where
   pub ends : scan (take longest_head input) ≡ Whole (length block)
   pub whole : input ≡ block ++ more
-  pub judged : Judges block verdict
+  pub judged : JudgesHead block verdict
 
 -- ---- messages
 
@@ -63,9 +63,9 @@ pub data Last : Type 0 where
   Fails : Bool → Bool → Last
 
 -- whether a whole head waits for 100 Continue; a refused head does not
-abbrev pub waits : Verdict → Bool
-waits (Refused status bare) = false
-waits (Accepted request) = request.waits
+abbrev pub waits_for_continue : Verdict → Bool
+waits_for_continue (Refused status bare) = false
+waits_for_continue (Accepted request) = request.waits
 
 abbrev pub is_bare : Verdict → Bool
 is_bare (Refused status bare) = bare
@@ -78,7 +78,7 @@ SomeHead input test = (block more : Bytes) × (verdict : Verdict) × HasHead inp
 
 -- 100 Continue is written only if it is due, and the body of 503 is left out only for a HEAD
 pub record MayFail (input : Bytes) (leave bare : Bool) : Type 0 where
-  pub continue_due : leave ≡ true → SomeHead input waits
+  pub continue_due : leave ≡ true → SomeHead input waits_for_continue
   pub to_head : bare ≡ true → SomeHead input is_bare
 
 abbrev pub Stands : Bytes → Last → Type 0

@@ -10,8 +10,8 @@ use Rattle.office_core.specs.State.{State}
 use Rattle.http_messages.specs.Targets.{path_of}
 use Rattle.http_desk.specs.declared.session_end.Ended.{Ended}
 use Rattle.http_desk.specs.Messages.{Message}
-use Rattle.http_desk.specs.Runs.{Meaning, Puts, Fixed, Means, all_messages}
-use Rattle.http_desk.specs.Session.{Session, message_answer, state_after}
+use Rattle.http_desk.specs.Runs.{Meaning, Puts, Fixed, HasMeaning, all_messages}
+use Rattle.http_desk.specs.Session.{Session, message_answer, state_after_message}
 
 -- a request below /public/, with any method
 abbrev pub IsBelowPublic : Message → Type 0
@@ -28,7 +28,7 @@ IsForThePublic (Fixed told) = told.is_text ≡ false
 -- question and is printed only from units that are published in this state
 pub record IsAnsweredInPublic (s : State) (message : Message) : Type 0 where
   pub meaning : Meaning
-  pub means : Means message meaning
+  pub means : HasMeaning message meaning
   pub asks : IsForThePublic meaning
   pub prints : (message_answer s message).is_text ≡ true →
       (asked : Query) × (meaning ≡ Puts (ToTell asked)) × PrintsPublished s asked (message_answer s message).body
@@ -37,7 +37,7 @@ pub record IsAnsweredInPublic (s : State) (message : Message) : Type 0 where
 abbrev pub AreAnsweredInPublic : State → List Message → Type 0
 AreAnsweredInPublic s [] = Unit {0}
 AreAnsweredInPublic s (message ∷ later) =
-    (IsBelowPublic message → IsAnsweredInPublic s message) × AreAnsweredInPublic (state_after s message) later
+    (IsBelowPublic message → IsAnsweredInPublic s message) × AreAnsweredInPublic (state_after_message s message) later
 
 -- In a session all messages below /public/ are answered so. The answers to a session's messages are the bytes that it
 -- writes (`Session.says`).

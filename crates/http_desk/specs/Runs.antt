@@ -15,7 +15,7 @@ use Rattle.http_messages.specs.Answers.{Answer, of_reply, of_told, response}
 use Rattle.http_desk.specs.declared.session_end.Ended.{Ended}
 use Rattle.http_desk.specs.AcceptedMessages.{LeavesOpen}
 use Rattle.http_desk.specs.Messages.{Message, Last, Nothing, HeadCut, BodyCut, NoHead, Refuses, Answers, Fails}
-use Rattle.http_desk.specs.Session.{Session, message_answer, state_after}
+use Rattle.http_desk.specs.Session.{Session, message_answer, state_after_message}
 use Rattle.http_desk.specs.Exchanges.{Through}
 
 -- ---- one message
@@ -32,15 +32,15 @@ carried_out s (Puts (ToTell query)) = (of_told (answer s query), s)
 carried_out s (Fixed told) = (told, s)
 
 -- in every state, the answer to the message is this meaning carried out
-abbrev pub Means : Message → Meaning → Type 0
-Means message meaning = (s : State) → response s message.request message.body ≡ carried_out s meaning
+abbrev pub HasMeaning : Message → Meaning → Type 0
+HasMeaning message meaning = (s : State) → response s message.request message.body ≡ carried_out s meaning
 
 -- the messages have these meanings, one by one
 abbrev pub AllMean : List Message → List Meaning → Type 0
 AllMean [] [] = Unit {0}
 AllMean [] (meaning ∷ meanings) = ⊥
 AllMean (message ∷ messages) [] = ⊥
-AllMean (message ∷ messages) (meaning ∷ meanings) = Means message meaning × AllMean messages meanings
+AllMean (message ∷ messages) (meaning ∷ meanings) = HasMeaning message meaning × AllMean messages meanings
 
 -- the commands among them
 abbrev pub commands_among : List Meaning → List Command
@@ -69,7 +69,7 @@ all_messages session = session.messages ++ message_in session.stops.last
 -- the answers to messages, each in the state that those before it left
 abbrev pub answers_of : State → List Message → List Answer
 answers_of s [] = []
-answers_of s (message ∷ later) = message_answer s message ∷ answers_of (state_after s message) later
+answers_of s (message ∷ later) = message_answer s message ∷ answers_of (state_after_message s message) later
 
 abbrev pub machines_answers : State → List Meaning → List Answer
 machines_answers s [] = []
@@ -159,18 +159,18 @@ module _ {M : Type 0} (represents : M → State → Type 0) (is_intact is_open :
 -- ---- their commands
 
 -- the commands of one visit: those of a session; or the one of a call, unless the office was busy
-abbrev pub Brings : State → Visit → List Command → State → Type 0
-Brings s (ByHttp input output end) commands new =
+abbrev pub VisitBrings : State → Visit → List Command → State → Type 0
+VisitBrings s (ByHttp input output end) commands new =
     (session : Session s input output end new) × HasCarriedOut session commands
-Brings s (Directly (ToDo command) (Some told)) commands new =
+VisitBrings s (Directly (ToDo command) (Some told)) commands new =
     (commands ≡ command ∷ []) × Happens s (Directly (ToDo command) (Some told)) new
-Brings s (Directly (ToTell query) (Some told)) commands new =
+VisitBrings s (Directly (ToTell query) (Some told)) commands new =
     (commands ≡ []) × Happens s (Directly (ToTell query) (Some told)) new
-Brings s (Directly asked None) commands new = (commands ≡ []) × (new ≡ s)
+VisitBrings s (Directly asked None) commands new = (commands ≡ []) × (new ≡ s)
 
 -- the commands of all visits, in order
 abbrev pub AllBring : State → List Visit → List Command → State → Type 0
 AllBring s [] commands new = (commands ≡ []) × (new ≡ s)
 AllBring s (visit ∷ later) commands new =
     (first others : List Command) × (mid : State) × (commands ≡ first ++ others)
-    × Brings s visit first mid × AllBring mid later others new
+    × VisitBrings s visit first mid × AllBring mid later others new

@@ -9,7 +9,8 @@ use Rattle.http_messages.specs.declared.status.Status.TheVariants.{BadRequest, B
 use Rattle.http_messages.specs.Heads.{is_head}
 use Rattle.http_messages.specs.Answers.{Answer, error, answer_text, continue_text, response}
 use Rattle.http_desk.specs.declared.session.TheConstants.{ANSWERS}
-use Rattle.http_desk.specs.Messages.{Message, Cuts, Last, Nothing, HeadCut, BodyCut, NoHead, Refuses, Answers, Fails, Stands}
+use Rattle.http_desk.specs.Messages.{Message, Cuts, Last, Nothing, HeadCut, BodyCut, NoHead, Refuses, Answers, Fails}
+use Rattle.http_desk.specs.Messages.{Stands}
 
 -- ---- what is written for a message
 
@@ -24,14 +25,14 @@ abbrev pub continue_if : Bool → Bytes
 continue_if true = continue_text
 continue_if false = []
 
-abbrev pub refusal : Bool → Answer → Bytes
-refusal bare a = answer_text bare true a
+abbrev pub refusal_text : Bool → Answer → Bytes
+refusal_text bare a = answer_text bare true a
 
 abbrev pub message_answer : State → Message → Answer
 message_answer s message = (response s message.request message.body).0
 
-abbrev pub state_after : State → Message → State
-state_after s message = (response s message.request message.body).1
+abbrev pub state_after_message : State → Message → State
+state_after_message s message = (response s message.request message.body).1
 
 -- 100 Continue if it is due, and the answer
 abbrev pub message_text : Bool → State → Message → Bytes
@@ -41,21 +42,21 @@ message_text closing s message =
 -- what is written for messages after whose answers the connection stays open
 abbrev pub text_after_all : State → List Message → Bytes
 text_after_all s [] = []
-text_after_all s (message ∷ messages) = message_text false s message ++ text_after_all (state_after s message) messages
+text_after_all s (message ∷ messages) = message_text false s message ++ text_after_all (state_after_message s message) messages
 
-abbrev pub state_after_all : State → List Message → State
-state_after_all s [] = s
-state_after_all s (message ∷ messages) = state_after_all (state_after s message) messages
+abbrev pub state_after_messages : State → List Message → State
+state_after_messages s [] = s
+state_after_messages s (message ∷ messages) = state_after_messages (state_after_message s message) messages
 
 -- what is written in the last place
 abbrev pub last_text : ℕ → State → Last → Bytes
 last_text number s Nothing = []
 last_text number s HeadCut = []
 last_text number s (BodyCut request) = continue_if request.waits
-last_text number s NoHead = refusal false (error BadRequest)
-last_text number s (Refuses status bare) = refusal bare (error status)
+last_text number s NoHead = refusal_text false (error BadRequest)
+last_text number s (Refuses status bare) = refusal_text bare (error status)
 last_text number s (Answers message) = message_text (closes number message) s message
-last_text number s (Fails leave bare) = continue_if leave ++ refusal bare (error Busy)
+last_text number s (Fails leave bare) = continue_if leave ++ refusal_text bare (error Busy)
 
 abbrev pub state_after_last : State → Last → State
 state_after_last s Nothing = s
@@ -63,19 +64,19 @@ state_after_last s HeadCut = s
 state_after_last s (BodyCut request) = s
 state_after_last s NoHead = s
 state_after_last s (Refuses status bare) = s
-state_after_last s (Answers message) = state_after s message
+state_after_last s (Answers message) = state_after_message s message
 state_after_last s (Fails leave bare) = s
 
 -- ---- how it ends
 
-abbrev pub IsStopped : Last → Type 0
-IsStopped Nothing = ⊥
-IsStopped HeadCut = Unit {0}
-IsStopped (BodyCut request) = Unit {0}
-IsStopped NoHead = ⊥
-IsStopped (Refuses status bare) = ⊥
-IsStopped (Answers message) = ⊥
-IsStopped (Fails leave bare) = ⊥
+abbrev pub IsCutOff : Last → Type 0
+IsCutOff Nothing = ⊥
+IsCutOff HeadCut = Unit {0}
+IsCutOff (BodyCut request) = Unit {0}
+IsCutOff NoHead = ⊥
+IsCutOff (Refuses status bare) = ⊥
+IsCutOff (Answers message) = ⊥
+IsCutOff (Fails leave bare) = ⊥
 
 -- the answer in the last place closes the connection
 abbrev pub IsClosing : ℕ → Last → Type 0
@@ -89,10 +90,10 @@ IsClosing number (Fails leave bare) = Unit {0}
 
 abbrev pub EndsSo : ℕ → Last → Ended → Type 0
 EndsSo number last End = last ≡ Nothing
-EndsSo number last Cut = IsStopped last
+EndsSo number last Cut = IsCutOff last
 EndsSo number last Closed = IsClosing number last
 -- a read that fails leaves what the end of the input would leave there
-EndsSo number last ReadFault = (last ≡ Nothing) ⊎ IsStopped last
+EndsSo number last ReadFault = (last ≡ Nothing) ⊎ IsCutOff last
 -- in any message's place, a write may fail or the turns may be used up
 EndsSo number last WriteFault = Unit {0}
 EndsSo number last Bound = Unit {0}
@@ -131,5 +132,5 @@ pub record Session (s : State) (input output : Bytes) (end : Ended) (new : State
   pub cut : Cuts input messages rest
   pub stay : AllByRecursion StaysOpen messages
   pub few : length messages < most_answers
-  pub stops : Stops (suc (length messages)) (state_after_all s messages) rest out end new
+  pub stops : Stops (suc (length messages)) (state_after_messages s messages) rest out end new
   pub says : output ≡ text_after_all s messages ++ out

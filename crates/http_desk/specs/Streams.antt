@@ -18,7 +18,7 @@ pub record Stream : Type 0 where
   pub flushed : Bool  -- all that was written was flushed, as of a reader, which writes nothing
 
 -- it has not been called yet
-pub record IsNew (stream : Stream) : Type 0 where
+pub record IsUncalled (stream : Stream) : Type 0 where
   pub none_failed : stream.failed ≡ false
   pub none_interrupted : stream.interrupted ≡ false
   pub none_made : stream.calls ≡ 0

@@ -3,7 +3,7 @@ use Rattle.std.specs.Prelude.{◌≡◌, ◌++◌, ℕ, Bool, true, false, [], �
 use Rattle.isad_core.specs.Texts.{Bytes}
 use Rattle.office_core.specs.State.{State}
 use Rattle.office_core.specs.Rules.{state_after}
-use Rattle.office_core.specs.WorkedExamples.{office, import, draft, docks}
+use Rattle.office_core.specs.WorkedExamples.{new_office, import, draft, docks}
 use Rattle.http_desk.specs.Messages.{Message}
 use Rattle.http_desk.specs.Session.{message_text}
 
@@ -19,15 +19,15 @@ get target = of (codes "GET") target None false
 
 -- an office with a fonds and a series
 abbrev pub filled_office : State
-filled_office = state_after office (import docks ∷ [])
+filled_office = state_after new_office (import docks ∷ [])
 
 -- the same, with the series a draft
 abbrev pub with_draft : State
 with_draft = state_after filled_office (draft 2 ∷ [])
 
 -- the message is answered with these bytes; the connection is closed after them if its head asks for that
-abbrev pub Writes : State → Message → Bytes → Type 0
-Writes s message text = message_text message.request.closes s message ≡ text
+abbrev pub IsAnsweredWith : State → Message → Bytes → Type 0
+IsAnsweredWith s message text = message_text message.request.closes s message ≡ text
 
 -- an answer with a text, after which the connection stays open
 abbrev pub fine_text : (length : Bytes) → Bytes → Bytes
@@ -48,15 +48,15 @@ abbrev pub not_found : Bytes
 not_found = json_text (codes "404 Not Found") (codes "21") [] (codes "{\"error\":\"not found\"}")
 
 pub record Answered : Type 0 where
-  pub fonds : Writes filled_office (get (codes "/public/fonds")) fonds_list
-  pub nothing : Writes office (of (codes "GET") (codes "/public/fonds") None true)
+  pub fonds : IsAnsweredWith filled_office (get (codes "/public/fonds")) fonds_list
+  pub nothing : IsAnsweredWith new_office (of (codes "GET") (codes "/public/fonds") None true)
       (fine_text (codes "0\r\nConnection: close") [])
-  pub head : Writes filled_office (of (codes "HEAD") (codes "/public/fonds") None false)
+  pub head : IsAnsweredWith filled_office (of (codes "HEAD") (codes "/public/fonds") None false)
       (json_text (codes "405 Method Not Allowed") (codes "30") (codes "Allow: GET\r\n") [])
-  pub draft : Writes with_draft (get (codes "/public/units/2")) not_found
-  pub unknown : Writes filled_office (get (codes "/public/units/99999")) not_found
-  pub no_route : Writes filled_office (get (codes "/public/units/02")) not_found
-  pub no_length : Writes filled_office (of (codes "POST") (codes "/desk/run") None false)
+  pub draft : IsAnsweredWith with_draft (get (codes "/public/units/2")) not_found
+  pub unknown : IsAnsweredWith filled_office (get (codes "/public/units/99999")) not_found
+  pub no_route : IsAnsweredWith filled_office (get (codes "/public/units/02")) not_found
+  pub no_length : IsAnsweredWith filled_office (of (codes "POST") (codes "/desk/run") None false)
       (json_text (codes "411 Length Required") (codes "27") [] (codes "{\"error\":\"length required\"}"))
-  pub refused : Writes filled_office (of (codes "POST") (codes "/desk/run?x") (Some 0) false)
+  pub refused : IsAnsweredWith filled_office (of (codes "POST") (codes "/desk/run?x") (Some 0) false)
       (json_text (codes "409 Conflict") (codes "37") [] (codes "{\"code\":24,\"refused\":\"NothingToMove\"}"))

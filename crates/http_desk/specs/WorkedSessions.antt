@@ -28,7 +28,7 @@ page_request = codes "GET /public/units/2 HTTP/1.1\r\nHost: x\r\n\r\n"
 abbrev pub one_unit : Bytes
 one_unit = json_text (codes "200 OK") (codes "11") [] (codes "{\"units\":1}")
 
-pub record Talked : Type 0 where
+pub record SessionsTalked : Type 0 where
   pub twice : Session filled_office (list_request ++ list_request) (fonds_list ++ fonds_list) End filled_office
   pub cut : Session filled_office (list_request ++ half_a_request) fonds_list Cut filled_office
   -- the draft is unknown from the next message on

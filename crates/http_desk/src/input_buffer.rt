@@ -1,7 +1,7 @@
 //! Reads more bytes into a buffer, and takes messages from its front.
 ghost use Rattle.std.specs.Prelude.{◌≡◌, ◌≢◌, ◌+◌, ◌<◌, ◌≤◌, Err, [], length, take, drop, IfOk, IfErr, OnOk};
 ghost use Rattle.std.specs.Io.KnownBytes.{Consumes, IsAtEnd};
-ghost use Rattle.http_desk.specs.MessageInput.{Reads};
+ghost use Rattle.http_desk.specs.MessageInput.{ReadsIntoBuffer};
 ghost use Rattle.http_desk.specs.StreamFaults.{QuietRead, QuietFill, StepsAsCalled, once_failed, fill_failed};
 
 use crate::streams::{Source, Undone};
@@ -49,7 +49,7 @@ fn read_once<R: Read>(reader: &mut Source<'_, R>, chunk: &mut [u8]) -> Result<us
 
 /// Reads once, and again if that was interrupted, in at most as many turns as are left.
 pub fn fill<R: Read>(reader: &mut Source<'_, R>, buffer: &mut Vec<u8>) -> Filled
-    ensures got { Reads reader.old.bytes reader.new.bytes buffer.old.items buffer.new.items }
+    ensures got { ReadsIntoBuffer reader.old.bytes reader.new.bytes buffer.old.items buffer.new.items }
     ensures same { result ≢ Filled.More → buffer.new.items ≡ buffer.old.items }
     ensures more { result ≡ Filled.More → length buffer.old.items < length buffer.new.items }
     ensures at_end { result ≡ Filled.AtEnd → IsAtEnd reader.new.bytes }

@@ -1,7 +1,7 @@
 //! Gathers a head, or a body, in a buffer.
 ghost use Rattle.std.specs.Prelude.{◌≡◌, ◌+◌, ◌≤◌, length, take, unwrap_or};
 ghost use Rattle.http_desk.specs.StreamFaults.{QuietHead, QuietBody, StepsAsCalled, head_failed, body_failed};
-ghost use Rattle.http_desk.specs.MessageInput.{FindsHead, FindsBody, AtEndIfHead, AtEndIfBody, Reads};
+ghost use Rattle.http_desk.specs.MessageInput.{FindsHead, FindsBody, AtEndIfHead, AtEndIfBody, ReadsIntoBuffer};
 ghost use Rattle.http_desk.specs.Messages.{longest_head};
 ghost use Rattle.http_messages.specs.HeadScan.{scan};
 
@@ -74,7 +74,7 @@ fn look(buffer: &[u8], seen: usize, place: HeadScanState) -> Scan
 
 /// Reads until the buffer begins with a whole head.
 pub fn gather_head<R: Read>(reader: &mut Source<'_, R>, buffer: &mut Vec<u8>) -> FoundHead
-    ensures got { Reads reader.old.bytes reader.new.bytes buffer.old.items buffer.new.items }
+    ensures got { ReadsIntoBuffer reader.old.bytes reader.new.bytes buffer.old.items buffer.new.items }
     ensures found { FindsHead buffer.new.items result }
     ensures at_end { AtEndIfHead reader.new.bytes result }
     ensures calls { StepsAsCalled (head_failed result) (result ≡ FoundHead.Bound) (QuietHead result
@@ -115,7 +115,7 @@ pub fn gather_body<R: Read>(
     buffer: &mut Vec<u8>,
     end: usize,
 ) -> FoundBody
-    ensures got { Reads reader.old.bytes reader.new.bytes buffer.old.items buffer.new.items }
+    ensures got { ReadsIntoBuffer reader.old.bytes reader.new.bytes buffer.old.items buffer.new.items }
     ensures found { FindsBody end buffer.new.items result }
     ensures at_end { AtEndIfBody reader.new.bytes result }
     ensures calls { StepsAsCalled (body_failed result) (result ≡ FoundBody.Bound)

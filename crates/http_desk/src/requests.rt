@@ -76,7 +76,7 @@ fn lacks_length(post: bool, head: Head) -> bool
 /// What a route is for, with this body.
 fn purpose_of_route(alloc: Global, body: Vec<u8>, route: Route<'_>) -> Result<Purpose, AllocError>
     ensures means { IfOk result (λ purpose. (s : State) → carried_out s (meaning_of purpose)
-        ≡ spec.carried_out s body.items (route_in route.entry)) }
+        ≡ spec.route_carried_out s body.items (route_in route.entry)) }
     ensures posts { IfOk result (λ purpose. routes.is_post (route_in route.entry) ≡ true → IsNoQuestion purpose) }
 {
     match route {

@@ -12,9 +12,10 @@ ghost use Rattle.http_desk.specs.Laws.{HasEnded};
 ghost use Rattle.http_desk.specs.Messages.{HasHead};
 ghost use Rattle.http_desk.specs.AnswerOutput.{Sends};
 ghost use Rattle.http_desk.specs.Bounds.{ExchangeBounded, StopsBounded, TalksBounded};
-ghost use Rattle.http_desk.specs.Session.{continue_if, most_answers, refusal};
+ghost use Rattle.http_desk.specs.Session.{continue_if, most_answers, refusal_text};
 ghost use Rattle.http_desk.specs.Streams.{most_reads};
-ghost use Rattle.http_desk.specs.Exchanges.{EndsAsCalled, Exchange, Refused, Replies, StaysFailed, Talks, TalksWhole};
+ghost use Rattle.http_desk.specs.Exchanges.{EndsAsCalled, Exchange, Refused, SendsAnswer, StaysFailed, Talks};
+ghost use Rattle.http_desk.specs.Exchanges.{TalksWhole};
 ghost use Rattle.http_desk.specs.Exchanges.{Through, Turn, WritesAsCalled, after_sending};
 ghost use Rattle.http_desk.specs.StreamFaults.{IsQuiet, IsUsedUp, TakesCalls, TakesTurns, TellsSomeWriteBound};
 ghost use Rattle.http_desk.specs.StreamFaults.{TellsWriteBound, TextIsUsedUp, send_failed};
@@ -51,7 +52,7 @@ fn after(sent: Sent, next: Next) -> Next
 fn refuse<W: Write>(writer: &mut Sink<'_, W>, bare: bool, status: Status) -> Next
     ensures sent { Refused writer.old.bytes writer.new.bytes bare status result }
     ensures stream { WritesAsCalled writer.old writer.new result }
-    ensures used_up { TellsWriteBound (refusal bare (error status)) writer.new result }
+    ensures used_up { TellsWriteBound (refusal_text bare (error status)) writer.new result }
 {
     let sent = send_answer(writer, bare, true, AnswerView::fixed_answer(status));
     after(sent, Next::Ends(Ended::Closed))
@@ -64,7 +65,7 @@ fn reply<W: Write>(
     closing: bool,
     answer: AnswerView<'_>,
 ) -> Next
-    ensures sent { Replies writer.old.bytes writer.new.bytes closing
+    ensures sent { SendsAnswer writer.old.bytes writer.new.bytes closing
         (answer_text bare closing (answer_of_view answer.entry)) result }
     ensures stream { WritesAsCalled writer.old writer.new result }
     ensures used_up { TellsWriteBound (answer_text bare closing (answer_of_view answer.entry)) writer.new result }
@@ -86,13 +87,13 @@ fn reply_or_refuse<W: Write>(
     answered: Result<AnswerView<'_>, Busy>,
 ) -> Next
     ensures sent { MatchResult answered.entry
-        (λ view. Replies writer.old.bytes writer.new.bytes closing
+        (λ view. SendsAnswer writer.old.bytes writer.new.bytes closing
         (answer_text bare closing (answer_of_view view)) result)
         (λ _. Refused writer.old.bytes writer.new.bytes false Status.Busy result) }
     ensures stream { WritesAsCalled writer.old writer.new result }
     ensures used_up { MatchResult answered.entry
         (λ view. TellsWriteBound (answer_text bare closing (answer_of_view view)) writer.new result)
-        (λ _. TellsWriteBound (refusal false (error Status.Busy)) writer.new result) }
+        (λ _. TellsWriteBound (refusal_text false (error Status.Busy)) writer.new result) }
 {
     match answered {
         Ok(answer) => reply(writer, bare, closing, answer),

@@ -2,7 +2,8 @@
 ghost use Rattle.std.specs.Prelude.{◌≡◌, ◌≢◌, ◌+◌, ◌<◌, ◌≤◌, ◌||◌, ◌^◌, [], length, take, nat_lt, IfOk, OnErr};
 ghost use Rattle.std.specs.Io.KnownBytes.{Appends, ReadConsumes};
 ghost use Rattle.std.specs.Io.{ReadsAtMost};
-ghost use Rattle.http_desk.specs.Streams.{IsNew, after_flush, after_write, has_failed, most_calls, most_reads, more_writes};
+ghost use Rattle.http_desk.specs.Streams.{IsUncalled, after_flush, after_write, has_failed, most_calls, most_reads};
+ghost use Rattle.http_desk.specs.Streams.{more_writes};
 ghost use Rattle.http_desk.specs.Streams.{one_more_call, was_interrupted};
 
 use crate::message_input::HEAD_LIMIT;
@@ -62,7 +63,7 @@ impl<'a, R: Read> Source<'a, R> {
     pub fn new(reader: &'a mut R) -> Source<'a, R>
         ensures same { result.name ≡ reader.entry.ghost_name }
         ensures bytes { result.bytes ≡ R.remaining reader.old }
-        ensures uncalled { IsNew result }
+        ensures uncalled { IsUncalled result }
     {
         Source {
             reader,
@@ -191,7 +192,7 @@ impl<'a, W: Write> Sink<'a, W> {
     pub fn new(writer: &'a mut W) -> Sink<'a, W>
         ensures same { result.name ≡ writer.entry.ghost_name }
         ensures bytes { result.bytes ≡ W.contents writer.old }
-        ensures uncalled { IsNew result }
+        ensures uncalled { IsUncalled result }
     {
         Sink {
             writer,

@@ -1,7 +1,7 @@
 //! Small cases of the definitions, computed.
 ghost use Rattle.http_desk.specs.WorkedExamples.{Answered};
 ghost use Rattle.http_desk.specs.WorkedRuns.{Carried};
-ghost use Rattle.http_desk.specs.WorkedSessions.{Talked};
+ghost use Rattle.http_desk.specs.WorkedSessions.{SessionsTalked};
 
 /// Answers, to the byte.
 pub fn worked_answers()
@@ -10,7 +10,7 @@ pub fn worked_answers()
 
 /// Whole sessions, to the byte.
 pub fn worked_sessions()
-    ensures { Talked }
+    ensures { SessionsTalked }
 {}
 
 /// What messages mean to the machine, and the commands of whole sessions.

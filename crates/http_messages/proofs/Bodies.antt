@@ -1,7 +1,7 @@
 -- Lemmas on bodies.
 use Rattle.std.proofs.Common.{◌≡◌, Bool, true, false, Some, None, refl, sym}
-use Rattle.std.specs.Str.{is_utf8}
 use Rattle.std.proofs.lemmas.Str.{IsUtf8-from_is_utf8, is_utf8-from_IsUtf8}
+use Rattle.std.specs.Str.{is_utf8}
 use Rattle.serde_json.specs.Data.{Data}
 use Rattle.serde_json.specs.Read.{read}
 use Rattle.http_messages.specs.Members.{value_of}

@@ -1,8 +1,9 @@
 -- Which of a router's rows a path finds, where a parameter stands at the end of a row alone and no two rows take one
 -- path.
-use Rattle.std.proofs.Common.{◌≡◌, ◌<◌, ◌≤◌, ◌-◌, ◌==◌, ℕ, zero, suc, List, [], ◌∷◌, length, drop, get_or, Option, Some, None, Bool, true, false, cond, refl, ap, ◌∙◌, subst, arith, drop_of_length-le}
-use Rattle.matchit.specs.Rows.{RowsOf, comes_before}
+use Rattle.std.proofs.Common.{◌≡◌, ◌<◌, ◌≤◌, ◌-◌, ◌==◌, ℕ, zero, suc, List, [], ◌∷◌, length, drop, get_or, Option, Some}
+use Rattle.std.proofs.Common.{None, Bool, true, false, cond, refl, ap, ◌∙◌, subst, arith, drop_of_length-le}
 use Rattle.matchit.specs.Order.{placed}
+use Rattle.matchit.specs.Rows.{RowsOf, comes_before}
 use Rattle.matchit.specs.Seek.{own, step, or_else, seek, first, param_step, has_slash, segment, longest_from}
 use Rattle.http_messages.proofs.Common.{ltb, nat_tests, not, ◌&&◌, ◌||◌}
 use Rattle.http_messages.proofs.Bodies.{never_true}

@@ -1,19 +1,23 @@
 -- What a path leads to in the router of the table, and by the definitions.
-use Rattle.std.proofs.Common.{◌≡◌, ◌<◌, ◌≤◌, ◌+◌, ◌-◌, ◌==◌, ℕ, zero, suc, List, [], ◌∷◌, length, map, drop, get_or, Option, Some, None, Bool, true, false, cond, refl, sym, ap, ◌∙◌, subst, arith, lit<}
-use Rattle.std.specs.Str.{is_utf8}
-use Rattle.std.proofs.lemmas.Str.{IsUtf8-from_ascii, IsUtf8-from_is_utf8, is_utf8-from_IsUtf8, IsUtf8-drop, IsCharBoundary-after_ascii}
+use Rattle.std.proofs.Common.{◌≡◌, ◌<◌, ◌≤◌, ◌+◌, ◌-◌, ◌==◌, ℕ, zero, suc, List, [], ◌∷◌, length, map, drop, get_or}
+use Rattle.std.proofs.Common.{Option, Some, None, Bool, true, false, cond, refl, sym, ap, ◌∙◌, subst, arith, lit<}
 use Rattle.std.proofs.lemmas.List.{take_rest}
-use Rattle.matchit.specs.Rows.{RowsOf, param_token}
-use Rattle.matchit.specs.Seek.{first, has_slash}
+use Rattle.std.proofs.lemmas.Str.{IsUtf8-from_ascii, IsUtf8-from_is_utf8, is_utf8-from_IsUtf8, IsUtf8-drop}
+use Rattle.std.proofs.lemmas.Str.{IsCharBoundary-after_ascii}
+use Rattle.std.specs.Str.{is_utf8}
+use Rattle.matchit.proofs.OnLiterals.{matchit_on_literals}
 use Rattle.matchit.specs.Params.{walk, wild_from, wild_stop, part_of, AllText}
 use Rattle.matchit.specs.Router.{RouteOf}
-use Rattle.matchit.proofs.OnLiterals.{matchit_on_literals}
-use Rattle.http_messages.specs.declared.table.Leads.{Leads}
-use Rattle.http_messages.specs.Routes.{or_else}
+use Rattle.matchit.specs.Rows.{RowsOf, param_token}
+use Rattle.matchit.specs.Seek.{first, has_slash}
 use Rattle.http_messages.specs.Router.{rows_of_table, first_part}
-use Rattle.http_messages.proofs.Common.{Bytes, IsAscii, IsUtf8, Route, first_route, leads_to, leb, list_all, list_any, ltb, nat_tests, parameter_in, route_of, table, ◌&&◌}
+use Rattle.http_messages.specs.Routes.{or_else}
+use Rattle.http_messages.specs.declared.table.Leads.{Leads}
+use Rattle.http_messages.proofs.Common.{Bytes, IsAscii, IsUtf8, Route, first_route, leads_to, leb, list_all, list_any}
+use Rattle.http_messages.proofs.Common.{ltb, nat_tests, parameter_in, route_of, route_table, ◌&&◌}
 use Rattle.http_messages.proofs.Bodies.{never_true}
-use Rattle.http_messages.proofs.Matched.{hits, picked, settled, all_shaped, all_apart, all_apart_from, AllBytes, first_picked, picked_settled, none_picked, both_left, both_right}
+use Rattle.http_messages.proofs.Matched.{hits, picked, settled, all_shaped, all_apart, all_apart_from, AllBytes}
+use Rattle.http_messages.proofs.Matched.{first_picked, picked_settled, none_picked, both_left, both_right}
 
 -- ---- the rows of the router
 
@@ -40,7 +44,7 @@ row (pattern, to) = (
 )
 
 abbrev rows : RowsOf (RouteOf Leads)
-rows = map row table
+rows = map row route_table
 
 abbrev is_ascii : Bytes → Bool
 is_ascii bytes = list_all (λ b. ltb b 128) bytes
@@ -62,7 +66,7 @@ rows_apart = refl
 settled_apart : all_apart (settled rows) ≡ true
 settled_apart = refl
 
-table_plain : list_all is_plain table ≡ true
+table_plain : list_all is_plain route_table ≡ true
 table_plain = refl
 
 -- ---- what a pattern takes
@@ -282,7 +286,7 @@ table_finds p h u =
     let same : first rows_of_table p ≡ picked rows p =
     ap (λ r. first r p) table_rows ∙ first_picked (settled rows) p h rows_shaped settled_apart ∙ picked_settled rows p rows_apart in
     let text = is_utf8-from_IsUtf8 p u in
-    rw (same, text) (finds table p u table_plain rows_apart)
+    rw (same, text) (finds route_table p u table_plain rows_apart)
 
 pub leads_on : (held : RowsOf (RouteOf Leads)) (p q : Bytes) (r : RouteOf Leads) → AllBytes p → IsUtf8 p
     → held ≡ rows_of_table → first held p ≡ Some r → q ≡ p

@@ -1,12 +1,13 @@
 -- Lemmas on where a head ends.
-use Rattle.std.proofs.Common.{◌⊎◌, inl, inr, min, zero, take_all, ◌≡◌, ◌<◌, ◌≤◌, ℕ, suc, ◌+◌, ◌-◌, drop, List, [], ◌∷◌, ◌++◌, length, take, refl, sym, ap, ◌∙◌, arith, zero-add, Option, None, Some, length-take}
+use Rattle.std.proofs.Common.{◌⊎◌, inl, inr, min, zero, take_all, ◌≡◌, ◌<◌, ◌≤◌, ℕ, suc, ◌+◌, ◌-◌, drop, List, [], ◌∷◌}
+use Rattle.std.proofs.Common.{◌++◌, length, take, refl, sym, ap, ◌∙◌, arith, zero-add, Option, None, Some, length-take}
 use Rattle.std.proofs.Math.Seq.{take-add}
 use Rattle.std.proofs.lemmas.Bool.{cases_lt}
+use Rattle.http_messages.specs.HeadScan.{scan}
 use Rattle.http_messages.specs.declared.head_scan.HeadScanState.{HeadScanState}
 use Rattle.http_messages.specs.declared.head_scan.HeadScanState.TheVariants.{Lead}
 use Rattle.http_messages.specs.declared.head_scan.Scan.{Scan}
 use Rattle.http_messages.specs.declared.head_scan.Scan.TheVariants.{Whole, Open}
-use Rattle.http_messages.specs.HeadScan.{scan}
 use Rattle.http_messages.proofs.Common.{found_after, next_place, one_more, scan_from}
 
 -- what is found after n bytes more

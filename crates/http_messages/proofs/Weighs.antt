@@ -3,7 +3,8 @@ use Rattle.std.proofs.Common.{◌≡◌, ℕ, List, Bool, true, false, refl, sym
 use Rattle.std.proofs.lemmas.Bool.{not-true}
 use Rattle.std.specs.Prelude.{◌==◌}
 use Rattle.http_messages.specs.declared.status.Status.TheVariants.{NotImplemented}
-use Rattle.http_messages.proofs.Common.{Field, Refused, codes, first_length, hosts, is_head, is_named, list_any, nat_lt, not, weigh, weigh_length, ◌&&◌, ◌||◌}
+use Rattle.http_messages.proofs.Common.{Field, Refused, codes, first_length, hosts, is_head, is_named, list_any, nat_lt}
+use Rattle.http_messages.proofs.Common.{not, weigh, weigh_length, ◌&&◌, ◌||◌}
 
 abbrev hosts_bad : ℕ → List Field → Bool
 hosts_bad minor pairs = nat_lt 1 (hosts pairs) || (minor == 1 && (hosts pairs == 0))

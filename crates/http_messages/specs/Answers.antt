@@ -1,5 +1,6 @@
 -- The answer to a request, and its bytes (RFC 9112, section 4; RFC 9110, sections 15 and 8).
-use Rattle.std.specs.Prelude.{ℕ, ◌&&◌, ◌++◌, Bool, true, false, not, [], length, Option, Some, None, is_none, Ok, Err, decimal, if◌then◌else◌, codes}
+use Rattle.std.specs.Prelude.{ℕ, ◌&&◌, ◌++◌, Bool, true, false, not, [], length, Option, Some, None, is_none, Ok, Err}
+use Rattle.std.specs.Prelude.{decimal, if◌then◌else◌, codes}
 use Rattle.std.specs.Str.{bytes_eq}
 use Rattle.isad_core.specs.Texts.{Bytes}
 use Rattle.office_core.specs.declared.command.Command.{Command}
@@ -11,7 +12,9 @@ use Rattle.office_core.specs.Rules.{Reply, step}
 use Rattle.office_core.specs.Json.{reply_text}
 use Rattle.office_core.specs.Queries.{answer}
 use Rattle.http_messages.specs.declared.status.Status.{Status}
-use Rattle.http_messages.specs.declared.status.Status.TheVariants.{Fine, BadRequest, NotFound, MethodNotAllowed, Conflict, LengthRequired, TooLarge, NotImplemented, Busy}
+use Rattle.http_messages.specs.declared.status.Status.TheVariants.{Fine, BadRequest, NotFound, MethodNotAllowed}
+use Rattle.http_messages.specs.declared.status.Status.TheVariants.{Conflict, LengthRequired, TooLarge, NotImplemented}
+use Rattle.http_messages.specs.declared.status.Status.TheVariants.{Busy}
 use Rattle.http_messages.specs.Heads.{Request}
 use Rattle.http_messages.specs.Targets.{path_of}
 use Rattle.http_messages.specs.Routes.{Route, Asks, Does, TakesFile, TakesForm, route_of, is_post, method_of}
@@ -25,16 +28,16 @@ pub record Answer : Type 0 where
 
 -- ---- statuses
 
-abbrev pub number_of : Status → ℕ
-number_of Fine = 200
-number_of BadRequest = 400
-number_of NotFound = 404
-number_of MethodNotAllowed = 405
-number_of Conflict = 409
-number_of LengthRequired = 411
-number_of TooLarge = 413
-number_of NotImplemented = 501
-number_of Busy = 503
+abbrev pub status_code : Status → ℕ
+status_code Fine = 200
+status_code BadRequest = 400
+status_code NotFound = 404
+status_code MethodNotAllowed = 405
+status_code Conflict = 409
+status_code LengthRequired = 411
+status_code TooLarge = 413
+status_code NotImplemented = 501
+status_code Busy = 503
 
 abbrev pub phrase_of : Status → Bytes
 phrase_of Fine = codes "OK"
@@ -83,7 +86,7 @@ close_field false = []
 -- the head of an answer, after which the connection is closed or stays open
 unfoldable pub head_text : Bool → Answer → Bytes
 head_text closing a =
-    codes "HTTP/1.1 " ++ (decimal (number_of a.status) ++ (codes " " ++ (phrase_of a.status ++ (codes "\r\n"
+    codes "HTTP/1.1 " ++ (decimal (status_code a.status) ++ (codes " " ++ (phrase_of a.status ++ (codes "\r\n"
     ++ (codes "Content-Type: " ++ (type_name a.is_text ++ (codes "\r\n"
     ++ (codes "Content-Length: " ++ (decimal (length a.body) ++ (codes "\r\n"
     ++ (allow_field a.allow ++ (close_field closing ++ codes "\r\n"))))))))))))
@@ -120,11 +123,11 @@ abbrev pub done_if_read : State → Option Command → Answer × State
 done_if_read s None = (error BadRequest, s)
 done_if_read s (Some asked) = command_answer s asked
 
-abbrev pub carried_out : State → Bytes → Route → Answer × State
-carried_out s body (Asks asked) = (of_told (answer s asked), s)
-carried_out s body (Does asked) = command_answer s asked
-carried_out s body (TakesFile source) = command_answer s (Import source body)
-carried_out s body (TakesForm asked) = done_if_read s (command_in asked body)
+abbrev pub route_carried_out : State → Bytes → Route → Answer × State
+route_carried_out s body (Asks asked) = (of_told (answer s asked), s)
+route_carried_out s body (Does asked) = command_answer s asked
+route_carried_out s body (TakesFile source) = command_answer s (Import source body)
+route_carried_out s body (TakesForm asked) = done_if_read s (command_in asked body)
 
 -- the checks in order: route, method, length, members of the body; and then the command or the question
 abbrev pub by_route : State → Request → Bytes → Option Route → Answer × State
@@ -132,7 +135,7 @@ by_route s request body None = (error NotFound, s)
 by_route s request body (Some route) =
     if not (bytes_eq request.method (method_of route)) then (not_allowed (method_of route), s)
     else if is_post route && is_none request.length then (error LengthRequired, s)
-    else carried_out s body route
+    else route_carried_out s body route
 
 abbrev pub response : State → Request → Bytes → Answer × State
 response s request body = by_route s request body (route_of (path_of request.target))

@@ -1,7 +1,8 @@
 -- Where a head ends: with its first empty line. A line ends with LF, with or without CR before it.
 use Rattle.std.specs.Prelude.{ℕ, ◌+◌, List, [], ◌∷◌, ◌==◌, if◌then◌else◌, Option, Some, None}
 use Rattle.http_messages.specs.declared.head_scan.HeadScanState.{HeadScanState}
-use Rattle.http_messages.specs.declared.head_scan.HeadScanState.TheVariants.{Lead, LeadReturn, Start, StartReturn, Middle}
+use Rattle.http_messages.specs.declared.head_scan.HeadScanState.TheVariants.{Lead, LeadReturn, Start, StartReturn}
+use Rattle.http_messages.specs.declared.head_scan.HeadScanState.TheVariants.{Middle}
 use Rattle.http_messages.specs.declared.head_scan.Scan.{Scan}
 use Rattle.http_messages.specs.declared.head_scan.Scan.TheVariants.{Whole, Open}
 

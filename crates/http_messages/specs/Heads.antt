@@ -1,5 +1,6 @@
 -- A request's head, and what is checked before its body is read (RFC 9112, sections 3, 6 and 9; RFC 9110, 10.1.1).
-use Rattle.std.specs.Prelude.{◌≡◌, ℕ, ◌≤◌, ◌⊎◌, ◌&&◌, ◌||◌, not, Bool, false, List, [], ◌∷◌, length, take, drop, map, count_by, nat_lt, ◌==◌, Option, Some, None, option_map, unwrap_or, if◌then◌else◌, codes}
+use Rattle.std.specs.Prelude.{◌≡◌, ℕ, ◌≤◌, ◌⊎◌, ◌&&◌, ◌||◌, not, Bool, false, List, [], ◌∷◌, length, take, drop, map}
+use Rattle.std.specs.Prelude.{count_by, nat_lt, ◌==◌, Option, Some, None, option_map, unwrap_or, if◌then◌else◌, codes}
 use Rattle.std.specs.List.{list_all, list_any, find}
 use Rattle.std.specs.Str.{str_eq_ignore_ascii_case, bytes_eq}
 use Rattle.std.specs.Str.Parse.{digits_value}
@@ -140,7 +141,7 @@ abbrev pub verdict_on : RequestHead → Verdict
 verdict_on head = weigh head.method head.target head.minor (map name_and_value head.fields)
 
 -- the verdict on a block; one that is not a head has no method
-abbrev pub Judges : Bytes → Verdict → Type 0
-Judges block verdict =
+abbrev pub JudgesHead : Bytes → Verdict → Type 0
+JudgesHead block verdict =
     ((head : RequestHead) × IsHeadOf block head × (verdict ≡ verdict_on head))
     ⊎ (((head : RequestHead) → IsHeadOf block head → ⊥) × (verdict ≡ Refused BadRequest false))

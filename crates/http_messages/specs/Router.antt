@@ -11,7 +11,7 @@ use Rattle.http_messages.specs.declared.routes.Route.{Route}
 use Rattle.http_messages.specs.declared.routes.Route.TheVariants as held
 use Rattle.http_messages.specs.declared.table.Leads.{Leads}
 use Rattle.http_messages.specs.Routes as routes
-use Rattle.http_messages.specs.Routes.{table}
+use Rattle.http_messages.specs.Routes.{route_table}
 
 abbrev pub route_in : Route → routes.Route
 route_in (held.Asks asked) = routes.Asks asked
@@ -27,12 +27,12 @@ abbrev pub with_read : Result Scan InsertError → Leads → RowsOf (RouteOf Lea
 with_read (Ok read) to rows = placed (read.pattern, route_from read to) rows
 with_read (Err why) to rows = rows
 
-abbrev pub with_all : RowsOf (RouteOf Leads) → List (Bytes × Leads) → RowsOf (RouteOf Leads)
-with_all rows [] = rows
-with_all rows ((text, to) ∷ others) = with_all (with_read (parse_route text) to rows) others
+abbrev pub with_all_routes : RowsOf (RouteOf Leads) → List (Bytes × Leads) → RowsOf (RouteOf Leads)
+with_all_routes rows [] = rows
+with_all_routes rows ((text, to) ∷ others) = with_all_routes (with_read (parse_route text) to rows) others
 
 abbrev pub rows_of_table : RowsOf (RouteOf Leads)
-rows_of_table = with_all [] table
+rows_of_table = with_all_routes [] route_table
 
 -- what the first parameter of a match took of the path
 abbrev pub first_part : List (Bytes × Bytes) → Bytes

@@ -1,5 +1,6 @@
 -- What each path leads to, by the table of the routes.
-use Rattle.std.specs.Prelude.{ℕ, ◌&&◌, ◌==◌, Bool, true, false, not, List, [], ◌∷◌, length, map, nat_le, Option, Some, None, option_map, option_and_then, if◌then◌else◌, codes}
+use Rattle.std.specs.Prelude.{ℕ, ◌&&◌, ◌==◌, Bool, true, false, not, List, [], ◌∷◌, length, map, nat_le, Option, Some}
+use Rattle.std.specs.Prelude.{None, option_map, option_and_then, if◌then◌else◌, codes}
 use Rattle.std.specs.List.{list_all, list_any}
 use Rattle.std.specs.Char.{is_ascii_digit}
 use Rattle.std.specs.Str.{is_utf8}
@@ -31,8 +32,8 @@ is_number [] = false
 is_number (b ∷ bytes) =
     not (b == 48) && (is_ascii_digit b && (list_all is_ascii_digit bytes && nat_le (length bytes) 9))
 
-abbrev pub number_in : Bytes → Option ℕ
-number_in digits = if is_number digits then Some (digits_value 10 digits) else None
+abbrev pub number_from_digits : Bytes → Option ℕ
+number_from_digits digits = if is_number digits then Some (digits_value 10 digits) else None
 
 abbrev pub question : Numbered → ℕ → Query
 question numbered.Aid unit = query.Aid unit
@@ -45,7 +46,7 @@ question numbered.ReaderPermits ticket = query.ReaderPermits ticket
 -- by the pattern's parameter
 abbrev pub leads_to : Leads → Bytes → Option Route
 leads_to (leads.Asks asked) parameter = Some (Asks asked)
-leads_to (leads.AsksOf asked) parameter = option_map (λ n. Asks (question asked n)) (number_in parameter)
+leads_to (leads.AsksOf asked) parameter = option_map (λ n. Asks (question asked n)) (number_from_digits parameter)
 leads_to leads.Run parameter = Some (Does command.Run)
 leads_to leads.Reshelve parameter = Some (Does command.Reshelve)
 leads_to leads.Import parameter = Some (TakesFile parameter)
@@ -75,11 +76,11 @@ first_route ((pattern, to) ∷ others) path =
     or_else (option_and_then (leads_to to) (parameter_in pattern path)) (first_route others path)
 
 -- the patterns of the table
-abbrev pub table : List (Bytes × Leads)
-table = map (λ line. (line.0.now, line.1)) TABLE
+abbrev pub route_table : List (Bytes × Leads)
+route_table = map (λ line. (line.0.now, line.1)) TABLE
 
 abbrev pub route_of : Bytes → Option Route
-route_of path = if is_utf8 path then first_route table path else None
+route_of path = if is_utf8 path then first_route route_table path else None
 
 -- ---- methods
 

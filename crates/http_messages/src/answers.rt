@@ -1,6 +1,6 @@
 //! Answers, and the parts of their bytes. Nothing here takes an allocator.
 ghost use Rattle.std.specs.Prelude.{◌≡◌, ◌≤◌, length};
-ghost use Rattle.http_messages.specs.Answers.{body_text, error, number_of, phrase_of, error_text};
+ghost use Rattle.http_messages.specs.Answers.{body_text, error, status_code, phrase_of, error_text};
 ghost use Rattle.http_messages.specs.Answers.{type_name, allow_field, close_field};
 ghost use Rattle.http_messages.specs.Replies.{answer_in, answer_of_view};
 
@@ -138,7 +138,7 @@ fn error_body(status: Status) -> &'static [u8]
 }
 
 pub fn code_of(status: Status) -> StatusCode
-    ensures { result ≡ number_of status }
+    ensures { result ≡ status_code status }
 {
     match status {
         Status::Fine => StatusCode::OK,

@@ -1,14 +1,18 @@
 //! Judges a request's head.
-ghost use Rattle.std.specs.Prelude.{◌≡◌, ◌+◌, ◌<◌, ◌≤◌, ◌^◌, length, map, take, count_by, All, true, false, Option, Some, None};
-ghost use Rattle.std.specs.Prelude.{IfSome, IfNone, drop, ◌∷◌, [], option_map, unwrap_or, min, nat_lt, ◌==◌, ◌&&◌, ◌||◌, not, codes};
+ghost use Rattle.std.specs.Prelude.{◌≡◌, ◌+◌, ◌<◌, ◌≤◌, ◌^◌, length, map, take, count_by, All, true, false, Option};
+ghost use Rattle.std.specs.Prelude.{Some, None};
+ghost use Rattle.std.specs.Prelude.{IfSome, IfNone, drop, ◌∷◌, [], option_map, unwrap_or, min, nat_lt, ◌==◌, ◌&&◌};
+ghost use Rattle.std.specs.Prelude.{◌||◌, not, codes};
 ghost use Rattle.std.specs.List.{list_all, list_any, find};
 ghost use Rattle.std.specs.Str.{str_eq_ignore_ascii_case};
 ghost use Rattle.std.specs.Char.{is_ascii_digit};
 ghost use Rattle.std.specs.Str.Parse.{digits_value};
 ghost use Rattle.httparse.specs.Grammar.{skip_ows, is_ows};
 ghost use Rattle.httparse.specs.Spans.{IsHeaderWithin, IsWithin, header_bytes, span_bytes};
-ghost use Rattle.http_messages.specs.Heads.{is_named, is_digits, strip_zeros, same_number, agrees, is_continue_expectation, asks_close, is_close, list_items, accept};
-ghost use Rattle.http_messages.specs.Heads.{hosts, is_head, weigh_size, weigh_length, Judges, weigh, longest_body, is_body, Refused};
+ghost use Rattle.http_messages.specs.Heads.{is_named, is_digits, strip_zeros, same_number, agrees};
+ghost use Rattle.http_messages.specs.Heads.{is_continue_expectation, asks_close, is_close, list_items, accept};
+ghost use Rattle.http_messages.specs.Heads.{hosts, is_head, weigh_size, weigh_length, JudgesHead, weigh, longest_body};
+ghost use Rattle.http_messages.specs.Heads.{is_body, Refused};
 ghost use Rattle.http_messages.specs.HeadVerdict.{verdict_in, IsFit};
 
 use crate::digits::all_digits;
@@ -408,7 +412,7 @@ fn weigh_fields(block: &[u8], fields: &[HeaderSpan], line: Line) -> Judged
 
 /// The verdict on the bytes of a head.
 pub fn judge(block: &[u8]) -> Judged
-    ensures judged { Judges block.now (verdict_in block.now result) }
+    ensures judged { JudgesHead block.now (verdict_in block.now result) }
     ensures fit { IsFit block.now result }
 {
     let mut headers = [EMPTY_HEADER_SPAN; FIELDS];

@@ -53,7 +53,7 @@ fn text_at<'v>(value: &'v Value, key: &str) -> Option<&'v str>
 }
 
 fn order(value: &Value) -> Option<Command>
-    ensures { result ≡ spec.command_of form_cases.Order (view value.now) }
+    ensures { result ≡ spec.command_of_form form_cases.Order (view value.now) }
 {
     let ticket = number_at(value, "ticket")?;
     let container = number_at(value, "container")?;
@@ -61,14 +61,14 @@ fn order(value: &Value) -> Option<Command>
 }
 
 fn open_day(value: &Value) -> Option<Command>
-    ensures { result ≡ spec.command_of form_cases.OpenDay (view value.now) }
+    ensures { result ≡ spec.command_of_form form_cases.OpenDay (view value.now) }
 {
     let day = day_at(value, "day")?;
     Some(Command::OpenDay { day })
 }
 
 fn renew(value: &Value) -> Option<Command>
-    ensures { result ≡ spec.command_of form_cases.Renew (view value.now) }
+    ensures { result ≡ spec.command_of_form form_cases.Renew (view value.now) }
 {
     let ticket = number_at(value, "ticket")?;
     let until = day_at(value, "until")?;
@@ -76,7 +76,7 @@ fn renew(value: &Value) -> Option<Command>
 }
 
 fn register(alloc: Global, value: &Value) -> Result<Option<Command>, AllocError>
-    ensures { IfOk result (λ o. o ≡ spec.command_of form_cases.Register (view value.now)) }
+    ensures { IfOk result (λ o. o ≡ spec.command_of_form form_cases.Register (view value.now)) }
 {
     let Some(name) = text_at(value, "name") else {
         return Ok(None);
@@ -137,7 +137,7 @@ fn some_whole(value: &Value) -> Option<Option<u64>>
 }
 
 fn whole_or_null(value: &Value) -> Option<Option<u64>>
-    ensures { result ≡ spec.or_null spec.as_whole (view value.now) }
+    ensures { result ≡ spec.null_or spec.as_whole (view value.now) }
 {
     if value.is_null() {
         Some(None)
@@ -156,7 +156,7 @@ fn some_day(value: &Value) -> Option<Option<Day>>
 }
 
 fn day_or_null(value: &Value) -> Option<Option<Day>>
-    ensures { result ≡ spec.or_null spec.as_day (view value.now) }
+    ensures { result ≡ spec.null_or spec.as_day (view value.now) }
 {
     if value.is_null() {
         Some(None)
@@ -184,7 +184,7 @@ fn day_or_null_at(value: &Value, key: &str) -> Option<Option<Day>>
 }
 
 fn set_status(value: &Value) -> Option<Command>
-    ensures { result ≡ spec.command_of form_cases.SetStatus (view value.now) }
+    ensures { result ≡ spec.command_of_form form_cases.SetStatus (view value.now) }
 {
     let unit = number_at(value, "unit")?;
     let draft = draft_at(value, "status")?;
@@ -197,7 +197,7 @@ fn set_status(value: &Value) -> Option<Command>
 }
 
 fn set_closure(value: &Value) -> Option<Command>
-    ensures { result ≡ spec.command_of form_cases.SetClosure (view value.now) }
+    ensures { result ≡ spec.command_of_form form_cases.SetClosure (view value.now) }
 {
     let unit = number_at(value, "unit")?;
     let until = day_or_null_at(value, "until")?;
@@ -205,7 +205,7 @@ fn set_closure(value: &Value) -> Option<Command>
 }
 
 fn move_unit(value: &Value) -> Option<Command>
-    ensures { result ≡ spec.command_of form_cases.Move (view value.now) }
+    ensures { result ≡ spec.command_of_form form_cases.Move (view value.now) }
 {
     let unit = number_at(value, "unit")?;
     let parent = number_or_null_at(value, "parent")?;
@@ -213,35 +213,35 @@ fn move_unit(value: &Value) -> Option<Command>
 }
 
 fn remove_unit(value: &Value) -> Option<Command>
-    ensures { result ≡ spec.command_of form_cases.Remove (view value.now) }
+    ensures { result ≡ spec.command_of_form form_cases.Remove (view value.now) }
 {
     let unit = number_at(value, "unit")?;
     Some(Command::Remove { unit })
 }
 
 fn take_seat(value: &Value) -> Option<Command>
-    ensures { result ≡ spec.command_of form_cases.TakeSeat (view value.now) }
+    ensures { result ≡ spec.command_of_form form_cases.TakeSeat (view value.now) }
 {
     let ticket = number_at(value, "ticket")?;
     Some(Command::TakeSeat { ticket })
 }
 
 fn leave_seat(value: &Value) -> Option<Command>
-    ensures { result ≡ spec.command_of form_cases.LeaveSeat (view value.now) }
+    ensures { result ≡ spec.command_of_form form_cases.LeaveSeat (view value.now) }
 {
     let ticket = number_at(value, "ticket")?;
     Some(Command::LeaveSeat { ticket })
 }
 
 fn cancel(value: &Value) -> Option<Command>
-    ensures { result ≡ spec.command_of form_cases.Cancel (view value.now) }
+    ensures { result ≡ spec.command_of_form form_cases.Cancel (view value.now) }
 {
     let order = number_at(value, "order")?;
     Some(Command::Cancel { order })
 }
 
 fn issue(value: &Value) -> Option<Command>
-    ensures { result ≡ spec.command_of form_cases.Issue (view value.now) }
+    ensures { result ≡ spec.command_of_form form_cases.Issue (view value.now) }
 {
     let container = number_at(value, "container")?;
     let ticket = number_at(value, "ticket")?;
@@ -249,14 +249,14 @@ fn issue(value: &Value) -> Option<Command>
 }
 
 fn return_container(value: &Value) -> Option<Command>
-    ensures { result ≡ spec.command_of form_cases.Return (view value.now) }
+    ensures { result ≡ spec.command_of_form form_cases.Return (view value.now) }
 {
     let container = number_at(value, "container")?;
     Some(Command::Return { container })
 }
 
 fn permit(value: &Value) -> Option<Command>
-    ensures { result ≡ spec.command_of form_cases.Permit (view value.now) }
+    ensures { result ≡ spec.command_of_form form_cases.Permit (view value.now) }
 {
     let ticket = number_at(value, "ticket")?;
     let unit = number_at(value, "unit")?;
@@ -269,7 +269,7 @@ fn permit(value: &Value) -> Option<Command>
 }
 
 fn revoke(value: &Value) -> Option<Command>
-    ensures { result ≡ spec.command_of form_cases.Revoke (view value.now) }
+    ensures { result ≡ spec.command_of_form form_cases.Revoke (view value.now) }
 {
     let ticket = number_at(value, "ticket")?;
     let unit = number_at(value, "unit")?;
@@ -278,7 +278,7 @@ fn revoke(value: &Value) -> Option<Command>
 
 /// The command whose members a value gives, or none if it does not give them.
 fn command_of(alloc: Global, form: Form, value: &Value) -> Result<Option<Command>, AllocError>
-    ensures { IfOk result (λ o. o ≡ spec.command_of form (view value.now)) }
+    ensures { IfOk result (λ o. o ≡ spec.command_of_form form (view value.now)) }
 {
     match form {
         Form::Order => Ok(order(value)),

@@ -7,7 +7,7 @@ ghost use Rattle.std.specs.Str.{bytes_eq};
 ghost use Rattle.std.specs.Str.Parse.{digits_value};
 ghost use Rattle.matchit.specs.Params.{walk, AllText};
 ghost use Rattle.http_messages.specs.Routes as spec;
-ghost use Rattle.http_messages.specs.Router.{route_in, with_all, rows_of_table, first_part};
+ghost use Rattle.http_messages.specs.Router.{route_in, with_all_routes, rows_of_table, first_part};
 
 use crate::body_form::Form;
 use crate::digits::all_digits;
@@ -63,7 +63,7 @@ fn digits_value(digits: &[u8]) -> u64
 
 /// The number that a path ends in, or none if that is not 1 to 10 digits, the first not 0.
 fn number_in(text: &[u8]) -> Option<u64>
-    ensures { result ≡ spec.number_in text.now }
+    ensures { result ≡ spec.number_from_digits text.now }
 {
     if is_number(text) {
         Some(digits_value(text))
@@ -117,7 +117,7 @@ fn first_of<'p>(params: &Params<'_, 'p>) -> &'p str
 
 /// A router with these patterns.
 fn router_of(alloc: Global, lines: &[(&'static str, Leads)]) -> Result<Router<Leads>, AllocError>
-    ensures { IfOk result (λ router. router ≡ with_all [] (map (λ line. (line.0.now, line.1)) lines.now)) }
+    ensures { IfOk result (λ router. router ≡ with_all_routes [] (map (λ line. (line.0.now, line.1)) lines.now)) }
 {
     let mut router = Router::new(alloc);
     for line in lines {

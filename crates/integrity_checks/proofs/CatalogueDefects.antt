@@ -1,9 +1,16 @@
 -- The first defect of the catalogue, part by part.
-use Rattle.std.proofs.Common.{◌≡◌, ℕ, Bool, true, false, cond, not, ◌&&◌, ◌||◌, length, Option, Some, None, refl, sym, ap, ◌∙◌}
+use Rattle.std.proofs.Common.{◌≡◌, ℕ, Bool, true, false, cond, not, ◌&&◌, ◌||◌, length, Option, Some, None, refl, sym}
+use Rattle.std.proofs.Common.{ap, ◌∙◌}
 use Rattle.office_tables.specs.Schema as tables
 use Rattle.integrity_checks.specs.declared.catalogue_defect.CatalogueDefect.{CatalogueDefect}
-use Rattle.integrity_checks.specs.declared.catalogue_defect.CatalogueDefect.TheVariants.{Places, Units, Elements, Containers}
-use Rattle.integrity_checks.proofs.Common.{Trees, Version, are_good_container_rows, catalogue_defect, catalogue_in, containers_are_defective, containers_in, defect_of_contents, elements_are_defective, encoding, good_containers_in, good_housings_in, has_unread, is_good_housing, list_all, number_of_containers, or_parts, places_are_defective, read_container, read_housing, read_unit, units_are_bad, units_are_defective}
+use Rattle.integrity_checks.specs.declared.catalogue_defect.CatalogueDefect.TheVariants.{Places, Units, Elements}
+use Rattle.integrity_checks.specs.declared.catalogue_defect.CatalogueDefect.TheVariants.{Containers}
+use Rattle.integrity_checks.proofs.Common.{Trees, Version, are_good_container_rows, catalogue_defect, catalogue_in}
+use Rattle.integrity_checks.proofs.Common.{containers_are_defective, containers_in, defect_of_contents}
+use Rattle.integrity_checks.proofs.Common.{elements_are_defective, encoding, good_containers_in, good_housings_in}
+use Rattle.integrity_checks.proofs.Common.{has_unread, is_good_housing, list_all, number_of_containers, or_parts}
+use Rattle.integrity_checks.proofs.Common.{places_are_defective, read_container, read_housing, read_unit, units_are_bad}
+use Rattle.integrity_checks.proofs.Common.{units_are_defective}
 
 was_good : (bad : Bool) → not bad ≡ true → bad ≡ false
 was_good true h = sym h

@@ -1,9 +1,15 @@
 -- The first defect of the desk, part by part.
-use Rattle.std.proofs.Common.{◌≡◌, ℕ, List, length, Bool, true, false, cond, not, ◌&&◌, ◌||◌, nat_le, Some, None, refl, sym, ap, ◌∙◌}
+use Rattle.std.proofs.Common.{◌≡◌, ℕ, List, length, Bool, true, false, cond, not, ◌&&◌, ◌||◌, nat_le, Some, None, refl}
+use Rattle.std.proofs.Common.{sym, ap, ◌∙◌}
 use Rattle.desk_core.specs.DeskCauses.{Around}
 use Rattle.office_tables.specs.Schema as tables
 use Rattle.integrity_checks.specs.declared.desk_defect.DeskDefect.TheVariants.{Readers, Orders, Holdings, Runs}
-use Rattle.integrity_checks.proofs.Common.{ReaderRow, Trees, are_numbered_from, defect_beside_readers, defect_of_desk, defect_of_orders, defect_of_past, desk_in, good_holdings_in, good_permits_in, good_runs_in, good_seats_in, has_unread, holdings_are_defective, is_good_permit, is_good_reader, is_good_seat, list_all, most_tickets, not-not, number_registered, or-true, orders_are_defective, read_permit, read_reader, read_seat, readers_in, runs_are_defective}
+use Rattle.integrity_checks.proofs.Common.{ReaderRow, Trees, are_numbered_from, defect_beside_readers, defect_of_desk}
+use Rattle.integrity_checks.proofs.Common.{defect_of_orders, defect_of_past, desk_in, good_holdings_in, good_permits_in}
+use Rattle.integrity_checks.proofs.Common.{good_runs_in, good_seats_in, has_unread, holdings_are_defective}
+use Rattle.integrity_checks.proofs.Common.{is_good_permit, is_good_reader, is_good_seat, list_all, most_tickets}
+use Rattle.integrity_checks.proofs.Common.{not-not, number_registered, or-true, orders_are_defective, read_permit}
+use Rattle.integrity_checks.proofs.Common.{read_reader, read_seat, readers_in, runs_are_defective}
 use Rattle.integrity_checks.proofs.Surroundings.{not_defective, all_read_well}
 
 pub was_good : (good bad : Bool) → good ≡ not bad → good ≡ true → bad ≡ false

@@ -3,7 +3,13 @@ use Rattle.std.proofs.Common.{◌≡◌, List, not, ◌&&◌, ◌||◌, nat_eq, 
 use Rattle.isad_core.specs.Days.{is_day_number}
 use Rattle.desk_core.specs.DeskCauses.{Around}
 use Rattle.desk_core.specs.DeskRows.{OrderRow}
-use Rattle.integrity_checks.proofs.Common.{Alike, Desk, HoldingRow, PermitRow, RunLineRow, RunRow, SeatRow, all_alike, any_alike, are_good_holdings, are_good_orders, are_good_runs, are_numbered_from, are_twice, has_its_holding, int_le, is_at_desk, is_between, is_good_holding, is_good_line, is_good_order, is_good_permit, is_good_run, is_good_seat, is_holding_of, is_of_the_day, is_order_of_line, is_out_order, is_registered, length_alike, list_all, most_orders, most_permits, most_runs, some_and}
+use Rattle.integrity_checks.proofs.Common.{Alike, Desk, HoldingRow, PermitRow, RunLineRow, RunRow, SeatRow, all_alike}
+use Rattle.integrity_checks.proofs.Common.{any_alike, are_good_holdings, are_good_orders, are_good_runs}
+use Rattle.integrity_checks.proofs.Common.{are_numbered_from, are_twice, has_its_holding, int_le, is_at_desk}
+use Rattle.integrity_checks.proofs.Common.{is_between, is_good_holding, is_good_line, is_good_order, is_good_permit}
+use Rattle.integrity_checks.proofs.Common.{is_good_run, is_good_seat, is_holding_of, is_of_the_day, is_order_of_line}
+use Rattle.integrity_checks.proofs.Common.{is_out_order, is_registered, length_alike, list_all, most_orders}
+use Rattle.integrity_checks.proofs.Common.{most_permits, most_runs, some_and}
 
 module _ (a : Around) (d : Desk) where
   pub seats_alike : (seats : List SeatRow) → Alike seats d.seats

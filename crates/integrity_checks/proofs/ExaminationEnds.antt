@@ -1,15 +1,15 @@
 -- How a call ends that examines rows.
 use Rattle.std.proofs.Common.{◌≡◌, inl, Ok, Err, Result, refl, sym, subst}
 use Rattle.std.specs.Prelude.{IfOk}
-use Rattle.sqlite_trees.specs.declared.store.Store as store
 use Rattle.sqlite.specs.State.{State, HasCleanDisk}
+use Rattle.sqlite_trees.specs.declared.store.Store as store
+use Rattle.office_tables.proofs.CallEnds.{excused_then, read_not, same_fault}
 use Rattle.office_tables.specs.Faults.{BlamesDisk, HasCause, FaultsHaveCause}
 use Rattle.office_tables.specs.Query.{Reads}
 use Rattle.office_tables.specs.Step.{LeavesUnchanged}
 use Rattle.office_tables.specs.declared.fault.StoreFault.TheVariants as fault
-use Rattle.office_tables.proofs.CallEnds.{excused_then, read_not, same_fault}
-use Rattle.row_decoding.specs.Examinations.{Examines}
 use Rattle.row_decoding.proofs.ReadCalls.{reads_then, reads_well, same_trees}
+use Rattle.row_decoding.specs.Examinations.{Examines}
 use Rattle.integrity_checks.proofs.Common.{Held, IfErr, IsErr, IsErrAnd, StoreFault, Trees, cut_after, early, state}
 
 module _ {S X : Type 0} {g : store.Ghosts S} {before after : Held S} {answer : Trees → X → Type 0} where

@@ -1,6 +1,9 @@
 -- The rows of each unit stand together where they come by their units: no place is above the number of the unit's rows.
-use Rattle.std.proofs.Common.{inl, inr, ◌≡◌, ℕ, suc, ◌+◌, ◌<◌, ◌≤◌, List, [], ◌∷◌, length, Bool, true, false, cond, ◌&&◌, nat_eq, nat_le, refl, sym, ap, ap₂, ◌∙◌, arith}
-use Rattle.integrity_checks.proofs.Common.{AllByRecursion, HousingRow, Up, all_weaker, and-true, and_assoc, and_from, and_parts, are_filled, both_ways, cases_lt, eq-eqb, eqb-false, eqb-true, eqb_comm, higher, housings_of, le-leb, leb-false, leb-true, list_all, ne_eqb}
+use Rattle.std.proofs.Common.{inl, inr, ◌≡◌, ℕ, suc, ◌+◌, ◌<◌, ◌≤◌, List, [], ◌∷◌, length, Bool, true, false, cond}
+use Rattle.std.proofs.Common.{◌&&◌, nat_eq, nat_le, refl, sym, ap, ap₂, ◌∙◌, arith}
+use Rattle.integrity_checks.proofs.Common.{AllByRecursion, HousingRow, Up, all_weaker, and-true, and_assoc, and_from}
+use Rattle.integrity_checks.proofs.Common.{and_parts, are_filled, both_ways, cases_lt, eq-eqb, eqb-false, eqb-true}
+use Rattle.integrity_checks.proofs.Common.{eqb_comm, higher, housings_of, le-leb, leb-false, leb-true, list_all, ne_eqb}
 use Rattle.integrity_checks.proofs.Tested.{all_same}
 
 abbrev pub unit_of : HousingRow → ℕ

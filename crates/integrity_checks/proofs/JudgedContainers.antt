@@ -1,12 +1,22 @@
 -- The containers are judged in the order of their numbers.
-use Rattle.std.proofs.Common.{length-append, inl, inr, ◌≡◌, ℕ, suc, pos, ◌+◌, List, [], ◌∷◌, ◌++◌, length, map, Bool, true, false, cond, not, ◌&&◌, ◌||◌, nat_eq, nat_le, Option, Some, None, is_none, filter_map, refl, sym, ap, ap₂, ◌∙◌, arith, codes}
+use Rattle.std.proofs.Common.{length-append, inl, inr, ◌≡◌, ℕ, suc, pos, ◌+◌, List, [], ◌∷◌, ◌++◌, length, map, Bool}
+use Rattle.std.proofs.Common.{true, false, cond, not, ◌&&◌, ◌||◌, nat_eq, nat_le, Option, Some, None, is_none}
+use Rattle.std.proofs.Common.{filter_map, refl, sym, ap, ap₂, ◌∙◌, arith, codes}
 use Rattle.sqlite.specs.Listing.{understood}
 use Rattle.sqlite_tied.specs.Compute.{everything}
 use Rattle.isad_core.specs.Texts.{is_blank_text}
 use Rattle.office_tables.specs.Schema as tables
 use Rattle.row_decoding.specs.TableRows.{by}
 use Rattle.integrity_checks.specs.ScanAnswers.{is_numbered}
-use Rattle.integrity_checks.proofs.Common.{Binary, ContainerRow, Int, IsPermutation, IsSorted, Key, Means, Row, Select, Term, Trees, Version, alike_then, all_alike, and-false, and-true, and_assoc, are_container_answers, are_good_container_rows, are_numbered_from, ascending, asking, by_rowid, cases_Bool, col, column, cons_option, containers_in, from_first, good_containers_in, has_unread, is_container_answer, is_number, le_refl, length-map, length_ordered, length_permutation, length_read, list_all, list_any-IsPermutation, number_in, number_of_containers, option_map_or, ordered_alike, read_alike, read_by_number, read_container, show, text_in}
+use Rattle.integrity_checks.proofs.Common.{Binary, ContainerRow, Int, IsPermutation, IsSorted, Key, Means, Row, Select}
+use Rattle.integrity_checks.proofs.Common.{Term, Trees, Version, alike_then, all_alike, and-false, and-true, and_assoc}
+use Rattle.integrity_checks.proofs.Common.{are_container_answers, are_good_container_rows, are_numbered_from, ascending}
+use Rattle.integrity_checks.proofs.Common.{asking, by_rowid, cases_Bool, col, column, cons_option, containers_in}
+use Rattle.integrity_checks.proofs.Common.{from_first, good_containers_in, has_unread, is_container_answer, is_number}
+use Rattle.integrity_checks.proofs.Common.{le_refl, length-map, length_ordered, length_permutation, length_read}
+use Rattle.integrity_checks.proofs.Common.{list_all, list_any-IsPermutation, number_in, number_of_containers}
+use Rattle.integrity_checks.proofs.Common.{option_map_or, ordered_alike, read_alike, read_by_number, read_container}
+use Rattle.integrity_checks.proofs.Common.{show, text_in}
 
 -- ---- one row more
 

@@ -1,10 +1,16 @@
 -- The elements are judged row by row.
-use Rattle.std.proofs.Common.{◌≡◌, ℕ, List, [], ◌∷◌, map, Bool, true, false, not, ◌&&◌, ◌||◌, nat_eq, Option, Some, None, filter_map, refl, sym, ap, ◌∙◌, codes}
+use Rattle.std.proofs.Common.{◌≡◌, ℕ, List, [], ◌∷◌, map, Bool, true, false, not, ◌&&◌, ◌||◌, nat_eq, Option, Some}
+use Rattle.std.proofs.Common.{None, filter_map, refl, sym, ap, ◌∙◌, codes}
 use Rattle.sqlite.specs.Listing.{understood}
 use Rattle.sqlite_tied.specs.Compute.{everything}
 use Rattle.isad_core.specs.Texts.{is_blank_text}
 use Rattle.office_tables.specs.Schema as tables
-use Rattle.integrity_checks.proofs.Common.{AllByRecursion, ElementRow, IsPermutation, Means, Row, Select, Term, Trees, Version, all_alike, asking, catalogue_in, col, elements_are_defective, has_unread, in_order, is_between, is_element_answer, is_good_element, is_good_value, le_refl, list_all, list_all-map, not-not, option_map_or, ordered_alike, permuted, read_element, read_unit, show, then_by, unit_numbers}
+use Rattle.integrity_checks.proofs.Common.{AllByRecursion, ElementRow, IsPermutation, Means, Row, Select, Term, Trees}
+use Rattle.integrity_checks.proofs.Common.{Version, all_alike, asking, catalogue_in, col, elements_are_defective}
+use Rattle.integrity_checks.proofs.Common.{has_unread, in_order, is_between, is_element_answer, is_good_element}
+use Rattle.integrity_checks.proofs.Common.{is_good_value, le_refl, list_all, list_all-map, not-not, option_map_or}
+use Rattle.integrity_checks.proofs.Common.{ordered_alike, permuted, read_element, read_unit, show, then_by}
+use Rattle.integrity_checks.proofs.Common.{unit_numbers}
 use Rattle.integrity_checks.proofs.Tested.{all_same, passes, judged}
 use Rattle.integrity_checks.proofs.UnitsThere.{HasUnit, element_has_unit}
 

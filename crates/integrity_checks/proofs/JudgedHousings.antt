@@ -1,14 +1,26 @@
 -- What lies in containers is judged in the order of the units.
-use Rattle.std.proofs.Common.{inl, inr, ◌≡◌, ℕ, suc, pos, ◌+◌, ◌<◌, List, [], ◌∷◌, ◌++◌, length, map, Bool, true, false, cond, not, ◌&&◌, ◌||◌, nat_eq, nat_le, Option, Some, None, is_none, filter_map, get_or, Ordering, Less, Equal, Greater, refl, sym, ap, ap₂, subst, ◌∙◌, arith, codes}
+use Rattle.std.proofs.Common.{inl, inr, ◌≡◌, ℕ, suc, pos, ◌+◌, ◌<◌, List, [], ◌∷◌, ◌++◌, length, map, Bool, true, false}
+use Rattle.std.proofs.Common.{cond, not, ◌&&◌, ◌||◌, nat_eq, nat_le, Option, Some, None, is_none, filter_map, get_or}
+use Rattle.std.proofs.Common.{Ordering, Less, Equal, Greater, refl, sym, ap, ap₂, subst, ◌∙◌, arith, codes}
 use Rattle.std.proofs.lemmas.List.{append-nil}
 use Rattle.std.proofs.lemmas.List.Elements.{filter_map-append}
 use Rattle.sqlite.specs.Listing.{understood}
 use Rattle.sqlite.specs.Query.{key_cmp}
 use Rattle.sqlite_tied.specs.Compute.{everything}
 use Rattle.office_tables.specs.Schema as tables
-use Rattle.integrity_checks.proofs.Common.{Alike, AllByRecursion, AreHoused, Binary, HousingRow, Int, IsPermutation, IsSorted, Key, Means, Null, Row, Select, Term, Trees, Up, Version, alike_then, all_alike, are_filled, ascending, asking, by_rowid, cases_Bool, catalogue_in, col, column, cons_option, containers_in, eq-eqb, filter_alike, from_first, get_or-map, good_housings_in, has_unread, higher, housing_in_answer, is_between, is_good_housing, is_lt, is_placed, le_refl, length-map, list_all, list_all-append, list_any-append, ne_eqb, option_map_or, ordered_alike, ordering_then, permuted, read_alike, read_housing, read_placed, read_unit, same_rows, show, stands, then-Equal, then_by, unit_numbers, up_read, value_cmp}
+use Rattle.integrity_checks.proofs.Common.{Alike, AllByRecursion, AreSummedUp, Binary, HousingRow, Int, IsPermutation}
+use Rattle.integrity_checks.proofs.Common.{IsSorted, Key, Means, Null, Row, Select, Term, Trees, Up, Version}
+use Rattle.integrity_checks.proofs.Common.{alike_then, all_alike, are_filled, ascending, asking, by_rowid, cases_Bool}
+use Rattle.integrity_checks.proofs.Common.{catalogue_in, col, column, cons_option, containers_in, eq-eqb, filter_alike}
+use Rattle.integrity_checks.proofs.Common.{from_first, get_or-map, good_housings_in, has_unread, higher}
+use Rattle.integrity_checks.proofs.Common.{housing_in_answer, is_between, is_good_housing, is_lt, is_placed, le_refl}
+use Rattle.integrity_checks.proofs.Common.{length-map, list_all, list_all-append, list_any-append, ne_eqb}
+use Rattle.integrity_checks.proofs.Common.{option_map_or, ordered_alike, ordering_then, permuted, read_alike}
+use Rattle.integrity_checks.proofs.Common.{read_housing, read_placed, read_unit, same_rows, show, stands, then-Equal}
+use Rattle.integrity_checks.proofs.Common.{then_by, unit_numbers, up_read, value_cmp}
 use Rattle.integrity_checks.proofs.FilledUnits.{unit_of, rows_of, higher_is, filled_judged}
-use Rattle.integrity_checks.proofs.Tested.{all_same, said_shown, unread_shown, passes, judged, unread_tested, same_tested}
+use Rattle.integrity_checks.proofs.Tested.{all_same, said_shown, unread_shown, passes, judged, unread_tested}
+use Rattle.integrity_checks.proofs.Tested.{same_tested}
 use Rattle.integrity_checks.proofs.UnitsThere.{HasUnit, housing_unit, housing_has_unit}
 
 -- ---- one row more
@@ -35,8 +47,8 @@ module _ (rows : List Row) (row : Row) where
   said_more : filter_map housing_in_answer (rows ++ row ∷ []) ≡ filter_map housing_in_answer rows ++ cons_option (housing_in_answer row) []
   said_more = filter_map-append housing_in_answer rows (row ∷ [])
 
-  module _ (good : Bool) (unit count highest last : ℕ) (so_far : AreHoused rows good unit count highest last) where
-    pub one_unread : housing_in_answer row ≡ None → AreHoused (rows ++ row ∷ []) false unit count highest last
+  module _ (good : Bool) (unit count highest last : ℕ) (so_far : AreSummedUp rows good unit count highest last) where
+    pub one_unread : housing_in_answer row ≡ None → AreSummedUp (rows ++ row ∷ []) false unit count highest last
     one_unread none = record {
       filled = λ more. ap (λ b. not b && are_filled 0 0 0 (filter_map housing_in_answer (rows ++ row ∷ []) ++ more)) (unread_more ∙ ap (λ o. has_unread housing_in_answer rows || (is_none o || false)) none ∙ or_true (has_unread housing_in_answer rows));
       contained = λ n. so_far.contained n ∙ ap (list_all (within n)) (sym (said_more ∙ ap (λ o. filter_map housing_in_answer rows ++ cons_option o []) none ∙ append-nil (filter_map housing_in_answer rows)));
@@ -64,7 +76,7 @@ module _ (rows : List Row) (row : Row) where
           and_true false = refl
 
       pub same_unit : it.unit ≡ unit → (highest_now : ℕ) → highest_now ≡ higher highest it.ord
-          → AreHoused (rows ++ row ∷ []) good unit (count + 1) highest_now last_now
+          → AreSummedUp (rows ++ row ∷ []) good unit (count + 1) highest_now last_now
       same_unit h highest_now highest_is = record {
         filled =
             λ more. then_it more
@@ -74,7 +86,7 @@ module _ (rows : List Row) (row : Row) where
       }
 
       next_unit : (it.unit ≡ unit → ⊥) → (good_now : Bool) → good_now ≡ (good && nat_le highest count)
-          → AreHoused (rows ++ row ∷ []) good_now it.unit 1 it.ord last_now
+          → AreSummedUp (rows ++ row ∷ []) good_now it.unit 1 it.ord last_now
       next_unit h good_now now = record {
         filled =
             λ more. then_it more
@@ -88,7 +100,7 @@ module _ (rows : List Row) (row : Row) where
           regroup false b c = refl
 
       pub next_filled : (it.unit ≡ unit → ⊥) → nat_le highest count ≡ true
-          → AreHoused (rows ++ row ∷ []) good it.unit 1 it.ord last_now
+          → AreSummedUp (rows ++ row ∷ []) good it.unit 1 it.ord last_now
       next_filled h full = next_unit h good (sym (ap (λ b. good && b) full ∙ only good))
         where
           only : (b : Bool) → (b && true) ≡ b
@@ -96,7 +108,7 @@ module _ (rows : List Row) (row : Row) where
           only false = refl
 
       pub next_above : (it.unit ≡ unit → ⊥) → nat_le highest count ≡ false
-          → AreHoused (rows ++ row ∷ []) false it.unit 1 it.ord last_now
+          → AreSummedUp (rows ++ row ∷ []) false it.unit 1 it.ord last_now
       next_above h above = next_unit h false (sym (ap (λ b. good && b) above ∙ never good))
         where
           never : (b : Bool) → (b && false) ≡ false
@@ -215,7 +227,7 @@ ends untold unread placed c w good filled last is kept fits =
     told false true = turned w c
     told false false = refl
 
-module _ (v : Version) (db : Trees) (units_read : has_unread read_unit (db tables.unit.tree) ≡ false) (ys rows : List Row) (good : Bool) (unit count highest last : ℕ) (held : AreHoused rows good unit count highest last)
+module _ (v : Version) (db : Trees) (units_read : has_unread read_unit (db tables.unit.tree) ≡ false) (ys rows : List Row) (good : Bool) (unit count highest last : ℕ) (held : AreSummedUp rows good unit count highest last)
     (same : IsPermutation (db tables.housing.tree) ys) (sorted : IsSorted by_unit ys) (shown : rows ≡ map show_housing ys) (kept : AllByRecursion (HasUnit v db) (db tables.housing.tree))
     (containers : ℕ) (as_many : length (containers_in db) ≡ containers) where
   abbrev table : List Row

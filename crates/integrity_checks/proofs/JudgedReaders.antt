@@ -1,10 +1,20 @@
 -- The readers are judged in the order of their tickets.
-use Rattle.std.proofs.Common.{length-append, inl, inr, ◌≡◌, ℕ, suc, pos, ◌+◌, List, [], ◌∷◌, ◌++◌, length, map, Bool, true, false, cond, not, ◌&&◌, ◌||◌, nat_eq, nat_le, Option, Some, None, is_none, filter_map, refl, sym, ap, ap₂, ◌∙◌, arith, codes}
+use Rattle.std.proofs.Common.{length-append, inl, inr, ◌≡◌, ℕ, suc, pos, ◌+◌, List, [], ◌∷◌, ◌++◌, length, map, Bool}
+use Rattle.std.proofs.Common.{true, false, cond, not, ◌&&◌, ◌||◌, nat_eq, nat_le, Option, Some, None, is_none}
+use Rattle.std.proofs.Common.{filter_map, refl, sym, ap, ap₂, ◌∙◌, arith, codes}
 use Rattle.sqlite.specs.Listing.{understood}
 use Rattle.sqlite_tied.specs.Compute.{everything}
-use Rattle.office_tables.specs.Schema.{reader}
 use Rattle.office_tables.proofs.ByNumber.{by}
-use Rattle.integrity_checks.proofs.Common.{Binary, Int, IsPermutation, IsSorted, Key, Means, ReaderRow, Row, Select, Term, Trees, Version, all_as_any, and-false, and-true, any_ordered, any_read, are_numbered_from, are_reader_answers, are_registered_well, ascending, asking, by_key, cases_Bool, col, column, cons_option, from_first, has_unread, in_order, is_good_reader, is_number, is_reader_answer, is_reader_with, le_refl, length-map, length_ordered, length_permutation, length_read, list_all, list_any-IsPermutation, number_in, number_registered, option_map_or, or_parts, read_by_number, read_reader, readers_are_defective, readers_in, text_in, whole_in}
+use Rattle.office_tables.specs.Schema.{reader}
+use Rattle.integrity_checks.proofs.Common.{Binary, Int, IsPermutation, IsSorted, Key, Means, ReaderRow, Row, Select}
+use Rattle.integrity_checks.proofs.Common.{Term, Trees, Version, all_as_any, and-false, and-true, any_ordered, any_read}
+use Rattle.integrity_checks.proofs.Common.{are_numbered_from, are_reader_answers, are_registered_well, ascending}
+use Rattle.integrity_checks.proofs.Common.{asking, by_key, cases_Bool, col, column, cons_option, from_first, has_unread}
+use Rattle.integrity_checks.proofs.Common.{in_order, is_good_reader, is_number, is_reader_answer, is_reader_with}
+use Rattle.integrity_checks.proofs.Common.{le_refl, length-map, length_ordered, length_permutation, length_read}
+use Rattle.integrity_checks.proofs.Common.{list_all, list_any-IsPermutation, number_in, number_registered}
+use Rattle.integrity_checks.proofs.Common.{option_map_or, or_parts, read_by_number, read_reader, readers_are_defective}
+use Rattle.integrity_checks.proofs.Common.{readers_in, text_in, whole_in}
 use Rattle.integrity_checks.proofs.JudgedContainers.{mixed}
 
 -- ---- one row more

@@ -1,11 +1,19 @@
 -- What is judged of the rows of a table holds of the table.
-use Rattle.std.proofs.Common.{◌≡◌, ℕ, pos, List, length, Bool, true, false, not, ◌&&◌, ◌||◌, Option, Some, None, filter_map, refl, ap, ap₂, ◌∙◌}
+use Rattle.std.proofs.Common.{◌≡◌, ℕ, pos, List, length, Bool, true, false, not, ◌&&◌, ◌||◌, Option, Some, None}
+use Rattle.std.proofs.Common.{filter_map, refl, ap, ap₂, ◌∙◌}
 use Rattle.desk_core.specs.DeskCauses as causes
 use Rattle.desk_core.specs.DeskRows.{OrderRow}
-use Rattle.office_tables.specs.Schema as tables
 use Rattle.desk_core.specs.declared.consistency.context.Around.{Around}
+use Rattle.office_tables.specs.Schema as tables
 use Rattle.row_decoding.specs.TableRows.{by}
-use Rattle.integrity_checks.proofs.Common.{Alike, AreOrdersOf, AreRead, Desk, HoldingRow, Int, PermitRow, ReaderRow, Row, RunLineRow, RunRow, SeatRow, Surrounds, Trees, are_good_holdings, are_good_orders, are_good_runs, are_numbered_from, by_rowid, column, count_by, desk_in, from_first, good_holdings_in, good_permits_in, good_runs_in, good_seats_in, has_unread, in_any_order, in_order, is_good_permit, is_good_seat, is_number, keyed_alike, list_all, number_in, orders_are_bad, orders_are_defective, read_by_number, read_holding, read_order, read_permit, read_run, read_run_line, read_seat, whole_in}
+use Rattle.integrity_checks.proofs.Common.{Alike, AreOrdersOf, AreRead, Desk, HoldingRow, Int, PermitRow, ReaderRow}
+use Rattle.integrity_checks.proofs.Common.{Row, RunLineRow, RunRow, SeatRow, Surrounds, Trees, are_good_holdings}
+use Rattle.integrity_checks.proofs.Common.{are_good_orders, are_good_runs, are_numbered_from, by_rowid, column}
+use Rattle.integrity_checks.proofs.Common.{count_by, desk_in, from_first, good_holdings_in, good_permits_in}
+use Rattle.integrity_checks.proofs.Common.{good_runs_in, good_seats_in, has_unread, in_any_order, in_order}
+use Rattle.integrity_checks.proofs.Common.{is_good_permit, is_good_seat, is_number, keyed_alike, list_all, number_in}
+use Rattle.integrity_checks.proofs.Common.{orders_are_bad, orders_are_defective, read_by_number, read_holding}
+use Rattle.integrity_checks.proofs.Common.{read_order, read_permit, read_run, read_run_line, read_seat, whole_in}
 use Rattle.integrity_checks.proofs.DesksAlike.{seats_alike, permits_alike, orders_alike, holdings_alike, runs_alike}
 
 -- ---- what is read of a table

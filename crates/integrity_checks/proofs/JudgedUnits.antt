@@ -1,10 +1,18 @@
 -- The units are judged beside the places.
-use Rattle.std.proofs.Common.{◌≡◌, ℕ, List, [], ◌∷◌, length, map, Bool, true, false, not, ◌&&◌, ◌||◌, nat_eq, nat_le, nat_lt, is_none, filter_map, refl, sym, ap, ap₂, ◌∙◌, codes}
+use Rattle.std.proofs.Common.{◌≡◌, ℕ, List, [], ◌∷◌, length, map, Bool, true, false, not, ◌&&◌, ◌||◌, nat_eq, nat_le}
+use Rattle.std.proofs.Common.{nat_lt, is_none, filter_map, refl, sym, ap, ap₂, ◌∙◌, codes}
 use Rattle.sqlite.specs.Listing.{understood}
 use Rattle.sqlite_tied.specs.Compute.{everything}
 use Rattle.office_tables.specs.Schema as tables
 use Rattle.row_decoding.specs.TableRows.{by}
-use Rattle.integrity_checks.proofs.Common.{Alike, AreGathered, AreUnitsPlaced, IsPermutation, Means, Row, Select, Term, Trees, UnitRow, Version, alike_back, alike_then, all_alike, all_stand_in, any_alike, are_good_numbers, asking, catalogue_in, col, described_in_answer, encoding, has_unread, height, is_described, le_refl, length-map, length_alike, length_permutation, list_all, list_all-map, list_any-IsPermutation, list_any-map, most_deep, most_units, ordered_alike, permuted, place_numbers, places_in, places_said, read_alike, read_described, read_unit, same_rows, show, stands, unit_numbers, units_are_defective}
+use Rattle.integrity_checks.proofs.Common.{Alike, AreGathered, AreUnitsPlaced, IsPermutation, Means, Row, Select, Term}
+use Rattle.integrity_checks.proofs.Common.{Trees, UnitRow, Version, alike_back, alike_then, all_alike, all_stand_in}
+use Rattle.integrity_checks.proofs.Common.{any_alike, are_good_unit_numbers, asking, catalogue_in, col}
+use Rattle.integrity_checks.proofs.Common.{described_in_answer, encoding, has_unread, height, is_described, le_refl}
+use Rattle.integrity_checks.proofs.Common.{length-map, length_alike, length_permutation, list_all, list_all-map}
+use Rattle.integrity_checks.proofs.Common.{list_any-IsPermutation, list_any-map, most_deep, most_units, ordered_alike}
+use Rattle.integrity_checks.proofs.Common.{permuted, place_numbers, places_in, places_said, read_alike, read_described}
+use Rattle.integrity_checks.proofs.Common.{read_unit, same_rows, show, stands, unit_numbers, units_are_defective}
 use Rattle.integrity_checks.proofs.Tested.{said_shown, unread_shown, unread_tested, same_tested}
 
 -- ---- the text
@@ -63,7 +71,7 @@ all_stand_alike xs sorted ys others same alike =
 
 pub numbers_alike : (next deep : ℕ) (numbers units placed places : List ℕ) → IsPermutation numbers units
     → IsPermutation placed places
-    → are_good_numbers next places deep units ≡ are_good_numbers next placed deep numbers
+    → are_good_unit_numbers next places deep units ≡ are_good_unit_numbers next placed deep numbers
 numbers_alike next deep numbers units placed places same alike =
     ap₂ ◌&&◌ (sym (all_alike (λ n. nat_lt n next) numbers units (permuted numbers units same)))
     (ap₂ ◌&&◌ (all_stand_alike placed places numbers units alike same) (ap₂ ◌&&◌ (all_stand_alike numbers units placed places same alike)
@@ -130,14 +138,14 @@ module _ (v : Version) (next : ℕ) (db : Trees) (ys rows : List Row) (numbers :
       all_there =
           (λ i. list_all (λ n. stand n i) places) ∙ sym (all_alike (λ n. stands n (unit_numbers (catalogue_in v db))) in_places places (permuted in_places places placed.same))
 
-      fits : are_good_numbers next places deep numbers
+      fits : are_good_unit_numbers next places deep numbers
           ≡ (list_all (λ (row : UnitRow). nat_lt row.id next) in_catalogue && (all_stand_in in_places (unit_numbers (catalogue_in v db)) && (all_stand_in (unit_numbers (catalogue_in v db)) in_places
           && (nat_le (length in_catalogue) most_units && nat_le (height (places_said (places_in (encoding v) db))) most_deep))))
       fits = ap₂ ◌&&◌ below (ap₂ ◌&&◌ all_placed (ap₂ ◌&&◌ all_there (ap₂ ◌&&◌ (ap (λ n. nat_le n most_units) as_many) (ap (λ n. nat_le n most_deep) depth))))
 
   pub units_judged : (places : List ℕ) (deep : ℕ) → AreUnitsPlaced (places_in (encoding v) db) places
       → deep ≡ height (places_said (places_in (encoding v) db)) → (fine : Bool)
-      → fine ≡ are_good_numbers next places deep numbers
+      → fine ≡ are_good_unit_numbers next places deep numbers
       → (good && fine) ≡ not (units_are_defective v next db)
   units_judged places deep placed depth fine is =
       let rest = all_stand_in (place_numbers (places_in (encoding v) db)) (unit_numbers (catalogue_in v db)) && (all_stand_in (unit_numbers (catalogue_in v db)) (place_numbers (places_in (encoding v) db))

@@ -1,10 +1,14 @@
 -- What the desk is held against, as it was read.
-use Rattle.std.proofs.Common.{◌≡◌, ℕ, ℤ, List, length, map, Bool, true, false, cond, not, nat_eq, Option, Some, None, inl, inr, refl, sym, ap, ◌∙◌}
+use Rattle.std.proofs.Common.{◌≡◌, ℕ, ℤ, List, length, map, Bool, true, false, cond, not, nat_eq, Option, Some, None}
+use Rattle.std.proofs.Common.{inl, inr, refl, sym, ap, ◌∙◌}
+use Rattle.desk_core.specs.declared.consistency.context.Around.{Around}
 use Rattle.desk_core.specs.declared.reader.Limits.{Limits}
 use Rattle.office_tables.specs.Schema as tables
-use Rattle.desk_core.specs.declared.consistency.context.Around.{Around}
 use Rattle.integrity_checks.specs.DeskChecks.{is_numbered}
-use Rattle.integrity_checks.proofs.Common.{AreRead, Row, Surrounds, Trees, and_parts, any_read, are_registered_well, around_in, cases_Bool, desk_in, has_unread, in_any_order, list_any, list_any-IsPermutation, number_registered, option_map_or, or_parts, read_number, read_reader, readers_are_defective, readers_in, same_rows}
+use Rattle.integrity_checks.proofs.Common.{AreRead, Row, Surrounds, Trees, and_parts, any_read, are_registered_well}
+use Rattle.integrity_checks.proofs.Common.{around_in, cases_Bool, desk_in, has_unread, in_any_order, list_any}
+use Rattle.integrity_checks.proofs.Common.{list_any-IsPermutation, number_registered, option_map_or, or_parts}
+use Rattle.integrity_checks.proofs.Common.{read_number, read_reader, readers_are_defective, readers_in, same_rows}
 
 -- ---- the readers
 

@@ -1,6 +1,8 @@
 -- Rows that are read, and judged one by one.
-use Rattle.std.proofs.Common.{◌≡◌, List, [], ◌∷◌, map, Bool, true, false, cond, not, ◌&&◌, ◌||◌, Option, Some, None, is_none, filter_map, refl, sym, ap, ap₂}
-use Rattle.integrity_checks.proofs.Common.{AllByRecursion, Row, cons_option, from, has_unread, list_all, option_map_or, or_parts, or_right, true≢false}
+use Rattle.std.proofs.Common.{◌≡◌, List, [], ◌∷◌, map, Bool, true, false, cond, not, ◌&&◌, ◌||◌, Option, Some, None}
+use Rattle.std.proofs.Common.{is_none, filter_map, refl, sym, ap, ap₂}
+use Rattle.integrity_checks.proofs.Common.{AllByRecursion, Row, cons_option, from, has_unread, list_all, option_map_or}
+use Rattle.integrity_checks.proofs.Common.{or_parts, or_right, true≢false}
 
 pub all_same : {A : Type 0} (p q : A → Bool) (xs : List A) → AllByRecursion (λ x. p x ≡ q x) xs
     → list_all p xs ≡ list_all q xs

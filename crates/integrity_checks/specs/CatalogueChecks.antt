@@ -10,7 +10,8 @@ use Rattle.office_tables.specs.Schema as tables
 use Rattle.row_decoding.specs.TableRows.{catalogue_in, containers_are_unread}
 use Rattle.integrity_checks.specs.PlaceChecks.{places_are_defective}
 use Rattle.integrity_checks.specs.declared.catalogue_defect.CatalogueDefect.{CatalogueDefect}
-use Rattle.integrity_checks.specs.declared.catalogue_defect.CatalogueDefect.TheVariants.{Places, Units, Elements, Containers}
+use Rattle.integrity_checks.specs.declared.catalogue_defect.CatalogueDefect.TheVariants.{Places, Units, Elements}
+use Rattle.integrity_checks.specs.declared.catalogue_defect.CatalogueDefect.TheVariants.{Containers}
 
 -- the number of the cause, among the ten for which an office's tables are refused
 abbrev pub cause_of : CatalogueDefect → ℕ

@@ -11,14 +11,15 @@ use Rattle.catalogue_core.specs.Moves.{height as height_of}
 use Rattle.office_tables.specs.CatalogueCells.{read_unit, read_container, read_housing}
 use Rattle.office_tables.specs.Schema as tables
 use Rattle.row_decoding.specs.TableRows.{catalogue_in, containers_in, places_in}
-use Rattle.integrity_checks.specs.CatalogueChecks.{units_are_defective, elements_are_defective, containers_are_defective}
+use Rattle.integrity_checks.specs.CatalogueChecks.{units_are_defective, elements_are_defective}
+use Rattle.integrity_checks.specs.CatalogueChecks.{containers_are_defective}
 use Rattle.integrity_checks.specs.PlaceChecks.{AreUnitsPlaced}
 use Rattle.integrity_checks.specs.declared.catalogue_defect.CatalogueDefect.{CatalogueDefect}
 use Rattle.integrity_checks.specs.declared.catalogue_defect.CatalogueDefect.TheVariants.{Elements, Containers}
 
 -- the numbers of the units are those that have a place, below the next number, not too many, and none lies too deep
-abbrev pub are_good_numbers : ℕ → List ℕ → ℕ → List ℕ → Bool
-are_good_numbers next placed height numbers =
+abbrev pub are_good_unit_numbers : ℕ → List ℕ → ℕ → List ℕ → Bool
+are_good_unit_numbers next placed height numbers =
     list_all (λ n. nat_lt n next) numbers
     && (all_stand_in placed numbers && (all_stand_in numbers placed
     && (nat_le (length numbers) most_units && nat_le height most_deep)))

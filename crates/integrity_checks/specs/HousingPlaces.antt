@@ -9,8 +9,8 @@ use Rattle.integrity_checks.specs.ScanAnswers.{housing_in_answer}
 use Rattle.integrity_checks.specs.declared.housing.Housed.{Housed}
 
 -- the row as the definitions of the catalogue's causes have it
-abbrev pub housing_row : Housed → HousingRow
-housing_row row = record { unit = row.unit; ord = row.ord; container = row.container }
+abbrev pub row_of_housed : Housed → HousingRow
+row_of_housed row = record { unit = row.unit; ord = row.ord; container = row.container }
 
 -- the higher of two places
 abbrev pub higher : ℕ → ℕ → ℕ
@@ -27,7 +27,7 @@ are_filled unit count highest (row ∷ rows) =
 
 -- What was kept of rows: the last unit, the number of its rows, the highest place among them, and the highest container
 -- of all. `are_good`: the units before it are filled, and each row can be read and has numbers from 1 on.
-pub record AreHoused (rows : List Row) (are_good : Bool) (unit count highest last : ℕ) : Type 0 where
+pub record AreSummedUp (rows : List Row) (are_good : Bool) (unit count highest last : ℕ) : Type 0 where
   pub filled : (more : List HousingRow)
       → (not (has_unread housing_in_answer rows) && are_filled 0 0 0 (filter_map housing_in_answer rows ++ more)) ≡ (are_good && are_filled unit count highest more)
   pub contained : (n : ℕ) → nat_le last n ≡ list_all (λ (row : HousingRow). nat_le row.container n) (filter_map housing_in_answer rows)

@@ -1,5 +1,6 @@
 -- Whether the rows of the readers can be a desk's, whatever their cells are.
-use Rattle.std.specs.Prelude.{ℕ, suc, Bool, true, false, not, cond, Option, None, ◌&&◌, ◌||◌, List, [], ◌∷◌, Some, length, nat_eq, nat_le}
+use Rattle.std.specs.Prelude.{ℕ, suc, Bool, true, false, not, cond, Option, None, ◌&&◌, ◌||◌, List, [], ◌∷◌, Some}
+use Rattle.std.specs.Prelude.{length, nat_eq, nat_le}
 use Rattle.std.specs.List.{list_all}
 use Rattle.std.specs.Option.{option_map_or}
 use Rattle.sqlite.specs.Order.{Row, column}

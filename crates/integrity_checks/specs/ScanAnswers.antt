@@ -1,6 +1,7 @@
 -- What the cells mean that a query shows of a row of the catalogue: they are put back in their places in the table's
 -- row. Also what can be judged from a row alone.
-use Rattle.std.specs.Prelude.{ℕ, suc, Bool, true, false, not, cond, ◌&&◌, List, [], ◌∷◌, length, Option, Some, None, is_some, nat_eq, nat_le}
+use Rattle.std.specs.Prelude.{ℕ, suc, Bool, true, false, not, cond, ◌&&◌, List, [], ◌∷◌, length, Option, Some, None}
+use Rattle.std.specs.Prelude.{is_some, nat_eq, nat_le}
 use Rattle.std.specs.Option.{option_map_or}
 use Rattle.sqlite.specs.declared.types.Value.TheVariants.{Null}
 use Rattle.sqlite.specs.Order.{Row, column}
@@ -12,10 +13,7 @@ use Rattle.catalogue_core.specs.CatalogueRows.{UnitRow, ElementRow, ContainerRow
 use Rattle.catalogue_core.specs.Sources.{is_source}
 use Rattle.office_tables.specs.Cells.{from, text_in, flag_in, whole_in, or_null_in}
 use Rattle.office_tables.specs.CatalogueCells.{read_unit, read_element, read_container, read_housing}
-
--- the contents of a row, if it passes
-abbrev pub if_passes : {X : Type 0} → (X → Bool) → X → Option X
-if_passes good x = cond (good x) (Some x) None
+use Rattle.row_decoding.specs.PlaceReadings.{if_passes}
 
 -- ---- units
 

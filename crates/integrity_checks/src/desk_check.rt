@@ -4,7 +4,7 @@ ghost use Rattle.std.specs.Prelude.{◌≡◌, map};
 ghost use Rattle.row_decoding.specs.Examinations.{Examines};
 ghost use Rattle.integrity_checks.specs.DeskChecks.{defect_of_past, defect_of_orders, desk_defect};
 ghost use Rattle.integrity_checks.specs.DeskJudgments.{FollowsDeskRule, FollowsDeskRuleWith, defect_beside_readers};
-ghost use Rattle.desk_core.specs.RowRecords.{order_row};
+ghost use Rattle.desk_core.specs.RowRecords.{order_record};
 
 use crate::desk_defect::DeskDefect;
 use crate::desk_rows::{
@@ -27,7 +27,7 @@ fn check_past<P: Versioned, S: Alter>(
     orders: &[OrderRow],
 ) -> Result<Option<DeskDefect>, StoreFault>
     ensures { Examines S.Store tables.old tables.new result
-        (FollowsDeskRuleWith around.now (map order_row orders.now) defect_of_past) }
+        (FollowsDeskRuleWith around.now (map order_record orders.now) defect_of_past) }
 {
     if !holdings_are_good(alloc, tables, around, orders)? {
         return Ok(Some(DeskDefect::Holdings));

@@ -7,7 +7,7 @@ ghost use Rattle.integrity_checks.specs.DeskChecks.{around_in};
 ghost use Rattle.integrity_checks.specs.DeskJudgments.{FollowsDeskRule, FollowsDeskRuleWith};
 ghost use Rattle.integrity_checks.specs.DeskJudgments.{good_seats_in, good_permits_in, good_holdings_in, good_runs_in};
 ghost use Rattle.integrity_checks.specs.ReaderRows.{number_registered};
-ghost use Rattle.desk_core.specs.RowRecords.{Surrounds, order_row};
+ghost use Rattle.desk_core.specs.RowRecords.{Surrounds, order_record};
 
 use desk_core::Limits;
 use desk_core::consistency::{
@@ -78,7 +78,7 @@ pub(crate) fn holdings_are_good<P: Versioned, S: Alter>(
     orders: &[OrderRow],
 ) -> Result<bool, StoreFault>
     ensures { Examines S.Store tables.old tables.new result
-        (FollowsDeskRuleWith around.now (map order_row orders.now) good_holdings_in) }
+        (FollowsDeskRuleWith around.now (map order_record orders.now) good_holdings_in) }
 {
     let all = holdings(alloc, tables)?;
     let are_good = are_good_holdings(alloc, around, orders, &all.rows)?;
@@ -93,7 +93,7 @@ pub(crate) fn runs_are_good<P: Versioned, S: Alter>(
     orders: &[OrderRow],
 ) -> Result<bool, StoreFault>
     ensures { Examines S.Store tables.old tables.new result
-        (FollowsDeskRuleWith around.now (map order_row orders.now) good_runs_in) }
+        (FollowsDeskRuleWith around.now (map order_record orders.now) good_runs_in) }
 {
     let all = runs(alloc, tables)?;
     let lines = run_lines(alloc, tables)?;

@@ -3,7 +3,7 @@
 ghost use Rattle.std.specs.Prelude.{◌≡◌, nat_le, option_map};
 ghost use Rattle.row_decoding.specs.Examinations.{Examines};
 ghost use Rattle.integrity_checks.specs.ScanAnswers.{housing_in_answer};
-ghost use Rattle.integrity_checks.specs.HousingPlaces.{higher as higher_of, housing_row};
+ghost use Rattle.integrity_checks.specs.HousingPlaces.{higher as higher_of, row_of_housed};
 ghost use Rattle.integrity_checks.specs.CatalogueJudgments.{JudgesHousings};
 
 use office_tables::{Gathering, StoreFault, Tables, Versioned, gather};
@@ -20,7 +20,7 @@ struct Housed {
 
 /// The contents of a row, if its place and its container have numbers from 1 on.
 fn housed_in(row: &Row) -> Option<Housed>
-    ensures { option_map housing_row result ≡ housing_in_answer row.now }
+    ensures { option_map row_of_housed result ≡ housing_in_answer row.now }
 {
     let unit = number_in(cell(row, 0))?;
     let ord = number_in(cell(row, 1))?;
@@ -65,9 +65,9 @@ impl Housings {
 }
 
 impl Gathering for Housings {
-    ghost use Rattle.integrity_checks.specs.HousingPlaces.{AreHoused};
+    ghost use Rattle.integrity_checks.specs.HousingPlaces.{AreSummedUp};
 
-    ghost holds = { λ rows all. AreHoused rows all.are_good all.unit all.count all.highest all.last };
+    ghost holds = { λ rows all. AreSummedUp rows all.are_good all.unit all.count all.highest all.last };
 
     fn take(&mut self, row: &Row) -> Result<(), StoreFault> {
         if self.count >= u64::MAX {

@@ -4,7 +4,7 @@ ghost use Rattle.std.specs.Prelude.{◌≡◌, nat_lt};
 ghost use Rattle.std.specs.List.{list_all};
 ghost use Rattle.row_decoding.specs.Examinations.{Examines};
 ghost use Rattle.integrity_checks.specs.ScanAnswers.{is_described_answer, described_in_answer};
-ghost use Rattle.integrity_checks.specs.CatalogueJudgments.{JudgesUnits, are_good_numbers};
+ghost use Rattle.integrity_checks.specs.CatalogueJudgments.{JudgesUnits, are_good_unit_numbers};
 
 use crate::ascending_numbers::Ascending;
 use crate::cells::{is_day_or_null, is_flag, is_nonblank_text, is_short, is_source_text};
@@ -74,7 +74,7 @@ fn are_below(numbers: &[u64], next: u64) -> bool
 /// Whether these are the numbers of the units that have a place, are below the next number and not too many, and no
 /// unit lies too deep.
 fn are_good(units: &Ascending, places: &Ascending, height: u64, next: u64) -> bool
-    ensures { result ≡ are_good_numbers next places.now height units.now }
+    ensures { result ≡ are_good_unit_numbers next places.now height units.now }
 {
     are_below(units.as_slice(), next)
         && places.contains_all(units.as_slice())
@@ -85,7 +85,7 @@ fn are_good(units: &Ascending, places: &Ascending, height: u64, next: u64) -> bo
 
 /// The same for numbers in any order.
 fn are_placed(numbers: Vec<u64>, placed: Vec<u64>, height: u64, next: u64) -> bool
-    ensures { result ≡ are_good_numbers next placed.items height numbers.items }
+    ensures { result ≡ are_good_unit_numbers next placed.items height numbers.items }
 {
     let units = Ascending::sorted(numbers);
     let places = Ascending::sorted(placed);

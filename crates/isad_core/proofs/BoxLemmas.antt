@@ -1,11 +1,11 @@
 -- Containers that stand once, one more at a time.
 use Rattle.std.proofs.Common.{◌≡◌, ◌∙◌, ◌++◌, ◌∷◌, [], Bool, true, false, List, refl, sym, ap, ap₂, cond}
-use Rattle.std.specs.Prelude.{◌&&◌, ◌||◌, not, filter, if◌then◌else◌}
-use Rattle.std.specs.Str.{bytes_eq}
-use Rattle.std.proofs.lemmas.Slice.Eq.{bytes_eq-Decides}
 use Rattle.std.proofs.lemmas.List.Elements.{filter-append}
 use Rattle.std.proofs.lemmas.List.Folds.{list_any-append}
-use Rattle.isad_core.specs.Boxes.{distinct, is_same}
+use Rattle.std.proofs.lemmas.Slice.Eq.{bytes_eq-Decides}
+use Rattle.std.specs.Prelude.{◌&&◌, ◌||◌, not, filter, if◌then◌else◌}
+use Rattle.std.specs.Str.{bytes_eq}
+use Rattle.isad_core.specs.Boxes.{distinct, is_same_box}
 use Rattle.isad_core.specs.declared.values.BoxKey.{BoxKey}
 use Rattle.isad_core.proofs.Common.{Bytes, list_any}
 
@@ -22,7 +22,7 @@ bytes_eq_sym a b = go (bytes_eq a b) (bytes_eq b a) refl refl
         let yes : bytes_eq a b ≡ true = (bytes_eq-Decides a b).1 (sym ((bytes_eq-Decides b a).0 f)) in
         sym e ∙ yes
 
-pub same_sym : (a b : BoxKey) → is_same a b ≡ is_same b a
+pub same_sym : (a b : BoxKey) → is_same_box a b ≡ is_same_box b a
 same_sym a b =
     ap₂ (λ x y. x && y) (bytes_eq_sym a.name b.name) (ap₂ (λ x y. x && y) (bytes_eq_sym a.location b.location) (bytes_eq_sym a.kind b.kind))
 
@@ -38,15 +38,15 @@ or_comm false false = refl
 
 -- a container that stood already adds nothing
 pub distinct_more : (bs : List BoxKey) (b : BoxKey)
-    → distinct (bs ++ b ∷ []) ≡ distinct bs ++ (if list_any (is_same b) bs then [] else b ∷ [])
+    → distinct (bs ++ b ∷ []) ≡ distinct bs ++ (if list_any (is_same_box b) bs then [] else b ∷ [])
 distinct_more [] b = refl
 distinct_more (c ∷ bs) b =
-    ap (λ ds. c ∷ filter (λ later. not (is_same c later)) ds) (distinct_more bs b)
-    ∙ (ap (λ ds. c ∷ ds) (filter-append (λ later. not (is_same c later)) (distinct bs) (if list_any (is_same b) bs then [] else b ∷ []))
-    ∙ ap (λ ds. distinct (c ∷ bs) ++ ds) (go (list_any (is_same b) bs) (is_same b c) (same_sym c b)))
+    ap (λ ds. c ∷ filter (λ later. not (is_same_box c later)) ds) (distinct_more bs b)
+    ∙ (ap (λ ds. c ∷ ds) (filter-append (λ later. not (is_same_box c later)) (distinct bs) (if list_any (is_same_box b) bs then [] else b ∷ []))
+    ∙ ap (λ ds. distinct (c ∷ bs) ++ ds) (go (list_any (is_same_box b) bs) (is_same_box b c) (same_sym c b)))
   where
-    go : (any same : Bool) → is_same c b ≡ same
-        → filter (λ later. not (is_same c later)) (if any then [] else b ∷ []) ≡ (if same || any then [] else b ∷ [])
+    go : (any same : Bool) → is_same_box c b ≡ same
+        → filter (λ later. not (is_same_box c later)) (if any then [] else b ∷ []) ≡ (if same || any then [] else b ∷ [])
     go true true e = refl
     go true false e = refl
     go false true e = ap (λ (s : Bool). cond (not s) (b ∷ []) []) e
@@ -54,7 +54,7 @@ distinct_more (c ∷ bs) b =
 
 -- what stood, with one more
 pub stood_more : (bs : List BoxKey) (b q : BoxKey)
-    → list_any (is_same q) (bs ++ b ∷ []) ≡ (is_same b q || list_any (is_same q) bs)
+    → list_any (is_same_box q) (bs ++ b ∷ []) ≡ (is_same_box b q || list_any (is_same_box q) bs)
 stood_more bs b q =
-    list_any-append (is_same q) bs (b ∷ [])
-    ∙ (ap (λ s. list_any (is_same q) bs || s) (or_false (is_same q b) ∙ same_sym q b) ∙ or_comm (list_any (is_same q) bs) (is_same b q))
+    list_any-append (is_same_box q) bs (b ∷ [])
+    ∙ (ap (λ s. list_any (is_same_box q) bs || s) (or_false (is_same_box q b) ∙ same_sym q b) ∙ or_comm (list_any (is_same_box q) bs) (is_same_box b q))

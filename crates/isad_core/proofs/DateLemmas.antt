@@ -1,15 +1,19 @@
 -- The date that is written for a day number is the date of the calendar that has this number.
-use Rattle.std.proofs.Common.{◌≡◌, ℕ, suc, ◌+◌, ◌-◌, ◌*◌, ◌/◌, ◌%◌, ◌≤◌, ◌<◌, nat_lt, true, false, arith, pos, negsuc, unsigned_abs, ℤ, ◌≤ℤ◌, ◌+ℤ◌, refl, ap, add-one, subst, sym, ◌∙◌, inl, inr, Some}
+use Rattle.std.proofs.Common.{◌≡◌, ℕ, suc, ◌+◌, ◌-◌, ◌*◌, ◌/◌, ◌%◌, ◌≤◌, ◌<◌, nat_lt, true, false, arith, pos, negsuc}
+use Rattle.std.proofs.Common.{unsigned_abs, ℤ, ◌≤ℤ◌, ◌+ℤ◌, refl, ap, add-one, subst, sym, ◌∙◌, inl, inr, Some}
 use Rattle.std.proofs.lemmas.Bool.{cases_lt, le-ltb, lt-ltb}
+use Rattle.jiff_core.proofs.CalendarLemmas.{days_from_civil-day_count, days_in_month_bounds}
+use Rattle.jiff_core.proofs.DateLemmas.{epoch_day_injective}
+use Rattle.jiff_core.proofs.MarchLemmas.{leap_day, leap_day-shift, march_days-suc, day_count-early, day_count-late}
+use Rattle.jiff_core.proofs.MarchLemmas.{month_and_day, day_in_month, day_in_early_month}
+use Rattle.jiff_core.proofs.SignedLemmas.{signed_arith}
 use Rattle.jiff_core.specs.Calendar.{IsCivilDate, days_from_civil}
 use Rattle.jiff_core.specs.March.{march_days}
 use Rattle.jiff_core.specs.declared.civil.date.Date.{Date}
-use Rattle.jiff_core.proofs.SignedLemmas.{signed_arith}
-use Rattle.jiff_core.proofs.CalendarLemmas.{days_from_civil-day_count, days_in_month_bounds}
-use Rattle.jiff_core.proofs.MarchLemmas.{leap_day, leap_day-shift, march_days-suc, day_count-early, day_count-late, month_and_day, day_in_month, day_in_early_month}
-use Rattle.jiff_core.proofs.DateLemmas.{epoch_day_injective}
 use Rattle.isad_core.specs.Days.{day_text}
-use Rattle.isad_core.proofs.Common.{IsDayNumber, YearMonthDay, date_in_march_year, date_of, date_text, day_of, day_of_march_year, day_of_month, days_after_first_march, digit, epoch_day, is_day_number, march_month, march_year, two_digits}
+use Rattle.isad_core.proofs.Common.{IsDayNumber, YearMonthDay, date_in_march_year, date_of, date_text, day_of}
+use Rattle.isad_core.proofs.Common.{day_of_march_year, day_of_month, days_after_first_march, digit, epoch_day}
+use Rattle.isad_core.proofs.Common.{is_day_number, march_month, march_year, two_digits}
 use Rattle.isad_core.proofs.DayLemmas.{is_civil-true, is_day_number-true}
 
 march_year_parts : (days : ℕ) → days < 7400000 → march_days (march_year days) + day_of_march_year days ≡ days

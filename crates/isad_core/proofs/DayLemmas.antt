@@ -2,9 +2,9 @@
 use Rattle.std.proofs.Common.{◌≡◌, ℕ, ◌≤◌, ◌&&◌, true, false, arith, pos, ℤ, refl, subst, Some, None, if◌then◌else◌}
 use Rattle.std.proofs.lemmas.Bool.{and_parts, and_from, leb-true, le-leb, false_from_ne_true}
 use Rattle.std.specs.Prelude.{nat_le}
+use Rattle.jiff_core.proofs.DateLemmas.{civil}
 use Rattle.jiff_core.specs.Calendar.{IsCivilDate, days_in_month}
 use Rattle.jiff_core.specs.declared.civil.date.Date.{Date}
-use Rattle.jiff_core.proofs.DateLemmas.{civil}
 use Rattle.isad_core.proofs.Common.{IsDayNumber, epoch_day, ints, is_civil, is_day_number, number_of_date}
 
 pub is_civil-true : (year month day : ℕ) → IsCivilDate (pos year) month day → is_civil year month day ≡ true

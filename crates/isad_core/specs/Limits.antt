@@ -1,6 +1,10 @@
 -- The limits of an office. `src/limits.rt` has their numbers.
 use Rattle.std.specs.Prelude.{ℕ, ℤ, ◌<◌, ◌^◌}
-use Rattle.isad_core.specs.declared.limits.TheConstants.{MOST_UNITS, MOST_UNIT_NUMBERS, MOST_DEEP, MOST_BYTES, MOST_ROWS, MOST_SOURCE_BYTES, MOST_CONTAINERS, MOST_NAME_BYTES, MOST_SEATS, MOST_DAILY, MOST_HANDS, MOST_RUN_SIZE, MOST_TICKETS, MOST_PERMITS, MOST_ORDERS, MOST_RUNS, MOST_CONNECTIONS, FIRST_DAY, LAST_DAY}
+use Rattle.isad_core.specs.declared.limits.TheConstants.{MOST_UNITS, MOST_UNIT_NUMBERS, MOST_DEEP, MOST_BYTES}
+use Rattle.isad_core.specs.declared.limits.TheConstants.{MOST_ROWS, MOST_SOURCE_BYTES, MOST_CONTAINERS, MOST_NAME_BYTES}
+use Rattle.isad_core.specs.declared.limits.TheConstants.{MOST_SEATS, MOST_DAILY, MOST_HANDS, MOST_RUN_SIZE}
+use Rattle.isad_core.specs.declared.limits.TheConstants.{MOST_TICKETS, MOST_PERMITS, MOST_ORDERS, MOST_RUNS}
+use Rattle.isad_core.specs.declared.limits.TheConstants.{MOST_CONNECTIONS, FIRST_DAY, LAST_DAY}
 
 -- ---- the catalogue
 

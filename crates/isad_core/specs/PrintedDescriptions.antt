@@ -4,7 +4,7 @@ use Rattle.std.specs.List.{flat_map}
 use Rattle.std.specs.Fmt.{decimal}
 use Rattle.isad_core.specs.Texts.{Bytes, is_blank_text, one_line}
 use Rattle.isad_core.specs.Days.{day_text}
-use Rattle.isad_core.specs.Elements.{name_of, number_of}
+use Rattle.isad_core.specs.Elements.{element_name, standard_number}
 use Rattle.isad_core.specs.declared.element.Element.{Element}
 use Rattle.isad_core.specs.declared.display.Shown.{Shown}
 use Rattle.isad_core.specs.declared.display.Body.{Body}
@@ -38,7 +38,7 @@ head_line unit = one_line unit.code ++ codes " [" ++ or_dash unit.level ++ codes
 
 abbrev pub element_text : Element → Bytes → Bytes
 element_text element value =
-    number_of element ++ 32 ∷ name_of element ++ codes ": " ++ one_line value
+    standard_number element ++ 32 ∷ element_name element ++ codes ": " ++ one_line value
 
 abbrev pub container_text : ℕ → Bytes → Bytes
 container_text number name = codes "Container " ++ decimal number ++ codes ": " ++ one_line name

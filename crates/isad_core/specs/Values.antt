@@ -3,45 +3,50 @@
 use Rattle.std.specs.Prelude.{ℕ, Option, Some, None, option_map, unwrap_or, slice_get, List, [], ◌∷◌, filter_map}
 use Rattle.isad_core.specs.Texts.{Bytes}
 use Rattle.isad_core.specs.declared.element.Element.{Element}
-use Rattle.isad_core.specs.declared.element.Element.TheVariants.{ReferenceCode, Title, Dates, Level, Extent, Creator, CreatorHistory, ArchivalHistory, Acquisition, Scope, Appraisal, Accruals, Arrangement, Access, Reproduction, Language, Physical, FindingAids, Originals, Copies, RelatedUnits, PublicationNote, Note, ArchivistsNote, Rules, DescriptionDates}
+use Rattle.isad_core.specs.declared.element.Element.TheVariants.{ReferenceCode, Title, Dates, Level, Extent, Creator}
+use Rattle.isad_core.specs.declared.element.Element.TheVariants.{CreatorHistory, ArchivalHistory, Acquisition, Scope}
+use Rattle.isad_core.specs.declared.element.Element.TheVariants.{Appraisal, Accruals, Arrangement, Access, Reproduction}
+use Rattle.isad_core.specs.declared.element.Element.TheVariants.{Language, Physical, FindingAids, Originals, Copies}
+use Rattle.isad_core.specs.declared.element.Element.TheVariants.{RelatedUnits, PublicationNote, Note, ArchivistsNote}
+use Rattle.isad_core.specs.declared.element.Element.TheVariants.{Rules, DescriptionDates}
 use Rattle.isad_core.specs.declared.values.Values.{Values}
 
 -- the place of an element's text among the texts; the level has none
-abbrev pub place : Element → Option ℕ
-place ReferenceCode = Some 0
-place Title = Some 1
-place Dates = Some 2
-place Level = None
-place Extent = Some 3
-place Creator = Some 4
-place CreatorHistory = Some 5
-place ArchivalHistory = Some 6
-place Acquisition = Some 7
-place Scope = Some 8
-place Appraisal = Some 9
-place Accruals = Some 10
-place Arrangement = Some 11
-place Access = Some 12
-place Reproduction = Some 13
-place Language = Some 14
-place Physical = Some 15
-place FindingAids = Some 16
-place Originals = Some 17
-place Copies = Some 18
-place RelatedUnits = Some 19
-place PublicationNote = Some 20
-place Note = Some 21
-place ArchivistsNote = Some 22
-place Rules = Some 23
-place DescriptionDates = Some 24
+abbrev pub text_place : Element → Option ℕ
+text_place ReferenceCode = Some 0
+text_place Title = Some 1
+text_place Dates = Some 2
+text_place Level = None
+text_place Extent = Some 3
+text_place Creator = Some 4
+text_place CreatorHistory = Some 5
+text_place ArchivalHistory = Some 6
+text_place Acquisition = Some 7
+text_place Scope = Some 8
+text_place Appraisal = Some 9
+text_place Accruals = Some 10
+text_place Arrangement = Some 11
+text_place Access = Some 12
+text_place Reproduction = Some 13
+text_place Language = Some 14
+text_place Physical = Some 15
+text_place FindingAids = Some 16
+text_place Originals = Some 17
+text_place Copies = Some 18
+text_place RelatedUnits = Some 19
+text_place PublicationNote = Some 20
+text_place Note = Some 21
+text_place ArchivistsNote = Some 22
+text_place Rules = Some 23
+text_place DescriptionDates = Some 24
 
 -- the text of an element other than the level, if there is one
-abbrev pub text_at : Option ℕ → Values → Option Bytes
-text_at None values = None
-text_at (Some i) values = unwrap_or (slice_get values.texts i) None
+abbrev pub text_at_place : Option ℕ → Values → Option Bytes
+text_at_place None values = None
+text_at_place (Some i) values = unwrap_or (slice_get values.texts i) None
 
 abbrev pub text_of : Element → Values → Option Bytes
-text_of element values = text_at (place element) values
+text_of element values = text_at_place (text_place element) values
 
 -- the text of the reference code, or the empty text if there is none
 abbrev pub identifier : Values → Bytes
@@ -58,11 +63,11 @@ line_elements = Dates ∷ Extent ∷ Creator ∷ CreatorHistory ∷ ArchivalHist
     ∷ DescriptionDates ∷ []
 
 -- the line of an element, if the unit has it
-abbrev pub line_of : Values → Element → Option (Element × Bytes)
-line_of values element = option_map (λ text. (element, text)) (text_of element values)
+abbrev pub element_line : Values → Element → Option (Element × Bytes)
+element_line values element = option_map (λ text. (element, text)) (text_of element values)
 
 abbrev pub lines_among : List Element → Values → List (Element × Bytes)
-lines_among elements values = filter_map (line_of values) elements
+lines_among elements values = filter_map (element_line values) elements
 
 -- a unit's own elements that have a line
 abbrev pub own_lines : Values → List (Element × Bytes)

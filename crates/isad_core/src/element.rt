@@ -1,6 +1,6 @@
 //! The elements of a description (ISAD(G), second edition, 3.1 to 3.7).
 ghost use Rattle.std.specs.Prelude.{◌≡◌};
-ghost use Rattle.isad_core.specs.Elements.{is_found_above, name_of, number_of};
+ghost use Rattle.isad_core.specs.Elements.{is_found_above, element_name, standard_number};
 
 /// An element of description, in the standard's order.
 #[derive(Debug, Clone, Copy, PartialEq, Eq)]
@@ -43,7 +43,7 @@ pub enum Element {
 impl Element {
     /// Its number in the standard, such as `3.1.2`.
     pub fn number(self) -> &'static str
-        ensures { result.now ≡ number_of self }
+        ensures { result.now ≡ standard_number self }
     {
         match self {
             Element::ReferenceCode => "3.1.1",
@@ -77,7 +77,7 @@ impl Element {
 
     /// Its name in the standard.
     pub fn name(self) -> &'static str
-        ensures { result.now ≡ name_of self }
+        ensures { result.now ≡ element_name self }
     {
         match self {
             Element::ReferenceCode => "Reference code(s)",

@@ -8,7 +8,7 @@ ghost use Rattle.isad_core.specs.Elements.{elements};
 ghost use Rattle.isad_core.specs.Levels.{rank_of};
 ghost use Rattle.isad_core.specs.PrintedDescriptions.{aid};
 ghost use Rattle.isad_core.specs.Texts.{Bytes, is_line_break, one_line};
-ghost use Rattle.isad_core.specs.Values.{line_elements, place};
+ghost use Rattle.isad_core.specs.Values.{line_elements, text_place};
 ghost use Rattle.isad_core.specs.WorkedExamples.{closed_series, fonds, series};
 ghost use Rattle.isad_core.specs.declared.element.Element.TheVariants.{Dates, Level, ReferenceCode, Title};
 
@@ -43,7 +43,7 @@ pub fn worked_aids()
 /// Each element other than the level has its own place among the texts, in the standard's order. Each
 /// element outside the head line has a line.
 pub fn all_elements()
-    ensures places { filter_map place elements ≡ range_with_len 0 25 }
+    ensures places { filter_map text_place elements ≡ range_with_len 0 25 }
     ensures lines { elements ≡ ReferenceCode ∷ Title ∷ Dates ∷ Level ∷ drop 1 line_elements }
     ensures dates { line_elements ≡ Dates ∷ drop 4 elements }
 {}

@@ -1,6 +1,6 @@
 //! The values of a unit's description, and its containers.
 ghost use Rattle.std.specs.Prelude.{◌≡◌, ◌<◌, ◌++◌, IfOk, IfSome, OnOk, option_copied, option_to_list};
-ghost use Rattle.isad_core.specs.Values.{line_of, lines_among, own_lines, place, text_of};
+ghost use Rattle.isad_core.specs.Values.{element_line, lines_among, own_lines, text_place, text_of};
 
 use crate::element::Element;
 use crate::list::List;
@@ -95,7 +95,7 @@ fn push_line(
     values: &Values,
     element: Element,
 ) -> Result<(), AllocError>
-    ensures { OnOk result (lines.new ≡ lines.old ++ option_to_list (line_of values.now element)) }
+    ensures { OnOk result (lines.new ≡ lines.old ++ option_to_list (element_line values.now element)) }
 {
     match values.text(element) {
         None => Ok(()),
@@ -105,7 +105,7 @@ fn push_line(
 
 /// The place of an element's text among the texts of `Values`.
 fn place_of(element: Element) -> Option<usize>
-    ensures place { result ≡ place element }
+    ensures place { result ≡ text_place element }
     ensures bound { IfSome result (λ i. i < 25) }
 {
     match element {

@@ -6,7 +6,8 @@ use Rattle.isad_core.specs.Elements.{elements, is_found_above}
 use Rattle.isad_core.specs.Levels.{rank_of}
 use Rattle.isad_core.specs.PrintedDescriptions.{aid, element_text, numbered_line, page}
 use Rattle.isad_core.specs.declared.element.Element.{Element}
-use Rattle.isad_core.specs.declared.element.Element.TheVariants.{Dates, Creator, CreatorHistory, ArchivalHistory, Acquisition, Access, Reproduction, Language, Rules}
+use Rattle.isad_core.specs.declared.element.Element.TheVariants.{Dates, Creator, CreatorHistory, ArchivalHistory}
+use Rattle.isad_core.specs.declared.element.Element.TheVariants.{Acquisition, Access, Reproduction, Language, Rules}
 use Rattle.isad_core.specs.declared.display.Shown.{Shown}
 use Rattle.isad_core.specs.declared.display.Body.TheVariants.{Full, Closed}
 use Rattle.isad_core.specs.declared.display.Page.{Page}
@@ -35,8 +36,8 @@ abbrev pub found_above : List Element
 found_above = Creator ∷ CreatorHistory ∷ ArchivalHistory ∷ Acquisition ∷ Access ∷ Reproduction ∷ Language ∷ Rules ∷ []
 
 -- a series with a value of its own, one of its fonds, two containers, and a file below it without a title
-abbrev pub minutes : Shown
-minutes = record {
+abbrev pub minutes_series : Shown
+minutes_series = record {
   depth = 0;
   code = codes "GB 0999 HUL/1";
   level = codes "Series";
@@ -53,7 +54,7 @@ closed_file =
 
 abbrev pub page_of_minutes : Page
 page_of_minutes = record {
-  head = minutes;
+  head = minutes_series;
   lines = (Dates, codes "1840", None) ∷ (Creator, codes "Hull Dock\r\nCompany", Some (codes "GB 0999 HUL")) ∷ [];
   boxes = (7, codes "Box 7", None) ∷ (8, codes "Box 8", Some (codes "GB 0999 HUL")) ∷ [];
   below = (12, untitled) ∷ (13, closed_file) ∷ [];
@@ -67,7 +68,7 @@ pub record Printed : Type 0 where
       ≡ Some 1 ∷ Some 1 ∷ Some 2 ∷ Some 3 ∷ Some 4 ∷ Some 5 ∷ Some 6 ∷ None ∷ []
   pub breaks : one_line (codes "a\r\nb\rc\nd\te") ≡ codes "a b c d\te"
   pub code : code_of (codes "GB") (codes "0999") (codes "HUL" ∷ codes " " ∷ codes "1" ∷ []) ≡ codes "GB 0999 HUL/1"
-  pub aid_lines : aid (minutes ∷ untitled ∷ closed_file ∷ [])
+  pub aid_lines : aid (minutes_series ∷ untitled ∷ closed_file ∷ [])
       ≡ codes "GB 0999 HUL/1 [Series] Minutes\n  3.1.3 Date(s): 1840\n  Container 7: Box 7\n"
       ++ codes "  GB 0999 HUL/1/1 [-] -\n  GB 0999 HUL/1/2 [File] closed until 2024-03-02\n"
   pub page_lines : page page_of_minutes

@@ -8,10 +8,13 @@ use Rattle.office_core.specs.State.{State}
 use Rattle.http_messages.specs.declared.head_scan.HeadScanState.TheVariants.{Lead, Middle}
 use Rattle.http_messages.specs.declared.head_scan.Scan.TheVariants.{Whole, Open}
 use Rattle.http_messages.specs.declared.status.Status.{Status}
-use Rattle.http_messages.specs.declared.status.Status.TheVariants.{Fine, BadRequest, NotFound, MethodNotAllowed, Conflict, LengthRequired, TooLarge, NotImplemented, Busy}
+use Rattle.http_messages.specs.declared.status.Status.TheVariants.{Fine, BadRequest, NotFound, MethodNotAllowed}
+use Rattle.http_messages.specs.declared.status.Status.TheVariants.{Conflict, LengthRequired, TooLarge, NotImplemented}
+use Rattle.http_messages.specs.declared.status.Status.TheVariants.{Busy}
 use Rattle.http_messages.specs.HeadScan.{scan}
 use Rattle.http_messages.specs.Heads.{Request, Refused, verdict_on}
-use Rattle.http_messages.specs.Answers.{response, carried_out, continue_text, command_answer, done_if_read, error, error_text, head_text, not_allowed, number_of, of_told, phrase_of}
+use Rattle.http_messages.specs.Answers.{response, route_carried_out, continue_text, command_answer, done_if_read, error}
+use Rattle.http_messages.specs.Answers.{error_text, head_text, not_allowed, status_code, of_told, phrase_of}
 use Rattle.http_messages.specs.Routes.{TakesFile}
 use Rattle.http_messages.specs.WorkedExamples.{Weighs, With, takes, says_length, expects, chunked_field, options}
 
@@ -70,12 +73,12 @@ abbrev pub refused_head : Bytes
 refused_head = codes "HTTP/1.1 405 Method Not Allowed\r\nContent-Type: application/json\r\nContent-Length: 30\r\nAllow: GET\r\nConnection: close\r\n\r\n"
 
 pub record Stated : Type 0 where
-  pub numbers : map number_of statuses ≡ 200 ∷ 400 ∷ 404 ∷ 405 ∷ 409 ∷ 411 ∷ 413 ∷ 501 ∷ 503 ∷ []
+  pub numbers : map status_code statuses ≡ 200 ∷ 400 ∷ 404 ∷ 405 ∷ 409 ∷ 411 ∷ 413 ∷ 501 ∷ 503 ∷ []
   pub words : map phrase_of statuses ≡ phrases
   pub texts : map error_text statuses ≡ error_texts
   pub fields : head_text true (not_allowed (codes "GET")) ≡ refused_head
   pub go_on : continue_text ≡ codes "HTTP/1.1 100 Continue\r\n\r\n"
   pub json : of_told (told.Json (codes "{}")) ≡ record { status = Fine; is_text = false; allow = None; body = codes "{}" }
   pub bad_body : (s : State) → done_if_read s None ≡ (error BadRequest, s)
-  pub file : (s : State) (body : Bytes) → carried_out s body (TakesFile (codes "a")) ≡ command_answer s (Import (codes "a") body)
+  pub file : (s : State) (body : Bytes) → route_carried_out s body (TakesFile (codes "a")) ≡ command_answer s (Import (codes "a") body)
   pub wrong_method : (s : State) → response s (asks (codes "GET") (codes "/desk/run")) [] ≡ (not_allowed (codes "POST"), s)

@@ -5,7 +5,7 @@ ghost use Rattle.model_tests.specs.WorkedDescriptions.{Printed};
 ghost use Rattle.model_tests.specs.WorkedFiles.{Boxed, Columned, Recorded};
 ghost use Rattle.model_tests.specs.WorkedEndings.{Ended};
 ghost use Rattle.model_tests.specs.WorkedForests.{Withheld};
-ghost use Rattle.model_tests.specs.WorkedPreviews.{Placed, Previewed};
+ghost use Rattle.model_tests.specs.WorkedPreviews.{PlacedRows, Previewed};
 ghost use Rattle.model_tests.specs.WorkedRequests.{Judged, Scanned, Stated};
 ghost use Rattle.model_tests.specs.WorkedRoutes.{Given, Routed};
 ghost use Rattle.model_tests.specs.WorkedSlips.{Slipped};
@@ -82,5 +82,5 @@ pub fn worked_previews()
 
 /// The rows of a file are placed below one another as in these examples.
 pub fn worked_places()
-    ensures { Placed }
+    ensures { PlacedRows }
 {}

@@ -1,31 +1,37 @@
 -- What DROP of the table of links leaves, and that only the store refuses it: no foreign key refers to the table, and
 -- what the others refer to stays.
-use Rattle.std.proofs.Common.{◌≡◌, ◌∙◌, inl, inr, ℕ, List, [], ◌∷◌, length, codes, Bool, true, false, ◌||◌, ◌&&◌, Ok, Err, Option, Some, None, refl, sym, ap, subst, subst₂, if◌then◌else◌}
+use Rattle.std.proofs.Common.{◌≡◌, ◌∙◌, inl, inr, ℕ, List, [], ◌∷◌, length, codes, Bool, true, false, ◌||◌, ◌&&◌, Ok}
+use Rattle.std.proofs.Common.{Err, Option, Some, None, refl, sym, ap, subst, subst₂, if◌then◌else◌}
 use Rattle.std.specs.Bool.{MatchBool}
-use Rattle.sqlite.specs.Does.{Does, Tally, Drops, Empties, Leaves, HoldWithout, is_acted_on}
-use Rattle.sqlite.specs.Listing.{understood}
-use Rattle.sqlite.specs.Rows.{Task, Outcome, Gives, Edited}
-use Rattle.sqlite.specs.Rowids.TheVariants.{Given}
-use Rattle.sqlite.specs.State.{CommitsBy}
-use Rattle.sqlite.specs.declared.error.Error.{Error}
-use Rattle.sqlite.specs.declared.run.Mode.{Mode}
 use Rattle.sqlite.proofs.Callers.{IsPlain, command_of, statement_of, runs_as}
 use Rattle.sqlite.proofs.StateLemmas.{survives_weaker}
+use Rattle.sqlite.specs.Does.{Does, Tally, Drops, Empties, Leaves, HoldWithout, is_acted_on}
+use Rattle.sqlite.specs.Listing.{understood}
+use Rattle.sqlite.specs.Rowids.TheVariants.{Given}
+use Rattle.sqlite.specs.Rows.{Task, Outcome, Gives, Edited}
+use Rattle.sqlite.specs.State.{CommitsBy}
+use Rattle.sqlite.specs.Table.{Table}
+use Rattle.sqlite.specs.declared.error.Error.{Error}
+use Rattle.sqlite.specs.declared.run.Mode.{Mode}
+use Rattle.sqlite_rules.specs.Calls.{ids_of}
 use Rattle.sqlite_schema.specs.Names.{same_name}
 use Rattle.sqlite_schema.specs.Rules.{Refers, Keeps, parent_key, has_parent, has_null, is_held}
 use Rattle.sqlite_schema.specs.declared.schema.Among.TheVariants.{All}
 use Rattle.sqlite_schema.specs.declared.schema.Constraint.TheVariants.{ForeignKey}
 use Rattle.sqlite_schema.specs.declared.schema.Keys.TheVariants.{Enforced}
-use Rattle.sqlite_rules.specs.Calls.{ids_of}
 use Rattle.sqlite_tied.specs.Compute.{everything}
 use Rattle.sqlite_value.specs.Keys.{joined}
-use Rattle.office_tables.specs.declared.fault.StoreFault.TheVariants as fault
 use Rattle.office_tables.proofs.Creations.{naming}
 use Rattle.office_tables.proofs.Errors.{stops}
 use Rattle.office_tables.proofs.Failures.{IsWhole, fails_as}
 use Rattle.office_tables.proofs.Steps.{went, same_value}
-use Rattle.sqlite.specs.Table.{Table}
-use Rattle.nested_sets.proofs.Common.{AllByRecursion, BlamesDisk, Command, Continues, Database, DropTable, Executes, First, HasCause, HasCleanDisk, HasMade, IsAborted, IsDatabase, IsLive, IsMisplaced, KeepsRows, Knows, MayCommit, Says, Shows, State, StoreFault, Survives, Trees, Writes, all_weaker, catalogue_schema, early, edit_of, element, failed_cause, fault_of, housing, le_refl, link, list_all, mode_of, permit, schema, stopped, to_unit}
+use Rattle.office_tables.specs.declared.fault.StoreFault.TheVariants as fault
+use Rattle.nested_sets.proofs.Common.{AllByRecursion, BlamesDisk, Command, Continues, Database, DropTable, Executes}
+use Rattle.nested_sets.proofs.Common.{First, HasCause, HasCleanDisk, HasMade, IsAborted, IsDatabase, IsLive}
+use Rattle.nested_sets.proofs.Common.{IsMisplaced, KeepsRows, Knows, MayCommit, Says, Shows, State, StoreFault}
+use Rattle.nested_sets.proofs.Common.{Survives, Trees, Writes, all_weaker, catalogue_schema, early, edit_of, element}
+use Rattle.nested_sets.proofs.Common.{failed_cause, fault_of, housing, le_refl, link, list_all, mode_of, permit, schema}
+use Rattle.nested_sets.proofs.Common.{stopped, to_unit}
 
 abbrev pub drop_text : List ℕ
 drop_text = codes "DROP TABLE link"

@@ -36,17 +36,17 @@ abbrev pub AwaitsPlaces : State → OfficeRow × Forest ℕ → Type 0
 AwaitsPlaces s m = RepresentsOffice First s.now.trees m.0 × (s.now.trees tables.span.tree ≡ [])
 
 -- the office's row has version 2, and the places are those of the forest
-abbrev pub HasPlaces : State → OfficeRow × Forest ℕ → Type 0
-HasPlaces s m = RepresentsOffice Second s.now.trees m.0 × RepresentsSpanRows s.now.trees m.1
+abbrev pub HasSpanPlaces : State → OfficeRow × Forest ℕ → Type 0
+HasSpanPlaces s m = RepresentsOffice Second s.now.trees m.0 × RepresentsSpanRows s.now.trees m.1
 
 -- A call brings the tables from version 1 to version 2: what they represent by `links`, they then represent by `spans`.
 -- Only the office's row and the places change. The call blames the disk for its own failures only; if what is
--- represented is `kept`, every fault has a cause.
-pub record Migrates {S X M : Type 0} (g : store.Ghosts S) (links spans : Database → M → Type 0) (before after : Held S) (r : Result X StoreFault) (kept : M → Type 0) : Type 0 where
+-- represented is within the bounds, every fault has a cause.
+pub record Migrates {S X M : Type 0} (g : store.Ghosts S) (links spans : Database → M → Type 0) (before after : Held S) (r : Result X StoreFault) (bounds : M → Type 0) : Type 0 where
   pub represents : HasCleanDisk (state g after) → (m : M) → links (state g before).now m → OnOk r (spans (state g after).now m)
   pub only : HasCleanDisk (state g after) → OnOk r (OnlyTouches (tables.office.tree ∷ tables.link.tree ∷ []) (state g before).now (state g after).now)
   pub inside : OnOk r (InTransaction Second (state g after))
   pub goes : OnOk r (Continues (state g before) (state g after))
   pub aborts : OnErr r (IsAborted (state g before) (state g after))
   pub disk : HasCleanDisk (state g after) → IfErr r (BlamesDisk (state g before) (state g after))
-  pub faults : (m : M) → links (state g before).now m → kept m → FaultsHaveCause (state g before) (state g after) r
+  pub faults : (m : M) → links (state g before).now m → bounds m → FaultsHaveCause (state g before) (state g after) r

@@ -1,21 +1,24 @@
 -- An office over tables of any origin, against which there is no cause.
 use Rattle.std.proofs.Common.{◌≡◌, ◌≤◌, ◌∙◌, ℕ, List, Ok, Err, None, IsTrue, inl, inr, arith, refl, sym, subst}
 use Rattle.std.proofs.lemmas.Bool.{both_ways, cases_Bool}
-use Rattle.sqlite_trees.specs.declared.store.Store as trees
-use Rattle.sqlite.specs.State as store
 use Rattle.sqlite.specs.Order.{Row}
 use Rattle.sqlite.specs.State.{ExecutesIn}
+use Rattle.sqlite.specs.State as store
 use Rattle.sqlite.specs.declared.error.Error.{Error}
-use Rattle.row_completeness.specs.WholePlaces.{RepresentsWhatItDescribes}
-use Rattle.adoption.specs.declared.verdict.Verdict.{Verdict}
-use Rattle.adoption.specs.declared.verdict.Verdict.TheVariants as verdict
-use Rattle.adoption.specs.Tables.{RepresentsItsState, SoundTablesRepresentTheirState}
-use Rattle.adoption.specs.OrderedTables.{StandInOrder}
-use Rattle.adoption.proofs.catalogue.Shown.{catalogue_shown}
-use Rattle.adoption.proofs.tables.ShownTables.{sound_are_good, sound_state}
+use Rattle.sqlite_trees.specs.declared.store.Store as trees
 use Rattle.office_tables.specs.Transactions.{IsStopped}
 use Rattle.office_tables.specs.declared.fault.StoreFault.TheVariants as cause
-use Rattle.office.proofs.Common.{BlamesDisk, ConfirmsOpen, Database, Executes, Forest, HasAdoptCause, HasCleanDisk, HasOuterCause, Held, Inspects, IsAdopted, IsAsBefore, IsIn, IsLive, IsNotRun, IsSoundOffice, IsVerdict, RepresentsState, Shows, StoreFault, Survives, Trees, Version, early, encoding, open_fault_of, refusal_of, state, state_in, survives_then}
+use Rattle.row_completeness.specs.WholePlaces.{RepresentsWhatItDescribes}
+use Rattle.adoption.proofs.catalogue.Shown.{catalogue_shown}
+use Rattle.adoption.proofs.tables.ShownTables.{sound_are_good, sound_state}
+use Rattle.adoption.specs.OrderedTables.{StandInOrder}
+use Rattle.adoption.specs.Tables.{RepresentsItsState, SoundTablesRepresentTheirState}
+use Rattle.adoption.specs.declared.verdict.Verdict.{Verdict}
+use Rattle.adoption.specs.declared.verdict.Verdict.TheVariants as verdict
+use Rattle.office.proofs.Common.{BlamesDisk, ConfirmsOpen, Database, Executes, Forest, HasAdoptCause, HasCleanDisk}
+use Rattle.office.proofs.Common.{HasOuterCause, Held, Inspects, IsAdopted, IsAsBefore, IsIn, IsLive, IsNotRun}
+use Rattle.office.proofs.Common.{IsSoundOffice, IsVerdict, RepresentsState, Shows, StoreFault, Survives, Trees, Version}
+use Rattle.office.proofs.Common.{early, encoding, open_fault_of, refusal_of, state, state_in, survives_then}
 
 -- no fault is told of a sound office's tables alone
 pub none_refused : (v : Verdict) → refusal_of v ≡ None → v ≡ verdict.Sound

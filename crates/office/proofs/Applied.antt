@@ -1,20 +1,24 @@
 -- A command's transaction, from its begin to its end.
-use Rattle.std.proofs.Common.{rules, ◌≡◌, ℕ, true, IsTrue, Option, Some, None, Result, Ok, Err, OnOk, refl, sym, ap, subst, ◌∙◌}
+use Rattle.std.proofs.Common.{rules, ◌≡◌, ℕ, true, IsTrue, Option, Some, None, Result, Ok, Err, OnOk, refl, sym, ap}
+use Rattle.std.proofs.Common.{subst, ◌∙◌}
 use Rattle.std.proofs.lemmas.Result.{IfOk-weaker}
-use Rattle.sqlite_trees.specs.declared.store.Store as trees
 use Rattle.sqlite.specs.State.{State}
+use Rattle.sqlite_trees.specs.declared.store.Store as trees
 use Rattle.desk_core.specs.declared.refusal.Refusal.{Refusal}
+use Rattle.office_tables.specs.Transactions.{Committed, IsEnded}
+use Rattle.office_tables.specs.declared.fault.StoreFault.TheVariants as fault
 use Rattle.office_core.specs.Json.{reply_text}
 use Rattle.office_core.specs.Rules as machine
 use Rattle.office_core.specs.State as office
-use Rattle.office_tables.specs.Transactions.{Committed, IsEnded}
-use Rattle.office_tables.specs.declared.fault.StoreFault.TheVariants as fault
-use Rattle.refinement.specs.CommandSteps.{CarriesOutStep}
 use Rattle.refinement.proofs.Crashes.{went}
 use Rattle.refinement.proofs.Doings.{refused}
+use Rattle.refinement.specs.CommandSteps.{CarriesOutStep}
 use Rattle.office.specs.CallTransactions.{Applies, Replies}
 use Rattle.office.specs.Transactions.{Settles}
-use Rattle.office.proofs.Common.{Command, Database, Forest, Goes, GoesOn, HasCleanDisk, Held, IfErr, IfOk, IsAsBefore, IsAtRest, IsErr, IsIn, IsOffice, IsOk, IsSoundOffice, MayFind, Reply, RepresentsState, Shows, StoreFault, Survives, TakesStep, Trees, Version, after, decide, early, refusal, result_of, state, step, survives_then}
+use Rattle.office.proofs.Common.{Command, Database, Forest, Goes, GoesOn, HasCleanDisk, Held, IfErr, IfOk, IsAsBefore}
+use Rattle.office.proofs.Common.{IsAtRest, IsErr, IsIn, IsOffice, IsOk, IsSoundOffice, MayFind, Reply, RepresentsState}
+use Rattle.office.proofs.Common.{Shows, StoreFault, Survives, TakesStep, Trees, Version, after, decide, early, refusal}
+use Rattle.office.proofs.Common.{result_of, state, step, survives_then}
 use Rattle.office.proofs.States.{found_committed, shown_begun}
 
 -- a step that is refused changes nothing

@@ -1,13 +1,15 @@
 -- A question that is asked once more is known of the office.
 use Rattle.std.proofs.Common.{ℕ, Ok, Err, Result, sym, subst, OnOk, OnErr}
 use Rattle.sqlite.specs.State as store
-use Rattle.office_core.specs.State.{State}
-use Rattle.office_core.specs.declared.query.Query.{Query}
-use Rattle.office_core.specs.declared.query.Answer.{Answer}
 use Rattle.office_tables.proofs.CallEnds.{excused_then}
+use Rattle.office_core.specs.State.{State}
+use Rattle.office_core.specs.declared.query.Answer.{Answer}
+use Rattle.office_core.specs.declared.query.Query.{Query}
 use Rattle.refinement.specs.QueryAnswers.{AnswersQuery}
 use Rattle.public_queries.specs.InformedAnswers.{AnswersKnowing}
-use Rattle.office.proofs.Common.{Database, Forest, HasCleanDisk, IsAborted, IsSoundOffice, LeavesUnchanged, RepresentsState, StoreFault, Trees, Version, cut_then, early, looks_then, on_err_then, on_ok_then}
+use Rattle.office.proofs.Common.{Database, Forest, HasCleanDisk, IsAborted, IsSoundOffice, LeavesUnchanged}
+use Rattle.office.proofs.Common.{RepresentsState, StoreFault, Trees, Version, cut_then, early, looks_then, on_err_then}
+use Rattle.office.proofs.Common.{on_ok_then}
 
 looked_on : (a b : store.State) (r : Result Answer StoreFault) → OnOk r (LeavesUnchanged a b) → OnErr r (IsAborted a b)
     → store.Survives a b (λ _. ⊥)

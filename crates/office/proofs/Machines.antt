@@ -1,7 +1,7 @@
 -- The calls of an office over its tables are calls of the machine.
 use Rattle.std.proofs.Common.{◌≡◌, ℕ, Result, Ok, Err, OnErr, sym, ap, subst, ◌∙◌}
-use Rattle.sqlite_trees.specs.declared.store.Store as store
 use Rattle.sqlite.specs.State as sqlite
+use Rattle.sqlite_trees.specs.declared.store.Store as store
 use Rattle.office_core.specs.Json.{reply_text}
 use Rattle.office_core.specs.Queries.{answer}
 use Rattle.office_core.specs.Rules as rules
@@ -9,7 +9,9 @@ use Rattle.office_core.specs.State.{State}
 use Rattle.office_core.specs.declared.query.Answer.{Answer}
 use Rattle.office_core.specs.declared.query.Query.{Query}
 use Rattle.office.specs.Runs.{IsCall, Replied, Answered, question_call, command_call}
-use Rattle.office.proofs.Common.{Command, Database, Forest, Held, IfOk, IsAsBefore, IsIn, IsOk, IsSoundOffice, Reply, RepresentsState, TakesStep, Trees, Version, is_clean, is_shown, is_still_open, state, step}
+use Rattle.office.proofs.Common.{Command, Database, Forest, Held, IfOk, IsAsBefore, IsIn, IsOk, IsSoundOffice, Reply}
+use Rattle.office.proofs.Common.{RepresentsState, TakesStep, Trees, Version, has_clean_disk, is_shown, is_still_open}
+use Rattle.office.proofs.Common.{state, step}
 
 -- while nothing is changed, it is in the state that it was in
 pub in_as_before : (places : Trees → Forest ℕ → Type 0) (version : Version) (a b : sqlite.State) (s : State)
@@ -22,7 +24,7 @@ module _ {S : Type 0} (g : store.Ghosts S) (places : Trees → Forest ℕ → Ty
   shown = is_shown g places version
 
   abbrev clean : Held S → Type 0
-  clean = is_clean g
+  clean = has_clean_disk g
 
   -- a command
   pub applied_call : {E : Type 0} (asked : Command) (r : Result Reply E) → (clean new → clean old)

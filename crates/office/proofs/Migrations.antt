@@ -1,19 +1,21 @@
 -- An office of version 1, judged and brought to version 2.
 use Rattle.std.proofs.Common.{◌≡◌, [], ◌∷◌, ◌≤◌, None, IsTrue, inl, inr, sym, arith, subst, ◌∙◌}
 use Rattle.sqlite.specs.State.{State}
-use Rattle.adoption.specs.declared.verdict.Verdict.{Verdict}
-use Rattle.adoption.specs.declared.verdict.Verdict.TheVariants as verdict
-use Rattle.office_core.specs.State as office
 use Rattle.office_tables.specs.Schema as tables
 use Rattle.office_tables.specs.declared.fault.StoreFault.TheVariants as store
+use Rattle.nested_sets.specs.Representation.{RepresentsSpanRows}
 use Rattle.row_completeness.proofs.KeptPlaces.{links_represent}
-use Rattle.adoption.specs.Tables.{RepresentsItsState}
+use Rattle.office_core.specs.State as office
 use Rattle.adoption.specs.OrderedTables.{StandInOrder}
+use Rattle.adoption.specs.Tables.{RepresentsItsState}
+use Rattle.adoption.specs.declared.verdict.Verdict.{Verdict}
+use Rattle.adoption.specs.declared.verdict.Verdict.TheVariants as verdict
+use Rattle.office.specs.Migration.{IsMigrated}
 use Rattle.office.specs.declared.faults.OpenFault.{OpenFault}
 use Rattle.office.specs.declared.faults.OpenFault.TheVariants as fault
-use Rattle.office.specs.Migration.{IsMigrated}
-use Rattle.nested_sets.specs.Representation.{RepresentsSpanRows}
-use Rattle.office.proofs.Common.{BlamesDisk, Database, First, HasAdoptCause, HasOuterCause, IsDatabase, IsVerdict, OnlyTouches, RepresentsLinkRows, RepresentsState, Second, StoreFault, open_fault_of, refusal_of, state_in}
+use Rattle.office.proofs.Common.{BlamesDisk, Database, First, HasAdoptCause, HasOuterCause, IsDatabase, IsVerdict}
+use Rattle.office.proofs.Common.{OnlyTouches, RepresentsLinkRows, RepresentsState, Second, StoreFault, open_fault_of}
+use Rattle.office.proofs.Common.{refusal_of, state_in}
 use Rattle.office.proofs.Adoptions.{none_refused, sound_shown}
 
 -- tables that are judged to be a sound office's

@@ -3,8 +3,8 @@ use Rattle.std.proofs.Common.{◌≡◌, [], IsTrue, ◌∙◌, arith}
 use Rattle.std.proofs.lemmas.List.Sorted.{IsPermutation-refl}
 use Rattle.sqlite.specs.Change.{KeepsRows}
 use Rattle.sqlite.specs.State.{State}
-use Rattle.desk_store.specs.Representation.{RepresentsDesk}
 use Rattle.office_tables.specs.Creation.{IsMaking}
+use Rattle.desk_store.specs.Representation.{RepresentsDesk}
 use Rattle.office.proofs.Common.{HasCleanDisk, Trees, desk_schema, desk_tables, new_desk, no_schema}
 
 pub making : (a : State) → (HasCleanDisk a → (a.now.schema ≡ no_schema) × IsTrue a.in_transaction)

@@ -1,7 +1,7 @@
 -- The office's own row, and what it tells.
 use Rattle.catalogue_statements.specs.Settings.{AreLegibleSettings}
-use Rattle.office_core.specs.State.{State}
 use Rattle.office_core.proofs.KeptOffices.{office_settings}
+use Rattle.office_core.specs.State.{State}
 use Rattle.office.proofs.Common.{IsSoundOffice, office_of}
 
 -- the row of a sound office can be read back

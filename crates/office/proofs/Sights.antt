@@ -1,9 +1,9 @@
 -- What is seen to be wrong with a command is its first check.
 use Rattle.std.proofs.Common.{◌≡◌, true, false, Bool, Some, sym, refl}
-use Rattle.catalogue_core.specs.Sources.{is_source}
 use Rattle.desk_core.specs.Refusals.{unless}
 use Rattle.desk_core.specs.declared.refusal.Refusal.{Refusal}
 use Rattle.desk_core.specs.declared.refusal.Refusal.TheVariants.{BadName, DayNotLater}
+use Rattle.catalogue_core.specs.Sources.{is_source}
 use Rattle.office_core.specs.State.{State}
 use Rattle.office_core.specs.declared.command.Command.TheVariants as command
 use Rattle.office.specs.Sight.{day_check, name_check}

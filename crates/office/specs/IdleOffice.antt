@@ -33,8 +33,8 @@ abbrev pub is_shown : {S : Type 0} → trees.Ghosts S → (Trees → Forest ℕ 
 is_shown g places version office s = IsSoundOffice s × IsIn places version s (state g office)
 
 -- its disk has returned what was written to it
-abbrev pub is_clean : {S : Type 0} → trees.Ghosts S → Held S → Type 0
-is_clean g office = HasCleanDisk (state g office)
+abbrev pub has_clean_disk : {S : Type 0} → trees.Ghosts S → Held S → Type 0
+has_clean_disk g office = HasCleanDisk (state g office)
 
 -- no failure of the disk has shut its connection
 abbrev pub is_still_open : {S : Type 0} → trees.Ghosts S → Held S → Type 0

@@ -21,17 +21,17 @@ pub record IsGood (founding : Founding) : Type 0 where
 abbrev pub founded : Founding → State
 founded founding = start founding.settings founding.day
 
-abbrev pub fault_of : WrongSetting → SettingsFault
-fault_of Country = fault.Country
-fault_of Repo = fault.Repo
-fault_of Seats = fault.Seats
-fault_of Daily = fault.Daily
-fault_of Hands = fault.Hands
-fault_of RunSize = fault.Run
+abbrev pub settings_fault : WrongSetting → SettingsFault
+settings_fault Country = fault.Country
+settings_fault Repo = fault.Repo
+settings_fault Seats = fault.Seats
+settings_fault Daily = fault.Daily
+settings_fault Hands = fault.Hands
+settings_fault RunSize = fault.Run
 
 -- a wrong setting is named; otherwise the settings are accepted, if there is enough memory
 abbrev pub IsTaken : Founding → Option WrongSetting → Result Founding SettingsFault → Type 0
-IsTaken founding (Some wrong) r = r ≡ Err (fault_of wrong)
+IsTaken founding (Some wrong) r = r ≡ Err (settings_fault wrong)
 IsTaken founding None (Ok taken) = taken ≡ founding
 IsTaken founding None (Err e) = e ≡ fault.Memory
 

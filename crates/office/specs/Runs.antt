@@ -2,7 +2,7 @@
 use Rattle.std.specs.Prelude.{◌≡◌, IsOk, List, [], ◌∷◌, Option, Some, None, Result, Ok, Err, map}
 use Rattle.isad_core.specs.Texts.{Bytes}
 use Rattle.office_core.specs.Json.{reply_text}
-use Rattle.office_core.specs.MixedRuns.{Asked, ToDo, ToTell, Told, next_state, told_of, state_after_all, all_told}
+use Rattle.office_core.specs.MixedRuns.{Asked, ToDo, ToTell, ResultTold, next_state, told_of, state_after_all, all_told}
 use Rattle.office_core.specs.MixedRuns as mixed
 use Rattle.office_core.specs.Rules as machine
 use Rattle.office_core.specs.State.{State}
@@ -17,7 +17,7 @@ pub data Returned : Type 0 where
   Answered : (answer : Answer) → Returned  -- the answer to a question
 
 -- what the machine tells, as a call returns it
-abbrev pub as_returned : Told → Returned
+abbrev pub as_returned : ResultTold → Returned
 as_returned (mixed.Replied reply) = Replied reply (reply_text reply)
 as_returned (mixed.Answered answer) = Answered answer
 

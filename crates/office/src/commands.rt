@@ -1,6 +1,6 @@
 //! Commands: each is one transaction and one step.
 
-ghost use Rattle.std.specs.Prelude.{◌≡◌, ⊤, None, IfErr, IfOk};
+ghost use Rattle.std.specs.Prelude.{◌≡◌, None, IfErr, IfOk};
 ghost use Rattle.sqlite.specs.Held.{state};
 ghost use Rattle.office_core.specs.Json.{reply_text};
 ghost use Rattle.office_core.specs.SoundOffice.{NamesTexts};
@@ -8,7 +8,7 @@ ghost use Rattle.office_tables.specs.declared.fault.StoreFault.TheVariants as fa
 ghost use Rattle.office.specs.CallTransactions.{Applies, Replies};
 ghost use Rattle.office.specs.IdleOffice.{IsOffice};
 ghost use Rattle.office.specs.Sight.{day_check, name_check};
-ghost use Rattle.refinement.specs.CommandSteps.{Performs};
+ghost use Rattle.refinement.specs.CommandSteps.{Performs, PerformsKnowing};
 ghost use Rattle.refinement.specs.Representation.{office_of};
 
 use crate::names::{refused_by_day, refused_by_name};
@@ -38,8 +38,8 @@ fn perform<P: Places, S: Alter>(
     requires named { name_check command.now ≡ None }
     requires dated { day_check row.now.day command.now ≡ None }
     requires texts { NamesTexts command.now }
-    ensures { Performs P.represents P.version S.Store (λ s. row.now ≡ office_of s) command.now tables.old tables.new
-        result }
+    ensures { PerformsKnowing P.represents P.version S.Store (λ s. row.now ≡ office_of s) command.now
+        tables.old tables.new result }
 {
     let today = row.day;
     let limits = limits_in(row);
@@ -89,7 +89,7 @@ fn carry_out<P: Places, S: Alter>(
 ) -> Result<Result<Done, Refusal>, StoreFault>
     requires named { name_check command.now ≡ None }
     requires texts { NamesTexts command.now }
-    ensures { Performs P.represents P.version S.Store (λ _. ⊤) command.now tables.old tables.new result }
+    ensures { Performs P.represents P.version S.Store command.now tables.old tables.new result }
 {
     let row = own_row(alloc, tables)?;
     if let Some(why) = refused_by_day(row.day, command) {

@@ -7,11 +7,11 @@ use sqlite::Alter;
 use std::alloc::Global;
 
 impl<P: Places, S: Alter> Machine for Office<P, S> {
-    ghost use Rattle.office.specs.IdleOffice.{is_clean, is_shown, is_still_open};
+    ghost use Rattle.office.specs.IdleOffice.{has_clean_disk, is_shown, is_still_open};
 
     ghost represents = { is_shown S.Store P.represents P.version };
 
-    ghost is_intact = { is_clean S.Store };
+    ghost is_intact = { has_clean_disk S.Store };
 
     ghost is_open = { is_still_open S.Store };
 

@@ -1,8 +1,9 @@
 //! The office's own row.
 
-ghost use Rattle.std.specs.Prelude.{◌≡◌, ⊤};
+ghost use Rattle.std.specs.Prelude.{◌≡◌};
 ghost use Rattle.office_core.specs.SoundOffice.{IsSoundOffice};
 ghost use Rattle.office_tables.specs.Calls.{Answers};
+ghost use Rattle.office_tables.specs.Premises.{◌within◌gives◌};
 ghost use Rattle.office.specs.Rows.{limits_of_row};
 ghost use Rattle.refinement.specs.AccessConditions.{RepresentsWhole};
 ghost use Rattle.refinement.specs.Representation.{office_of};
@@ -19,8 +20,8 @@ pub(crate) fn own_row<P: Places, S: Alter>(
     alloc: Global,
     tables: &mut Tables<P, S>,
 ) -> Result<OfficeRow, StoreFault>
-    ensures answers { Answers S.Store (RepresentsWhole P.represents P.version) IsSoundOffice tables.old tables.new
-        result (λ _. ⊤) (λ _ s row. row ≡ office_of s) }
+    ensures answers { Answers S.Store (RepresentsWhole P.represents P.version) tables.old tables.new result
+        within IsSoundOffice gives λ _ s row. row ≡ office_of s }
 {
     settings(alloc, tables)
 }

@@ -15,7 +15,7 @@ ghost use Rattle.office.specs.Adoption.{HasAdoptCause, IsAdopted, state_in};
 ghost use Rattle.office.specs.OfficeCall.{HasBusyCause, MayFind, TakesStep};
 ghost use Rattle.office.specs.InitialSettings.{founded};
 ghost use Rattle.office.specs.NewOffice.{HasOpenCause};
-ghost use Rattle.office.specs.IdleOffice.{IsAsBefore, IsAtRest, IsIn, is_clean, is_shown, is_still_open};
+ghost use Rattle.office.specs.IdleOffice.{IsAsBefore, IsAtRest, IsIn, has_clean_disk, is_shown, is_still_open};
 ghost use Rattle.office.specs.Runs.{IsCall, question_call, command_call};
 ghost use Rattle.refinement.specs.Representation.{RepresentsState};
 
@@ -122,7 +122,7 @@ impl<P: Places, S: Alter> Office<P, S> {
         ensures rested { HasCleanDisk (state S.Store self.old) → IsAtRest P.version (state S.Store self.old) }
         ensures crash { Survives (state S.Store self.old) (state S.Store self.new)
             (MayFind P.represents P.version command.now (state S.Store self.old)) }
-        ensures call { IsCall (is_shown S.Store P.represents P.version) (is_clean S.Store) (is_still_open S.Store)
+        ensures call { IsCall (is_shown S.Store P.represents P.version) (has_clean_disk S.Store) (is_still_open S.Store)
             self.old self.new (command_call command.now result) }
     {
         names_days_and_texts(command);
@@ -144,7 +144,7 @@ impl<P: Places, S: Alter> Office<P, S> {
             → IfErr result (HasBusyCause (state S.Store self.old) (state S.Store self.new)) }
         ensures rested { HasCleanDisk (state S.Store self.old) → IsAtRest P.version (state S.Store self.old) }
         ensures crash { Survives (state S.Store self.old) (state S.Store self.new) (λ _. ⊥) }
-        ensures call { IsCall (is_shown S.Store P.represents P.version) (is_clean S.Store) (is_still_open S.Store)
+        ensures call { IsCall (is_shown S.Store P.represents P.version) (has_clean_disk S.Store) (is_still_open S.Store)
             self.old self.new (question_call query result) }
     {
         match ask_in(alloc, &mut self.closed, query) {

@@ -2,12 +2,14 @@
 use Rattle.std.proofs.Common.{◌≡◌, ℕ, List, [], ◌∷◌, Option, Some, None, Ok, Err, refl, sym, ap, subst}
 use Rattle.desk_core.specs.declared.reader.Place.{Place}
 use Rattle.office_core.specs.declared.command.Command.TheVariants as command
-use Rattle.office_core.proofs.Common.{Bytes, Command, Desk, Out, Shelf, State, Taken, after, cancelled, container_of, distinct, distinct_again, imported, intake_of, issued, returned, step, taken_is}
+use Rattle.office_core.proofs.Common.{Bytes, Command, Desk, Out, Shelf, State, Taken, after, cancelled, container_of}
+use Rattle.office_core.proofs.Common.{distinct, distinct_again, intake_of, issued, returned, step, taken_is}
+use Rattle.office_core.proofs.Common.{with_import}
 use Rattle.office_core.proofs.Steps.{step_at}
 
 imported_boxes : (s : State) (source file : Bytes) (t : Taken) → intake_of s source file ≡ t
     → distinct s.catalogue.containers ≡ s.catalogue.containers
-    → distinct (imported s t).catalogue.containers ≡ (imported s t).catalogue.containers
+    → distinct (with_import s t).catalogue.containers ≡ (with_import s t).catalogue.containers
 imported_boxes s source file (Err fault) e b = b
 imported_boxes s source file (Ok intake) e b =
     let x = ap (λ c. c.containers) (taken_is s.catalogue source file intake e).is in

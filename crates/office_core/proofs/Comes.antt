@@ -1,11 +1,16 @@
 -- Units that come have new numbers.
-use Rattle.std.proofs.Common.{◌≡◌, ℕ, true, cond, List, [], ◌∷◌, Option, Some, None, Ok, Err, refl, sym, ◌∙◌, subst, inl}
+use Rattle.std.proofs.Common.{◌≡◌, ℕ, true, cond, List, [], ◌∷◌, Option, Some, None, Ok, Err, refl, sym, ◌∙◌, subst}
+use Rattle.std.proofs.Common.{inl}
 use Rattle.desk_core.specs.declared.reader.Place.{Place}
 use Rattle.office_core.specs.declared.command.Command.TheVariants as command
-use Rattle.office_core.proofs.Common.{Bytes, ComesNew, Command, Desk, OldOrNew, Out, Shelf, State, Taken, Unit, after, cancelled, chosen, closure_id, container_of, each_units, has_cut, has_id, has_moved, has_unit, imported, intake_of, is_chosen, issued, merged_forest, merged_units, new_rows, nodes, numbered_from, of_number, returned, status_id, step, taken_is}
+use Rattle.office_core.proofs.Common.{Bytes, ComesNew, Command, Desk, OldOrNew, Out, Shelf, State, Taken, Unit, after}
+use Rattle.office_core.proofs.Common.{cancelled, chosen, closure_id, container_of, each_units, has_cut, has_id}
+use Rattle.office_core.proofs.Common.{has_moved, has_unit, intake_of, is_chosen, issued, merged_forest, merged_units}
+use Rattle.office_core.proofs.Common.{new_rows, nodes, numbered_from, of_number, returned, status_id, step, taken_is}
+use Rattle.office_core.proofs.Common.{with_import}
 use Rattle.office_core.proofs.Steps.{step_at}
 
-imported_units : (s : State) (source file : Bytes) (t : Taken) → intake_of s source file ≡ t → ComesNew s (imported s t)
+imported_units : (s : State) (source file : Bytes) (t : Taken) → intake_of s source file ≡ t → ComesNew s (with_import s t)
 imported_units s source file (Err fault) e u h = inl h
 imported_units s source file (Ok intake) e u h =
     let x = (taken_is s.catalogue source file intake e).is in

@@ -1,6 +1,8 @@
 -- Counting among the first numbers.
-use Rattle.std.proofs.Common.{◌≡◌, ◌≢◌, ℕ, zero, suc, ◌+◌, ◌-◌, ◌<◌, ◌≤◌, Bool, true, false, cond, ◌||◌, List, [], ◌∷◌, Some, None, refl, sym, ◌∙◌, subst, inl, inr, arith}
-use Rattle.office_core.proofs.Common.{cases_Bool, cases_eq, cases_lt, count_by, false≢true, first_that, is_some, list_any, list_any-append, nth, numbers_to, or_parts, sum_by_push}
+use Rattle.std.proofs.Common.{◌≡◌, ◌≢◌, ℕ, zero, suc, ◌+◌, ◌-◌, ◌<◌, ◌≤◌, Bool, true, false, cond, ◌||◌, List, [], ◌∷◌}
+use Rattle.std.proofs.Common.{Some, None, refl, sym, ◌∙◌, subst, inl, inr, arith}
+use Rattle.office_core.proofs.Common.{cases_Bool, cases_eq, cases_lt, count_by, false≢true, first_that, is_some}
+use Rattle.office_core.proofs.Common.{list_any, list_any-append, nth, numbers_to, or_parts, sum_by_push}
 
 abbrev pub count_to : (ℕ → Bool) → ℕ → ℕ
 count_to f n = count_by f (numbers_to n)

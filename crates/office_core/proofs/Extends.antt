@@ -1,11 +1,16 @@
 -- What only grows: tickets, containers, orders and the day.
-use Rattle.std.proofs.Common.{◌≡◌, ◌≢◌, ℕ, zero, suc, true, List, [], ◌∷◌, ◌++◌, length, Option, Some, None, Ok, Err, refl, sym, ◌∙◌, subst, arith}
-use Rattle.std.specs.Prelude.{ℤ}
+use Rattle.std.proofs.Common.{◌≡◌, ◌≢◌, ℕ, zero, suc, true, List, [], ◌∷◌, ◌++◌, length, Option, Some, None, Ok, Err}
+use Rattle.std.proofs.Common.{refl, sym, ◌∙◌, subst, arith}
+use Rattle.std.specs.Prelude.{ℤ, int_lt}
 use Rattle.desk_core.specs.declared.reader.Place.{Place}
 use Rattle.office_core.specs.declared.command.Command.TheVariants as command
-use Rattle.office_core.proofs.Common.{Bytes, Command, Desk, Order, Out, Reader, Shelf, State, Taken, after, boxes_after, cancelled, checks, container_of, distinct, false≢true, imported, int_lt, intake_of, ints, is_container, is_some, is_ticket, issued, new_boxes, nth, renewed, returned, ◌≤ℤ◌}
+use Rattle.office_core.proofs.Common.{Bytes, Command, Desk, Order, Out, Reader, Shelf, State, Taken, after, boxes_after}
+use Rattle.office_core.proofs.Common.{cancelled, checks, container_of, distinct, false≢true, intake_of, ints}
+use Rattle.office_core.proofs.Common.{is_container, is_some, is_ticket, issued, new_boxes, nth, renewed, returned}
+use Rattle.office_core.proofs.Common.{with_import, ◌≤ℤ◌}
 use Rattle.office_core.proofs.Words.{numbered_within, numbered-push}
-use Rattle.office_core.proofs.Steps.{held_so, Passes}
+use Rattle.office_core.proofs.Steps.{Passes}
+use Rattle.office_core.proofs.PassedChecks.{passed_day}
 
 pub some_is : {X : Type 0} (o : Option X) (x : X) → o ≡ Some x → is_some o ≡ true
 some_is None x e = absurd (cc)
@@ -78,7 +83,7 @@ returned_extends s c Desk = same_lists s s refl refl refl refl refl
 returned_extends s c (Out o) = same_lists s (returned s c (Out o)) refl refl refl refl refl
 
 pub imported_extends : (s : State) (source file : Bytes) (t : Taken) → intake_of s source file ≡ t
-    → distinct s.catalogue.containers ≡ s.catalogue.containers → Extends s (imported s t)
+    → distinct s.catalogue.containers ≡ s.catalogue.containers → Extends s (with_import s t)
 imported_extends s source file (Err fault) e b = same_lists s s refl refl refl refl refl
 imported_extends s source file (Ok intake) e b =
     let x = boxes_after s.catalogue source file intake e b in
@@ -92,7 +97,7 @@ imported_extends s source file (Ok intake) e b =
 
 pub extends_after : (s : State) (asked : Command) → distinct s.catalogue.containers ≡ s.catalogue.containers
     → Passes (checks s asked) → Extends s (after s asked)
-extends_after s (command.OpenDay day) b ok = record { settings = refl; day = after_today s.day day (held_so (int_lt s.day day) _ ok.0); tickets = λ n h. h; containers = λ n h. h; orders = λ o order h. h }
+extends_after s (command.OpenDay day) b ok = record { settings = refl; day = after_today s.day day (passed_day s day ok).later; tickets = λ n h. h; containers = λ n h. h; orders = λ o order h. h }
 extends_after s (command.Register name until) b ok = record { settings = refl; day = same_day s.day; tickets = λ n. some_kept s.readers _ n; containers = λ n h. h; orders = λ o order h. h }
 extends_after s (command.Renew t until) b ok = record { settings = refl; day = same_day s.day; tickets = λ n. some-renewed until s.readers t n; containers = λ n h. h; orders = λ o order h. h }
 extends_after s (command.TakeSeat t) b ok = same_lists s (after s (command.TakeSeat t)) refl refl refl refl refl

@@ -1,14 +1,26 @@
 -- Each order stays in exactly one of its container's queue, its container's place and the past.
-use Rattle.std.proofs.Common.{◌≡◌, ◌≢◌, ℕ, zero, suc, ◌<◌, ◌≤◌, Bool, true, false, cond, ◌&&◌, ◌||◌, List, [], ◌∷◌, ◌++◌, length, Option, Some, None, Ok, Err, refl, sym, ap, ◌∙◌, subst, inl, inr, arith}
+use Rattle.std.proofs.Common.{◌≡◌, ◌≢◌, ℕ, zero, suc, ◌<◌, ◌≤◌, Bool, true, false, cond, ◌&&◌, ◌||◌, List, [], ◌∷◌}
+use Rattle.std.proofs.Common.{◌++◌, length, Option, Some, None, Ok, Err, refl, sym, ap, ◌∙◌, subst, inl, inr, arith}
 use Rattle.std.proofs.Math.Path.{fun_ext}
 use Rattle.std.specs.Prelude.{take}
 use Rattle.desk_core.specs.declared.reader.Place.{Place}
 use Rattle.office_core.specs.State.{Done}
 use Rattle.office_core.specs.declared.command.Command.TheVariants as command
-use Rattle.office_core.proofs.Common.{AllByRecursion, AreFiled, Cancelled, Command, Desk, End, ExactlyOne, IsAscending, IsFiled, Line, Order, Out, Run, Shelf, State, Taken, after, and_parts, brings, cancelled, cases_eq, checks, cons_option, container_of, containers, eqb-true, false≢true, fetched, filter, filter_map, first, idle, imported, intake_of, is_desk, is_due, is_empty, is_idle, is_line_before, is_out_for, is_shelf, is_some, issued, line_for, list_any, nat_eq, next_run, nth, numbers_to, opens, option_map, or_cases, or_right, order_out, ordered, orders_of_run, reshelved, returned, some_and, stands, waits, without}
-use Rattle.office_core.proofs.Words.{same_number, other_number, put_here, put_there, put_each, stands-push, stands-without_other, stands-without_same, below_none, ascending-without, ascending-push, all_from_stands, numbered_within, numbered-push, numbered-push_last, numbered_past}
+use Rattle.office_core.proofs.Common.{AllByRecursion, AreFiled, Cancelled, Command, Desk, End, ExactlyOne, IsAscending}
+use Rattle.office_core.proofs.Common.{IsFiled, Line, Order, Out, Run, Shelf, State, Taken, after, and_parts, brings}
+use Rattle.office_core.proofs.Common.{cancelled, cases_eq, checks, cons_option, container_of, containers, eqb-true}
+use Rattle.office_core.proofs.Common.{false≢true, fetched, filter, filter_map, first, idle, intake_of, is_desk, is_due}
+use Rattle.office_core.proofs.Common.{is_empty, is_idle, is_line_before, is_out_for, is_shelf, is_some, issued}
+use Rattle.office_core.proofs.Common.{line_for, list_any, nat_eq, new_run, nth, numbers_to, opens, option_map, or_cases}
+use Rattle.office_core.proofs.Common.{or_right, order_out, ordered, orders_of_run, reshelved, returned, some_and}
+use Rattle.office_core.proofs.Common.{stands, with_import, without}
+use Rattle.office_core.proofs.Words.{same_number, other_number, put_here, put_there, put_each, stands-push}
+use Rattle.office_core.proofs.Words.{stands-without_other, stands-without_same, below_none, ascending-without}
+use Rattle.office_core.proofs.Words.{ascending-push, all_from_stands, numbered_within, numbered-push}
+use Rattle.office_core.proofs.Words.{numbered-push_last, numbered_past}
 use Rattle.office_core.proofs.LineOrder.{any-in_order}
-use Rattle.office_core.proofs.Steps.{held_so, Passes}
+use Rattle.office_core.proofs.Steps.{Passes}
+use Rattle.office_core.proofs.PassedChecks.{passed_cancel, passed_issue}
 
 -- One order, by where it stands
 
@@ -345,7 +357,7 @@ desk_in_house Desk e = refl
 desk_in_house (Out o) e = absurd (false≢true e)
 
 pub fetched_out : (s : State) (c : ℕ) → order_out ((fetched s).place c) ≡ order_out (s.place c)
-fetched_out s c = in_house (brings (next_run s) c) (s.place c) Desk refl (λ b. shelf_in_house (s.place c) (brings_from_shelf s c (orders_of_run s) (picked_due s) (sym (any-in_order is_line_before (λ line. nat_eq line.container c) (filter_map (line_for s) (orders_of_run s))) ∙ b)))
+fetched_out s c = in_house (brings (new_run s) c) (s.place c) Desk refl (λ b. shelf_in_house (s.place c) (brings_from_shelf s c (orders_of_run s) (picked_due s) (sym (any-in_order is_line_before (λ line. nat_eq line.container c) (filter_map (line_for s) (orders_of_run s))) ∙ b)))
 
 pub reshelved_out : (s : State) (c : ℕ) → order_out ((reshelved s).place c) ≡ order_out (s.place c)
 reshelved_out s c =
@@ -362,7 +374,7 @@ same_out s place runs e f =
     }
 
 -- an import changes neither orders nor queues nor places nor the past
-imported_filed : (s : State) (t : Taken) → AreFiled s → AreFiled (imported s t)
+imported_filed : (s : State) (t : Taken) → AreFiled s → AreFiled (with_import s t)
 imported_filed s (Ok intake) f = record { each = f.each; queues = f.queues }
 imported_filed s (Err fault) f = f
 
@@ -373,10 +385,10 @@ filed_after s (command.Renew t until) f ok = record { each = f.each; queues = f.
 filed_after s (command.TakeSeat t) f ok = record { each = f.each; queues = f.queues }
 filed_after s (command.LeaveSeat t) f ok = record { each = f.each; queues = f.queues }
 filed_after s (command.Order t c) f ok = order_filed s t c f
-filed_after s (command.Cancel o) f ok = cancel_filed s o (container_of s o) refl (held_so (waits s o) _ ok.1.0) f
+filed_after s (command.Cancel o) f ok = cancel_filed s o (container_of s o) refl (passed_cancel s o ok) f
 filed_after s command.Run f ok = same_out s (fetched s).place (fetched s).runs (fetched_out s) f
 filed_after s command.Reshelve f ok = same_out s (reshelved s).place s.runs (reshelved_out s) f
-filed_after s (command.Issue c t) f ok = issue_filed s c (s.queue c) refl (held_so (is_desk (s.place c)) _ ok.1.0) f
+filed_after s (command.Issue c t) f ok = issue_filed s c (s.queue c) refl (passed_issue s c t ok).at_desk f
 filed_after s (command.Return c) f ok = return_filed s c (s.place c) refl f
 filed_after s (command.Permit t u until) f ok = record { each = f.each; queues = f.queues }
 filed_after s (command.Revoke t u) f ok = record { each = f.each; queues = f.queues }

@@ -1,10 +1,17 @@
 -- The limits are those of the rules, and what is full is refused.
 use Rattle.std.proofs.Common.{◌≡◌, ℕ, ◌+◌, ◌≤◌, Bool, true, false, not, ◌&&◌, [], ◌∷◌, length, Some, None, refl, ◌∙◌}
-use Rattle.std.specs.Prelude.{nat_lt}
+use Rattle.std.specs.Prelude.{nat_lt, nat_le}
 use Rattle.isad_core.specs.Days.{day_text}
 use Rattle.desk_core.specs.Names.{is_name}
-use Rattle.office_core.specs.Fullness.{HasItsLimits, HasItsSettings, IsFullExactly, RefusesTickets, RefusesRuns, RefusesOrders, RefusesPermits, MayOrder, RefusesWhereFull}
-use Rattle.office_core.proofs.Common.{AlreadyOrdered, BadName, DailyLimit, Full, NotAvailable, NothingToMove, State, TicketExpired, UnknownTicket, UnknownUnit, and_parts, first_that_holds, has_ordered, has_permit, has_unit, is_between, is_empty, is_expired, is_ticket, le-leb, le-ltb, leb-true, lt-leb, lt-ltb, most_containers, most_daily, most_hands, most_orders, most_permits, most_run_size, most_runs, most_seats, most_tickets, most_unit_numbers, most_units, nat_le, opens, or_right, orders_of_run, orders_placed, size, unless, when}
+use Rattle.office_core.specs.Fullness.{HasItsLimits, HasItsSettings, IsFullExactly, RefusesTickets, RefusesRuns}
+use Rattle.office_core.specs.Fullness.{RefusesOrders, RefusesPermits, MayOrder, RefusesWhereFull}
+use Rattle.office_core.proofs.Common.{AlreadyOrdered, BadName, DailyLimit, Full, NotAvailable, NothingToMove, State}
+use Rattle.office_core.proofs.Common.{TicketExpired, UnknownTicket, UnknownUnit, and_parts, first_that_holds}
+use Rattle.office_core.proofs.Common.{has_ordered, has_permit, has_unit, is_between, is_empty, is_expired, is_ticket}
+use Rattle.office_core.proofs.Common.{le-leb, le-ltb, leb-true, lt-leb, lt-ltb, most_containers, most_daily, most_hands}
+use Rattle.office_core.proofs.Common.{most_orders, most_permits, most_run_size, most_runs, most_seats, most_tickets}
+use Rattle.office_core.proofs.Common.{most_unit_numbers, most_units, opens, or_right, orders_of_run, orders_placed}
+use Rattle.office_core.proofs.Common.{size, unless, when}
 
 pub its_limits : HasItsLimits
 unfolding day_text

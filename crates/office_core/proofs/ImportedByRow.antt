@@ -1,11 +1,11 @@
 -- An import that goes row by row gives what is taken, and tells what is told.
 use Rattle.std.proofs.Common.{ℕ, sym, ap, ◌∙◌}
 use Rattle.atom_csv.proofs.ToldLemmas.{file_sound}
-use Rattle.catalogue_core.specs.EntryByRow.{count_rows}
 use Rattle.catalogue_core.proofs.RowCounts.{changed_counts, new_counts, same_counts}
 use Rattle.catalogue_core.proofs.RowsMerged.{taken_row_by_row}
-use Rattle.office_core.specs.ImportReply.{told_of}
+use Rattle.catalogue_core.specs.EntryByRow.{count_rows}
 use Rattle.office_core.specs.ImportByRow.{FaultsRowByRow, TakesRowByRow}
+use Rattle.office_core.specs.ImportReply.{told_of}
 use Rattle.office_core.specs.declared.done.Done.{Done}
 use Rattle.office_core.specs.declared.done.Done.TheVariants as done
 use Rattle.office_core.proofs.Common.{IsSound, State, count_by, is_changed, is_new, is_same, remarks, with_file}

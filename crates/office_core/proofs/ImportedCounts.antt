@@ -1,12 +1,18 @@
 -- An accepted import brings as many units as its reply counts as new.
-use Rattle.std.proofs.Common.{◌≡◌, ℕ, ◌+◌, ◌<◌, ◌≤◌, true, List, [], ◌++◌, length, None, Ok, Err, refl, sym, ap, ◌∙◌, subst, arith, map, length-append}
+use Rattle.std.proofs.Common.{◌≡◌, ℕ, ◌+◌, ◌<◌, ◌≤◌, true, List, [], ◌++◌, length, None, Ok, Err, refl, sym, ap, ◌∙◌}
+use Rattle.std.proofs.Common.{subst, arith, map, length-append}
 use Rattle.catalogue_core.proofs.NodeLemmas.{length-nodes}
+use Rattle.office_core.specs.ImportReply.{told_of}
 use Rattle.office_core.specs.declared.command.Command.TheVariants as command
 use Rattle.office_core.specs.declared.done.Done.{Done}
 use Rattle.office_core.specs.declared.done.Done.TheVariants as done
-use Rattle.office_core.specs.ImportReply.{told_of}
-use Rattle.office_core.proofs.Common.{AreGoodUnits, Bytes, Catalogue, ImportsBringTheNew, Intake, IsSound, New, Remark, Reply, Row, State, Taken, Unit, all_so, bad_file, count_by, has_unit, imported, intake_of, is_new, length-filter, length-map, length-numbered, length_permutation, merged_forest, merged_nodes, new_rows, new_unit, nodes, numbered_from, revised, size, still_there, taken_is}
+use Rattle.office_core.proofs.Common.{AreGoodUnits, Bytes, Catalogue, ImportsBringTheNew, Intake, IsSound, New, Remark}
+use Rattle.office_core.proofs.Common.{Reply, Row, State, Taken, Unit, all_so, bad_file, count_by, has_unit, intake_of}
+use Rattle.office_core.proofs.Common.{is_new, length-filter, length-map, length-numbered, length_permutation}
+use Rattle.office_core.proofs.Common.{merged_forest, merged_nodes, new_rows, new_unit, nodes, numbered_from, revised}
+use Rattle.office_core.proofs.Common.{size, still_there, taken_is, with_import}
 use Rattle.office_core.proofs.Steps.{step_at}
+use Rattle.office_core.proofs.PassedChecks.{passed_import}
 
 abbrev done_reply : Done → Reply
 done_reply d = Ok d
@@ -34,7 +40,7 @@ merged_size source rows n news s g e =
 
 taken_more : (s : State) (source file : Bytes) (intake : Intake) → intake_of s source file ≡ Ok intake
     → AreGoodUnits s.catalogue
-    → HasMore s (count_by (is_new s.catalogue.forest source) intake.file.rows) (imported s (Ok intake))
+    → HasMore s (count_by (is_new s.catalogue.forest source) intake.file.rows) (with_import s (Ok intake))
 taken_more s source file intake e g =
     let it = taken_is s.catalogue source file intake e in
     let rows = intake.file.rows in
@@ -57,13 +63,13 @@ same_new c n s t c' n' s' t' m m' e = cc
 accepted : (s : State) (source file : Bytes) (r : Taken) → intake_of s source file ≡ r → bad_file r ≡ None
     → AreGoodUnits s.catalogue → (changed new : ℕ) (marks : List Remark) (same translations : ℕ)
     → done_reply (told_of s.catalogue.forest source r) ≡ done_reply (done.Import changed new marks same translations)
-    → HasMore s new (imported s r)
+    → HasMore s new (with_import s r)
 accepted s source file (Err fault) e a g changed new marks same translations t = absurd (cc)
 accepted s source file (Ok intake) e a g changed new marks same translations t =
-    subst (λ n. HasMore s n (imported s (Ok intake))) (same_new _ _ _ _ changed new same translations _ marks (same_reply _ _ t)) (taken_more s source file intake e g)
+    subst (λ n. HasMore s n (with_import s (Ok intake))) (same_new _ _ _ _ changed new same translations _ marks (same_reply _ _ t)) (taken_more s source file intake e g)
 
 pub imports_bring : (s : State) → IsSound s → ImportsBringTheNew s
 imports_bring s g source file changed new marks same translations =
     step_at (λ t reply. reply ≡ Ok (done.Import changed new marks same translations) → HasMore s new t) s (command.Import source file)
     (λ why e. absurd (cc))
-    (λ ok e. accepted s source file (intake_of s source file) refl ok.1.0 g.units changed new marks same translations e)
+    (λ ok e. accepted s source file (intake_of s source file) refl (passed_import s source file ok).faultless g.units changed new marks same translations e)

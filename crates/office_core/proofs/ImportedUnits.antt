@@ -1,17 +1,26 @@
 -- An accepted import keeps the catalogue's own lines of soundness.
-use Rattle.std.proofs.Common.{◌≡◌, ◌+◌, ◌<◌, ◌≤◌, true, false, not, ◌||◌, List, [], ◌++◌, length, None, Ok, Err, refl, sym, ap, subst, arith}
+use Rattle.std.proofs.Common.{◌≡◌, ◌+◌, ◌<◌, ◌≤◌, true, false, not, ◌||◌, List, [], ◌++◌, length, None, Ok, Err, refl}
+use Rattle.std.proofs.Common.{sym, ap, subst, arith}
 use Rattle.std.specs.Prelude.{nat_lt}
-use Rattle.office_core.specs.declared.command.Command.TheVariants as command
-use Rattle.catalogue_core.specs.GoodRows.{IsGoodRow}
-use Rattle.catalogue_core.proofs.GoodRows.{good_rows}
 use Rattle.catalogue_core.proofs.FileRows.{apart_rows}
-use Rattle.catalogue_core.proofs.Rooted.{revised_id}
-use Rattle.catalogue_core.proofs.ImportedValues.{AreGoodValues, all_told, good_revised, good_new}
-use Rattle.catalogue_core.proofs.ImportedNumbers.{distinct_numbers, distinct_pairs}
+use Rattle.catalogue_core.proofs.GoodRows.{good_rows}
 use Rattle.catalogue_core.proofs.ImportedDepth.{merged_depth}
+use Rattle.catalogue_core.proofs.ImportedNumbers.{distinct_numbers, distinct_pairs}
+use Rattle.catalogue_core.proofs.ImportedValues.{AreGoodValues, all_told, good_revised, good_new}
 use Rattle.catalogue_core.proofs.NamedBoxes.{named_from, named_all, named_told}
-use Rattle.office_core.proofs.Common.{AllByRecursion, AreGoodContainers, AreGoodUnits, ArePermitsOfUnits, BoxKey, Bytes, Catalogue, Forest, Full, HasGoodCatalogue, ImportsKeepTheCatalogue, Intake, IsGoodUnit, IsSound, IsTaken, New, Row, State, Taken, Unit, after, all_and, all_append, all_distinct, all_filtered, all_merged, all_so, checks, flat_map, has_unit, ids_between, imported, intake_of, is_blank_text, is_full, is_known, is_source, ltb-false, merged_boxes, merged_forest, most_containers, most_unit_numbers, most_units, new_rows, new_unit, nodes, numbered_from, numbered_rows, or_parts, revised, size, still_there, taken_is, too_much, when}
+use Rattle.catalogue_core.proofs.Rooted.{revised_id}
+use Rattle.catalogue_core.specs.GoodRows.{IsGoodRow}
+use Rattle.office_core.specs.declared.command.Command.TheVariants as command
+use Rattle.office_core.proofs.Common.{AllByRecursion, AreGoodContainers, AreGoodUnits, ArePermitsOfUnits, BoxKey, Bytes}
+use Rattle.office_core.proofs.Common.{Catalogue, Forest, Full, HasGoodCatalogue, ImportsKeepTheCatalogue, Intake}
+use Rattle.office_core.proofs.Common.{IsGoodUnit, IsSound, IsTaken, New, Row, State, Taken, Unit, after, all_and}
+use Rattle.office_core.proofs.Common.{all_append, all_distinct, all_filtered, all_merged, all_so, checks, flat_map}
+use Rattle.office_core.proofs.Common.{has_unit, ids_between, intake_of, is_blank_text, is_full, is_known, is_source}
+use Rattle.office_core.proofs.Common.{ltb-false, merged_boxes, merged_forest, most_containers, most_unit_numbers}
+use Rattle.office_core.proofs.Common.{most_units, new_rows, new_unit, nodes, numbered_from, numbered_rows, or_parts}
+use Rattle.office_core.proofs.Common.{revised, size, still_there, taken_is, too_much, when, with_import}
 use Rattle.office_core.proofs.Steps.{Passes, held_so, held_not, step_at}
+use Rattle.office_core.proofs.PassedChecks.{passed_import}
 
 -- ---- what the refusals leave
 
@@ -74,7 +83,7 @@ module _ (s : State) (source file : Bytes) (intake : Intake) (e : intake_of s so
   abbrev after_import : State
   after_import = record s { catalogue = record { forest = forest; containers = boxes; next = s.catalogue.next + length new } }
 
-  is_after : imported s (Ok intake) ≡ after_import
+  is_after : with_import s (Ok intake) ≡ after_import
   is_after = ap (λ (c : Catalogue). record s { catalogue = c }) it.is
 
   enough : (size forest ≤ most_units) × (s.catalogue.next + length new ≤ most_unit_numbers + 1) × (length boxes ≤ most_containers)
@@ -102,11 +111,11 @@ module _ (s : State) (source file : Bytes) (intake : Intake) (e : intake_of s so
   permits_there : ArePermitsOfUnits after_import
   permits_there = λ t. all_so (λ permit. has_unit s.catalogue.forest permit.unit ≡ true) (λ permit. has_unit forest permit.unit ≡ true) (λ permit. still_there source rows new s.catalogue.forest permit.unit) (s.permits t) (g.permits t)
 
-  sound_import : HasGoodCatalogue (imported s (Ok intake))
+  sound_import : HasGoodCatalogue (with_import s (Ok intake))
   sound_import = subst HasGoodCatalogue (sym is_after) (record { units = good_units; containers = good_containers; permits = permits_there })
 
 at_taken : (s : State) (source file : Bytes) (t : Taken) → intake_of s source file ≡ t → IsSound s
-    → is_source source ≡ true → too_much t ≡ None → HasGoodCatalogue (imported s t)
+    → is_source source ≡ true → too_much t ≡ None → HasGoodCatalogue (with_import s t)
 at_taken s source file (Ok intake) e g named fits = sound_import s source file intake e g named fits
 at_taken s source file (Err fault) e g named fits =
     record { units = g.units; containers = g.containers; permits = g.permits }
@@ -114,7 +123,7 @@ at_taken s source file (Err fault) e g named fits =
 pub import_keeps_units : (s : State) (source file : Bytes) → IsSound s → Passes (checks s (command.Import source file))
     → HasGoodCatalogue (after s (command.Import source file))
 import_keeps_units s source file g ok =
-    at_taken s source file (intake_of s source file) refl g (held_so (is_source source) _ ok.0) ok.1.1.0
+    at_taken s source file (intake_of s source file) refl g (held_so (is_source source) _ (passed_import s source file ok).named) (passed_import s source file ok).room
 
 pub imports_keep : (s : State) → IsSound s → ImportsKeepTheCatalogue s
 imports_keep s g source file =

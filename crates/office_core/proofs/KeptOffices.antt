@@ -1,11 +1,13 @@
 -- A sound office is one that a store can keep.
 use Rattle.std.proofs.Common.{◌≡◌, ℕ, ◌<◌, ◌^◌, true, arith}
+use Rattle.std.specs.Prelude.{nat_le}
 use Rattle.isad_core.proofs.DayLemmas.{is_day_number-true}
+use Rattle.catalogue_core.proofs.KeptCatalogues.{kept, knows, all_places}
 use Rattle.catalogue_core.specs.Bounds.{IsKept}
 use Rattle.catalogue_core.specs.Descriptions.{KnowsItsContainers, HasAllPlaces}
-use Rattle.catalogue_core.proofs.KeptCatalogues.{kept, knows, all_places}
 use Rattle.office_core.specs.SoundOffice.{IsSoundOffice, HasLegibleSettings}
-use Rattle.office_core.proofs.Common.{State, and_parts, is_between, leb-true, most_daily, most_hands, most_run_size, most_seats, nat_le}
+use Rattle.office_core.proofs.Common.{State, and_parts, is_between, leb-true, most_daily, most_hands, most_run_size}
+use Rattle.office_core.proofs.Common.{most_seats}
 
 pub office_kept : (s : State) → IsSoundOffice s → IsKept s.catalogue
 office_kept s g = kept s.catalogue g.sound.units g.sound.containers g.sound.days.closures g.texts.catalogue

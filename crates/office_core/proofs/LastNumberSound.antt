@@ -1,29 +1,30 @@
 -- The office that has one unit number left is sound.
 use Rattle.std.proofs.Common.{◌≡◌, ℕ, ◌+◌, ◌<◌, ◌≤◌, [], ◌∷◌, refl, arith}
-use Rattle.std.specs.Str.{is_utf8, chars}
 use Rattle.std.proofs.Math.Utf8.{encode}
-use Rattle.csv.specs.Reading.{records_from, strip_bom}
+use Rattle.std.specs.Str.{is_utf8, chars}
 use Rattle.csv.specs.Machine.{next_record}
+use Rattle.csv.specs.Reading.{records_from, strip_bom}
 use Rattle.atom_csv.specs.Columns.{columns}
 use Rattle.atom_csv.specs.Values.{text_elements}
 use Rattle.catalogue_core.specs.ContainerContents.{is_open}
-use Rattle.office_core.specs.declared.command.Command.TheVariants as command
 use Rattle.catalogue_core.specs.Intake.{take}
-use Rattle.office_core.specs.WorkedExamples.{office, import, ann, boxes, march_1, with_next, one_number_left}
-use Rattle.office_core.proofs.Common.{IsGoodLine, IsSound, IsSoundDesk, State, Unit, all_so, ints, most_unit_numbers, nodes, state_after}
+use Rattle.office_core.specs.WorkedExamples.{new_office, import, ann, boxes, march_1, with_next, one_number_left}
+use Rattle.office_core.specs.declared.command.Command.TheVariants as command
+use Rattle.office_core.proofs.Common.{IsGoodLine, IsSound, IsSoundDesk, State, Unit, all_so, ints, most_unit_numbers}
+use Rattle.office_core.proofs.Common.{nodes, state_after}
 use Rattle.office_core.proofs.Starts.{starts_sound}
 use Rattle.office_core.proofs.StaysSound.{always_sound}
 
 -- the same office, before so many numbers were given
 before : State
-before = state_after office (import boxes ∷ ann ∷ command.Order 1 2 ∷ command.Run ∷ command.TakeSeat 1 ∷ command.Issue 2 1 ∷ [])
+before = state_after new_office (import boxes ∷ ann ∷ command.Order 1 2 ∷ command.Run ∷ command.TakeSeat 1 ∷ command.Issue 2 1 ∷ [])
 
 before_sound : IsSound before
 unfolding before
 before_sound =
-    always_sound office (import boxes ∷ ann ∷ command.Order 1 2 ∷ command.Run ∷ command.TakeSeat 1 ∷ command.Issue 2 1 ∷ [])
+    always_sound new_office (import boxes ∷ ann ∷ command.Order 1 2 ∷ command.Run ∷ command.TakeSeat 1 ∷ command.Issue 2 1 ∷ [])
     (tt, ((omega (arith, ints), omega (arith, ints)), (tt, (tt, (tt, (tt, tt))))))
-    (starts_sound office.settings march_1 (record { country = refl; repo = refl; seats = refl; daily = refl; hands = refl; run_size = refl }) (omega (arith, ints), omega (arith, ints)))
+    (starts_sound new_office.settings march_1 (record { country = refl; repo = refl; seats = refl; daily = refl; hands = refl; run_size = refl }) (omega (arith, ints), omega (arith, ints)))
 
 next_now : before.catalogue.next ≡ 5
 unfolding before is_open take is_utf8 chars encode records_from strip_bom next_record columns text_elements

@@ -2,6 +2,7 @@ pub mod Common
 pub mod Orders
 pub mod Counts
 pub mod Steps
+pub mod PassedChecks
 pub mod Words
 pub mod Filed
 pub mod Extends

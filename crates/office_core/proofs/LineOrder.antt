@@ -1,5 +1,6 @@
 -- Lines that are put in the order of their containers are the same lines, and each container stands once where it did before.
-use Rattle.std.proofs.Common.{◌≡◌, ◌≢◌, suc, ◌<◌, Bool, true, false, cond, List, [], ◌∷◌, length, refl, ap, ◌∙◌, arith, nat_lt}
+use Rattle.std.proofs.Common.{◌≡◌, ◌≢◌, suc, ◌<◌, Bool, true, false, cond, List, [], ◌∷◌, length, refl, ap, ◌∙◌, arith}
+use Rattle.std.proofs.Common.{nat_lt}
 use Rattle.std.specs.Prelude.{◌||◌}
 use Rattle.desk_core.specs.Orders.{in_order, put_in_order}
 use Rattle.office_core.proofs.Common.{AllByRecursion, ByContainer, Line, is_line_before, list_any, ltb-false, ltb-true}

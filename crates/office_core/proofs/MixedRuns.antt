@@ -1,7 +1,8 @@
 -- Queries among commands change nothing, and each answer is of the state that it finds.
 use Rattle.std.proofs.Common.{◌≡◌, List, [], ◌∷◌, ◌++◌, refl, ap, ◌∙◌}
+use Rattle.office_core.specs.MixedRuns.{Asked, ToDo, ToTell, Answered, state_after_all, all_told, commands_of}
+use Rattle.office_core.specs.MixedRuns.{next_state, replies_of, told_of}
 use Rattle.office_core.specs.declared.query.Query.{Query}
-use Rattle.office_core.specs.MixedRuns.{Asked, ToDo, ToTell, Answered, state_after_all, all_told, commands_of, next_state, replies_of, told_of}
 use Rattle.office_core.proofs.Common.{State, answer, replies, state_after, step}
 
 pub only_commands : (s : State) (asked : List Asked) → state_after_all s asked ≡ state_after s (commands_of asked)

@@ -2,12 +2,15 @@
 use Rattle.std.proofs.Common.{◌≡◌, ℕ, cond, true, List, [], ◌∷◌, ◌++◌, refl, sym, ap, ◌∙◌}
 use Rattle.isad_core.specs.PrintedDescriptions.{aid, head_line, line}
 use Rattle.isad_core.specs.declared.display.Shown.{Shown}
+use Rattle.catalogue_core.proofs.PagesAlike.{AllAlike, each_alike, path_alike, tree_alike, shown_alike, with_boxes}
+use Rattle.catalogue_core.proofs.PagesAlike.{beside_alike, page_at_alike, alike_unit}
+use Rattle.catalogue_core.specs.Aids.{Repository}
 use Rattle.office_core.specs.declared.query.Answer.TheVariants.{Text, Unknown}
 use Rattle.office_core.specs.declared.query.Query.{Query}
 use Rattle.office_core.specs.declared.query.Query.TheVariants as query
-use Rattle.catalogue_core.specs.Aids.{Repository}
-use Rattle.catalogue_core.proofs.PagesAlike.{AllAlike, each_alike, path_alike, tree_alike, shown_alike, with_boxes, beside_alike, page_at_alike, alike_unit}
-use Rattle.office_core.proofs.Common.{AnswersAlike, BoxKey, Forest, PublicUnit, SamePublic, State, UnknownUnit, above_last, answer, decimal, flat_map, has, is_numbered, is_public, nodes, page_answer, path, press, public_answer, public_forest, tree}
+use Rattle.office_core.proofs.Common.{AnswersAlike, BoxKey, Forest, PublicUnit, SamePublic, State, UnknownUnit}
+use Rattle.office_core.proofs.Common.{above_last, answer, decimal, flat_map, has, has_public_number, is_public, nodes}
+use Rattle.office_core.proofs.Common.{page_answer, path, press, public_answer, public_forest, tree}
 
 fonds_alike : (at : Repository) (xs ys : List BoxKey) (f : Forest PublicUnit) → AllAlike xs ys (nodes f)
     → public_answer (with_boxes at xs) f query.Fonds ≡ public_answer (with_boxes at ys) f query.Fonds
@@ -17,14 +20,14 @@ fonds_alike at xs ys f h =
 aid_alike : (at : Repository) (xs ys : List BoxKey) (u : ℕ) (f : Forest PublicUnit) → AllAlike xs ys (nodes f)
     → public_answer (with_boxes at xs) f (query.Aid u) ≡ public_answer (with_boxes at ys) f (query.Aid u)
 aid_alike at xs ys u f h =
-    ap (λ units. cond (has (is_numbered u) f) (Text (aid units)) (Unknown UnknownUnit))
-    (shown_alike at xs ys (above_last (path (is_numbered u) f)) 0 (tree (is_numbered u) f) (tree_alike (alike_unit xs ys) (is_numbered u) f h))
+    ap (λ units. cond (has (has_public_number u) f) (Text (aid units)) (Unknown UnknownUnit))
+    (shown_alike at xs ys (above_last (path (has_public_number u) f)) 0 (tree (has_public_number u) f) (tree_alike (alike_unit xs ys) (has_public_number u) f h))
 
 page_alike : (at : Repository) (xs ys : List BoxKey) (u : ℕ) (f : Forest PublicUnit) → AllAlike xs ys (nodes f)
     → public_answer (with_boxes at xs) f (query.Page u) ≡ public_answer (with_boxes at ys) f (query.Page u)
 page_alike at xs ys u f h =
     ap page_answer
-    (page_at_alike at xs ys (path (is_numbered u) f) (tree (is_numbered u) f) (path_alike (alike_unit xs ys) (is_numbered u) f h) (tree_alike (alike_unit xs ys) (is_numbered u) f h))
+    (page_at_alike at xs ys (path (has_public_number u) f) (tree (has_public_number u) f) (path_alike (alike_unit xs ys) (has_public_number u) f h) (tree_alike (alike_unit xs ys) (has_public_number u) f h))
 
 public_alike : (at : Repository) (xs ys : List BoxKey) (f : Forest PublicUnit) → AllAlike xs ys (nodes f)
     → (asked : Query) → is_public asked ≡ true

@@ -1,9 +1,14 @@
 -- New rows get the next unit numbers in the order of the file.
-use Rattle.std.proofs.Common.{◌≡◌, ℕ, suc, ◌+◌, ◌<◌, ◌≤◌, Bool, true, ◌&&◌, List, [], ◌∷◌, ◌++◌, None, Ok, Err, refl, sym, ◌∙◌, subst, arith, map}
-use Rattle.catalogue_core.specs.CatalogueMerge.{number_of}
+use Rattle.std.proofs.Common.{◌≡◌, ℕ, suc, ◌+◌, ◌<◌, ◌≤◌, Bool, true, ◌&&◌, List, [], ◌∷◌, ◌++◌, None, Ok, Err, refl}
+use Rattle.std.proofs.Common.{sym, ◌∙◌, subst, arith, map}
 use Rattle.office_core.specs.declared.command.Command.TheVariants as command
-use Rattle.office_core.proofs.Common.{AreNumberedUnits, Bytes, Catalogue, File, Forest, IsSound, New, NumbersRows, Row, State, Taken, Unit, all_so, bad_file, eq-eqb, file_of, has, has_id, imported, intake_of, is_from, list_any, list_any-IsPermutation, list_any-append, merged_forest, merged_nodes, new_rows, new_unit, nodes, numbered_from, option_and_then, or_left, or_right, revised, same_text, taken_is}
+use Rattle.office_core.proofs.Common.{AreNumberedUnits, Bytes, Catalogue, File, Forest, IsSound, New, NumbersRows, Row}
+use Rattle.office_core.proofs.Common.{State, Taken, Unit, all_so, bad_file, eq-eqb, file_of, has, has_id, intake_of}
+use Rattle.office_core.proofs.Common.{is_from, list_any, list_any-IsPermutation, list_any-append, merged_forest}
+use Rattle.office_core.proofs.Common.{merged_nodes, new_rows, new_unit, nodes, numbered_from, option_and_then, or_left}
+use Rattle.office_core.proofs.Common.{or_right, parent_number, revised, same_text, taken_is, with_import}
 use Rattle.office_core.proofs.Steps.{step_at}
+use Rattle.office_core.proofs.PassedChecks.{passed_import}
 
 -- a unit with this number, from this source, with this number there
 abbrev is_row : Bytes → ℕ → Bytes → Unit → Bool
@@ -18,7 +23,7 @@ rows_among : (f : Forest Unit) (source : Bytes) (g : Forest Unit) (n : ℕ) (abo
     → AreNumberedUnits g source n rows
 rows_among f source g n above [] h = tt
 rows_among f source g n above (row ∷ rows) h =
-    let first : New = record { id = n; parent = option_and_then (number_of f source n above) row.parent; row = row } in
+    let first : New = record { id = n; parent = option_and_then (parent_number f source n above) row.parent; row = row } in
     let later = numbered_from f source (n + 1) (row ∷ above) rows in
     let next : n + 1 ≡ suc n = omega arith in (
       h (is_row source n row.legacy) (or_left (is_row source n row.legacy (new_unit source first)) (list_any (is_row source n row.legacy) (map (new_unit source) later)) (its_row source first n refl)),
@@ -40,7 +45,7 @@ same_file a b r e f = let k : Ok a ≡ Ok b = sym e ∙ f in cc
 
 imported_rows : (s : State) (source file : Bytes) (t : Taken) → intake_of s source file ≡ t → bad_file t ≡ None
     → IsSound s → (read : File) → file_of file ≡ Ok read
-    → AreNumberedUnits (imported s t).catalogue.forest source s.catalogue.next (new_rows s.catalogue source read.rows)
+    → AreNumberedUnits (with_import s t).catalogue.forest source s.catalogue.next (new_rows s.catalogue source read.rows)
 imported_rows s source file (Err fault) e b g read f = absurd (cc)
 imported_rows s source file (Ok intake) e b g read f =
     let it = taken_is s.catalogue source file intake e in
@@ -51,4 +56,4 @@ pub numbers_rows : (s : State) → IsSound s → NumbersRows s
 numbers_rows s g source file read done e f =
     step_at (λ t reply. reply ≡ Ok done → AreNumberedUnits t.catalogue.forest source s.catalogue.next (new_rows s.catalogue source read.rows)) s (command.Import source file)
     (λ why k. absurd (cc))
-    (λ ok k. imported_rows s source file (intake_of s source file) refl ok.1.0 g read f) e
+    (λ ok k. imported_rows s source file (intake_of s source file) refl (passed_import s source file ok).faultless g read f) e

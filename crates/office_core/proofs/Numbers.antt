@@ -1,8 +1,13 @@
 -- Numbers are given in order, from 1 on.
-use Rattle.std.proofs.Common.{◌≡◌, ℕ, zero, suc, ◌+◌, ◌-◌, ◌≤◌, List, [], ◌∷◌, ◌++◌, length, Option, Some, None, Ok, Err, refl, sym, ap, ◌∙◌, subst, arith, length-append}
+use Rattle.std.proofs.Common.{◌≡◌, ℕ, zero, suc, ◌+◌, ◌-◌, ◌≤◌, List, [], ◌∷◌, ◌++◌, length, Option, Some, None, Ok}
+use Rattle.std.proofs.Common.{Err, refl, sym, ap, ◌∙◌, subst, arith, length-append}
 use Rattle.desk_core.specs.declared.reader.Place.{Place}
 use Rattle.office_core.specs.declared.command.Command.TheVariants as command
-use Rattle.office_core.proofs.Common.{Bytes, Command, Containers, Desk, GivenInOrder, Kind, Orders, Out, Refusal, Runs, Shelf, StartsAtOne, State, Taken, Tickets, Units, after, all_given, boxes_after, cancelled, container_of, distinct, given_numbers, imported, intake_of, issued, new_boxes, next_after, next_number, numbers_from, option_to_list, order_given, result_of, returned, run_given, state_after, step, ticket_given}
+use Rattle.office_core.proofs.Common.{Bytes, Command, Containers, Desk, GivenInOrder, Kind, Orders, Out, Refusal, Runs}
+use Rattle.office_core.proofs.Common.{Shelf, StartsAtOne, State, Taken, Tickets, Units, after, all_given, boxes_after}
+use Rattle.office_core.proofs.Common.{cancelled, container_of, distinct, given_numbers, intake_of, issued, new_boxes}
+use Rattle.office_core.proofs.Common.{next_after, next_number, numbers_from, option_to_list, order_given, result_of}
+use Rattle.office_core.proofs.Common.{returned, run_given, state_after, step, ticket_given, with_import}
 use Rattle.office_core.proofs.Steps.{step_at}
 use Rattle.office_core.proofs.Boxes.{step_apart}
 use Rattle.office_core.proofs.Readers.{length-renewed}
@@ -72,7 +77,7 @@ returned_same s c (Out o) = record { readers = refl; orders = refl; runs = refl;
 
 imported_lists : (s : State) (source file : Bytes) (t : Taken) → intake_of s source file ≡ t
     → distinct s.catalogue.containers ≡ s.catalogue.containers
-    → (length (imported s t).readers ≡ length s.readers) × (length (imported s t).orders ≡ length s.orders) × (length (imported s t).runs ≡ length s.runs) × (length s.catalogue.containers ≤ length (imported s t).catalogue.containers) × (s.catalogue.next ≤ (imported s t).catalogue.next)
+    → (length (with_import s t).readers ≡ length s.readers) × (length (with_import s t).orders ≡ length s.orders) × (length (with_import s t).runs ≡ length s.runs) × (length s.catalogue.containers ≤ length (with_import s t).catalogue.containers) × (s.catalogue.next ≤ (with_import s t).catalogue.next)
 imported_lists s source file (Err fault) e b = (refl, refl, refl, omega arith, omega arith)
 imported_lists s source file (Ok intake) e b =
     let x = ap length (boxes_after s.catalogue source file intake e b) in

@@ -1,8 +1,14 @@
 -- What numbers are given to.
-use Rattle.std.proofs.Common.{◌≡◌, ℕ, ◌+◌, ◌<◌, ◌≤◌, true, List, [], ◌∷◌, ◌++◌, length, Option, Some, None, Ok, Err, refl, sym, ◌∙◌, subst, inl, inr, arith, map}
+use Rattle.std.proofs.Common.{◌≡◌, ℕ, ◌+◌, ◌<◌, ◌≤◌, true, List, [], ◌∷◌, ◌++◌, length, Option, Some, None, Ok, Err}
+use Rattle.std.proofs.Common.{refl, sym, ◌∙◌, subst, inl, inr, arith, map}
 use Rattle.desk_core.specs.declared.reader.Place.{Place}
 use Rattle.office_core.specs.declared.command.Command.TheVariants as command
-use Rattle.office_core.proofs.Common.{AreNumberedFrom, Bytes, Catalogue, Command, Desk, EachIsUnits, IsSound, NamesWhatCame, New, Out, Refusal, Row, Shelf, State, Taken, Unit, after, all_so, cancelled, cases_eq, container_of, eq-eqb, has_id, has_unit, imported, intake_of, issued, list_any, list_any-IsPermutation, list_any-append, merged_forest, merged_nodes, nat_eq, new_rows, new_unit, nodes, numbered_are, numbered_from, or_left, or_right, result_of, returned, revised, step, taken_is}
+use Rattle.office_core.proofs.Common.{AreNumberedFrom, Bytes, Catalogue, Command, Desk, EachIsUnits, IsSound}
+use Rattle.office_core.proofs.Common.{NamesWhatCame, New, Out, Refusal, Row, Shelf, State, Taken, Unit, after, all_so}
+use Rattle.office_core.proofs.Common.{cancelled, cases_eq, container_of, eq-eqb, has_id, has_unit, intake_of, issued}
+use Rattle.office_core.proofs.Common.{list_any, list_any-IsPermutation, list_any-append, merged_forest, merged_nodes}
+use Rattle.office_core.proofs.Common.{nat_eq, new_rows, new_unit, nodes, numbered_are, numbered_from, or_left, or_right}
+use Rattle.office_core.proofs.Common.{result_of, returned, revised, step, taken_is, with_import}
 use Rattle.office_core.proofs.Steps.{step_at}
 use Rattle.office_core.proofs.Words.{numbered-push_last}
 
@@ -50,7 +56,7 @@ merged_has s source rows g u l h =
     ∙ or_right (list_any (has_id u) old) (list_any (has_id u) (map (new_unit source) new)) (has_new source s.catalogue.next new u (numbered_are s.catalogue.forest source s.catalogue.next [] news) l h))
 
 imported_each : (s : State) (source file : Bytes) (t : Taken) → intake_of s source file ≡ t → IsSound s
-    → EachIsUnits s (imported s t)
+    → EachIsUnits s (with_import s t)
 imported_each s source file (Err fault) e g = none_new s s refl
 imported_each s source file (Ok intake) e g =
     subst (λ (c : Catalogue). (u : ℕ) → s.catalogue.next ≤ u → u < c.next → has_unit c.forest u ≡ true) (sym (taken_is s.catalogue source file intake e).is) (merged_has s source intake.file.rows g)

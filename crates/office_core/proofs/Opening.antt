@@ -1,8 +1,10 @@
 -- A permit closes nothing: the one fact on the catalogue that the desk needs.
 use Rattle.std.proofs.Common.{◌≡◌, ℕ, Bool, true, false, not, cond, ◌&&◌, ◌||◌, List, [], ◌∷◌, refl, subst, arith}
-use Rattle.std.specs.Prelude.{ℤ, nat_lt}
+use Rattle.std.specs.Prelude.{ℤ, nat_lt, int_lt}
 use Rattle.catalogue_core.specs.ContainerContents.{is_open}
-use Rattle.office_core.proofs.Common.{BoxKey, Forest, Permit, Unit, and_parts, contents, eqb-true, false≢true, granted, int_le, int_lt, ints, is_closed, is_permitted, is_some_there, is_withheld_from, list_all, list_any, nat_eq, or_right}
+use Rattle.office_core.proofs.Common.{BoxKey, Forest, Permit, Unit, and_parts, contents, eqb-true, false≢true, granted}
+use Rattle.office_core.proofs.Common.{int_le, ints, is_permitted, is_some_there, is_unit_closed, is_withheld_from}
+use Rattle.office_core.proofs.Common.{list_all, list_any, nat_eq, or_right}
 
 any_weaker : {X : Type 0} (p q : X → Bool) → ((x : X) → p x ≡ true → q x ≡ true) → (xs : List X) → list_any p xs ≡ true
     → list_any q xs ≡ true
@@ -44,7 +46,7 @@ unfolding is_open
 open_more f box day old new more h =
     opens_at (is_some_there (contents f box)) (list_all (λ path. not (is_withheld_from old day path)) (contents f box)) (list_all (λ path. not (is_withheld_from new day path)) (contents f box))
     (all_weaker (λ path. not (is_withheld_from old day path)) (λ path. not (is_withheld_from new day path))
-    (λ path. seen_at (list_any (λ (unit : Unit). unit.draft) path) (list_any (is_closed day) path) (list_any (λ (unit : Unit). old unit.id) path) (list_any (λ (unit : Unit). new unit.id) path) (any_weaker (λ (unit : Unit). old unit.id) (λ (unit : Unit). new unit.id) (λ unit. more unit.id) path))
+    (λ path. seen_at (list_any (λ (unit : Unit). unit.draft) path) (list_any (is_unit_closed day) path) (list_any (λ (unit : Unit). old unit.id) path) (list_any (λ (unit : Unit). new unit.id) path) (any_weaker (λ (unit : Unit). old unit.id) (λ (unit : Unit). new unit.id) (λ unit. more unit.id) path))
     (contents f box)) h
 
 -- a permit that is granted

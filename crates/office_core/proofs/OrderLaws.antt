@@ -1,15 +1,25 @@
 -- The laws on orders.
-use Rattle.std.proofs.Common.{◌≡◌, ℕ, suc, ◌<◌, ◌≤◌, Bool, true, false, cond, ◌||◌, List, [], ◌∷◌, length, Option, Some, None, Ok, Err, refl, sym, ap, ◌∙◌, subst, inl, inr, arith}
+use Rattle.std.proofs.Common.{◌≡◌, ℕ, suc, ◌<◌, ◌≤◌, Bool, true, false, cond, ◌||◌, List, [], ◌∷◌, length, Option, Some}
+use Rattle.std.proofs.Common.{None, Ok, Err, refl, sym, ap, ◌∙◌, subst, inl, inr, arith}
 use Rattle.std.proofs.Math.Path.{fun_ext}
 use Rattle.desk_core.specs.declared.reader.Place.{Place}
 use Rattle.office_core.specs.State.{Done}
 use Rattle.office_core.specs.declared.command.Command.TheVariants as command
 use Rattle.office_core.specs.declared.done.Done.TheVariants as done
-use Rattle.office_core.proofs.Common.{AllByRecursion, AreFiled, Cancelled, Command, Desk, End, Ended, Goes, GoesOn, IsAscending, IsFirstWaiting, IssuesTheFirst, Out, OutApart, Reply, Shelf, Standing, State, Taken, Waiting, WithItsReader, after, cancelled, cases_eq, checks, container_of, eqb-true, false≢true, fetched, first, imported, intake_of, is_by, is_desk, is_out_for, issued, nat_eq, option_map, or_cases, order_out, ordered, reshelved, returned, some_and, standing, stands, stands_as, step, unwrap_or, waits}
+use Rattle.office_core.proofs.Common.{AllByRecursion, AreFiled, Cancelled, Command, Desk, End, Ended, IsAscending}
+use Rattle.office_core.proofs.Common.{IsFirstWaiting, IssuesTheFirst, OrderGoes, OrdersGoOn, Out, OutApart, Reply}
+use Rattle.office_core.proofs.Common.{Shelf, Standing, State, Taken, Waiting, WithItsReader, after, cancelled, cases_eq}
+use Rattle.office_core.proofs.Common.{checks, container_of, eqb-true, false≢true, fetched, first, intake_of, is_by}
+use Rattle.office_core.proofs.Common.{is_desk, is_out_for, issued, nat_eq, option_map, or_cases, order_out, ordered}
+use Rattle.office_core.proofs.Common.{reshelved, returned, some_and, standing, stands, stands_as, step, unwrap_or}
+use Rattle.office_core.proofs.Common.{waits, with_import}
 use Rattle.office_core.proofs.Words.{same_number}
-use Rattle.office_core.proofs.Steps.{held_so, Passes, step_at}
-use Rattle.office_core.proofs.Filed.{IsOutWith, IsPast, OnlyMoves, waiting, out_with, next_is_none, only_cancels, is_cancelled, only_orders, is_ordered, only_issues, is_issued, only_returns, is_returned, fetched_out, reshelved_out}
+use Rattle.office_core.proofs.Steps.{Passes, step_at}
+use Rattle.office_core.proofs.Filed.{IsOutWith, IsPast, OnlyMoves, waiting, out_with, next_is_none, only_cancels}
+use Rattle.office_core.proofs.Filed.{is_cancelled, only_orders, is_ordered, only_issues, is_issued, only_returns}
+use Rattle.office_core.proofs.Filed.{is_returned, fetched_out, reshelved_out}
 use Rattle.office_core.proofs.Orders.{out_is}
+use Rattle.office_core.proofs.PassedChecks.{passed_cancel, passed_issue}
 
 -- What an order's standing says
 
@@ -85,17 +95,17 @@ goes_same s t o ek ew eh ep =
     ∙ ap (λ p. stands_as (container_of s o) (λ c. stands o (s.queue c)) (λ c. is_out_for o (s.place c)) p) ep
 
 goes_at : (s t : State) (o : ℕ) (a b : Option Standing) → OnlyMoves s t o → standing s o ≡ a → standing t o ≡ b
-    → Goes a b → GoesOn s t
+    → OrderGoes a b → OrdersGoOn s t
 goes_at s t o a b m ea eb g p =
     elim (cases_eq p o) [
-      | inl e ↦ inr (subst (λ q. Goes (standing s q) (standing t q)) (sym e) (subst (λ x. Goes x (standing t o)) (sym ea) (subst (λ x. Goes a x) (sym eb) g)))
+      | inl e ↦ inr (subst (λ q. OrderGoes (standing s q) (standing t q)) (sym e) (subst (λ x. OrderGoes x (standing t o)) (sym ea) (subst (λ x. OrderGoes a x) (sym eb) g)))
       | inr ne ↦ inl (goes_same s t p (m.orders p ne) (m.queues p ne) (m.places p ne) (m.past p ne))
     ]
 
-stays : (s t : State) → ((o : ℕ) → standing t o ≡ standing s o) → GoesOn s t
+stays : (s t : State) → ((o : ℕ) → standing t o ≡ standing s o) → OrdersGoOn s t
 stays s t e o = inl (e o)
 
-order_goes : (s : State) (t c : ℕ) → AreFiled s → GoesOn s (ordered s t c)
+order_goes : (s : State) (t c : ℕ) → AreFiled s → OrdersGoOn s (ordered s t c)
 order_goes s t c f =
     let n = suc (length s.orders) in
     let u = ordered s t c in
@@ -105,7 +115,7 @@ order_goes s t c f =
     (stands_waiting (container_of u n) (λ k. stands n (u.queue k)) (λ k. is_out_for n (u.place k)) (u.past n) c x.for_it x.in_queue) tt
 
 cancel_goes : (s : State) (o : ℕ) (k : Option ℕ) → container_of s o ≡ k → some_and (λ c. stands o (s.queue c)) k ≡ true
-    → AreFiled s → GoesOn s (cancelled s o k)
+    → AreFiled s → OrdersGoOn s (cancelled s o k)
 cancel_goes s o None e w f = stays s s (λ p. refl)
 cancel_goes s o (Some c) e w f =
     let t = cancelled s o (Some c) in
@@ -117,7 +127,7 @@ head_waits : (s : State) (c o : ℕ) (os : List ℕ) → s.queue c ≡ o ∷ os 
 head_waits s c o os e = ap (stands o) e ∙ ap (λ b. b || stands o os) (same_number o)
 
 issue_goes : (s : State) (c : ℕ) (q : List ℕ) → s.queue c ≡ q → is_desk (s.place c) ≡ true → AreFiled s
-    → GoesOn s (issued s c q)
+    → OrdersGoOn s (issued s c q)
 issue_goes s c [] e d f = stays s s (λ p. refl)
 issue_goes s c (o ∷ os) e d f =
     let t = issued s c (o ∷ os) in
@@ -127,7 +137,7 @@ issue_goes s c (o ∷ os) e d f =
     (stands_waiting (container_of s o) (λ k. stands o (s.queue k)) (λ k. is_out_for o (s.place k)) (s.past o) c x.for_it w)
     (stands_out (container_of t o) (λ k. stands o (t.queue k)) (λ k. is_out_for o (t.place k)) (t.past o) c (is_issued s c o os e f)) tt
 
-return_goes : (s : State) (c : ℕ) (p : Place) → s.place c ≡ p → AreFiled s → GoesOn s (returned s c p)
+return_goes : (s : State) (c : ℕ) (p : Place) → s.place c ≡ p → AreFiled s → OrdersGoOn s (returned s c p)
 return_goes s c Shelf e f = stays s s (λ p. refl)
 return_goes s c Desk e f = stays s s (λ p. refl)
 return_goes s c (Out o) e f =
@@ -138,25 +148,25 @@ return_goes s c (Out o) e f =
     (stands_past (container_of t o) (λ k. stands o (t.queue k)) (λ k. is_out_for o (t.place k)) (t.past o) c Done (is_returned s c o e f)) tt
 
 places_go : (s t : State) → ((o : ℕ) → container_of t o ≡ container_of s o) → ((c : ℕ) → t.queue c ≡ s.queue c)
-    → ((c : ℕ) → order_out (t.place c) ≡ order_out (s.place c)) → ((o : ℕ) → t.past o ≡ s.past o) → GoesOn s t
+    → ((c : ℕ) → order_out (t.place c) ≡ order_out (s.place c)) → ((o : ℕ) → t.past o ≡ s.past o) → OrdersGoOn s t
 places_go s t ek eq eh ep =
     stays s t (λ o. goes_same s t o (ek o) (λ c. ap (stands o) (eq c)) (λ c. ap (some_and (nat_eq o)) (eh c)) (ep o))
 
-imported_goes : (s : State) (t : Taken) → GoesOn s (imported s t)
+imported_goes : (s : State) (t : Taken) → OrdersGoOn s (with_import s t)
 imported_goes s (Err fault) = stays s s (λ o. refl)
-imported_goes s (Ok intake) = stays s (imported s (Ok intake)) (λ o. refl)
+imported_goes s (Ok intake) = stays s (with_import s (Ok intake)) (λ o. refl)
 
-pub goes_after : (s : State) (asked : Command) → AreFiled s → Passes (checks s asked) → GoesOn s (after s asked)
+pub goes_after : (s : State) (asked : Command) → AreFiled s → Passes (checks s asked) → OrdersGoOn s (after s asked)
 goes_after s (command.OpenDay day) f ok = stays s (after s (command.OpenDay day)) (λ o. refl)
 goes_after s (command.Register name until) f ok = stays s (after s (command.Register name until)) (λ o. refl)
 goes_after s (command.Renew t until) f ok = stays s (after s (command.Renew t until)) (λ o. refl)
 goes_after s (command.TakeSeat t) f ok = stays s (after s (command.TakeSeat t)) (λ o. refl)
 goes_after s (command.LeaveSeat t) f ok = stays s (after s (command.LeaveSeat t)) (λ o. refl)
 goes_after s (command.Order t c) f ok = order_goes s t c f
-goes_after s (command.Cancel o) f ok = cancel_goes s o (container_of s o) refl (held_so (waits s o) _ ok.1.0) f
+goes_after s (command.Cancel o) f ok = cancel_goes s o (container_of s o) refl (passed_cancel s o ok) f
 goes_after s command.Run f ok = places_go s (fetched s) (λ o. refl) (λ c. refl) (fetched_out s) (λ o. refl)
 goes_after s command.Reshelve f ok = places_go s (reshelved s) (λ o. refl) (λ c. refl) (reshelved_out s) (λ o. refl)
-goes_after s (command.Issue c t) f ok = issue_goes s c (s.queue c) refl (held_so (is_desk (s.place c)) _ ok.1.0) f
+goes_after s (command.Issue c t) f ok = issue_goes s c (s.queue c) refl (passed_issue s c t ok).at_desk f
 goes_after s (command.Return c) f ok = return_goes s c (s.place c) refl f
 goes_after s (command.Permit t u until) f ok = stays s (after s (command.Permit t u until)) (λ o. refl)
 goes_after s (command.Revoke t u) f ok = stays s (after s (command.Revoke t u)) (λ o. refl)
@@ -166,8 +176,8 @@ goes_after s (command.SetClosure u until) f ok = stays s (after s (command.SetCl
 goes_after s (command.Move u parent) f ok = stays s (after s (command.Move u parent)) (λ o. refl)
 goes_after s (command.Remove u) f ok = stays s (after s (command.Remove u)) (λ o. refl)
 
-pub goes_on : (s : State) (asked : Command) → AreFiled s → GoesOn s (step s asked).0
-goes_on s asked f = step_at (λ t reply. GoesOn s t) s asked (λ why. stays s s (λ o. refl)) (λ ok. goes_after s asked f ok)
+pub goes_on : (s : State) (asked : Command) → AreFiled s → OrdersGoOn s (step s asked).0
+goes_on s asked f = step_at (λ t reply. OrdersGoOn s t) s asked (λ why. stays s s (λ o. refl)) (λ ok. goes_after s asked f ok)
 
 -- (4)
 
@@ -217,4 +227,4 @@ pub issues_the_first : (s : State) → AreFiled s → IssuesTheFirst s
 issues_the_first s f c t o =
     step_at (λ u reply. reply ≡ Ok (done.Issue o) → IsFirstWaiting s c o × (is_by s t o ≡ true) × (standing u o ≡ Some WithItsReader)) s (command.Issue c t)
     (λ why r. absurd (cc))
-    (λ ok r. issue_first s c t o (s.queue c) refl (held_so (is_desk (s.place c)) _ ok.1.0) (held_so (some_and (is_by s t) (first (s.queue c))) _ ok.1.1.0) f r)
+    (λ ok r. issue_first s c t o (s.queue c) refl (passed_issue s c t ok).at_desk (passed_issue s c t ok).first_waits f r)

@@ -1,16 +1,25 @@
 -- The orders stay good.
-use Rattle.std.proofs.Common.{◌≡◌, ◌≢◌, ℕ, suc, ◌+◌, ◌<◌, ◌≤◌, Bool, true, false, cond, ◌&&◌, ◌||◌, List, [], ◌∷◌, ◌++◌, length, Option, Some, None, Ok, Err, refl, sym, ap, ◌∙◌, subst, inl, inr, ◌⊎◌, arith, length-append}
+use Rattle.std.proofs.Common.{◌≡◌, ◌≢◌, ℕ, suc, ◌+◌, ◌<◌, ◌≤◌, Bool, true, false, cond, ◌&&◌, ◌||◌, List, [], ◌∷◌, ◌++◌}
+use Rattle.std.proofs.Common.{length, Option, Some, None, Ok, Err, refl, sym, ap, ◌∙◌, subst, inl, inr, ◌⊎◌, arith}
+use Rattle.std.proofs.Common.{length-append}
+use Rattle.std.proofs.lemmas.Bool.Decides.{Decides-int_eq}
+use Rattle.std.specs.Ordering.{int_eq}
 use Rattle.std.specs.Prelude.{ℤ}
 use Rattle.desk_core.specs.declared.reader.Place.{Place}
+use Rattle.catalogue_core.specs.ContainerContents.{is_open}
 use Rattle.office_core.specs.State.{Done}
 use Rattle.office_core.specs.declared.command.Command.TheVariants as command
-use Rattle.std.specs.Ordering.{int_eq}
-use Rattle.std.proofs.lemmas.Bool.Decides.{Decides-int_eq}
-use Rattle.catalogue_core.specs.ContainerContents.{is_open}
-use Rattle.office_core.proofs.Common.{AreFiled, AreGoodOrders, BoxKey, Cancelled, Command, Desk, End, ExactlyOne, IsFiled, IsGoodOrder, Order, Out, Shelf, State, Taken, after, and_parts, cancelled, cases_eq, checks, container_of, count_by, distinct, eqb-true, false≢true, has_ordered, imported, intake_of, is_by, is_container, is_out_for, is_out_with, is_permitted, is_some, is_ticket, issued, leb-false, list_any, most_orders, nat_eq, nat_le, nth, opens, option_map, or_cases, or_right, order_out, ordered, orders_placed, returned, some_and, stands, sum_by_push, ◌≤ℤ◌}
+use Rattle.office_core.proofs.Common.{AreFiled, AreGoodOrders, BoxKey, Cancelled, Command, Desk, End, ExactlyOne}
+use Rattle.office_core.proofs.Common.{IsFiled, IsGoodOrder, Order, Out, Shelf, State, Taken, after, and_parts}
+use Rattle.office_core.proofs.Common.{cancelled, cases_eq, checks, container_of, count_by, distinct, eqb-true}
+use Rattle.office_core.proofs.Common.{false≢true, has_ordered, intake_of, is_by, is_container, is_out_for, is_out_with}
+use Rattle.office_core.proofs.Common.{is_permitted, is_some, is_ticket, issued, leb-false, list_any, most_orders}
+use Rattle.office_core.proofs.Common.{nat_eq, nth, opens, option_map, or_cases, or_right, order_out, ordered}
+use Rattle.office_core.proofs.Common.{orders_placed, returned, some_and, stands, sum_by_push, with_import, ◌≤ℤ◌}
 use Rattle.office_core.proofs.Words.{same_number, put_each, numbered-push, numbered-push_last}
-use Rattle.office_core.proofs.Steps.{held_so, held_not, Passes}
+use Rattle.office_core.proofs.Steps.{Passes}
 use Rattle.office_core.proofs.Extends.{Extends, extends_after, same_day, no_later_than}
+use Rattle.office_core.proofs.PassedChecks.{passed_order}
 
 pub good_order : (s t : State) (order : Order) → Extends s t → IsGoodOrder s order → IsGoodOrder t order
 good_order s t order e g =
@@ -173,10 +182,10 @@ pub order_good : (s : State) (t c : ℕ) → AreFiled s → AreGoodOrders s → 
     → AreGoodOrders (ordered s t c)
 order_good s t c f g ok =
     record {
-      each = each_after s t c f g (held_so (is_ticket s t) _ ok.0) (opens_known s t c (held_so (opens s t c) _ ok.1.1.0));
-      daily = daily_after s t c f g (leb-false s.settings.daily (orders_placed s t s.day) (held_not (nat_le s.settings.daily (orders_placed s t s.day)) _ ok.1.1.1.1.0));
-      once = once_after s t c f g (held_not (has_ordered s t c) _ ok.1.1.1.0);
-      few = few_after s t c (leb-false most_orders (length s.orders) (held_not (nat_le most_orders (length s.orders)) _ ok.1.1.1.1.1.0));
+      each = each_after s t c f g (passed_order s t c ok).known (opens_known s t c (passed_order s t c ok).is_open);
+      daily = daily_after s t c f g (leb-false s.settings.daily (orders_placed s t s.day) (passed_order s t c ok).daily);
+      once = once_after s t c f g (passed_order s t c ok).new;
+      few = few_after s t c (leb-false most_orders (length s.orders) (passed_order s t c ok).room);
     }
 
 -- the others
@@ -199,9 +208,9 @@ returned_good s c Desk e g = g
 returned_good s c (Out o) e g =
     orders_same s (returned s c (Out o)) e refl (put_each (λ p x. x ≡ None → s.past p ≡ None) s.past o (Some Done) (λ h. absurd (cc)) (λ p ne h. h)) g
 
-imported_good : (s : State) (t : Taken) → Extends s (imported s t) → AreGoodOrders s → AreGoodOrders (imported s t)
+imported_good : (s : State) (t : Taken) → Extends s (with_import s t) → AreGoodOrders s → AreGoodOrders (with_import s t)
 imported_good s (Err fault) e g = g
-imported_good s (Ok intake) e g = orders_same s (imported s (Ok intake)) e refl (λ p h. h) g
+imported_good s (Ok intake) e g = orders_same s (with_import s (Ok intake)) e refl (λ p h. h) g
 
 pub orders_after : (s : State) (asked : Command) → distinct s.catalogue.containers ≡ s.catalogue.containers → AreFiled s
     → AreGoodOrders s → Passes (checks s asked) → AreGoodOrders (after s asked)

@@ -1,18 +1,30 @@
 -- Who has a container sits, has no more than fills the hands, and may see what lies in it.
-use Rattle.std.proofs.Common.{◌≡◌, ◌≢◌, ℕ, suc, ◌<◌, ◌≤◌, Bool, true, false, not, cond, List, [], ◌∷◌, length, Option, Some, None, Ok, Err, refl, sym, ap, ◌∙◌, subst, inl, inr, arith}
-use Rattle.std.specs.Prelude.{nat_lt, ℤ}
-use Rattle.catalogue_core.specs.ContainerContents.{is_open}
+use Rattle.std.proofs.Common.{◌≡◌, ◌≢◌, ℕ, suc, ◌<◌, ◌≤◌, Bool, true, false, not, cond, List, [], ◌∷◌, length, Option}
+use Rattle.std.proofs.Common.{Some, None, Ok, Err, refl, sym, ap, ◌∙◌, subst, inl, inr, arith}
+use Rattle.std.specs.Prelude.{ℤ}
 use Rattle.desk_core.specs.declared.reader.Place.{Place}
+use Rattle.catalogue_core.specs.ContainerContents.{is_open}
 use Rattle.office_core.specs.declared.command.Command.TheVariants as command
-use Rattle.office_core.proofs.Common.{AreFiled, AreGoodOrders, AreGoodPlaces, BoxKey, Command, Desk, IsGoodHolder, Line, Order, Out, Permit, Run, Shelf, State, Taken, after, brings, cancelled, cases_Bool, cases_eq, checks, cons_option, container_of, containers, distinct, eqb-true, false≢true, fetched, filter_map, first, granted, held_count, idle, imported, intake_of, is_by, is_container, is_kept_from_holder, is_line_before, is_out, is_out_for, is_out_with, is_permitted, is_seat_of, is_seated, is_some, issued, leb-false, line_for, list_any, lowest_withheld, ltb-false, nat_eq, nat_le, next_run, not-false, nth, opens, option_map, or_cases, order_out, ordered, orders_of_run, reshelved, returned, some_and, stands, update_at}
+use Rattle.office_core.proofs.Common.{AreFiled, AreGoodOrders, AreGoodPlaces, BoxKey, Command, Desk, IsGoodHolder, Line}
+use Rattle.office_core.proofs.Common.{Order, Out, Permit, Run, Shelf, State, Taken, after, brings, cancelled}
+use Rattle.office_core.proofs.Common.{cases_Bool, cases_eq, checks, cons_option, container_of, containers, distinct}
+use Rattle.office_core.proofs.Common.{eqb-true, false≢true, fetched, filter_map, first, granted, held_count, idle}
+use Rattle.office_core.proofs.Common.{intake_of, is_by, is_container, is_kept_from_holder, is_line_before, is_out}
+use Rattle.office_core.proofs.Common.{is_out_for, is_out_with, is_permitted, is_seat_of, is_seated, is_some, issued}
+use Rattle.office_core.proofs.Common.{leb-false, line_for, list_any, lowest_withheld, ltb-false, nat_eq, new_run}
+use Rattle.office_core.proofs.Common.{not-false, nth, opens, option_map, or_cases, order_out, ordered, orders_of_run}
+use Rattle.office_core.proofs.Common.{reshelved, returned, some_and, stands, update_at, with_import}
 use Rattle.office_core.proofs.Words.{same_number, put_here, put_there, put_each, numbered_within}
 use Rattle.office_core.proofs.LineOrder.{any-in_order}
-use Rattle.office_core.proofs.Steps.{held_so, held_not, passes_gate, Passes}
+use Rattle.office_core.proofs.Steps.{passes_gate, Passes}
 use Rattle.office_core.proofs.Filed.{out_with, fetched_out, reshelved_out}
 use Rattle.office_core.proofs.Extends.{Extends, extends_after}
 use Rattle.office_core.proofs.Seats.{sit_keeps, rise_keeps}
 use Rattle.office_core.proofs.Opening.{granted_opens}
-use Rattle.office_core.proofs.Counts.{count_le, count_one_more, count_further, count_some, none_to, none_that, numbered_from_one}
+use Rattle.office_core.proofs.Counts.{count_le, count_one_more, count_further, count_some, none_to, none_that}
+use Rattle.office_core.proofs.Counts.{numbered_from_one}
+use Rattle.office_core.proofs.PassedChecks.{passed_closure, passed_day, passed_import, passed_issue, passed_leave_seat}
+use Rattle.office_core.proofs.PassedChecks.{passed_move, passed_remove, passed_return, passed_revoke, passed_status}
 
 -- the order that a container is out with
 
@@ -119,7 +131,7 @@ brings_order : (s : State) (c : ℕ) (os : List ℕ)
 brings_order s c [] e = absurd (false≢true e)
 brings_order s c (o ∷ os) e = brought s c o (nth s.orders o) (filter_map (line_for s) os) refl (brings_order s c os) e
 
-fetched_known : (s : State) (c : ℕ) (b : Bool) → brings (next_run s) c ≡ b → AreGoodOrders s → AreGoodPlaces s
+fetched_known : (s : State) (c : ℕ) (b : Bool) → brings (new_run s) c ≡ b → AreGoodOrders s → AreGoodPlaces s
     → is_container s c ≡ false → cond b Desk (s.place c) ≡ Shelf
 fetched_known s c true e f g h =
     let x = brings_order s c (orders_of_run s) (sym (any-in_order is_line_before (λ line. nat_eq line.container c) (filter_map (line_for s) (orders_of_run s))) ∙ e) in
@@ -284,10 +296,10 @@ changed_places s t e f gs es eo ep ok g =
         let b = count_further (is_out_with s u) (length s.catalogue.containers) (length t.catalogue.containers) (λ k w. within s u k f gs w) in
         omega (arith, a, b)
 
-imported_places : (s : State) (t : Taken) → Extends s (imported s t) → AreFiled s → AreGoodOrders s
-    → is_some (lowest_withheld (imported s t)) ≡ false → AreGoodPlaces s → AreGoodPlaces (imported s t)
+imported_places : (s : State) (t : Taken) → Extends s (with_import s t) → AreFiled s → AreGoodOrders s
+    → is_some (lowest_withheld (with_import s t)) ≡ false → AreGoodPlaces s → AreGoodPlaces (with_import s t)
 imported_places s (Err fault) e f gs ok g = g
-imported_places s (Ok intake) e f gs ok g = changed_places s (imported s (Ok intake)) e f gs refl refl refl ok g
+imported_places s (Ok intake) e f gs ok g = changed_places s (with_import s (Ok intake)) e f gs refl refl refl ok g
 
 opens_with : State → List Permit → ℕ → Bool
 opens_with s permits c =
@@ -320,7 +332,7 @@ grant_places s t u until g =
 pub places_after : (s : State) (asked : Command) → distinct s.catalogue.containers ≡ s.catalogue.containers → AreFiled s
     → AreGoodOrders s → AreGoodPlaces s → Passes (checks s asked) → AreGoodPlaces (after s asked)
 places_after s (command.OpenDay day) b f gs g ok =
-    record { holders = λ c o order e n. absurd (none_out s f gs (held_not (list_any (is_out s) (containers s)) _ ok.1.0) c o e); known = g.known }
+    record { holders = λ c o order e n. absurd (none_out s f gs (passed_day s day ok).all_back c o e); known = g.known }
 places_after s (command.Register name until) b f gs g ok = record { holders = λ c o order e n. (let y = g.holders c o order e n in record { seated = y.seated; few = y.few; may_see = y.may_see }); known = g.known }
 places_after s (command.Renew t until) b f gs g ok = record { holders = λ c o order e n. (let y = g.holders c o order e n in record { seated = y.seated; few = y.few; may_see = y.may_see }); known = g.known }
 places_after s (command.TakeSeat t) b f gs g ok = record { holders = λ c o order e n. (let y = g.holders c o order e n in record { seated = sit_keeps order.ticket t s.seats y.seated; few = y.few; may_see = y.may_see }); known = g.known }
@@ -328,7 +340,7 @@ places_after s (command.LeaveSeat t) b f gs g ok =
     record {
       holders = λ c o order e n.
           let y = g.holders c o order e n in
-          let none = ltb-false 0 (held_count s t) (held_not (nat_lt 0 (held_count s t)) _ ok.1.1.0) in
+          let none = ltb-false 0 (held_count s t) (passed_leave_seat s t ok).holds_none in
           let z : held_count s t ≡ 0 = omega (arith, none) in
           record { seated = rise_keeps order.ticket t s.seats (holds_none s t c o order f gs z e n) y.seated; few = y.few; may_see = y.may_see };
       known = g.known;
@@ -337,23 +349,23 @@ places_after s (command.Order t c) b f gs g ok =
     record { holders = order_holders s t c (extends_after s (command.Order t c) b ok) f g; known = g.known }
 places_after s (command.Cancel o) b f gs g ok = cancel_places s o (container_of s o) g
 places_after s command.Run b f gs g ok =
-    record { holders = moved_holders s (fetched s).place (fetched s).runs (fetched_out s) g; known = λ c h. fetched_known s c (brings (next_run s) c) refl gs g h }
+    record { holders = moved_holders s (fetched s).place (fetched s).runs (fetched_out s) g; known = λ c h. fetched_known s c (brings (new_run s) c) refl gs g h }
 places_after s command.Reshelve b f gs g ok =
     record { holders = moved_holders s (reshelved s).place s.runs (reshelved_out s) g; known = λ c h. reshelved_known s c (stands c (idle s)) g h }
 places_after s (command.Issue c t) b f gs g ok =
-    issue_places s c t (s.queue c) (held_so (some_and (is_by s t) (first (s.queue c))) _ ok.1.1.0) (held_so (is_container s c) _ ok.0) (held_so (is_seated s t) _ ok.1.1.1.1.0)
-    (leb-false s.settings.hands (held_count s t) (held_not (nat_le s.settings.hands (held_count s t)) _ ok.1.1.1.1.1.0)) (held_so (opens s t c) _ ok.1.1.1.1.1.1.0) g
-places_after s (command.Return c) b f gs g ok = return_places s c (s.place c) (held_so (is_container s c) _ ok.0) g
+    issue_places s c t (s.queue c) (passed_issue s c t ok).first_waits (passed_issue s c t ok).known (passed_issue s c t ok).seated
+    (leb-false s.settings.hands (held_count s t) (passed_issue s c t ok).hands) (passed_issue s c t ok).is_open g
+places_after s (command.Return c) b f gs g ok = return_places s c (s.place c) (passed_return s c ok) g
 places_after s (command.Permit t u until) b f gs g ok = grant_places s t u until g
 places_after s (command.Revoke t u) b f gs g ok =
-    revoke_places s t u f gs (passes_gate (after s (command.Revoke t u)) ok.1.1.1.0) g
+    revoke_places s t u f gs (passed_revoke s t u ok).none_withheld g
 places_after s (command.Import source file) b f gs g ok =
-    imported_places s (intake_of s source file) (extends_after s (command.Import source file) b ok) f gs (passes_gate (after s (command.Import source file)) ok.1.1.1.0) g
+    imported_places s (intake_of s source file) (extends_after s (command.Import source file) b ok) f gs (passes_gate (after s (command.Import source file)) (passed_import s source file ok).gate_passed) g
 places_after s (command.SetStatus u draft whole) b f gs g ok =
-    changed_places s (after s (command.SetStatus u draft whole)) (extends_after s (command.SetStatus u draft whole) b ok) f gs refl refl refl (passes_gate (after s (command.SetStatus u draft whole)) ok.1.0) g
+    changed_places s (after s (command.SetStatus u draft whole)) (extends_after s (command.SetStatus u draft whole) b ok) f gs refl refl refl (passed_status s u draft whole ok).none_withheld g
 places_after s (command.SetClosure u until) b f gs g ok =
-    changed_places s (after s (command.SetClosure u until)) (extends_after s (command.SetClosure u until) b ok) f gs refl refl refl (passes_gate (after s (command.SetClosure u until)) ok.1.0) g
+    changed_places s (after s (command.SetClosure u until)) (extends_after s (command.SetClosure u until) b ok) f gs refl refl refl (passed_closure s u until ok).none_withheld g
 places_after s (command.Move u parent) b f gs g ok =
-    changed_places s (after s (command.Move u parent)) (extends_after s (command.Move u parent) b ok) f gs refl refl refl (passes_gate (after s (command.Move u parent)) ok.1.1.1.1.0) g
+    changed_places s (after s (command.Move u parent)) (extends_after s (command.Move u parent) b ok) f gs refl refl refl (passed_move s u parent ok).none_withheld g
 places_after s (command.Remove u) b f gs g ok =
-    changed_places s (after s (command.Remove u)) (extends_after s (command.Remove u) b ok) f gs refl refl refl (passes_gate (after s (command.Remove u)) ok.1.0) g
+    changed_places s (after s (command.Remove u)) (extends_after s (command.Remove u) b ok) f gs refl refl refl (passed_remove s u ok).none_withheld g

@@ -1,13 +1,21 @@
 -- The readers and their permits stay good.
-use Rattle.std.proofs.Common.{◌≡◌, ℕ, zero, suc, ◌<◌, ◌≤◌, Bool, true, false, not, cond, ◌&&◌, ◌||◌, List, [], ◌∷◌, ◌++◌, length, Option, Some, None, Ok, Err, refl, sym, ap, ◌∙◌, subst, inl, inr, arith, length-append}
-use Rattle.std.specs.Prelude.{ℤ, nat_lt}
+use Rattle.std.proofs.Common.{◌≡◌, ℕ, zero, suc, ◌<◌, ◌≤◌, Bool, true, false, not, cond, ◌&&◌, ◌||◌, List, [], ◌∷◌}
+use Rattle.std.proofs.Common.{◌++◌, length, Option, Some, None, Ok, Err, refl, sym, ap, ◌∙◌, subst, inl, inr, arith}
+use Rattle.std.proofs.Common.{length-append}
+use Rattle.std.specs.Prelude.{ℤ, nat_lt, int_lt, nat_le}
 use Rattle.desk_core.specs.declared.reader.Place.{Place}
-use Rattle.office_core.specs.declared.command.Command.TheVariants as command
 use Rattle.office_core.specs.Rules.{is_name}
-use Rattle.office_core.proofs.Common.{AllByRecursion, AreGoodPermits, AreGoodReaders, ByUnit, Command, Desk, Out, Permit, Reader, Shelf, State, Taken, after, and_cases, cancelled, cases_Bool, cases_eq, checks, container_of, cut, distinct, eqb-false, eqb-true, false≢true, filter, granted, has_id, has_permit, has_unit, imported, int_lt, intake_of, is_ticket, issued, leb-false, list_any, ltb-false, ltb-true, most_permits, most_tickets, nat_eq, nat_le, not-false, nth, removed, renewed, returned, revoked}
+use Rattle.office_core.specs.declared.command.Command.TheVariants as command
+use Rattle.office_core.proofs.Common.{AllByRecursion, AreGoodPermits, AreGoodReaders, ByUnit, Command, Desk, Out}
+use Rattle.office_core.proofs.Common.{Permit, Reader, Shelf, State, Taken, after, and_cases, cancelled, cases_Bool}
+use Rattle.office_core.proofs.Common.{cases_eq, checks, container_of, cut, distinct, eqb-false, eqb-true, false≢true}
+use Rattle.office_core.proofs.Common.{filter, granted, has_id, has_permit, has_unit, intake_of, is_ticket, issued}
+use Rattle.office_core.proofs.Common.{leb-false, list_any, ltb-false, ltb-true, most_permits, most_tickets, nat_eq}
+use Rattle.office_core.proofs.Common.{not-false, nth, removed, renewed, returned, revoked, with_import}
 use Rattle.office_core.proofs.Words.{put_each, numbered-push, numbered-push_last, other_number}
-use Rattle.office_core.proofs.Steps.{held_so, held_not, Passes}
+use Rattle.office_core.proofs.Steps.{Passes}
 use Rattle.office_core.proofs.Extends.{Extends, extends_after}
+use Rattle.office_core.proofs.PassedChecks.{passed_permit, passed_register, passed_revoke}
 
 -- readers
 
@@ -218,14 +226,14 @@ returned_same s c Shelf = (refl, refl)
 returned_same s c Desk = (refl, refl)
 returned_same s c (Out o) = (refl, refl)
 
-imported_readers : (s : State) (t : Taken) → ((imported s t).readers ≡ s.readers) × ((imported s t).permits ≡ s.permits)
+imported_readers : (s : State) (t : Taken) → ((with_import s t).readers ≡ s.readers) × ((with_import s t).permits ≡ s.permits)
 imported_readers s (Err fault) = (refl, refl)
 imported_readers s (Ok intake) = (refl, refl)
 
 pub readers_after : (s : State) (asked : Command) → AreGoodReaders s → Passes (checks s asked)
     → AreGoodReaders (after s asked)
 readers_after s (command.Register name until) g ok =
-    register_readers s name until (held_so (is_name name) _ ok.0) (leb-false most_tickets (length s.readers) (held_not (nat_le most_tickets (length s.readers)) _ ok.1.0)) g
+    register_readers s name until (passed_register s name until ok).named (leb-false most_tickets (length s.readers) (passed_register s name until ok).room) g
 readers_after s (command.Renew t until) g ok = renew_readers s t until g
 readers_after s (command.OpenDay day) g ok = readers_same s (after s (command.OpenDay day)) refl g
 readers_after s (command.TakeSeat t) g ok = readers_same s (after s (command.TakeSeat t)) refl g
@@ -270,8 +278,8 @@ permits_after s command.Reshelve b g ok =
 permits_after s (command.Issue c t) b g ok = let e = issued_same s c (s.queue c) in permits_same s (after s (command.Issue c t)) (extends_after s (command.Issue c t) b ok) e.1 g
 permits_after s (command.Return c) b g ok = let e = returned_same s c (s.place c) in permits_same s (after s (command.Return c)) (extends_after s (command.Return c) b ok) e.1 g
 permits_after s (command.Permit t u until) b g ok =
-    grant_permits s t u until (held_so (is_ticket s t) _ ok.0) (held_not (not (has_permit s t u) && nat_le most_permits (length (s.permits t))) _ ok.1.1.0) g
-permits_after s (command.Revoke t u) b g ok = revoke_permits s t u (held_so (is_ticket s t) _ ok.0) g
+    grant_permits s t u until (passed_permit s t u until ok).known (passed_permit s t u until ok).room g
+permits_after s (command.Revoke t u) b g ok = revoke_permits s t u (passed_revoke s t u ok).known g
 permits_after s (command.Import source file) b g ok =
     permits_same s (after s (command.Import source file)) (extends_after s (command.Import source file) b ok) (imported_readers s (intake_of s source file)).1 g
 permits_after s (command.SetStatus u draft whole) b g ok =

@@ -1,17 +1,23 @@
 -- A remark is told exactly where its sentence holds.
-use Rattle.std.proofs.Common.{◌≡◌, ℕ, ◌<◌, Bool, true, false, not, ◌&&◌, ◌||◌, List, [], ◌∷◌, Option, Some, None, Ok, Err, refl, sym, ap, ◌∙◌, subst, inl, inr}
+use Rattle.std.proofs.Common.{◌≡◌, ℕ, ◌<◌, Bool, true, false, not, ◌&&◌, ◌||◌, List, [], ◌∷◌, Option, Some, None, Ok}
+use Rattle.std.proofs.Common.{Err, refl, sym, ap, ◌∙◌, subst, inl, inr}
 use Rattle.isad_core.specs.Levels.{rank_of}
 use Rattle.isad_core.specs.Values.{text_of}
 use Rattle.isad_core.specs.declared.element.Element.TheVariants.{ReferenceCode, Title, Dates, Extent, Creator}
 use Rattle.isad_core.specs.declared.values.Values.{Values}
+use Rattle.office_core.specs.ImportReply.{told_of}
+use Rattle.office_core.specs.Remarks.{way_of, BelongsAbove, HasEssentials, IsPoorTop, IsToldOf, AreToldOf}
+use Rattle.office_core.specs.Remarks.{RemarksOnRows}
 use Rattle.office_core.specs.declared.command.Command.TheVariants as command
 use Rattle.office_core.specs.declared.done.Done.{Done}
 use Rattle.office_core.specs.declared.done.Done.TheVariants as done
 use Rattle.office_core.specs.declared.done.Remark.TheVariants.{LevelTooHigh, LacksEssential}
-use Rattle.office_core.specs.ImportReply.{told_of}
-use Rattle.office_core.specs.Remarks.{way_of, BelongsAbove, HasEssentials, IsPoorTop, IsToldOf, AreToldOf, RemarksOnRows}
-use Rattle.office_core.proofs.Common.{Bytes, File, Forest, Remark, Reply, Row, State, Taken, Unit, bad_file, before_last, false≢true, file_of, imported, intake_of, is_blank_text, is_level_above, is_some, lacks_essential, last_of, lt-ltb, ltb-true, remark_if, remark_on, remarks, same_Some, taken_is}
+use Rattle.office_core.proofs.Common.{Bytes, File, Forest, Remark, Reply, Row, State, Taken, Unit, bad_file}
+use Rattle.office_core.proofs.Common.{before_last, false≢true, file_of, intake_of, is_blank_text, is_level_above}
+use Rattle.office_core.proofs.Common.{is_some, lacks_essential, last_of, lt-ltb, ltb-true, remark_if, remark_on}
+use Rattle.office_core.proofs.Common.{remarks, same_Some, taken_is, with_import}
 use Rattle.office_core.proofs.Steps.{step_at}
+use Rattle.office_core.proofs.PassedChecks.{passed_import}
 
 -- ---- the six elements
 
@@ -138,7 +144,7 @@ accepted : (s : State) (source file : Bytes) (r : Taken) → intake_of s source 
     → (changed new : ℕ) (marks : List Remark) (same translations : ℕ)
     → done_reply (told_of s.catalogue.forest source r) ≡ done_reply (done.Import changed new marks same translations)
     → ((fault : ℕ × ℕ) → r ≡ Err fault → ⊥)
-    → (read : File) × (file_of file ≡ Ok read) × AreToldOf (imported s r).catalogue.forest source read.rows marks
+    → (read : File) × (file_of file ≡ Ok read) × AreToldOf (with_import s r).catalogue.forest source read.rows marks
 accepted s source file (Err fault) e changed new marks same translations t ok = absurd (ok fault refl)
 accepted s source file (Ok intake) e changed new marks same translations t ok =
     let x = same_marks _ _ _ _ changed new same translations _ marks (same_reply _ _ t) in
@@ -148,7 +154,7 @@ pub remarks_on_rows : (s : State) → RemarksOnRows s
 remarks_on_rows s source file changed new marks same translations =
     step_at (λ t reply. reply ≡ Ok (done.Import changed new marks same translations) → (read : File) × (file_of file ≡ Ok read) × AreToldOf t.catalogue.forest source read.rows marks) s (command.Import source file)
     (λ why e. absurd (cc))
-    (λ ok e. accepted s source file (intake_of s source file) refl changed new marks same translations e (no_fault (intake_of s source file) ok.1.0))
+    (λ ok e. accepted s source file (intake_of s source file) refl changed new marks same translations e (no_fault (intake_of s source file) (passed_import s source file ok).faultless))
   where
     no_fault : (r : Taken) → bad_file r ≡ None → (fault : ℕ × ℕ) → r ≡ Err fault → ⊥
     no_fault (Ok intake) h fault e = absurd (cc)

@@ -1,14 +1,23 @@
 -- The runs stay good.
-use Rattle.std.proofs.Common.{◌≡◌, ◌≢◌, ℕ, zero, suc, ◌<◌, ◌≤◌, Bool, true, false, cond, ◌&&◌, List, [], ◌∷◌, ◌++◌, length, take, Option, Some, None, Ok, Err, refl, sym, ap, ◌∙◌, subst, inl, inr, arith, length-append, length-take}
+use Rattle.std.proofs.Common.{◌≡◌, ◌≢◌, ℕ, zero, suc, ◌<◌, ◌≤◌, Bool, true, false, cond, ◌&&◌, List, [], ◌∷◌, ◌++◌}
+use Rattle.std.proofs.Common.{length, take, Option, Some, None, Ok, Err, refl, sym, ap, ◌∙◌, subst, inl, inr, arith}
+use Rattle.std.proofs.Common.{length-append, length-take}
 use Rattle.desk_core.specs.declared.reader.Place.{Place}
 use Rattle.office_core.specs.declared.command.Command.TheVariants as command
-use Rattle.office_core.proofs.Common.{AllByRecursion, AreGoodRuns, Command, Desk, IsAscending, IsGoodLine, IsGoodRun, Line, Order, Out, Run, Shelf, State, Taken, after, all_so, and_parts, cancelled, cases_eq, checks, cons_option, container_of, distinct, eqb-true, false≢true, fetched, filter, filter_map, first, imported, intake_of, is_due, is_empty, is_line_before, is_shelf, issued, leb-false, line_for, most_runs, nat_eq, nat_le, next_run, nth, numbers_to, opens, option_map, orders_of_run, returned, some_and}
+use Rattle.office_core.proofs.Common.{AllByRecursion, AreGoodRuns, Command, Desk, IsAscending, IsGoodLine, IsGoodRun}
+use Rattle.office_core.proofs.Common.{Line, Order, Out, Run, Shelf, State, Taken, after, all_so, and_parts, cancelled}
+use Rattle.office_core.proofs.Common.{cases_eq, checks, cons_option, container_of, distinct, eqb-true, false≢true}
+use Rattle.office_core.proofs.Common.{fetched, filter, filter_map, first, intake_of, is_due, is_empty, is_line_before}
+use Rattle.office_core.proofs.Common.{is_shelf, issued, leb-false, line_for, most_runs, nat_eq, new_run, nth}
+use Rattle.office_core.proofs.Common.{numbers_to, opens, option_map, orders_of_run, returned, some_and, with_import}
 use Rattle.office_core.proofs.LineOrder.{AreApart, all-in_order, length-in_order, by_container-in_order}
-use Rattle.office_core.proofs.Words.{same_number, all-push, ascending-push, numbered-push, numbered-push_last, ascending_at}
-use Rattle.office_core.proofs.Steps.{held_not, Passes}
+use Rattle.office_core.proofs.Words.{same_number, all-push, ascending-push, numbered-push, numbered-push_last}
+use Rattle.office_core.proofs.Words.{ascending_at}
+use Rattle.office_core.proofs.Steps.{Passes}
 use Rattle.office_core.proofs.Filed.{all_taken, picked_due}
 use Rattle.office_core.proofs.Extends.{Extends, extends_after, same_day, no_later_than}
 use Rattle.office_core.proofs.Places.{mapped_some}
+use Rattle.office_core.proofs.PassedChecks.{passed_run}
 
 -- the numbers of a run ascend
 
@@ -132,7 +141,7 @@ runs_same s t e er g =
       few = subst (λ rs. length rs ≤ most_runs) (sym er) g.few;
     }
 
-run_good : (s : State) → is_empty (orders_of_run s) ≡ false → IsGoodRun (fetched s) (next_run s)
+run_good : (s : State) → is_empty (orders_of_run s) ≡ false → IsGoodRun (fetched s) (new_run s)
 run_good s some =
     let all = picked_due s in
     let lines = filter_map (line_for s) (orders_of_run s) in
@@ -144,22 +153,22 @@ run_good s some =
       some = omega (arith, n, one);
       few = omega (arith, n, most);
       by_container = by_container-in_order lines (apart_lines s (orders_of_run s) all (ascending_picked s));
-      lines = all_so (IsGoodLine s) (IsGoodLine (fetched s)) (λ l h. record { order = h.order; ticket = h.ticket }) (next_run s).lines (all-in_order is_line_before (IsGoodLine s) lines (good_lines s (orders_of_run s) all));
+      lines = all_so (IsGoodLine s) (IsGoodLine (fetched s)) (λ l h. record { order = h.order; ticket = h.ticket }) (new_run s).lines (all-in_order is_line_before (IsGoodLine s) lines (good_lines s (orders_of_run s) all));
     }
 
 fetched_runs : (s : State) → Extends s (fetched s) → is_empty (orders_of_run s) ≡ false → length s.runs < most_runs
     → AreGoodRuns s → AreGoodRuns (fetched s)
 fetched_runs s e some l g =
-    let more = length-append s.runs (next_run s ∷ []) in
+    let more = length-append s.runs (new_run s ∷ []) in
     record {
       each = λ n run h. elim (cases_eq n (suc (length s.runs))) [
         | inl same ↦
-            let k : Some (next_run s) ≡ Some run =
-            sym (subst (λ m. nth (s.runs ++ next_run s ∷ []) m ≡ Some (next_run s)) (sym same) (numbered-push_last s.runs (next_run s)))
+            let k : Some (new_run s) ≡ Some run =
+            sym (subst (λ m. nth (s.runs ++ new_run s ∷ []) m ≡ Some (new_run s)) (sym same) (numbered-push_last s.runs (new_run s)))
             ∙ h in
-            let it : next_run s ≡ run = cc in
+            let it : new_run s ≡ run = cc in
             subst (IsGoodRun (fetched s)) it (run_good s some)
-        | inr ne ↦ good_run s (fetched s) run e (g.each n run (sym (numbered-push s.runs (next_run s) n ne) ∙ h))
+        | inr ne ↦ good_run s (fetched s) run e (g.each n run (sym (numbered-push s.runs (new_run s) n ne) ∙ h))
       ];
       few = omega (arith, more, l);
     }
@@ -177,7 +186,7 @@ returned_runs s c Shelf = refl
 returned_runs s c Desk = refl
 returned_runs s c (Out o) = refl
 
-imported_runs : (s : State) (t : Taken) → (imported s t).runs ≡ s.runs
+imported_runs : (s : State) (t : Taken) → (with_import s t).runs ≡ s.runs
 imported_runs s (Err fault) = refl
 imported_runs s (Ok intake) = refl
 
@@ -198,7 +207,7 @@ runs_after s (command.Order t c) b g ok =
 runs_after s (command.Cancel o) b g ok =
     runs_same s (after s (command.Cancel o)) (extends_after s (command.Cancel o) b ok) (cancelled_runs s o (container_of s o)) g
 runs_after s command.Run b g ok =
-    fetched_runs s (extends_after s command.Run b ok) (held_not (is_empty (orders_of_run s)) _ ok.0) (leb-false most_runs (length s.runs) (held_not (nat_le most_runs (length s.runs)) _ ok.1.0)) g
+    fetched_runs s (extends_after s command.Run b ok) (passed_run s ok).due (leb-false most_runs (length s.runs) (passed_run s ok).room) g
 runs_after s command.Reshelve b g ok =
     runs_same s (after s command.Reshelve) (extends_after s command.Reshelve b ok) refl g
 runs_after s (command.Issue c t) b g ok =

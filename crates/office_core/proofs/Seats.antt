@@ -1,11 +1,16 @@
 -- The seats stay good.
-use Rattle.std.proofs.Common.{◌≡◌, ◌≢◌, ℕ, zero, suc, Bool, true, false, cond, ◌||◌, List, [], ◌∷◌, length, replicate, Option, Some, None, Ok, Err, refl, sym, ap, ◌∙◌, subst, inl, inr, ◌⊎◌}
+use Rattle.std.proofs.Common.{◌≡◌, ◌≢◌, ℕ, zero, suc, Bool, true, false, cond, ◌||◌, List, [], ◌∷◌, length, replicate}
+use Rattle.std.proofs.Common.{Option, Some, None, Ok, Err, refl, sym, ap, ◌∙◌, subst, inl, inr, ◌⊎◌}
 use Rattle.desk_core.specs.declared.reader.Place.{Place}
 use Rattle.office_core.specs.declared.command.Command.TheVariants as command
-use Rattle.office_core.proofs.Common.{AreGoodSeats, Command, Desk, Out, Shelf, SitOnce, State, Taken, after, cancelled, cases_Bool, checks, container_of, distinct, eqb-true, false≢true, imported, intake_of, is_seat_of, is_seated, is_ticket, issued, length-map, length-replicate, list_any, nat_eq, or_cases, or_parts, or_right, returned, rise, sit}
+use Rattle.office_core.proofs.Common.{AreGoodSeats, Command, Desk, Out, Shelf, SitOnce, State, Taken, after, cancelled}
+use Rattle.office_core.proofs.Common.{cases_Bool, checks, container_of, distinct, eqb-true, false≢true, intake_of}
+use Rattle.office_core.proofs.Common.{is_seat_of, is_ticket, issued, length-map, length-replicate, list_any, nat_eq}
+use Rattle.office_core.proofs.Common.{or_cases, or_parts, or_right, returned, rise, sit, with_import}
 use Rattle.office_core.proofs.Words.{same_number, other_number}
-use Rattle.office_core.proofs.Steps.{held_so, held_not, Passes}
+use Rattle.office_core.proofs.Steps.{Passes}
 use Rattle.office_core.proofs.Extends.{Extends, extends_after}
+use Rattle.office_core.proofs.PassedChecks.{passed_take_seat}
 
 or_both : (a b c : Bool) → (a || b) ≡ true → (b ≡ true → c ≡ true) → (a || c) ≡ true
 or_both true b c e h = refl
@@ -128,7 +133,7 @@ returned_seats s c Shelf = refl
 returned_seats s c Desk = refl
 returned_seats s c (Out o) = refl
 
-imported_seats : (s : State) (t : Taken) → (imported s t).seats ≡ s.seats
+imported_seats : (s : State) (t : Taken) → (with_import s t).seats ≡ s.seats
 imported_seats s (Err fault) = refl
 imported_seats s (Ok intake) = refl
 
@@ -147,8 +152,8 @@ seats_after s (command.Renew t until) b g ok =
 seats_after s (command.TakeSeat t) b g ok =
     record {
       count = length-sit t s.seats ∙ g.count;
-      known = λ u h. sit_known s t u g (held_so (is_ticket s t) _ ok.0) h;
-      once = sit_once t s.seats (held_not (is_seated s t) _ ok.1.1.0) g.once;
+      known = λ u h. sit_known s t u g (passed_take_seat s t ok).known h;
+      once = sit_once t s.seats (passed_take_seat s t ok).stands g.once;
     }
 seats_after s (command.LeaveSeat t) b g ok =
     record {

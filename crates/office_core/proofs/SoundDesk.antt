@@ -1,7 +1,8 @@
 -- The desk stays sound.
 use Rattle.std.proofs.Common.{◌≡◌, ℕ, zero, suc, false, List, [], Some, None, refl, sym, ◌∙◌, arith}
 use Rattle.std.specs.Prelude.{ℤ}
-use Rattle.office_core.proofs.Common.{AreFiled, Command, IsFiled, IsSoundDesk, OpenToHolders, Order, Settings, State, after, checks, false≢true, length-replicate, nth, option_map, start, state_after}
+use Rattle.office_core.proofs.Common.{AreFiled, Command, IsFiled, IsSoundDesk, OpenToHolders, Order, Settings, State}
+use Rattle.office_core.proofs.Common.{after, checks, false≢true, length-replicate, nth, option_map, start, state_after}
 use Rattle.office_core.proofs.Steps.{Passes, run_keeps}
 use Rattle.office_core.proofs.Boxes.{apart_after}
 use Rattle.office_core.proofs.Filed.{filed_after}

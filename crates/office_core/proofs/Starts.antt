@@ -1,7 +1,7 @@
 -- A new office is sound.
 use Rattle.std.proofs.Common.{refl, arith}
-use Rattle.std.specs.Prelude.{ℤ}
 use Rattle.std.specs.List.{IsDistinct}
+use Rattle.std.specs.Prelude.{ℤ}
 use Rattle.office_core.proofs.Common.{AreGoodSettings, AreGoodUnits, IsDayNumber, IsSound, Settings, start}
 use Rattle.office_core.proofs.SoundDesk.{desk_start}
 

@@ -1,10 +1,19 @@
 -- What a number names, it goes on to name.
-use Rattle.std.proofs.Common.{◌≡◌, ℕ, zero, suc, ◌+◌, ◌<◌, ◌≤◌, Bool, true, false, ◌&&◌, List, [], ◌∷◌, ◌++◌, Option, Some, None, Ok, Err, refl, sym, ap, ◌∙◌, subst, inl, inr, arith}
+use Rattle.std.proofs.Common.{◌≡◌, ℕ, zero, suc, ◌+◌, ◌<◌, ◌≤◌, Bool, true, false, ◌&&◌, List, [], ◌∷◌, ◌++◌, Option}
+use Rattle.std.proofs.Common.{Some, None, Ok, Err, refl, sym, ap, ◌∙◌, subst, inl, inr, arith}
 use Rattle.std.specs.Prelude.{ℤ, cond, length, map}
 use Rattle.desk_core.specs.declared.reader.Place.{Place}
 use Rattle.catalogue_core.proofs.GoodChanges.{KeepsUnits}
 use Rattle.office_core.specs.declared.command.Command.TheVariants as command
-use Rattle.office_core.proofs.Common.{AllByRecursion, Bytes, Catalogue, Command, Desk, Forest, IsThatUnit, NamesStay, New, Out, Reader, Row, Shelf, State, StaysNamed, Taken, Unit, after, all_cut, all_each, all_merged, all_moved, all_so, and_parts, boxes_after, bytes_eq, cancelled, chosen, closure_keeps, container_of, distinct, each, eq-eqb, eqb-true, false≢true, find, has, has_id, has_legacy, ids_between, imported, intake_of, is_from, is_there, issued, list_any, map-append, merged_forest, names, new_boxes, new_rows, new_unit, next_after, nodes, nth, numbered_from, one_text, option_map, or_cases, or_left, or_right, renewed, returned, revised, same_text, state_after, status_keeps, step, taken_is, unwrap_or}
+use Rattle.office_core.proofs.Common.{AllByRecursion, Bytes, Catalogue, Command, Desk, Forest, IsThatUnit, NamesStay}
+use Rattle.office_core.proofs.Common.{New, Out, Reader, Row, Shelf, State, StaysNamed, Taken, Unit, after, all_cut}
+use Rattle.office_core.proofs.Common.{all_each, all_merged, all_moved, all_so, and_parts, boxes_after, bytes_eq}
+use Rattle.office_core.proofs.Common.{cancelled, chosen, closure_keeps, container_of, distinct, each, eq-eqb, eqb-true}
+use Rattle.office_core.proofs.Common.{false≢true, find, has, has_id, has_legacy, ids_between, intake_of, is_from}
+use Rattle.office_core.proofs.Common.{is_there, issued, list_any, map-append, merged_forest, names, new_boxes, new_rows}
+use Rattle.office_core.proofs.Common.{new_unit, next_after, nodes, nth, numbered_from, one_text, option_map, or_cases}
+use Rattle.office_core.proofs.Common.{or_left, or_right, renewed, returned, revised, same_text, state_after}
+use Rattle.office_core.proofs.Common.{status_keeps, step, taken_is, unwrap_or, with_import}
 use Rattle.office_core.proofs.Boxes.{step_apart}
 use Rattle.office_core.proofs.Steps.{step_at}
 
@@ -117,7 +126,7 @@ returned_named s c Desk = itself_named s
 returned_named s c (Out o) = same_named s (returned s c (Out o)) refl refl refl refl
 
 imported_named : (s : State) (source file : Bytes) (t : Taken) → intake_of s source file ≡ t
-    → distinct s.catalogue.containers ≡ s.catalogue.containers → StaysNamed s (imported s t)
+    → distinct s.catalogue.containers ≡ s.catalogue.containers → StaysNamed s (with_import s t)
 imported_named s source file (Err fault) e b = itself_named s
 imported_named s source file (Ok intake) e b =
     let boxes = boxes_after s.catalogue source file intake e b in

@@ -1,17 +1,24 @@
 -- A sound state stays sound.
 use Rattle.std.proofs.Common.{◌≡◌, ℕ, true, not, List, [], ◌∷◌, Option, Some, None, refl, sym, ap, ◌∙◌, subst}
-use Rattle.std.specs.Prelude.{ℤ, nat_lt}
+use Rattle.std.specs.Prelude.{ℤ}
 use Rattle.desk_core.specs.declared.reader.Place.{Place}
-use Rattle.office_core.specs.declared.command.Command.TheVariants as command
 use Rattle.catalogue_core.proofs.GoodChanges.{KeepsUnits, each_good, cut_good, CanMove, move_same, move_good}
-use Rattle.office_core.proofs.Common.{AllByRecursion, AreGoodContainers, AreGoodSettings, AreGoodUnits, ArePermitsOfUnits, Command, Desk, HasGoodCatalogue, IsSound, NamesDays, Out, Permit, Shelf, State, Unit, after, all_filtered, all_so, cancelled, checks, chosen, closure_keeps, container_of, cut, depth_after, each, each_units, granted, has_id, has_place, has_unit, is_into_itself, issued, list_any-IsPermutation, ltb-false, most_deep, move_last, nat_eq, nodes, removed, returned, revoked, same_containers, state_after, status_keeps, update_at}
-use Rattle.office_core.proofs.Steps.{Passes, held_so, held_not, run_keeps_if}
+use Rattle.office_core.specs.declared.command.Command.TheVariants as command
+use Rattle.office_core.proofs.Common.{AllByRecursion, AreGoodContainers, AreGoodSettings, AreGoodUnits}
+use Rattle.office_core.proofs.Common.{ArePermitsOfUnits, Command, Desk, HasGoodCatalogue, IsSound, NamesDays, Out}
+use Rattle.office_core.proofs.Common.{Permit, Shelf, State, Unit, after, all_filtered, all_so, cancelled, checks}
+use Rattle.office_core.proofs.Common.{chosen, closure_keeps, container_of, cut, depth_after, each, each_units, granted}
+use Rattle.office_core.proofs.Common.{has_id, has_unit, issued, list_any-IsPermutation, ltb-false, most_deep, move_last}
+use Rattle.office_core.proofs.Common.{nat_eq, nodes, removed, returned, revoked, same_containers, state_after}
+use Rattle.office_core.proofs.Common.{status_keeps, update_at}
+use Rattle.office_core.proofs.Steps.{Passes, run_keeps_if}
 use Rattle.office_core.proofs.Extends.{extends_after}
 use Rattle.office_core.proofs.Days.{days_after}
 use Rattle.office_core.proofs.Readers.{all_granted, all_passing}
 use Rattle.office_core.proofs.Words.{put_each}
 use Rattle.office_core.proofs.SoundDesk.{desk_after}
 use Rattle.office_core.proofs.ImportedUnits.{import_keeps_units}
+use Rattle.office_core.proofs.PassedChecks.{passed_move, passed_permit}
 
 permits_there : (s t : State) → t.permits ≡ s.permits
     → ((v : ℕ) → has_unit s.catalogue.forest v ≡ true → has_unit t.catalogue.forest v ≡ true) → ArePermitsOfUnits s
@@ -61,10 +68,10 @@ removed_good s u h =
 can_move : (s : State) (u : ℕ) (p : Option ℕ) → Passes (checks s (command.Move u p)) → CanMove s.catalogue u p
 can_move s u p ok =
     record {
-      there = held_so (has_unit s.catalogue.forest u) _ ok.0;
-      place = held_so (has_place has_id p s.catalogue.forest) _ ok.1.0;
-      apart = held_not (is_into_itself u p s.catalogue.forest) _ ok.1.1.0;
-      deep = ltb-false most_deep (depth_after u p s.catalogue.forest) (held_not (nat_lt most_deep (depth_after u p s.catalogue.forest)) _ ok.1.1.1.0);
+      there = (passed_move s u p ok).known;
+      place = (passed_move s u p ok).place;
+      apart = (passed_move s u p ok).apart;
+      deep = ltb-false most_deep (depth_after u p s.catalogue.forest) (passed_move s u p ok).shallow;
     }
 
 moved_good : (s : State) (u : ℕ) (p : Option ℕ) → CanMove s.catalogue u p → HasGoodCatalogue s
@@ -125,7 +132,7 @@ catalogue_after s (command.Cancel o) g ok = cancelled_good s o (container_of s o
 catalogue_after s (command.Issue c t) g ok = issued_good s c (s.queue c) (its_catalogue s g)
 catalogue_after s (command.Return c) g ok = returned_good s c (s.place c) (its_catalogue s g)
 catalogue_after s (command.Permit t u until) g ok =
-    granted_good s t u until (held_so (has_unit s.catalogue.forest u) _ ok.1.0) (its_catalogue s g)
+    granted_good s t u until (passed_permit s t u until ok).unit (its_catalogue s g)
 catalogue_after s (command.Revoke t u) g ok = revoked_good s t u (its_catalogue s g)
 
 pub sound_after : (s : State) (asked : Command) → IsSound s → NamesDays asked → Passes (checks s asked)

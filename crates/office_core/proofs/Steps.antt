@@ -1,6 +1,8 @@
 -- What each accepted command keeps, a run of commands keeps.
 use Rattle.std.proofs.Common.{Bool, ◌≡◌, ℕ, true, false, List, [], ◌∷◌, Option, Some, None, Ok, Err, refl}
-use Rattle.office_core.proofs.Common.{AllByRecursion, Check, Command, Refusal, Reply, State, WithReader, after, checks, decide, first_that_holds, gate, is_some, lowest_withheld, option_map, refusal, result_of, state_after, step, unless, when}
+use Rattle.office_core.proofs.Common.{AllByRecursion, Check, Command, Refusal, Reply, State, WithReader, after, checks}
+use Rattle.office_core.proofs.Common.{decide, first_that_holds, gate, is_some, lowest_withheld, option_map, refusal}
+use Rattle.office_core.proofs.Common.{result_of, state_after, step, unless, when}
 
 -- no check holds
 abbrev pub Passes : List Check → Type 0

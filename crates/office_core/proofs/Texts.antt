@@ -1,16 +1,23 @@
 -- The texts that an office keeps stay UTF-8.
-use Rattle.std.proofs.Common.{◌≡◌, ℕ, zero, suc, true, List, [], ◌∷◌, Option, Some, None, Ok, Err, refl, sym, subst, arith}
+use Rattle.std.proofs.Common.{◌≡◌, ℕ, zero, suc, true, List, [], ◌∷◌, Option, Some, None, Ok, Err, refl, sym, subst}
+use Rattle.std.proofs.Common.{arith}
 use Rattle.std.specs.Prelude.{ℤ, length}
 use Rattle.desk_core.specs.declared.reader.Place.{Place}
-use Rattle.catalogue_core.specs.LegibleCatalogues.{HasLegibleTexts, IsLegibleCatalogue}
 use Rattle.catalogue_core.proofs.AsciiTexts.{ascii_legible, between_low, source_legible}
 use Rattle.catalogue_core.proofs.LegibleMerges.{each_legible, taken_legible}
-use Rattle.office_core.specs.declared.command.Command.TheVariants as command
+use Rattle.catalogue_core.specs.LegibleCatalogues.{HasLegibleTexts, IsLegibleCatalogue}
 use Rattle.office_core.specs.SoundOffice.{AreTexts, IsSoundOffice, NamesTexts}
-use Rattle.office_core.proofs.Common.{AllByRecursion, AreGoodSettings, Bytes, Command, Desk, IsDayNumber, IsUtf8, NamesDays, Out, Reader, Settings, Shelf, State, Taken, after, all_append, all_cut, all_moved, and_parts, cancelled, checks, chosen, closure_keeps, container_of, has_id, imported, intake_of, is_between, is_country, is_repository, is_source, issued, list_all, nat_eq, renewed, returned, start, state_after, status_keeps}
+use Rattle.office_core.specs.declared.command.Command.TheVariants as command
+use Rattle.office_core.proofs.Common.{AllByRecursion, AreGoodSettings, Bytes, Command, Desk, IsDayNumber, IsUtf8}
+use Rattle.office_core.proofs.Common.{NamesDays, Out, Reader, Settings, Shelf, State, Taken, after, all_append, all_cut}
+use Rattle.office_core.proofs.Common.{all_moved, and_parts, cancelled, checks, chosen, closure_keeps, container_of}
+use Rattle.office_core.proofs.Common.{has_id, intake_of, is_between, is_country, is_repository, is_source, issued}
+use Rattle.office_core.proofs.Common.{list_all, nat_eq, renewed, returned, start, state_after, status_keeps}
+use Rattle.office_core.proofs.Common.{with_import}
 use Rattle.office_core.proofs.Steps.{Passes, held_so, run_keeps_if}
 use Rattle.office_core.proofs.StaysSound.{sound_after}
 use Rattle.office_core.proofs.Starts.{starts_sound}
+use Rattle.office_core.proofs.PassedChecks.{passed_import}
 
 -- ---- the settings are ASCII
 
@@ -57,10 +64,10 @@ other_catalogue s t e r c h = record {
 }
 
 imported_texts : (s : State) (source file : Bytes) (t : Taken) → intake_of s source file ≡ t → is_source source ≡ true
-    → AreTexts s → AreTexts (imported s t)
+    → AreTexts s → AreTexts (with_import s t)
 imported_texts s source file (Err fault) e named h = h
 imported_texts s source file (Ok intake) e named h =
-    other_catalogue s (imported s (Ok intake)) refl refl (taken_legible s.catalogue source file intake e (source_legible source named) h.catalogue) h
+    other_catalogue s (with_import s (Ok intake)) refl refl (taken_legible s.catalogue source file intake e (source_legible source named) h.catalogue) h
 
 reader_names : (until : ℤ) (rs : List Reader) (t : ℕ) → AllByRecursion (λ (r : Reader). IsUtf8 r.name) rs
     → AllByRecursion (λ (r : Reader). IsUtf8 r.name) (renewed until rs t)
@@ -93,7 +100,7 @@ texts_after s (command.Register name until) h n ok = record {
 texts_after s (command.Renew t until) h n ok =
     record { country = h.country; repo = h.repo; catalogue = h.catalogue; readers = reader_names until s.readers t h.readers }
 texts_after s (command.Import source file) h n ok =
-    imported_texts s source file (intake_of s source file) refl (held_so (is_source source) _ ok.0) h
+    imported_texts s source file (intake_of s source file) refl (held_so (is_source source) _ (passed_import s source file ok).named) h
 texts_after s (command.SetStatus u draft whole) h n ok =
     other_catalogue s (after s (command.SetStatus u draft whole)) refl refl (each_legible s.catalogue _ (status_keeps (chosen whole u s.catalogue) draft) h.catalogue) h
 texts_after s (command.SetClosure u until) h n ok =

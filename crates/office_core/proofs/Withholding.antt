@@ -1,12 +1,19 @@
 -- A change is refused for a reader exactly where it would withhold what is out.
-use Rattle.std.proofs.Common.{◌≡◌, ℕ, zero, suc, ◌≤◌, Bool, true, false, not, cond, List, [], ◌∷◌, ◌++◌, length, Option, Some, None, Ok, Err, refl, sym, ap, ◌∙◌, subst, inl, inr, ◌⊎◌, arith}
+use Rattle.std.proofs.Common.{◌≡◌, ℕ, zero, suc, ◌≤◌, Bool, true, false, not, cond, List, [], ◌∷◌, ◌++◌, length, Option}
+use Rattle.std.proofs.Common.{Some, None, Ok, Err, refl, sym, ap, ◌∙◌, subst, inl, inr, ◌⊎◌, arith}
 use Rattle.std.specs.Prelude.{nat_lt}
 use Rattle.desk_core.specs.declared.refusal.Refusal.TheVariants as refusal
+use Rattle.office_core.specs.AccessRestrictions.{WouldBeWithheld, IsLowestWithheld, may_withhold, AsksForReaders}
+use Rattle.office_core.specs.AccessRestrictions.{AsksForNone, MayBeDone, AsksForReadersAlone}
+use Rattle.office_core.specs.Rules.{refusal as refusal_of}
 use Rattle.office_core.specs.declared.command.Command.TheVariants as command
 use Rattle.office_core.specs.declared.done.Done.{Done}
-use Rattle.office_core.specs.Rules.{refusal as refusal_of}
-use Rattle.office_core.specs.AccessRestrictions.{WouldBeWithheld, IsLowestWithheld, may_withhold, AsksForReaders, AsksForNone, MayBeDone, AsksForReadersAlone}
-use Rattle.office_core.proofs.Common.{AllByRecursion, Check, Command, Intake, IsSoundDesk, Order, Refusal, State, Taken, WithReader, after, bad_file, cases_lt, checks, decide, depth_after, false≢true, first_that, first_that_holds, gate, has_id, has_permit, has_place, has_unit, imported, intake_of, is_container, is_full, is_into_itself, is_kept_from_holder, is_source, is_ticket, le-ltb, lowest_withheld, most_deep, nth, numbers_to, opens, option_map, order_out, result_of, same_Some, some_and, too_much, unless, when}
+use Rattle.office_core.proofs.Common.{AllByRecursion, Check, Command, Intake, IsSoundDesk, Order, Refusal, State, Taken}
+use Rattle.office_core.proofs.Common.{WithReader, after, bad_file, cases_lt, checks, decide, depth_after, false≢true}
+use Rattle.office_core.proofs.Common.{first_that, first_that_holds, gate, has_id, has_permit, has_place, has_unit}
+use Rattle.office_core.proofs.Common.{intake_of, is_container, is_full, is_into_itself, is_kept_from_holder, is_source}
+use Rattle.office_core.proofs.Common.{is_ticket, le-ltb, lowest_withheld, most_deep, nth, numbers_to, opens, option_map}
+use Rattle.office_core.proofs.Common.{order_out, result_of, same_Some, some_and, too_much, unless, when, with_import}
 use Rattle.office_core.proofs.Counts.{none_to, none_that, numbered_from_one}
 use Rattle.office_core.proofs.Extends.{imported_extends}
 use Rattle.office_core.proofs.Places.{out_known, places_after}
@@ -197,11 +204,11 @@ module _ (s t : State) (places : t.place ≡ s.place) (orders : t.orders ≡ s.o
             it.1 d (numbered_from_one t.catalogue.containers d k) (numbered_within t.catalogue.containers d k) (would_kept d w);
       }
 
-imported_place : (s : State) (r : Taken) → (imported s r).place ≡ s.place
+imported_place : (s : State) (r : Taken) → (with_import s r).place ≡ s.place
 imported_place s (Ok intake) = refl
 imported_place s (Err fault) = refl
 
-imported_orders : (s : State) (r : Taken) → (imported s r).orders ≡ s.orders
+imported_orders : (s : State) (r : Taken) → (with_import s r).orders ≡ s.orders
 imported_orders s (Ok intake) = refl
 imported_orders s (Err fault) = refl
 

@@ -1,7 +1,9 @@
 -- Lemmas on the words of the rules.
-use Rattle.std.proofs.Common.{◌≡◌, ◌≢◌, ℕ, zero, suc, ◌<◌, ◌≤◌, Bool, true, false, not, cond, ◌||◌, List, [], ◌∷◌, ◌++◌, length, Some, None, refl, sym, ap, ◌∙◌, subst, inl, inr, arith}
+use Rattle.std.proofs.Common.{◌≡◌, ◌≢◌, ℕ, zero, suc, ◌<◌, ◌≤◌, Bool, true, false, not, cond, ◌||◌, List, [], ◌∷◌, ◌++◌}
+use Rattle.std.proofs.Common.{length, Some, None, refl, sym, ap, ◌∙◌, subst, inl, inr, arith}
 use Rattle.std.proofs.Math.Bool.{or-false}
-use Rattle.office_core.proofs.Common.{AllByRecursion, IsAscending, cases_eq, eq-eqb, eqb-true, false≢true, is_some, nat_eq, ne_eqb, nth, or_right, stands, update_at, without}
+use Rattle.office_core.proofs.Common.{AllByRecursion, IsAscending, cases_eq, eq-eqb, eqb-true, false≢true, is_some}
+use Rattle.office_core.proofs.Common.{nat_eq, ne_eqb, nth, or_right, stands, update_at, without}
 
 pub same_number : (n : ℕ) → nat_eq n n ≡ true
 same_number n = eq-eqb n n refl

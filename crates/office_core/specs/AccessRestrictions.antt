@@ -13,7 +13,8 @@ use Rattle.office_core.specs.declared.command.Command.{Command}
 use Rattle.office_core.specs.declared.command.Command.TheVariants as command
 use Rattle.office_core.specs.declared.done.Done.{Done}
 use Rattle.office_core.specs.Words.{nth}
-use Rattle.office_core.specs.State.{Order, State, is_ticket, order_out, opens, has_permit}
+use Rattle.desk_core.specs.Decisions.{order_out}
+use Rattle.office_core.specs.State.{Order, State, is_ticket, opens, has_permit}
 use Rattle.office_core.specs.Rules.{after, intake_of, result_of, step}
 
 -- The container is out with an order, and the state afterwards does not open it to the reader of that order.
@@ -59,7 +60,7 @@ pub record MayImport (s : State) (source file : Bytes) : Type 0 where
   pub room : is_full intake.catalogue ≡ false
 
 -- The unit and the parent exist, the parent is outside the unit's branch, and the branch does not get too deep.
-pub record MayMove (s : State) (u : ℕ) (parent : Option ℕ) : Type 0 where
+pub record MayMoveUnit (s : State) (u : ℕ) (parent : Option ℕ) : Type 0 where
   pub unit : has_unit s.catalogue.forest u ≡ true
   pub place : has_place has_id parent s.catalogue.forest ≡ true
   pub apart : is_into_itself u parent s.catalogue.forest ≡ false
@@ -76,7 +77,7 @@ abbrev pub MayBeDone : State → Command → Type 0
 MayBeDone s (command.Import source file) = MayImport s source file
 MayBeDone s (command.SetStatus u draft whole) = has_unit s.catalogue.forest u ≡ true
 MayBeDone s (command.SetClosure u until) = has_unit s.catalogue.forest u ≡ true
-MayBeDone s (command.Move u parent) = MayMove s u parent
+MayBeDone s (command.Move u parent) = MayMoveUnit s u parent
 MayBeDone s (command.Remove u) = has_unit s.catalogue.forest u ≡ true
 MayBeDone s (command.Revoke t u) = MayRevoke s t u
 MayBeDone s _ = ⊥

@@ -1,7 +1,10 @@
 -- The limits of an office in numbers, and that a command is refused (23) exactly if there is no more room.
 use Rattle.std.specs.Prelude.{◌≡◌, ℕ, ℤ, ◌+◌, ◌<◌, ◌≤◌, true, false, nat_le, length, None, Some, codes}
 use Rattle.isad_core.specs.Days.{day_text}
-use Rattle.isad_core.specs.Limits.{first_day, last_day, most_units, most_unit_numbers, most_deep, most_bytes, most_rows, most_source_bytes, most_containers, most_name_bytes, most_seats, most_daily, most_hands, most_run_size, most_tickets, most_permits, most_orders, most_runs, most_connections}
+use Rattle.isad_core.specs.Limits.{first_day, last_day, most_units, most_unit_numbers, most_deep, most_bytes, most_rows}
+use Rattle.isad_core.specs.Limits.{most_source_bytes, most_containers, most_name_bytes, most_seats, most_daily}
+use Rattle.isad_core.specs.Limits.{most_hands, most_run_size, most_tickets, most_permits, most_orders, most_runs}
+use Rattle.isad_core.specs.Limits.{most_connections}
 use Rattle.isad_core.specs.Texts.{Bytes}
 use Rattle.atom_csv.specs.FileContents.{is_late}
 use Rattle.tree_core.specs.Forest.{size}
@@ -13,7 +16,8 @@ use Rattle.desk_core.specs.Refusals.{when}
 use Rattle.desk_core.specs.declared.refusal.Refusal.TheVariants.{UnknownUnit, DailyLimit, Full, NothingToMove, BadName}
 use Rattle.office_core.specs.declared.command.Command.TheVariants.{Register, Order, Run, Permit}
 use Rattle.office_core.specs.Words.{is_empty}
-use Rattle.office_core.specs.State.{Settings, State, is_ticket, is_expired, opens, has_ordered, orders_placed, orders_of_run, has_permit}
+use Rattle.office_core.specs.State.{Settings, State, is_ticket, is_expired, opens, has_ordered, orders_placed}
+use Rattle.office_core.specs.State.{orders_of_run, has_permit}
 use Rattle.office_core.specs.Rules.{refusal}
 use Rattle.office_core.specs.Soundness.{AreGoodSettings}
 

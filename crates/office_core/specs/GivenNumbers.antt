@@ -1,5 +1,6 @@
 -- What numbers name, and which numbers are given.
-use Rattle.std.specs.Prelude.{◌≡◌, ℕ, ℤ, suc, ◌-◌, ◌<◌, ◌≤◌, Bool, true, ◌&&◌, List, [], ◌∷◌, ◌++◌, length, Option, Some, None, Ok, option_to_list, filter, map, ◌⊎◌}
+use Rattle.std.specs.Prelude.{◌≡◌, ℕ, ℤ, suc, ◌-◌, ◌<◌, ◌≤◌, Bool, true, ◌&&◌, List, [], ◌∷◌, ◌++◌, length, Option}
+use Rattle.std.specs.Prelude.{Some, None, Ok, option_to_list, filter, map, ◌⊎◌}
 use Rattle.std.specs.List.{AllByRecursion}
 use Rattle.isad_core.specs.Texts.{Bytes}
 use Rattle.tree_core.specs.Forest.{Forest, nodes, has}
@@ -10,7 +11,7 @@ use Rattle.atom_csv.specs.FileContents.{file_of}
 use Rattle.atom_csv.specs.declared.file.File.{File}
 use Rattle.atom_csv.specs.declared.file.Row.{Row}
 use Rattle.office_core.specs.Words.{nth}
-use Rattle.office_core.specs.State.{Reader, State, Settings, start, next_run}
+use Rattle.office_core.specs.State.{Reader, State, Settings, start, new_run}
 use Rattle.office_core.specs.declared.command.Command.{Command}
 use Rattle.office_core.specs.declared.command.Command.TheVariants as command
 use Rattle.office_core.specs.declared.done.Done.{Done}
@@ -111,7 +112,7 @@ NamesWhatCame s t (command.Register name until) (Ok (done.Register r)) =
     nth t.readers r ≡ Some (record { name = name; until = until })
 NamesWhatCame s t (command.Order ticket c) (Ok (done.Order o)) =
     nth t.orders o ≡ Some (record { ticket = ticket; container = c; day = s.day })
-NamesWhatCame s t command.Run (Ok (done.Run n taken)) = nth t.runs n ≡ Some (next_run s)
+NamesWhatCame s t command.Run (Ok (done.Run n taken)) = nth t.runs n ≡ Some (new_run s)
 NamesWhatCame s t _ _ = Prim.Unit {0}
 
 -- a unit that is new has one of the numbers that the command gives

@@ -1,5 +1,6 @@
 -- The reply to an import, and why an import is refused.
-use Rattle.std.specs.Prelude.{None, ℕ, Bool, true, false, not, ◌||◌, List, [], ◌∷◌, Option, Some, Ok, Err, is_some, nat_lt, count_by}
+use Rattle.std.specs.Prelude.{None, ℕ, Bool, true, false, not, ◌||◌, List, [], ◌∷◌, Option, Some, Ok, Err, is_some}
+use Rattle.std.specs.Prelude.{nat_lt, count_by}
 use Rattle.std.specs.List.{list_all, flat_map}
 use Rattle.isad_core.specs.Texts.{Bytes, is_blank_text}
 use Rattle.isad_core.specs.Levels.{rank_of}

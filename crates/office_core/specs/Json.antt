@@ -1,10 +1,11 @@
 -- Replies and answers as JSON (RFC 8259): keys in byte order, no white space.
 use Rattle.std.specs.Prelude.{ℕ, ℤ, List, [], ◌∷◌, Option, Some, None, Ok, Err, codes, map}
-use Rattle.serde_json.specs.Data.{Data, unsigned, null, number, string, array, object, Items, no_items, item, Members, no_members, member}
+use Rattle.serde_json.specs.Data.{Data, unsigned, null, number, string, array, object, Items, no_items, item, Members}
+use Rattle.serde_json.specs.Data.{no_members, member}
 use Rattle.serde_json.specs.Written.{compact_text}
 use Rattle.isad_core.specs.Texts.{Bytes}
 use Rattle.isad_core.specs.Days.{day_text}
-use Rattle.desk_core.specs.Refusals.{number_of, name_of}
+use Rattle.desk_core.specs.Refusals.{refusal_number, refusal_name}
 use Rattle.desk_core.specs.declared.refusal.Refusal.{Refusal}
 use Rattle.desk_core.specs.declared.refusal.Refusal.TheVariants.{WithReader, BadFile}
 use Rattle.office_core.specs.declared.done.Done.{Done}
@@ -85,7 +86,7 @@ refusal_json (BadFile row cause) =
     ∷ (codes "refused", string (codes "BadFile"))
     ∷ (codes "row", count row)
     ∷ [])
-refusal_json why = fields ((codes "code", count (number_of why)) ∷ (codes "refused", string (name_of why)) ∷ [])
+refusal_json why = fields ((codes "code", count (refusal_number why)) ∷ (codes "refused", string (refusal_name why)) ∷ [])
 
 -- a reply as data, and its bytes
 abbrev pub reply_json : Reply → Data

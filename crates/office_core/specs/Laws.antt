@@ -1,7 +1,9 @@
 -- What the rules preserve.
-use Rattle.std.specs.Prelude.{◌≡◌, ◌≢◌, ℕ, zero, suc, ◌≤◌, Bool, true, cond, List, [], ◌∷◌, length, Option, Some, None, Ok, option_map, ◌⊎◌}
+use Rattle.std.specs.Prelude.{◌≡◌, ◌≢◌, ℕ, zero, suc, ◌≤◌, Bool, true, cond, List, [], ◌∷◌, length, Option, Some, None}
+use Rattle.std.specs.Prelude.{Ok, option_map, ◌⊎◌}
 use Rattle.office_core.specs.Words.{nth, stands}
-use Rattle.office_core.specs.State.{Order, End, Done, Cancelled, State, container_of, order_out, is_by}
+use Rattle.desk_core.specs.Decisions.{order_out}
+use Rattle.office_core.specs.State.{Order, End, Done, Cancelled, State, container_of, is_by}
 use Rattle.office_core.specs.SoundDesk.{is_out_for, IsGoodHolder}
 use Rattle.office_core.specs.declared.command.Command.TheVariants as command
 use Rattle.office_core.specs.declared.done.Done.TheVariants as done
@@ -33,15 +35,15 @@ abbrev pub OutApart : State → Type 0
 OutApart s = (o p : ℕ) → o ≢ p → standing s o ≡ Some WithItsReader → standing s p ≡ Some WithItsReader → container_of s o ≢ container_of s p
 
 -- What one command may do to an order: it begins to wait, goes out, is cancelled or is done.
-abbrev pub Goes : Option Standing → Option Standing → Type 0
-Goes None (Some Waiting) = Unit {0}
-Goes (Some Waiting) (Some WithItsReader) = Unit {0}
-Goes (Some Waiting) (Some (Ended Cancelled)) = Unit {0}
-Goes (Some WithItsReader) (Some (Ended Done)) = Unit {0}
-Goes _ _ = ⊥
+abbrev pub OrderGoes : Option Standing → Option Standing → Type 0
+OrderGoes None (Some Waiting) = Unit {0}
+OrderGoes (Some Waiting) (Some WithItsReader) = Unit {0}
+OrderGoes (Some Waiting) (Some (Ended Cancelled)) = Unit {0}
+OrderGoes (Some WithItsReader) (Some (Ended Done)) = Unit {0}
+OrderGoes _ _ = ⊥
 
-abbrev pub GoesOn : State → State → Type 0
-GoesOn s t = (o : ℕ) → (standing t o ≡ standing s o) ⊎ Goes (standing s o) (standing t o)
+abbrev pub OrdersGoOn : State → State → Type 0
+OrdersGoOn s t = (o : ℕ) → (standing t o ≡ standing s o) ⊎ OrderGoes (standing s o) (standing t o)
 
 -- The order waits for the container, and no order with a lower number does.
 pub record IsFirstWaiting (s : State) (c o : ℕ) : Type 0 where

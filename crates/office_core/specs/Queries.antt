@@ -1,5 +1,6 @@
 -- The answers of the office. A question changes nothing.
-use Rattle.std.specs.Prelude.{ℕ, Bool, true, false, ◌&&◌, ◌||◌, cond, List, [], ◌∷◌, length, filter, filter_map, map, Option, Some, None, option_map, nat_eq, codes}
+use Rattle.std.specs.Prelude.{ℕ, Bool, true, false, ◌&&◌, ◌||◌, cond, List, [], ◌∷◌, length, filter, filter_map, map}
+use Rattle.std.specs.Prelude.{Option, Some, None, option_map, nat_eq, codes}
 use Rattle.serde_json.specs.Data.{Data, string}
 use Rattle.serde_json.specs.Written.{compact_text}
 use Rattle.isad_core.specs.Texts.{Bytes}
@@ -12,16 +13,18 @@ use Rattle.desk_core.specs.declared.run.Candidate.{Candidate}
 use Rattle.desk_core.specs.declared.reader.Place.{Place}
 use Rattle.desk_core.specs.declared.reader.Place.TheVariants.{Shelf, Desk, Out}
 use Rattle.desk_core.specs.declared.refusal.Refusal.{Refusal}
-use Rattle.desk_core.specs.declared.refusal.Refusal.TheVariants.{UnknownUnit, UnknownTicket, UnknownContainer, UnknownRun}
+use Rattle.desk_core.specs.declared.refusal.Refusal.TheVariants.{UnknownUnit, UnknownTicket, UnknownContainer}
+use Rattle.desk_core.specs.declared.refusal.Refusal.TheVariants.{UnknownRun}
 use Rattle.catalogue_core.specs.PublicForest.{PublicUnit, public_of}
 use Rattle.office_core.specs.declared.query.Query.{Query}
 use Rattle.office_core.specs.declared.query.Query.TheVariants as query
 use Rattle.office_core.specs.declared.query.Answer.{Answer}
 use Rattle.office_core.specs.declared.query.Answer.TheVariants.{Text, Json, Unknown}
 use Rattle.office_core.specs.Words.{nth, numbers_to, some_and}
-use Rattle.office_core.specs.State.{Reader, Line, Run, Permit, State, is_by, waits, container_of, order_out, seat_of, containers}
+use Rattle.desk_core.specs.Decisions.{order_out}
+use Rattle.office_core.specs.State.{Reader, Line, Run, Permit, State, is_by, waits, container_of, seat_of, containers}
 use Rattle.office_core.specs.Json.{count, date, list, or_null, fields}
-use Rattle.catalogue_core.specs.Pages.{Press, is_numbered, fonds_text, aid_of, page_of}
+use Rattle.catalogue_core.specs.Pages.{Press, has_public_number, fonds_text, aid_of, page_of}
 
 -- the public may ask for the list of fonds, a finding aid and a page; all other questions are the desk's
 abbrev pub is_public : Query → Bool
@@ -50,7 +53,7 @@ page_answer (Some shown) = Text (page shown)
 -- a unit that is not part of what the public may know is unknown, whether it exists or not
 abbrev pub public_answer : Press → Forest PublicUnit → Query → Answer
 public_answer press f query.Fonds = Text (fonds_text press f)
-public_answer press f (query.Aid u) = cond (has (is_numbered u) f) (Text (aid_of press u f)) (Unknown UnknownUnit)
+public_answer press f (query.Aid u) = cond (has (has_public_number u) f) (Text (aid_of press u f)) (Unknown UnknownUnit)
 public_answer press f (query.Page u) = page_answer (page_of press u f)
 public_answer press f _ = Unknown UnknownUnit
 

@@ -1,5 +1,7 @@
 -- The rules of the office: what each command requires, in order, what it does, and what it replies.
-use Rattle.std.specs.Prelude.{option_map, ℕ, ℤ, int_lt, zero, suc, Bool, not, ◌&&◌, cond, List, [], ◌∷◌, ◌++◌, length, filter, replicate, Option, Some, None, Result, Ok, Err, unwrap_or, is_some, nat_lt, nat_le}
+use Rattle.std.specs.Prelude.{option_map, ℕ, ℤ, int_lt, zero, suc, Bool, not, ◌&&◌, cond, List, [], ◌∷◌, ◌++◌, length}
+use Rattle.std.specs.Prelude.{filter, replicate, Option, Some, None, Result, Ok, Err, unwrap_or, is_some, nat_lt}
+use Rattle.std.specs.Prelude.{nat_le}
 use Rattle.std.specs.List.{list_any}
 use Rattle.isad_core.specs.Limits.{most_deep, most_tickets, most_runs, most_permits}
 use Rattle.isad_core.specs.Texts.{Bytes}
@@ -10,7 +12,10 @@ use Rattle.desk_core.specs.Refusals.{Check, known_container, when, unless, first
 use Rattle.desk_core.specs.declared.reader.Place.{Place}
 use Rattle.desk_core.specs.declared.reader.Place.TheVariants.{Shelf, Desk, Out}
 use Rattle.desk_core.specs.declared.refusal.Refusal.{Refusal}
-use Rattle.desk_core.specs.declared.refusal.Refusal.TheVariants.{UnknownUnit, UnknownTicket, UnknownOrder, OrderNotWaiting, NotIssued, DayNotLater, StillIssued, IntoItself, WithReader, Full, NothingToMove, TooDeep, BadName, NoPermit}
+use Rattle.desk_core.specs.declared.refusal.Refusal.TheVariants.{UnknownUnit, UnknownTicket, UnknownOrder}
+use Rattle.desk_core.specs.declared.refusal.Refusal.TheVariants.{OrderNotWaiting, NotIssued, DayNotLater, StillIssued}
+use Rattle.desk_core.specs.declared.refusal.Refusal.TheVariants.{IntoItself, WithReader, Full, NothingToMove, TooDeep}
+use Rattle.desk_core.specs.declared.refusal.Refusal.TheVariants.{BadName, NoPermit}
 use Rattle.catalogue_core.specs.Units.{has_id}
 use Rattle.catalogue_core.specs.Moves.{with_moved, without_branch, is_into_itself, depth_after}
 use Rattle.catalogue_core.specs.Statuses.{with_closure, with_status, chosen}
@@ -19,7 +24,11 @@ use Rattle.office_core.specs.declared.command.Command.TheVariants as command
 use Rattle.office_core.specs.declared.done.Done.{Done}
 use Rattle.office_core.specs.declared.done.Done.TheVariants as done
 use Rattle.office_core.specs.Words.{nth, update_at, some_and, first_that, first, is_empty, stands, without}
-use Rattle.office_core.specs.State.{Reader, State, is_ticket, is_expired, is_seated, seat_of, free_seat, sit, rise, containers, is_container, opens, container_of, is_by, order_out, is_desk, is_out, held_count, waits, has_ordered, orders_placed, orders_of_run, next_run, brings, idle, has_permit, granted, revoked, granted_until}
+use Rattle.desk_core.specs.Decisions.{is_desk, order_out}
+use Rattle.office_core.specs.State.{Reader, State, is_ticket, is_expired, is_seated, seat_of, lowest_free_seat, sit}
+use Rattle.office_core.specs.State.{rise, containers, is_container, opens, container_of, is_by, is_out, held_count}
+use Rattle.office_core.specs.State.{waits, has_ordered, orders_placed, orders_of_run, new_run, brings, idle, has_permit}
+use Rattle.office_core.specs.State.{granted, revoked, granted_until}
 use Rattle.catalogue_core.specs.UnitLookup.{has_unit}
 use Rattle.office_core.specs.State as state
 use Rattle.catalogue_core.specs.Intake.{Taken, take}
@@ -74,7 +83,7 @@ cancelled s o (Some c) =
     record s { queue = update_at s.queue c (without o (s.queue c)); past = update_at s.past o (Some state.Cancelled) }
 
 abbrev pub fetched : State → State
-fetched s = record s { place = λ c. cond (brings (next_run s) c) Desk (s.place c); runs = s.runs ++ next_run s ∷ [] }
+fetched s = record s { place = λ c. cond (brings (new_run s) c) Desk (s.place c); runs = s.runs ++ new_run s ∷ [] }
 
 abbrev pub reshelved : State → State
 reshelved s = record s { place = λ c. cond (stands c (idle s)) Shelf (s.place c) }
@@ -95,15 +104,15 @@ returned s c (Out o) = record s { place = update_at s.place c Desk; past = updat
 abbrev pub intake_of : State → Bytes → Bytes → Taken
 intake_of s source file = take s.catalogue source file
 
-abbrev pub imported : State → Taken → State
-imported s (Ok intake) = record s { catalogue = intake.catalogue }
-imported s (Err fault) = s
+abbrev pub with_import : State → Taken → State
+with_import s (Ok intake) = record s { catalogue = intake.catalogue }
+with_import s (Err fault) = s
 
 -- ---- what a command does
 
 abbrev pub after : State → Command → State
 after s (command.OpenDay day) = opened s day
-after s (command.Import source file) = imported s (intake_of s source file)
+after s (command.Import source file) = with_import s (intake_of s source file)
 after s (command.SetStatus u draft whole) =
     record s { catalogue = with_status (chosen whole u s.catalogue) draft s.catalogue }
 after s (command.SetClosure u until) = record s { catalogue = with_closure u until s.catalogue }
@@ -165,7 +174,7 @@ checks s (command.TakeSeat t) =
       known = is_ticket s t;
       expired = is_expired s t;
       seated = is_seated s t;
-      free = free_seat s;
+      free = lowest_free_seat s;
     })
 checks s (command.LeaveSeat t) =
     leave_seat_checks (record { known = is_ticket s t; seated = is_seated s t; held = held_count s t })
@@ -228,7 +237,7 @@ result_of s (command.Move u parent) = done.Move u
 result_of s (command.Remove u) = done.Remove (length (branch (has_id u) s.catalogue.forest))
 result_of s (command.Register name until) = done.Register (suc (length s.readers))
 result_of s (command.Renew t until) = done.Renew t
-result_of s (command.TakeSeat t) = done.TakeSeat (unwrap_or (free_seat s) 0)
+result_of s (command.TakeSeat t) = done.TakeSeat (unwrap_or (lowest_free_seat s) 0)
 result_of s (command.LeaveSeat t) = done.LeaveSeat (unwrap_or (seat_of s t) 0)
 result_of s (command.Order t c) = done.Order (suc (length s.orders))
 result_of s (command.Cancel o) = done.Cancel o

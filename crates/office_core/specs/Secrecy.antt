@@ -10,12 +10,12 @@ use Rattle.isad_core.specs.declared.display.Shown.{Shown}
 use Rattle.isad_core.specs.declared.values.Values.{Values}
 use Rattle.tree_core.specs.Forest.{Forest, nodes, each, has, path}
 use Rattle.tree_core.specs.Visibility.{public}
-use Rattle.catalogue_core.specs.Units.{Unit, is_closed}
+use Rattle.catalogue_core.specs.Units.{Unit, is_unit_closed}
 use Rattle.catalogue_core.specs.CatalogueMerge.{box_number}
 use Rattle.catalogue_core.specs.ContainerContents.{paths}
 use Rattle.catalogue_core.specs.PublicForest.{PublicUnit}
 use Rattle.catalogue_core.specs.Aids.{shown_unit}
-use Rattle.catalogue_core.specs.Pages.{number_of, is_numbered, tops_text}
+use Rattle.catalogue_core.specs.Pages.{public_number, has_public_number, tops_text}
 use Rattle.catalogue_core.specs.PublishedUnits.{boxes_told, identifiers, IsPublished, LineIsTold, BoxIsTold}
 use Rattle.office_core.specs.declared.query.Query.{Query}
 use Rattle.office_core.specs.declared.query.Query.TheVariants as query
@@ -63,7 +63,7 @@ pub record ShowsPublished (s : State) (shown : Shown) : Type 0 where
 
 -- the same for the unit with this number
 abbrev pub ShowsNumbered : State → ℕ × Shown → Type 0
-ShowsNumbered s (u, shown) = (it : ShowsPublished s shown) × (u ≡ number_of it.told)
+ShowsNumbered s (u, shown) = (it : ShowsPublished s shown) × (u ≡ public_number it.told)
 
 -- the unit with this number, and others after it
 abbrev pub ShowsBranch : State → ℕ → List Shown → Type 0
@@ -72,7 +72,7 @@ ShowsBranch s u (head ∷ below) = ShowsNumbered s (u, head) × AllByRecursion (
 
 -- the path of a unit, as far as the public may know of it
 abbrev pub public_path : State → ℕ → List PublicUnit
-public_path s u = path (is_numbered u) (public_forest s)
+public_path s u = path (has_public_number u) (public_forest s)
 
 -- The page of a unit shows published units only: the unit, those right below it, and those of its path. Its lines and
 -- its containers come from the units of its path.
@@ -101,8 +101,8 @@ is_text _ = false
 
 -- Every unit that the public may know has a finding aid and a page. No other number has either.
 pub record ShowsAllPublished (s : State) : Type 0 where
-  pub aid : (u : ℕ) → is_text (answer s (query.Aid u)) ≡ has (is_numbered u) (public_forest s)
-  pub page : (u : ℕ) → is_text (answer s (query.Page u)) ≡ has (is_numbered u) (public_forest s)
+  pub aid : (u : ℕ) → is_text (answer s (query.Aid u)) ≡ has (has_public_number u) (public_forest s)
+  pub page : (u : ℕ) → is_text (answer s (query.Page u)) ≡ has (has_public_number u) (public_forest s)
 
 -- ---- the office as far as it is published
 
@@ -122,7 +122,7 @@ published_unit (unit, closed) = record unit {
 
 -- no draft branch, and nothing below a closed unit
 abbrev pub published_forest : ℤ → Forest Unit → Forest Unit
-published_forest day f = each published_unit (public (λ unit. unit.draft) (is_closed day) f)
+published_forest day f = each published_unit (public (λ unit. unit.draft) (is_unit_closed day) f)
 
 -- the settings with only the country and repository codes
 abbrev pub published_settings : Settings → Settings

@@ -1,12 +1,15 @@
 -- When a desk is sound.
-use Rattle.std.specs.Prelude.{◌≡◌, ◌≢◌, ℕ, ℤ, ◌<◌, ◌≤◌, ◌≤ℤ◌, Bool, true, false, List, [], ◌∷◌, length, Option, Some, None, is_some, nat_eq}
+use Rattle.std.specs.Prelude.{◌≡◌, ◌≢◌, ℕ, ℤ, ◌<◌, ◌≤◌, ◌≤ℤ◌, Bool, true, false, List, [], ◌∷◌, length, Option, Some}
+use Rattle.std.specs.Prelude.{None, is_some, nat_eq}
 use Rattle.std.specs.List.{list_any, AllByRecursion}
 use Rattle.isad_core.specs.Limits.{most_orders, most_tickets, most_runs, most_permits}
 use Rattle.desk_core.specs.declared.reader.Place.{Place}
 use Rattle.desk_core.specs.declared.reader.Place.TheVariants.{Shelf}
 use Rattle.isad_core.specs.Boxes.{distinct}
 use Rattle.office_core.specs.Words.{nth, some_and, stands}
-use Rattle.office_core.specs.State.{Reader, Order, Line, Run, Permit, End, State, is_ticket, is_seat_of, is_seated, is_container, opens, container_of, is_by, order_out, held_count, orders_placed}
+use Rattle.desk_core.specs.Decisions.{order_out}
+use Rattle.office_core.specs.State.{Reader, Order, Line, Run, Permit, End, State, is_ticket, is_seat_of, is_seated}
+use Rattle.office_core.specs.State.{is_container, opens, container_of, is_by, held_count, orders_placed}
 use Rattle.office_core.specs.Rules.{is_name}
 
 -- ---- orders

@@ -1,5 +1,7 @@
 -- The state of the office: its catalogue and its reading room.
-use Rattle.std.specs.Prelude.{ℕ, ℤ, int_lt, int_le, Bool, true, false, not, ◌&&◌, ◌||◌, cond, List, [], ◌∷◌, length, map, take, filter, filter_map, replicate, count_by, Option, Some, None, option_map, is_some, is_none, nat_eq, nat_lt}
+use Rattle.std.specs.Prelude.{ℕ, ℤ, int_lt, int_le, Bool, true, false, not, ◌&&◌, ◌||◌, cond, List, [], ◌∷◌, length}
+use Rattle.std.specs.Prelude.{map, take, filter, filter_map, replicate, count_by, Option, Some, None, option_map}
+use Rattle.std.specs.Prelude.{is_some, is_none, nat_eq, nat_lt}
 use Rattle.std.specs.Ordering.{int_eq}
 use Rattle.std.specs.List.{list_any}
 use Rattle.isad_core.specs.Texts.{Bytes}
@@ -9,6 +11,7 @@ use Rattle.desk_core.specs.declared.reader.Place.TheVariants.{Shelf, Desk, Out}
 use Rattle.catalogue_core.specs.CatalogueMerge.{Catalogue, empty_catalogue}
 use Rattle.catalogue_core.specs.ContainerContents.{is_open}
 use Rattle.office_core.specs.Words.{nth, numbers_to, some_and, place_of, first, is_empty, stands}
+use Rattle.desk_core.specs.Decisions.{is_desk, order_out}
 
 pub record Settings : Type 0 where
   pub country : Bytes
@@ -96,8 +99,8 @@ abbrev pub seat_of : State → ℕ → Option ℕ
 seat_of s t = place_of (is_seat_of t) s.seats
 
 -- the lowest free seat
-abbrev pub free_seat : State → Option ℕ
-free_seat s = place_of is_none s.seats
+abbrev pub lowest_free_seat : State → Option ℕ
+lowest_free_seat s = place_of is_none s.seats
 
 -- the ticket takes the lowest free seat
 abbrev pub sit : ℕ → List (Option ℕ) → List (Option ℕ)
@@ -134,21 +137,10 @@ container_of s o = option_map (λ order. order.container) (nth s.orders o)
 abbrev pub is_by : State → ℕ → ℕ → Bool
 is_by s t o = some_and (λ order. nat_eq order.ticket t) (nth s.orders o)
 
--- the order that a container is out with
-abbrev pub order_out : Place → Option ℕ
-order_out Shelf = None
-order_out Desk = None
-order_out (Out o) = Some o
-
 abbrev pub is_shelf : Place → Bool
 is_shelf Shelf = true
 is_shelf Desk = false
 is_shelf (Out o) = false
-
-abbrev pub is_desk : Place → Bool
-is_desk Shelf = false
-is_desk Desk = true
-is_desk (Out o) = false
 
 abbrev pub is_out : State → ℕ → Bool
 is_out s c = is_some (order_out (s.place c))
@@ -193,8 +185,8 @@ abbrev pub is_line_before : Line → Line → Bool
 is_line_before a b = nat_lt a.container b.container
 
 -- its lines are ordered by the numbers of their containers
-abbrev pub next_run : State → Run
-next_run s = record { day = s.day; lines = in_order is_line_before (filter_map (line_for s) (orders_of_run s)) }
+abbrev pub new_run : State → Run
+new_run s = record { day = s.day; lines = in_order is_line_before (filter_map (line_for s) (orders_of_run s)) }
 
 abbrev pub brings : Run → ℕ → Bool
 brings run c = list_any (λ line. nat_eq line.container c) run.lines

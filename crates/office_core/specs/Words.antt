@@ -1,5 +1,6 @@
 -- Functions of the rules that are not about a reading room.
-use Rattle.std.specs.Prelude.{ℕ, zero, suc, Bool, true, false, not, cond, List, [], ◌∷◌, ◌++◌, Option, Some, None, nat_eq, slice_get, option_map, filter}
+use Rattle.std.specs.Prelude.{ℕ, zero, suc, Bool, true, false, not, cond, List, [], ◌∷◌, ◌++◌, Option, Some, None}
+use Rattle.std.specs.Prelude.{nat_eq, slice_get, option_map, filter}
 pub use Rattle.isad_core.specs.Words.{some_and, stands}
 
 -- the n-th of a list, counted from 1

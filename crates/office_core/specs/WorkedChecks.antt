@@ -2,13 +2,18 @@
 -- all after it apply.
 use Rattle.std.specs.Prelude.{◌≡◌, ◌+◌, ◌-◌, true, false, [], ◌∷◌, Option, Some, None, codes}
 use Rattle.isad_core.specs.Limits.{most_orders, most_permits}
-use Rattle.desk_core.specs.Checks.{OrderFacts, order_checks, IssueFacts, issue_checks, TakeSeatFacts, take_seat_checks, LeaveSeatFacts, leave_seat_checks}
+use Rattle.desk_core.specs.Checks.{OrderFacts, order_checks, IssueFacts, issue_checks, TakeSeatFacts, take_seat_checks}
+use Rattle.desk_core.specs.Checks.{LeaveSeatFacts, leave_seat_checks}
 use Rattle.desk_core.specs.Refusals.{first_that_holds}
 use Rattle.desk_core.specs.declared.refusal.Refusal.{Refusal}
-use Rattle.desk_core.specs.declared.refusal.Refusal.TheVariants.{UnknownUnit, UnknownTicket, UnknownContainer, TicketExpired, NotAvailable, AlreadyOrdered, DailyLimit, NoSeatFree, AlreadySeated, NotSeated, HoldsContainers, NotAtDesk, NotFirst, HandsFull, BadName, Full}
+use Rattle.desk_core.specs.declared.refusal.Refusal.TheVariants.{UnknownUnit, UnknownTicket, UnknownContainer}
+use Rattle.desk_core.specs.declared.refusal.Refusal.TheVariants.{TicketExpired, NotAvailable, AlreadyOrdered}
+use Rattle.desk_core.specs.declared.refusal.Refusal.TheVariants.{DailyLimit, NoSeatFree, AlreadySeated, NotSeated}
+use Rattle.desk_core.specs.declared.refusal.Refusal.TheVariants.{HoldsContainers, NotAtDesk, NotFirst, HandsFull}
+use Rattle.desk_core.specs.declared.refusal.Refusal.TheVariants.{BadName, Full}
 use Rattle.office_core.specs.declared.command.Command.TheVariants.{Import, Permit}
 use Rattle.office_core.specs.Rules.{replies}
-use Rattle.office_core.specs.WorkedExamples.{Answers, refusal_reply, with_most_permits, april_1}
+use Rattle.office_core.specs.WorkedExamples.{RepliesAre, refusal_reply, with_most_permits, april_1}
 
 -- ---- an order
 
@@ -70,4 +75,4 @@ PermitInTurn =
 
 -- a file that cannot be read, from a source with a bad name
 abbrev pub NameBeforeFile : Type 0
-NameBeforeFile = Answers (Import [] [] ∷ Import (codes "a b") (codes "title\n") ∷ []) (refusal_reply BadName ∷ refusal_reply BadName ∷ [])
+NameBeforeFile = RepliesAre (Import [] [] ∷ Import (codes "a b") (codes "title\n") ∷ []) (refusal_reply BadName ∷ refusal_reply BadName ∷ [])

@@ -1,5 +1,6 @@
 -- A small office, worked out by hand: two seats, three orders a day, one container in hand, runs of two.
-use Rattle.std.specs.Prelude.{◌≡◌, ◌+◌, ◌++◌, ℕ, zero, suc, ℤ, pos, true, false, List, [], ◌∷◌, Some, None, Ok, Err, codes, decimal, replicate}
+use Rattle.std.specs.Prelude.{◌≡◌, ◌+◌, ◌++◌, ℕ, zero, suc, ℤ, pos, true, false, List, [], ◌∷◌, Some, None, Ok, Err}
+use Rattle.std.specs.Prelude.{codes, decimal, replicate}
 use Rattle.isad_core.specs.Limits.{most_permits, most_unit_numbers}
 use Rattle.isad_core.specs.Texts.{Bytes}
 use Rattle.tree_core.specs.Forest.{Forest, Empty, Node}
@@ -38,12 +39,12 @@ year_2030 = pos 21915
 
 -- ---- the office, on 1 March 2024
 
-abbrev pub office : State
-office = start (record { country = codes "GB"; repo = codes "0999"; seats = 2; daily = 3; hands = 1; run_size = 2 }) march_1
+abbrev pub new_office : State
+new_office = start (record { country = codes "GB"; repo = codes "0999"; seats = 2; daily = 3; hands = 1; run_size = 2 }) march_1
 
 -- the replies to these commands, from the new office on
-abbrev pub Answers : List Command → List Reply → Type 0
-Answers asked told = replies office asked ≡ told
+abbrev pub RepliesAre : List Command → List Reply → Type 0
+RepliesAre asked told = replies new_office asked ≡ told
 
 -- ---- commands
 
@@ -78,8 +79,8 @@ refusal_reply why = Err why
 
 -- the reply to an import, with the numbers of rows that changed a unit, made one, left one unchanged, or are
 -- translations
-abbrev pub rows : (changed new same translations : ℕ) → List Remark → Reply
-rows changed new same translations remarks = Ok (done.Import changed new remarks same translations)
+abbrev pub import_reply : (changed new same translations : ℕ) → List Remark → Reply
+import_reply changed new same translations remarks = Ok (done.Import changed new remarks same translations)
 
 -- ---- files
 
@@ -207,7 +208,7 @@ with_next n s = record s { catalogue = record s.catalogue { next = n } }
 abbrev pub one_number_left : State
 one_number_left =
     with_next most_unit_numbers
-    (state_after office (import boxes ∷ ann ∷ command.Order 1 2 ∷ command.Run ∷ command.TakeSeat 1 ∷ command.Issue 2 1 ∷ []))
+    (state_after new_office (import boxes ∷ ann ∷ command.Order 1 2 ∷ command.Run ∷ command.TakeSeat 1 ∷ command.Issue 2 1 ∷ []))
 
 -- ---- an office with one unit more than a ticket may have permits for, where Ann has permits for all but the last
 
@@ -224,9 +225,9 @@ titled n =
     }
 
 -- n units side by side, numbered from `first`
-abbrev pub units_from : (first n : ℕ) → Forest Unit
-units_from first zero = Empty
-units_from first (suc n) = Node (titled first) Empty (units_from (suc first) n)
+abbrev pub titled_units : (first n : ℕ) → Forest Unit
+titled_units first zero = Empty
+titled_units first (suc n) = Node (titled first) Empty (titled_units (suc first) n)
 
 -- permits for n units, numbered from `first`
 abbrev pub permits_from : (first n : ℕ) → List Permit
@@ -235,8 +236,8 @@ permits_from first (suc n) = record { unit = first; until = march_31 } ∷ permi
 
 abbrev pub with_most_permits : State
 with_most_permits =
-    record office {
-      catalogue = record { forest = units_from 1 (suc most_permits); containers = []; next = most_permits + 2 };
+    record new_office {
+      catalogue = record { forest = titled_units 1 (suc most_permits); containers = []; next = most_permits + 2 };
       readers = record { name = codes "Ann"; until = year_end } ∷ [];
-      permits = update_at office.permits 1 (permits_from 1 most_permits);
+      permits = update_at new_office.permits 1 (permits_from 1 most_permits);
     }

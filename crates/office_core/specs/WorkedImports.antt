@@ -7,14 +7,17 @@ use Rattle.tree_core.specs.Forest.{nodes}
 use Rattle.desk_core.specs.declared.refusal.Refusal.TheVariants.{WithReader, TooDeep}
 use Rattle.catalogue_core.specs.Units.{Unit}
 use Rattle.office_core.specs.declared.command.Command.{Command}
-use Rattle.office_core.specs.declared.command.Command.TheVariants.{Import, SetClosure, Move, TakeSeat, Order, Run, Issue, Return}
+use Rattle.office_core.specs.declared.command.Command.TheVariants.{Import, SetClosure, Move, TakeSeat, Order, Run}
+use Rattle.office_core.specs.declared.command.Command.TheVariants.{Issue, Return}
 use Rattle.office_core.specs.declared.query.Query.TheVariants.{Aid, Page}
 use Rattle.office_core.specs.declared.query.Answer.TheVariants.{Text}
 use Rattle.office_core.specs.declared.done.Done.TheVariants as done
 use Rattle.office_core.specs.declared.done.Remark.TheVariants.{LacksEssential}
 use Rattle.office_core.specs.Rules.{state_after}
-use Rattle.office_core.specs.WorkedAnswers.{Says}
-use Rattle.office_core.specs.WorkedExamples.{Answers, office, import, publish, draft, close, ann, order, issue_reply, refusal_reply, rows, february_1, march_1, year_2030, docks, docks_and_mersey, lock_gates, chain}
+use Rattle.office_core.specs.WorkedAnswers.{AnswerIs}
+use Rattle.office_core.specs.WorkedExamples.{RepliesAre, new_office, import, publish, draft, close, ann, order}
+use Rattle.office_core.specs.WorkedExamples.{issue_reply, refusal_reply, import_reply, february_1, march_1, year_2030}
+use Rattle.office_core.specs.WorkedExamples.{docks, docks_and_mersey, lock_gates, chain}
 
 -- ---- remarks
 
@@ -24,7 +27,7 @@ fonds_in_a_bundle = codes "legacyId,parentId,title,levelOfDescription\n1,,Top,Se
 
 -- a level without a rank is compared with no other level
 abbrev pub LevelsWithoutRank : Type 0
-LevelsWithoutRank = Answers (import fonds_in_a_bundle ∷ []) (rows 0 3 0 0 (LacksEssential 2 ∷ []) ∷ [])
+LevelsWithoutRank = RepliesAre (import fonds_in_a_bundle ∷ []) (import_reply 0 3 0 0 (LacksEssential 2 ∷ []) ∷ [])
 
 -- a fonds with all six elements, six that lack one each, and a unit below the first that lacks all
 abbrev pub one_missing : Bytes
@@ -34,8 +37,8 @@ one_missing =
 -- each of the six is looked for, in tops only
 abbrev pub OneMissing : Type 0
 OneMissing =
-    Answers (import one_missing ∷ [])
-    (rows 0 8 0 0 (LacksEssential 3 ∷ LacksEssential 4 ∷ LacksEssential 5 ∷ LacksEssential 6 ∷ LacksEssential 7 ∷ LacksEssential 8 ∷ []) ∷ [])
+    RepliesAre (import one_missing ∷ [])
+    (import_reply 0 8 0 0 (LacksEssential 3 ∷ LacksEssential 4 ∷ LacksEssential 5 ∷ LacksEssential 6 ∷ LacksEssential 7 ∷ LacksEssential 8 ∷ []) ∷ [])
 
 -- ---- what counts as a change
 
@@ -52,9 +55,9 @@ docks_of_another_code =
 -- another level alone is a change, and so is another reference code; another status is not
 abbrev pub ChangedAlone : Type 0
 ChangedAlone =
-    Answers
+    RepliesAre
     (import docks ∷ import docks_of_another_level ∷ import docks_of_another_level ∷ import docks ∷ import docks_of_another_code ∷ import docks_of_another_code ∷ [])
-    (rows 0 2 0 0 (LacksEssential 2 ∷ []) ∷ rows 1 0 1 0 (LacksEssential 2 ∷ []) ∷ rows 0 0 2 0 (LacksEssential 2 ∷ []) ∷ rows 1 0 1 0 (LacksEssential 2 ∷ []) ∷ rows 1 0 1 0 (LacksEssential 2 ∷ []) ∷ rows 0 0 2 0 (LacksEssential 2 ∷ []) ∷ [])
+    (import_reply 0 2 0 0 (LacksEssential 2 ∷ []) ∷ import_reply 1 0 1 0 (LacksEssential 2 ∷ []) ∷ import_reply 0 0 2 0 (LacksEssential 2 ∷ []) ∷ import_reply 1 0 1 0 (LacksEssential 2 ∷ []) ∷ import_reply 1 0 1 0 (LacksEssential 2 ∷ []) ∷ import_reply 0 0 2 0 (LacksEssential 2 ∷ []) ∷ [])
 
 -- ---- new units below drafts and closed units
 
@@ -65,22 +68,22 @@ docks_in_draft =
 
 -- a new unit has the status of its own row and no closure, whatever the unit above it has
 pub record NewBelow : Type 0 where
-  pub known_draft : Says (import docks ∷ draft 1 ∷ import docks_and_mersey ∷ publish 1 ∷ []) (Page 1) (Text (codes "GB 0999 HUL [Fonds] Hull Dock Company\n  Unit 2: GB 0999 HUL/1 [Series] Minutes\n  Unit 3: GB 0999 HUL/2 [Series] Plans\n"))
-  pub new_draft : Says (import docks_in_draft ∷ publish 1 ∷ []) (Aid 1) (Text (codes "GB 0999 HUL [Fonds] Hull Dock Company\n  GB 0999 HUL/1 [Series] Minutes\n"))
-  pub closed : Says (import docks ∷ close 1 year_2030 ∷ import docks_and_mersey ∷ SetClosure 1 None ∷ []) (Page 1) (Text (codes "GB 0999 HUL [Fonds] Hull Dock Company\n  Unit 2: GB 0999 HUL/1 [Series] Minutes\n  Unit 3: GB 0999 HUL/2 [Series] Plans\n"))
+  pub known_draft : AnswerIs (import docks ∷ draft 1 ∷ import docks_and_mersey ∷ publish 1 ∷ []) (Page 1) (Text (codes "GB 0999 HUL [Fonds] Hull Dock Company\n  Unit 2: GB 0999 HUL/1 [Series] Minutes\n  Unit 3: GB 0999 HUL/2 [Series] Plans\n"))
+  pub new_draft : AnswerIs (import docks_in_draft ∷ publish 1 ∷ []) (Aid 1) (Text (codes "GB 0999 HUL [Fonds] Hull Dock Company\n  GB 0999 HUL/1 [Series] Minutes\n"))
+  pub closed : AnswerIs (import docks ∷ close 1 year_2030 ∷ import docks_and_mersey ∷ SetClosure 1 None ∷ []) (Page 1) (Text (codes "GB 0999 HUL [Fonds] Hull Dock Company\n  Unit 2: GB 0999 HUL/1 [Series] Minutes\n  Unit 3: GB 0999 HUL/2 [Series] Plans\n"))
 
 -- ---- closures
 
 -- the end of the closure of each unit, in walk order
 abbrev pub closures_after : List Command → List (Option ℤ)
-closures_after asked = map (λ (unit : Unit). unit.until) (nodes (state_after office asked).catalogue.forest)
+closures_after asked = map (λ (unit : Unit). unit.until) (nodes (state_after new_office asked).catalogue.forest)
 
 -- a closure until a day that is not later than today is stored, and replaces another
 pub record ClosuresKept : Type 0 where
   pub past : closures_after (import docks ∷ close 2 february_1 ∷ []) ≡ None ∷ Some february_1 ∷ []
   pub today : closures_after (import docks ∷ close 2 march_1 ∷ []) ≡ None ∷ Some march_1 ∷ []
   pub shortened : closures_after (import docks ∷ close 2 year_2030 ∷ close 2 february_1 ∷ []) ≡ None ∷ Some february_1 ∷ []
-  pub shown : Says (import docks ∷ close 2 year_2030 ∷ close 2 february_1 ∷ []) (Aid 2) (Text (codes "GB 0999 HUL/1 [Series] Minutes\n"))
+  pub shown : AnswerIs (import docks ∷ close 2 year_2030 ∷ close 2 february_1 ∷ []) (Aid 2) (Text (codes "GB 0999 HUL/1 [Series] Minutes\n"))
 
 -- ---- moves
 
@@ -88,6 +91,6 @@ pub record ClosuresKept : Type 0 where
 -- and one unit further up because its container would be withheld
 abbrev pub TooDeepBeforeTheGate : Type 0
 TooDeepBeforeTheGate =
-    Answers
+    RepliesAre
     (import (chain (most_deep - 1)) ∷ Import (codes "b") lock_gates ∷ ann ∷ Order 1 1 ∷ Run ∷ TakeSeat 1 ∷ Issue 1 1 ∷ Move most_deep (Some (most_deep - 1)) ∷ Move most_deep (Some (most_deep - 2)) ∷ Return 1 ∷ Move most_deep (Some (most_deep - 1)) ∷ Move most_deep (Some (most_deep - 2)) ∷ [])
-    (rows 0 (most_deep - 1) 0 0 (LacksEssential 2 ∷ []) ∷ rows 0 2 0 0 (LacksEssential 2 ∷ []) ∷ Ok (done.Register 1) ∷ order 1 ∷ Ok (done.Run 1 1) ∷ Ok (done.TakeSeat 1) ∷ issue_reply 1 ∷ refusal_reply TooDeep ∷ refusal_reply (WithReader 1) ∷ Ok (done.Return 1) ∷ refusal_reply TooDeep ∷ Ok (done.Move most_deep) ∷ [])
+    (import_reply 0 (most_deep - 1) 0 0 (LacksEssential 2 ∷ []) ∷ import_reply 0 2 0 0 (LacksEssential 2 ∷ []) ∷ Ok (done.Register 1) ∷ order 1 ∷ Ok (done.Run 1 1) ∷ Ok (done.TakeSeat 1) ∷ issue_reply 1 ∷ refusal_reply TooDeep ∷ refusal_reply (WithReader 1) ∷ Ok (done.Return 1) ∷ refusal_reply TooDeep ∷ Ok (done.Move most_deep) ∷ [])

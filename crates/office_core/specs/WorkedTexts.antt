@@ -1,15 +1,21 @@
 -- The text of each reply, with its keys in byte order and no white space, byte for byte. Each was written by hand.
 use Rattle.std.specs.Prelude.{◌≡◌, [], ◌∷◌, Ok, codes}
-use Rattle.desk_core.specs.declared.refusal.Refusal.TheVariants.{UnknownUnit, UnknownTicket, UnknownContainer, TicketExpired, NotAvailable, AlreadyOrdered, DailyLimit, NoSeatFree, AlreadySeated, NotSeated, HoldsContainers, UnknownOrder, OrderNotWaiting, NotAtDesk, NotFirst, HandsFull, NotIssued, DayNotLater, StillIssued, IntoItself, WithReader, BadFile, Full, NothingToMove, TooDeep, UnknownRun, BadName, NoPermit}
+use Rattle.desk_core.specs.declared.refusal.Refusal.TheVariants.{UnknownUnit, UnknownTicket, UnknownContainer}
+use Rattle.desk_core.specs.declared.refusal.Refusal.TheVariants.{TicketExpired, NotAvailable, AlreadyOrdered}
+use Rattle.desk_core.specs.declared.refusal.Refusal.TheVariants.{DailyLimit, NoSeatFree, AlreadySeated, NotSeated}
+use Rattle.desk_core.specs.declared.refusal.Refusal.TheVariants.{HoldsContainers, UnknownOrder, OrderNotWaiting}
+use Rattle.desk_core.specs.declared.refusal.Refusal.TheVariants.{NotAtDesk, NotFirst, HandsFull, NotIssued, DayNotLater}
+use Rattle.desk_core.specs.declared.refusal.Refusal.TheVariants.{StillIssued, IntoItself, WithReader, BadFile, Full}
+use Rattle.desk_core.specs.declared.refusal.Refusal.TheVariants.{NothingToMove, TooDeep, UnknownRun, BadName, NoPermit}
 use Rattle.office_core.specs.declared.done.Done.TheVariants as done
 use Rattle.office_core.specs.declared.done.Remark.TheVariants.{LevelTooHigh, LacksEssential}
 use Rattle.office_core.specs.Json.{reply_text}
-use Rattle.office_core.specs.WorkedExamples.{refusal_reply, rows, march_2}
+use Rattle.office_core.specs.WorkedExamples.{refusal_reply, import_reply, march_2}
 
 -- a command that was done
 pub record EachReply : Type 0 where
   pub open_day : reply_text (Ok (done.OpenDay march_2)) ≡ codes "{\"day\":\"2024-03-02\"}"
-  pub import : reply_text (rows 1 2 3 4 (LevelTooHigh 5 ∷ LacksEssential 6 ∷ [])) ≡ codes "{\"changed\":1,\"new\":2,\"remarks\":[{\"kind\":1,\"row\":5},{\"kind\":2,\"row\":6}],\"same\":3,\"translations\":4}"
+  pub import : reply_text (import_reply 1 2 3 4 (LevelTooHigh 5 ∷ LacksEssential 6 ∷ [])) ≡ codes "{\"changed\":1,\"new\":2,\"remarks\":[{\"kind\":1,\"row\":5},{\"kind\":2,\"row\":6}],\"same\":3,\"translations\":4}"
   pub set_status : reply_text (Ok (done.SetStatus 7)) ≡ codes "{\"units\":7}"
   pub set_closure : reply_text (Ok (done.SetClosure 7)) ≡ codes "{\"unit\":7}"
   pub move : reply_text (Ok (done.Move 7)) ≡ codes "{\"unit\":7}"

@@ -12,7 +12,7 @@ ghost use Rattle.office_core.specs.Soundness.{AreGoodDays, AreGoodSettings, IsSo
 ghost use Rattle.office_core.specs.ImportLaws.{ImportsBringTheNew, ImportsKeepTheCatalogue};
 ghost use Rattle.office_core.specs.Secrecy.{DividesQuestions, SamePublic, AnswersAlike, published_part};
 ghost use Rattle.office_core.specs.Secrecy.{ShowsOnlyPublished, ShowsAllPublished};
-ghost use Rattle.office_core.specs.Laws.{OutApart, GoesOn, IssuesTheFirst, OpenToHolders};
+ghost use Rattle.office_core.specs.Laws.{OutApart, OrdersGoOn, IssuesTheFirst, OpenToHolders};
 ghost use Rattle.office_core.specs.Laws.{ImportsAgain};
 ghost use Rattle.office_core.specs.GivenNumbers.{StaysNamed, Kind, GivenInOrder, StartsAtOne, NamesWhatCame};
 ghost use Rattle.office_core.specs.GivenNumbers.{ComesNew, EachIsUnits, NumbersRows};
@@ -32,7 +32,7 @@ pub fn out_apart()
 /// That it is in exactly one of these states is part of a sound reading room.
 pub fn orders_go_on()
     ensures { (s : State) (commands : List Command) (asked : Command) → IsSoundDesk s →
-        GoesOn (state_after s commands) (step (state_after s commands) asked).0 }
+        OrdersGoOn (state_after s commands) (step (state_after s commands) asked).0 }
 {}
 
 /// Each accepted `Issue` serves the first waiting order of its container.

@@ -55,7 +55,7 @@ pub fn worked_answers()
     ensures pages { answers.Pages }
     ensures statuses { answers.Statuses }
     ensures at_the_desk { answers.AtTheDesk }
-    ensures replies { answers.Replies }
+    ensures replies { answers.ReplyTexts }
 {}
 
 /// The replies at the desk are those of the rows, in cases where two rules are easily confused.

@@ -1,14 +1,19 @@
 -- Rows that are numbered without a gap, in whatever order they were.
-use Rattle.std.proofs.Common.{◌≡◌, inl, inr, ℕ, suc, pos, ◌+◌, ◌-◌, ◌<◌, ◌≤◌, List, [], ◌∷◌, length, Bool, true, false, cond, ◌&&◌, ◌||◌, nat_eq, nat_lt, Option, Some, None, is_none, filter_map, get_or, Ordering, refl, sym, ap, ap₂, subst, ◌∙◌, arith}
+use Rattle.std.proofs.Common.{◌≡◌, inl, inr, ℕ, suc, pos, ◌+◌, ◌-◌, ◌<◌, ◌≤◌, List, [], ◌∷◌, length, Bool, true, false}
+use Rattle.std.proofs.Common.{cond, ◌&&◌, ◌||◌, nat_eq, nat_lt, Option, Some, None, is_none, filter_map, get_or}
+use Rattle.std.proofs.Common.{Ordering, refl, sym, ap, ap₂, subst, ◌∙◌, arith}
 use Rattle.std.proofs.Math.Nat.{le_refl}
-use Rattle.std.specs.Option.{option_map_or}
 use Rattle.std.proofs.lemmas.Bool.{eqb-true, eq-eqb}
+use Rattle.std.specs.Cmp.{both_ways}
+use Rattle.std.specs.Option.{option_map_or}
+use Rattle.sqlite_value.specs.Order.{value_cmp}
 use Rattle.isad_core.specs.Words.{are_numbered_from}
 use Rattle.desk_core.specs.Orders.{put_in_order, in_order}
 use Rattle.office_tables.specs.Cells.{has_unread}
-use Rattle.sqlite_value.specs.Order.{value_cmp}
-use Rattle.std.specs.Cmp.{both_ways}
-use Rattle.office_tables.proofs.Common.{AllByRecursion, Int, IsPermutation, IsSorted, IsTotalOrder, Row, all_weaker, and_parts, cases_Bool, cases_lt, column, cons_option, false≢true, int_cmp, is_lt, length_permutation, list_any, list_any-IsPermutation, ltb-false, ltb-true, on_total, or_parts, or_right, value_cmp-Int, value_cmp_total}
+use Rattle.office_tables.proofs.Common.{AllByRecursion, Int, IsPermutation, IsSorted, IsTotalOrder, Row, all_weaker}
+use Rattle.office_tables.proofs.Common.{and_parts, cases_Bool, cases_lt, column, cons_option, false≢true, int_cmp}
+use Rattle.office_tables.proofs.Common.{is_lt, length_permutation, list_any, list_any-IsPermutation, ltb-false}
+use Rattle.office_tables.proofs.Common.{ltb-true, on_total, or_parts, or_right, value_cmp-Int, value_cmp_total}
 use Rattle.office_tables.proofs.numbered.Counted.{below_less}
 use Rattle.office_tables.proofs.Sorted.{head_below}
 

@@ -3,7 +3,9 @@ use Rattle.std.proofs.Common.{◌≡◌, ℕ, List, Ok, Err, Result, sym, ap, su
 use Rattle.sqlite_trees.specs.declared.store.Store as store
 use Rattle.office_tables.specs.Calls.{Updates, Answers}
 use Rattle.office_tables.specs.Faults.{HasCause}
-use Rattle.office_tables.proofs.Common.{BlamesDisk, Continues, Database, FaultsHaveCause, Goes, HasCleanDisk, Held, IsAborted, IsErr, IsErrAnd, IsSame, IsUnlimited, Leaves, LeavesMaking, LeavesOr, LeavesUnchanged, OnlyTouches, Reads, Spares, State, StoreFault, state}
+use Rattle.office_tables.proofs.Common.{BlamesDisk, Continues, Database, FaultsHaveCause, Goes, HasCleanDisk, Held}
+use Rattle.office_tables.proofs.Common.{IsAborted, IsErr, IsErrAnd, IsSame, IsUnlimited, Leaves, LeavesMaking, LeavesOr}
+use Rattle.office_tables.proofs.Common.{LeavesUnchanged, OnlyTouches, Reads, Spares, State, StoreFault, state}
 use Rattle.office_tables.proofs.Causes.{still_unlimited}
 use Rattle.office_tables.proofs.LaterCauses.{last_cause, next_cause}
 use Rattle.office_tables.proofs.Sparing.{untouched_last, looked_spares, touched_spares}
@@ -33,16 +35,16 @@ module _ {S X Stays Model : Type 0} (g : store.Ghosts S) (represents : Database 
   -- it ends with a fault
   pub tells_not : (answer : Stays → Model → X → Type 0) (e : StoreFault) → r ≡ Err e → IsAborted old new
       → ((s : Stays) (m : Model) → represents old.now s m → may m → kept m → HasCleanDisk new → IsUnlimited old → HasCause old new e)
-      → Answers g represents kept before after r may answer
+      → Answers g represents before after r may kept answer
   tells_not answer e is cut why =
-      subst (λ (r : Result X StoreFault). Answers g represents kept before after r may answer) (sym is)
+      subst (λ (r : Result X StoreFault). Answers g represents before after r may kept answer) (sym is)
       (record { answers = λ clean s m shown. tt; looks = tt; aborts = cut; faults = λ s m shown may kept clean free. why s m shown may kept clean free })
 
   pub makes_not : (made : Model → Model) (touched : List ℕ) (e : StoreFault) → r ≡ Err e → IsAborted old new
       → ((s : Stays) (m : Model) → represents old.now s m → may m → kept m → HasCleanDisk new → IsUnlimited old → HasCause old new e)
-      → Updates g represents kept before after r may made touched
+      → Updates g touched represents before after r may kept made
   makes_not made touched e is cut why =
-      subst (λ (r : Result X StoreFault). Updates g represents kept before after r may made touched) (sym is)
+      subst (λ (r : Result X StoreFault). Updates g touched represents before after r may kept made) (sym is)
       (record { represents_updated = λ clean s m shown may. tt; only = λ clean. tt; goes = tt; aborts = cut; faults = λ s m shown may kept clean free. why s m shown may kept clean free })
 
 -- ---- a call of several steps that writes
@@ -151,11 +153,11 @@ module _ {S X Stays Model : Type 0} (g : store.Ghosts S) (represents : Database 
       next_cause a b c on cut clean e (λ cleaner. why s m shown allowed within cleaner clean (still_unlimited a b on free))
 
   pub tells_cut : (answer : Stays → Model → X → Type 0) (e : StoreFault) → r ≡ Err e → LeavesUnchanged a b
-      → IsAborted b c → Why e → Answers g represents kept before after r may answer
+      → IsAborted b c → Why e → Answers g represents before after r may kept answer
   tells_cut answer e is looked cut why =
       tells_not g represents kept may before after r answer e is (cut_then a b c looked.goes.on cut) (then_caused e looked.goes.on cut why)
 
   pub makes_cut : (made : Model → Model) (touched : List ℕ) (e : StoreFault) → r ≡ Err e → Continues a b → IsAborted b c
-      → Why e → Updates g represents kept before after r may made touched
+      → Why e → Updates g touched represents before after r may kept made
   makes_cut made touched e is on cut why =
       makes_not g represents kept may before after r made touched e is (cut_then a b c on cut) (then_caused e on cut why)

@@ -1,10 +1,15 @@
 -- What one statement leaves of the caller's transaction, for a text whose meaning is known.
-use Rattle.std.proofs.Common.{◌≡◌, ◌⊎◌, inl, inr, ℕ, List, Bool, true, false, IsTrue, Ok, Err, Result, OnOk, OnErr, None, refl, sym, ap, arith, subst, subst₂, ◌∙◌, append-nil, if◌then◌else◌}
+use Rattle.std.proofs.Common.{◌≡◌, ◌⊎◌, inl, inr, ℕ, List, Bool, true, false, IsTrue, Ok, Err, Result, OnOk, OnErr}
+use Rattle.std.proofs.Common.{None, refl, sym, ap, arith, subst, subst₂, ◌∙◌, append-nil, if◌then◌else◌}
 use Rattle.sqlite.specs.Command.TheVariants.{Delete}
 use Rattle.sqlite.specs.Listing.{understood}
 use Rattle.sqlite.specs.State.{Shown, FailsToQuery, CommitsBy}
 use Rattle.office_tables.specs.Versions.{Version}
-use Rattle.office_tables.proofs.Common.{Command, CommitsShowing, Continues, CreateIndex, CreateTable, Error, Executes, Goes, GoesOn, HasCleanDisk, InOffice, InTransaction, Insert, IsAborted, IsBack, IsPlain, IsStopped, IsUnchanged, LeavesUnchanged, MayCommit, Row, Schema, Shows, State, Survives, Trees, Update, command_of, never_commits, schema, statement_of, survives_then, survives_weaker}
+use Rattle.office_tables.proofs.Common.{Command, CommitsShowing, Continues, CreateIndex, CreateTable, Error, Executes}
+use Rattle.office_tables.proofs.Common.{Goes, GoesOn, HasCleanDisk, InOffice, InTransaction, Insert, IsAborted, IsBack}
+use Rattle.office_tables.proofs.Common.{IsPlain, IsStopped, IsUnchanged, LeavesUnchanged, MayCommit, Row, Schema, Shows}
+use Rattle.office_tables.proofs.Common.{State, Survives, Trees, Update, command_of, never_commits, schema, statement_of}
+use Rattle.office_tables.proofs.Common.{survives_then, survives_weaker}
 use Rattle.office_tables.proofs.Errors.{stops, fails, keeps}
 
 pub early : (old new : State) (P : Trees → Type 0) → Survives old new P → HasCleanDisk new → HasCleanDisk old

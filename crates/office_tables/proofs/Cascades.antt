@@ -1,9 +1,13 @@
 -- What ON DELETE CASCADE does to the children of a row.
-use Rattle.std.proofs.Common.{◌≡◌, ◌≢◌, inl, inr, ℕ, zero, suc, ℤ, List, [], ◌∷◌, ◌++◌, length, map, filter, Bool, true, false, not, Ok, refl, sym, ap, subst, subst₂, ◌∙◌, arith, append-nil, length-append}
-use Rattle.sqlite_rules.specs.declared.action.Deed.TheVariants.{Delete}
-use Rattle.std.specs.declared.cmp.Ordering.TheVariants.{Equal}
+use Rattle.std.proofs.Common.{◌≡◌, ◌≢◌, inl, inr, ℕ, zero, suc, ℤ, List, [], ◌∷◌, ◌++◌, length, map, filter, Bool, true}
+use Rattle.std.proofs.Common.{false, not, Ok, refl, sym, ap, subst, subst₂, ◌∙◌, arith, append-nil, length-append}
 use Rattle.std.specs.Cmp.{both_ways, tied_itself}
-use Rattle.office_tables.proofs.Common.{Acts, ActsOn, AllByRecursion, Applies, AreChildren, Has, Int, Keys, Leads, Rises, Row, Schema, Settles, Trees, Work, action_edit, all_from, all_of, filter-map, filter_same, has_rowid, int_cmp, int_cmp_total, is_child_of, is_eq, list_any, rowid, some_from, some_has, taken_by, without_all, works}
+use Rattle.std.specs.declared.cmp.Ordering.TheVariants.{Equal}
+use Rattle.sqlite_rules.specs.declared.action.Deed.TheVariants.{Delete}
+use Rattle.office_tables.proofs.Common.{Acts, ActsOn, AllByRecursion, Applies, AreChildren, Has, Int, Keys, Leads}
+use Rattle.office_tables.proofs.Common.{Rises, Row, Schema, Settles, Trees, Work, action_edit, all_from, all_of}
+use Rattle.office_tables.proofs.Common.{filter-map, filter_same, has_rowid, int_cmp, int_cmp_total, is_child_of, is_eq}
+use Rattle.office_tables.proofs.Common.{list_any, rowid, some_from, some_has, taken_by, without_all, works}
 use Rattle.office_tables.proofs.Rows.{by_key, same_key, eq_from, has_map, map_has, without_all_is, tests as tests_of}
 use Rattle.office_tables.proofs.Steps.{is_referred_to, no_works_there}
 

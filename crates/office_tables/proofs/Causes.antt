@@ -1,13 +1,17 @@
 -- Why a statement fails on our tables, where the disk is clean and no limit is set.
-use Rattle.std.proofs.Common.{◌≡◌, ◌⊎◌, inl, inr, ℕ, zero, suc, ◌<◌, List, [], ◌∷◌, length, get_or, true, false, IsTrue, Option, Some, None, IsSome, Any, sym, ap, subst, subst₂, ◌∙◌, append-nil, arith}
-use Rattle.sqlite_trees.specs.declared.error.StoreError.TheVariants.{OutOfMemory}
+use Rattle.std.proofs.Common.{◌≡◌, ◌⊎◌, inl, inr, ℕ, zero, suc, ◌<◌, List, [], ◌∷◌, length, get_or, true, false, IsTrue}
+use Rattle.std.proofs.Common.{Option, Some, None, IsSome, Any, sym, ap, subst, subst₂, ◌∙◌, append-nil, arith}
 use Rattle.sqlite.specs.Listing.{understood}
 use Rattle.sqlite.specs.State.{FailsToQuery, IsNotRun}
 use Rattle.sqlite.specs.State as state
 use Rattle.sqlite_sql.specs.Group.{Aggregate, Overflows, value_over}
+use Rattle.sqlite_trees.specs.declared.error.StoreError.TheVariants.{OutOfMemory}
 use Rattle.office_tables.specs.Faults.{HasCause}
 use Rattle.office_tables.specs.declared.fault.StoreFault.TheVariants as fault
-use Rattle.office_tables.proofs.Common.{Broken, Continues, Corrupt, Env, Error, Fails, Full, HasCleanDisk, HasOuterCause, Io, IsPlain, IsSourceOf, IsUnlimited, Program, RefusesQuery, RefusesToRead, Row, Schema, Select, State, StoreError, StoreFault, Trees, Unstorable, command_of, fault_of, reads_listing, store_error}
+use Rattle.office_tables.proofs.Common.{Broken, Continues, Corrupt, Env, Error, Fails, Full, HasCleanDisk}
+use Rattle.office_tables.proofs.Common.{HasOuterCause, Io, IsPlain, IsSourceOf, IsUnlimited, Program, RefusesQuery}
+use Rattle.office_tables.proofs.Common.{RefusesToRead, Row, Schema, Select, State, StoreError, StoreFault, Trees}
+use Rattle.office_tables.proofs.Common.{Unstorable, command_of, fault_of, reads_listing, store_error}
 use Rattle.office_tables.proofs.Counts.{over, count_rows}
 use Rattle.office_tables.proofs.Failures.{IsWhole, no_statement}
 

@@ -1,10 +1,12 @@
 -- What cells say, and that the texts which they say are UTF-8.
-use Rattle.std.proofs.Common.{◌≡◌, true, false, Bool, List, [], ◌∷◌, None, Some, Option, filter_map, cond, refl, ap, subst, IsUtf8, inl, inr}
-use Rattle.std.specs.Str.{is_utf8}
+use Rattle.std.proofs.Common.{◌≡◌, true, false, Bool, List, [], ◌∷◌, None, Some, Option, filter_map, cond, refl, ap}
+use Rattle.std.proofs.Common.{subst, IsUtf8, inl, inr}
 use Rattle.std.proofs.lemmas.Str.{IsUtf8-from_is_utf8, is_utf8-from_IsUtf8}
+use Rattle.std.specs.Str.{is_utf8}
 use Rattle.isad_core.specs.Texts.{Bytes}
 use Rattle.office_tables.specs.Cells.{text_in, from}
-use Rattle.office_tables.proofs.Common.{AllByRecursion, Blob, Int, Null, Real, Row, Text, Value, cases_Bool, cons_option}
+use Rattle.office_tables.proofs.Common.{AllByRecursion, Blob, Int, Null, Real, Row, Text, Value, cases_Bool}
+use Rattle.office_tables.proofs.Common.{cons_option}
 
 -- what is made of a cell is made of what it says
 pub from_first : {X Y : Type 0} (said : Option X) (make : X → Option Y) (y : Y) → from said make ≡ Some y

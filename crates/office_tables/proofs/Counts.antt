@@ -1,11 +1,14 @@
 -- count(*) and max(..) over a table of typed records.
-use Rattle.std.proofs.Common.{◌≡◌, ℕ, pos, negsuc, List, [], ◌∷◌, length, map, filter, Bool, false, Some, refl, sym, ap, ◌∙◌}
+use Rattle.std.proofs.Common.{◌≡◌, ℕ, pos, negsuc, List, [], ◌∷◌, length, map, filter, Bool, false, Some, refl, sym, ap}
+use Rattle.std.proofs.Common.{◌∙◌}
 use Rattle.std.specs.declared.cmp.Ordering.TheVariants.{Equal}
-use Rattle.sqlite_sql.specs.declared.aggregate.AggregateOp.TheVariants as by
-use Rattle.sqlite_sql.specs.Group.{Aggregate, Grouping, value_over, IsSummary}
 use Rattle.sqlite_sql.proofs.AggregateLemmas.{only_one}
+use Rattle.sqlite_sql.specs.Group.{Aggregate, Grouping, value_over, IsSummary}
+use Rattle.sqlite_sql.specs.declared.aggregate.AggregateOp.TheVariants as by
 use Rattle.office_tables.specs.RowCounts.{cap}
-use Rattle.office_tables.proofs.Common.{AllZip, Binary, Env, Int, IsAnswer, IsPermutation, Join, Null, Query, Row, Term, Trees, col, end, eval, holds, inner, length-map, length_permutation, list_all, lit, matches, overlay}
+use Rattle.office_tables.proofs.Common.{AllZip, Binary, Env, Int, IsAnswer, IsPermutation, Join, Null, Query, Row, Term}
+use Rattle.office_tables.proofs.Common.{Trees, col, end, eval, holds, inner, length-map, length_permutation, list_all}
+use Rattle.office_tables.proofs.Common.{lit, matches, overlay}
 use Rattle.office_tables.proofs.Queries.{found}
 
 abbrev pub over : Aggregate → Grouping

@@ -1,16 +1,22 @@
 -- Why a definition fails: none that is understood, and whose names are free, is refused.
-use Rattle.std.proofs.Common.{◌≡◌, ◌⊎◌, inl, inr, ℕ, List, [], length, slice_get, Bool, true, false, Ok, Err, Result, Some, None, IsUtf8, refl, sym, ap, subst, ◌∙◌, arith}
+use Rattle.std.proofs.Common.{◌≡◌, ◌⊎◌, inl, inr, ℕ, List, [], length, slice_get, Bool, true, false, Ok, Err, Result}
+use Rattle.std.proofs.Common.{Some, None, IsUtf8, refl, sym, ap, subst, ◌∙◌, arith}
 use Rattle.std.proofs.lemmas.Str.{IsUtf8-from_is_utf8}
 use Rattle.sqlite.specs.Change.{created, indexed, is_used}
 use Rattle.sqlite.specs.Listing.{understood}
+use Rattle.sqlite_catalog.proofs.StepLemmas.{empty_unique}
 use Rattle.sqlite_catalog.specs.Calls.{IsBadName, RefusesTable, RefusesIndex}
 use Rattle.sqlite_catalog.specs.declared.error.Refusal.{Refusal}
-use Rattle.sqlite_catalog.specs.declared.error.Refusal.TheVariants.{Invalid, NameTaken, BadName, TooBig, BadKey, BadText, Violates}
-use Rattle.sqlite_catalog.proofs.StepLemmas.{empty_unique}
+use Rattle.sqlite_catalog.specs.declared.error.Refusal.TheVariants.{Invalid, NameTaken, BadName, TooBig, BadKey}
+use Rattle.sqlite_catalog.specs.declared.error.Refusal.TheVariants.{BadText, Violates}
 use Rattle.sqlite_resolve.specs.declared.error.CompileError.{CompileError}
 use Rattle.office_tables.specs.Faults.{HasCause}
 use Rattle.office_tables.specs.Text.{IsAlone}
-use Rattle.office_tables.proofs.Common.{AllByRecursion, Compiled, CreateIndex, CreateTable, Database, Defines, DefinesIndex, DefinesTable, Does, Error, Executes, Gives, HasMade, IsDatabase, IsFreeName, IsLive, IsNoText, IsPlain, Keeps, MakesIndex, MakesSequence, MakesTable, Mode, Part, Schema, State, Table, Then, Unique, all_has, fault_of, lacks_sequence, ltb-true, mode_of, no_rows, some_from, test_has}
+use Rattle.office_tables.proofs.Common.{AllByRecursion, Compiled, CreateIndex, CreateTable, Database, Defines}
+use Rattle.office_tables.proofs.Common.{DefinesIndex, DefinesTable, Does, Error, Executes, Gives, HasMade, IsDatabase}
+use Rattle.office_tables.proofs.Common.{IsFreeName, IsLive, IsNoText, IsPlain, Keeps, MakesIndex, MakesSequence}
+use Rattle.office_tables.proofs.Common.{MakesTable, Mode, Part, Schema, State, Table, Then, Unique, all_has, fault_of}
+use Rattle.office_tables.proofs.Common.{lacks_sequence, ltb-true, mode_of, no_rows, some_from, test_has}
 use Rattle.office_tables.proofs.Causes.{failed_cause}
 use Rattle.office_tables.proofs.Failures.{IsWhole, fails_as}
 use Rattle.office_tables.proofs.Steps.{same_value}

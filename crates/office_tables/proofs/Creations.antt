@@ -1,16 +1,20 @@
 -- What the definitions of the tables make.
-use Rattle.std.proofs.Common.{◌≡◌, ℕ, List, [], ◌∷◌, codes, slice_get, ◌++◌, drop, length, false, cond, Some, None, Ok, inl, inr, refl, sym, ap, subst, ◌∙◌}
+use Rattle.std.proofs.Common.{◌≡◌, ℕ, List, [], ◌∷◌, codes, slice_get, ◌++◌, drop, length, false, cond, Some, None, Ok}
+use Rattle.std.proofs.Common.{inl, inr, refl, sym, ap, subst, ◌∙◌}
 use Rattle.std.specs.Str.{chars, is_utf8}
-use lib.Ieee.{is_nan, lt}
-use lib.Utf8.{encode}
-use Rattle.sqlite_value.specs.Order.{value_cmp}
 use Rattle.sqlite.specs.Change.{created, indexed, next_tree, KeepsRows}
 use Rattle.sqlite.specs.Listing.{understood}
 use Rattle.sqlite.specs.State.{Writes}
 use Rattle.sqlite_tied.specs.Compute.{everything}
 use Rattle.sqlite_trees.specs.Sound.{same_name, begins, is_free_name, fits_kind}
+use Rattle.sqlite_value.specs.Order.{value_cmp}
+use lib.Ieee.{is_nan, lt}
+use lib.Utf8.{encode}
 use Rattle.office_tables.specs.Versions.{First}
-use Rattle.office_tables.proofs.Common.{AllByRecursion, CreateIndex, CreateTable, Database, DefinesIndex, DefinesTable, Executes, HasMade, Schema, Shows, State, Table, Tally, Trees, container, desk_schema, desk_tables, element, housing, index, lacks_sequence, link, office, runs_as, schema, unit}
+use Rattle.office_tables.proofs.Common.{AllByRecursion, CreateIndex, CreateTable, Database, DefinesIndex, DefinesTable}
+use Rattle.office_tables.proofs.Common.{Executes, HasMade, Schema, Shows, State, Table, Tally, Trees, container}
+use Rattle.office_tables.proofs.Common.{desk_schema, desk_tables, element, housing, index, lacks_sequence, link, office}
+use Rattle.office_tables.proofs.Common.{runs_as, schema, unit}
 use Rattle.office_tables.proofs.Steps.{went, same_value}
 
 -- all that unfolds when a name and the text that defines it are judged

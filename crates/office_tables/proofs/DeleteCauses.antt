@@ -1,16 +1,28 @@
 -- Why a DELETE fails: no rule of the tables refuses it, nor what it sets off.
-use Rattle.std.proofs.Common.{◌≡◌, ◌≢◌, inl, inr, ℕ, ℤ, zero, suc, List, [], ◌∷◌, ◌++◌, length, slice_get, nat_lt, Bool, true, false, ◌||◌, ◌==◌, Option, Some, None, Ok, Err, refl, sym, ap, subst, ◌∙◌, eqb-true, eq-eqb, append-nil}
+use Rattle.std.proofs.Common.{◌≡◌, ◌≢◌, inl, inr, ℕ, ℤ, zero, suc, List, [], ◌∷◌, ◌++◌, length, slice_get, nat_lt, Bool}
+use Rattle.std.proofs.Common.{true, false, ◌||◌, ◌==◌, Option, Some, None, Ok, Err, refl, sym, ap, subst, ◌∙◌, eqb-true}
+use Rattle.std.proofs.Common.{eq-eqb, append-nil}
 use Rattle.std.proofs.lemmas.Bool.{both_ways}
 use Rattle.sqlite.specs.Command.TheVariants.{Delete}
 use Rattle.sqlite.specs.Effect.{Answers}
 use Rattle.sqlite.specs.Listing.{understood}
-use Rattle.sqlite_trees.specs.Tree.{with_tree}
+use Rattle.sqlite_rules.specs.Action.{Writes}
 use Rattle.sqlite_rules.specs.declared.action.Deed.TheVariants as deed
 use Rattle.sqlite_rules.specs.declared.error.Refusal.{Refusal}
 use Rattle.sqlite_rules.specs.declared.error.Refusal.TheVariants.{Violates}
-use Rattle.sqlite_rules.specs.Action.{Writes}
+use Rattle.sqlite_trees.specs.Tree.{with_tree}
 use Rattle.office_tables.specs.Faults.{HasCause}
-use Rattle.office_tables.proofs.Common.{Acts, ActsOn, All, AllByRecursion, Applies, AtPlace, BadReference, Check, Database, Datatype, Does, Edited, Enforced, Error, Executes, ForeignKey, Given, Has, IsLive, IsPlain, IsRefused, IsUnlimited, Keeps, Keys, Leads, Mismatch, Mode, NoRowid, NotNull, Obeys, OnRows, ParentKey, PrimaryKey, Program, Queried, Reference, Refers, RefusesQuery, Row, Schema, State, Table, TooDeep, Trees, Unique, Work, WritesRows, Written, action_edit, all_has, and_from, and_parts, cases_Bool, cases_eq, command_of, due, edit_of, false_from_ne_true, fault_of, has_null, ids_of, is_held, keeps_at, keeps_from, list_any, mode_of, not-true, not_from_false, one_step, or_right, parent_is_table, parent_key, references_fit, refers_from, some_from, some_has, statement_of, taken_by, test_from, test_has, without_all, without_all_has, works}
+use Rattle.office_tables.proofs.Common.{Acts, ActsOn, All, AllByRecursion, Applies, AtPlace, BadReference, Check}
+use Rattle.office_tables.proofs.Common.{Database, Datatype, Does, Edited, Enforced, Error, Executes, ForeignKey, Given}
+use Rattle.office_tables.proofs.Common.{Has, IsLive, IsPlain, IsRefused, IsUnlimited, Keeps, Keys, Leads, Mismatch}
+use Rattle.office_tables.proofs.Common.{Mode, NoRowid, NotNull, Obeys, OnRows, ParentKey, PrimaryKey, Program, Queried}
+use Rattle.office_tables.proofs.Common.{Reference, Refers, RefusesQuery, Row, Schema, State, Table, TooDeep, Trees}
+use Rattle.office_tables.proofs.Common.{Unique, Work, WritesRows, Written, action_edit, all_has, and_from, and_parts}
+use Rattle.office_tables.proofs.Common.{cases_Bool, cases_eq, command_of, due, edit_of, false_from_ne_true, fault_of}
+use Rattle.office_tables.proofs.Common.{has_null, ids_of, is_held, keeps_at, keeps_from, list_any, mode_of, not-true}
+use Rattle.office_tables.proofs.Common.{not_from_false, one_step, or_right, parent_is_table, parent_key, references_fit}
+use Rattle.office_tables.proofs.Common.{refers_from, some_from, some_has, statement_of, taken_by, test_from, test_has}
+use Rattle.office_tables.proofs.Common.{without_all, without_all_has, works}
 use Rattle.office_tables.proofs.Causes.{failed_cause}
 use Rattle.office_tables.proofs.Failures.{IsWhole, Refused, fails_as}
 use Rattle.office_tables.proofs.Steps.{is_referred_to, no_works_there, plain, points, went, same_value}

@@ -1,9 +1,10 @@
 -- What an error leaves, whatever the statement is.
 use Rattle.std.proofs.Common.{inl, inr, ℕ, List, false, Err, Option, Some, None, subst}
-use Rattle.sqlite.specs.State.{ExecutesIn, IsNotRun, FailsToQuery, Shown}
 use Rattle.sqlite.specs.Listing.{understood}
+use Rattle.sqlite.specs.State.{ExecutesIn, IsNotRun, FailsToQuery, Shown}
 use Rattle.sqlite_schema.specs.declared.command.Returning.{Returning}
-use Rattle.office_tables.proofs.Common.{Compiled, Error, Executes, FailsToShow, IsPlain, IsStopped, IsUnchanged, Row, RunsCommand, ShowsRows, State, cases_Bool, shows_rows, timed}
+use Rattle.office_tables.proofs.Common.{Compiled, Error, Executes, FailsToShow, IsPlain, IsStopped, IsUnchanged, Row}
+use Rattle.office_tables.proofs.Common.{RunsCommand, ShowsRows, State, cases_Bool, shows_rows, timed}
 
 ran : (sql : List ℕ) (params : Row) (old new : State) (e : Error) (c : Compiled)
     → RunsCommand old new sql c params (Err e) → IsStopped old new

@@ -1,7 +1,8 @@
 -- Rows whose numbers are free.
 use Rattle.std.proofs.Common.{◌≡◌, ℕ, ℤ, pos, List, [], ◌∷◌, map, Bool, false, ◌||◌, nat_eq, refl, sym, ap₂, subst, ◌∙◌}
 use Rattle.sqlite_rules.proofs.PlaceLemmas.{next_is_free}
-use Rattle.office_tables.proofs.Common.{Chosen, Has, Int, IsTable, Rises, Row, all_from, int_cmp, is_taken, list_any, next_rowid, or_from, or_parts, rowid, value_cmp-Int}
+use Rattle.office_tables.proofs.Common.{Chosen, Has, Int, IsTable, Rises, Row, all_from, int_cmp, is_taken, list_any}
+use Rattle.office_tables.proofs.Common.{next_rowid, or_from, or_parts, rowid, value_cmp-Int}
 use Rattle.office_tables.proofs.Rows.{map_has, table_rises}
 use Rattle.office_tables.proofs.Tests.{same_nat}
 

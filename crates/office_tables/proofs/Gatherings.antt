@@ -1,10 +1,16 @@
 -- What a query whose rows are taken one by one does, told of the state before it.
-use Rattle.std.proofs.Common.{[], ◌≡◌, ◌⊎◌, inl, inr, ℕ, List, true, false, IsTrue, Result, Ok, Err, IfOk, IfErr, sym, ap, subst, ◌∙◌, arith}
+use Rattle.std.proofs.Common.{[], ◌≡◌, ◌⊎◌, inl, inr, ℕ, List, true, false, IsTrue, Result, Ok, Err, IfOk, IfErr, sym}
+use Rattle.std.proofs.Common.{ap, subst, ◌∙◌, arith}
 use Rattle.sqlite.specs.Listing.{understood}
+use Rattle.sqlite.specs.State.{IsNotRun, Shown, FailsToQuery, HasCause}
 use Rattle.sqlite_trees.specs.declared.error.StoreError.TheVariants.{OutOfMemory}
 use Rattle.office_tables.specs.Faults as cause
-use Rattle.sqlite.specs.State.{IsNotRun, Shown, FailsToQuery, HasCause}
-use Rattle.office_tables.proofs.Common.{Broken, Compiled, Corrupt, Database, Error, Fails, FailsToShow, Full, Gathers, GoesOn, HasCleanDisk, Io, IsAborted, IsBack, IsNoStatement, IsOurQuery, IsPlain, IsRolledBack, IsSame, IsSourceOf, IsStatement, IsUnchanged, LeavesUnchanged, Reads, RefusesToRead, Row, ShowsRows, Spares, State, StopsShort, StoreError, StoreFault, Survives, Unstorable, fault_of, reads_listing, timed, unchanged_then}
+use Rattle.office_tables.proofs.Common.{Broken, Compiled, Corrupt, Database, Error, Fails, FailsToShow, Full, Gathers}
+use Rattle.office_tables.proofs.Common.{GoesOn, HasCleanDisk, Io, IsAborted, IsBack, IsNoStatement, IsOurQuery, IsPlain}
+use Rattle.office_tables.proofs.Common.{IsRolledBack, IsSame, IsSourceOf, IsStatement, IsUnchanged, LeavesUnchanged}
+use Rattle.office_tables.proofs.Common.{Reads, RefusesToRead, Row, ShowsRows, Spares, State, StopsShort, StoreError}
+use Rattle.office_tables.proofs.Common.{StoreFault, Survives, Unstorable, fault_of, reads_listing, timed}
+use Rattle.office_tables.proofs.Common.{unchanged_then}
 use Rattle.office_tables.proofs.Errors.{fails, keeps}
 use Rattle.office_tables.proofs.Calls.{early, unchanged_on, stopped}
 use Rattle.office_tables.proofs.Sparing.{query_spares}

@@ -1,9 +1,11 @@
 -- Why the INSERT of one row fails, where its table takes the row: for want of memory, or of the disk.
-use Rattle.std.proofs.Common.{◌≡◌, ◌≢◌, ◌⊎◌, inl, inr, IsSome, ℕ, ◌/◌, List, [], ◌∷◌, length, slice_get, Bool, true, false, not, ◌&&◌, ◌||◌, eqb, Err, Option, Some, None, refl, sym, ap, subst, ◌∙◌, true≢false}
+use Rattle.std.proofs.Common.{◌≡◌, ◌≢◌, ◌⊎◌, inl, inr, IsSome, ℕ, ◌/◌, List, [], ◌∷◌, length, slice_get, Bool, true}
+use Rattle.std.proofs.Common.{false, not, ◌&&◌, ◌||◌, eqb, Err, Option, Some, None, refl, sym, ap, subst, ◌∙◌}
+use Rattle.std.proofs.Common.{true≢false}
 use Rattle.std.proofs.lemmas.Bool.{both_ways, eq-eqb}
 use Rattle.std.proofs.lemmas.Cmp.{tied_itself}
-use Rattle.sqlite.specs.Source.TheVariants.{Values}
 use Rattle.sqlite.specs.Listing.{understood}
+use Rattle.sqlite.specs.Source.TheVariants.{Values}
 use Rattle.sqlite_rules.specs.Keys.{are_unique}
 use Rattle.sqlite_rules.specs.declared.error.Refusal.{Refusal}
 use Rattle.sqlite_rules.specs.declared.error.Refusal.TheVariants.{Violates}
@@ -12,7 +14,18 @@ use Rattle.sqlite_sql.specs.Ops.{binary}
 use Rattle.sqlite_trees.specs.Tree.{with_tree}
 use Rattle.office_tables.specs.Faults.{HasCause}
 use Rattle.office_tables.specs.Versions.{Version, First, Second}
-use Rattle.office_tables.proofs.Common.{All, BadReference, Check, Chosen, Datatype, Enforced, Error, Executes, ForeignKey, Has, Insert, IsAscending, IsLive, IsPlain, IsRefused, IsUnlimited, Mismatch, NoRowid, NotNull, Obeys, ParentKey, PrimaryKey, Reference, Refers, RefusesSource, Row, Schema, State, Table, Term, TooDeep, Trees, Turns, Unique, Value, agree, all_from, all_has, and_from, and_parts, are_fresh, cases_eq, clashes, command_of, differ, edit_error, edit_of, false_from_ne_true, fault_of, guards, has_got, has_parent, int_is, is_held, is_int, is_key_of, is_ne, is_taken, list_all, list_any, mode_of, ne_eqb, not-true, not_from_false, or_cases, or_left, or_right, origin, parent_is_table, parent_key, passes, put_all, put_all_adds, put_all_keeps, put_has, put_row, refers_at, refers_from, rowid, schema, some_from, some_has, statement_of, test_from, test_has, unique_kept, value_cmp_total, value_rows}
+use Rattle.office_tables.proofs.Common.{All, BadReference, Check, Chosen, Datatype, Enforced, Error, Executes}
+use Rattle.office_tables.proofs.Common.{ForeignKey, Has, Insert, IsAscending, IsLive, IsPlain, IsRefused, IsUnlimited}
+use Rattle.office_tables.proofs.Common.{Mismatch, NoRowid, NotNull, Obeys, ParentKey, PrimaryKey, Reference, Refers}
+use Rattle.office_tables.proofs.Common.{RefusesSource, Row, Schema, State, Table, Term, TooDeep, Trees, Turns, Unique}
+use Rattle.office_tables.proofs.Common.{Value, agree, all_from, all_has, and_from, and_parts, are_fresh, cases_eq}
+use Rattle.office_tables.proofs.Common.{clashes, command_of, differ, edit_error, edit_of, false_from_ne_true, fault_of}
+use Rattle.office_tables.proofs.Common.{guards, has_got, has_parent, int_is, is_held, is_int, is_key_of, is_ne}
+use Rattle.office_tables.proofs.Common.{is_taken, list_all, list_any, mode_of, ne_eqb, not-true, not_from_false}
+use Rattle.office_tables.proofs.Common.{or_cases, or_left, or_right, origin, parent_is_table, parent_key, passes}
+use Rattle.office_tables.proofs.Common.{put_all, put_all_adds, put_all_keeps, put_has, put_row, refers_at, refers_from}
+use Rattle.office_tables.proofs.Common.{rowid, schema, some_from, some_has, statement_of, test_from, test_has}
+use Rattle.office_tables.proofs.Common.{unique_kept, value_cmp_total, value_rows}
 use Rattle.office_tables.proofs.Causes.{failed_cause}
 use Rattle.office_tables.proofs.Failures.{IsWhole, fails_as}
 use Rattle.office_tables.proofs.NumberedKeys.{is_numbered, never_clashes}

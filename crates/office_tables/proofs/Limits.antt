@@ -1,6 +1,7 @@
 -- What a query on one table answers that stops after some rows.
 use Rattle.std.proofs.Common.{◌≡◌, ℕ, pos, List, [], ◌∷◌, filter, map, take, Bool, Ordering, refl, ap, ◌∙◌}
-use Rattle.office_tables.proofs.Common.{Int, IsAnswer, IsPermutation, IsSorted, Join, Key, Output, Query, Row, Term, Trees, end, eval_all, holds, inner, key_cmp, list_all, lit, overlay, take-map}
+use Rattle.office_tables.proofs.Common.{Int, IsAnswer, IsPermutation, IsSorted, Join, Key, Output, Query, Row, Term}
+use Rattle.office_tables.proofs.Common.{Trees, end, eval_all, holds, inner, key_cmp, list_all, lit, overlay, take-map}
 use Rattle.office_tables.proofs.Queries.{plain_query, answers}
 
 -- SELECT project FROM from WHERE filter ORDER BY order LIMIT count

@@ -4,7 +4,8 @@ use Rattle.sqlite_trees.specs.declared.store.Store as store
 use Rattle.office_tables.specs.Faults.{HasCause}
 use Rattle.office_tables.specs.TableStatements.{LooksUp}
 use Rattle.office_tables.specs.declared.fault.StoreFault.TheVariants as fault
-use Rattle.office_tables.proofs.Common.{FaultsHaveCause, HasCleanDisk, Held, IsAborted, IsErr, IsErrAnd, IsSame, IsUnlimited, LeavesUnchanged, Reads, Spares, State, StoreFault, state}
+use Rattle.office_tables.proofs.Common.{FaultsHaveCause, HasCleanDisk, Held, IsAborted, IsErr, IsErrAnd, IsSame}
+use Rattle.office_tables.proofs.Common.{IsUnlimited, LeavesUnchanged, Reads, Spares, State, StoreFault, state}
 use Rattle.office_tables.proofs.CallEnds.{excused_then, read_cut, read_not, read_well, same_fault}
 use Rattle.office_tables.proofs.Calls.{cut_after, cut_then, early, looks_then}
 use Rattle.office_tables.proofs.Causes.{still_unlimited}

@@ -1,12 +1,16 @@
 -- A UNIQUE that holds the number of the row never refuses one: two rows that agree in it have one number.
-use Rattle.std.proofs.Common.{◌≡◌, ℕ, inl, inr, Bool, true, false, cond, ◌&&◌, ◌||◌, ◌==◌, not, List, [], ◌∷◌, filter, Some, Less, Equal, Greater, Ordering, refl, subst, ap}
+use Rattle.std.proofs.Common.{◌≡◌, ℕ, inl, inr, Bool, true, false, cond, ◌&&◌, ◌||◌, ◌==◌, not, List, [], ◌∷◌, filter}
+use Rattle.std.proofs.Common.{Some, Less, Equal, Greater, Ordering, refl, subst, ap}
 use Rattle.std.proofs.lemmas.Bool.{eqb-true}
 use Rattle.sqlite_schema.specs.declared.schema.Index.{Index}
 use Rattle.sqlite_sql.specs.Ops.{binary, is_true, is_null, from_truth}
 use Rattle.sqlite_value.specs.Keys.{first_key, plain}
 use Rattle.sqlite_value.specs.Order.{value_cmp}
 use Rattle.sqlite_value.specs.declared.keys.Order.{Order}
-use Rattle.office_tables.proofs.Common.{Binary, Keeps, Null, Row, Schema, Trees, Unique, Value, agree, and_parts, clashes, column, differ, equal, false_from_ne_true, guards, has_filtered, has_kept, is_eq, is_ne, keeps_at, keeps_from, list_any, not_from_false, or_cases, rowid, some_has, test_from, test_has}
+use Rattle.office_tables.proofs.Common.{Binary, Keeps, Null, Row, Schema, Trees, Unique, Value, agree, and_parts}
+use Rattle.office_tables.proofs.Common.{clashes, column, differ, equal, false_from_ne_true, guards, has_filtered}
+use Rattle.office_tables.proofs.Common.{has_kept, is_eq, is_ne, keeps_at, keeps_from, list_any, not_from_false}
+use Rattle.office_tables.proofs.Common.{or_cases, rowid, some_has, test_from, test_has}
 
 -- the number of the row, in the order of numbers, is among what the index keeps
 abbrev pub is_numbered : Index → Bool

@@ -1,10 +1,14 @@
 -- UPDATE of a table that foreign keys refer to with no ON UPDATE.
-use Rattle.std.proofs.Common.{◌≡◌, ℕ, List, [], ◌∷◌, ◌++◌, length, Bool, true, false, ◌==◌, None, refl, sym, ap, ap₂, ◌∙◌, arith, map, drop}
+use Rattle.std.proofs.Common.{◌≡◌, ℕ, List, [], ◌∷◌, ◌++◌, length, Bool, true, false, ◌==◌, None, refl, sym, ap, ap₂}
+use Rattle.std.proofs.Common.{◌∙◌, arith, map, drop}
 use Rattle.std.specs.List.{flat_map, filter_map}
 use Rattle.sqlite_rules.proofs.RowLemmas.{length-numbered}
 use Rattle.sqlite_schema.specs.declared.schema.Action.{Action}
 use Rattle.sqlite_schema.specs.declared.schema.Action.TheVariants.{NoAction}
-use Rattle.office_tables.proofs.Common.{Enforced, Given, Reference, Row, Schema, Table, Trees, and_parts, cast_row, cons_option, deed_for, edit_of, id_in, ids_of, length-map, list_all, nat_tests, no_works, pairs, parent_key, row_at, rowid, taken_by, without_all, work_by, work_for, works}
+use Rattle.office_tables.proofs.Common.{Enforced, Given, Reference, Row, Schema, Table, Trees, and_parts, cast_row}
+use Rattle.office_tables.proofs.Common.{cons_option, deed_for, edit_of, id_in, ids_of, length-map, list_all, nat_tests}
+use Rattle.office_tables.proofs.Common.{no_works, pairs, parent_key, row_at, rowid, taken_by, without_all, work_by}
+use Rattle.office_tables.proofs.Common.{work_for, works}
 
 abbrev pub is_none : Action → Bool
 is_none NoAction = true

@@ -1,8 +1,14 @@
 -- Rows that are put among others.
-use Rattle.std.proofs.Common.{◌≡◌, ◌≢◌, inl, inr, ℕ, zero, suc, ◌≤◌, ◌<◌, ℤ, pos, List, [], ◌∷◌, map, length, get_or, Bool, true, false, not, ◌&&◌, ◌||◌, Ordering, Less, Equal, Greater, refl, sym, ap, subst, ◌∙◌, arith}
+use Rattle.std.proofs.Common.{◌≡◌, ◌≢◌, inl, inr, ℕ, zero, suc, ◌≤◌, ◌<◌, ℤ, pos, List, [], ◌∷◌, map, length, get_or}
+use Rattle.std.proofs.Common.{Bool, true, false, not, ◌&&◌, ◌||◌, Ordering, Less, Equal, Greater, refl, sym, ap, subst}
+use Rattle.std.proofs.Common.{◌∙◌, arith}
 use Rattle.sqlite.specs.Order.{value_cmp}
 use Rattle.sqlite_trees.proofs.TreeLemmas.{IsTable-put_row}
-use Rattle.office_tables.proofs.Common.{AllByRecursion, Has, Int, IsNonDecreasingBy, IsNonDecreasingBy-short, IsPermutation, IsPermutation-cons, IsPermutation-refl, IsPermutation-swap, IsPermutation-trans, IsTable, Rises, Row, all_has, ascending_from_map, ascending_weaker, int_cmp, is_eq, is_taken, match_ordering, put_by, put_row, rowid}
+use Rattle.office_tables.proofs.Common.{AllByRecursion, Has, Int, IsNonDecreasingBy, IsNonDecreasingBy-short}
+use Rattle.office_tables.proofs.Common.{IsPermutation, IsPermutation-cons, IsPermutation-refl, IsPermutation-swap}
+use Rattle.office_tables.proofs.Common.{IsPermutation-trans, IsTable, Rises, Row, all_has, ascending_from_map}
+use Rattle.office_tables.proofs.Common.{ascending_weaker, int_cmp, is_eq, is_taken, match_ordering, put_by, put_row}
+use Rattle.office_tables.proofs.Common.{rowid}
 use Rattle.office_tables.proofs.Rows.{by_key, compared, table_rises}
 use Rattle.office_tables.proofs.numbered.Counted.{less_below}
 

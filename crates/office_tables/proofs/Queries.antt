@@ -1,6 +1,10 @@
 -- What a query on one table answers, for typed records.
-use Rattle.std.proofs.Common.{◌≡◌, ℕ, ◌+◌, pos, negsuc, List, [], ◌∷◌, ◌++◌, filter, map, flat_map, get_or, Bool, true, false, cond, None, unwrap_or, Ordering, Equal, refl, sym, ap, subst, ◌∙◌, arith, nat_le}
-use Rattle.office_tables.proofs.Common.{Env, Int, IsAnswer, IsPermutation, IsSorted, Join, Key, Output, Program, Query, Row, Table, Term, Trees, all_of, end, eval_all, filter-map, filter_same, get_or-map, holds, inner, is_lt, key_cmp, length-map, list_all, lit, map-map, matches, output, output_cmp, overlay, pull_back}
+use Rattle.std.proofs.Common.{◌≡◌, ℕ, ◌+◌, pos, negsuc, List, [], ◌∷◌, ◌++◌, filter, map, flat_map, get_or, Bool, true}
+use Rattle.std.proofs.Common.{false, cond, None, unwrap_or, Ordering, Equal, refl, sym, ap, subst, ◌∙◌, arith, nat_le}
+use Rattle.office_tables.proofs.Common.{Env, Int, IsAnswer, IsPermutation, IsSorted, Join, Key, Output, Program, Query}
+use Rattle.office_tables.proofs.Common.{Row, Table, Term, Trees, all_of, end, eval_all, filter-map, filter_same}
+use Rattle.office_tables.proofs.Common.{get_or-map, holds, inner, is_lt, key_cmp, length-map, list_all, lit, map-map}
+use Rattle.office_tables.proofs.Common.{matches, output, output_cmp, overlay, pull_back}
 
 -- SELECT project FROM from WHERE filter ORDER BY order
 abbrev pub plain_query : Join → List Term → List Term → List (Term × Key) → Query

@@ -1,7 +1,12 @@
 -- Why a write is refused, whatever the schema is.
-use Rattle.std.proofs.Common.{◌≡◌, inl, inr, ℕ, zero, suc, List, [], ◌∷◌, ◌++◌, length, slice_get, true, false, Option, Some, None, Err, Result, refl, sym, ap, subst, ◌∙◌, append-nil, length-append, arith}
+use Rattle.std.proofs.Common.{◌≡◌, inl, inr, ℕ, zero, suc, List, [], ◌∷◌, ◌++◌, length, slice_get, true, false, Option}
+use Rattle.std.proofs.Common.{Some, None, Err, Result, refl, sym, ap, subst, ◌∙◌, append-nil, length-append, arith}
 use Rattle.sqlite_rules.specs.declared.error.Refusal.{Refusal}
-use Rattle.office_tables.proofs.Common.{Applies, AtPlace, Chosen, Command, ConstraintViolation, Database, Does, Edit, Edited, Error, ForeignKey, Insert, IsMisplaced, IsRefused, IsSource, Leads, Mode, OnRows, Refers, RefusesSource, Row, Schema, Source, Sourced, SqliteFailure, State, Table, Trees, Written, due, edit_error, edit_of, no_works, one_step, taken_by, works}
+use Rattle.office_tables.proofs.Common.{Applies, AtPlace, Chosen, Command, ConstraintViolation, Database, Does, Edit}
+use Rattle.office_tables.proofs.Common.{Edited, Error, ForeignKey, Insert, IsMisplaced, IsRefused, IsSource, Leads}
+use Rattle.office_tables.proofs.Common.{Mode, OnRows, Refers, RefusesSource, Row, Schema, Source, Sourced}
+use Rattle.office_tables.proofs.Common.{SqliteFailure, State, Table, Trees, Written, due, edit_error, edit_of, no_works}
+use Rattle.office_tables.proofs.Common.{one_step, taken_by, works}
 use Rattle.office_tables.proofs.Steps.{plain, went, same_value}
 use Rattle.office_tables.proofs.Calls.{is_write}
 

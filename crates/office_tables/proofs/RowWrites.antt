@@ -1,11 +1,15 @@
 -- What a statement that changes rows leaves.
-use Rattle.std.proofs.Common.{◌≡◌, ℕ, List, true, false, Option, Some, None, Ok, Err, Result, IfErr, OnOk, refl, sym, ap, subst, slice_get}
+use Rattle.std.proofs.Common.{◌≡◌, ℕ, List, true, false, Option, Some, None, Ok, Err, Result, IfErr, OnOk, refl, sym}
+use Rattle.std.proofs.Common.{ap, subst, slice_get}
 use Rattle.sqlite.specs.Command.TheVariants.{Delete}
 use Rattle.sqlite.specs.Listing.{understood}
 use Rattle.sqlite.specs.State.{CommitsBy, Writes}
 use Rattle.office_tables.specs.ChangeStatement.{changes_rows}
 use Rattle.office_tables.specs.Faults.{HasCause}
-use Rattle.office_tables.proofs.Common.{AtPlace, BlamesDisk, Command, Database, Does, Error, Executes, Goes, HasCleanDisk, Insert, IsAborted, IsOurs, IsSame, Mode, OnRows, Ran, Row, Runs, Spares, State, StoreFault, Survives, Table, Tally, Update, fault_of, mode_of, runs_as, schema, statement_of}
+use Rattle.office_tables.proofs.Common.{AtPlace, BlamesDisk, Command, Database, Does, Error, Executes, Goes}
+use Rattle.office_tables.proofs.Common.{HasCleanDisk, Insert, IsAborted, IsOurs, IsSame, Mode, OnRows, Ran, Row, Runs}
+use Rattle.office_tables.proofs.Common.{Spares, State, StoreFault, Survives, Table, Tally, Update, fault_of, mode_of}
+use Rattle.office_tables.proofs.Common.{runs_as, schema, statement_of}
 use Rattle.office_tables.proofs.Calls.{early, Knows, known_in, is_write, write_cut, write_continues}
 use Rattle.office_tables.proofs.Steps.{went, same_value}
 use Rattle.office_tables.proofs.WriteCauses.{write_disk}

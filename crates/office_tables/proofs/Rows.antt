@@ -1,10 +1,17 @@
 -- Rows of typed records: what takes some out, and what puts them back changed.
-use Rattle.std.proofs.Common.{◌≡◌, inl, inr, ℤ, List, [], ◌∷◌, map, filter, Bool, true, false, not, ◌&&◌, if◌then◌else◌, cond, Ordering, Less, Equal, Greater, refl, sym, ap, ap₂, subst, ◌∙◌}
+use Rattle.std.proofs.Common.{◌≡◌, inl, inr, ℤ, List, [], ◌∷◌, map, filter, Bool, true, false, not, ◌&&◌, if◌then◌else◌}
+use Rattle.std.proofs.Common.{cond, Ordering, Less, Equal, Greater, refl, sym, ap, ap₂, subst, ◌∙◌}
 use Rattle.std.specs.Cmp.{tied_itself, both_ways}
 use Rattle.sqlite.specs.Order.{value_cmp}
 use Rattle.sqlite_trees.proofs.TreeLemmas.{IsTable-put_row, not_true}
 use Rattle.catalogue_core.proofs.Imported.{or_not}
-use Rattle.office_tables.proofs.Common.{Has, Int, IsPermutation, IsPermutation-sym, IsTable, IsTotalOrder, Rises, Row, all-permutation, all_from, all_has, all_of, are_fresh, ascending-filter, ascending-map, ascending_weaker, cases_Bool, filter-map, filter_all, filter_same, has_filtered, has_kept, has_rowid, int_cmp, int_cmp_total, is_eq, list_any, on_total, put_all, put_all_adds, put_all_has, put_all_keeps, put_row, rowid, some_from, some_has, tied_back, value_cmp-Int, value_cmp_total, without_all, without_rowid}
+use Rattle.office_tables.proofs.Common.{Has, Int, IsPermutation, IsPermutation-sym, IsTable, IsTotalOrder, Rises, Row}
+use Rattle.office_tables.proofs.Common.{all-permutation, all_from, all_has, all_of, are_fresh, ascending-filter}
+use Rattle.office_tables.proofs.Common.{ascending-map, ascending_weaker, cases_Bool, filter-map, filter_all}
+use Rattle.office_tables.proofs.Common.{filter_same, has_filtered, has_kept, has_rowid, int_cmp, int_cmp_total, is_eq}
+use Rattle.office_tables.proofs.Common.{list_any, on_total, put_all, put_all_adds, put_all_has, put_all_keeps, put_row}
+use Rattle.office_tables.proofs.Common.{rowid, some_from, some_has, tied_back, value_cmp-Int, value_cmp_total}
+use Rattle.office_tables.proofs.Common.{without_all, without_rowid}
 use Rattle.office_tables.proofs.Sorted.{same_rising}
 
 pub has_map : {A B : Type 0} (f : A → B) (xs : List A) (x : A) → Has xs x → Has (map f xs) (f x)

@@ -1,7 +1,11 @@
 -- A list that strictly rises is the only order of its elements that is sorted.
-use Rattle.std.proofs.Common.{◌≡◌, inl, inr, suc, ◌+◌, ◌≤◌, List, [], ◌∷◌, length, filter, get_or, Bool, true, false, cond, Ordering, Less, Equal, Greater, refl, sym, ap, subst, ◌∙◌, arith}
+use Rattle.std.proofs.Common.{◌≡◌, inl, inr, suc, ◌+◌, ◌≤◌, List, [], ◌∷◌, length, filter, get_or, Bool, true, false}
+use Rattle.std.proofs.Common.{cond, Ordering, Less, Equal, Greater, refl, sym, ap, subst, ◌∙◌, arith}
 use Rattle.std.specs.Cmp.{tied_itself}
-use Rattle.office_tables.proofs.Common.{AllByRecursion, Has, IsPermutation, IsPermutation-filter, IsPermutation-sym, IsSorted, IsTotalOrder, Rises, all-permutation, all_both, all_from, all_has, all_weaker, filter_none, is_eq, is_lt, length_permutation, ordering_reverse, ranks_by}
+use Rattle.office_tables.proofs.Common.{AllByRecursion, Has, IsPermutation, IsPermutation-filter, IsPermutation-sym}
+use Rattle.office_tables.proofs.Common.{IsSorted, IsTotalOrder, Rises, all-permutation, all_both, all_from, all_has}
+use Rattle.office_tables.proofs.Common.{all_weaker, filter_none, is_eq, is_lt, length_permutation, ordering_reverse}
+use Rattle.office_tables.proofs.Common.{ranks_by}
 
 module _ {X : Type 0} (cmp : X → X → Ordering) (total : IsTotalOrder cmp) where
   sorted_tail : (y : X) (ys : List X) → IsSorted cmp (y ∷ ys) → IsSorted cmp ys

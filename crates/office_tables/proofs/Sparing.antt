@@ -1,9 +1,13 @@
 -- What a failing call spares, by how its steps ended.
-use Rattle.std.proofs.Common.{◌≡◌, ◌≢◌, ◌⊎◌, inl, inr, ℕ, List, true, nat_eq, Ok, Err, Result, Option, IfErr, OnErr, refl, ap, subst}
+use Rattle.std.proofs.Common.{◌≡◌, ◌≢◌, ◌⊎◌, inl, inr, ℕ, List, true, nat_eq, Ok, Err, Result, Option, IfErr, OnErr}
+use Rattle.std.proofs.Common.{refl, ap, subst}
 use Rattle.sqlite.specs.Listing.{understood}
 use Rattle.sqlite.specs.State.{FailsToQuery, IsNotRun}
 use Rattle.office_tables.specs.declared.fault.StoreFault.TheVariants as fault
-use Rattle.office_tables.proofs.Common.{BlamesDisk, Command, Continues, Database, Error, FailsToShow, HasCleanDisk, IsAborted, IsBack, IsPlain, IsSame, IsStopped, LeavesUnchanged, OnlyTouches, RefusesToRead, Row, Rows, Select, Spares, State, StoreFault, fault_of, list_all, list_any, timed}
+use Rattle.office_tables.proofs.Common.{BlamesDisk, Command, Continues, Database, Error, FailsToShow, HasCleanDisk}
+use Rattle.office_tables.proofs.Common.{IsAborted, IsBack, IsPlain, IsSame, IsStopped, LeavesUnchanged, OnlyTouches}
+use Rattle.office_tables.proofs.Common.{RefusesToRead, Row, Rows, Select, Spares, State, StoreFault, fault_of, list_all}
+use Rattle.office_tables.proofs.Common.{list_any, timed}
 use Rattle.office_tables.proofs.Calls.{early, back_then}
 use Rattle.office_tables.proofs.Errors.{fails}
 use Rattle.office_tables.proofs.Touching.{touched_again, touched_wider}

@@ -1,11 +1,13 @@
 -- What one statement does, from what became of its text. While the disk is clean, the tables are those of a version.
 use Rattle.std.proofs.Common.{◌≡◌, ◌⊎◌, inl, inr, ℤ, List, [], ◌∷◌, map, Result, Ok, IfOk, IfErr, OnOk, sym, subst}
 use Rattle.sqlite_trees.specs.declared.store.Store as store
-use Rattle.office_tables.specs.Versions.{Version}
 use Rattle.office_tables.specs.Faults.{HasCause}
-use Rattle.office_tables.specs.TableStatements.{LooksUp, Puts, Changes, Thins}
 use Rattle.office_tables.specs.NumberedStatements.{PutsNumbered, ThinsNumbered}
-use Rattle.office_tables.proofs.Common.{HasCleanDisk, HasRows, Held, Holds, HoldsNumbered, IsOutside, IsUnlimited, Leaves, OnlyTouches, PutsRow, Reads, Row, State, StoreFault, Table, next_rowid, schema, state}
+use Rattle.office_tables.specs.TableStatements.{LooksUp, Puts, Changes, Thins}
+use Rattle.office_tables.specs.Versions.{Version}
+use Rattle.office_tables.proofs.Common.{HasCleanDisk, HasRows, Held, Holds, HoldsNumbered, IsOutside, IsUnlimited}
+use Rattle.office_tables.proofs.Common.{Leaves, OnlyTouches, PutsRow, Reads, Row, State, StoreFault, Table, next_rowid}
+use Rattle.office_tables.proofs.Common.{schema, state}
 
 -- ---- what holds of a statement that ran, holds as well where none ran
 

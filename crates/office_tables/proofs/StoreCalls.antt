@@ -3,7 +3,8 @@ use Rattle.std.proofs.Common.{◌≡◌, ℕ, List, Err, Result, sym, subst}
 use Rattle.sqlite_trees.specs.declared.store.Store as store
 use Rattle.office_tables.specs.Calls.{StoreUpdates, StoreAnswers, Updates, Answers}
 use Rattle.office_tables.specs.Faults.{HasCause}
-use Rattle.office_tables.proofs.Common.{Continues, Database, HasCleanDisk, Held, IsAborted, IsSame, IsUnlimited, LeavesUnchanged, OnlyTouches, Spares, State, StoreFault, state}
+use Rattle.office_tables.proofs.Common.{Continues, Database, HasCleanDisk, Held, IsAborted, IsSame, IsUnlimited}
+use Rattle.office_tables.proofs.Common.{LeavesUnchanged, OnlyTouches, Spares, State, StoreFault, state}
 use Rattle.office_tables.proofs.Calls.{early, cut_then}
 use Rattle.office_tables.proofs.Causes.{still_unlimited}
 use Rattle.office_tables.proofs.LaterCauses.{next_cause}
@@ -22,38 +23,37 @@ module _ {S X Stays Model : Type 0} (g : store.Ghosts S) (represents : Database 
   pub tells_not : (answer : Stays → Model → X → Type 0) (e : StoreFault) → r ≡ Err e → IsAborted old new
       → (HasCleanDisk new → Spares IsSame old new e)
       → ((s : Stays) (m : Model) → represents old.now s m → may m → kept m → HasCleanDisk new → IsUnlimited old → HasCause old new e)
-      → StoreAnswers g represents kept before after r may answer
+      → StoreAnswers g represents before after r may kept answer
   tells_not answer e is cut spares why =
-      subst (λ (r : Result X StoreFault). StoreAnswers g represents kept before after r may answer) (sym is)
-      (record { answers = λ clean s m shown. tt; looks = tt; aborts = cut; spares = spares; faults = λ s m shown may kept clean free. why s m shown may kept clean free })
+      subst (λ (r : Result X StoreFault). StoreAnswers g represents before after r may kept answer) (sym is)
+      (record { call = record { answers = λ clean s m shown. tt; looks = tt; aborts = cut; faults = λ s m shown may kept clean free. why s m shown may kept clean free }; spares = spares })
 
   -- it ends so, and may have touched the tables
   pub makes_part : (made : Model → Model) (touched : List ℕ) (e : StoreFault) → r ≡ Err e → IsAborted old new
       → (HasCleanDisk new → Spares (OnlyTouches touched) old new e)
       → ((s : Stays) (m : Model) → represents old.now s m → may m → kept m → HasCleanDisk new → IsUnlimited old → HasCause old new e)
-      → StoreUpdates g represents kept before after r may made touched
+      → StoreUpdates g touched represents before after r may kept made
   makes_part made touched e is cut spares why =
-      subst (λ (r : Result X StoreFault). StoreUpdates g represents kept before after r may made touched) (sym is)
-      (record { represents_updated = λ clean s m shown may. tt; only = λ clean. tt; goes = tt; aborts = cut; spares = spares; faults = λ s m shown may kept clean free. why s m shown may kept clean free })
+      subst (λ (r : Result X StoreFault). StoreUpdates g touched represents before after r may kept made) (sym is)
+      (record { call = record { represents_updated = λ clean s m shown may. tt; only = λ clean. tt; goes = tt; aborts = cut; faults = λ s m shown may kept clean free. why s m shown may kept clean free }; spares = spares })
 
   -- it ends so before it touched any
   pub makes_not : (made : Model → Model) (touched : List ℕ) (e : StoreFault) → r ≡ Err e → IsAborted old new
       → (HasCleanDisk new → Spares IsSame old new e)
       → ((s : Stays) (m : Model) → represents old.now s m → may m → kept m → HasCleanDisk new → IsUnlimited old → HasCause old new e)
-      → StoreUpdates g represents kept before after r may made touched
+      → StoreUpdates g touched represents before after r may kept made
   makes_not made touched e is cut spares why =
       makes_part made touched e is cut (λ clean. untouched touched old new e (spares clean)) why
 
   -- what it promises of the model alone
-  pub as_answers : (answer : Stays → Model → X → Type 0) → StoreAnswers g represents kept before after r may answer
-      → Answers g represents kept before after r may answer
-  as_answers answer it = record { answers = it.answers; looks = it.looks; aborts = it.aborts; faults = it.faults }
+  pub as_answers : (answer : Stays → Model → X → Type 0) → StoreAnswers g represents before after r may kept answer
+      → Answers g represents before after r may kept answer
+  as_answers answer it = it.call
 
   pub as_updates : (made : Model → Model) (touched : List ℕ)
-      → StoreUpdates g represents kept before after r may made touched
-      → Updates g represents kept before after r may made touched
-  as_updates made touched it =
-      record { represents_updated = it.represents_updated; only = it.only; goes = it.goes; aborts = it.aborts; faults = it.faults }
+      → StoreUpdates g touched represents before after r may kept made
+      → Updates g touched represents before after r may kept made
+  as_updates made touched it = it.call
 
 -- ---- a later step fails
 
@@ -78,7 +78,7 @@ module _ {S X Stays Model : Type 0} (g : store.Ghosts S) (represents : Database 
 
   pub tells_cut : (answer : Stays → Model → X → Type 0) (e : StoreFault) → r ≡ Err e → LeavesUnchanged a b
       → IsAborted b c → (HasCleanDisk c → Spares IsSame b c e) → Why e
-      → StoreAnswers g represents kept before after r may answer
+      → StoreAnswers g represents before after r may kept answer
   tells_cut answer e is looked cut spares why =
       tells_not g represents kept may before after r answer e is (cut_then a b c looked.goes.on cut) (λ clean. looked_spares a b c looked (early b c _ cut.crash clean) e (spares clean)) (then_caused e looked.goes.on cut why)
 
@@ -86,13 +86,13 @@ module _ {S X Stays Model : Type 0} (g : store.Ghosts S) (represents : Database 
   pub makes_cut : (made : Model → Model) (touched : List ℕ) (e : StoreFault) → r ≡ Err e → Continues a b
       → (HasCleanDisk b → OnlyTouches touched a.now b.now) → IsAborted b c
       → (HasCleanDisk c → Spares (OnlyTouches touched) b c e) → Why e
-      → StoreUpdates g represents kept before after r may made touched
+      → StoreUpdates g touched represents before after r may kept made
   makes_cut made touched e is on only cut spares why =
       makes_part g represents kept may before after r made touched e is (cut_then a b c on cut) (λ clean. let before = early b c _ cut.crash clean in touched_spares touched a b c on before (only before) e (spares clean)) (then_caused e on cut why)
 
   -- after a look
   pub makes_none : (made : Model → Model) (touched : List ℕ) (e : StoreFault) → r ≡ Err e → LeavesUnchanged a b
       → IsAborted b c → (HasCleanDisk c → Spares IsSame b c e) → Why e
-      → StoreUpdates g represents kept before after r may made touched
+      → StoreUpdates g touched represents before after r may kept made
   makes_none made touched e is looked cut spares why =
       makes_not g represents kept may before after r made touched e is (cut_then a b c looked.goes.on cut) (λ clean. looked_spares a b c looked (early b c _ cut.crash clean) e (spares clean)) (then_caused e looked.goes.on cut why)

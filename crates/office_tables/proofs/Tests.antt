@@ -1,14 +1,17 @@
 -- What the conditions of the statements test.
-use Rattle.std.proofs.Common.{◌≡◌, ℕ, ℤ, List, [], ◌∷◌, Bool, true, false, ◌&&◌, Option, Some, None, refl, ap, ap₂, ◌∙◌, pos, nat_eq, arith}
+use Rattle.std.proofs.Common.{◌≡◌, ℕ, ℤ, List, [], ◌∷◌, Bool, true, false, ◌&&◌, Option, Some, None, refl, ap, ap₂, ◌∙◌}
+use Rattle.std.proofs.Common.{pos, nat_eq, arith}
+use Rattle.std.proofs.lemmas.Map.Text.{is_eq-slice_cmp}
 use Rattle.std.specs.Cmp.{both_ways, tied_itself}
 use Rattle.std.specs.FinMap.{int_cmp-IsAntisymmetric}
-use Rattle.std.proofs.lemmas.Map.Text.{is_eq-slice_cmp}
 use Rattle.sqlite.specs.Ops.{binary, is_true, from_truth}
 use Rattle.sqlite.specs.Values.{or_null}
 use Rattle.sqlite_sql.specs.declared.ops.BinaryOp.TheVariants.{Compare, Is}
 use Rattle.sqlite_sql.specs.declared.ops.CompareOp.TheVariants.{Eq}
 use Rattle.office_tables.specs.Tests.{same_int, same_text, same_maybe}
-use Rattle.office_tables.proofs.Common.{Binary, Int, Null, Text, ascending, bytes_eq, int_cmp, int_cmp_total, is_eq, key_cmp, nat_tests, ordering_then, then-Equal, value_cmp-Int, value_cmp-Null, value_cmp-Text, value_cmp-apart}
+use Rattle.office_tables.proofs.Common.{Binary, Int, Null, Text, ascending, bytes_eq, int_cmp, int_cmp_total, is_eq}
+use Rattle.office_tables.proofs.Common.{key_cmp, nat_tests, ordering_then, then-Equal, value_cmp-Int, value_cmp-Null}
+use Rattle.office_tables.proofs.Common.{value_cmp-Text, value_cmp-apart}
 use Rattle.office_tables.proofs.Rows.{eq_from}
 
 pub flag : (b : Bool) → is_true (from_truth (Some b)) ≡ b

@@ -1,7 +1,9 @@
 -- That only some tables are touched.
-use Rattle.std.proofs.Common.{◌≡◌, ◌≢◌, inl, inr, sym, ℕ, true, false, ◌||◌, nat_eq, List, [], ◌∷◌, ◌++◌, map, refl, subst, ◌∙◌, arith}
+use Rattle.std.proofs.Common.{◌≡◌, ◌≢◌, inl, inr, sym, ℕ, true, false, ◌||◌, nat_eq, List, [], ◌∷◌, ◌++◌, map, refl}
+use Rattle.std.proofs.Common.{subst, ◌∙◌, arith}
 use Rattle.office_tables.specs.Versions.{Version}
-use Rattle.office_tables.proofs.Common.{AllByRecursion, Database, OnlyTouches, Table, Trees, and_parts, cases_Bool, list_all, list_any, nat_tests, schema, table_trees}
+use Rattle.office_tables.proofs.Common.{AllByRecursion, Database, OnlyTouches, Table, Trees, and_parts, cases_Bool}
+use Rattle.office_tables.proofs.Common.{list_all, list_any, nat_tests, schema, table_trees}
 
 apart : (n t : ℕ) → list_any (nat_eq n) (t ∷ []) ≡ false → n ≢ t
 apart n t h e = let k : list_any (nat_eq t) (t ∷ []) ≡ false = subst (λ m. list_any (nat_eq m) (t ∷ []) ≡ false) e h in grind (arith, nat_tests, k)

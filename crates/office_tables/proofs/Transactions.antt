@@ -1,9 +1,12 @@
 -- What BEGIN, COMMIT and ROLLBACK do, as text.
-use Rattle.std.proofs.Common.{◌≡◌, ◌⊎◌, inl, inr, ℕ, List, [], codes, true, false, None, Ok, Err, Result, OnOk, IsTrue, lit≤, refl, sym, ap, subst, subst₂, ◌∙◌, append-nil}
-use Rattle.sqlite_tied.specs.Compute.{everything}
+use Rattle.std.proofs.Common.{◌≡◌, ◌⊎◌, inl, inr, ℕ, List, [], codes, true, false, None, Ok, Err, Result, OnOk, IsTrue}
+use Rattle.std.proofs.Common.{lit≤, refl, sym, ap, subst, subst₂, ◌∙◌, append-nil}
 use Rattle.sqlite.specs.Listing.{understood}
 use Rattle.sqlite.specs.State.{CommitsBy}
-use Rattle.office_tables.proofs.Common.{Begin, Command, Commit, Committed, Error, Executes, HasOuterCause, IsBack, IsMisplaced, IsPlain, IsRolledBack, IsStopped, MayCommit, Rollback, Schema, Shows, State, Trees, command_of, fault_of, runs_as, statement_of}
+use Rattle.sqlite_tied.specs.Compute.{everything}
+use Rattle.office_tables.proofs.Common.{Begin, Command, Commit, Committed, Error, Executes, HasOuterCause, IsBack}
+use Rattle.office_tables.proofs.Common.{IsMisplaced, IsPlain, IsRolledBack, IsStopped, MayCommit, Rollback, Schema}
+use Rattle.office_tables.proofs.Common.{Shows, State, Trees, command_of, fault_of, runs_as, statement_of}
 use Rattle.office_tables.proofs.Causes.{failed_outer}
 use Rattle.office_tables.proofs.Failures.{IsWhole, fails_as}
 use Rattle.office_tables.proofs.Errors.{stops}

@@ -1,17 +1,30 @@
 -- Why an UPDATE fails that leaves each row at its number and each key as it is, where the disk is clean and no limit is set.
-use Rattle.std.proofs.Common.{◌≡◌, ◌≢◌, inl, inr, ℕ, ℤ, ◌≤◌, List, [], ◌∷◌, length, map, filter, drop, slice_get, if◌then◌else◌, Bool, true, false, not, ◌&&◌, ◌||◌, ◌==◌, ltb, Err, Option, Some, None, Equal, refl, sym, ap, ap₂, subst, ◌∙◌, nat_lt, arith}
+use Rattle.std.proofs.Common.{◌≡◌, ◌≢◌, inl, inr, ℕ, ℤ, ◌≤◌, List, [], ◌∷◌, length, map, filter, drop, slice_get}
+use Rattle.std.proofs.Common.{if◌then◌else◌, Bool, true, false, not, ◌&&◌, ◌||◌, ◌==◌, ltb, Err, Option, Some, None}
+use Rattle.std.proofs.Common.{Equal, refl, sym, ap, ap₂, subst, ◌∙◌, nat_lt, arith}
 use Rattle.std.proofs.lemmas.Bool.{eqb-true, eq-eqb}
-use Rattle.sqlite.specs.Order.{value_cmp}
-use Rattle.sqlite.specs.Tree.{with_tree}
 use Rattle.sqlite.specs.Effect.{Answers}
 use Rattle.sqlite.specs.Listing.{understood}
+use Rattle.sqlite.specs.Order.{value_cmp}
+use Rattle.sqlite.specs.Tree.{with_tree}
+use Rattle.sqlite_rules.proofs.PlaceLemmas.{null_same, unique_stays, held_stays, twin_of}
 use Rattle.sqlite_rules.specs.InPlace.{AgreeAt, Twins, AreTwins}
 use Rattle.sqlite_rules.specs.Steps.{is_typed, is_present}
 use Rattle.sqlite_rules.specs.declared.error.Refusal.{Refusal}
 use Rattle.sqlite_rules.specs.declared.error.Refusal.TheVariants.{Violates}
-use Rattle.sqlite_rules.proofs.PlaceLemmas.{null_same, unique_stays, held_stays, twin_of}
 use Rattle.office_tables.specs.Faults.{HasCause}
-use Rattle.office_tables.proofs.Common.{All, AllByRecursion, Applies, AtPlace, BadReference, Check, Database, Datatype, Does, Edit, Enforced, Error, Executes, ForeignKey, Given, Has, Int, IsAscending, IsLive, IsPermutation, IsPermutation-filter, IsPlain, IsRefused, IsUnlimited, Keeps, Mismatch, Mode, NoRowid, NotNull, Obeys, OnRows, PrimaryKey, Program, Queried, Refers, RefusesQuery, Rises, Row, Schema, State, Table, TooDeep, Trees, Unique, Update, Written, all_from, all_has, and_from, and_parts, are_fresh, ascending-filter, cast_row, column, command_of, due, edit_error, edit_of, edited, false_from_ne_true, fault_of, guards, has_filtered, has_got, id_in, ids_of, int_cmp, is_eq, is_int, left_by, length_permutation, list_all, ltb-true, mode_of, one_step, or_cases, or_left, or_right, passes_checks, put_has, put_row, references_fit, refers_at, refers_from, rowid, some_has, statement_of, taken_by, test_from, test_has, works}
+use Rattle.office_tables.proofs.Common.{All, AllByRecursion, Applies, AtPlace, BadReference, Check, Database, Datatype}
+use Rattle.office_tables.proofs.Common.{Does, Edit, Enforced, Error, Executes, ForeignKey, Given, Has, Int, IsAscending}
+use Rattle.office_tables.proofs.Common.{IsLive, IsPermutation, IsPermutation-filter, IsPlain, IsRefused, IsUnlimited}
+use Rattle.office_tables.proofs.Common.{Keeps, Mismatch, Mode, NoRowid, NotNull, Obeys, OnRows, PrimaryKey, Program}
+use Rattle.office_tables.proofs.Common.{Queried, Refers, RefusesQuery, Rises, Row, Schema, State, Table, TooDeep, Trees}
+use Rattle.office_tables.proofs.Common.{Unique, Update, Written, all_from, all_has, and_from, and_parts, are_fresh}
+use Rattle.office_tables.proofs.Common.{ascending-filter, cast_row, column, command_of, due, edit_error, edit_of}
+use Rattle.office_tables.proofs.Common.{edited, false_from_ne_true, fault_of, guards, has_filtered, has_got, id_in}
+use Rattle.office_tables.proofs.Common.{ids_of, int_cmp, is_eq, is_int, left_by, length_permutation, list_all, ltb-true}
+use Rattle.office_tables.proofs.Common.{mode_of, one_step, or_cases, or_left, or_right, passes_checks, put_has, put_row}
+use Rattle.office_tables.proofs.Common.{references_fit, refers_at, refers_from, rowid, some_has, statement_of, taken_by}
+use Rattle.office_tables.proofs.Common.{test_from, test_has, works}
 use Rattle.office_tables.proofs.Causes.{failed_cause}
 use Rattle.office_tables.proofs.NumberedKeys.{firm, firm_unique, unique_from_firm}
 use Rattle.office_tables.proofs.Failures.{IsWhole, fails_as}

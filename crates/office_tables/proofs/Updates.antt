@@ -1,6 +1,9 @@
 -- What UPDATE and DELETE leave of a table of typed records.
-use Rattle.std.proofs.Common.{◌≡◌, ℤ, List, [], ◌∷◌, map, filter, drop, Bool, true, not, if◌then◌else◌, refl, sym, ap, ap₂, ◌∙◌}
-use Rattle.office_tables.proofs.Common.{AllByRecursion, Given, Has, Int, IsPermutation, Rises, Row, Table, Trees, all_from, are_fresh, cast_row, edit_of, edited, id_in, ids_of, left_by, map-map, numbered, put_all, rowid, without_all}
+use Rattle.std.proofs.Common.{◌≡◌, ℤ, List, [], ◌∷◌, map, filter, drop, Bool, true, not, if◌then◌else◌, refl, sym, ap}
+use Rattle.std.proofs.Common.{ap₂, ◌∙◌}
+use Rattle.office_tables.proofs.Common.{AllByRecursion, Given, Has, Int, IsPermutation, Rises, Row, Table, Trees}
+use Rattle.office_tables.proofs.Common.{all_from, are_fresh, cast_row, edit_of, edited, id_in, ids_of, left_by, map-map}
+use Rattle.office_tables.proofs.Common.{numbered, put_all, rowid, without_all}
 use Rattle.office_tables.proofs.Rows.{by_key, removed, replaced}
 
 pub given_as : (news rows : List Row) → numbered Given rows news ≡ news

@@ -1,17 +1,29 @@
 -- That no write which is refused blames the disk.
-use Rattle.std.proofs.Common.{◌≡◌, ◌⊎◌, inl, inr, ℕ, List, Bool, true, false, Ok, Err, Result, Option, Some, None, IfErr, OnErr, ℤ, [], slice_get, fold, if◌then◌else◌, refl, sym, ap, subst, subst₂, ◌∙◌}
+use Rattle.std.proofs.Common.{◌≡◌, ◌⊎◌, inl, inr, ℕ, List, Bool, true, false, Ok, Err, Result, Option, Some, None}
+use Rattle.std.proofs.Common.{IfErr, OnErr, ℤ, [], slice_get, fold, if◌then◌else◌, refl, sym, ap, subst, subst₂, ◌∙◌}
 use Rattle.std.specs.Bool.{MatchBool}
-use Rattle.sqlite.specs.Source.TheVariants as source
 use Rattle.sqlite.specs.Command.TheVariants.{Delete}
-use Rattle.sqlite_rules.specs.declared.error.Refusal.{Refusal}
-use Rattle.sqlite_rules.specs.declared.error.Refusal.TheVariants.{Violates}
-use Rattle.sqlite_catalog.specs.declared.error.Refusal as alter
-use Rattle.sqlite_catalog.specs.declared.error.Refusal.TheVariants as why
-use Rattle.sqlite_trees.specs.declared.error.StoreError.TheVariants.{OutOfMemory}
+use Rattle.sqlite.specs.Source.TheVariants as source
 use Rattle.sqlite.specs.State.{ExecutesIn, IsNotRun}
 use Rattle.sqlite.specs.State as state
+use Rattle.sqlite_catalog.specs.declared.error.Refusal as alter
+use Rattle.sqlite_catalog.specs.declared.error.Refusal.TheVariants as why
+use Rattle.sqlite_rules.specs.declared.error.Refusal.{Refusal}
+use Rattle.sqlite_rules.specs.declared.error.Refusal.TheVariants.{Violates}
+use Rattle.sqlite_trees.specs.declared.error.StoreError.TheVariants.{OutOfMemory}
 use Rattle.office_tables.specs.declared.fault.StoreFault.TheVariants as fault
-use Rattle.office_tables.proofs.Common.{AtPlace, BadReference, BlamesDisk, Broken, Command, Compiled, Concludes, ConstraintViolation, Continues, Corrupt, Counter, CounterIn, Counts, CountsIn, CreateIndex, CreateTable, Database, Defines, Does, Edit, Edited, Error, ExecuteReturnedResults, Executes, Fails, ForeignKey, Full, Given, Gives, HasCleanDisk, Insert, Io, IsAborted, IsMisplaced, IsNoStatement, IsNoText, IsPlain, Keys, MakesIndex, MakesSequence, MakesTable, Mismatch, Mode, NoRowid, OnRows, Part, Program, Queried, RefusesToAlter, Row, RunsCommand, Schema, Source, Sourced, SqliteFailure, State, StoreError, StoreFault, Table, Task, Then, TooDeep, Trees, Unstorable, Update, WritesRows, Written, alter_error, cases_Bool, command_of, count_of, edit_error, edit_of, fault_of, higher, ids_of, int_cmp, is_lt, lacks_sequence, mode_of, rowids_for, sequence, sequence_text, shows_rows, stamped, store_error, text_of, timed}
+use Rattle.office_tables.proofs.Common.{AtPlace, BadReference, BlamesDisk, Broken, Command, Compiled, Concludes}
+use Rattle.office_tables.proofs.Common.{ConstraintViolation, Continues, Corrupt, Counter, CounterIn, Counts, CountsIn}
+use Rattle.office_tables.proofs.Common.{CreateIndex, CreateTable, Database, Defines, Does, Edit, Edited, Error}
+use Rattle.office_tables.proofs.Common.{ExecuteReturnedResults, Executes, Fails, ForeignKey, Full, Given, Gives}
+use Rattle.office_tables.proofs.Common.{HasCleanDisk, Insert, Io, IsAborted, IsMisplaced, IsNoStatement, IsNoText}
+use Rattle.office_tables.proofs.Common.{IsPlain, Keys, MakesIndex, MakesSequence, MakesTable, Mismatch, Mode, NoRowid}
+use Rattle.office_tables.proofs.Common.{OnRows, Part, Program, Queried, RefusesToAlter, Row, RunsCommand, Schema}
+use Rattle.office_tables.proofs.Common.{Source, Sourced, SqliteFailure, State, StoreError, StoreFault, Table, Task}
+use Rattle.office_tables.proofs.Common.{Then, TooDeep, Trees, Unstorable, Update, WritesRows, Written, alter_error}
+use Rattle.office_tables.proofs.Common.{cases_Bool, command_of, count_of, edit_error, edit_of, fault_of, higher, ids_of}
+use Rattle.office_tables.proofs.Common.{int_cmp, is_lt, lacks_sequence, mode_of, rowids_for, sequence, sequence_text}
+use Rattle.office_tables.proofs.Common.{shows_rows, stamped, store_error, text_of, timed}
 use Rattle.office_tables.proofs.Calls.{early, Knows, is_write}
 use Rattle.office_tables.proofs.Causes.{cause_then}
 

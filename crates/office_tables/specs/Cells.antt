@@ -1,5 +1,6 @@
 -- What the cells of rows of doubtful origin mean. A cell with a value that its column cannot have means nothing.
-use Rattle.std.specs.Prelude.{ℕ, ℤ, pos, Bool, true, false, cond, List, Option, Some, None, option_map, option_and_then, is_none}
+use Rattle.std.specs.Prelude.{ℕ, ℤ, pos, Bool, true, false, cond, List, Option, Some, None, option_map, option_and_then}
+use Rattle.std.specs.Prelude.{is_none}
 use Rattle.std.specs.List.{list_any}
 use Rattle.std.specs.Ordering.{int_eq}
 use Rattle.std.specs.Str.{is_utf8}

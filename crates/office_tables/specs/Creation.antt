@@ -1,5 +1,6 @@
 -- What the definition of a table or of an index makes.
-use Rattle.std.specs.Prelude.{◌≡◌, ℕ, ◌+◌, ◌^◌, nat_lt, true, false, List, [], ◌∷◌, ◌++◌, Result, Ok, Some, codes, slice_get, drop, length, IfErr, IsTrue, OnOk, OnErr}
+use Rattle.std.specs.Prelude.{◌≡◌, ℕ, ◌+◌, ◌^◌, nat_lt, true, false, List, [], ◌∷◌, ◌++◌, Result, Ok, Some, codes}
+use Rattle.std.specs.Prelude.{slice_get, drop, length, IfErr, IsTrue, OnOk, OnErr}
 use Rattle.std.specs.List.{AllByRecursion, list_any, list_all}
 use Rattle.std.specs.Str.{is_utf8}
 use Rattle.sqlite.specs.Table.{Table}
@@ -22,7 +23,8 @@ use Rattle.office_tables.specs.Step.{Continues, IsAborted}
 use Rattle.office_tables.specs.declared.fault.StoreFault.{StoreFault}
 use Rattle.office_tables.specs.Text.{command_of, statement_of, IsAlone}
 use Rattle.sqlite_catalog.specs.Listing.{automatic, is_formed, is_fit}
-use Rattle.office_tables.specs.Schema.{reader, seat, orders, holding, run, run_line, permit, office, unit, element, container, housing, waiting_key, placed_key, live_key}
+use Rattle.office_tables.specs.Schema.{reader, seat, orders, holding, run, run_line, permit, office, unit, element}
+use Rattle.office_tables.specs.Schema.{container, housing, waiting_key, placed_key, live_key}
 
 -- the text is understood as one whole command
 pub record Says (before : Schema) (text : List ℕ) (command : Command) : Type 0 where

@@ -17,6 +17,7 @@ pub mod Flags
 pub mod StatementMeaning
 pub mod ChangeStatement
 pub mod Query
+pub mod Premises
 pub mod Calls
 pub mod TableStatements
 pub mod NumberedStatements

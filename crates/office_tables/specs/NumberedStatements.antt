@@ -20,12 +20,12 @@ module _ {S R X : Type 0} (g : store.Ghosts S) (table : Table) (cells : ℤ × R
   abbrev new : State
   new = state g after
 
-  -- A statement puts one more record into the table, under the next number. If there is `room` for it in these tables, every
-  -- fault has a cause.
-  pub record PutsNumbered (added : R) (room : State → List R → Type 0) : Type 0 where
+  -- A statement puts one more record into the table, under the next number. If these tables and the other
+  -- records are within the bounds, every fault has a cause.
+  pub record PutsNumbered (added : R) (bounds : State → List R → Type 0) : Type 0 where
     pub leaves : Leaves old new r
     pub puts : HasCleanDisk new → OnOk r (PutsRow table.tree (cells (next_rowid (old.now.trees table.tree), added)) old.now new.now)
-    pub faults : (xs : List R) → HoldsNumbered table cells old xs → room old xs → FaultsHaveCause old new r
+    pub faults : (xs : List R) → HoldsNumbered table cells old xs → bounds old xs → FaultsHaveCause old new r
 
   -- A statement deletes records: it leaves these in the table, and touches no other table. Every fault has a cause, whatever
   -- the rows are.

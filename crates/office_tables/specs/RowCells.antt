@@ -9,7 +9,7 @@ use Rattle.tree_core.specs.declared.rows.Span.{Span}
 use Rattle.catalogue_core.specs.CatalogueRows.{UnitRow, ElementRow, ContainerRow, HousingRow, box_from}
 use Rattle.desk_core.specs.DeskRows.{ReaderRow, SeatRow, OrderRow, HoldingRow, RunRow, RunLineRow}
 use Rattle.office_tables.specs.Flags.{flag}
-use Rattle.office_tables.specs.SharedRows.{container_row}
+use Rattle.office_tables.specs.SharedRows.{numbered_container_cells}
 
 -- ---- the catalogue
 
@@ -22,7 +22,7 @@ abbrev pub element_cells : ℤ × ElementRow → Row
 element_cells (n, row) = Int n ∷ Int (pos row.unit) ∷ Int (pos row.k) ∷ Text row.value ∷ []
 
 abbrev pub container_cells : ContainerRow → Row
-container_cells row = container_row (row.id, box_from row)
+container_cells row = numbered_container_cells (row.id, box_from row)
 
 abbrev pub housing_cells : ℤ × HousingRow → Row
 housing_cells (n, row) = Int n ∷ Int (pos row.unit) ∷ Int (pos row.ord) ∷ Int (pos row.container) ∷ []

@@ -139,16 +139,16 @@ housing = table (codes "housing") 21 None (number (codes "unit") ∷ number (cod
 -- ---- the places
 
 -- the table of places stands last in every version, keyed by the unit's number
-abbrev pub place_name : TreeEncoding → List ℕ
-place_name Links = codes "link"
-place_name Spans = codes "span"
+abbrev pub place_table_name : TreeEncoding → List ℕ
+place_table_name Links = codes "link"
+place_table_name Spans = codes "span"
 
 abbrev pub place_columns : TreeEncoding → List Column
 place_columns Links = nullable (codes "id") ∷ nullable (codes "parent") ∷ number (codes "ord") ∷ []
 place_columns Spans = nullable (codes "id") ∷ number (codes "lft") ∷ number (codes "rgt") ∷ []
 
 abbrev pub place_table : TreeEncoding → Table
-place_table way = keyed_table (place_name way) 24 (place_columns way) []
+place_table way = keyed_table (place_table_name way) 24 (place_columns way) []
 
 abbrev pub link : Table
 link = place_table Links

@@ -7,8 +7,8 @@ use Rattle.isad_core.specs.declared.values.BoxKey.{BoxKey}
 pub use Rattle.catalogue_core.specs.CatalogueRows.{OfficeRow}
 
 -- a container under its number
-abbrev pub container_row : ℕ × BoxKey → Row
-container_row (n, b) = Int (pos n) ∷ Null ∷ Text b.name ∷ Text b.location ∷ Text b.kind ∷ []
+abbrev pub numbered_container_cells : ℕ × BoxKey → Row
+numbered_container_cells (n, b) = Int (pos n) ∷ Null ∷ Text b.name ∷ Text b.location ∷ Text b.kind ∷ []
 
 -- what the office's row contains besides its version
 abbrev pub settings_cells : OfficeRow → Row

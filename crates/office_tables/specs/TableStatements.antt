@@ -11,12 +11,12 @@ use Rattle.office_tables.specs.Query.{Reads}
 use Rattle.office_tables.specs.Step.{Holds, HasRows, OnlyTouches, PutsRow}
 use Rattle.office_tables.specs.declared.fault.StoreFault.{StoreFault}
 
--- A query answers this of what the tables hold, the records of one of them or a whole model, if that is `orderly`. It
--- changes no row. If what they hold is `kept`, every fault has a cause; otherwise it may also be `Schema`.
-pub record LooksUp {S M X : Type 0} (g : store.Ghosts S) (holds : State → M → Type 0) (before after : Held S) (r : Result X StoreFault) (orderly kept : M → Type 0) (answer : M → X → Type 0) : Type 0 where
+-- A query answers this of what the tables hold, the records of one of them or a whole model, if that is as it needs. It
+-- changes no row. If what they hold is within the bounds, every fault has a cause; otherwise it may also be `Schema`.
+pub record LooksUp {S M X : Type 0} (g : store.Ghosts S) (holds : State → M → Type 0) (before after : Held S) (r : Result X StoreFault) (needs bounds : M → Type 0) (answer : M → X → Type 0) : Type 0 where
   pub reads : Reads (state g before) (state g after) r
-  pub answers : HasCleanDisk (state g after) → (m : M) → holds (state g before) m → orderly m → IfOk r (answer m)
-  pub faults : (m : M) → holds (state g before) m → kept m → FaultsHaveCause (state g before) (state g after) r
+  pub answers : HasCleanDisk (state g after) → (m : M) → holds (state g before) m → needs m → IfOk r (answer m)
+  pub faults : (m : M) → holds (state g before) m → bounds m → FaultsHaveCause (state g before) (state g after) r
 
 -- The table has these cells for each record.
 module _ {S R X : Type 0} (g : store.Ghosts S) (table : Table) (cells : R → Row) (before after : Held S) (r : Result X StoreFault) where
@@ -26,23 +26,23 @@ module _ {S R X : Type 0} (g : store.Ghosts S) (table : Table) (cells : R → Ro
   abbrev new : State
   new = state g after
 
-  -- A statement puts one more record into the table. If there is `room` for it, every fault has a cause.
-  pub record Puts (added : R) (room : List R → Type 0) : Type 0 where
+  -- A statement puts one more record into the table. If the others are within the bounds, every fault has a cause.
+  pub record Puts (added : R) (bounds : List R → Type 0) : Type 0 where
     pub leaves : Leaves old new r
     pub puts : HasCleanDisk new → OnOk r (PutsRow table.tree (cells added) old.now new.now)
-    pub faults : (xs : List R) → Holds table cells old xs → room xs → FaultsHaveCause old new r
+    pub faults : (xs : List R) → Holds table cells old xs → bounds xs → FaultsHaveCause old new r
 
-  -- A statement leaves these records in the table, if they were `orderly`, and touches no other table. If they were, every
-  -- fault has a cause.
-  pub record Changes (orderly : List R → Type 0) (left : List R → List R) : Type 0 where
+  -- A statement leaves these records in the table, if they were as it needs, and touches no other table. If they were,
+  -- every fault has a cause.
+  pub record Changes (needs : List R → Type 0) (left : List R → List R) : Type 0 where
     pub leaves : Leaves old new r
-    pub rows : HasCleanDisk new → (xs : List R) → Holds table cells old xs → orderly xs → OnOk r (HasRows table.tree (map cells (left xs)) old.now new.now)
+    pub rows : HasCleanDisk new → (xs : List R) → Holds table cells old xs → needs xs → OnOk r (HasRows table.tree (map cells (left xs)) old.now new.now)
     pub only : HasCleanDisk new → OnOk r (OnlyTouches (table.tree ∷ []) old.now new.now)
-    pub faults : (xs : List R) → Holds table cells old xs → orderly xs → FaultsHaveCause old new r
+    pub faults : (xs : List R) → Holds table cells old xs → needs xs → FaultsHaveCause old new r
 
   -- The same, for a statement that deletes records: every fault has a cause, whatever the rows are.
-  pub record Thins (orderly : List R → Type 0) (left : List R → List R) : Type 0 where
+  pub record Thins (needs : List R → Type 0) (left : List R → List R) : Type 0 where
     pub leaves : Leaves old new r
-    pub rows : HasCleanDisk new → (xs : List R) → Holds table cells old xs → orderly xs → OnOk r (HasRows table.tree (map cells (left xs)) old.now new.now)
+    pub rows : HasCleanDisk new → (xs : List R) → Holds table cells old xs → needs xs → OnOk r (HasRows table.tree (map cells (left xs)) old.now new.now)
     pub only : HasCleanDisk new → OnOk r (OnlyTouches (table.tree ∷ []) old.now new.now)
     pub faults : FaultsHaveCause old new r

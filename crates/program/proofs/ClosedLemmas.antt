@@ -8,7 +8,9 @@ use Rattle.sqlite_trees.proofs.Doubt.{no_doubt}
 use Rattle.sqlite_trees.specs.View.{IsClean}
 use Rattle.sqlite_wal.proofs.LogLemmas.{SeenMayStay}
 use Rattle.sqlite_wal.specs.Reads.{AreClean}
-use Rattle.program.proofs.Common.{ACheckChangesNothing, AreAsFound, AreInTheFile, Database, FileStore, Files, FindsIn, Ghosts, HasCleanDisk, HasLeft, HaveCleanDisk, Held, Hold, Image, IsClosed, Opens, Survives, both_ways, cases_Bool, early, file_state}
+use Rattle.program.proofs.Common.{ACheckChangesNothing, AreAsFound, AreInTheFile, Database, FileStore, Files, FindsIn}
+use Rattle.program.proofs.Common.{Ghosts, HasCleanDisk, HasLeft, HaveCleanDisk, Held, Hold, Image, IsClosed, Opens}
+use Rattle.program.proofs.Common.{Survives, both_ways, cases_Bool, early, file_state}
 use Rattle.program.proofs.StoreLemmas.{held_in}
 
 module _ {D : Type 0} {g : Ghosts D} (conn : Held (FileStore D g)) (files : Files D)

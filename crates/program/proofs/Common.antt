@@ -17,25 +17,37 @@ pub use Rattle.sqlite_disk.specs.declared.Disk.{Ghosts}
 pub use Rattle.sqlite_disk.specs.declared.Files.{Files}
 pub use Rattle.sqlite_store.specs.declared.store.FileStore.{FileStore}
 pub use Rattle.clap.specs.Walk.{Row, Text, rows_of}
-pub use Rattle.http_desk.specs.Exchanges.{Keeps, Through}
-pub use Rattle.http_desk.specs.Streams.{Stream, one_more_call}
+pub use Rattle.office_tables.proofs.Calls.{early}
+pub use Rattle.office_tables.specs.Versions.{Second, Version}
 pub use Rattle.nested_sets.specs.Representation.{RepresentsSpanRows}
-pub use Rattle.office.specs.IdleOffice.{IsAtRest, IsIn, is_clean, is_shown, is_still_open}
-pub use Rattle.office.specs.InitialSettings.{AreTaken, Founding, IsTaken, founded}
-pub use Rattle.office.specs.declared.faults.OpenFault.{OpenFault}
 pub use Rattle.office_core.specs.Rules.{state_after, step}
 pub use Rattle.office_core.specs.SoundOffice.{IsSoundOffice}
 pub use Rattle.office_core.specs.declared.command.Command.{Command}
-pub use Rattle.office_tables.proofs.Calls.{early}
-pub use Rattle.office_tables.specs.Versions.{Second, Version}
-pub use Rattle.program.specs.ClosedFiles.{ACheckChangesNothing, AreAsFound, AreInTheFile, HasLeft, HaveCleanDisk, Hold, HoldState, LeaveOnly, WasJudgedAsFound}
-pub use Rattle.program.specs.CommandEffects.{Channels, CheckDone, CheckFails, ComplaintFails, Does, EndsWell, Fails, FailsWith, ImportDone, ImportFails, InitFails, IsDone, IsPerformed, JudgmentFails, JudgmentPrinted, LineFails, ListeningFails, Listens, MigrateFails, NotOpened, OnlyPrints, PreviewFails, Reads, ReadsPart, ReplyFails, ReplyPrinted, ServeDone, ServeFails, TalkDone, TalkFails, Talked, Tells, TrialDone, TrialFails, channels, complaint_of, ended_by, line_feed, preview_result}
-pub use Rattle.program.specs.Connections.{AreSessions, Connection, History, IsHeard, SessionsLeaveOpen, StaysFoundOrAny, WereBusyWith, after_failing, after_listening, after_one}
+pub use Rattle.http_desk.specs.Exchanges.{Keeps, Through}
+pub use Rattle.http_desk.specs.Streams.{Stream, one_more_call}
+pub use Rattle.refinement.specs.Representation.{RepresentsState}
+pub use Rattle.office.specs.IdleOffice.{IsAtRest, IsIn, has_clean_disk, is_shown, is_still_open}
+pub use Rattle.office.specs.InitialSettings.{AreTaken, Founding, IsTaken, founded, settings_fault}
+pub use Rattle.office.specs.declared.faults.OpenFault.{OpenFault}
+pub use Rattle.program.specs.ClosedFiles.{ACheckChangesNothing, AreAsFound, AreInTheFile, HasLeft, HaveCleanDisk, Hold}
+pub use Rattle.program.specs.ClosedFiles.{HoldState, LeaveOnly, WasJudgedAsFound}
+pub use Rattle.program.specs.CommandEffects.{Channels, CheckDone, CheckFails, ComplaintFails, Does, EndsWell, Fails}
+pub use Rattle.program.specs.CommandEffects.{FailsWith, ImportDone, ImportFails, InitFails, IsDone, IsPerformed}
+pub use Rattle.program.specs.CommandEffects.{JudgmentFails, JudgmentPrinted, LineFails, ListeningFails, Listens}
+pub use Rattle.program.specs.CommandEffects.{MigrateFails, NotOpened, OnlyPrints, PreviewFails, ReadsInput, ReadsPart}
+pub use Rattle.program.specs.CommandEffects.{ReplyFails, ReplyPrinted, ServeDone, ServeFails, TalkDone, TalkFails}
+pub use Rattle.program.specs.CommandEffects.{Talked, Tells, TrialDone, TrialFails, channels, complaint_of, ended_by}
+pub use Rattle.program.specs.CommandEffects.{line_feed, preview_result}
+pub use Rattle.program.specs.Connections.{AreSessions, Connection, History, IsHeard, SessionsLeaveOpen, StaysFoundOrAny}
+pub use Rattle.program.specs.Connections.{WereBusyWith, after_failing, after_listening, after_one}
 pub use Rattle.program.specs.KeptOffices.{AreTablesAfter, AreTablesOf, IsAmong, IsRecovered, KeepsCommits}
 pub use Rattle.program.specs.OpenedFiles.{AreHeld, HoldsOffice, IsFound, IsInTheStateThatWasLeft}
-pub use Rattle.program.specs.Stores.{HasNoOffice, HasServed, HasTakenIn, IsBroughtOver, IsMade, IsNotBroughtOver, IsNotMade, IsOpened, IsTalkedWith, WasBusy, WhatWasBroughtOverIsHeld, WhatWasMadeIsHeld, WhatWasNotMadeIsLeft, WhatWasSaidIsHeld, WhatWasServedIsHeld, WhatWasTakenInIsHeld}
+pub use Rattle.program.specs.Stores.{HasNoOffice, HasServed, HasTakenIn, IsBroughtOver, IsMade, IsNotBroughtOver}
+pub use Rattle.program.specs.Stores.{IsNotMade, IsOpened, IsTalkedWith, WasBusy, WhatWasBroughtOverIsHeld}
+pub use Rattle.program.specs.Stores.{WhatWasMadeIsHeld, WhatWasNotMadeIsLeft, WhatWasSaidIsHeld, WhatWasServedIsHeld}
+pub use Rattle.program.specs.Stores.{WhatWasTakenInIsHeld}
 pub use Rattle.program.specs.Streams.{AgreesWithCalls, HaveMade, Prints, PrintsPart}
 pub use Rattle.program.specs.Tasks.{AreGiven, AreRefused, AreRefusedFor, IsTaskOf, IsWords, fault_of_settings}
 pub use Rattle.program.specs.declared.faults.Fault.{Fault}
-pub use Rattle.program.specs.declared.faults.Fault.TheVariants.{Date, File, Memory, Net, NotSound, Refused, Session, Settings, Words}
-pub use Rattle.refinement.specs.Representation.{RepresentsState}
+pub use Rattle.program.specs.declared.faults.Fault.TheVariants.{Date, File, Memory, Net, NotSound, Refused, Session}
+pub use Rattle.program.specs.declared.faults.Fault.TheVariants.{Settings, Words}

@@ -1,13 +1,18 @@
 -- What a failure of the disk leaves of an office in a file, call after call.
-use Rattle.std.proofs.Common.{◌≡◌, ◌∙◌, ◌++◌, List, [], ◌∷◌, Result, Ok, Err, OnErr, IsTrue, false, ap, inl, inr, refl, subst, sym}
+use Rattle.std.proofs.Common.{◌≡◌, ◌∙◌, ◌++◌, List, [], ◌∷◌, Result, Ok, Err, OnErr, IsTrue, false, ap, inl, inr, refl}
+use Rattle.std.proofs.Common.{subst, sym}
 use Rattle.std.specs.Prelude.{IfOk}
 use Rattle.sqlite_trees.specs.declared.store.Store as trees
 use Rattle.office_core.specs.Rules as rules
 use Rattle.office_core.specs.State.{State}
 use Rattle.office_core.specs.declared.machine.Reply.{Reply}
-use Rattle.office.specs.OfficeCall.{MayFind, TakesStep}
 use Rattle.office.proofs.Applied.{refused_same}
-use Rattle.program.proofs.Common.{AllByRecursion, AreTablesAfter, AreTablesOf, Command, Database, FileStore, Files, Ghosts, HasCleanDisk, HasLeft, HaveCleanDisk, Held, IsAmong, IsAtRest, IsErr, IsIn, IsOk, IsRecovered, IsSoundOffice, KeepsCommits, LeaveOnly, RepresentsSpanRows, Second, Survives, Trees, both_ways, cases_Bool, early, file_state, is_shown, over_files, state, step}
+use Rattle.office.specs.OfficeCall.{MayFind, TakesStep}
+use Rattle.program.proofs.Common.{AllByRecursion, AreTablesAfter, AreTablesOf, Command, Database, FileStore, Files}
+use Rattle.program.proofs.Common.{Ghosts, HasCleanDisk, HasLeft, HaveCleanDisk, Held, IsAmong, IsAtRest, IsErr, IsIn}
+use Rattle.program.proofs.Common.{IsOk, IsRecovered, IsSoundOffice, KeepsCommits, LeaveOnly, RepresentsSpanRows, Second}
+use Rattle.program.proofs.Common.{Survives, Trees, both_ways, cases_Bool, early, file_state, is_shown, over_files}
+use Rattle.program.proofs.Common.{state, step}
 use Rattle.program.proofs.HeadlineLemmas.{shows}
 
 -- of an office that is open, a crash finds what was committed last

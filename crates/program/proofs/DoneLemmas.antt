@@ -1,7 +1,9 @@
 -- What the files hold once a command is done.
 use Rattle.std.proofs.Common.{IsTrue, [], ◌∷◌, inl, inr, refl}
 use Rattle.http_desk.specs.BusyMessages.{WasBusyWith}
-use Rattle.program.proofs.Common.{AreTablesAfter, Ghosts, HoldState, Image, WereBusyWith, WhatWasBroughtOverIsHeld, WhatWasMadeIsHeld, WhatWasNotMadeIsLeft, WhatWasSaidIsHeld, WhatWasServedIsHeld, WhatWasTakenInIsHeld, early, file_state}
+use Rattle.program.proofs.Common.{AreTablesAfter, Ghosts, HoldState, Image, WereBusyWith, WhatWasBroughtOverIsHeld}
+use Rattle.program.proofs.Common.{WhatWasMadeIsHeld, WhatWasNotMadeIsLeft, WhatWasSaidIsHeld, WhatWasServedIsHeld}
+use Rattle.program.proofs.Common.{WhatWasTakenInIsHeld, early, file_state}
 use Rattle.program.proofs.CrashLemmas.{found_such, left_only, open_so}
 use Rattle.program.proofs.HeadlineLemmas.{held_so}
 

@@ -1,13 +1,15 @@
 -- The headline over nested sets.
 use Rattle.std.proofs.Common.{IsTrue, List, [], ◌∷◌, inl, inr, subst, sym}
-use Rattle.sqlite.specs.Steps.{over_memory}
 use Rattle.sqlite.proofs.Callers.{memory_is_clean}
+use Rattle.sqlite.specs.Steps.{over_memory}
+use Rattle.office_tables.specs.Schema.{schema}
+use Rattle.office_core.specs.State.{State}
 use Rattle.http_desk.proofs.OneRun as law
 use Rattle.http_desk.specs.Runs.{AreVisits, Visit}
-use Rattle.office_core.specs.State.{State}
-use Rattle.office_tables.specs.Schema.{schema}
 use Rattle.program.specs.Headline.{TheHeadlineInAFile, TheHeadlineInMemory, TheHeadlineOfATrial}
-use Rattle.program.proofs.Common.{Database, FileStore, Files, Ghosts, HasCleanDisk, HasLeft, HaveCleanDisk, Held, HoldState, Image, RepresentsSpanRows, RepresentsState, Second, file_state, is_clean, is_shown, is_still_open, over_files}
+use Rattle.program.proofs.Common.{Database, FileStore, Files, Ghosts, HasCleanDisk, HasLeft, HaveCleanDisk, Held}
+use Rattle.program.proofs.Common.{HoldState, Image, RepresentsSpanRows, RepresentsState, Second, file_state}
+use Rattle.program.proofs.Common.{has_clean_disk, is_shown, is_still_open, over_files}
 
 -- a disk that has returned what was written to the last visit did so before the first
 all_intact : {M : Type 0} (represents : M → State → Type 0) (is_intact is_open : M → Type 0) (visits : List Visit) (old new : M)
@@ -20,14 +22,14 @@ all_intact represents is_intact is_open (visit ∷ later) old new (mid, first, r
 pub in_memory : TheHeadlineInMemory
 in_memory founding visits old new shown are days =
     let (t, after, run, all) =
-    law.the_headline (is_shown over_memory RepresentsSpanRows Second) (is_clean over_memory) (is_still_open over_memory) visits old new are days (memory_is_clean new) _ shown shown.0.sound in
+    law.the_headline (is_shown over_memory RepresentsSpanRows Second) (has_clean_disk over_memory) (is_still_open over_memory) visits old new are days (memory_is_clean new) _ shown shown.0.sound in
     (t, after, run)
 
 pub of_a_trial : {D : Type 0} (g : Ghosts D) → ((office : Held (FileStore D g)) → HasCleanDisk (file_state office))
     → TheHeadlineOfATrial g
 of_a_trial g clean founding visits old new shown are days =
     let (t, after, run, all) =
-    law.the_headline (is_shown (over_files {g = g}) RepresentsSpanRows Second) (is_clean (over_files {g = g})) (is_still_open (over_files {g = g})) visits old new are days (clean new) _ shown shown.0.sound in
+    law.the_headline (is_shown (over_files {g = g}) RepresentsSpanRows Second) (has_clean_disk (over_files {g = g})) (is_still_open (over_files {g = g})) visits old new are days (clean new) _ shown shown.0.sound in
     (t, after, run, (all.0, λ leaves. after.1 (all.1 leaves)))
 
 -- the tables that show a state are of our schema
@@ -47,7 +49,7 @@ module _ {D : Type 0} (g : Ghosts D) (image : Image) where
   in_a_file s visits old new files found holds sound are days left honest =
       let clean = left.clean honest in
       let shown = is_shown (over_files {g = g}) RepresentsSpanRows Second in
-      let intact = is_clean (over_files {g = g}) in
+      let intact = has_clean_disk (over_files {g = g}) in
       let stays = is_still_open (over_files {g = g}) in
       let first = (found (all_intact shown intact stays visits old new are clean)).left s holds in
       let (t, after, run, all) =

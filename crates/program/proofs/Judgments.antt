@@ -1,11 +1,13 @@
 -- What a check prints, and what is left of a line that is not printed whole.
-use Rattle.std.proofs.Common.{◌≡◌, ◌∙◌, ◌++◌, ℕ, List, Option, Some, Result, Ok, Err, IfErr, ap, codes, refl, subst, sym}
+use Rattle.std.proofs.Common.{◌≡◌, ◌∙◌, ◌++◌, ℕ, List, Option, Some, Result, Ok, Err, IfErr, ap, codes, refl, subst}
+use Rattle.std.proofs.Common.{sym}
 use Rattle.std.specs.Fmt.{decimal}
-use Rattle.office.specs.declared.faults.OpenFault.TheVariants as opening
 use Rattle.office_core.specs.Json.{reply_text}
 use Rattle.office_core.specs.Rules.{Reply}
 use Rattle.office_core.specs.declared.done.Done.{Done}
-use Rattle.program.proofs.Common.{Fault, File, History, IsErrAnd, JudgmentFails, ListeningFails, Memory, NotSound, OpenFault, Prints, PrintsPart, ReplyFails, Stream, after_listening, line_feed}
+use Rattle.office.specs.declared.faults.OpenFault.TheVariants as opening
+use Rattle.program.proofs.Common.{Fault, File, History, IsErrAnd, JudgmentFails, ListeningFails, Memory, NotSound}
+use Rattle.program.proofs.Common.{OpenFault, Prints, PrintsPart, ReplyFails, Stream, after_listening, line_feed}
 
 -- there was no memory for the line
 pub no_line : {X : Type 0} (judged : Option OpenFault) (why : OpenFault) (cause : ℕ) (out : Stream) (r : Result X Fault)

@@ -1,10 +1,11 @@
 -- What a file held when it was opened, and the office that was found there.
 use Rattle.std.proofs.Common.{◌≡◌, IsTrue, subst, subst₂, sym}
 use Rattle.sqlite.specs.State as store
+use Rattle.office_core.specs.State.{State}
 use Rattle.adoption.specs.Verdicts.{IsVerdict}
 use Rattle.adoption.specs.declared.verdict.Verdict.TheVariants as verdict
-use Rattle.office_core.specs.State.{State}
-use Rattle.program.proofs.Common.{AreHeld, Database, HoldsOffice, Image, IsIn, IsInTheStateThatWasLeft, RepresentsSpanRows, RepresentsState, Second}
+use Rattle.program.proofs.Common.{AreHeld, Database, HoldsOffice, Image, IsIn, IsInTheStateThatWasLeft}
+use Rattle.program.proofs.Common.{RepresentsSpanRows, RepresentsState, Second}
 
 -- a file holds one database at most
 pub left_so : (image : Image) (s : State) (found : Database) → IsInTheStateThatWasLeft image s found

@@ -1,7 +1,8 @@
 -- What a command needs, by its name; and the values that are refused.
 use Rattle.std.proofs.Common.{◌≡◌, List, codes, subst, sym}
 use Rattle.std.specs.Str.{bytes_eq}
-use Rattle.command_line.specs.OptionValues.{HasImport, HasNeeds, HasServer, HasSettings, HasText, Previews, Begins, Tries, Imports, Talks, Serves, Checks, Migrates}
+use Rattle.command_line.specs.OptionValues.{HasImport, HasNeeds, HasServer, HasSettings, HasText, Previews, Begins}
+use Rattle.command_line.specs.OptionValues.{Tries, Imports, Talks, Serves, Checks, Migrates}
 use Rattle.program.proofs.Common.{MatchBool, Row, Text}
 
 abbrev pub NeedsOf : Text → List Row → Type 0

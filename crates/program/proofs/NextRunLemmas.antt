@@ -4,13 +4,17 @@ use Rattle.std.proofs.Math.Logic.{∥∥₁_elim}
 use Rattle.sqlite.specs.Closing.{HoldsAlone, IsCopied}
 use Rattle.sqlite.specs.State as store
 use Rattle.sqlite_trees.specs.Props.{Trees-set}
-use Rattle.office.proofs.NewOffices.{founded_sound}
 use Rattle.office_core.proofs.Texts.{always_sound_office}
 use Rattle.office_core.specs.State.{State}
 use Rattle.office_core.specs.declared.command.Command.TheVariants.{Import}
 use Rattle.http_desk.proofs.Meanings.{runs_the_machine}
-use Rattle.program.specs.NextRuns.{BeginsAsBroughtOver, BeginsAsFound, BeginsAsMade, ConnectionsBring, FailsToMigrate, GoesOn, IsAfter, IsBusy, IsFoundNext, Judges, Run, RunBrings, Serves, TakesIn, Talks, closed_by}
-use Rattle.program.proofs.Common.{AreHeld, AreSessions, Command, Connection, Database, FileStore, Files, Ghosts, HasLeft, Held, HoldsDatabase, Image, IsFound, IsIn, IsSoundOffice, RepresentsSpanRows, RepresentsState, Second, Trees, early, file_state, state_after, step}
+use Rattle.office.proofs.NewOffices.{founded_sound}
+use Rattle.program.specs.NextRuns.{BeginsAsBroughtOver, BeginsAsFound, BeginsAsMade, ConnectionsBring, FailsToMigrate}
+use Rattle.program.specs.NextRuns.{RunGoesOn, IsAfter, IsBusy, IsFoundNext, Judges, ProgramRun, RunBrings, Serves}
+use Rattle.program.specs.NextRuns.{TakesIn, Talks, closed_by}
+use Rattle.program.proofs.Common.{AreHeld, AreSessions, Command, Connection, Database, FileStore, Files, Ghosts}
+use Rattle.program.proofs.Common.{HasLeft, Held, HoldsDatabase, Image, IsFound, IsIn, IsSoundOffice, RepresentsSpanRows}
+use Rattle.program.proofs.Common.{RepresentsState, Second, Trees, early, file_state, state_after, step}
 use Rattle.program.proofs.HeadlineLemmas.{shows}
 
 -- more commands after some are all of them
@@ -72,7 +76,7 @@ bring_all s t (it ∷ earlier) (mid, before, session) =
 
 module _ {D : Type 0} (g : Ghosts D) (image : Image) where
   -- a run from the state in which it finds the office
-  goes : (files : Files D) (next : Image) (s : State) → IsAfter image s [] → (run : Run g image files)
+  goes : (files : Files D) (next : Image) (s : State) → IsAfter image s [] → (run : ProgramRun g image files)
       → IsCopied (closed_by run) files → IsFoundNext g files next
       → (more : List Command) × (t : State) × RunBrings s run more t × (t ≡ state_after s more) × IsAfter next t []
   goes files next s was (TakesIn source reply it) copied found =
@@ -108,7 +112,7 @@ module _ {D : Type 0} (g : Ghosts D) (image : Image) where
       let before = early (file_state it.found) (file_state it.after) _ it.crash clean in
       ([], s, (refl, refl), refl, stays_next it.after files next it.closed copied found image s (file_state it.found).now (it.is_store before).0 ((it.back clean).now copied.was_open) was)
 
-  pub goes_on : GoesOn g image
+  pub goes_on : RunGoesOn g image
   goes_on start commands was files run copied next found =
       let here : IsAfter image (state_after start commands) [] =
       record { tables = was.tables; holds = was.holds; represents = was.represents; sound = was.sound } in

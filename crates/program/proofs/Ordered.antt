@@ -1,8 +1,8 @@
 -- The rows of each table stand in order: a store that was opened keeps each tree by the shape that its own list says.
 use Rattle.std.proofs.Common.{ℕ, true, List, [], ◌∷◌, subst, sym, inl, inr}
 use Rattle.std.proofs.Math.Logic.{∥∥₁_elim}
-use Rattle.sqlite.specs.State.{State}
 use Rattle.sqlite.specs.Schema.{Schema}
+use Rattle.sqlite.specs.State.{State}
 use Rattle.sqlite.specs.Table.{Table}
 use Rattle.sqlite_catalog.proofs.LayoutLemmas.{table_shape}
 use Rattle.sqlite_catalog.specs.Listing.{Lists, IsTableRow}

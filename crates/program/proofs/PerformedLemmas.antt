@@ -1,16 +1,18 @@
 -- Lemmas on what a command did with its streams.
-use Rattle.std.proofs.Common.{◌≡◌, ◌∙◌, List, Result, Ok, Err, Option, Some, None, false, inl, inr, ℕ, IfErr, OnOk, refl, subst, sym}
+use Rattle.std.proofs.Common.{◌≡◌, ◌∙◌, List, Result, Ok, Err, Option, Some, None, false, inl, inr, ℕ, IfErr, OnOk}
+use Rattle.std.proofs.Common.{refl, subst, sym}
 use Rattle.clap.specs.Simple.{subcommand_of}
 use Rattle.clap.specs.Takes.{takes}
+use Rattle.atom_csv.specs.ReadProgress.{IsBad}
 use Rattle.atom_csv.specs.declared.file.FileFault as csv
 use Rattle.atom_csv.specs.declared.file.FileFault.TheVariants as files
-use Rattle.atom_csv.specs.ReadProgress.{IsBad}
 use Rattle.office_core.specs.Rules.{Reply}
-use Rattle.command_line.specs.CommandLine.{program}
 use Rattle.office.specs.declared.faults.OpenFault.TheVariants as opening
-use Rattle.program.specs.Faults.{RefusesFile, fault_of_file, fault_of_opening, fault_of_reading, fault_of_words, message_of, status_of}
+use Rattle.command_line.specs.CommandLine.{program}
 use Rattle.program.specs.CommandEffects.{IsBusy}
 use Rattle.program.specs.FailedOpenings.{reason_of}
+use Rattle.program.specs.Faults.{RefusesFile, fault_of_file, fault_of_opening, fault_of_reading, fault_of_words}
+use Rattle.program.specs.Faults.{message_of, exit_status}
 use Rattle.program.specs.Outcomes.{IsClosedAnd, IsUnopened}
 use Rattle.program.specs.declared.files.FileFault.{FileFault}
 use Rattle.program.specs.declared.files.FileFault.TheVariants as file
@@ -19,15 +21,20 @@ use Rattle.program.specs.declared.files.StoreOutcome.TheVariants.{Untouched, Uno
 use Rattle.program.specs.declared.streams.ReadFault.{ReadFault}
 use Rattle.program.specs.declared.streams.ReadFault.TheVariants as reads
 use Rattle.program.specs.declared.tasks.Task.{Task}
+use Rattle.program.specs.declared.tasks.Task.TheVariants.{Preview, Init, Trial, Import, Talk, Serve, Check, Migrate}
 use Rattle.program.specs.declared.tasks.TaskFault.{TaskFault}
 use Rattle.program.specs.declared.tasks.TaskFault.TheVariants as tasks
-use Rattle.program.specs.declared.tasks.Task.TheVariants.{Preview, Init, Trial, Import, Talk, Serve, Check, Migrate}
-use Rattle.program.proofs.Common.{AreRefusedFor, Channels, ComplaintFails, Date, Fails, FailsWith, Fault, File, Founding, Ghosts, HasNoOffice, History, Image, ImportFails, InitFails, IsDone, IsErrAnd, IsNotBroughtOver, IsNotMade, IsPerformed, IsTaskOf, IsWords, JudgmentFails, LineFails, ListeningFails, Memory, MigrateFails, NotOpened, OpenFault, PreviewFails, PrintsPart, Reads, ReadsPart, Refused, ReplyFails, ServeFails, Settings, Stream, TalkFails, Tells, Text, TrialFails, Words, complaint_of, preview_result}
+use Rattle.program.proofs.Common.{AreRefusedFor, Channels, ComplaintFails, Date, Fails, FailsWith, Fault, File}
+use Rattle.program.proofs.Common.{Founding, Ghosts, HasNoOffice, History, Image, ImportFails, InitFails, IsDone}
+use Rattle.program.proofs.Common.{IsErrAnd, IsNotBroughtOver, IsNotMade, IsPerformed, IsTaskOf, IsWords, JudgmentFails}
+use Rattle.program.proofs.Common.{LineFails, ListeningFails, Memory, MigrateFails, NotOpened, OpenFault, PreviewFails}
+use Rattle.program.proofs.Common.{PrintsPart, ReadsInput, ReadsPart, Refused, ReplyFails, ServeFails, Settings, Stream}
+use Rattle.program.proofs.Common.{TalkFails, Tells, Text, TrialFails, Words, complaint_of, preview_result}
 
 -- a preview that was broken off while it printed
 pub broken_off : {X : Type 0} (country repo : Text) (path : Option Text) (reader reader_after out out_after : Stream) (r : Result X Fault)
     → IsErrAnd r (λ fault. fault ≡ File)
-    → ((file aids : List ℕ) × Reads path reader reader_after file × (preview_result country repo file ≡ Ok aids) × PrintsPart aids out out_after)
+    → ((file aids : List ℕ) × ReadsInput path reader reader_after file × (preview_result country repo file ≡ Ok aids) × PrintsPart aids out out_after)
     → IfErr r (PreviewFails country repo path reader reader_after out out_after)
 broken_off country repo path reader reader_after out out_after (Ok x) is why = tt
 broken_off country repo path reader reader_after out out_after (Err fault) is why =
@@ -35,7 +42,7 @@ broken_off country repo path reader reader_after out out_after (Err fault) is wh
 
 -- a file that gives no finding aids ends a preview, and nothing was printed
 pub refused_fails : (country repo : Text) (path : Option Text) (reader reader_after out : Stream) (file : List ℕ) (why : csv.FileFault) (fault : Fault)
-    → RefusesFile why fault → Reads path reader reader_after file
+    → RefusesFile why fault → ReadsInput path reader reader_after file
     → IsBad why (λ row cause. preview_result country repo file ≡ Err (row, cause)) → ReadsPart path reader reader_after
     → PreviewFails country repo path reader reader_after out out fault
 refused_fails country repo path reader reader_after out file (files.Bad row cause) (Refused line) told read refused part =
@@ -241,7 +248,7 @@ module _ {S D : Type 0} (g : Ghosts D) (image : Image) where
 
   -- a command that ended with a fault, whose message was told
   pub performs_fault : (words : List Text) (before after : Channels) (err err_told err_after : Stream) (outcome : StoreOutcome S D g) (status code : ℕ) (r : Result (Unit {0}) Fault) (fault : Fault)
-      → r ≡ Err fault → IfErr r (Fails g image words before after outcome) → status ≡ code → code ≡ status_of fault
+      → r ≡ Err fault → IfErr r (Fails g image words before after outcome) → status ≡ code → code ≡ exit_status fault
       → Tells err err_told (message_of fault) → err_after ≡ err_told
       → IsPerformed g image words before after err err_after outcome status
   performs_fault words before after err err_told err_after outcome status code r fault is why same_status is_code told same =

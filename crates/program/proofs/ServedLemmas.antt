@@ -1,10 +1,12 @@
 -- Connections that were served, one after the other.
-use Rattle.std.proofs.Common.{◌≡◌, ◌∙◌, ◌||◌, ◌⊎◌, ◌+◌, ◌≤◌, ◌++◌, ℕ, Bool, true, false, inl, inr, List, [], ◌∷◌, Option, ap, refl, sym, subst, arith}
+use Rattle.std.proofs.Common.{◌≡◌, ◌∙◌, ◌||◌, ◌⊎◌, ◌+◌, ◌≤◌, ◌++◌, ℕ, Bool, true, false, inl, inr, List, [], ◌∷◌}
+use Rattle.std.proofs.Common.{Option, ap, refl, sym, subst, arith}
 use Rattle.office_core.specs.State.{State}
-use Rattle.http_desk.specs.BusyMessages.{WasBusyWith}
 use Rattle.http_desk.proofs.Openings.{session_open}
+use Rattle.http_desk.specs.BusyMessages.{WasBusyWith}
 use Rattle.program.specs.Connections.{Serves}
-use Rattle.program.proofs.Common.{AllByRecursion, AreSessions, Command, Connection, History, IsHeard, Keeps, SessionsLeaveOpen, StaysFoundOrAny, Through, WereBusyWith, after_failing, after_one}
+use Rattle.program.proofs.Common.{AllByRecursion, AreSessions, Command, Connection, History, IsHeard, Keeps}
+use Rattle.program.proofs.Common.{SessionsLeaveOpen, StaysFoundOrAny, Through, WereBusyWith, after_failing, after_one}
 
 -- what has not failed before has failed where this call did
 pub failed_so : (new fault old : Bool) → new ≡ (fault || old) → old ≡ false → new ≡ fault

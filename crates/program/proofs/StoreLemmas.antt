@@ -1,18 +1,26 @@
 -- What a command did with an office in a store, from what the calls on the office tell.
-use Rattle.std.proofs.Common.{◌≡◌, ℕ, Bool, true, false, Option, Some, None, Result, Ok, Err, IfErr, OnOk, inl, inr, refl, subst, sym, ◌⊎◌}
+use Rattle.std.proofs.Common.{◌≡◌, ℕ, Bool, true, false, Option, Some, None, Result, Ok, Err, IfErr, OnOk, inl, inr}
+use Rattle.std.proofs.Common.{refl, subst, sym, ◌⊎◌}
 use Rattle.sqlite.specs.State as store
 use Rattle.isad_core.specs.Texts.{Bytes}
 use Rattle.office_core.specs.Rules.{Reply}
 use Rattle.http_desk.specs.Exchanges.{Talks}
 use Rattle.http_desk.specs.declared.session_end.Ended.{Ended}
-use Rattle.program.specs.Outcomes.{IsClosedAnd}
 use Rattle.program.specs.Connections.{Serves}
+use Rattle.program.specs.Outcomes.{IsClosedAnd}
 use Rattle.program.specs.declared.faults.Break.{Break}
 use Rattle.program.specs.declared.files.StoreOutcome.{StoreOutcome}
 use Rattle.program.specs.declared.files.StoreOutcome.TheVariants.{Closed}
 use Rattle.program.specs.declared.tasks.Task.{Task}
 use Rattle.program.specs.declared.tasks.Task.TheVariants.{Import, Init, Migrate}
-use Rattle.program.proofs.Common.{AgreesWithCalls, AreHeld, Channels, CheckDone, CheckFails, Database, Does, EndsWell, FailsWith, Fault, FileStore, Files, FindsIn, Founding, Ghosts, HasCleanDisk, HasLeft, HasServed, HasTakenIn, Held, History, Image, ImportDone, ImportFails, InitFails, IsErrAnd, IsMade, IsOpened, IsRecovered, IsTalkedWith, JudgmentFails, JudgmentPrinted, ListeningFails, Listens, MigrateFails, Net, OnlyPrints, OpenFault, Opens, ReplyFails, ReplyPrinted, RepresentsSpanRows, Second, ServeDone, ServeFails, Session, Stream, TalkDone, TalkFails, WasJudgedAsFound, after_listening, ended_by, file_state, is_clean, is_shown, is_still_open, over_files}
+use Rattle.program.proofs.Common.{AgreesWithCalls, AreHeld, Channels, CheckDone, CheckFails, Database, Does, EndsWell}
+use Rattle.program.proofs.Common.{FailsWith, Fault, FileStore, Files, FindsIn, Founding, Ghosts, HasCleanDisk, HasLeft}
+use Rattle.program.proofs.Common.{HasServed, HasTakenIn, Held, History, Image, ImportDone, ImportFails, InitFails}
+use Rattle.program.proofs.Common.{IsErrAnd, IsMade, IsOpened, IsRecovered, IsTalkedWith, JudgmentFails, JudgmentPrinted}
+use Rattle.program.proofs.Common.{ListeningFails, Listens, MigrateFails, Net, OnlyPrints, OpenFault, Opens, ReplyFails}
+use Rattle.program.proofs.Common.{ReplyPrinted, RepresentsSpanRows, Second, ServeDone, ServeFails, Session, Stream}
+use Rattle.program.proofs.Common.{TalkDone, TalkFails, WasJudgedAsFound, after_listening, ended_by, file_state}
+use Rattle.program.proofs.Common.{has_clean_disk, is_shown, is_still_open, over_files}
 
 -- the tables of a store as it was found are those of its image
 pub held_in : (image : Image) (at : store.State) → Opens at → FindsIn image at → AreHeld image at.now.trees
@@ -48,7 +56,7 @@ module _ {S D : Type 0} (g : Ghosts D) (image : Image) where
     module _ (reader reader_after out out_after : Stream) (office after : Held (FileStore D g)) (opened : IsOpened g image office)
         (intact : HasCleanDisk (file_state after) → HasCleanDisk (file_state office)) (left_so : HasLeft after files) where
       talked_with : (end : Ended) → AgreesWithCalls reader reader_after out out_after end
-          → Talks (is_shown (over_files {g = g}) RepresentsSpanRows Second) (is_clean (over_files {g = g})) (is_still_open (over_files {g = g})) (IsRecovered (over_files {g = g})) reader.bytes reader_after.bytes out.bytes out_after.bytes office end after
+          → Talks (is_shown (over_files {g = g}) RepresentsSpanRows Second) (has_clean_disk (over_files {g = g})) (is_still_open (over_files {g = g})) (IsRecovered (over_files {g = g})) reader.bytes reader_after.bytes out.bytes out_after.bytes office end after
           → IsTalkedWith g image reader reader_after out out_after end files
       talked_with end agrees (read, written, gone, told, through) =
           let it : IsTalkedWith g image reader reader_after out out_after end files = record {
@@ -67,13 +75,13 @@ module _ {S D : Type 0} (g : Ghosts D) (image : Image) where
           it
 
       pub talk_done : (r : Result (Unit {0}) Fault)
-          → OnOk r ((end : Ended) × EndsWell end × AgreesWithCalls reader reader_after out out_after end × Talks (is_shown (over_files {g = g}) RepresentsSpanRows Second) (is_clean (over_files {g = g})) (is_still_open (over_files {g = g})) (IsRecovered (over_files {g = g})) reader.bytes reader_after.bytes out.bytes out_after.bytes office end after)
+          → OnOk r ((end : Ended) × EndsWell end × AgreesWithCalls reader reader_after out out_after end × Talks (is_shown (over_files {g = g}) RepresentsSpanRows Second) (has_clean_disk (over_files {g = g})) (is_still_open (over_files {g = g})) (IsRecovered (over_files {g = g})) reader.bytes reader_after.bytes out.bytes out_after.bytes office end after)
           → OnOk r (TalkDone g image reader reader_after out out_after closed)
       talk_done (Ok u) (end, well, agrees, talks) = (end, well, talked_with end agrees talks)
       talk_done (Err f) done = tt
 
       pub talk_broken : (r : Result (Unit {0}) Fault)
-          → IfErr r (λ f. (broken : Break) × (f ≡ Session broken) × AgreesWithCalls reader reader_after out out_after (ended_by broken) × Talks (is_shown (over_files {g = g}) RepresentsSpanRows Second) (is_clean (over_files {g = g})) (is_still_open (over_files {g = g})) (IsRecovered (over_files {g = g})) reader.bytes reader_after.bytes out.bytes out_after.bytes office (ended_by broken) after)
+          → IfErr r (λ f. (broken : Break) × (f ≡ Session broken) × AgreesWithCalls reader reader_after out out_after (ended_by broken) × Talks (is_shown (over_files {g = g}) RepresentsSpanRows Second) (has_clean_disk (over_files {g = g})) (is_still_open (over_files {g = g})) (IsRecovered (over_files {g = g})) reader.bytes reader_after.bytes out.bytes out_after.bytes office (ended_by broken) after)
           → IfErr r (TalkFails g image reader reader_after out out_after closed)
       talk_broken (Ok u) why = tt
       talk_broken (Err f) (broken, is_so, agrees, talks) =
@@ -93,7 +101,7 @@ module _ {S D : Type 0} (g : Ghosts D) (image : Image) where
     module _ (out out_after : Stream) (number connections : ℕ) (told told_after : Option History) (office after : Held (FileStore D g)) (opened : IsOpened g image office)
         (intact : HasCleanDisk (file_state after) → HasCleanDisk (file_state office)) (left_so : HasLeft after files) where
       served : (most : ℕ) (first last : Option History) (all : Bool)
-          → Serves (is_shown (over_files {g = g}) RepresentsSpanRows Second) (is_clean (over_files {g = g})) (is_still_open (over_files {g = g})) (IsRecovered (over_files {g = g})) most first last office after all
+          → Serves (is_shown (over_files {g = g}) RepresentsSpanRows Second) (has_clean_disk (over_files {g = g})) (is_still_open (over_files {g = g})) (IsRecovered (over_files {g = g})) most first last office after all
           → HasServed g image most all first last files
       served most first last all sessions =
           let it : HasServed g image most all first last files =
@@ -101,15 +109,15 @@ module _ {S D : Type 0} (g : Ghosts D) (image : Image) where
           it
 
       pub serve_done : (r : Result (Unit {0}) Fault)
-          → OnOk r (Listens number out out_after × Serves (is_shown (over_files {g = g}) RepresentsSpanRows Second) (is_clean (over_files {g = g})) (is_still_open (over_files {g = g})) (IsRecovered (over_files {g = g})) connections (after_listening told number) told_after office after true)
+          → OnOk r (Listens number out out_after × Serves (is_shown (over_files {g = g}) RepresentsSpanRows Second) (has_clean_disk (over_files {g = g})) (is_still_open (over_files {g = g})) (IsRecovered (over_files {g = g})) connections (after_listening told number) told_after office after true)
           → OnOk r (ServeDone g image number connections out out_after told told_after closed)
       serve_done (Ok u) (listens, sessions) =
           (served connections (after_listening told number) told_after true sessions, listens)
       serve_done (Err f) done = tt
 
       pub serve_failed : (r : Result (Unit {0}) Fault)
-          → IfErr r (λ f. (ListeningFails number out out_after told told_after f × Serves (is_shown (over_files {g = g}) RepresentsSpanRows Second) (is_clean (over_files {g = g})) (is_still_open (over_files {g = g})) (IsRecovered (over_files {g = g})) 0 told_after told_after office after true)
-          ⊎ ((f ≡ Net) × Listens number out out_after × Serves (is_shown (over_files {g = g}) RepresentsSpanRows Second) (is_clean (over_files {g = g})) (is_still_open (over_files {g = g})) (IsRecovered (over_files {g = g})) connections (after_listening told number) told_after office after false))
+          → IfErr r (λ f. (ListeningFails number out out_after told told_after f × Serves (is_shown (over_files {g = g}) RepresentsSpanRows Second) (has_clean_disk (over_files {g = g})) (is_still_open (over_files {g = g})) (IsRecovered (over_files {g = g})) 0 told_after told_after office after true)
+          ⊎ ((f ≡ Net) × Listens number out out_after × Serves (is_shown (over_files {g = g}) RepresentsSpanRows Second) (has_clean_disk (over_files {g = g})) (is_still_open (over_files {g = g})) (IsRecovered (over_files {g = g})) connections (after_listening told number) told_after office after false))
           → IfErr r (ServeFails g image number connections out out_after told told_after closed)
       serve_failed (Ok u) why = tt
       serve_failed (Err f) (inl (why, sessions)) = inr (inl (served 0 told_after told_after true sessions, why))

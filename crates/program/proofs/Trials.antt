@@ -9,7 +9,9 @@ use Rattle.http_desk.specs.Exchanges.{Talks}
 use Rattle.http_desk.specs.declared.session_end.Ended.{Ended}
 use Rattle.program.specs.declared.faults.Break.{Break}
 use Rattle.program.specs.declared.faults.Fault.TheVariants as fault
-use Rattle.program.proofs.Common.{AgreesWithCalls, EndsWell, Fault, FileStore, Founding, Ghosts, HasCleanDisk, Held, IsIn, IsSoundOffice, Stream, Talked, Trees, TrialDone, TrialFails, Version, ended_by, file_state, founded, is_clean, is_shown, is_still_open, over_files}
+use Rattle.program.proofs.Common.{AgreesWithCalls, EndsWell, Fault, FileStore, Founding, Ghosts, HasCleanDisk, Held}
+use Rattle.program.proofs.Common.{IsIn, IsSoundOffice, Stream, Talked, Trees, TrialDone, TrialFails, Version, ended_by}
+use Rattle.program.proofs.Common.{file_state, founded, has_clean_disk, is_shown, is_still_open, over_files}
 
 -- an office over disks that always return what was written
 pub always_clean : {D : Type 0} {g : Ghosts D} → ((log db : D) → AreClean g log db) → (office : Held (FileStore D g))
@@ -19,7 +21,7 @@ always_clean all office = no_doubt _ (clean_is office.store.pool ∙ all _ _)
 module _ {D : Type 0} (g : Ghosts D) (clean : (office : Held (FileStore D g)) → HasCleanDisk (file_state office)) (places : Trees → Forest ℕ → Type 0) (version : Version) (founding : Founding) (reader reader_after out out_after : Stream) (before after : Held (FileStore D g)) (end : Ended) where
   -- what was said to a new office is a session with it
   pub talked : IsSoundOffice (founded founding) → IsIn places version (founded founding) (file_state before)
-      → Talks (is_shown (over_files {g = g}) places version) (is_clean (over_files {g = g})) (is_still_open (over_files {g = g})) (λ _ _ _. ⊥) reader.bytes reader_after.bytes out.bytes out_after.bytes before end after
+      → Talks (is_shown (over_files {g = g}) places version) (has_clean_disk (over_files {g = g})) (is_still_open (over_files {g = g})) (λ _ _ _. ⊥) reader.bytes reader_after.bytes out.bytes out_after.bytes before end after
       → AgreesWithCalls reader reader_after out out_after end
       → Talked founding reader reader_after out out_after end
   talked sound shown (read, written, gone, told, through) agrees =

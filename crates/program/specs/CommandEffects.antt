@@ -22,7 +22,7 @@ use Rattle.desk_core.specs.declared.refusal.Refusal.TheVariants.{BadFile}
 use Rattle.command_line.specs.CommandLine.{program}
 use Rattle.office.specs.declared.faults.OpenFault.{OpenFault}
 use Rattle.office.specs.declared.faults.OpenFault.TheVariants as opening
-use Rattle.program.specs.Faults.{Refuses, fault_of_opening, fault_of_reading, line_of, message_of, status_of}
+use Rattle.program.specs.Faults.{Refuses, fault_of_opening, fault_of_reading, line_of_refusal, message_of, exit_status}
 use Rattle.program.specs.ClosedFiles.{WasJudgedAsFound}
 use Rattle.program.specs.Connections.{History, after_listening}
 use Rattle.program.specs.Outcomes.{IsClosedAnd, IsUnopened, IsUntouched}
@@ -43,10 +43,10 @@ use Rattle.program.specs.declared.tasks.TaskFault.TheVariants as tasks
 
 -- the bytes of standard input, read to its end, where no read has failed; or any bytes, such as those of a named file,
 -- and standard input was not touched
-abbrev pub Reads : Option Text → Stream → Stream → List ℕ → Type 0
-Reads None reader reader_after bytes =
+abbrev pub ReadsInput : Option Text → Stream → Stream → List ℕ → Type 0
+ReadsInput None reader reader_after bytes =
     Consumes reader.bytes reader_after.bytes bytes × IsAtEnd reader_after.bytes × (reader_after.failed ≡ reader.failed)
-Reads (Some path) reader reader_after bytes = reader_after ≡ reader
+ReadsInput (Some path) reader reader_after bytes = reader_after ≡ reader
 
 -- some of standard input was read, or all of it; or, if a file is named, nothing
 abbrev pub ReadsPart : Option Text → Stream → Stream → Type 0
@@ -73,18 +73,18 @@ preview_result country repo file = preview_of (record { country = country; repo 
 -- a preview that is done: the finding aids of these bytes were printed
 abbrev pub PreviewDone : Text → Text → Option Text → Stream → Stream → Stream → Stream → Type 0
 PreviewDone country repo path reader reader_after out out_after =
-    (file aids : List ℕ) × Reads path reader reader_after file × (preview_result country repo file ≡ Ok aids)
+    (file aids : List ℕ) × ReadsInput path reader reader_after file × (preview_result country repo file ≡ Ok aids)
     × Prints aids out out_after
 
 -- a preview that ended with a fault: the bytes are refused with that line; or the input could not be read, and nothing
 -- was printed; or a front of the finding aids was printed before standard output failed; or there was no memory
 abbrev pub PreviewFails : Text → Text → Option Text → Stream → Stream → Stream → Stream → Fault → Type 0
 PreviewFails country repo path reader reader_after out out_after (Refused line) =
-    (file : List ℕ) × (row cause : ℕ) × Reads path reader reader_after file
-    × (preview_result country repo file ≡ Err (row, cause)) × (line ≡ line_of (BadFile row cause)) × (out_after ≡ out)
+    (file : List ℕ) × (row cause : ℕ) × ReadsInput path reader reader_after file
+    × (preview_result country repo file ≡ Err (row, cause)) × (line ≡ line_of_refusal (BadFile row cause)) × (out_after ≡ out)
 PreviewFails country repo path reader reader_after out out_after File =
     (ReadsPart path reader reader_after × ReadingFails path reader reader_after × (out_after ≡ out))
-    ⊎ ((file aids : List ℕ) × Reads path reader reader_after file × (preview_result country repo file ≡ Ok aids)
+    ⊎ ((file aids : List ℕ) × ReadsInput path reader reader_after file × (preview_result country repo file ≡ Ok aids)
     × PrintsPart aids out out_after)
 PreviewFails country repo path reader reader_after out out_after Memory =
     ReadsPart path reader reader_after × (out_after ≡ out)
@@ -396,5 +396,5 @@ abbrev pub IsPerformed : {S D : Type 0} → (g : Ghosts D) → Image → List Te
     → StoreOutcome S D g → ℕ → Type 0
 IsPerformed g image words before after err err_after outcome status =
     ((status ≡ 0) × IsDone g image words before after outcome × (err_after ≡ err))
-    ⊎ ((fault : Fault) × (status ≡ status_of fault) × Fails g image words before after outcome fault
+    ⊎ ((fault : Fault) × (status ≡ exit_status fault) × Fails g image words before after outcome fault
     × Tells err err_after (message_of fault))

@@ -1,5 +1,6 @@
 -- Connections that were served, one after the other.
-use Rattle.std.specs.Prelude.{◌≡◌, ◌≢◌, ◌≤◌, ◌+◌, ◌*◌, ◌++◌, ◌⊎◌, ℕ, Bool, true, false, List, [], ◌∷◌, length, Option, Some, None}
+use Rattle.std.specs.Prelude.{◌≡◌, ◌≢◌, ◌≤◌, ◌+◌, ◌*◌, ◌++◌, ◌⊎◌, ℕ, Bool, true, false, List, [], ◌∷◌, length, Option}
+use Rattle.std.specs.Prelude.{Some, None}
 use Rattle.std.specs.List.{AllByRecursion}
 use Rattle.std.specs.Io.KnownBytes.{Appends, Consumes}
 use Rattle.std.specs.Net.Addr.{ipv4_octets}
@@ -118,10 +119,10 @@ StaysFoundOrAny found finds BusyWith s t = (asked : List Command) → found aske
     → (more : List Command) × AllByRecursion BusyWith more × finds (more ++ asked) t
 
 -- A connection was heard and left. When it was taken, its reader still had `left`, and its writer held `held`.
-abbrev pub Answers : {M : Type 0} → (M → State → Type 0) → (M → Type 0) → (M → Type 0)
+abbrev pub AnswersConnection : {M : Type 0} → (M → State → Type 0) → (M → Type 0) → (M → Type 0)
     → (M → List Command → State → Type 0) → Option Bytes → Option Bytes → Option History → Option History
     → M → M → Type 0
-Answers represents is_intact is_open recovers left held told told_after old new =
+AnswersConnection represents is_intact is_open recovers left held told told_after old new =
     (it : Connection) × (it.left ≡ left) × (it.held ≡ held) × IsHeard it
     × (told_after ≡ after_leaving told it.reader it.writer it.end)
     × Through represents is_intact old new

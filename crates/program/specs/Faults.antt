@@ -3,7 +3,7 @@ use Rattle.std.specs.Prelude.{◌≡◌, ◌++◌, List, [], ℕ, codes}
 use Rattle.std.specs.Fmt.{decimal}
 use Rattle.atom_csv.specs.declared.file.FileFault as csv
 use Rattle.atom_csv.specs.declared.file.FileFault.TheVariants as files
-use Rattle.desk_core.specs.Refusals.{name_of, number_of}
+use Rattle.desk_core.specs.Refusals.{refusal_name, refusal_number}
 use Rattle.desk_core.specs.declared.refusal.Refusal.{Refusal}
 use Rattle.desk_core.specs.declared.refusal.Refusal.TheVariants.{BadFile, WithReader}
 use Rattle.office_core.specs.declared.machine.Busy.{Busy}
@@ -23,14 +23,14 @@ use Rattle.program.specs.declared.faults.Break.{Break}
 use Rattle.program.specs.declared.faults.Break.TheVariants as break
 
 -- where a refusal is: the row and cause of a file, or the container
-abbrev pub place_of : Refusal → List ℕ
-place_of (BadFile row cause) = codes " row " ++ decimal row ++ codes " cause " ++ decimal cause
-place_of (WithReader container) = codes " container " ++ decimal container
-place_of _ = []
+abbrev pub place_of_refusal : Refusal → List ℕ
+place_of_refusal (BadFile row cause) = codes " row " ++ decimal row ++ codes " cause " ++ decimal cause
+place_of_refusal (WithReader container) = codes " container " ++ decimal container
+place_of_refusal _ = []
 
 -- the line of a refusal: its number and name, and where it is
-abbrev pub line_of : Refusal → List ℕ
-line_of why = codes "refused " ++ decimal (number_of why) ++ codes " " ++ name_of why ++ place_of why ++ codes "\n"
+abbrev pub line_of_refusal : Refusal → List ℕ
+line_of_refusal why = codes "refused " ++ decimal (refusal_number why) ++ codes " " ++ refusal_name why ++ place_of_refusal why ++ codes "\n"
 
 -- how a session broke off
 abbrev pub break_line : Break → List ℕ
@@ -51,17 +51,17 @@ message_of Net = codes "net fault\n"
 message_of (Session broken) = break_line broken
 message_of Memory = codes "no memory\n"
 
-abbrev pub status_of : Fault → ℕ
-status_of (Refused line) = 1
-status_of NotSound = 1
-status_of (Words text) = 2
-status_of Date = 2
-status_of Settings = 2
-status_of File = 3
-status_of Store = 3
-status_of Net = 3
-status_of (Session broken) = 3
-status_of Memory = 3
+abbrev pub exit_status : Fault → ℕ
+exit_status (Refused line) = 1
+exit_status NotSound = 1
+exit_status (Words text) = 2
+exit_status Date = 2
+exit_status Settings = 2
+exit_status File = 3
+exit_status Store = 3
+exit_status Net = 3
+exit_status (Session broken) = 3
+exit_status Memory = 3
 
 -- the fault of words that name no task
 abbrev pub fault_of_words : TaskFault → Fault
@@ -94,7 +94,7 @@ fault_of_reading reads.Failed = File
 
 -- the fault of a refusal: its line, or want of memory for the line
 abbrev pub Refuses : Refusal → Fault → Type 0
-Refuses why (Refused line) = line ≡ line_of why
+Refuses why (Refused line) = line ≡ line_of_refusal why
 Refuses why Memory = Unit {0}
 Refuses why _ = ⊥
 

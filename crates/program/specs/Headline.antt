@@ -14,7 +14,7 @@ use Rattle.http_desk.specs.Headline.{IsOneRun}
 use Rattle.http_desk.specs.Runs.{AllHappen, AreVisits, CallsNameDays, Visit, VisitsLeaveOpen}
 use Rattle.nested_sets.specs.Representation.{RepresentsSpanRows}
 use Rattle.office.specs.InitialSettings.{Founding, founded}
-use Rattle.office.specs.IdleOffice.{is_clean, is_shown, is_still_open}
+use Rattle.office.specs.IdleOffice.{has_clean_disk, is_shown, is_still_open}
 use Rattle.office_core.specs.SoundOffice.{IsSoundOffice}
 use Rattle.office_core.specs.State.{State}
 use Rattle.refinement.specs.Representation.{RepresentsState}
@@ -28,7 +28,7 @@ abbrev pub TheHeadlineInMemory : Type 0
 TheHeadlineInMemory =
     (founding : Founding) (visits : List Visit) (old new : Held MemStore)
     → is_shown over_memory RepresentsSpanRows Second old (founded founding)
-    → AreVisits (is_shown over_memory RepresentsSpanRows Second) (is_clean over_memory) (is_still_open over_memory)
+    → AreVisits (is_shown over_memory RepresentsSpanRows Second) (has_clean_disk over_memory) (is_still_open over_memory)
     old new visits
     → AllByRecursion CallsNameDays visits
     → (t : State) × is_shown over_memory RepresentsSpanRows Second new t × IsOneRun (founded founding) visits t
@@ -41,7 +41,7 @@ module _ {D : Type 0} (g : Ghosts D) where
   TheHeadlineOfATrial =
       (founding : Founding) (visits : List Visit) (old new : Held (FileStore D g))
       → is_shown (over_files {g = g}) RepresentsSpanRows Second old (founded founding)
-      → AreVisits (is_shown (over_files {g = g}) RepresentsSpanRows Second) (is_clean (over_files {g = g}))
+      → AreVisits (is_shown (over_files {g = g}) RepresentsSpanRows Second) (has_clean_disk (over_files {g = g}))
       (is_still_open (over_files {g = g})) old new visits
       → AllByRecursion CallsNameDays visits
       → (t : State) × is_shown (over_files {g = g}) RepresentsSpanRows Second new t × IsOneRun (founded founding) visits t
@@ -57,7 +57,7 @@ module _ {D : Type 0} (g : Ghosts D) (image : Image) where
   TheHeadlineInAFile =
       (s : State) (visits : List Visit) (old new : Held (FileStore D g)) (files : Files D)
       → (HasCleanDisk (file_state old) → IsFound image (file_state old)) → HoldsOffice image s → IsSoundOffice s
-      → AreVisits (is_shown over_files RepresentsSpanRows Second) (is_clean over_files) (is_still_open over_files)
+      → AreVisits (is_shown over_files RepresentsSpanRows Second) (has_clean_disk over_files) (is_still_open over_files)
       old new visits
       → AllByRecursion CallsNameDays visits
       → HasLeft new files → HaveCleanDisk g files

@@ -23,7 +23,7 @@ use Rattle.refinement.specs.Representation.{RepresentsState}
 use Rattle.office.specs.Adoption.{state_in}
 use Rattle.office.specs.InitialSettings.{Founding, IsGood, founded}
 use Rattle.office.specs.declared.faults.OpenFault.{OpenFault}
-use Rattle.http_desk.specs.Runs.{Brings, ByHttp}
+use Rattle.http_desk.specs.Runs.{VisitBrings, ByHttp}
 use Rattle.http_desk.specs.Streams.{Stream}
 use Rattle.http_desk.specs.declared.session_end.Ended.{Ended}
 use Rattle.program.specs.ClosedFiles.{WasJudgedAsFound}
@@ -56,25 +56,25 @@ abbrev pub ConnectionsBring : State → List Connection → List Command → Sta
 ConnectionsBring s [] commands new = BringsNothing s commands new
 ConnectionsBring s (it ∷ earlier) commands new =
     (first others : List Command) × (mid : State) × (commands ≡ first ++ others)
-    × ConnectionsBring s earlier first mid × Brings mid (ByHttp it.input it.output it.end) others new
+    × ConnectionsBring s earlier first mid × VisitBrings mid (ByHttp it.input it.output it.end) others new
 
 module _ {D : Type 0} (g : Ghosts D) (image : Image) (files : Files D) where
   -- A run that opened a store with these bytes, and left these files. It imported a file, which was accepted or refused;
   -- or its import found the office busy; or it talked, or served connections; or it judged the tables, because it was a
   -- check or could not open an office; or it was a migration that failed.
-  pub data Run : Type 0 where
-    TakesIn : (source : Bytes) (reply : Reply) → HasTakenIn g image source reply files → Run
-    IsBusy : (source : Bytes) (fault : Fault) → WasBusy g image source fault files → Run
+  pub data ProgramRun : Type 0 where
+    TakesIn : (source : Bytes) (reply : Reply) → HasTakenIn g image source reply files → ProgramRun
+    IsBusy : (source : Bytes) (fault : Fault) → WasBusy g image source fault files → ProgramRun
     Talks : (reader reader_after out out_after : Stream) (end : Ended)
-        → IsTalkedWith g image reader reader_after out out_after end files → Run
+        → IsTalkedWith g image reader reader_after out out_after end files → ProgramRun
     Serves : (connections : ℕ) (all : Bool) (told told_after : Option History)
-        → HasServed g image connections all told told_after files → Run
-    Judges : (judged : Option OpenFault) → WasJudgedAsFound g image judged files → Run
-    FailsToMigrate : (fault : Fault) → IsNotBroughtOver g image fault files → Run
+        → HasServed g image connections all told told_after files → ProgramRun
+    Judges : (judged : Option OpenFault) → WasJudgedAsFound g image judged files → ProgramRun
+    FailsToMigrate : (fault : Fault) → IsNotBroughtOver g image fault files → ProgramRun
 
 module _ {D : Type 0} {g : Ghosts D} {image : Image} {files : Files D} where
   -- its connection when it was closed
-  abbrev pub closed_by : Run g image files → Held (FileStore D g)
+  abbrev pub closed_by : ProgramRun g image files → Held (FileStore D g)
   closed_by (TakesIn source reply it) = it.after
   closed_by (IsBusy source fault it) = it.after
   closed_by (Talks reader reader_after out out_after end it) = it.after
@@ -83,13 +83,13 @@ module _ {D : Type 0} {g : Ghosts D} {image : Image} {files : Files D} where
   closed_by (FailsToMigrate fault it) = it.after
 
   -- the commands that were carried out in it, from one state to another: its import, or those of its sessions
-  abbrev pub RunBrings : State → Run g image files → List Command → State → Type 0
+  abbrev pub RunBrings : State → ProgramRun g image files → List Command → State → Type 0
   RunBrings s (TakesIn source reply it) commands new =
       (commands ≡ Import source it.file ∷ []) × ((reply ≡ (step s (Import source it.file)).1)
       × (new ≡ (step s (Import source it.file)).0))
   RunBrings s (IsBusy source fault it) commands new = BringsNothing s commands new
   RunBrings s (Talks reader reader_after out out_after end it) commands new =
-      Brings s (ByHttp it.input it.output end) commands new
+      VisitBrings s (ByHttp it.input it.output end) commands new
   RunBrings s (Serves connections all told told_after it) commands new =
       ConnectionsBring s it.sessions.connections commands new
   RunBrings s (Judges judged it) commands new = BringsNothing s commands new
@@ -116,10 +116,10 @@ module _ {D : Type 0} (g : Ghosts D) (image : Image) where
 
   -- A run goes on where the runs before it ended, and its commands follow theirs. The next run finds the store in the
   -- state after all of them. That is said where the run, when it closed the store, copied its log into the file.
-  abbrev pub GoesOn : Type 0
-  GoesOn =
+  abbrev pub RunGoesOn : Type 0
+  RunGoesOn =
       (start : State) (commands : List Command) → IsAfter image start commands
-      → (files : Files D) (run : Run g image files) → IsCopied (closed_by run) files
+      → (files : Files D) (run : ProgramRun g image files) → IsCopied (closed_by run) files
       → (next : Image) → IsFoundNext g files next
       → (more : List Command) × RunBrings (state_after start commands) run more (state_after start (commands ++ more))
       × IsAfter next start (commands ++ more)

@@ -26,7 +26,7 @@ use Rattle.office.specs.Adoption.{HasAdoptCause, state_in}
 use Rattle.office.specs.NewOffice.{HasOpenCause}
 use Rattle.office.specs.OfficeCall.{MayFind, TakesStep}
 use Rattle.office.specs.Migration.{IsMigrated, MayFindMigrated}
-use Rattle.office.specs.IdleOffice.{IsAsBefore, IsIn, is_clean, is_shown, is_still_open}
+use Rattle.office.specs.IdleOffice.{IsAsBefore, IsIn, has_clean_disk, is_shown, is_still_open}
 use Rattle.office.specs.declared.faults.OpenFault.{OpenFault}
 use Rattle.http_desk.specs.AcceptedMessages.{LeavesOpen}
 use Rattle.http_desk.specs.BusyMessages.{WasBusyWith}
@@ -104,7 +104,7 @@ module _ {D : Type 0} (g : Ghosts D) (image : Image) where
     pub read : Consumes reader.bytes reader_after.bytes input
     pub written : Appends out.bytes out_after.bytes output
     pub agrees : AgreesWithCalls reader reader_after out out_after end
-    pub session : is_clean (over_files {g = g}) after → (s : State) → is_kept office s
+    pub session : has_clean_disk (over_files {g = g}) after → (s : State) → is_kept office s
         → (t : State) × is_kept after t
         × Keeps (IsTrue (file_state office).is_open) (IsTrue (file_state after).is_open) (is_recovered office)
         (is_recovered after) s input output end t
@@ -149,7 +149,7 @@ module _ {D : Type 0} (g : Ghosts D) (image : Image) where
     pub after : Held (FileStore D g)
     pub opened : IsOpened office
     pub intact : HasCleanDisk (file_state after) → HasCleanDisk (file_state office)
-    pub sessions : Serves is_kept (is_clean (over_files {g = g})) (is_still_open (over_files {g = g})) is_recovered
+    pub sessions : Serves is_kept (has_clean_disk (over_files {g = g})) (is_still_open (over_files {g = g})) is_recovered
         connections told told_after office after all
     pub closed : HasLeft after files
 

@@ -1,5 +1,5 @@
 -- How the calls on a stream went: what was written, and why a stream failed.
-use Rattle.std.specs.Prelude.{◌≡◌, ◌⊎◌, ◌≤◌, ◌+◌, ◌*◌, ◌++◌, List, ℕ, true}
+use Rattle.std.specs.Prelude.{◌≡◌, ◌⊎◌, ◌≤◌, ◌+◌, ◌*◌, List, ℕ, true}
 use Rattle.std.specs.Io.KnownBytes.{Appends}
 use Rattle.http_desk.specs.Exchanges.{EndsAsCalled}
 use Rattle.http_desk.specs.Session.{most_answers}
@@ -7,10 +7,7 @@ use Rattle.http_desk.specs.StreamFaults.{TakesCalls}
 use Rattle.http_desk.specs.Streams.{Stream, most_calls, most_reads}
 use Rattle.http_desk.specs.declared.session_end.Ended.{Ended}
 use Rattle.http_desk.specs.declared.session_end.Next.TheVariants.{Ends}
-
--- a front of the bytes, or all of them
-abbrev pub IsFront : List ℕ → List ℕ → Type 0
-IsFront front bytes = (rest : List ℕ) × (bytes ≡ front ++ rest)
+use Rattle.http_desk.specs.Session.{IsFront}
 
 -- at least so many calls were made, or the count of calls has reached its end
 abbrev pub HaveMade : ℕ → Stream → Stream → Type 0

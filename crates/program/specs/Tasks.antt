@@ -4,7 +4,7 @@ use Rattle.clap.specs.Walk.{Row, Text, first_of}
 use Rattle.office_core.specs.SettingsFaults.{wrong_setting}
 use Rattle.office.specs.InitialSettings.{Founding}
 use Rattle.office.specs.Soundness.{is_country, is_repository}
-use Rattle.command_line.specs.OptionValues.{IsDay, IsNumber, IsValue}
+use Rattle.command_line.specs.OptionValues.{IsDay, IsOptionNumber, IsValue}
 use Rattle.office.specs.declared.settings.SettingsFault.{SettingsFault}
 use Rattle.office.specs.declared.settings.SettingsFault.TheVariants as wrong
 use Rattle.program.specs.declared.tasks.Task.{Task}
@@ -17,10 +17,10 @@ use Rattle.program.specs.declared.tasks.TaskFault.TheVariants.{Memory, Words}
 pub record AreGiven (rows : List Row) (founding : Founding) : Type 0 where
   pub country : IsValue rows (codes "country") founding.settings.country
   pub repo : IsValue rows (codes "repo") founding.settings.repo
-  pub seats : IsNumber rows (codes "seats") founding.settings.seats
-  pub daily : IsNumber rows (codes "daily") founding.settings.daily
-  pub hands : IsNumber rows (codes "hands") founding.settings.hands
-  pub run_size : IsNumber rows (codes "run") founding.settings.run_size
+  pub seats : IsOptionNumber rows (codes "seats") founding.settings.seats
+  pub daily : IsOptionNumber rows (codes "daily") founding.settings.daily
+  pub hands : IsOptionNumber rows (codes "hands") founding.settings.hands
+  pub run_size : IsOptionNumber rows (codes "run") founding.settings.run_size
   pub day : IsDay rows (codes "day") (Some founding.day)
 
 -- these are the codes of a country and of a repository
@@ -47,8 +47,8 @@ IsTask name rows (Talk store) = (name ≡ codes "talk") × IsValue rows (codes "
 IsTask name rows (Serve store port connections) =
     (name ≡ codes "serve")
     × IsValue rows (codes "store") store
-    × IsNumber rows (codes "port") port
-    × IsNumber rows (codes "connections") connections
+    × IsOptionNumber rows (codes "port") port
+    × IsOptionNumber rows (codes "connections") connections
 IsTask name rows (Check store) = (name ≡ codes "check") × IsValue rows (codes "store") store
 IsTask name rows (Migrate store) = (name ≡ codes "migrate") × IsValue rows (codes "store") store
 

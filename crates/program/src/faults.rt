@@ -1,6 +1,6 @@
 //! Why a command was not done, with its exit status and its message.
 ghost use Rattle.std.specs.Prelude.{◌≡◌, IfOk};
-ghost use Rattle.program.specs.Faults.{Refuses, line_of, message_of, status_of};
+ghost use Rattle.program.specs.Faults.{Refuses, line_of_refusal, message_of, exit_status};
 
 use crate::files::FileFault;
 use crate::streams::{ReadFault, WriteFault};
@@ -50,7 +50,7 @@ pub enum Fault {
 impl Fault {
     /// The exit status.
     pub fn status(&self) -> u8
-        ensures { result ≡ status_of self.now }
+        ensures { result ≡ exit_status self.now }
     {
         match self {
             Fault::Refused(_) | Fault::NotSound => 1,
@@ -83,7 +83,7 @@ impl Fault {
 
 /// The line of a refusal: its number, its name, and the row and cause or the container that it names.
 pub fn refusal_line(alloc: Global, why: Refusal) -> Result<Text, AllocError>
-    ensures { IfOk result (λ t. t ≡ line_of why) }
+    ensures { IfOk result (λ t. t ≡ line_of_refusal why) }
 {
     let code = why.code();
     let name = why.name();

@@ -6,7 +6,7 @@ ghost use Rattle.sqlite.specs.WalFiles.{image_at};
 ghost use Rattle.office_core.specs.State.{State};
 ghost use Rattle.program.specs.ClosedFiles.{ACheckChangesNothing};
 ghost use Rattle.program.specs.Headline.{TheHeadlineInAFile, TheHeadlineInMemory, TheHeadlineOfATrial};
-ghost use Rattle.program.specs.NextRuns.{BeginsAsBroughtOver, BeginsAsFound, BeginsAsMade, GoesOn};
+ghost use Rattle.program.specs.NextRuns.{BeginsAsBroughtOver, BeginsAsFound, BeginsAsMade, RunGoesOn};
 ghost use Rattle.program.specs.OpenedFiles.{IsInTheStateThatWasLeft};
 ghost use Rattle.program.specs.Stores.{WhatWasBroughtOverIsHeld, WhatWasMadeIsHeld, WhatWasNotMadeIsLeft};
 ghost use Rattle.program.specs.Stores.{WhatWasSaidIsHeld, WhatWasServedIsHeld, WhatWasTakenInIsHeld};
@@ -61,5 +61,5 @@ pub fn runs_are_one_machine<S: Start>()
     ensures found { (image : Image) (s : State) → BeginsAsFound image s }
     ensures made { BeginsAsMade ⟦<FileFrom<S> as Disk>⟧ (image_at S.Start) }
     ensures brought_over { BeginsAsBroughtOver ⟦<FileFrom<S> as Disk>⟧ (image_at S.Start) }
-    ensures goes_on { GoesOn ⟦<FileFrom<S> as Disk>⟧ (image_at S.Start) }
+    ensures goes_on { RunGoesOn ⟦<FileFrom<S> as Disk>⟧ (image_at S.Start) }
 {}

@@ -2,7 +2,7 @@
 ghost use Rattle.std.specs.Prelude.{◌≡◌, ◌≤◌, map};
 ghost use Rattle.std.specs.String.{string_bytes};
 ghost use Rattle.sqlite.specs.WalFiles.{image_at};
-ghost use Rattle.program.specs.Faults.{message_of, status_of};
+ghost use Rattle.program.specs.Faults.{message_of, exit_status};
 ghost use Rattle.program.specs.CommandEffects.{IsPerformed, Tells, channels};
 
 use crate::commands::run;
@@ -45,7 +45,7 @@ pub fn perform<S: Start, R: Read, W: Write, E: Write, P: Port>(
 /// Prints on standard error why a command was not done, and returns the exit status. The status is the same whether
 /// or not standard error takes the text.
 pub fn tell<E: Write>(fault: &Fault, err: &mut Sink<'_, E>) -> u8
-    ensures status { result ≡ status_of fault.now }
+    ensures status { result ≡ exit_status fault.now }
     ensures told { Tells err.old err.new (message_of fault.now) }
 {
     let _ = write_whole(err, fault.message().as_bytes());

@@ -2,7 +2,7 @@
 ghost use Rattle.std.specs.Prelude.{◌≡◌, IfErr, IfOk, OnOk};
 ghost use Rattle.std.specs.Option.{option_copied};
 ghost use Rattle.program.specs.Faults.{RefusesFile};
-ghost use Rattle.program.specs.CommandEffects.{PreviewDone, PreviewFails, ReadingFails, Reads, ReadsPart};
+ghost use Rattle.program.specs.CommandEffects.{PreviewDone, PreviewFails, ReadingFails, ReadsInput, ReadsPart};
 
 use crate::faults::{Fault, refusal_fault};
 use crate::streams::{ReadFault, read_to_end, write_whole};
@@ -31,7 +31,7 @@ fn read_file<F: Files, R: Read>(
     reader: &mut Source<'_, R>,
 ) -> Result<Vec<u8>, ReadFault>
     ensures reads { IfOk result (λ v.
-        Reads (option_copied path.entry) reader.old reader.new v.items) }
+        ReadsInput (option_copied path.entry) reader.old reader.new v.items) }
     ensures front { ReadsPart (option_copied path.entry) reader.old reader.new }
     ensures fails { IfErr result (λ e. e ≡ ReadFault.Failed
         → ReadingFails (option_copied path.entry) reader.old reader.new) }

@@ -1,5 +1,5 @@
 //! Serves an office on a port.
-ghost use Rattle.program.specs.Connections.{Answers, Serves, ServesOne};
+ghost use Rattle.program.specs.Connections.{AnswersConnection, Serves, ServesOne};
 
 use crate::ports::Port;
 use http_desk::session::talk;
@@ -15,7 +15,7 @@ fn answer<P: Port, M: Machine>(
     office: &mut M,
 )
     ensures intact { M.is_intact office.new → M.is_intact office.old }
-    ensures answered { Answers M.represents M.is_intact M.is_open M.recovers
+    ensures answered { AnswersConnection M.represents M.is_intact M.is_open M.recovers
         (P.Reader.remaining connection.0) (P.Writer.contents connection.1)
         (P.history port.old) (P.history port.new) office.old office.new }
 {

@@ -6,7 +6,8 @@
 ghost use Rattle.std.specs.Prelude.{◌≡◌, ◌+◌, ◌++◌, ℕ, List, [], true, IfErr, IfOk, OnErr, OnOk, codes};
 ghost use Rattle.std.specs.Io.KnownBytes.{Appends, Consumes, IsAtEnd};
 ghost use Rattle.http_desk.specs.Streams.{most_calls};
-ghost use Rattle.program.specs.Streams.{HaveMade, IsFront, Prints, PrintsPart, StreamFails};
+ghost use Rattle.http_desk.specs.Session.{IsFront};
+ghost use Rattle.program.specs.Streams.{HaveMade, Prints, PrintsPart, StreamFails};
 
 use http_desk::streams::{Sink, Source, Undone};
 use std::alloc::{AllocError, Global};

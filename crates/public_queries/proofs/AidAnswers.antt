@@ -3,15 +3,19 @@ use Rattle.std.proofs.Common.{◌≡◌, ℕ, ◌≤◌, ◌^◌, true, false, c
 use Rattle.office_core.specs.State.{State}
 use Rattle.office_core.specs.declared.query.Query.TheVariants as query
 use Rattle.refinement.proofs.Judged.{distinct_ids}
-use Rattle.public_queries.proofs.Common.{Empty, Forest, HasDistinctIds, IsSoundOffice, IsTellable, PublicUnit, Text, Unit, Unknown, UnknownUnit, above_last, aid, aid_of, answer, before_last, each, has_id, head_of, ids_of, is_closed, is_numbered, known_of, no_unit, office_kept, office_knows, office_of, office_places, path, press, public_forest, public_of, repository_of, shown_below, shows_last, tree, ℤ}
+use Rattle.public_queries.proofs.Common.{Empty, Forest, HasDistinctIds, IsSoundOffice, IsTellable, PublicUnit, Text}
+use Rattle.public_queries.proofs.Common.{Unit, Unknown, UnknownUnit, above_last, aid, aid_of, answer, before_last, each}
+use Rattle.public_queries.proofs.Common.{has_id, has_public_number, head_identifiers, head_of, is_unit_closed, known_of}
+use Rattle.public_queries.proofs.Common.{no_unit, office_kept, office_knows, office_of, office_places, path, press}
+use Rattle.public_queries.proofs.Common.{public_forest, public_of, repository_of, shown_below, shows_last, tree, ℤ}
 use Rattle.public_queries.proofs.AidPrinted.{id_same}
 use Rattle.public_queries.proofs.Standing.{Finds, nowhere, seen}
 
 -- what the public knows of the units above the last of a path has their identifiers
-above_same : (day : ℤ) (way : List Unit) → above_last (map (known_of day) way) ≡ before_last (ids_of (map head_of way))
+above_same : (day : ℤ) (way : List Unit) → above_last (map (known_of day) way) ≡ before_last (head_identifiers (map head_of way))
 above_same day [] = refl
 above_same day (u ∷ []) = refl
-above_same day (u ∷ v ∷ way) = ap₂ ◌∷◌ (id_same (u, is_closed day u)) (above_same day (v ∷ way))
+above_same day (u ∷ v ∷ way) = ap₂ ◌∷◌ (id_same (u, is_unit_closed day u)) (above_same day (v ∷ way))
 
 module _ (s : State) (sound : IsSoundOffice s) where
   pub tellable : IsTellable s.catalogue
@@ -27,7 +31,7 @@ module _ (s : State) (sound : IsSoundOffice s) where
     abbrev branch : Forest PublicUnit
     branch = public_of s.day (tree (has_id u) s.catalogue.forest)
 
-    stands : Finds (is_numbered u) (public_forest s) (shows_last s.day (map head_of way)) (map (known_of s.day) way) branch
+    stands : Finds (has_public_number u) (public_forest s) (shows_last s.day (map head_of way)) (map (known_of s.day) way) branch
     stands = seen s.day u s.catalogue.forest apart
 
     pub hidden : shows_last s.day (map head_of way) ≡ false → Unknown UnknownUnit ≡ answer s (query.Aid u)
@@ -39,7 +43,7 @@ module _ (s : State) (sound : IsSoundOffice s) where
         hidden (ap (λ (w : List Unit). shows_last s.day (map head_of w)) none.0)
 
     pub shown : shows_last s.day (map head_of way) ≡ true
-        → Text (aid (shown_below (repository_of (office_of s)) s.catalogue.containers (before_last (ids_of (map head_of way))) 0 branch)) ≡ answer s (query.Aid u)
+        → Text (aid (shown_below (repository_of (office_of s)) s.catalogue.containers (before_last (head_identifiers (map head_of way))) 0 branch)) ≡ answer s (query.Aid u)
     shown e =
         let there = stands.path_is ∙ ap (λ b. cond b (map (known_of s.day) way) []) e in
         let part = stands.tree_is ∙ ap (λ b. cond b branch Empty) e in

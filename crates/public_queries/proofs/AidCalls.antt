@@ -4,12 +4,13 @@ use Rattle.sqlite.specs.State.{State}
 use Rattle.sqlite_trees.specs.declared.store.Store as store
 use Rattle.office_tables.specs.Calls.{Answers}
 use Rattle.refinement.proofs.Passing.{if_ok_then}
-use Rattle.public_queries.proofs.Common.{Database, HasCleanDisk, Held, IsAborted, LeavesUnchanged, StoreFault, Survives, cut_then, early, excused_then, looks_then, on_err_then, on_ok_then, state}
+use Rattle.public_queries.proofs.Common.{Database, HasCleanDisk, Held, IsAborted, LeavesUnchanged, StoreFault, Survives}
+use Rattle.public_queries.proofs.Common.{cut_then, early, excused_then, looks_then, on_err_then, on_ok_then, state}
 
 module _ {S X Stays Model : Type 0} (g : store.Ghosts S) (represents : Database → Stays → Model → Type 0) (kept : Model → Type 0) (before after : Held S) (r : Result X StoreFault) where
   pub tells_as : (may more : Model → Type 0) (told answer : Stays → Model → X → Type 0) → ((m : Model) → more m → may m)
       → ((s : Stays) (m : Model) (x : X) → told s m x → answer s m x)
-      → Answers g represents kept before after r may told → Answers g represents kept before after r more answer
+      → Answers g represents before after r may kept told → Answers g represents before after r more kept answer
   tells_as may more told answer allows means it = record {
     answers = λ clean s m shown. if_ok_then r (told s m) (answer s m) (means s m) (it.answers clean s m shown);
     looks = it.looks;
@@ -36,7 +37,7 @@ module _ {S X Stays Model : Type 0} (g : store.Ghosts S) (represents : Database 
   pub tells_then : (may more : Model → Type 0) (told answer : Stays → Model → X → Type 0) → LeavesUnchanged a b
       → (HasCleanDisk b → (s : Stays) (m : Model) → represents a.now s m → more m → may m)
       → (HasCleanDisk b → (s : Stays) (m : Model) → represents a.now s m → (x : X) → told s m x → answer s m x)
-      → Answers g represents kept mid after r may told → Answers g represents kept before after r more answer
+      → Answers g represents mid after r may kept told → Answers g represents before after r more kept answer
   tells_then may more told answer looked allows means last =
       let still = λ (clean : HasCleanDisk c). early b c _ (looked_crash r last.looks last.aborts) clean in
       let shown = λ (at_b : HasCleanDisk b) (s : Stays) (m : Model) (it : represents a.now s m). subst (λ (db : Database). represents db s m) (sym (looked.same at_b)) it in

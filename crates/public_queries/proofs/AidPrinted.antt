@@ -1,12 +1,18 @@
 -- A finding aid is printed along the walk, with a list of the identifiers on the way, as it is by recursion on the forest.
-use Rattle.std.proofs.Common.{◌≡◌, ℕ, zero, suc, ◌+◌, ◌<◌, ◌≤◌, Bool, true, false, cond, List, [], ◌∷◌, ◌++◌, length, take, drop, get_or, Option, Some, None, refl, sym, ap, ap₂, ◌∙◌, append_assoc, append-nil, arith, map}
-use Rattle.tree_core.specs.Visibility.{public}
-use Rattle.tree_core.specs.Marks as marks
+use Rattle.std.proofs.Common.{◌≡◌, ℕ, zero, suc, ◌+◌, ◌<◌, ◌≤◌, Bool, true, false, cond, List, [], ◌∷◌, ◌++◌, length}
+use Rattle.std.proofs.Common.{take, drop, get_or, Option, Some, None, refl, sym, ap, ap₂, ◌∙◌, append_assoc, append-nil}
+use Rattle.std.proofs.Common.{arith, map}
 use Rattle.tree_core.specs.Marks.{public_walk}
+use Rattle.tree_core.specs.Marks as marks
+use Rattle.tree_core.specs.Visibility.{public}
 use Rattle.tree_core.specs.declared.marks.Mark.{Mark}
 use Rattle.catalogue_core.specs.UnitMarks.{mark_of, without_number}
 use Rattle.public_queries.specs.declared.visible_unit.Seen.{Seen}
-use Rattle.public_queries.proofs.Common.{AllByRecursion, BoxKey, Bytes, Catalogue, Empty, Forest, IsOf, KeepsUnits, Kept, Node, Repository, Shown, Told, Unit, Walked, aid, along, each, identifier, identifier_of, kept_row, length-append, length-map, map-append, public_unit, public_units, seen_of, shown_at, shown_below, shown_unit, stub_of, unit_lines, walk, ℤ}
+use Rattle.public_queries.proofs.Common.{AllByRecursion, BoxKey, Bytes, Catalogue, Empty, Forest, IsOf, KeepsUnits}
+use Rattle.public_queries.proofs.Common.{Kept, Node, Repository, Shown, Told, Unit, Walked, aid, along, each}
+use Rattle.public_queries.proofs.Common.{identifier, identifier_of, kept_from_walk, length-append, length-map}
+use Rattle.public_queries.proofs.Common.{map-append, public_unit, public_units, seen_of, shown_at, shown_below}
+use Rattle.public_queries.proofs.Common.{shown_unit, stub_of, unit_lines, walk, ℤ}
 
 -- ---- the walk with a list of identifiers
 
@@ -114,7 +120,7 @@ kept_by {A} day g t =
     ∙ map_both mark_row (λ (x : (A × Bool) × ℕ). ((g x.0.0, x.0.1), x.1)) (walk 0 p)
 
 pub kept_units : (day : ℤ) (m : Forest Mark) (t : Forest Unit) → each without_number m ≡ each mark_of t
-    → public_walk day m ≡ map kept_row (walk 0 (public_units day t))
+    → public_walk day m ≡ map kept_from_walk (walk 0 (public_units day t))
 kept_units day m t e = sym (kept_by day without_number m) ∙ ap (public_walk day) e ∙ kept_by day mark_of t
 
 -- ---- one unit more
@@ -180,7 +186,7 @@ no_row = record { id = 0; depth = 0; stub = false }
 -- the unit that the row at an index tells
 pub row_at : (day : ℤ) (c : Catalogue) (public_walk : List Kept) (rows : List Walked) (i : ℕ)
     → KeepsUnits day c public_walk rows → i < length public_walk
-    → Here kept_row (IsOf day c) rows i (get_or public_walk i no_row)
+    → Here kept_from_walk (IsOf day c) rows i (get_or public_walk i no_row)
 row_at day c public_walk rows i it low =
-    let long = ap length it.told ∙ length-map rows kept_row in
-    here_at kept_row (IsOf day c) rows i (get_or public_walk i no_row) no_row it.each (omega (arith, long, low)) (ap (λ l. get_or l i no_row) it.told)
+    let long = ap length it.told ∙ length-map rows kept_from_walk in
+    here_at kept_from_walk (IsOf day c) rows i (get_or public_walk i no_row) no_row it.each (omega (arith, long, low)) (ap (λ l. get_or l i no_row) it.told)

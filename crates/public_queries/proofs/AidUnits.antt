@@ -1,14 +1,19 @@
 -- The units of a finding aid, as they are read one by one.
-use Rattle.std.proofs.Common.{◌≡◌, ℕ, ◌+◌, ◌≤◌, Bool, true, false, cond, List, [], ◌∷◌, length, Option, Some, None, refl, sym, ap, subst, ◌∙◌, arith, map}
-use Rattle.std.specs.Prelude.{find, nat_eq}
+use Rattle.std.proofs.Common.{◌≡◌, ℕ, ◌+◌, ◌≤◌, Bool, true, false, cond, List, [], ◌∷◌, length, Option, Some, None}
+use Rattle.std.proofs.Common.{refl, sym, ap, subst, ◌∙◌, arith, map}
 use Rattle.std.specs.List.{IsDistinct}
+use Rattle.std.specs.Prelude.{find, nat_eq}
 use Rattle.isad_core.specs.Limits.{most_units}
 use Rattle.tree_core.specs.declared.marks.Mark.{Mark}
-use Rattle.catalogue_core.specs.UnitMarks.{AreWalkMarks, mark_of, without_number}
 use Rattle.catalogue_core.proofs.DistinctLists.{all_so}
 use Rattle.catalogue_core.proofs.EachAfter.{all_tree}
 use Rattle.catalogue_core.proofs.NodeLemmas.{length-nodes}
-use Rattle.public_queries.proofs.Common.{AllByRecursion, BoxKey, Catalogue, Empty, Forest, Full, HasDistinctIds, IsKept, IsOf, Node, Told, Unit, UnitValues, Walked, all_append, all_split, box_number, each, false≢true, has, has_id, identifier, is_closed, is_later, nodes, nodes-each, numbered_boxes, own_lines, public_unit, public_units, seen_of, seen_values, size, size-each, stub_of, title, tree, walk, with_numbers, ℤ}
+use Rattle.catalogue_core.specs.UnitMarks.{AreWalkMarks, mark_of, without_number}
+use Rattle.public_queries.proofs.Common.{AllByRecursion, BoxKey, Catalogue, Empty, Forest, Full, HasDistinctIds, IsKept}
+use Rattle.public_queries.proofs.Common.{IsOf, Node, Told, Unit, UnitValues, Walked, all_append, all_split, box_number}
+use Rattle.public_queries.proofs.Common.{each, false≢true, has, has_id, identifier, is_later, is_unit_closed, nodes}
+use Rattle.public_queries.proofs.Common.{nodes-each, numbered_boxes, own_lines, public_unit, public_units, seen_of}
+use Rattle.public_queries.proofs.Common.{seen_values, size, size-each, stub_of, title, tree, walk, with_numbers, ℤ}
 use Rattle.public_queries.proofs.FoundUnits.{found_each}
 
 -- ---- what is read of one unit
@@ -29,7 +34,7 @@ seen_read containers u =
     (names_numbered (box_number containers) u.values.boxes)
 
 -- a closed unit has the day on which that ends
-pub closed_until : (day : ℤ) (u : Unit) → is_closed day u ≡ true → (until : ℤ) × (u.until ≡ Some until)
+pub closed_until : (day : ℤ) (u : Unit) → is_unit_closed day u ≡ true → (until : ℤ) × (u.until ≡ Some until)
 closed_until day u h = at u.until h
   where
     at : (until : Option ℤ) → is_later day until ≡ true → (end : ℤ) × (until ≡ Some end)
@@ -67,20 +72,20 @@ few_marks c is marks kept it =
 
 module _ (P : Unit → Type 0) (day : ℤ) where
   abbrev pub OfSeen : Unit × Bool → Type 0
-  OfSeen seen = P seen.0 × (seen.1 ≡ is_closed day seen.0)
+  OfSeen seen = P seen.0 × (seen.1 ≡ is_unit_closed day seen.0)
 
   all_public : (f : Forest Unit) → AllByRecursion P (nodes f) → AllByRecursion OfSeen (nodes (public_units day f))
   all_public Empty h = tt
   all_public (Node u c o) h =
       let parts = all_split P (nodes c) (nodes o) h.1 in
-      at u.draft (is_closed day u) refl (all_public c parts.0) (all_public o parts.1)
+      at u.draft (is_unit_closed day u) refl (all_public c parts.0) (all_public o parts.1)
     where
       below : (b : Bool) → AllByRecursion OfSeen (nodes (public_units day c))
           → AllByRecursion OfSeen (nodes (cond b Empty (public_units day c)))
       below true x = tt
       below false x = x
 
-      at : (draft closed : Bool) → closed ≡ is_closed day u → AllByRecursion OfSeen (nodes (public_units day c))
+      at : (draft closed : Bool) → closed ≡ is_unit_closed day u → AllByRecursion OfSeen (nodes (public_units day c))
           → AllByRecursion OfSeen (nodes (public_units day o))
           → AllByRecursion OfSeen (nodes (cond draft (public_units day o) (Node (u, closed) (cond closed Empty (public_units day c)) (public_units day o))))
       at true closed e x y = y

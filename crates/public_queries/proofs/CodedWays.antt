@@ -1,7 +1,8 @@
 -- The codes of the units of a path, one unit further.
 use Rattle.std.proofs.Common.{◌≡◌, List, [], ◌∷◌, ◌++◌, sym, ap, ◌∙◌, append_assoc, append-nil}
 use Rattle.std.specs.Prelude.{map}
-use Rattle.public_queries.proofs.Common.{Bytes, OnPath, Repository, UnitValues, code_of, coded_way, identifier, reverse, reverse-append}
+use Rattle.public_queries.proofs.Common.{Bytes, OnPath, Repository, UnitValues, code_of, coded_way, identifier, reverse}
+use Rattle.public_queries.proofs.Common.{reverse-append}
 
 pub coded_way-push : (at : Repository) (above : List Bytes) (higher : List OnPath) (us : List UnitValues) (u : UnitValues)
     → coded_way at above higher (us ++ u ∷ []) ≡ record { code = code_of at.country at.repo ((above ++ map (λ (v : UnitValues). identifier v.values) us) ++ identifier u.values ∷ []); unit = u } ∷ coded_way at above higher us

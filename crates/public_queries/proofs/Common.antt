@@ -2,51 +2,60 @@
 pub use Rattle.std.proofs.lemmas.Bool.{cases_lt, eqb-true, false≢true}
 pub use Rattle.std.proofs.lemmas.List.{length-append, length-map, map-append, reverse-append, take_all, take_more}
 pub use Rattle.std.specs.List.{AllByRecursion, cons_option, flat_map, list_any}
-pub use Rattle.std.specs.Prelude.{IfOk, IsErr, IsErrAnd, codes, filter_map, int_lt, option_map, reverse, unwrap_or, ℤ, ⊤}
+pub use Rattle.std.specs.Prelude.{IfOk, IsErr, IsErrAnd, codes, filter_map, int_lt, option_map, reverse, unwrap_or, ℤ}
+pub use Rattle.std.specs.Prelude.{⊤}
 pub use Rattle.sqlite.specs.Effect.{Database}
 pub use Rattle.sqlite.specs.Held.{Held, state}
 pub use Rattle.sqlite.specs.State.{HasCleanDisk, Survives}
+pub use Rattle.isad_core.specs.Codes.{code_of}
+pub use Rattle.isad_core.specs.PrintedDescriptions.{aid, found_container, found_element, head_line, indent, line, page}
+pub use Rattle.isad_core.specs.PrintedDescriptions.{unit_below, unit_lines}
+pub use Rattle.isad_core.specs.Texts.{Bytes}
+pub use Rattle.isad_core.specs.Values.{identifier, line_elements, own_lines, title}
+pub use Rattle.isad_core.specs.declared.display.Body.TheVariants.{Closed, Full}
+pub use Rattle.isad_core.specs.declared.display.Shown.{Shown}
+pub use Rattle.isad_core.specs.declared.values.BoxKey.{BoxKey}
+pub use Rattle.tree_core.proofs.EachLemmas.{has-each, nodes-each, size-each}
+pub use Rattle.tree_core.specs.Forest.{Empty, Forest, HasDistinctIds, Node, each, has, nodes, path, size, tree, walk}
+pub use Rattle.tree_core.specs.Tops.{below_first, part_below, tops}
+pub use Rattle.tree_core.specs.declared.marks.Kept.{Kept}
+pub use Rattle.desk_core.specs.declared.refusal.Refusal.TheVariants.{UnknownUnit}
 pub use Rattle.catalogue_core.proofs.EachOf.{all_append, all_split, some_found}
 pub use Rattle.catalogue_core.proofs.PublicPaths.{known_of, number_known}
 pub use Rattle.catalogue_core.specs.Aids.{Repository, identifier_of, numbered_boxes, shown_below, shown_unit}
 pub use Rattle.catalogue_core.specs.Bounds.{IsKept}
 pub use Rattle.catalogue_core.specs.CatalogueMerge.{Catalogue, box_number}
-pub use Rattle.catalogue_core.specs.Pages.{PageBox, Press, above_last, aid_of, before_last, boxes_on_page, boxes_or, coded_below, is_numbered, nearest_boxes, nearest_value, number_of, page_at, page_boxes, page_line, page_of, side_by_side, tops_text, with_codes}
+pub use Rattle.catalogue_core.specs.Pages.{PageBox, Press, above_last, aid_of, before_last, boxes_on_page, boxes_or}
+pub use Rattle.catalogue_core.specs.Pages.{coded_below, has_public_number, nearest_boxes, nearest_value, page_at}
+pub use Rattle.catalogue_core.specs.Pages.{page_boxes, page_line, page_of, pages_side_by_side, public_number, tops_text}
+pub use Rattle.catalogue_core.specs.Pages.{with_codes}
 pub use Rattle.catalogue_core.specs.PublicForest.{PublicUnit, Told, public_of, public_unit, stub_of}
-pub use Rattle.catalogue_core.specs.Units.{Unit, has_id, is_closed, is_later}
+pub use Rattle.catalogue_core.specs.Units.{Unit, has_id, is_later, is_unit_closed}
+pub use Rattle.office_tables.proofs.CallEnds.{excused_then, same_fault}
+pub use Rattle.office_tables.proofs.Calls.{cut_after, cut_then, early, looks_nowhere, looks_then, on_err_then}
+pub use Rattle.office_tables.proofs.Calls.{on_ok_then}
+pub use Rattle.office_tables.specs.Step.{IsAborted, LeavesUnchanged}
+pub use Rattle.office_tables.specs.declared.fault.StoreFault.{StoreFault}
 pub use Rattle.catalogue_statements.specs.Representation.{Represents}
 pub use Rattle.catalogue_statements.specs.declared.office.OfficeRow.{OfficeRow}
 pub use Rattle.catalogue_store.proofs.UnitsThere.{no_unit}
 pub use Rattle.catalogue_store.specs.Heads.{head_of}
 pub use Rattle.catalogue_store.specs.declared.heads.Head.{Head}
 pub use Rattle.catalogue_store.specs.declared.unit_values.UnitValues.{UnitValues}
-pub use Rattle.desk_core.specs.declared.refusal.Refusal.TheVariants.{UnknownUnit}
-pub use Rattle.isad_core.specs.Codes.{code_of}
-pub use Rattle.isad_core.specs.PrintedDescriptions.{aid, found_container, found_element, head_line, indent, line, page, unit_below, unit_lines}
-pub use Rattle.isad_core.specs.Texts.{Bytes}
-pub use Rattle.isad_core.specs.Values.{identifier, line_elements, own_lines, title}
-pub use Rattle.isad_core.specs.declared.display.Body.TheVariants.{Closed, Full}
-pub use Rattle.isad_core.specs.declared.display.Shown.{Shown}
-pub use Rattle.isad_core.specs.declared.values.BoxKey.{BoxKey}
 pub use Rattle.office_core.proofs.KeptOffices.{office_kept, office_knows, office_places}
 pub use Rattle.office_core.specs.Queries.{answer, page_answer, press, public_forest}
 pub use Rattle.office_core.specs.SoundOffice.{IsSoundOffice}
 pub use Rattle.office_core.specs.declared.query.Answer.TheVariants.{Text, Unknown}
-pub use Rattle.office_tables.proofs.CallEnds.{excused_then, same_fault}
-pub use Rattle.office_tables.proofs.Calls.{cut_after, cut_then, early, looks_nowhere, looks_then, on_err_then, on_ok_then}
-pub use Rattle.office_tables.specs.Step.{IsAborted, LeavesUnchanged}
-pub use Rattle.office_tables.specs.declared.fault.StoreFault.{StoreFault}
-pub use Rattle.public_queries.specs.FindingAids.{IsOf, KeepsUnits, Walked, along, kept_row, public_units, seen_of, seen_values, shown_at, with_numbers}
-pub use Rattle.public_queries.specs.HeadLines.{all_bare, are_open, bare_below, bare_body, head_alone, ids_of, is_open_on, repository_of, shows_last}
-pub use Rattle.public_queries.specs.KnownPaths.{AreHeadsOf, IsTellable, RepresentsUnit}
-pub use Rattle.public_queries.specs.OwnRows.{is_no_draft}
-pub use Rattle.public_queries.specs.PageLines.{box_lines, closed_page, housed_lines, lines_or, nearest_lines, page_of_units}
-pub use Rattle.public_queries.specs.PathValues.{coded_of, coded_way, unit_values}
-pub use Rattle.public_queries.specs.declared.path_values.OnPath.{OnPath}
 pub use Rattle.refinement.proofs.Answerings.{still_shown}
 pub use Rattle.refinement.proofs.Doings.{tells_full, tells_passed, tells_passed_later}
 pub use Rattle.refinement.specs.Representation.{RepresentsState, office_of}
-pub use Rattle.tree_core.proofs.EachLemmas.{has-each, nodes-each, size-each}
-pub use Rattle.tree_core.specs.Forest.{Empty, Forest, HasDistinctIds, Node, each, has, nodes, path, size, tree, walk}
-pub use Rattle.tree_core.specs.Tops.{below_first, part_below, tops}
-pub use Rattle.tree_core.specs.declared.marks.Kept.{Kept}
+pub use Rattle.public_queries.specs.FindingAids.{IsOf, KeepsUnits, Walked, along, kept_from_walk, public_units, seen_of}
+pub use Rattle.public_queries.specs.FindingAids.{seen_values, shown_at, with_numbers}
+pub use Rattle.public_queries.specs.HeadLines.{all_bare, are_open, bare_below, bare_body, head_alone, head_identifiers}
+pub use Rattle.public_queries.specs.HeadLines.{is_open_on, repository_of, shows_last}
+pub use Rattle.public_queries.specs.KnownPaths.{AreHeadsOf, IsTellable, RepresentsUnit}
+pub use Rattle.public_queries.specs.OwnRows.{is_no_draft}
+pub use Rattle.public_queries.specs.PageLines.{box_lines, closed_page, housed_lines, lines_or, nearest_lines}
+pub use Rattle.public_queries.specs.PageLines.{page_of_units}
+pub use Rattle.public_queries.specs.PathValues.{coded_of, coded_way, unit_values}
+pub use Rattle.public_queries.specs.declared.path_values.OnPath.{OnPath}

@@ -1,10 +1,11 @@
 -- The list of the tops, printed from their heads, is that of what the public may know.
 use Rattle.std.proofs.Common.{◌≡◌, ℕ, [], ◌∷◌, ◌++◌, ap}
-use Rattle.std.specs.Prelude.{map}
 use Rattle.std.specs.Fmt.{decimal}
+use Rattle.std.specs.Prelude.{map}
 use Rattle.office_core.specs.State.{State}
 use Rattle.office_core.specs.declared.query.Query.TheVariants as query
-use Rattle.public_queries.proofs.Common.{Shown, Text, all_bare, answer, head_line, head_of, line, press, tops, tops_text}
+use Rattle.public_queries.proofs.Common.{Shown, Text, all_bare, answer, head_line, head_of, line, press, tops}
+use Rattle.public_queries.proofs.Common.{tops_text}
 use Rattle.public_queries.proofs.HeadsPrinted.{same_beside}
 
 -- the list of the tops, printed from their heads

@@ -1,9 +1,12 @@
 -- Units that are found by their numbers, and heads of such units.
-use Rattle.std.proofs.Common.{◌≡◌, ℕ, zero, suc, ◌+◌, ◌<◌, ◌^◌, Bool, true, false, cond, List, [], ◌∷◌, ◌++◌, length, take, get_or, Some, refl, sym, ap, subst, ◌∙◌, arith, nat_eq, eq-eqb, inl, inr}
-use Rattle.std.specs.Prelude.{map}
+use Rattle.std.proofs.Common.{◌≡◌, ℕ, zero, suc, ◌+◌, ◌<◌, ◌^◌, Bool, true, false, cond, List, [], ◌∷◌, ◌++◌, length}
+use Rattle.std.proofs.Common.{take, get_or, Some, refl, sym, ap, subst, ◌∙◌, arith, nat_eq, eq-eqb, inl, inr}
 use Rattle.std.specs.List.{IsDistinct, find}
+use Rattle.std.specs.Prelude.{map}
 use Rattle.tree_core.proofs.Lists.{eqb_comm}
-use Rattle.public_queries.proofs.Common.{AllByRecursion, Catalogue, Empty, Forest, Head, IsKept, Node, Unit, all_split, cases_lt, false≢true, has, has_id, head_of, length-map, no_unit, nodes, path, some_found}
+use Rattle.public_queries.proofs.Common.{AllByRecursion, Catalogue, Empty, Forest, Head, IsKept, Node, Unit, all_split}
+use Rattle.public_queries.proofs.Common.{cases_lt, false≢true, has, has_id, head_of, length-map, no_unit, nodes, path}
+use Rattle.public_queries.proofs.Common.{some_found}
 
 pub path_all : (P : Unit → Type 0) (is : Unit → Bool) (f : Forest Unit) → AllByRecursion P (nodes f)
     → AllByRecursion P (path is f)

@@ -1,6 +1,7 @@
 -- Which units are shown, and their head lines.
 use Rattle.std.proofs.Common.{◌≡◌, Bool, true, false, not, ◌&&◌, cond, List, [], ◌∷◌, ◌++◌, Some, None, refl, ap, ◌∙◌}
-use Rattle.public_queries.proofs.Common.{Bytes, Head, Repository, are_open, bare_below, head_alone, is_open_on, shows_last, ℤ}
+use Rattle.public_queries.proofs.Common.{Bytes, Head, Repository, are_open, bare_below, head_alone, is_open_on}
+use Rattle.public_queries.proofs.Common.{shows_last, ℤ}
 
 pub shows_last-push : (day : ℤ) (above : List Head) (last : Head)
     → shows_last day (above ++ last ∷ []) ≡ (are_open day above && not last.draft)

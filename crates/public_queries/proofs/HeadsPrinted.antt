@@ -1,13 +1,18 @@
 -- Units of which the head line alone is printed: their heads tell as much as what the public may know of them.
-use Rattle.std.proofs.Common.{◌≡◌, ℕ, Bool, true, false, cond, List, [], ◌∷◌, ◌++◌, Option, Some, None, refl, sym, ap, ap₂, ◌∙◌}
+use Rattle.std.proofs.Common.{◌≡◌, ℕ, Bool, true, false, cond, List, [], ◌∷◌, ◌++◌, Option, Some, None, refl, sym, ap}
+use Rattle.std.proofs.Common.{ap₂, ◌∙◌}
 use Rattle.std.specs.Prelude.{map}
-use Rattle.public_queries.proofs.Common.{BoxKey, Bytes, Closed, Empty, Forest, Full, Node, Press, Repository, Shown, Told, Unit, all_bare, bare_body, code_of, cons_option, flat_map, head_alone, head_line, head_of, identifier, identifier_of, ids_of, int_lt, is_closed, is_later, known_of, number_known, number_of, public_of, shown_unit, side_by_side, stub_of, tops, ℤ}
+use Rattle.public_queries.proofs.Common.{BoxKey, Bytes, Closed, Empty, Forest, Full, Node, Press, Repository, Shown}
+use Rattle.public_queries.proofs.Common.{Told, Unit, all_bare, bare_body, code_of, cons_option, flat_map, head_alone}
+use Rattle.public_queries.proofs.Common.{head_identifiers, head_line, head_of, identifier, identifier_of, int_lt}
+use Rattle.public_queries.proofs.Common.{is_later, is_unit_closed, known_of, number_known, pages_side_by_side}
+use Rattle.public_queries.proofs.Common.{public_number, public_of, shown_unit, stub_of, tops, ℤ}
 use Rattle.public_queries.proofs.Standing.{public_draft, public_node}
 use Rattle.public_queries.proofs.HeadLineLemmas.{bare_draft, bare_public}
 
 module _ (day : ℤ) where
   pub known_id : (a : Unit) → identifier_of (known_of day a) ≡ identifier a.values
-  known_id a = at (is_closed day a) a.until
+  known_id a = at (is_unit_closed day a) a.until
     where
       at : (b : Bool) (until : Option ℤ)
           → identifier_of (cond b (stub_of a until) (Told a.id a.values)) ≡ identifier a.values
@@ -15,7 +20,7 @@ module _ (day : ℤ) where
       at true (Some d) = refl
       at false until = refl
 
-  pub known_ids : (w : List Unit) → map identifier_of (map (known_of day) w) ≡ ids_of (map head_of w)
+  pub known_ids : (w : List Unit) → map identifier_of (map (known_of day) w) ≡ head_identifiers (map head_of w)
   known_ids [] = refl
   known_ids (a ∷ w) = ap₂ ◌∷◌ (known_id a) (known_ids w)
 
@@ -39,7 +44,7 @@ module _ (day : ℤ) where
 
   module _ (print : ℕ × Shown → Bytes) (alike : (n : ℕ) (a b : Shown) → head_line a ≡ head_line b → print (n, a) ≡ print (n, b)) (press : Press) (above : List Bytes) where
     pub same_beside : (f : Forest Unit)
-        → flat_map print (side_by_side press above (public_of day f)) ≡ flat_map print (all_bare press.at above day (map head_of (tops f)))
+        → flat_map print (pages_side_by_side press above (public_of day f)) ≡ flat_map print (all_bare press.at above day (map head_of (tops f)))
     same_beside Empty = refl
     same_beside (Node a c o) = at a.draft refl (same_beside o)
       where
@@ -47,20 +52,20 @@ module _ (day : ℤ) where
         rest = all_bare press.at above day (map head_of (tops o))
 
         at : (b : Bool) → a.draft ≡ b
-            → flat_map print (side_by_side press above (public_of day o)) ≡ flat_map print rest
-            → flat_map print (side_by_side press above (public_of day (Node a c o))) ≡ flat_map print (all_bare press.at above day (map head_of (tops (Node a c o))))
+            → flat_map print (pages_side_by_side press above (public_of day o)) ≡ flat_map print rest
+            → flat_map print (pages_side_by_side press above (public_of day (Node a c o))) ≡ flat_map print (all_bare press.at above day (map head_of (tops (Node a c o))))
         at true e more =
-            ap (λ f. flat_map print (side_by_side press above f)) (public_draft day a c o e) ∙ more
+            ap (λ f. flat_map print (pages_side_by_side press above f)) (public_draft day a c o e) ∙ more
             ∙ sym (ap (λ b. flat_map print (cons_option b rest)) (bare_draft press.at above day (head_of a) e))
         at false e more =
-            ap (λ f. flat_map print (side_by_side press above f)) (public_node day a c o e)
+            ap (λ f. flat_map print (pages_side_by_side press above f)) (public_node day a c o e)
             ∙ ap₂ ◌++◌ one more
             ∙ sym (ap (λ b. flat_map print (cons_option b rest)) (bare_public press.at above day (head_of a) e))
           where
             shown : List Bytes → Shown
             shown ids = shown_unit press.at press.containers ids 0 (known_of day a)
 
-            one : print (number_of (known_of day a), shown (above ++ identifier_of (known_of day a) ∷ [])) ≡ print (a.id, head_alone press.at (above ++ identifier a.values ∷ []) day (head_of a))
+            one : print (public_number (known_of day a), shown (above ++ identifier_of (known_of day a) ∷ [])) ≡ print (a.id, head_alone press.at (above ++ identifier a.values ∷ []) day (head_of a))
             one =
                 ap (λ n. print (n, shown (above ++ identifier_of (known_of day a) ∷ []))) (number_known day a)
                 ∙ ap (λ n. print (a.id, shown (above ++ n ∷ []))) (known_id a)

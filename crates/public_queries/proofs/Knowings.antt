@@ -2,16 +2,19 @@
 use Rattle.std.proofs.Common.{◌≡◌, ℕ, Ok, Err, Result, sym, subst}
 use Rattle.sqlite.specs.State as store
 use Rattle.sqlite.specs.Tree.{Trees}
-use Rattle.office_tables.specs.Versions.{Version}
-use Rattle.office_core.specs.State.{State}
-use Rattle.office_core.specs.declared.query.Query.{Query}
-use Rattle.office_core.specs.declared.query.Answer.{Answer}
-use Rattle.office_tables.specs.Faults.{HasCause, IsUnlimited}
 use Rattle.office_tables.proofs.Causes.{still_unlimited}
 use Rattle.office_tables.proofs.LaterCauses.{next_cause}
+use Rattle.office_tables.specs.Faults.{HasCause, IsUnlimited}
+use Rattle.office_tables.specs.Versions.{Version}
 use Rattle.office_tables.specs.declared.fault.StoreFault.TheVariants as fault
+use Rattle.office_core.specs.State.{State}
+use Rattle.office_core.specs.declared.query.Answer.{Answer}
+use Rattle.office_core.specs.declared.query.Query.{Query}
 use Rattle.public_queries.specs.InformedAnswers.{AnswersKnowing}
-use Rattle.public_queries.proofs.Common.{Catalogue, Forest, HasCleanDisk, IsAborted, IsErr, IsErrAnd, IsKept, IsSoundOffice, LeavesUnchanged, OfficeRow, Represents, RepresentsState, StoreFault, answer, cut_after, cut_then, office_kept, office_of, same_fault, still_shown, ⊤}
+use Rattle.public_queries.proofs.Common.{Catalogue, Forest, HasCleanDisk, IsAborted, IsErr, IsErrAnd, IsKept}
+use Rattle.public_queries.proofs.Common.{IsSoundOffice, LeavesUnchanged, OfficeRow, Represents, RepresentsState}
+use Rattle.public_queries.proofs.Common.{StoreFault, answer, cut_after, cut_then, office_kept, office_of, same_fault}
+use Rattle.public_queries.proofs.Common.{still_shown, ⊤}
 
 module _ (places : Trees → Forest ℕ → Type 0) (version : Version) (known : State → Type 0) (asked : Query) where
   -- its first step fails

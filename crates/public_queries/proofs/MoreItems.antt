@@ -1,5 +1,6 @@
 -- Lists, one item further.
-use Rattle.std.proofs.Common.{◌≡◌, ℕ, suc, ◌+◌, ◌<◌, List, [], ◌∷◌, ◌++◌, length, take, drop, get_or, Option, None, sym, ap, ap₂, ◌∙◌, append-nil, arith, drop-cons}
+use Rattle.std.proofs.Common.{◌≡◌, ℕ, suc, ◌+◌, ◌<◌, List, [], ◌∷◌, ◌++◌, length, take, drop, get_or, Option, None, sym}
+use Rattle.std.proofs.Common.{ap, ap₂, ◌∙◌, append-nil, arith, drop-cons}
 use Rattle.std.proofs.lemmas.List.Elements.{filter_map-append}
 use Rattle.public_queries.proofs.Common.{cons_option, filter_map, take_more}
 

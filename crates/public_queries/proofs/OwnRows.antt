@@ -1,8 +1,10 @@
 -- A number that no unit has, and a draft, are not shown, wherever they are.
-use Rattle.std.proofs.Common.{◌≡◌, ℕ, Bool, true, false, not, ◌&&◌, List, [], ◌∷◌, ◌++◌, Some, refl, sym, ap, subst, ◌∙◌}
-use Rattle.std.specs.Prelude.{map}
+use Rattle.std.proofs.Common.{◌≡◌, ℕ, Bool, true, false, not, ◌&&◌, List, [], ◌∷◌, ◌++◌, Some, refl, sym, ap, subst}
+use Rattle.std.proofs.Common.{◌∙◌}
 use Rattle.std.specs.List.{find}
-use Rattle.public_queries.proofs.Common.{AllByRecursion, Forest, Unit, all_split, eqb-true, has, has_id, head_of, is_no_draft, is_open_on, nodes, path, shows_last, ℤ}
+use Rattle.std.specs.Prelude.{map}
+use Rattle.public_queries.proofs.Common.{AllByRecursion, Forest, Unit, all_split, eqb-true, has, has_id, head_of}
+use Rattle.public_queries.proofs.Common.{is_no_draft, is_open_on, nodes, path, shows_last, ℤ}
 use Rattle.public_queries.proofs.Standing.{nowhere, shown_in, stands}
 
 never : (b : Bool) → (b && false) ≡ false

@@ -1,10 +1,14 @@
 -- The public part of a forest, cut first, and the paths of the whole: where a unit stands.
-use Rattle.std.proofs.Common.{◌≡◌, ℕ, Bool, true, false, not, ◌&&◌, ◌||◌, cond, List, [], ◌∷◌, ◌++◌, refl, sym, ap, subst, ◌∙◌, nat_eq}
-use Rattle.std.specs.Prelude.{map}
+use Rattle.std.proofs.Common.{◌≡◌, ℕ, Bool, true, false, not, ◌&&◌, ◌||◌, cond, List, [], ◌∷◌, ◌++◌, refl, sym, ap}
+use Rattle.std.proofs.Common.{subst, ◌∙◌, nat_eq}
 use Rattle.std.proofs.lemmas.List.Folds.{list_any-append}
-use Rattle.tree_core.specs.Visibility.{public}
+use Rattle.std.specs.Prelude.{map}
 use Rattle.tree_core.proofs.LinkPaths.{Parts, parts}
-use Rattle.public_queries.proofs.Common.{Empty, Forest, HasDistinctIds, Node, PublicUnit, Unit, each, eqb-true, false≢true, has, has-each, has_id, head_of, is_closed, is_numbered, is_open_on, known_of, list_any, nodes, number_known, path, public_of, public_unit, shows_last, tree, ℤ}
+use Rattle.tree_core.specs.Visibility.{public}
+use Rattle.public_queries.proofs.Common.{Empty, Forest, HasDistinctIds, Node, PublicUnit, Unit, each, eqb-true}
+use Rattle.public_queries.proofs.Common.{false≢true, has, has-each, has_id, has_public_number, head_of, is_open_on}
+use Rattle.public_queries.proofs.Common.{is_unit_closed, known_of, list_any, nodes, number_known, path, public_of}
+use Rattle.public_queries.proofs.Common.{public_unit, shows_last, tree, ℤ}
 
 -- ---- what is found in a forest with a first node
 
@@ -112,55 +116,55 @@ module _ {A : Type 0} (is : A → Bool) where
 module _ (day : ℤ) where
   pub public_draft : (a : Unit) (c o : Forest Unit) → a.draft ≡ true → public_of day (Node a c o) ≡ public_of day o
   public_draft a c o e =
-      ap (λ b. each public_unit (cond b (public (λ (u : Unit). u.draft) (is_closed day) o) (Node (a, is_closed day a) (cond (is_closed day a) Empty (public (λ (u : Unit). u.draft) (is_closed day) c)) (public (λ (u : Unit). u.draft) (is_closed day) o)))) e
+      ap (λ b. each public_unit (cond b (public (λ (u : Unit). u.draft) (is_unit_closed day) o) (Node (a, is_unit_closed day a) (cond (is_unit_closed day a) Empty (public (λ (u : Unit). u.draft) (is_unit_closed day) c)) (public (λ (u : Unit). u.draft) (is_unit_closed day) o)))) e
 
   -- what the public knows below a unit
   abbrev pub seen_below : Bool → Forest Unit → Forest PublicUnit
   seen_below closed c = cond closed Empty (public_of day c)
 
   pub public_node : (a : Unit) (c o : Forest Unit) → a.draft ≡ false
-      → public_of day (Node a c o) ≡ Node (known_of day a) (seen_below (is_closed day a) c) (public_of day o)
+      → public_of day (Node a c o) ≡ Node (known_of day a) (seen_below (is_unit_closed day a) c) (public_of day o)
   public_node a c o e =
-      ap (λ b. each public_unit (cond b (public (λ (u : Unit). u.draft) (is_closed day) o) (Node (a, is_closed day a) (cond (is_closed day a) Empty (public (λ (u : Unit). u.draft) (is_closed day) c)) (public (λ (u : Unit). u.draft) (is_closed day) o)))) e
-      ∙ at (is_closed day a)
+      ap (λ b. each public_unit (cond b (public (λ (u : Unit). u.draft) (is_unit_closed day) o) (Node (a, is_unit_closed day a) (cond (is_unit_closed day a) Empty (public (λ (u : Unit). u.draft) (is_unit_closed day) c)) (public (λ (u : Unit). u.draft) (is_unit_closed day) o)))) e
+      ∙ at (is_unit_closed day a)
     where
       at : (b : Bool)
-          → each public_unit (Node (a, is_closed day a) (cond b Empty (public (λ (u : Unit). u.draft) (is_closed day) c)) (public (λ (u : Unit). u.draft) (is_closed day) o)) ≡ Node (known_of day a) (seen_below b c) (public_of day o)
+          → each public_unit (Node (a, is_unit_closed day a) (cond b Empty (public (λ (u : Unit). u.draft) (is_unit_closed day) c)) (public (λ (u : Unit). u.draft) (is_unit_closed day) o)) ≡ Node (known_of day a) (seen_below b c) (public_of day o)
       at true = refl
       at false = refl
 
   module _ (u : ℕ) where
-    is_told : (a : Unit) → is_numbered u (known_of day a) ≡ has_id u a
+    is_told : (a : Unit) → has_public_number u (known_of day a) ≡ has_id u a
     is_told a = ap (nat_eq u) (number_known day a)
 
-    absent : (f : Forest Unit) → has (has_id u) f ≡ false → has (is_numbered u) (public_of day f) ≡ false
+    absent : (f : Forest Unit) → has (has_id u) f ≡ false → has (has_public_number u) (public_of day f) ≡ false
     absent Empty e = refl
-    absent (Node a c o) e = at a.draft refl (is_closed day a) refl (absent c) (absent o)
+    absent (Node a c o) e = at a.draft refl (is_unit_closed day a) refl (absent c) (absent o)
       where
         n : (has_id u a ≡ false) × (has (has_id u) c ≡ false) × (has (has_id u) o ≡ false)
         n = none_of (has_id u) (has_id u a) (has (has_id u) c) (has (has_id u) o) (sym (has_node (has_id u) a c o) ∙ e)
 
-        below : (b : Bool) → (has (has_id u) c ≡ false → has (is_numbered u) (public_of day c) ≡ false)
-            → has (is_numbered u) (seen_below b c) ≡ false
+        below : (b : Bool) → (has (has_id u) c ≡ false → has (has_public_number u) (public_of day c) ≡ false)
+            → has (has_public_number u) (seen_below b c) ≡ false
         below true in_c = refl
         below false in_c = in_c n.1
 
-        at : (b : Bool) → a.draft ≡ b → (k : Bool) → is_closed day a ≡ k
-            → (has (has_id u) c ≡ false → has (is_numbered u) (public_of day c) ≡ false)
-            → (has (has_id u) o ≡ false → has (is_numbered u) (public_of day o) ≡ false)
-            → has (is_numbered u) (public_of day (Node a c o)) ≡ false
-        at true d k h in_c in_o = ap (has (is_numbered u)) (public_draft a c o d) ∙ in_o n.2
+        at : (b : Bool) → a.draft ≡ b → (k : Bool) → is_unit_closed day a ≡ k
+            → (has (has_id u) c ≡ false → has (has_public_number u) (public_of day c) ≡ false)
+            → (has (has_id u) o ≡ false → has (has_public_number u) (public_of day o) ≡ false)
+            → has (has_public_number u) (public_of day (Node a c o)) ≡ false
+        at true d k h in_c in_o = ap (has (has_public_number u)) (public_draft a c o d) ∙ in_o n.2
         at false d k h in_c in_o =
-            ap (has (is_numbered u)) (public_node a c o d) ∙ has_node (is_numbered u) (known_of day a) (seen_below (is_closed day a) c) (public_of day o)
-            ∙ ap (λ b. b || (has (is_numbered u) (seen_below (is_closed day a) c) || has (is_numbered u) (public_of day o))) (is_told a ∙ n.0)
-            ∙ ap (λ b. b || has (is_numbered u) (public_of day o)) (below (is_closed day a) in_c) ∙ in_o n.2
+            ap (has (has_public_number u)) (public_node a c o d) ∙ has_node (has_public_number u) (known_of day a) (seen_below (is_unit_closed day a) c) (public_of day o)
+            ∙ ap (λ b. b || (has (has_public_number u) (seen_below (is_unit_closed day a) c) || has (has_public_number u) (public_of day o))) (is_told a ∙ n.0)
+            ∙ ap (λ b. b || has (has_public_number u) (public_of day o)) (below (is_unit_closed day a) in_c) ∙ in_o n.2
 
     -- whether the public is shown the unit, by its path in the whole forest
     abbrev pub shown_in : Forest Unit → Bool
     shown_in f = shows_last day (map head_of (path (has_id u) f))
 
     abbrev Seen : Forest Unit → Forest PublicUnit → Type 0
-    Seen f g = Finds (is_numbered u) g (shown_in f) (map (known_of day) (path (has_id u) f)) (public_of day (tree (has_id u) f))
+    Seen f g = Finds (has_public_number u) g (shown_in f) (map (known_of day) (path (has_id u) f)) (public_of day (tree (has_id u) f))
 
     -- cut first and looked for then, or looked for first and judged by its path
     pub seen : (f : Forest Unit) → HasDistinctIds (each (λ (unit : Unit). unit.id) f) → Seen f (public_of day f)
@@ -173,47 +177,47 @@ module _ (day : ℤ) where
         -- the whole node's, where its path and its tree are known
         told_as : (way : List Unit) (part : Forest Unit) → path (has_id u) (Node a c o) ≡ way
             → tree (has_id u) (Node a c o) ≡ part
-            → Finds (is_numbered u) (public_of day (Node a c o)) (shows_last day (map head_of way)) (map (known_of day) way) (public_of day part)
+            → Finds (has_public_number u) (public_of day (Node a c o)) (shows_last day (map head_of way)) (map (known_of day) way) (public_of day part)
             → Seen (Node a c o) (public_of day (Node a c o))
         told_as way part e k it =
-            subst (λ t. Finds (is_numbered u) (public_of day (Node a c o)) (shown_in (Node a c o)) (map (known_of day) (path (has_id u) (Node a c o))) (public_of day t)) (sym k)
-            (subst (λ w. Finds (is_numbered u) (public_of day (Node a c o)) (shows_last day (map head_of w)) (map (known_of day) w) (public_of day part)) (sym e) it)
+            subst (λ t. Finds (has_public_number u) (public_of day (Node a c o)) (shown_in (Node a c o)) (map (known_of day) (path (has_id u) (Node a c o))) (public_of day t)) (sym k)
+            (subst (λ w. Finds (has_public_number u) (public_of day (Node a c o)) (shows_last day (map head_of w)) (map (known_of day) w) (public_of day part)) (sym e) it)
 
         cut : (g : Forest PublicUnit) → public_of day (Node a c o) ≡ g
-            → (b : Bool) (way : List PublicUnit) (part : Forest PublicUnit) → Finds (is_numbered u) g b way part
-            → Finds (is_numbered u) (public_of day (Node a c o)) b way part
-        cut g e b way part it = subst (λ h. Finds (is_numbered u) h b way part) (sym e) it
+            → (b : Bool) (way : List PublicUnit) (part : Forest PublicUnit) → Finds (has_public_number u) g b way part
+            → Finds (has_public_number u) (public_of day (Node a c o)) b way part
+        cut g e b way part it = subst (λ h. Finds (has_public_number u) h b way part) (sym e) it
 
         here : (b : Bool) → a.draft ≡ b → nat_eq u a.id ≡ true → has (has_id u) o ≡ false
-            → Finds (is_numbered u) (public_of day (Node a c o)) (not b) (known_of day a ∷ []) (public_of day (Node a c Empty))
-        here true e h none = cut (public_of day o) (public_draft a c o e) false _ _ (finds_none (is_numbered u) (public_of day o) _ _ (absent o none))
+            → Finds (has_public_number u) (public_of day (Node a c o)) (not b) (known_of day a ∷ []) (public_of day (Node a c Empty))
+        here true e h none = cut (public_of day o) (public_draft a c o e) false _ _ (finds_none (has_public_number u) (public_of day o) _ _ (absent o none))
         here false e h none =
             cut _ (public_node a c o e) true _ _
-            (subst (Finds (is_numbered u) (Node (known_of day a) (seen_below (is_closed day a) c) (public_of day o)) true (known_of day a ∷ [])) (sym (public_node a c Empty e))
-            (finds_here (is_numbered u) (known_of day a) (seen_below (is_closed day a) c) (public_of day o) (is_told a ∙ h)))
+            (subst (Finds (has_public_number u) (Node (known_of day a) (seen_below (is_unit_closed day a) c) (public_of day o)) true (known_of day a ∷ [])) (sym (public_node a c Empty e))
+            (finds_here (has_public_number u) (known_of day a) (seen_below (is_unit_closed day a) c) (public_of day o) (is_told a ∙ h)))
 
         -- it stands below the first
-        under : (b : Bool) → a.draft ≡ b → (k : Bool) → is_closed day a ≡ k
+        under : (b : Bool) → a.draft ≡ b → (k : Bool) → is_unit_closed day a ≡ k
             → (s : Bool) (way : List PublicUnit) (part : Forest PublicUnit) → nat_eq u a.id ≡ false
-            → has (has_id u) o ≡ false → Finds (is_numbered u) (public_of day c) s way part
-            → Finds (is_numbered u) (public_of day (Node a c o)) ((not b && not k) && s) (known_of day a ∷ way) part
+            → has (has_id u) o ≡ false → Finds (has_public_number u) (public_of day c) s way part
+            → Finds (has_public_number u) (public_of day (Node a c o)) ((not b && not k) && s) (known_of day a ∷ way) part
         under true e k h s way part n none it =
-            cut (public_of day o) (public_draft a c o e) false _ _ (finds_none (is_numbered u) (public_of day o) _ _ (absent o none))
+            cut (public_of day o) (public_draft a c o e) false _ _ (finds_none (has_public_number u) (public_of day o) _ _ (absent o none))
         under false e true h s way part n none it =
             cut _ (public_node a c o e ∙ ap (λ q. Node (known_of day a) (seen_below q c) (public_of day o)) h) false _ _
-            (finds_none (is_numbered u) (Node (known_of day a) Empty (public_of day o)) _ _ (ap (λ q. q || has (is_numbered u) (public_of day o)) (is_told a ∙ n) ∙ absent o none))
+            (finds_none (has_public_number u) (Node (known_of day a) Empty (public_of day o)) _ _ (ap (λ q. q || has (has_public_number u) (public_of day o)) (is_told a ∙ n) ∙ absent o none))
         under false e false h s way part n none it =
             cut _ (public_node a c o e ∙ ap (λ q. Node (known_of day a) (seen_below q c) (public_of day o)) h) s _ _
-            (finds_below (is_numbered u) (known_of day a) (public_of day c) (public_of day o) s way part (is_told a ∙ n) it (absent o none))
+            (finds_below (has_public_number u) (known_of day a) (public_of day c) (public_of day o) s way part (is_told a ∙ n) it (absent o none))
 
         aside : (b : Bool) → a.draft ≡ b → (s : Bool) (way : List PublicUnit) (part : Forest PublicUnit)
-            → nat_eq u a.id ≡ false → has (has_id u) c ≡ false → Finds (is_numbered u) (public_of day o) s way part
-            → Finds (is_numbered u) (public_of day (Node a c o)) s way part
+            → nat_eq u a.id ≡ false → has (has_id u) c ≡ false → Finds (has_public_number u) (public_of day o) s way part
+            → Finds (has_public_number u) (public_of day (Node a c o)) s way part
         aside true e s way part n none it = cut (public_of day o) (public_draft a c o e) s way part it
         aside false e s way part n none it =
-            cut _ (public_node a c o e) s way part (finds_beside (is_numbered u) (known_of day a) (seen_below (is_closed day a) c) (public_of day o) s way part (is_told a ∙ n) (below (is_closed day a)) it)
+            cut _ (public_node a c o e) s way part (finds_beside (has_public_number u) (known_of day a) (seen_below (is_unit_closed day a) c) (public_of day o) s way part (is_told a ∙ n) (below (is_unit_closed day a)) it)
           where
-            below : (q : Bool) → has (is_numbered u) (seen_below q c) ≡ false
+            below : (q : Bool) → has (has_public_number u) (seen_below q c) ≡ false
             below true = refl
             below false = absent c none
 
@@ -233,8 +237,8 @@ module _ (day : ℤ) where
             told_as (a ∷ path (has_id u) c) (tree (has_id u) c)
             (ap (λ b. cond b (a ∷ []) (cond (has (has_id u) c) (a ∷ path (has_id u) c) (path (has_id u) o))) n ∙ ap (λ b. cond b (a ∷ path (has_id u) c) (path (has_id u) o)) h)
             (ap (λ b. cond b (Node a c Empty) (cond (has (has_id u) c) (tree (has_id u) c) (tree (has_id u) o))) n ∙ ap (λ b. cond b (tree (has_id u) c) (tree (has_id u) o)) h)
-            (subst (λ b. Finds (is_numbered u) (public_of day (Node a c o)) b (known_of day a ∷ map (known_of day) (path (has_id u) c)) (public_of day (tree (has_id u) c))) (sym (longer (path (has_id u) c) it.above it.node it.way))
-            (under a.draft refl (is_closed day a) refl (shown_in c) _ _ n none in_c))
+            (subst (λ b. Finds (has_public_number u) (public_of day (Node a c o)) b (known_of day a ∷ map (known_of day) (path (has_id u) c)) (public_of day (tree (has_id u) c))) (sym (longer (path (has_id u) c) it.above it.node it.way))
+            (under a.draft refl (is_unit_closed day a) refl (shown_in c) _ _ n none in_c))
         on false n h in_c in_o =
             told_as (path (has_id u) o) (tree (has_id u) o)
             (ap (λ b. cond b (a ∷ []) (cond (has (has_id u) c) (a ∷ path (has_id u) c) (path (has_id u) o))) n ∙ ap (λ b. cond b (a ∷ path (has_id u) c) (path (has_id u) o)) h)

@@ -13,7 +13,7 @@ use Rattle.tree_core.specs.declared.marks.Kept.{Kept}
 use Rattle.catalogue_core.specs.Aids.{Repository, numbered_boxes, shown_unit}
 use Rattle.catalogue_core.specs.CatalogueMerge.{Catalogue, box_number}
 use Rattle.catalogue_core.specs.PublicForest.{PublicUnit, Told, Stub, public_unit}
-use Rattle.catalogue_core.specs.Units.{Unit, has_id, is_closed}
+use Rattle.catalogue_core.specs.Units.{Unit, has_id, is_unit_closed}
 use Rattle.catalogue_store.specs.declared.unit_values.UnitValues.{UnitValues}
 use Rattle.public_queries.specs.declared.visible_unit.Seen.{Seen}
 
@@ -62,12 +62,12 @@ shown_at at ids depth seen = record {
 abbrev pub Walked : Type 0
 Walked = (Unit × Bool) × ℕ
 
-abbrev pub kept_row : Walked → Kept
-kept_row row = record { id = row.0.0.id; depth = row.1; stub = row.0.1 }
+abbrev pub kept_from_walk : Walked → Kept
+kept_from_walk row = record { id = row.0.0.id; depth = row.1; stub = row.0.1 }
 
 -- what the public sees of a forest on a day
 abbrev pub public_units : ℤ → Forest Unit → Forest (Unit × Bool)
-public_units day f = public (λ unit. unit.draft) (is_closed day) f
+public_units day f = public (λ unit. unit.draft) (is_unit_closed day) f
 
 -- These units, printed one after another. `ids` are the identifiers on the way to the unit before them; the first
 -- `base` of these belong to the units above the aid.
@@ -82,9 +82,9 @@ along at containers base ids (row ∷ rows) =
 -- the catalogue has the unit under its number, and the unit is a stub if it is closed on that day
 pub record IsOf (day : ℤ) (c : Catalogue) (row : Walked) : Type 0 where
   pub found : find (has_id row.0.0.id) (nodes c.forest) ≡ Some row.0.0
-  pub stub : row.0.1 ≡ is_closed day row.0.0
+  pub stub : row.0.1 ≡ is_unit_closed day row.0.0
 
 -- what was kept of the marks describes these units
 pub record KeepsUnits (day : ℤ) (c : Catalogue) (kept : List Kept) (rows : List Walked) : Type 0 where
   pub each : AllByRecursion (IsOf day c) rows
-  pub told : kept ≡ map kept_row rows
+  pub told : kept ≡ map kept_from_walk rows

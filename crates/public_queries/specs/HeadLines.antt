@@ -1,5 +1,6 @@
 -- Which units the public is shown, and their head lines, as computed from heads.
-use Rattle.std.specs.Prelude.{ℕ, ℤ, int_lt, Bool, false, not, ◌&&◌, ◌++◌, cond, List, [], ◌∷◌, map, filter_map, Option, Some, None}
+use Rattle.std.specs.Prelude.{ℕ, ℤ, int_lt, Bool, false, not, ◌&&◌, ◌++◌, cond, List, [], ◌∷◌, map, filter_map, Option}
+use Rattle.std.specs.Prelude.{Some, None}
 use Rattle.std.specs.List.{list_all}
 use Rattle.isad_core.specs.Texts.{Bytes}
 use Rattle.isad_core.specs.Codes.{code_of}
@@ -55,5 +56,5 @@ bare_below at above day head =
 abbrev pub all_bare : Repository → List Bytes → ℤ → List Head → List (ℕ × Shown)
 all_bare at above day heads = filter_map (bare_below at above day) heads
 
-abbrev pub ids_of : List Head → List Bytes
-ids_of way = map (λ head. head.identifier) way
+abbrev pub head_identifiers : List Head → List Bytes
+head_identifiers way = map (λ head. head.identifier) way

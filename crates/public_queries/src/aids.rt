@@ -1,11 +1,12 @@
 //! The finding aid of a unit, printed as it is read.
 
-ghost use Rattle.std.specs.Prelude.{◌≡◌, ◌++◌, ◌∷◌, [], ⊤, List, length, map, OnOk, IfOk};
+ghost use Rattle.std.specs.Prelude.{◌≡◌, ◌++◌, ◌∷◌, [], List, length, map, OnOk, IfOk};
 ghost use Rattle.isad_core.specs.PrintedDescriptions.{aid as printed, unit_lines};
 ghost use Rattle.tree_core.specs.Forest.{HasDistinctIds, each, tree, walk};
 ghost use Rattle.catalogue_core.specs.Bounds.{IsKept};
 ghost use Rattle.catalogue_core.specs.Units.{has_id};
 ghost use Rattle.office_tables.specs.Calls.{Answers};
+ghost use Rattle.office_tables.specs.Premises.{◌within◌and◌gives◌, ◌within◌gives◌};
 ghost use Rattle.catalogue_statements.specs.Representation.{Represents};
 ghost use Rattle.catalogue_core.specs.Aids.{shown_below};
 ghost use Rattle.catalogue_core.specs.PublicForest.{public_of};
@@ -13,7 +14,7 @@ ghost use Rattle.office_core.specs.declared.query.Query.TheVariants as query;
 ghost use Rattle.refinement.specs.Representation.{office_of};
 ghost use Rattle.public_queries.specs.HeadLines.{repository_of};
 ghost use Rattle.public_queries.specs.InformedAnswers.{RespondsKnowing};
-ghost use Rattle.public_queries.specs.FindingAids.{KeepsUnits, Walked, along, kept_row, public_units, shown_at};
+ghost use Rattle.public_queries.specs.FindingAids.{KeepsUnits, Walked, along, kept_from_walk, public_units, shown_at};
 ghost use Rattle.public_queries.specs.KnownPaths.{IsTellable};
 
 use crate::own_rows::is_published;
@@ -37,8 +38,9 @@ fn kept_of<P: Places, S: Alter>(
     unit: Number,
     today: Day,
 ) -> Result<Vec<Kept>, StoreFault>
-    ensures answers { Answers S.Store (Represents P.represents P.version) IsKept tables.old tables.new result (λ _. ⊤)
-        (λ _ c kept. kept.items ≡ map kept_row (walk 0 (public_units today (tree (has_id unit) c.forest)))) }
+    ensures answers { Answers S.Store (Represents P.represents P.version) tables.old tables.new result
+        within IsKept
+        gives λ _ c kept. kept.items ≡ map kept_from_walk (walk 0 (public_units today (tree (has_id unit) c.forest))) }
 {
     let marks = branch_marks(alloc, tables, Some(unit))?;
     if marks.len() > MOST_MARKS {
@@ -84,10 +86,10 @@ fn units_text<P: Places, S: Alter>(
     above: Vec<Text>,
     kept: &[Kept],
 ) -> Result<List<u8>, StoreFault>
-    ensures answers { Answers S.Store (Represents P.represents P.version) IsKept tables.old tables.new result
-        (λ c. IsTellable c × (rows : List Walked) × KeepsUnits known.now.day c kept.now rows)
-        (λ _ c text. IsTellable c → (rows : List Walked) → KeepsUnits known.now.day c kept.now rows → text
-        ≡ printed (along (repository_of known.now) c.containers (length above.items) above.items rows)) }
+    ensures answers { Answers S.Store (Represents P.represents P.version) tables.old tables.new result
+        within IsKept and (λ c. IsTellable c × (rows : List Walked) × KeepsUnits known.now.day c kept.now rows)
+        gives λ _ c text. IsTellable c → (rows : List Walked) → KeepsUnits known.now.day c kept.now rows → text
+        ≡ printed (along (repository_of known.now) c.containers (length above.items) above.items rows) }
 {
     let base = above.len();
     let mut ids = above;
@@ -109,11 +111,11 @@ fn branch_text<P: Places, S: Alter>(
     unit: Number,
     above: Vec<Text>,
 ) -> Result<List<u8>, StoreFault>
-    ensures answers { Answers S.Store (Represents P.represents P.version) IsKept tables.old tables.new result
-        (λ c. IsTellable c × HasDistinctIds (each (λ u. u.id) c.forest))
-        (λ _ c text. IsTellable c → HasDistinctIds (each (λ u. u.id) c.forest)
+    ensures answers { Answers S.Store (Represents P.represents P.version) tables.old tables.new result
+        within IsKept and (λ c. IsTellable c × HasDistinctIds (each (λ u. u.id) c.forest))
+        gives λ _ c text. IsTellable c → HasDistinctIds (each (λ u. u.id) c.forest)
         → text ≡ printed (shown_below (repository_of known.now) c.containers above.items 0
-        (public_of known.now.day (tree (has_id unit) c.forest)))) }
+        (public_of known.now.day (tree (has_id unit) c.forest))) }
 {
     let kept = kept_of(alloc, tables, unit, known.day)?;
     units_text(alloc, tables, known, above, &kept)

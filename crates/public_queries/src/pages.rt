@@ -8,6 +8,7 @@ ghost use Rattle.catalogue_core.specs.Units.{«Unit» as Described, has_id};
 ghost use Rattle.catalogue_statements.specs.Representation.{Represents};
 ghost use Rattle.office_core.specs.declared.query.Query.TheVariants as query;
 ghost use Rattle.office_tables.specs.Calls.{Answers};
+ghost use Rattle.office_tables.specs.Premises.{◌within◌and◌gives◌};
 ghost use Rattle.refinement.specs.Representation.{office_of};
 ghost use Rattle.public_queries.specs.HeadLines.{all_bare, repository_of};
 ghost use Rattle.public_queries.specs.InformedAnswers.{RespondsKnowing};
@@ -34,10 +35,10 @@ fn values_there<P: Places, S: Alter>(
     tables: &mut Tables<P, S>,
     unit: Number,
 ) -> Result<UnitValues, StoreFault>
-    ensures answers { Answers S.Store (Represents P.represents P.version) IsKept tables.old tables.new result
-        (λ c. IsTellable c × (u : Described) × (find (has_id unit) (nodes c.forest) ≡ Some u))
-        (λ _ c told. IsTellable c → (u : Described) → find (has_id unit) (nodes c.forest) ≡ Some u
-        → told ≡ unit_values c.containers u) }
+    ensures answers { Answers S.Store (Represents P.represents P.version) tables.old tables.new result
+        within IsKept and (λ c. IsTellable c × (u : Described) × (find (has_id unit) (nodes c.forest) ≡ Some u))
+        gives λ _ c told. IsTellable c → (u : Described) → find (has_id unit) (nodes c.forest) ≡ Some u
+        → told ≡ unit_values c.containers u }
 {
     let Some(told) = values(alloc, tables, unit)? else {
         return Err(StoreFault::Schema);
@@ -51,10 +52,10 @@ fn values_of_all<P: Places, S: Alter>(
     tables: &mut Tables<P, S>,
     way: &[Head],
 ) -> Result<Vec<UnitValues>, StoreFault>
-    ensures answers { Answers S.Store (Represents P.represents P.version) IsKept tables.old tables.new result
-        (λ c. IsTellable c × AreHeadsOf c way.now)
-        (λ _ c units. IsTellable c → (of : AreHeadsOf c way.now)
-        → units.items ≡ map (unit_values c.containers) of.units) }
+    ensures answers { Answers S.Store (Represents P.represents P.version) tables.old tables.new result
+        within IsKept and (λ c. IsTellable c × AreHeadsOf c way.now)
+        gives λ _ c units. IsTellable c → (of : AreHeadsOf c way.now)
+        → units.items ≡ map (unit_values c.containers) of.units }
 {
     let mut units = Vec::new(alloc);
     for head in way {

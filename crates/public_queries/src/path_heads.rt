@@ -2,7 +2,7 @@
 
 ghost use Rattle.std.specs.Prelude.{◌≡◌, IfOk};
 ghost use Rattle.catalogue_core.specs.Pages.{before_last};
-ghost use Rattle.public_queries.specs.HeadLines.{are_open as all_open, ids_of, shows_last as represents};
+ghost use Rattle.public_queries.specs.HeadLines.{are_open as all_open, head_identifiers, shows_last as represents};
 
 use catalogue_store::Head;
 use isad_core::{Day, Text};
@@ -30,7 +30,7 @@ pub(crate) fn shows_last(way: &[Head], today: Day) -> bool
 
 /// The identifiers of these units.
 pub(crate) fn identifiers(alloc: Global, way: &[Head]) -> Result<Vec<Text>, AllocError>
-    ensures { IfOk result (λ ids. ids.items ≡ ids_of way.now) }
+    ensures { IfOk result (λ ids. ids.items ≡ head_identifiers way.now) }
 {
     let mut ids = Vec::new(alloc);
     for head in way {
@@ -41,7 +41,7 @@ pub(crate) fn identifiers(alloc: Global, way: &[Head]) -> Result<Vec<Text>, Allo
 
 /// The identifiers of the units above the last of a path.
 pub(crate) fn identifiers_above(alloc: Global, way: &[Head]) -> Result<Vec<Text>, AllocError>
-    ensures { IfOk result (λ ids. ids.items ≡ before_last (ids_of way.now)) }
+    ensures { IfOk result (λ ids. ids.items ≡ before_last (head_identifiers way.now)) }
 {
     match way.split_last() {
         None => Ok(Vec::new(alloc)),

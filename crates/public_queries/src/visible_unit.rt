@@ -7,8 +7,9 @@ ghost use Rattle.catalogue_core.specs.Bounds.{IsKept};
 ghost use Rattle.catalogue_core.specs.PublicForest.{«Told» as IsTold, Stub as IsClosed, public_unit};
 ghost use Rattle.catalogue_core.specs.Units.{«Unit» as Described, has_id};
 ghost use Rattle.office_tables.specs.Calls.{Answers};
+ghost use Rattle.office_tables.specs.Premises.{◌within◌and◌gives◌};
 ghost use Rattle.catalogue_statements.specs.Representation.{Represents};
-ghost use Rattle.public_queries.specs.FindingAids.{IsOf, Walked, kept_row, seen_of, seen_values, with_numbers};
+ghost use Rattle.public_queries.specs.FindingAids.{IsOf, Walked, kept_from_walk, seen_of, seen_values, with_numbers};
 ghost use Rattle.public_queries.specs.KnownPaths.{IsTellable};
 
 use crate::path_values::text_or_empty;
@@ -66,10 +67,10 @@ fn seen_open<P: Places, S: Alter>(
     tables: &mut Tables<P, S>,
     unit: Number,
 ) -> Result<Seen, StoreFault>
-    ensures answers { Answers S.Store (Represents P.represents P.version) IsKept tables.old tables.new result
-        (λ c. IsTellable c × (u : Described) × (find (has_id unit) (nodes c.forest) ≡ Some u))
-        (λ _ c seen. IsTellable c → (u : Described) → find (has_id unit) (nodes c.forest) ≡ Some u
-        → seen ≡ seen_of c.containers (IsTold u.id u.values)) }
+    ensures answers { Answers S.Store (Represents P.represents P.version) tables.old tables.new result
+        within IsKept and (λ c. IsTellable c × (u : Described) × (find (has_id unit) (nodes c.forest) ≡ Some u))
+        gives λ _ c seen. IsTellable c → (u : Described) → find (has_id unit) (nodes c.forest) ≡ Some u
+        → seen ≡ seen_of c.containers (IsTold u.id u.values) }
 {
     let Some(found) = values(alloc, tables, unit)? else {
         return Err(StoreFault::Schema);
@@ -83,10 +84,13 @@ fn seen_closed<P: Places, S: Alter>(
     tables: &mut Tables<P, S>,
     unit: Number,
 ) -> Result<Seen, StoreFault>
-    ensures answers { Answers S.Store (Represents P.represents P.version) IsKept tables.old tables.new result
-        (λ c. (u : Described) × (until : ℤ) × (find (has_id unit) (nodes c.forest) ≡ Some u) × (u.until ≡ Some until))
-        (λ _ c seen. (u : Described) (until : ℤ) → find (has_id unit) (nodes c.forest) ≡ Some u → u.until ≡ Some until
-        → seen ≡ seen_of c.containers (IsClosed u.id (identifier u.values) u.values.level until)) }
+    ensures answers { Answers S.Store (Represents P.represents P.version) tables.old tables.new result
+        within IsKept
+        and (λ c. (u : Described) × (until : ℤ) × (find (has_id unit) (nodes c.forest) ≡ Some u)
+        × (u.until ≡ Some until))
+        gives λ _ c seen.
+        (u : Described) (until : ℤ) → find (has_id unit) (nodes c.forest) ≡ Some u → u.until ≡ Some until
+        → seen ≡ seen_of c.containers (IsClosed u.id (identifier u.values) u.values.level until) }
 {
     let Some(head) = find_head(alloc, tables, unit)? else {
         return Err(StoreFault::Schema);
@@ -109,10 +113,10 @@ pub(crate) fn seen_unit<P: Places, S: Alter>(
     unit: Kept,
     today: Day,
 ) -> Result<Seen, StoreFault>
-    ensures answers { Answers S.Store (Represents P.represents P.version) IsKept tables.old tables.new result
-        (λ c. IsTellable c × (row : Walked) × IsOf today c row × (unit ≡ kept_row row))
-        (λ _ c seen. IsTellable c → (row : Walked) → IsOf today c row → unit ≡ kept_row row
-        → seen ≡ seen_of c.containers (public_unit row.0)) }
+    ensures answers { Answers S.Store (Represents P.represents P.version) tables.old tables.new result
+        within IsKept and (λ c. IsTellable c × (row : Walked) × IsOf today c row × (unit ≡ kept_from_walk row))
+        gives λ _ c seen. IsTellable c → (row : Walked) → IsOf today c row → unit ≡ kept_from_walk row
+        → seen ≡ seen_of c.containers (public_unit row.0) }
 {
     let number = known_number(unit.id)?;
     if unit.stub {

@@ -1,7 +1,8 @@
 -- A unit of a branch has the first unit of the branch on its path.
 use Rattle.std.proofs.Common.{◌≡◌, ℕ, Bool, true, false, cond, [], ◌++◌, inl, inr, refl, sym, ap, ◌∙◌, nat_eq}
 use Rattle.std.specs.Prelude.{◌||◌}
-use Rattle.refinement.proofs.Common.{Empty, Forest, HasDistinctIds, Node, append-nil, cases_Bool, false≢true, has, has_beside, has_child, list_any, nodes, other_id, parts, path, tree}
+use Rattle.refinement.proofs.Common.{Empty, Forest, HasDistinctIds, Node, append-nil, cases_Bool, false≢true, has}
+use Rattle.refinement.proofs.Common.{has_beside, has_child, list_any, nodes, other_id, parts, path, tree}
 
 -- the first of a list, or one of the others
 one_of : (x a : ℕ) (c : Forest ℕ) → has (nat_eq x) (Node a c Empty) ≡ true → nat_eq x a ≡ false

@@ -1,12 +1,16 @@
 -- What lies in a container is the same without a branch, where its unit does not lie there, and none of its units names the
 -- container.
-use Rattle.std.proofs.Common.{◌≡◌, ℕ, ℤ, Bool, true, false, cond, not, ◌&&◌, List, [], ◌∷◌, ◌++◌, append_assoc, filter, nat_eq, Option, Some, None, refl, sym, ap, ap₂, ◌∙◌}
+use Rattle.std.proofs.Common.{◌≡◌, ℕ, ℤ, Bool, true, false, cond, not, ◌&&◌, List, [], ◌∷◌, ◌++◌, append_assoc, filter}
+use Rattle.std.proofs.Common.{nat_eq, Option, Some, None, refl, sym, ap, ap₂, ◌∙◌}
 use Rattle.std.specs.Prelude.{◌||◌}
-use Rattle.isad_core.specs.Boxes.{is_same as is_same_box}
 use Rattle.tree_core.proofs.MarkWalks.{list_all-append}
 use Rattle.tree_core.proofs.SpanShifts.{cut_none}
 use Rattle.catalogue_core.specs.ContainerContents.{is_open}
-use Rattle.refinement.proofs.Common.{AllByRecursion, BoxKey, Empty, Forest, HasDistinctIds, Node, Unit, and_parts, append-nil, branch, containers_of, cut, cut-each, each, eqb-true, filter-append, fun_ext, has, has-each, has_id, housed_below, is_some_there, is_withheld_from, last_or, list_all, list_any, list_any-append, names_some, near, nodes, option_to_list, or-false, own_or, parts, path, paths_below, tree}
+use Rattle.refinement.proofs.Common.{AllByRecursion, BoxKey, Empty, Forest, HasDistinctIds, Node, Unit, and_parts}
+use Rattle.refinement.proofs.Common.{append-nil, branch, containers_of, cut, cut-each, each, eqb-true, filter-append}
+use Rattle.refinement.proofs.Common.{fun_ext, has, has-each, has_id, housed_below, is_same_box, is_some_there}
+use Rattle.refinement.proofs.Common.{is_withheld_from, last_or, list_all, list_any, list_any-append, names_some, near}
+use Rattle.refinement.proofs.Common.{nodes, option_to_list, or-false, own_or, parts, path, paths_below, tree}
 
 -- ---- truths
 

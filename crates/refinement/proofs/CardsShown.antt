@@ -6,7 +6,10 @@ use Rattle.desk_store.specs.declared.reader_summary.ReaderCard.{ReaderCard}
 use Rattle.office_core.specs.State.{State}
 use Rattle.state_encoding.proofs.OrdersPass.{count_rows}
 use Rattle.refinement.specs.Sitters.{sitter, sitter_of}
-use Rattle.refinement.proofs.Common.{IsSoundOffice, OrderRow, Reader, ReaderRow, Version, card_of, flipped, held_with, int_eq, is_some, is_some-map, is_ticket, length-rows, live_orders, nth, option_map, order_row, orders_placed, placed_on, reader_row, reader_with, tables, ticket_holder}
+use Rattle.refinement.proofs.Common.{IsSoundOffice, OrderRow, Reader, ReaderRow, Version, card_of, flipped, held_with}
+use Rattle.refinement.proofs.Common.{int_eq, is_some, is_some-map, is_ticket, length-rows, nth, option_map, order_row}
+use Rattle.refinement.proofs.Common.{orders_not_ended, orders_placed, placed_on, reader_row, reader_with, tables}
+use Rattle.refinement.proofs.Common.{ticket_holder}
 use Rattle.refinement.proofs.HeldShown.{held_shown}
 use Rattle.refinement.proofs.RowsOfLists.{found_row}
 use Rattle.refinement.proofs.SeatsShown.{seat_is}
@@ -21,15 +24,15 @@ module _ (version : Version) (s : State) (sound : IsSoundOffice s) (t : ℕ) whe
   card day reader = record {
     reader = sitter_of s t reader;
     name = reader.name;
-    live = live_orders t (tables version s).desk;
+    live = orders_not_ended t (tables version s).desk;
     placed = orders_placed s t day;
     orders = length s.orders;
   }
 
   card_at : (day : ℤ) (o : Option Reader) → option_map (λ (r : ReaderRow). (let c : ReaderCard = record {
-    reader = record { ticket = t; until = r.until; seat = store.seat_of t (tables version s).desk; held = held_with t (tables version s).desk };
+    reader = record { ticket = t; until = r.until; seat = store.seat_of_ticket t (tables version s).desk; held = held_with t (tables version s).desk };
     name = r.name;
-    live = live_orders t (tables version s).desk;
+    live = orders_not_ended t (tables version s).desk;
     placed = placed_on t day (tables version s).desk;
     orders = length (tables version s).desk.orders;
   } in c)) (option_map (reader_row t) o) ≡ option_map (card day) o
@@ -40,9 +43,9 @@ module _ (version : Version) (s : State) (sound : IsSoundOffice s) (t : ℕ) whe
   pub card_shown : (day : ℤ) → card_of t day (tables version s).desk ≡ option_map (card day) (nth s.readers t)
   card_shown day =
       ap (option_map (λ (r : ReaderRow). (let c : ReaderCard = record {
-        reader = record { ticket = t; until = r.until; seat = store.seat_of t (tables version s).desk; held = held_with t (tables version s).desk };
+        reader = record { ticket = t; until = r.until; seat = store.seat_of_ticket t (tables version s).desk; held = held_with t (tables version s).desk };
         name = r.name;
-        live = live_orders t (tables version s).desk;
+        live = orders_not_ended t (tables version s).desk;
         placed = placed_on t day (tables version s).desk;
         orders = length (tables version s).desk.orders;
       } in c))) (found_row reader_row (λ (r : ReaderRow). r.ticket) (λ n x. refl) t s.readers)
@@ -60,7 +63,7 @@ module _ (version : Version) (s : State) (sound : IsSoundOffice s) (t : ℕ) whe
 
   -- the tables tell who has a ticket
   abbrev holder_of_row : ReaderRow → Sitter
-  holder_of_row r = record { ticket = t; until = r.until; seat = store.seat_of t (tables version s).desk; held = held_with t (tables version s).desk }
+  holder_of_row r = record { ticket = t; until = r.until; seat = store.seat_of_ticket t (tables version s).desk; held = held_with t (tables version s).desk }
 
   holder_at : (o : Option Reader)
       → option_map holder_of_row (option_map (reader_row t) o) ≡ option_map (sitter_of s t) o

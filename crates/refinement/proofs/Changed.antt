@@ -2,7 +2,8 @@
 use Rattle.std.proofs.Common.{◌≡◌, ℕ, true, List}
 use Rattle.catalogue_core.specs.LegibleCatalogues.{IsLegibleCatalogue}
 use Rattle.office_core.specs.State.{State}
-use Rattle.refinement.proofs.Common.{AreTexts, Database, Forest, OnlyTouches, Represents, RepresentsState, Trees, Unit, Version, office_of, tables}
+use Rattle.refinement.proofs.Common.{AreTexts, Database, Forest, OnlyTouches, Represents, RepresentsState, Trees, Unit}
+use Rattle.refinement.proofs.Common.{Version, office_of, tables}
 use Rattle.refinement.proofs.Frames.{are_apart, desk_kept, desk_trees}
 
 module _ (s : State) (f : Forest Unit) where

@@ -1,12 +1,14 @@
 -- A command that is refused, and one of the desk that is accepted.
 use Rattle.std.proofs.Common.{◌≡◌, ℕ, true, List, [], ◌∷◌, Some, None, Ok, Err, sym, ap, subst, ◌∙◌}
 use Rattle.desk_core.specs.DeskRows.{Desk}
+use Rattle.office_tables.specs.Schema as schema
+use Rattle.office_core.proofs.Texts.{always_texts}
 use Rattle.office_core.specs.State.{State}
 use Rattle.office_core.specs.declared.done.Done.{Done}
-use Rattle.office_core.proofs.Texts.{always_texts}
 use Rattle.state_encoding.specs.OfficeRows as rows
-use Rattle.office_tables.specs.Schema as schema
-use Rattle.refinement.proofs.Common.{AreTexts, CarriesOutStep, Command, Database, Forest, NamesTexts, OnlyTouches, Refusal, Reply, RepresentsDesk, RepresentsState, Trees, Version, after, catalogue_trees, office_of, refusal, result_of}
+use Rattle.refinement.proofs.Common.{AreTexts, CarriesOutStep, Command, Database, Forest, NamesTexts, OnlyTouches}
+use Rattle.refinement.proofs.Common.{Refusal, Reply, RepresentsDesk, RepresentsState, Trees, Version, after}
+use Rattle.refinement.proofs.Common.{catalogue_trees, office_of, refusal, result_of}
 use Rattle.refinement.proofs.DeskSteps.{desk_step}
 use Rattle.refinement.proofs.Doings.{accepted, refused}
 use Rattle.refinement.proofs.Frames.{are_apart}

@@ -1,14 +1,21 @@
 -- The rules of the day, told of all containers and told of those that are out.
-use Rattle.std.proofs.Common.{◌≡◌, ℕ, ◌+◌, Bool, true, false, not, ◌&&◌, ◌||◌, cond, List, [], ◌∷◌, map, filter_map, Option, Some, None, refl, sym, ap, ◌∙◌, zero-add, nat_eq, nat_le, nat_lt, inl, inr}
+use Rattle.std.proofs.Common.{◌≡◌, ℕ, ◌+◌, Bool, true, false, not, ◌&&◌, ◌||◌, cond, List, [], ◌∷◌, map, filter_map}
+use Rattle.std.proofs.Common.{Option, Some, None, refl, sym, ap, ◌∙◌, zero-add, nat_eq, nat_le, nat_lt, inl, inr}
 use Rattle.std.specs.List.{count_by}
+use Rattle.desk_core.proofs.Counts.{count_cons, count_map}
 use Rattle.desk_core.specs.DeskRows.{Desk as Rows}
 use Rattle.desk_core.specs.declared.reader.Place.TheVariants.{Desk}
 use Rattle.desk_store.specs.Seats.{taken_seats}
 use Rattle.desk_store.specs.declared.taken_seats.TakenSeat.{TakenSeat}
 use Rattle.office_core.specs.State.{State}
 use Rattle.state_encoding.specs.Causes.{holds_well, is_held_against_rules}
-use Rattle.desk_core.proofs.Counts.{count_cons, count_map}
-use Rattle.refinement.proofs.Common.{ContainerOrder, Order, Out, Place, SeatRow, Shelf, Version, any_agree, are_against_rules, breaks_day_rules, cases_lt, cons_option, containers, flipped, has_no_row, has_too_many, held_count, holding_row, is_against_rules, is_by, is_closed_to, is_out_with, is_seated, is_without_seat, issued_by, issued_of, le-leb, le-ltb, list_any, list_any-map, lt-leb, lt-ltb, nth, occurs_more_than, opens, option_and_then, option_map, order_out, order_rows, some_and, tables}
+use Rattle.refinement.proofs.Common.{ContainerOrder, Order, Out, Place, SeatRow, Shelf, Version, any_agree}
+use Rattle.refinement.proofs.Common.{are_against_rules, breaks_day_rules, cases_lt, cons_option, containers, flipped}
+use Rattle.refinement.proofs.Common.{has_no_row, has_too_many, held_count, holding_row, is_against_rules, is_by}
+use Rattle.refinement.proofs.Common.{is_closed_to, is_out_with, is_seated, is_without_seat, issued_by, issued_of}
+use Rattle.refinement.proofs.Common.{le-leb, le-ltb, list_any, list_any-map, lt-leb, lt-ltb, nth}
+use Rattle.refinement.proofs.Common.{number_occurs_more_than, opens, option_and_then, option_map, order_out, order_rows}
+use Rattle.refinement.proofs.Common.{some_and, tables}
 use Rattle.refinement.proofs.Gates.{ticket_is}
 use Rattle.refinement.proofs.HeldShown.{same_sum}
 use Rattle.refinement.proofs.SeatsShown.{sits_by_row}
@@ -174,7 +181,7 @@ module _ (s : State) where
 -- ---- tickets that stand too often
 
 pub over_is : (hands : ℕ) (loans : List ContainerOrder)
-    → occurs_more_than hands (map (λ (loan : ContainerOrder). loan.ticket) loans) ≡ list_any (has_too_many hands loans) loans
+    → number_occurs_more_than hands (map (λ (loan : ContainerOrder). loan.ticket) loans) ≡ list_any (has_too_many hands loans) loans
 over_is hands loans =
     let ticket : ContainerOrder → ℕ = λ loan. loan.ticket in
     list_any-map (λ k. nat_lt hands (count_by (nat_eq k) (map ticket loans))) ticket loans

@@ -1,10 +1,11 @@
 -- A command of the desk: the tables show the next state, where its desk is the one that the call made.
 use Rattle.std.proofs.Common.{◌≡◌, ℕ, true, List, sym, subst}
 use Rattle.desk_core.specs.DeskRows.{Desk}
+use Rattle.office_tables.specs.Schema as tables
 use Rattle.office_core.specs.State.{State}
 use Rattle.state_encoding.specs.OfficeRows as rows
-use Rattle.office_tables.specs.Schema as tables
-use Rattle.refinement.proofs.Common.{AreTexts, Catalogue, Database, Forest, OfficeRow, OnlyTouches, Represents, RepresentsDesk, RepresentsState, Trees, Version, catalogue_trees, office_of}
+use Rattle.refinement.proofs.Common.{AreTexts, Catalogue, Database, Forest, OfficeRow, OnlyTouches, Represents}
+use Rattle.refinement.proofs.Common.{RepresentsDesk, RepresentsState, Trees, Version, catalogue_trees, office_of}
 use Rattle.refinement.proofs.Frames.{are_apart, catalogue_kept}
 
 -- the catalogue and the office's own row stay

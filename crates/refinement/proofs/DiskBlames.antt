@@ -1,8 +1,8 @@
 -- The fault of a call that reads in several steps blames the disk as the fault of its step does.
 use Rattle.std.proofs.Common.{◌≡◌, Err, Result, IfErr, sym, subst}
 use Rattle.sqlite.specs.State.{State}
-use Rattle.office_tables.specs.declared.fault.StoreFault.TheVariants as fault
 use Rattle.office_tables.proofs.WriteCauses.{disk_then}
+use Rattle.office_tables.specs.declared.fault.StoreFault.TheVariants as fault
 use Rattle.refinement.proofs.Common.{BlamesDisk, HasCause, HasCleanDisk, IsAborted, LeavesUnchanged, StoreFault, early}
 
 -- the first step fails

@@ -1,16 +1,22 @@
 -- How carrying out a command ends, and how a call ends that passes the fault of a step on.
 use Rattle.std.proofs.Common.{◌≡◌, ℕ, List, Option, Some, None, Ok, Err, Result, ap, sym, subst}
-use Rattle.sqlite_trees.specs.declared.store.Store as trees
 use Rattle.sqlite.specs.State as store
+use Rattle.sqlite_trees.specs.declared.store.Store as trees
 use Rattle.desk_core.specs.DeskRows.{Desk}
 use Rattle.desk_core.specs.LegibleDesks.{IsLegible}
-use Rattle.office_core.specs.State.{State}
-use Rattle.office_core.proofs.KeptOffices.{office_kept}
 use Rattle.office_tables.proofs.CallEnds as ends
 use Rattle.office_tables.proofs.Causes.{still_unlimited}
 use Rattle.office_tables.proofs.LaterCauses.{next_cause}
 use Rattle.office_tables.specs.declared.fault.StoreFault.TheVariants as fault
-use Rattle.refinement.proofs.Common.{Answers, CanBeJudged, CarriesOut, CarriesOutStep, Catalogue, Command, Continues, Database, Forest, Goes, HasCause, HasCleanDisk, Held, IsAborted, IsErr, IsErrAnd, IsKept, IsSoundOffice, IsUnlimited, LeavesUnchanged, OfficeRow, Refusal, Reply, Represents, RepresentsDeskAlone, RepresentsState, StoreFault, Trees, Updates, Version, after, cut_after, cut_then, decide, desk_legible, early, excused_then, goes_then, office_of, on_err_then, on_ok_then, refusal, result_of, same_fault, state, step, tables, ⊤}
+use Rattle.office_core.proofs.KeptOffices.{office_kept}
+use Rattle.office_core.specs.State.{State}
+use Rattle.refinement.proofs.Common.{Answers, CanBeJudged, CarriesOut, CarriesOutStep, Catalogue, Command, Continues}
+use Rattle.refinement.proofs.Common.{Database, Forest, Goes, HasCause, HasCleanDisk, Held, IsAborted, IsErr, IsErrAnd}
+use Rattle.refinement.proofs.Common.{IsKept, IsSoundOffice, IsUnlimited, LeavesUnchanged, OfficeRow, Refusal, Reply}
+use Rattle.refinement.proofs.Common.{Represents, RepresentsDeskAlone, RepresentsState, StoreFault, Trees, Updates}
+use Rattle.refinement.proofs.Common.{Version, after, cut_after, cut_then, decide, desk_legible, early, excused_then}
+use Rattle.refinement.proofs.Common.{goes_then, office_of, on_err_then, on_ok_then, refusal, result_of, same_fault}
+use Rattle.refinement.proofs.Common.{state, step, tables, ⊤}
 use Rattle.refinement.proofs.Crashes.{went}
 use Rattle.refinement.proofs.Judged.{judged_now}
 
@@ -108,7 +114,7 @@ module _ {places : Trees → Forest ℕ → Type 0} {version : Version} {known :
 -- there was no memory for what was read
 pub tells_full : {S X Stays Model : Type 0} {g : trees.Ghosts S} {represents : Database → Stays → Model → Type 0} {kept may : Model → Type 0} {before after : Held S} {r : Result X StoreFault} {answer : Stays → Model → X → Type 0}
     → IsErr r × IsErrAnd r (λ f. f ≡ fault.Memory) → LeavesUnchanged (state g before) (state g after)
-    → Answers g represents kept before after r may answer
+    → Answers g represents before after r may kept answer
 tells_full {g = g} {represents = represents} {kept = kept} {may = may} {before = before} {after = after} {r = r} {answer = answer} full looked =
     ends.tells_not g represents kept may before after r answer fault.Memory (same_fault r fault.Memory full.0 full.1) (cut_after (state g before) (state g after) looked.goes.on) (λ s m it allowed within clean free. tt)
 
@@ -117,11 +123,11 @@ module _ {S X Stays Model : Type 0} {g : trees.Ghosts S} {represents : Database 
   -- of its first step
   module _ (cut : IsAborted (state g before) (state g after))
       (why : (s : Stays) (m : Model) → represents (state g before).now s m → may m → kept m → HasCleanDisk (state g after) → IsUnlimited (state g before) → HasCause (state g before) (state g after) e) where
-    pub tells_passed : {answer : Stays → Model → X → Type 0} → Answers g represents kept before after r may answer
+    pub tells_passed : {answer : Stays → Model → X → Type 0} → Answers g represents before after r may kept answer
     tells_passed {answer} = ends.tells_not g represents kept may before after r answer e (same_fault r e handed.0 handed.1) cut why
 
     pub makes_passed : {made : Model → Model} {touched : List ℕ}
-        → Updates g represents kept before after r may made touched
+        → Updates g touched represents before after r may kept made
     makes_passed {made} {touched} =
         ends.makes_not g represents kept may before after r made touched e (same_fault r e handed.0 handed.1) cut why
 
@@ -129,7 +135,7 @@ module _ {S X Stays Model : Type 0} {g : trees.Ghosts S} {represents : Database 
   pub tells_passed_later : {b : store.State} {answer : Stays → Model → X → Type 0} → LeavesUnchanged (state g before) b
       → IsAborted b (state g after)
       → ((s : Stays) (m : Model) → represents b.now s m → may m → kept m → HasCleanDisk (state g after) → IsUnlimited b → HasCause b (state g after) e)
-      → Answers g represents kept before after r may answer
+      → Answers g represents before after r may kept answer
   tells_passed_later {b} {answer} looked cut why =
       let a = state g before in
       let c = state g after in
@@ -142,6 +148,6 @@ module _ {S X Stays Model : Type 0} {g : trees.Ghosts S} {represents : Database 
   pub makes_passed_later : (mid : Held S) {made : Model → Model} {touched : List ℕ}
       → Continues (state g before) (state g mid) → IsAborted (state g mid) (state g after)
       → ((s : Stays) (m : Model) → represents (state g before).now s m → may m → kept m → HasCleanDisk (state g mid) → HasCleanDisk (state g after) → IsUnlimited (state g mid) → HasCause (state g mid) (state g after) e)
-      → Updates g represents kept before after r may made touched
+      → Updates g touched represents before after r may kept made
   makes_passed_later mid {made} {touched} on cut why =
       ends.makes_cut g represents kept may before mid after r made touched e (same_fault r e handed.0 handed.1) on cut why

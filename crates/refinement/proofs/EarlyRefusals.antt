@@ -1,8 +1,13 @@
 -- A change that withholds the changed unit itself is refused, and only lower containers are asked.
-use Rattle.std.proofs.Common.{◌≡◌, ℕ, zero, suc, Bool, true, false, cond, List, [], ◌∷◌, Option, Some, None, inl, inr, map, take, refl, sym, ap, ◌∙◌}
+use Rattle.std.proofs.Common.{◌≡◌, ℕ, zero, suc, Bool, true, false, cond, List, [], ◌∷◌, Option, Some, None, inl, inr}
+use Rattle.std.proofs.Common.{map, take, refl, sym, ap, ◌∙◌}
 use Rattle.std.specs.Prelude.{filter}
 use Rattle.office_core.specs.State.{State}
-use Rattle.refinement.proofs.Common.{AreAsked, CanBeJudged, ContainerOrder, HousedUnit, IsHoused, IsWithheldAt, OthersAreOpen, Version, and_parts, cases_Bool, false≢true, first_closed, first_that, is_closed_to, is_one_of, is_permitted, is_withheld_in, issued_of, lowest_withheld, option_map, slice_get, slice_index_or, some_and, tables, with_permit, withholds}
+use Rattle.refinement.proofs.Common.{AreAsked, CanBeJudged, ContainerOrder, HousedUnit, IsHoused, IsWithheldAt}
+use Rattle.refinement.proofs.Common.{OthersAreOpen, Version, and_parts, cases_Bool, false≢true, first_closed}
+use Rattle.refinement.proofs.Common.{first_that, is_closed_to, is_one_of, is_permitted, is_withheld_in, issued_of}
+use Rattle.refinement.proofs.Common.{lowest_withheld, option_map, slice_get, slice_index_or, some_and, tables}
+use Rattle.refinement.proofs.Common.{with_permit, withholds}
 use Rattle.refinement.proofs.Gates.{enough_of}
 use Rattle.refinement.proofs.NamedApart.{near_by_itself}
 use Rattle.refinement.proofs.WithheldUnits.{withheld_closes}

@@ -3,7 +3,9 @@ use Rattle.std.proofs.Common.{◌≡◌, ℕ, ℤ, Bool, true, false, not, ◌&&
 use Rattle.sqlite.specs.Order.{Row}
 use Rattle.desk_core.specs.DeskRows.{Desk}
 use Rattle.office_tables.specs.Schema as tables
-use Rattle.refinement.proofs.Common.{AllByRecursion, Catalogue, Database, Forest, HasNumbered, OfficeRow, OnlyTouches, Represents, RepresentsDesk, RepresentsOffice, Trees, Version, and_parts, catalogue_trees, described_trees, each, list_all, list_any, table_trees}
+use Rattle.refinement.proofs.Common.{AllByRecursion, Catalogue, Database, Forest, HasNumbered, OfficeRow, OnlyTouches}
+use Rattle.refinement.proofs.Common.{Represents, RepresentsDesk, RepresentsOffice, Trees, Version, and_parts}
+use Rattle.refinement.proofs.Common.{catalogue_trees, described_trees, each, list_all, list_any, table_trees}
 
 -- the trees of the desk's tables
 abbrev pub desk_trees : List ℕ

@@ -1,9 +1,14 @@
 -- The gate as it is read from tables, and as the rules have it.
-use Rattle.std.proofs.Common.{◌≡◌, ℕ, zero, suc, ◌+◌, ◌<◌, Bool, true, false, not, cond, List, [], ◌∷◌, length, take, Option, Some, None, refl, sym, ap, subst, ◌∙◌, arith}
+use Rattle.std.proofs.Common.{◌≡◌, ℕ, zero, suc, ◌+◌, ◌<◌, Bool, true, false, not, cond, List, [], ◌∷◌, length, take}
+use Rattle.std.proofs.Common.{Option, Some, None, refl, sym, ap, subst, ◌∙◌, arith}
 use Rattle.std.specs.Prelude.{◌||◌, filter, filter_map}
 use Rattle.desk_core.specs.declared.reader.Place.TheVariants.{Desk}
 use Rattle.office_core.specs.State.{State}
-use Rattle.refinement.proofs.Common.{AreEnough, CanBeJudged, ContainerOrder, HoldingRow, Order, OrderRow, Out, Place, Shelf, Version, cons_option, containers, first_closed, first_that, holding_row, is_closed_to, is_kept_from_holder, is_some, issued_by, issued_of, list_any, lowest_withheld, nth, opens, option_map, order_out, order_row, order_rows, slice_index_or, some_and, tables, ticket_of}
+use Rattle.refinement.proofs.Common.{AreEnough, CanBeJudged, ContainerOrder, HoldingRow, Order, OrderRow, Out, Place}
+use Rattle.refinement.proofs.Common.{Shelf, Version, cons_option, containers, first_closed, first_that, holding_row}
+use Rattle.refinement.proofs.Common.{is_closed_to, is_kept_from_holder, is_some, issued_by, issued_of, list_any}
+use Rattle.refinement.proofs.Common.{lowest_withheld, nth, opens, option_map, order_out, order_row, order_rows}
+use Rattle.refinement.proofs.Common.{slice_index_or, some_and, tables, ticket_of}
 use Rattle.refinement.proofs.RowsOfLists.{found_row}
 
 -- ---- the first that passes, found one by one

@@ -1,10 +1,13 @@
 -- Permits only open more: a unit that nothing withholds from a reader without permits is open to everybody.
-use Rattle.std.proofs.Common.{◌≡◌, ℕ, ℤ, Bool, true, false, cond, not, List, [], ◌∷◌, ◌++◌, map, refl, sym, ap, ap₂, ◌∙◌, nat_eq}
+use Rattle.std.proofs.Common.{◌≡◌, ℕ, ℤ, Bool, true, false, cond, not, List, [], ◌∷◌, ◌++◌, map, refl, sym, ap, ap₂}
+use Rattle.std.proofs.Common.{◌∙◌, nat_eq}
 use Rattle.std.specs.Prelude.{◌&&◌, ◌||◌, filter}
-use Rattle.desk_store.specs.declared.reader_permits.Permit.{Permit}
-use Rattle.tree_core.specs.Marks.{is_closed}
 use Rattle.tree_core.specs.Visibility.{sharing_paths}
-use Rattle.refinement.proofs.Common.{Catalogue, Empty, Forest, Mark, Node, Unit, allows, and_from, and_parts, are_clean_for, contents_paths, each, has_id, int_le, is_clean, is_clean_for, is_opened_above, is_some_there, list_all, list_any, list_any-map, map-append, mark_for, mark_of, path, tree, withholds}
+use Rattle.desk_store.specs.declared.reader_permits.Permit.{Permit}
+use Rattle.refinement.proofs.Common.{Catalogue, Empty, Forest, Mark, Node, Unit, allows, and_from, and_parts}
+use Rattle.refinement.proofs.Common.{are_clean_for, contents_paths, each, has_id, int_le, is_clean_by_marks}
+use Rattle.refinement.proofs.Common.{is_clean_for, is_closed, is_opened_above, is_some_there, list_all, list_any}
+use Rattle.refinement.proofs.Common.{list_any-map, map-append, mark_for, mark_of, path, tree, withholds}
 
 -- the reader has no permits
 abbrev never : ℕ → Bool
@@ -91,8 +94,8 @@ module _ (q : ℕ → Bool) (day : ℤ) where
       and_from _ _ (seen_more opened way both.0) (all_seen_more opened ways both.1)
 
   clean_more_marks : (way : List Unit) (t : Forest Unit)
-      → is_clean day (map (mark_for never) way) (each (mark_for never) t) ≡ true
-      → is_clean day (map (mark_for q) way) (each (mark_for q) t) ≡ true
+      → is_clean_by_marks day (map (mark_for never) way) (each (mark_for never) t) ≡ true
+      → is_clean_by_marks day (map (mark_for q) way) (each (mark_for q) t) ≡ true
   clean_more_marks way Empty clean = seen_more false way clean
   clean_more_marks way (Node u below others) clean =
       let opened = is_opened_above (map (mark_for never) way) in

@@ -1,8 +1,12 @@
 -- Nothing of a branch lies in a container where no unit of the branch names it, and the branch's first unit does not lie there.
-use Rattle.std.proofs.Common.{◌≡◌, ℕ, Bool, true, false, cond, List, [], ◌∷◌, map, filter, nat_eq, refl, sym, ap, ap₂, ◌∙◌}
+use Rattle.std.proofs.Common.{◌≡◌, ℕ, Bool, true, false, cond, List, [], ◌∷◌, map, filter, nat_eq, refl, sym, ap, ap₂}
+use Rattle.std.proofs.Common.{◌∙◌}
 use Rattle.std.specs.Prelude.{◌&&◌, ◌||◌, IsPermutation}
 use Rattle.office_core.specs.State.{State}
-use Rattle.refinement.proofs.Common.{CanBeJudged, HousedUnit, HousingRow, IsHoused, RepresentsHousings, Trees, Unit, branch, branch-each, each, eqb_comm, has_id, is_named_near, is_on_path, is_one_of, list_any, list_any-IsPermutation, list_any-append, list_any-map, names, nearest, says_so}
+use Rattle.refinement.proofs.Common.{CanBeJudged, HousedUnit, HousingRow, IsHoused, RepresentsHousings, Trees, Unit}
+use Rattle.refinement.proofs.Common.{branch, branch-each, each, eqb_comm, has_id, is_named_near, is_on_path, is_one_of}
+use Rattle.refinement.proofs.Common.{list_any, list_any-IsPermutation, list_any-append, list_any-map, names_container}
+use Rattle.refinement.proofs.Common.{nearest, says_so}
 use Rattle.refinement.proofs.BranchMembers.{off_path}
 use Rattle.refinement.proofs.BranchesApart.{neither}
 use Rattle.refinement.proofs.DayRules.{any_of_both}
@@ -58,7 +62,7 @@ module _ (s : State) (judged : CanBeJudged s) (u n : ℕ) where
   branch_apart : (db : Trees) (shown : RepresentsHousings db s.catalogue.forest s.catalogue.containers) (rows : List HousingRow)
       → IsPermutation (filter (λ (h : HousingRow). nat_eq n h.container) shown.housings) rows
       → list_any (is_on_path u s) (map (λ (h : HousingRow). h.unit) rows) ≡ false
-      → list_any (names s.catalogue.containers n) (branch (has_id u) s.catalogue.forest) ≡ false
+      → list_any (names_container s.catalogue.containers n) (branch (has_id u) s.catalogue.forest) ≡ false
   branch_apart db shown rows same none =
       let f = s.catalogue.forest in
       let mine = filter (λ (h : HousingRow). nat_eq n h.container) shown.housings in
@@ -76,15 +80,15 @@ module _ (s : State) (judged : CanBeJudged s) (u n : ℕ) where
         → is_one_of n it.containers.items ≡ false
         → list_any (is_on_path u s) (map (λ (h : HousingRow). h.unit) rows) ≡ false → is_named_near u s n ≡ false
     apart_by_rows db shown rows same outside none =
-        list_any-append (names s.catalogue.containers n) (branch (has_id u) s.catalogue.forest) (nearest u s.catalogue.forest)
+        list_any-append (names_container s.catalogue.containers n) (branch (has_id u) s.catalogue.forest) (nearest u s.catalogue.forest)
         ∙ ap₂ ◌||◌ (branch_apart db shown rows same none) (sym (housed.containers n) ∙ outside)
 
     -- a container in which it lies itself is near
     pub near_by_itself : is_one_of n it.containers.items ≡ true → is_named_near u s n ≡ true
     near_by_itself inside =
-        list_any-append (names s.catalogue.containers n) (branch (has_id u) s.catalogue.forest) (nearest u s.catalogue.forest)
-        ∙ ap (λ b. list_any (names s.catalogue.containers n) (branch (has_id u) s.catalogue.forest) || b) (sym (housed.containers n) ∙ inside)
-        ∙ always (list_any (names s.catalogue.containers n) (branch (has_id u) s.catalogue.forest))
+        list_any-append (names_container s.catalogue.containers n) (branch (has_id u) s.catalogue.forest) (nearest u s.catalogue.forest)
+        ∙ ap (λ b. list_any (names_container s.catalogue.containers n) (branch (has_id u) s.catalogue.forest) || b) (sym (housed.containers n) ∙ inside)
+        ∙ always (list_any (names_container s.catalogue.containers n) (branch (has_id u) s.catalogue.forest))
       where
         always : (b : Bool) → (b || true) ≡ true
         always true = refl

@@ -1,12 +1,14 @@
 -- Which units name the container with a number.
-use Rattle.std.proofs.Common.{◌≡◌, ℕ, zero, suc, Bool, true, List, [], ◌∷◌, Option, Some, None, inl, inr, refl, sym, ap, ap₂, cond, ◌∙◌, nat_eq, arith}
+use Rattle.std.proofs.Common.{◌≡◌, ℕ, zero, suc, Bool, true, List, [], ◌∷◌, Option, Some, None, inl, inr, refl, sym, ap}
+use Rattle.std.proofs.Common.{ap₂, cond, ◌∙◌, nat_eq, arith}
 use Rattle.std.specs.Prelude.{◌&&◌, ◌||◌, filter}
 use Rattle.std.specs.Str.{bytes_eq}
-use Rattle.isad_core.specs.Boxes.{distinct, is_same as is_same_box}
 use Rattle.isad_core.specs.Texts.{Bytes}
 use Rattle.catalogue_core.proofs.BoxPlaces.{numbers_are_places}
 use Rattle.catalogue_core.proofs.ImportedAgain.{box_itself, one_text}
-use Rattle.refinement.proofs.Common.{AllByRecursion, BoxKey, Unit, and_parts, box_number, cases_Bool, eq-eqb, eqb-true, false≢true, list_all, list_any, names, nat_tests, nth, slice_get, some_and}
+use Rattle.refinement.proofs.Common.{AllByRecursion, BoxKey, Unit, and_parts, box_number, cases_Bool, distinct, eq-eqb}
+use Rattle.refinement.proofs.Common.{eqb-true, false≢true, is_same_box, list_all, list_any, names_container, nat_tests}
+use Rattle.refinement.proofs.Common.{nth, slice_get, some_and}
 
 one_box : (a b : BoxKey) → is_same_box a b ≡ true → a ≡ b
 one_box a b h =
@@ -72,7 +74,7 @@ names_one cs apart n (b ∷ boxes) known =
 
 pub named : (cs : List BoxKey) → distinct cs ≡ cs → (n : ℕ) (units : List Unit)
     → AllByRecursion (λ (unit : Unit). list_all (λ b. list_any (is_same_box b) cs) unit.values.boxes ≡ true) units
-    → filter (names cs n) units ≡ filter (names_it (nth cs n)) units
+    → filter (names_container cs n) units ≡ filter (names_it (nth cs n)) units
 named cs apart n [] known = refl
 named cs apart n (unit ∷ units) known =
     ap₂ (λ b l. cond b (unit ∷ l) l) (names_one cs apart n unit.values.boxes known.0) (named cs apart n units known.1)

@@ -1,8 +1,15 @@
 -- The containers that the units near a unit name, as they are read from rows.
-use Rattle.std.proofs.Common.{◌≡◌, ℕ, ◌+◌, ◌<◌, Bool, true, false, cond, not, List, [], ◌∷◌, ◌++◌, length, map, filter, take, get_or, nat_eq, refl, sym, ap, ap₂, subst, ◌∙◌, arith}
+use Rattle.std.proofs.Common.{◌≡◌, ℕ, ◌+◌, ◌<◌, Bool, true, false, cond, not, List, [], ◌∷◌, ◌++◌, length, map, filter}
+use Rattle.std.proofs.Common.{take, get_or, nat_eq, refl, sym, ap, ap₂, subst, ◌∙◌, arith}
 use Rattle.std.specs.Prelude.{◌&&◌, ◌||◌, IsPermutation, Option, Some, None}
 use Rattle.catalogue_core.proofs.DistinctLists.{all_so}
-use Rattle.refinement.proofs.Common.{AllByRecursion, BoxKey, Empty, Forest, Housing, HousingRow, Node, RepresentsHousings, Trees, Unit, all_append, all_split, any_agree, append-nil, box_number, branch, counted_from, eqb_comm, filter_more, has, has_id, has_row, housing_cells, housings_of, is_one_of, is_some_there, last_or, list_any, list_any-IsPermutation, list_any-append, list_any-map, names, names_some, nat_tests, near, nearest, nodes, option_map, option_to_list, or-false, path, says_so, take_more, tree}
+use Rattle.refinement.proofs.Common.{AllByRecursion, BoxKey, Empty, Forest, Housing, HousingRow, Node}
+use Rattle.refinement.proofs.Common.{RepresentsHousings, Trees, Unit, all_append, all_split, any_agree, append-nil}
+use Rattle.refinement.proofs.Common.{box_number, branch, counted_from, eqb_comm, filter_more, has, has_housing_row}
+use Rattle.refinement.proofs.Common.{has_id, housing_places, is_one_of, is_some_there, last_or, list_any}
+use Rattle.refinement.proofs.Common.{list_any-IsPermutation, list_any-append, list_any-map, names_container, names_some}
+use Rattle.refinement.proofs.Common.{nat_tests, near, nearest, nodes, numbered_containers, option_map, option_to_list}
+use Rattle.refinement.proofs.Common.{or-false, path, says_so, take_more, tree}
 
 -- ---- lists
 
@@ -132,36 +139,36 @@ module _ (db : Trees) (f : Forest Unit) (containers : List BoxKey) (shown : Repr
   abbrev here : ℕ × ℕ → Bool
   here c = nat_eq c.1 n
 
-  says : (unit : Unit) → IsPermutation (housing_cells containers unit.values) (housings_of unit.id shown.housings)
-      → list_any (says_so n unit.id) shown.housings ≡ names containers n unit
+  says : (unit : Unit) → IsPermutation (numbered_containers containers unit.values) (housing_places unit.id shown.housings)
+      → list_any (says_so n unit.id) shown.housings ≡ names_container containers n unit
   says unit same =
       let mine : HousingRow → Bool = λ (h : HousingRow). nat_eq unit.id h.unit in
       sym (any_filtered (λ (h : HousingRow). nat_eq h.container n) mine shown.housings)
       ∙ sym (list_any-map here cell (filter mine shown.housings))
-      ∙ sym (list_any-IsPermutation here (housing_cells containers unit.values) (housings_of unit.id shown.housings) same)
+      ∙ sym (list_any-IsPermutation here (numbered_containers containers unit.values) (housing_places unit.id shown.housings) same)
       ∙ list_any-map here (λ (box : ℕ × BoxKey). (let c : ℕ × ℕ = (box.0, box_number containers box.1) in c)) (counted_from 1 unit.values.boxes)
       ∙ any_counted (λ box. nat_eq (box_number containers box) n) 1 unit.values.boxes
       ∙ any_agree (λ box. nat_eq (box_number containers box) n) (λ box. nat_eq n (box_number containers box)) unit.values.boxes (λ box. eqb_comm (box_number containers box) n)
 
   IsSaid : Unit → Type 0
-  IsSaid unit = list_any (says_so n unit.id) shown.housings ≡ names containers n unit
+  IsSaid unit = list_any (says_so n unit.id) shown.housings ≡ names_container containers n unit
 
   all_said : (units : List Unit) → AllByRecursion IsSaid units
-      → list_any (λ u. list_any (says_so n u) shown.housings) (map (λ (unit : Unit). unit.id) units) ≡ list_any (names containers n) units
+      → list_any (λ u. list_any (says_so n u) shown.housings) (map (λ (unit : Unit). unit.id) units) ≡ list_any (names_container containers n) units
   unfolding IsSaid
   all_said [] all = refl
   all_said (unit ∷ units) all = ap₂ ◌||◌ all.0 (all_said units all.1)
 
   each_said : AllByRecursion IsSaid (nodes f)
   unfolding IsSaid
-  each_said = all_so (λ (unit : Unit). IsPermutation (housing_cells containers unit.values) (housings_of unit.id shown.housings)) IsSaid says (nodes f) shown.are
+  each_said = all_so (λ (unit : Unit). IsPermutation (numbered_containers containers unit.values) (housing_places unit.id shown.housings)) IsSaid says (nodes f) shown.are
 
   pub branch_named : (u : ℕ)
-      → list_any (λ u. list_any (says_so n u) shown.housings) (map (λ (unit : Unit). unit.id) (branch (has_id u) f)) ≡ list_any (names containers n) (branch (has_id u) f)
+      → list_any (λ u. list_any (says_so n u) shown.housings) (map (λ (unit : Unit). unit.id) (branch (has_id u) f)) ≡ list_any (names_container containers n) (branch (has_id u) f)
   branch_named u = all_said (branch (has_id u) f) (all_branch IsSaid (has_id u) f each_said)
 
   pub nearest_named : (u : ℕ)
-      → list_any (λ u. list_any (says_so n u) shown.housings) (map (λ (unit : Unit). unit.id) (nearest u f)) ≡ list_any (names containers n) (nearest u f)
+      → list_any (λ u. list_any (says_so n u) shown.housings) (map (λ (unit : Unit). unit.id) (nearest u f)) ≡ list_any (names_container containers n) (nearest u f)
   nearest_named u = all_said (nearest u f) (all_last IsSaid names_some None (path (has_id u) f) tt (all_path IsSaid (has_id u) f each_said))
 
 -- ---- which unit has containers of its own
@@ -185,7 +192,7 @@ some_told f (x ∷ xs) = grind (arith, nat_tests)
 
 -- the rows of a unit are none where no row is of the unit
 pub rows_of_unit : (xs ys : List HousingRow) (unit : ℕ)
-    → IsPermutation (filter (λ (h : HousingRow). nat_eq unit h.unit) xs) ys → has_row xs unit ≡ list_any (λ _. true) ys
+    → IsPermutation (filter (λ (h : HousingRow). nat_eq unit h.unit) xs) ys → has_housing_row xs unit ≡ list_any (λ _. true) ys
 rows_of_unit xs ys unit same =
     sym (some_filtered (λ (h : HousingRow). nat_eq unit h.unit) xs)
     ∙ list_any-IsPermutation (λ _. true) (filter (λ (h : HousingRow). nat_eq unit h.unit) xs) ys same
@@ -195,24 +202,24 @@ module _ (db : Trees) (f : Forest Unit) (containers : List BoxKey) (shown : Repr
   own_cell h = (h.ord, h.container)
 
   HasRows : Unit → Type 0
-  HasRows unit = has_row shown.housings unit.id ≡ names_some unit
+  HasRows unit = has_housing_row shown.housings unit.id ≡ names_some unit
 
-  has_rows : (unit : Unit) → IsPermutation (housing_cells containers unit.values) (housings_of unit.id shown.housings)
+  has_rows : (unit : Unit) → IsPermutation (numbered_containers containers unit.values) (housing_places unit.id shown.housings)
       → HasRows unit
   unfolding own_cell HasRows
   has_rows unit same =
       let mine : HousingRow → Bool = λ (h : HousingRow). nat_eq unit.id h.unit in
       sym (some_filtered mine shown.housings)
       ∙ sym (list_any-map (λ _. true) own_cell (filter mine shown.housings))
-      ∙ sym (list_any-IsPermutation (λ _. true) (housing_cells containers unit.values) (housings_of unit.id shown.housings) same)
+      ∙ sym (list_any-IsPermutation (λ _. true) (numbered_containers containers unit.values) (housing_places unit.id shown.housings) same)
       ∙ list_any-map (λ _. true) (λ (box : ℕ × BoxKey). (let c : ℕ × ℕ = (box.0, box_number containers box.1) in c)) (counted_from 1 unit.values.boxes)
       ∙ some_counted 1 unit.values.boxes
 
   -- the last of a path that has rows is the last that names some
   pub last_with_rows : (u : ℕ)
-      → option_to_list (last_or None (filter (has_row shown.housings) (map (λ (unit : Unit). unit.id) (path (has_id u) f)))) ≡ map (λ (unit : Unit). unit.id) (option_to_list (last_or None (filter names_some (path (has_id u) f))))
+      → option_to_list (last_or None (filter (has_housing_row shown.housings) (map (λ (unit : Unit). unit.id) (path (has_id u) f)))) ≡ map (λ (unit : Unit). unit.id) (option_to_list (last_or None (filter names_some (path (has_id u) f))))
   unfolding HasRows
   last_with_rows u =
       let each_has : AllByRecursion HasRows (nodes f) =
-      all_so (λ (unit : Unit). IsPermutation (housing_cells containers unit.values) (housings_of unit.id shown.housings)) HasRows has_rows (nodes f) shown.are in
-      last_of_others (λ (unit : Unit). unit.id) (has_row shown.housings) names_some None (path (has_id u) f) (all_path HasRows (has_id u) f each_has)
+      all_so (λ (unit : Unit). IsPermutation (numbered_containers containers unit.values) (housing_places unit.id shown.housings)) HasRows has_rows (nodes f) shown.are in
+      last_of_others (λ (unit : Unit). unit.id) (has_housing_row shown.housings) names_some None (path (has_id u) f) (all_path HasRows (has_id u) f each_has)

@@ -1,10 +1,12 @@
 -- Only the permits for units that are there bear on what is open.
-use Rattle.std.proofs.Common.{◌≡◌, ℕ, ℤ, Bool, true, false, cond, not, List, [], ◌∷◌, ◌++◌, filter, nat_eq, refl, sym, ap, ap₂, ◌∙◌}
+use Rattle.std.proofs.Common.{◌≡◌, ℕ, ℤ, Bool, true, false, cond, not, List, [], ◌∷◌, ◌++◌, filter, nat_eq, refl, sym}
+use Rattle.std.proofs.Common.{ap, ap₂, ◌∙◌}
 use Rattle.std.specs.Prelude.{◌&&◌, ◌||◌}
 use Rattle.catalogue_core.specs.ContainerContents.{is_open}
-use Rattle.catalogue_core.specs.Units.{is_closed}
 use Rattle.office_core.specs.State.{Permit}
-use Rattle.refinement.proofs.Common.{AllByRecursion, BoxKey, Empty, Forest, Node, Unit, all_append, all_filtered, all_split, eqb-true, false≢true, int_le, is_permitted, is_some_there, is_withheld_from, list_all, list_any, nodes, paths_below}
+use Rattle.refinement.proofs.Common.{AllByRecursion, BoxKey, Empty, Forest, Node, Unit, all_append, all_filtered}
+use Rattle.refinement.proofs.Common.{all_split, eqb-true, false≢true, int_le, is_permitted, is_some_there}
+use Rattle.refinement.proofs.Common.{is_unit_closed, is_withheld_from, list_all, list_any, nodes, paths_below}
 use Rattle.refinement.proofs.BranchesApart.{lies, lying}
 
 all_ways : (P : Unit → Type 0) (A : List Unit) (f : Forest Unit) → AllByRecursion P A → AllByRecursion P (nodes f)
@@ -29,7 +31,7 @@ module _ (p q : ℕ → Bool) where
       → list_all (λ way. not (is_withheld_from p day way)) ways ≡ list_all (λ way. not (is_withheld_from q day way)) ways
   seen_alike day [] all = refl
   seen_alike day (way ∷ ways) all =
-      ap₂ ◌&&◌ (ap (λ b. not (list_any (λ (unit : Unit). unit.draft) way || (list_any (is_closed day) way && not (false || b)))) (any_alike way all.0)) (seen_alike day ways all.1)
+      ap₂ ◌&&◌ (ap (λ b. not (list_any (λ (unit : Unit). unit.draft) way || (list_any (is_unit_closed day) way && not (false || b)))) (any_alike way all.0)) (seen_alike day ways all.1)
 
   pub open_alike : (f : Forest Unit) (box : BoxKey) (day : ℤ) → AllByRecursion IsAlike (nodes f)
       → is_open f box p day ≡ is_open f box q day

@@ -1,15 +1,21 @@
 -- Who may see a container, by what is read from the tables.
-use Rattle.std.proofs.Common.{◌≡◌, ℕ, ℤ, ◌<◌, ◌≤◌, ◌^◌, zero, suc, Bool, true, false, not, ◌&&◌, List, [], ◌∷◌, length, map, Option, Some, None, refl, sym, ap, ap₂, subst, ◌∙◌, nat_eq, arith}
+use Rattle.std.proofs.Common.{◌≡◌, ℕ, ℤ, ◌<◌, ◌≤◌, ◌^◌, zero, suc, Bool, true, false, not, ◌&&◌, List, [], ◌∷◌, length}
+use Rattle.std.proofs.Common.{map, Option, Some, None, refl, sym, ap, ap₂, subst, ◌∙◌, nat_eq, arith}
 use Rattle.std.specs.Prelude.{◌||◌, filter, IsPermutation}
 use Rattle.desk_core.specs.DeskRows.{Desk}
-use Rattle.desk_store.specs.declared.reader_permits.Permit.{Permit}
-use Rattle.catalogue_core.specs.ContainerContents.{is_open}
 use Rattle.catalogue_core.proofs.OpenLemmas.{open_by_marks}
 use Rattle.catalogue_core.proofs.UnitsAfter.{each_there}
-use Rattle.office_core.specs.State as office
+use Rattle.catalogue_core.specs.ContainerContents.{is_open}
+use Rattle.desk_store.specs.declared.reader_permits.Permit.{Permit}
 use Rattle.office_core.specs.State.{State}
+use Rattle.office_core.specs.State as office
 use Rattle.state_encoding.proofs.ReadBack.{permits_known}
-use Rattle.refinement.proofs.Common.{All-from_recursion, All-permutation, AllByRecursion, AreAttachedMarks, AreTheirs, BoxKey, CanBeJudged, Catalogue, Forest, IsPermutation-refl, Mark, PermitRow, Unit, all_filtered, allows, are_clean_for, eqb_comm, false≢true, fun_ext, has_unit, int_le, is_clean_for, is_permitted, is_some_there, list_all, list_all-map, list_any, list_any-IsPermutation, list_any-map, names, naming, nodes, nth, opens, permit_rows, permits_of, recursion_from_All, slice_get, some_and}
+use Rattle.refinement.proofs.Common.{All-from_recursion, All-permutation, AllByRecursion, AreAttachedMarks, AreTheirs}
+use Rattle.refinement.proofs.Common.{BoxKey, CanBeJudged, Catalogue, Forest, IsPermutation-refl, Mark, PermitRow, Unit}
+use Rattle.refinement.proofs.Common.{all_filtered, allows, are_clean_for, eqb_comm, false≢true, fun_ext, has_unit}
+use Rattle.refinement.proofs.Common.{int_le, is_clean_for, is_permitted, is_some_there, list_all, list_all-map}
+use Rattle.refinement.proofs.Common.{list_any, list_any-IsPermutation, list_any-map, names_container, naming, nodes}
+use Rattle.refinement.proofs.Common.{nth, opens, permit_rows, permits_of, recursion_from_All, slice_get, some_and}
 use Rattle.refinement.proofs.NamedContainers.{named, names_it}
 
 -- ---- lists
@@ -65,7 +71,7 @@ module _ (s : State) (judged : CanBeJudged s) (t n : ℕ) where
       open_by_marks forest box permitted s.day judged.units
       ∙ ap₂ ◌&&◌ (some_alike (naming box forest) units same) (all_alike clean (naming box forest) units same)
 
-  pub opens_by : (units : List Unit) → IsPermutation (filter (names s.catalogue.containers n) (nodes forest)) units
+  pub opens_by : (units : List Unit) → IsPermutation (filter (names_container s.catalogue.containers n) (nodes forest)) units
       → opens s t n ≡ (is_some_there units && list_all clean units)
   opens_by units same =
       by_container units (nth s.catalogue.containers n)
@@ -124,16 +130,16 @@ pub theirs : (tells : Catalogue → Mark → Type 0) (c : Catalogue) (n : ℕ) (
     → AreAttachedMarks tells c n rows → AreTheirs tells c rows
 theirs tells c n rows at =
     let f = c.forest in
-    let units = filter (names c.containers n) (nodes f) in
+    let units = filter (names_container c.containers n) (nodes f) in
     let P : ℕ → Type 0 = λ id. has_unit f id ≡ true in
     let all_there = each_there (nodes f) (nodes f) (λ v h. h) in
-    let here = mapped P units (all_filtered (λ (unit : Unit). P unit.id) (names c.containers n) (nodes f) all_there) in
+    let here = mapped P units (all_filtered (λ (unit : Unit). P unit.id) (names_container c.containers n) (nodes f) all_there) in
     let there = recursion_from_All P (row_ids rows) (All-permutation P (map (λ (unit : Unit). unit.id) units) (row_ids rows) at.0 (All-from_recursion P (map (λ (unit : Unit). unit.id) units) here)) in
     (at.1, rows_there f rows there)
 
 module _ (tells : Catalogue → Mark → Type 0) (s : State) (judged : CanBeJudged s) (t n : ℕ) (rows : List Mark) (at : AreAttachedMarks tells s.catalogue n rows) where
   abbrev naming_it : List Unit
-  naming_it = filter (names s.catalogue.containers n) (nodes s.catalogue.forest)
+  naming_it = filter (names_container s.catalogue.containers n) (nodes s.catalogue.forest)
 
   some_row : is_some_there naming_it ≡ is_some_there (row_ids rows)
   some_row = some_mapped naming_it ∙ some_alike (map (λ (unit : Unit). unit.id) naming_it) (row_ids rows) at.0

@@ -1,10 +1,16 @@
 -- After a change near a unit, what is out elsewhere is open to the reader who has it, as it was.
-use Rattle.std.proofs.Common.{◌≡◌, ℕ, ℤ, Bool, true, false, cond, not, List, [], ◌∷◌, ◌++◌, map, Option, Some, None, nat_eq, refl, sym, ap, ap₂, ◌∙◌}
+use Rattle.std.proofs.Common.{◌≡◌, ℕ, ℤ, Bool, true, false, cond, not, List, [], ◌∷◌, ◌++◌, map, Option, Some, None}
+use Rattle.std.proofs.Common.{nat_eq, refl, sym, ap, ap₂, ◌∙◌}
 use Rattle.std.specs.Prelude.{◌&&◌, ◌||◌, IsPermutation, filter}
-use Rattle.isad_core.specs.Boxes.{distinct, is_same as is_same_box}
 use Rattle.catalogue_core.specs.ContainerContents.{is_open}
 use Rattle.office_core.specs.State.{Permit, State}
-use Rattle.refinement.proofs.Common.{AllByRecursion, BoxKey, CanBeJudged, Empty, Forest, HasDistinctIds, IsSoundOffice, Node, Order, OthersAreOpen, Unit, all_append, and_parts, any_agree, branch, branch-each, cut, each, false≢true, fun_ext, has_id, is_kept_from_holder, is_named_near, is_permitted, is_some_there, is_withheld_from, last_or, list_all, list_any, list_any-IsPermutation, list_any-map, map-append, names, names_some, near, nodes, nth, opens, option_to_list, order_out, path, path-each, some_and}
+use Rattle.refinement.proofs.Common.{AllByRecursion, BoxKey, CanBeJudged, Empty, Forest, HasDistinctIds, IsSoundOffice}
+use Rattle.refinement.proofs.Common.{Node, Order, OthersAreOpen, Unit, all_append, and_parts, any_agree, branch}
+use Rattle.refinement.proofs.Common.{branch-each, cut, distinct, each, false≢true, fun_ext, has_id, is_kept_from_holder}
+use Rattle.refinement.proofs.Common.{is_named_near, is_permitted, is_same_box, is_some_there, is_withheld_from, last_or}
+use Rattle.refinement.proofs.Common.{list_all, list_any, list_any-IsPermutation, list_any-map, map-append}
+use Rattle.refinement.proofs.Common.{names_container, names_some, near, nodes, nth, opens, option_to_list, order_out}
+use Rattle.refinement.proofs.Common.{path, path-each, some_and}
 use Rattle.refinement.proofs.BranchesApart.{cut_alike, fewer, lying, lying_without, names_box, open_without, some_named}
 use Rattle.refinement.proofs.Judged.{judged_now}
 use Rattle.refinement.proofs.NamedContainers.{names_one}
@@ -25,7 +31,7 @@ IsKnown cs unit = list_all (λ b. list_any (is_same_box b) cs) unit.values.boxes
 
 pub named_alike : (cs : List BoxKey) → distinct cs ≡ cs → (n : ℕ) (box : BoxKey) → nth cs n ≡ Some box
     → (units : List Unit) → AllByRecursion (IsKnown cs) units
-    → list_any (names cs n) units ≡ list_any (names_box box) units
+    → list_any (names_container cs n) units ≡ list_any (names_box box) units
 named_alike cs apart n box is [] known = refl
 named_alike cs apart n box is (unit ∷ units) known =
     ap₂ ◌||◌ (names_one cs apart n unit.values.boxes known.0 ∙ ap (λ o. list_any (λ b. some_and (λ box. is_same_box box b) o) unit.values.boxes) is) (named_alike cs apart n box is units known.1)

@@ -1,10 +1,13 @@
 -- Where units are published, or closures of units end, what was open stays open.
-use Rattle.std.proofs.Common.{◌≡◌, ℕ, ℤ, Bool, true, false, cond, not, List, [], ◌∷◌, ◌++◌, filter, map, Some, None, refl, sym, ap, ap₂, ◌∙◌}
+use Rattle.std.proofs.Common.{◌≡◌, ℕ, ℤ, Bool, true, false, cond, not, List, [], ◌∷◌, ◌++◌, filter, map, Some, None}
+use Rattle.std.proofs.Common.{refl, sym, ap, ap₂, ◌∙◌}
 use Rattle.std.specs.Prelude.{◌&&◌, ◌||◌}
 use Rattle.catalogue_core.specs.ContainerContents.{is_open}
-use Rattle.catalogue_core.specs.Units.{is_closed}
 use Rattle.office_core.specs.State.{State}
-use Rattle.refinement.proofs.Common.{BoxKey, Empty, Forest, IsSoundOffice, Node, Unit, WithReader, and_parts, any_agree, containers, each, false≢true, first_that, gate, housed_below, is_kept_from_holder, is_permitted, is_some_there, is_withheld_from, list_all, list_any, list_any-map, map-append, option_map, own_or, paths_below}
+use Rattle.refinement.proofs.Common.{BoxKey, Empty, Forest, IsSoundOffice, Node, Unit, WithReader, and_parts, any_agree}
+use Rattle.refinement.proofs.Common.{containers, each, false≢true, first_that, gate, housed_below, is_kept_from_holder}
+use Rattle.refinement.proofs.Common.{is_permitted, is_some_there, is_unit_closed, is_withheld_from, list_all, list_any}
+use Rattle.refinement.proofs.Common.{list_any-map, map-append, option_map, own_or, paths_below}
 use Rattle.refinement.proofs.BranchesApart.{in_it, lies, lying, neither}
 use Rattle.refinement.proofs.OpenElsewhere.{still_open}
 
@@ -14,7 +17,7 @@ pub record OnlyOpens (day : ℤ) (change : Unit → Unit) : Type 0 where
   pub ids : (unit : Unit) → (change unit).id ≡ unit.id
   pub boxes : (unit : Unit) → (change unit).values.boxes ≡ unit.values.boxes
   pub published : (unit : Unit) → unit.draft ≡ false → (change unit).draft ≡ false
-  pub unclosed : (unit : Unit) → is_closed day unit ≡ false → is_closed day (change unit) ≡ false
+  pub unclosed : (unit : Unit) → is_unit_closed day unit ≡ false → is_unit_closed day (change unit) ≡ false
 
 none_first : {X : Type 0} (p : X → Bool) → ((x : X) → p x ≡ false) → (xs : List X) → first_that p xs ≡ None
 none_first p never [] = refl
@@ -70,10 +73,10 @@ module _ (day : ℤ) (change : Unit → Unit) (opens : OnlyOpens day change) whe
         let permits : list_any (λ (unit : Unit). permitted unit.id) (map change way) ≡ list_any (λ (unit : Unit). permitted unit.id) way =
         list_any-map (λ (unit : Unit). permitted unit.id) change way
         ∙ any_agree (λ unit. permitted (change unit).id) (λ (unit : Unit). permitted unit.id) way (λ unit. ap permitted (opens.ids unit)) in
-        ap (λ b. not (list_any (λ (unit : Unit). unit.draft) (map change way) || (list_any (is_closed day) (map change way) && not (false || b)))) permits
-        ∙ less_withheld (list_any (λ (unit : Unit). unit.draft) way) (list_any (is_closed day) way) (list_any (λ (unit : Unit). permitted unit.id) way)
-        (list_any (λ (unit : Unit). unit.draft) (map change way)) (list_any (is_closed day) (map change way))
-        (none_after (λ (unit : Unit). unit.draft) change opens.published way) (none_after (is_closed day) change opens.unclosed way) is
+        ap (λ b. not (list_any (λ (unit : Unit). unit.draft) (map change way) || (list_any (is_unit_closed day) (map change way) && not (false || b)))) permits
+        ∙ less_withheld (list_any (λ (unit : Unit). unit.draft) way) (list_any (is_unit_closed day) way) (list_any (λ (unit : Unit). permitted unit.id) way)
+        (list_any (λ (unit : Unit). unit.draft) (map change way)) (list_any (is_unit_closed day) (map change way))
+        (none_after (λ (unit : Unit). unit.draft) change opens.published way) (none_after (is_unit_closed day) change opens.unclosed way) is
 
     some_after : (ways : List (List Unit)) → is_some_there (filter (lies box) ways) ≡ true
         → is_some_there (filter (lies box) (map (map change) ways)) ≡ true

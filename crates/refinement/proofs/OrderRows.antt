@@ -4,7 +4,9 @@ use Rattle.desk_store.specs.Orders.{IsThere, order_with}
 use Rattle.desk_store.specs.Orders as store
 use Rattle.desk_store.specs.declared.orders.PlacedOrder.{PlacedOrder}
 use Rattle.office_core.specs.State.{Done, State}
-use Rattle.refinement.proofs.Common.{Cancelled, End, Ended, Order, OrderRow, Version, Waiting, WithItsReader, container_of, is_some, nth, option_map, order_row, some_and, standing, stands_as, state_number, tables, waits}
+use Rattle.refinement.proofs.Common.{Cancelled, End, Ended, Order, OrderRow, Version, Waiting, WithItsReader}
+use Rattle.refinement.proofs.Common.{container_of, is_some, nth, option_map, order_row, some_and, standing, stands_as}
+use Rattle.refinement.proofs.Common.{state_number, tables, waits}
 use Rattle.refinement.proofs.RowsOfLists.{found_row}
 
 ended_at : (past : Option End) → nat_eq (state_number (option_map Ended past)) 1 ≡ false
@@ -45,7 +47,7 @@ module _ (s : State) where
 
   pub record IsPlaced (o : ℕ) (placed : PlacedOrder) : Type 0 where
     pub known : is_some (container_of s o) ≡ true
-    pub state : store.state_number placed.state ≡ state_number (standing s o)
+    pub state : store.order_state_number placed.state ≡ state_number (standing s o)
 
   pub was_placed : (version : Version) (o : ℕ) (placed : PlacedOrder)
       → IsThere (order_with o (tables version s).desk) (Some placed) → IsPlaced o placed

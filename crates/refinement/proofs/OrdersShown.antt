@@ -1,18 +1,25 @@
 -- A ticket's live orders on its card say whether it has ordered a container.
-use Rattle.std.proofs.Common.{◌≡◌, ℕ, Bool, true, false, cond, ◌&&◌, ◌||◌, nat_eq, List, [], ◌∷◌, filter, Option, Some, None, inl, inr, refl, sym, ap, subst, ◌∙◌}
-use Rattle.std.specs.Prelude.{nat_lt}
+use Rattle.std.proofs.Common.{◌≡◌, ℕ, Bool, true, false, cond, ◌&&◌, ◌||◌, nat_eq, List, [], ◌∷◌, filter, Option, Some}
+use Rattle.std.proofs.Common.{None, inl, inr, refl, sym, ap, subst, ◌∙◌}
 use Rattle.std.specs.Cmp.{both_ways}
+use Rattle.std.specs.Prelude.{nat_lt}
 use Rattle.desk_store.specs.declared.reader_summary.LiveOrder.{LiveOrder}
-use Rattle.office_core.specs.State.{Done, State}
 use Rattle.office_core.proofs.Filed.{out_with, waiting}
 use Rattle.office_core.proofs.OrderLaws.{stands_out, stands_waiting}
 use Rattle.office_core.proofs.Orders.{is_by_its_ticket, out_is}
+use Rattle.office_core.specs.State.{Done, State}
 use Rattle.state_encoding.proofs.Grouped.{any_filter}
-use Rattle.refinement.proofs.Common.{Cancelled, End, Ended, ExactlyOne, IsFiled, IsSoundOffice, Order, OrderRow, Version, Waiting, WithItsReader, and_from, and_parts, any_of_in, container_of, eqb-true, false≢true, flipped, has_ordered, in_rows, is_by, is_live, is_out_for, is_out_with, is_some, list_any, list_any-map, live_orders, nth, option_map, or_cases, order_out, order_row, order_rows, order_there, same_number, some_and, some_in, some_is, standing, stands, stands_as, state_number, tables}
+use Rattle.refinement.proofs.Common.{Cancelled, End, Ended, ExactlyOne, IsFiled, IsSoundOffice, Order, OrderRow}
+use Rattle.refinement.proofs.Common.{Version, Waiting, WithItsReader, and_from, and_parts, any_of_in, container_of}
+use Rattle.refinement.proofs.Common.{eqb-true, false≢true, flipped, has_not_ended, has_ordered, in_rows, is_by}
+use Rattle.refinement.proofs.Common.{is_out_for, is_out_with, is_some, list_any, list_any-map, nth, option_map}
+use Rattle.refinement.proofs.Common.{or_cases, order_out, order_row, order_rows, order_there, orders_not_ended}
+use Rattle.refinement.proofs.Common.{same_number, some_and, some_in, some_is, standing, stands, stands_as, state_number}
+use Rattle.refinement.proofs.Common.{tables}
 
 -- an order of that ticket for that container, which waits or is out
 abbrev is_theirs : ℕ → ℕ → OrderRow → Bool
-is_theirs t c row = nat_eq c row.container && (nat_eq t row.ticket && is_live row)
+is_theirs t c row = nat_eq c row.container && (nat_eq t row.ticket && has_not_ended row)
 
 any_from : (p : ℕ → Bool) (m : ℕ) (ns : List ℕ) → stands m ns ≡ true → p m ≡ true → list_any p ns ≡ true
 any_from p m [] h passes = absurd (false≢true h)
@@ -39,8 +46,8 @@ module _ (version : Version) (s : State) (sound : IsSoundOffice s) (t c : ℕ) w
   row_ordered : (m : ℕ) (order : Order) → nth s.orders m ≡ Some order → is_theirs t c (order_row s m order) ≡ true
       → has_ordered s t c ≡ true
   row_ordered m order is passes =
-      let one = and_parts (nat_eq c order.container) (nat_eq t order.ticket && is_live (order_row s m order)) passes in
-      let two = and_parts (nat_eq t order.ticket) (is_live (order_row s m order)) one.1 in
+      let one = and_parts (nat_eq c order.container) (nat_eq t order.ticket && has_not_ended (order_row s m order)) passes in
+      let two = and_parts (nat_eq t order.ticket) (has_not_ended (order_row s m order)) one.1 in
       let for_it : container_of s m ≡ Some c =
       ap (option_map (λ (order : Order). order.container)) is ∙ ap Some (sym (eqb-true c order.container one.0)) in
       let mine : is_by s t m ≡ true =
@@ -75,8 +82,8 @@ module _ (version : Version) (s : State) (sound : IsSoundOffice s) (t c : ℕ) w
       let ticket : nat_eq order.ticket t ≡ true =
       sym (ap (some_and (λ (order : Order). nat_eq order.ticket t)) known.1) ∙ mine in
       let passes : is_theirs t c (order_row s o order) ≡ true =
-      and_from (nat_eq c order.container) (nat_eq t order.ticket && is_live (order_row s o order)) (ap (nat_eq c) same ∙ same_number c)
-      (and_from (nat_eq t order.ticket) (is_live (order_row s o order)) (flipped t order.ticket ∙ ticket) live) in
+      and_from (nat_eq c order.container) (nat_eq t order.ticket && has_not_ended (order_row s o order)) (ap (nat_eq c) same ∙ same_number c)
+      (and_from (nat_eq t order.ticket) (has_not_ended (order_row s o order)) (flipped t order.ticket ∙ ticket) live) in
       let there : list_any (λ (row : OrderRow). nat_eq row.id o && is_theirs t c row) (order_rows s) ≡ true =
       order_there version s (is_theirs t c) o ∙ ap (some_and (λ (order : Order). is_theirs t c (order_row s o order))) known.1 ∙ passes in
       let found = some_in (λ (row : OrderRow). nat_eq row.id o && is_theirs t c row) (order_rows s) there in
@@ -111,8 +118,8 @@ module _ (version : Version) (s : State) (sound : IsSoundOffice s) (t c : ℕ) w
   ]
 
   -- the ticket has ordered the container, where a live order on its card is for it
-  pub ordered_shown : list_any (λ (l : LiveOrder). nat_eq c l.container) (live_orders t (tables version s).desk) ≡ has_ordered s t c
+  pub ordered_shown : list_any (λ (l : LiveOrder). nat_eq c l.container) (orders_not_ended t (tables version s).desk) ≡ has_ordered s t c
   ordered_shown =
-      list_any-map (λ (l : LiveOrder). nat_eq c l.container) (λ (o : OrderRow). (let l : LiveOrder = record { order = o.id; container = o.container; is_out = nat_eq o.state 2 } in l)) (filter (λ (o : OrderRow). nat_eq t o.ticket && is_live o) (order_rows s))
-      ∙ any_filter (λ (o : OrderRow). nat_eq c o.container) (λ (o : OrderRow). nat_eq t o.ticket && is_live o) (order_rows s)
+      list_any-map (λ (l : LiveOrder). nat_eq c l.container) (λ (o : OrderRow). (let l : LiveOrder = record { order = o.id; container = o.container; is_out = nat_eq o.state 2 } in l)) (filter (λ (o : OrderRow). nat_eq t o.ticket && has_not_ended o) (order_rows s))
+      ∙ any_filter (λ (o : OrderRow). nat_eq c o.container) (λ (o : OrderRow). nat_eq t o.ticket && has_not_ended o) (order_rows s)
       ∙ both_ways (list_any (is_theirs t c) (order_rows s)) (has_ordered s t c) rows_ordered ordered_rows

@@ -6,7 +6,11 @@ use Rattle.sqlite_trees.specs.declared.store.Store as kept_in
 use Rattle.desk_core.specs.Refusals.{first_that_holds}
 use Rattle.office_core.specs.State.{State}
 use Rattle.office_core.specs.declared.done.Done.{Done}
-use Rattle.refinement.proofs.Common.{Answers, CanBeJudged, CarriesOut, CarriesOutStep, Command, Database, Forest, Goes, HasCleanDisk, Held, IfOk, IsAborted, IsOk, IsSoundOffice, LeavesUnchanged, Refusal, Reply, RepresentsState, RepresentsWhole, StoreFault, Trees, Version, after, cut_then, decide, early, excused_then, gate, gate_reply, goes_then, on_err_then, on_ok_then, refusal, result_of, state, step, unless_refused, ⊤}
+use Rattle.refinement.proofs.Common.{Answers, CanBeJudged, CarriesOut, CarriesOutStep, Command, Database, Forest, Goes}
+use Rattle.refinement.proofs.Common.{HasCleanDisk, Held, IfOk, IsAborted, IsOk, IsSoundOffice, LeavesUnchanged, Refusal}
+use Rattle.refinement.proofs.Common.{Reply, RepresentsState, RepresentsWhole, StoreFault, Trees, Version, after}
+use Rattle.refinement.proofs.Common.{cut_then, decide, early, excused_then, gate, gate_reply, goes_then, on_err_then}
+use Rattle.refinement.proofs.Common.{on_ok_then, refusal, result_of, state, step, unless_refused, ⊤}
 use Rattle.refinement.proofs.Tellings.{looked_crash}
 
 -- the step of a command whose other checks do not hold
@@ -57,7 +61,7 @@ module _ {S : Type 0} (g : kept_in.Ghosts S) (places : Trees → Forest ℕ → 
   -- the same of a change that bears only on some containers
   pub passed_where : (OthersStay : State → Type 0) → IsChange places version known asked today done before b
       → ((s : State) → IsSoundOffice s → known s → OthersStay (after s asked)) → Goes before b
-      → Answers g (RepresentsWhole places version) CanBeJudged mid after_it r (λ _. ⊤) (λ _ s reply. CanBeJudged s → today ≡ s.day → OthersStay s → reply ≡ gate_reply s done)
+      → Answers g (RepresentsWhole places version) mid after_it r (λ _. ⊤) CanBeJudged (λ _ s reply. CanBeJudged s → today ≡ s.day → OthersStay s → reply ≡ gate_reply s done)
       → CarriesOut places version known asked before c r
   passed_where OthersStay change others goes told =
       let still = λ (clean : HasCleanDisk c). early b c _ (looked_crash r b c told.looks told.aborts) clean in

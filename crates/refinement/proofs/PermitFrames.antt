@@ -1,11 +1,12 @@
 -- What a call leaves of the desk that touches the permits.
 use Rattle.std.proofs.Common.{◌≡◌, ℕ, true, List, [], ◌∷◌, ◌∙◌}
 use Rattle.desk_core.specs.DeskRows.{Desk}
-use Rattle.desk_store.specs.Rows.{run_line_cells}
+use Rattle.office_tables.proofs.numbered.OwnNumbers.{still_numbered}
 use Rattle.office_tables.specs.Permits.{permit_cells}
 use Rattle.office_tables.specs.Schema as tables
-use Rattle.office_tables.proofs.numbered.OwnNumbers.{still_numbered}
-use Rattle.refinement.proofs.Common.{AllByRecursion, Database, HasNumbered, IsNumberOf, OnlyTouches, PermitRow, RepresentsDesk}
+use Rattle.desk_store.specs.Rows.{run_line_cells}
+use Rattle.refinement.proofs.Common.{AllByRecursion, Database, HasNumbered, IsNumberOf, OnlyTouches, PermitRow}
+use Rattle.refinement.proofs.Common.{RepresentsDesk}
 use Rattle.refinement.proofs.Frames.{are_apart, untouched}
 
 -- the trees of the desk's other tables

@@ -1,5 +1,6 @@
 -- A row that is looked up by its number, among those of a list.
-use Rattle.std.proofs.Common.{◌≡◌, ℕ, zero, suc, ◌+◌, true, false, nat_eq, List, [], ◌∷◌, Some, None, refl, ap, subst, ◌∙◌, arith}
+use Rattle.std.proofs.Common.{◌≡◌, ℕ, zero, suc, ◌+◌, true, false, nat_eq, List, [], ◌∷◌, Some, None, refl, ap, subst}
+use Rattle.std.proofs.Common.{◌∙◌, arith}
 use Rattle.refinement.proofs.Common.{find, nat_tests, nth, option_map, rows_from, same_number, slice_get}
 
 pub other : (n j : ℕ) → nat_eq (n + suc j) n ≡ false

@@ -1,10 +1,12 @@
 -- What the rows of the seats tell: who sits where, and which seat is free.
-use Rattle.std.proofs.Common.{◌≡◌, ℕ, suc, ◌+◌, ◌<◌, ◌≤◌, pos, Bool, true, false, not, cond, ◌||◌, nat_eq, List, [], ◌∷◌, length, map, filter, Option, Some, None, inl, inr, refl, sym, ap, subst, ◌∙◌, arith}
-use Rattle.desk_core.specs.Decisions.{free_seat}
-use Rattle.desk_store.specs.Seats.{seated}
-use Rattle.office_tables.specs.OrderedInsertion.{put_by}
+use Rattle.std.proofs.Common.{◌≡◌, ℕ, suc, ◌+◌, ◌<◌, ◌≤◌, pos, Bool, true, false, not, cond, ◌||◌, nat_eq, List, []}
+use Rattle.std.proofs.Common.{◌∷◌, length, map, filter, Option, Some, None, inl, inr, refl, sym, ap, subst, ◌∙◌, arith}
 use Rattle.office_tables.proofs.numbered.Counted.{below_less}
-use Rattle.refinement.proofs.Common.{SeatRow, SitOnce, cases_Bool, eqb-true, find, is_none, is_seat_of, is_some, is_some-map, list_any, nat_tests, option_map, or_parts, place_of, range_with_len, rise, same_number, seat_rows_from, sit}
+use Rattle.office_tables.specs.OrderedInsertion.{put_by}
+use Rattle.desk_store.specs.Seats.{seated}
+use Rattle.refinement.proofs.Common.{SeatRow, SitOnce, cases_Bool, eqb-true, find, free_seat, is_none, is_seat_of}
+use Rattle.refinement.proofs.Common.{is_some, is_some-map, list_any, nat_tests, option_map, or_parts, place_of}
+use Rattle.refinement.proofs.Common.{range_with_len, rise, same_number, seat_rows_from, sit}
 use Rattle.refinement.proofs.HoldingRows.{greater}
 
 abbrev number_of : SeatRow → ℕ

@@ -1,10 +1,15 @@
 -- Numbers that ascend: equal ones stand side by side, so that one stands there more than so many times exactly where it stands again
 -- that many places further on.
-use Rattle.std.proofs.Common.{◌≡◌, ℕ, zero, suc, ◌+◌, ◌-◌, ◌<◌, ◌≤◌, Bool, true, false, ◌||◌, cond, List, [], ◌∷◌, length, get_or, drop, drop-cons, refl, sym, ap, ◌∙◌, inl, inr, arith, zero-add, nat_eq, nat_lt}
+use Rattle.std.proofs.Common.{◌≡◌, ℕ, zero, suc, ◌+◌, ◌-◌, ◌<◌, ◌≤◌, Bool, true, false, ◌||◌, cond, List, [], ◌∷◌}
+use Rattle.std.proofs.Common.{length, get_or, drop, drop-cons, refl, sym, ap, ◌∙◌, inl, inr, arith, zero-add, nat_eq}
+use Rattle.std.proofs.Common.{nat_lt}
+use Rattle.std.proofs.lemmas.List.Sums.{sum_by-cons}
 use Rattle.std.specs.List.{count_by}
 use Rattle.std.specs.List.Sorted.{IsPermutation}
-use Rattle.std.proofs.lemmas.List.Sums.{sum_by-cons}
-use Rattle.refinement.proofs.Common.{IsNonDecreasing, any_agree, cases_Bool, cases_eq, eq-eqb, le-ltb, length-drop, list_any, list_any-IsPermutation, lt-ltb, ltb-false, nat_tests, ne_eqb, occurs_more_than, slice_get, slice_get-get_or, slice_get_past, some_and, sum_by-IsPermutation}
+use Rattle.refinement.proofs.Common.{IsNonDecreasing, any_agree, cases_Bool, cases_eq, eq-eqb, le-ltb, length-drop}
+use Rattle.refinement.proofs.Common.{list_any, list_any-IsPermutation, lt-ltb, ltb-false, nat_tests, ne_eqb}
+use Rattle.refinement.proofs.Common.{number_occurs_more_than, slice_get, slice_get-get_or, slice_get_past, some_and}
+use Rattle.refinement.proofs.Common.{sum_by-IsPermutation}
 
 -- ---- one number
 
@@ -59,7 +64,7 @@ abbrev pub stands_again : ℕ → List ℕ → Bool
 stands_again most [] = false
 stands_again most (x ∷ xs) = some_and (nat_eq x) (slice_get (x ∷ xs) most) || stands_again most xs
 
-pub again_is : (most : ℕ) (xs : List ℕ) → IsNonDecreasing xs → stands_again most xs ≡ occurs_more_than most xs
+pub again_is : (most : ℕ) (xs : List ℕ) → IsNonDecreasing xs → stands_again most xs ≡ number_occurs_more_than most xs
 again_is most [] up = refl
 again_is most (x ∷ xs) up =
     let later : IsNonDecreasing xs = λ i j d le l. up (suc i) (suc j) d (omega (arith, le)) (omega (arith, l)) in
@@ -68,7 +73,7 @@ again_is most (x ∷ xs) up =
     ∙ at (nat_lt most (times x (x ∷ xs))) refl
   where
     at : (b : Bool) → nat_lt most (times x (x ∷ xs)) ≡ b
-        → (b || occurs_more_than most xs) ≡ (b || list_any (λ n. nat_lt most (times n (x ∷ xs))) xs)
+        → (b || number_occurs_more_than most xs) ≡ (b || list_any (λ n. nat_lt most (times n (x ∷ xs))) xs)
     at true e = refl
     at false e = any_agree (λ n. nat_lt most (times n xs)) (λ n. nat_lt most (times n (x ∷ xs))) xs (λ n. elim (cases_eq n x) [
       | inl same ↦
@@ -107,7 +112,7 @@ left_at most i xs le lt =
 
 pub found_again : (most i : ℕ) (xs : List ℕ) → most ≤ i → i < length xs
     → stands_again most (drop (i - most) xs) ≡ stands_again most xs → get_or xs (i - most) 0 ≡ get_or xs i 0
-    → IsNonDecreasing xs → true ≡ occurs_more_than most xs
+    → IsNonDecreasing xs → true ≡ number_occurs_more_than most xs
 found_again most i xs le lt so same up =
     sym (ap (λ b. b || stands_again most (drop (i + 1 - most) xs)) (eq-eqb (get_or xs (i - most) 0) (get_or xs i 0) same)) ∙ sym (left_at most i xs le lt) ∙ so ∙ again_is most xs up
 
@@ -123,7 +128,7 @@ too_short most (x ∷ xs) le = ap (λ o. some_and (nat_eq x) o || stands_again m
 
 pub never_again : (most i : ℕ) (xs : List ℕ) → most ≤ i → length xs ≤ i
     → stands_again most (drop (i - most) xs) ≡ stands_again most xs → IsNonDecreasing xs
-    → false ≡ occurs_more_than most xs
+    → false ≡ number_occurs_more_than most xs
 never_again most i xs le end so up =
     sym (too_short most (drop (i - most) xs) (omega (arith, length-drop (i - most) xs, end, le))) ∙ so
     ∙ again_is most xs up
@@ -131,7 +136,7 @@ never_again most i xs le end so up =
 -- ---- in whatever order they come
 
 pub over_permuted : (most : ℕ) (xs ys : List ℕ) → IsPermutation xs ys
-    → occurs_more_than most ys ≡ occurs_more_than most xs
+    → number_occurs_more_than most ys ≡ number_occurs_more_than most xs
 over_permuted most xs ys p =
     any_agree (λ k. nat_lt most (times k ys)) (λ k. nat_lt most (times k xs)) ys (λ k. ap (nat_lt most) (sum_by-IsPermutation (λ y. cond (nat_eq k y) 1 0) xs ys p))
     ∙ sym (list_any-IsPermutation (λ k. nat_lt most (times k xs)) xs ys p)

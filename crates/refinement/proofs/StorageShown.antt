@@ -3,7 +3,9 @@ use Rattle.std.proofs.Common.{◌≡◌, ℕ, suc, ◌+◌, nat_eq, List, [], �
 use Rattle.isad_core.specs.LegibleValues.{IsLegibleBox}
 use Rattle.desk_store.specs.Storage.{IsLegibleStorage, RepresentsQueues, Storage, container_with}
 use Rattle.office_core.specs.State.{State}
-use Rattle.refinement.proofs.Common.{AllByRecursion, AreCountedFrom, BoxKey, Database, Forest, IsSoundOffice, RepresentsState, Trees, Version, counted_from, desk_legible, find, is_container, is_some, is_some-map, length-rows, nth, option_map, rows_from, tables}
+use Rattle.refinement.proofs.Common.{AllByRecursion, AreCountedFrom, BoxKey, Database, Forest, IsSoundOffice}
+use Rattle.refinement.proofs.Common.{RepresentsState, Trees, Version, counted_from, desk_legible, find, is_container}
+use Rattle.refinement.proofs.Common.{is_some, is_some-map, length-rows, nth, option_map, rows_from, tables}
 use Rattle.refinement.proofs.RowsOfLists.{found_row}
 
 abbrev pub storage_of : Version → State → Storage

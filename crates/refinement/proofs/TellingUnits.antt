@@ -1,9 +1,12 @@
 -- What is told of units as more of them are read.
-use Rattle.std.proofs.Common.{◌≡◌, ℕ, ℤ, zero, suc, ◌+◌, ◌<◌, Bool, true, false, cond, List, [], ◌∷◌, map, take, get_or, length, Some, refl, sym, ap, subst, ◌∙◌, arith, nat_eq}
+use Rattle.std.proofs.Common.{◌≡◌, ℕ, ℤ, zero, suc, ◌+◌, ◌<◌, Bool, true, false, cond, List, [], ◌∷◌, map, take, get_or}
+use Rattle.std.proofs.Common.{length, Some, refl, sym, ap, subst, ◌∙◌, arith, nat_eq}
 use Rattle.std.specs.Map.{lookup}
 use Rattle.std.specs.Prelude.{Option}
 use Rattle.desk_store.proofs.PickingLists.{contains_any}
-use Rattle.refinement.proofs.Common.{AreTold, Attached, BTreeMap, Forest, IfSome, IsTold, Mark, Unit, and_from, and_parts, are_known, eqb-true, get, get_or-map, is_eq, is_known, is_some, length-map, list_all, nat_cmp, nat_tests, or-false}
+use Rattle.refinement.proofs.Common.{AreTold, Attached, BTreeMap, Forest, IfSome, Mark, TellsWithholding, Unit}
+use Rattle.refinement.proofs.Common.{and_from, and_parts, are_known, eqb-true, get, get_or-map, is_eq, is_some}
+use Rattle.refinement.proofs.Common.{is_unit_known, length-map, list_all, nat_cmp, nat_tests, or-false}
 use Rattle.refinement.proofs.AllPass.{all_more}
 
 -- ---- lists
@@ -22,17 +25,17 @@ all_here p (u ∷ us) (suc i) low all = all_here p us i (omega (arith, low)) (an
 
 -- the unit of one of these rows is known
 pub known_here : (known : BTreeMap ℕ (Option Attached)) (rows : List Mark) (i : ℕ) (d : Mark) → i < length rows
-    → are_known known rows ≡ true → is_known known (get_or rows i d).id ≡ true
+    → are_known known rows ≡ true → is_unit_known known (get_or rows i d).id ≡ true
 known_here known rows i d low all =
     let ids = map (λ (row : Mark). row.id) rows in
-    ap (is_known known) (sym (get_or-map (λ (row : Mark). row.id) rows i d 0 low))
-    ∙ all_here (is_known known) ids i (omega (arith, low, length-map rows (λ (row : Mark). row.id))) all
+    ap (is_unit_known known) (sym (get_or-map (λ (row : Mark). row.id) rows i d 0 low))
+    ∙ all_here (is_unit_known known) ids i (omega (arith, low, length-map rows (λ (row : Mark). row.id))) all
 
 -- nothing is told of what is not known
 pub nothing_told : (day : ℤ) (f : Forest Unit) (known : BTreeMap ℕ (Option Attached)) → known.entries ≡ []
     → AreTold day f known
 nothing_told day f known none u =
-    subst (λ (es : List (ℕ × Option Attached)). IfSome (lookup (λ k. is_eq (nat_cmp u k)) es) (IsTold day f u)) (sym none) tt
+    subst (λ (es : List (ℕ × Option Attached)). IfSome (lookup (λ k. is_eq (nat_cmp u k)) es) (TellsWithholding day f u)) (sym none) tt
 
 -- ---- one more unit
 
@@ -42,25 +45,25 @@ module _ (old new : BTreeMap ℕ (Option Attached)) (id : ℕ) (told : Option At
       updates q
       ∙ ap (λ b. cond b (Some told) (get nat_cmp old q)) (sym (or-false (is_eq (nat_cmp id q))) ∙ contains_any (q ∷ []) id ∙ or-false (nat_eq id q))
 
-  pub told_more : (day : ℤ) (f : Forest Unit) → AreTold day f old → IsTold day f id told → AreTold day f new
+  pub told_more : (day : ℤ) (f : Forest Unit) → AreTold day f old → TellsWithholding day f id told → AreTold day f new
   told_more day f before here q = at (nat_eq id q) refl (before q)
     where
-      at : (same : Bool) → nat_eq id q ≡ same → IfSome (get nat_cmp old q) (IsTold day f q)
-          → IfSome (get nat_cmp new q) (IsTold day f q)
+      at : (same : Bool) → nat_eq id q ≡ same → IfSome (get nat_cmp old q) (TellsWithholding day f q)
+          → IfSome (get nat_cmp new q) (TellsWithholding day f q)
       at true e earlier =
-          subst (λ o. IfSome o (IsTold day f q)) (sym (is_new q ∙ ap (λ b. cond b (Some told) (get nat_cmp old q)) e))
-          (subst (λ u. IsTold day f u told) (eqb-true id q e) here)
+          subst (λ o. IfSome o (TellsWithholding day f q)) (sym (is_new q ∙ ap (λ b. cond b (Some told) (get nat_cmp old q)) e))
+          (subst (λ u. TellsWithholding day f u told) (eqb-true id q e) here)
       at false e earlier =
-          subst (λ o. IfSome o (IsTold day f q)) (sym (is_new q ∙ ap (λ b. cond b (Some told) (get nat_cmp old q)) e)) earlier
+          subst (λ o. IfSome o (TellsWithholding day f q)) (sym (is_new q ∙ ap (λ b. cond b (Some told) (get nat_cmp old q)) e)) earlier
 
-  still : (q : ℕ) → is_known old q ≡ true → is_known new q ≡ true
+  still : (q : ℕ) → is_unit_known old q ≡ true → is_unit_known new q ≡ true
   still q so = ap is_some (is_new q) ∙ at (nat_eq id q)
     where
       at : (same : Bool) → is_some (cond same (Some told) (get nat_cmp old q)) ≡ true
       at true = refl
       at false = so
 
-  now : is_known new id ≡ true
+  now : is_unit_known new id ≡ true
   now = ap is_some (is_new id) ∙ ap (λ b. is_some (cond b (Some told) (get nat_cmp old id))) (same id)
     where
       same : (n : ℕ) → nat_eq n n ≡ true
@@ -68,9 +71,9 @@ module _ (old new : BTreeMap ℕ (Option Attached)) (id : ℕ) (told : Option At
 
   -- those of the first rows
   pub known_more : (rows : List Mark) (i : ℕ) (d : Mark) → i < length rows → id ≡ (get_or rows i d).id
-      → list_all (is_known old) (take i (map (λ (row : Mark). row.id) rows)) ≡ true
-      → list_all (is_known new) (take (i + 1) (map (λ (row : Mark). row.id) rows)) ≡ true
+      → list_all (is_unit_known old) (take i (map (λ (row : Mark). row.id) rows)) ≡ true
+      → list_all (is_unit_known new) (take (i + 1) (map (λ (row : Mark). row.id) rows)) ≡ true
   known_more rows i d low is before =
       let ids = map (λ (row : Mark). row.id) rows in
-      all_more (is_known new) ids i (omega (arith, low, length-map rows (λ (row : Mark). row.id))) (all_still (is_known old) (is_known new) still (take i ids) before)
-      (ap (is_known new) (get_or-map (λ (row : Mark). row.id) rows i d 0 low ∙ sym is) ∙ now)
+      all_more (is_unit_known new) ids i (omega (arith, low, length-map rows (λ (row : Mark). row.id))) (all_still (is_unit_known old) (is_unit_known new) still (take i ids) before)
+      (ap (is_unit_known new) (get_or-map (λ (row : Mark). row.id) rows i d 0 low ∙ sym is) ∙ now)

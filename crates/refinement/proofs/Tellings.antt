@@ -1,9 +1,11 @@
 -- A call that reads, and hands on what a later call tells.
 use Rattle.std.proofs.Common.{Result, Ok, Err, OnOk, OnErr}
+use Rattle.std.proofs.lemmas.Result.{IfOk-weaker}
 use Rattle.sqlite.specs.State.{State}
 use Rattle.sqlite_trees.specs.declared.store.Store as store
-use Rattle.std.proofs.lemmas.Result.{IfOk-weaker}
-use Rattle.refinement.proofs.Common.{Answers, Database, HasCleanDisk, Held, IsAborted, LeavesUnchanged, StoreFault, Survives, cut_then, early, excused_then, looks_then, on_err_then, on_ok_then, shown_on, state, ⊤}
+use Rattle.refinement.proofs.Common.{Answers, Database, HasCleanDisk, Held, IsAborted, LeavesUnchanged, StoreFault}
+use Rattle.refinement.proofs.Common.{Survives, cut_then, early, excused_then, looks_then, on_err_then, on_ok_then}
+use Rattle.refinement.proofs.Common.{shown_on, state, ⊤}
 
 pub looked_crash : {X E : Type 0} (r : Result X E) (a b : State) → OnOk r (LeavesUnchanged a b)
     → OnErr r (IsAborted a b) → Survives a b (λ _. ⊥)
@@ -22,7 +24,7 @@ module _ {Model : Type 0} (represents : Database → ⊤ → Model → Type 0) {
 
   pub told_then : (told answer : ⊤ → Model → Y → Type 0) → LeavesUnchanged a b
       → (HasCleanDisk b → (m : Model) → represents a.now tt m → (y : Y) → told tt m y → answer tt m y)
-      → Answers g represents kept mid after r (λ _. ⊤) told → Answers g represents kept before after r (λ _. ⊤) answer
+      → Answers g represents mid after r (λ _. ⊤) kept told → Answers g represents before after r (λ _. ⊤) kept answer
   told_then told answer looked means last =
       let still = λ (clean : HasCleanDisk c). early b c _ (looked_crash r b c last.looks last.aborts) clean in
       record {

@@ -1,7 +1,7 @@
 -- What decides whether a unit is clean: not the numbers of the marks of its path.
 use Rattle.std.proofs.Common.{◌≡◌, ◌∙◌, ◌&&◌, ◌||◌, ℕ, ℤ, Bool, not, List, [], ◌∷◌, map, Some, None, refl, sym, ap, ap₂}
-use Rattle.tree_core.specs.Marks.{is_closed}
-use Rattle.refinement.proofs.Common.{AreMarks, Mark, Unit, is_opened_above, list_any, mark_of, with_permit, withholds, without_number}
+use Rattle.refinement.proofs.Common.{AreMarks, Mark, Unit, is_closed, is_opened_above, list_any, mark_of, with_permit}
+use Rattle.refinement.proofs.Common.{withholds, without_number}
 
 -- ---- the marks of a path
 

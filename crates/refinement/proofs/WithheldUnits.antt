@@ -1,13 +1,19 @@
 -- A container is closed to a reader from whom a unit that lies in it is withheld.
-use Rattle.std.proofs.Common.{◌≡◌, ℕ, ℤ, Bool, true, false, cond, not, List, [], ◌∷◌, ◌++◌, append_assoc, filter, map, Option, Some, None, inl, inr, nat_eq, refl, sym, ap, ap₂, subst, ◌∙◌}
+use Rattle.std.proofs.Common.{◌≡◌, ℕ, ℤ, Bool, true, false, cond, not, List, [], ◌∷◌, ◌++◌, append_assoc, filter, map}
+use Rattle.std.proofs.Common.{Option, Some, None, inl, inr, nat_eq, refl, sym, ap, ap₂, subst, ◌∙◌}
 use Rattle.std.specs.Prelude.{◌&&◌, ◌||◌}
 use Rattle.tree_core.specs.Marks.{is_closed as is_mark_closed}
 use Rattle.tree_core.specs.Members.{StandsIn}
 use Rattle.catalogue_core.specs.ContainerContents.{is_open}
-use Rattle.catalogue_core.specs.Units.{is_closed}
-use Rattle.office_core.specs.State.{State}
 use Rattle.tree_places.proofs.MarkForests.{path_ids}
-use Rattle.refinement.proofs.Common.{AreMarks, BoxKey, CanBeJudged, ContainerOrder, Empty, Forest, HousedUnit, IsHoused, Mark, Node, Unit, Withholds, and_parts, any_agree, cases_Bool, each, false≢true, has, has-each, has_id, has_unit, is_later, is_one_of, is_permitted, is_some_there, is_withheld_from, is_withheld_in, last_or, list_all, list_any, list_any-map, mark_of, names, names_some, nearest, nodes, nth, opens, option_to_list, path, path_none, paths_below, some_and, with_permit, withholds, without_number}
+use Rattle.office_core.specs.State.{State}
+use Rattle.refinement.proofs.Common.{AreMarks, BoxKey, CanBeJudged, ContainerOrder, Empty, Forest, HousedUnit, IsHoused}
+use Rattle.refinement.proofs.Common.{Mark, Node, Unit, Withholds, and_parts, any_agree, cases_Bool, each, false≢true}
+use Rattle.refinement.proofs.Common.{has, has-each, has_id, has_unit, is_later, is_one_of, is_permitted, is_some_there}
+use Rattle.refinement.proofs.Common.{is_unit_closed, is_withheld_from, is_withheld_in, last_or, list_all, list_any}
+use Rattle.refinement.proofs.Common.{list_any-map, mark_of, names_container, names_some, nearest, nodes, nth, opens}
+use Rattle.refinement.proofs.Common.{option_to_list, path, path_none, paths_below, some_and, with_permit, withholds}
+use Rattle.refinement.proofs.Common.{without_number}
 use Rattle.refinement.proofs.BranchesApart.{by_nearest, lies, lying}
 use Rattle.refinement.proofs.NearRows.{all_last, all_path}
 use Rattle.refinement.proofs.OpenElsewhere.{IsKnown, named_alike}
@@ -99,7 +105,7 @@ module _ (permitted : ℕ → Bool) (day : ℤ) (way : List Unit) (marks : List 
   withheld_by_marks : withholds day false (map (with_permit permitted) marks) ≡ is_withheld_from permitted day way
   withheld_by_marks =
       ap₂ (λ a b. a || b) (any_mark (λ mark. mark.draft) (λ mark. mark.draft) (λ unit. unit.draft) (λ mark. refl) (λ unit. refl))
-      (ap₂ (λ a b. a && not (false || b)) (any_mark (is_mark_closed day) (is_mark_closed day) (is_closed day) (λ mark. refl) (λ unit. told unit.until))
+      (ap₂ (λ a b. a && not (false || b)) (any_mark (is_mark_closed day) (is_mark_closed day) (is_unit_closed day) (λ mark. refl) (λ unit. told unit.until))
       (any_mark (λ mark. mark.permit) (λ mark. permitted mark.id) (λ unit. permitted unit.id) (λ mark. refl) (λ unit. refl)))
 
 -- the units of marks
@@ -149,12 +155,12 @@ module _ (s : State) (judged : CanBeJudged s) (u : ℕ) (it : HousedUnit) (read 
   never_open (Some box) is was =
       let units = nearest u f in
       let known = all_last (IsKnown cs) names_some None (path (has_id u) f) tt (all_path (IsKnown cs) (has_id u) f judged.containers.known) in
-      let named : list_any (names cs loan.container) units ≡ true = sym (read.containers loan.container) ∙ both.0 in
+      let named : list_any (names_container cs loan.container) units ≡ true = sym (read.containers loan.container) ∙ both.0 in
       let inside : lies box (path (has_id u) f) ≡ true =
       by_nearest box None [] refl (path (has_id u) f) ∙ sym (named_alike cs judged.containers.apart loan.container box is units known) ∙ named in
       elim (cases_Bool (has_unit f u)) [
         | inl there ↦ closed_by f u box permitted s.day there inside (sym (withheld_by_marks permitted s.day (path (has_id u) f) it.path.items read.path) ∙ both.1) was
-        | inr gone ↦ false≢true (ap (λ way. list_any (names cs loan.container) (option_to_list (last_or None (filter names_some way)))) (sym (nowhere f u gone)) ∙ named)
+        | inr gone ↦ false≢true (ap (λ way. list_any (names_container cs loan.container) (option_to_list (last_or None (filter names_some way)))) (sym (nowhere f u gone)) ∙ named)
       ]
 
 -- a unit, and what was read of it

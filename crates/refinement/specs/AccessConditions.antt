@@ -8,7 +8,8 @@ use Rattle.office_tables.specs.Versions.{Version}
 use Rattle.desk_core.specs.LegibleDesks.{IsLegible}
 use Rattle.catalogue_core.specs.Bounds.{IsKept}
 use Rattle.catalogue_core.specs.Descriptions.{KnowsItsContainers}
-use Rattle.office_core.specs.State.{State, is_ticket, order_out}
+use Rattle.desk_core.specs.Decisions.{order_out}
+use Rattle.office_core.specs.State.{State, is_ticket}
 use Rattle.office_core.specs.Words.{nth}
 use Rattle.state_encoding.specs.OfficeRows.{tables}
 use Rattle.refinement.specs.Representation.{RepresentsState}

@@ -1,5 +1,5 @@
 -- What a command does inside its transaction.
-use Rattle.std.specs.Prelude.{◌≡◌, ℕ, IsOk, IfOk, OnOk, OnErr, Result}
+use Rattle.std.specs.Prelude.{◌≡◌, ℕ, ⊤, IsOk, IfOk, OnOk, OnErr, Result}
 use Rattle.sqlite_trees.specs.declared.store.Store as trees
 use Rattle.sqlite.specs.Effect.{Database}
 use Rattle.sqlite.specs.Held.{Held, state}
@@ -32,6 +32,10 @@ pub record CarriesOut (places : Trees → Forest ℕ → Type 0) (version : Vers
   pub aborts : OnErr r (IsAborted old new)
   pub faults : (s : State) → IsSoundOffice s → known s → RepresentsState places version old.now s → FaultsHaveCause old new r
 
--- the same of the tables that a call is lent: a command's contract
-abbrev pub Performs : {S : Type 0} → (Trees → Forest ℕ → Type 0) → Version → trees.Ghosts S → (State → Type 0) → Command → Held S → Held S → Result Reply StoreFault → Type 0
-Performs places version g known asked before after r = CarriesOut places version known asked (state g before) (state g after) r
+-- the same of the tables that a call is lent: what a part of a command does
+abbrev pub PerformsKnowing : {S : Type 0} → (Trees → Forest ℕ → Type 0) → Version → trees.Ghosts S → (State → Type 0) → Command → Held S → Held S → Result Reply StoreFault → Type 0
+PerformsKnowing places version g known asked before after r = CarriesOut places version known asked (state g before) (state g after) r
+
+-- over the tables of any sound office: a command's contract
+abbrev pub Performs : {S : Type 0} → (Trees → Forest ℕ → Type 0) → Version → trees.Ghosts S → Command → Held S → Held S → Result Reply StoreFault → Type 0
+Performs places version g asked before after r = PerformsKnowing places version g (λ _. ⊤) asked before after r

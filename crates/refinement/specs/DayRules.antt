@@ -33,8 +33,8 @@ are_against_rules s loans = list_any (is_against_rules s loans) loans
 -- ---- numbers and rows
 
 -- a number occurs more than `most` times
-abbrev pub occurs_more_than : ℕ → List ℕ → Bool
-occurs_more_than most numbers = list_any (λ n. nat_lt most (count_by (nat_eq n) numbers)) numbers
+abbrev pub number_occurs_more_than : ℕ → List ℕ → Bool
+number_occurs_more_than most numbers = list_any (λ n. nat_lt most (count_by (nat_eq n) numbers)) numbers
 
 -- no row of the seats has the reader's ticket
 abbrev pub has_no_row : Desk → ContainerOrder → Bool

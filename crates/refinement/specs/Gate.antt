@@ -1,11 +1,12 @@
 -- The gate, as it is checked over tables.
-use Rattle.std.specs.Prelude.{◌≡◌, ℕ, Bool, false, not, List, filter, map, true, ◌++◌, Option, Some, None, Ok, Err, option_map, option_to_list, ◌&&◌, nat_eq, slice_get}
+use Rattle.std.specs.Prelude.{◌≡◌, ℕ, Bool, false, not, List, filter, map, true, ◌++◌, Option, Some, None, Ok, Err}
+use Rattle.std.specs.Prelude.{option_map, option_to_list, ◌&&◌, nat_eq, slice_get}
 use Rattle.std.specs.List.{last_or, list_any}
 use Rattle.tree_core.specs.Forest.{Forest, branch, each, path}
 use Rattle.tree_core.specs.Marks.{withholds}
 use Rattle.catalogue_core.specs.ContainerContents.{is_some_there}
 use Rattle.catalogue_core.specs.OpenMarks.{with_permit}
-use Rattle.catalogue_core.specs.UnitMarks.{AreMarks, names}
+use Rattle.catalogue_core.specs.UnitMarks.{AreMarks, names_container}
 use Rattle.catalogue_core.specs.Units.{Unit, has_id}
 use Rattle.catalogue_statements.specs.Rows.{HousingRow}
 use Rattle.desk_core.specs.declared.refusal.Refusal.{Refusal}
@@ -49,7 +50,7 @@ near u f = branch (has_id u) f ++ nearest u f
 
 -- one of these units names the container
 abbrev pub is_named_near : ℕ → State → ℕ → Bool
-is_named_near u s c = list_any (names s.catalogue.containers c) (near u s.catalogue.forest)
+is_named_near u s c = list_any (names_container s.catalogue.containers c) (near u s.catalogue.forest)
 
 -- Every container that is out is open to the reader who has it, except perhaps if something of the branch lies in it.
 abbrev pub OthersAreOpen : ℕ → State → Type 0
@@ -76,8 +77,8 @@ abbrev pub AreNear : ℕ → State → List ℕ → Type 0
 AreNear u s found = (c : ℕ) → is_one_of c found ≡ is_named_near u s c
 
 -- nothing of the branch lies in these containers
-abbrev pub AreApart : ℕ → State → List ℕ → Type 0
-AreApart u s apart = (c : ℕ) → is_one_of c apart ≡ true → is_named_near u s c ≡ false
+abbrev pub HoldNothingOfBranch : ℕ → State → List ℕ → Type 0
+HoldNothingOfBranch u s apart = (c : ℕ) → is_one_of c apart ≡ true → is_named_near u s c ≡ false
 
 -- the unit is on the path of the other: it is that unit or stands above it
 abbrev pub is_on_path : ℕ → State → ℕ → Bool
@@ -88,14 +89,14 @@ abbrev pub says_so : ℕ → ℕ → HousingRow → Bool
 says_so n unit h = nat_eq unit h.unit && nat_eq h.container n
 
 -- a row says that the unit names some container
-abbrev pub has_row : List HousingRow → ℕ → Bool
-has_row housings unit = list_any (λ (h : HousingRow). nat_eq unit h.unit) housings
+abbrev pub has_housing_row : List HousingRow → ℕ → Bool
+has_housing_row housings unit = list_any (λ (h : HousingRow). nat_eq unit h.unit) housings
 
 -- ---- a unit in its containers
 
 -- these are the containers in which the unit lies, and the marks of its path
 pub record IsHoused (u : ℕ) (s : State) (found : HousedUnit) : Type 0 where
-  pub containers : (c : ℕ) → is_one_of c found.containers.items ≡ list_any (names s.catalogue.containers c) (nearest u s.catalogue.forest)
+  pub containers : (c : ℕ) → is_one_of c found.containers.items ≡ list_any (names_container s.catalogue.containers c) (nearest u s.catalogue.forest)
   pub path : AreMarks (path (has_id u) s.catalogue.forest) found.path.items
 
 -- the unit is withheld from the reader who has a container in which it lies

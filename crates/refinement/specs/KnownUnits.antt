@@ -2,7 +2,8 @@
 use Rattle.std.specs.BTreeMap.{BTreeMap, get}
 use Rattle.std.specs.Global.{Global}
 use Rattle.std.specs.Ordering.{nat_cmp}
-use Rattle.std.specs.Prelude.{◌≡◌, ℕ, ℤ, Bool, true, false, List, [], Vec, Option, Some, None, IfSome, is_some, filter, map}
+use Rattle.std.specs.Prelude.{◌≡◌, ℕ, ℤ, Bool, true, false, List, [], Vec, Option, Some, None, IfSome, is_some, filter}
+use Rattle.std.specs.Prelude.{map}
 use Rattle.std.specs.List.{AllByRecursion, AllZip, list_all}
 use Rattle.tree_core.specs.Forest.{Forest}
 use Rattle.tree_core.specs.declared.marks.Mark.{Mark}
@@ -19,20 +20,20 @@ use Rattle.refinement.specs.declared.joint_walk.WalkedOrders.{WalkedOrders}
 
 -- Nothing withholds the unit from a reader without permits, so it is open to everybody. Or it is withheld from such a
 -- reader, and these are its marks: they tell whose permits open it.
-abbrev pub IsTold : ℤ → Forest Unit → ℕ → Option Attached → Type 0
-IsTold day f u None = is_clean_for (allows day []) day f u ≡ true
-IsTold day f u (Some marks) = (has_unit f u ≡ true) × (is_clean_for (allows day []) day f u ≡ false) × AreWholeMarksOf f u marks
+abbrev pub TellsWithholding : ℤ → Forest Unit → ℕ → Option Attached → Type 0
+TellsWithholding day f u None = is_clean_for (allows day []) day f u ≡ true
+TellsWithholding day f u (Some marks) = (has_unit f u ≡ true) × (is_clean_for (allows day []) day f u ≡ false) × AreWholeMarksOf f u marks
 
 -- this is so of all units that are known
 abbrev pub AreTold : ℤ → Forest Unit → BTreeMap ℕ (Option Attached) → Type 0
-AreTold day f known = (u : ℕ) → IfSome (get nat_cmp known u) (IsTold day f u)
+AreTold day f known = (u : ℕ) → IfSome (get nat_cmp known u) (TellsWithholding day f u)
 
-abbrev pub is_known : BTreeMap ℕ (Option Attached) → ℕ → Bool
-is_known known u = is_some (get nat_cmp known u)
+abbrev pub is_unit_known : BTreeMap ℕ (Option Attached) → ℕ → Bool
+is_unit_known known u = is_some (get nat_cmp known u)
 
 -- the units of these rows are known
 abbrev pub are_known : BTreeMap ℕ (Option Attached) → List Mark → Bool
-are_known known rows = list_all (is_known known) (map (λ (row : Mark). row.id) rows)
+are_known known rows = list_all (is_unit_known known) (map (λ (row : Mark). row.id) rows)
 
 -- for each of these orders, the rows of the units that name its container
 abbrev pub AreRowsOfEach : (Catalogue → Mark → Type 0) → Catalogue → List ContainerOrder → List (Vec Mark Global) → Type 0
@@ -40,14 +41,14 @@ AreRowsOfEach tells c orders found =
     AllZip (λ (order : ContainerOrder) (rows : Vec Mark Global). AreAttachedMarks tells c order.container rows.items) orders found
 
 -- the units of all these rows are known
-abbrev pub AreKnown : BTreeMap ℕ (Option Attached) → List (Vec Mark Global) → Type 0
-AreKnown known found = AllByRecursion (λ (rows : Vec Mark Global). are_known known rows.items ≡ true) found
+abbrev pub AreUnitsKnown : BTreeMap ℕ (Option Attached) → List (Vec Mark Global) → Type 0
+AreUnitsKnown known found = AllByRecursion (λ (rows : Vec Mark Global). are_known known rows.items ≡ true) found
 
 -- the rows of the units that name each container of these orders, and what is known of these units
 pub record AreWalked (tells : Catalogue → Mark → Type 0) (day : ℤ) (c : Catalogue) (orders : List ContainerOrder) (found : WalkedOrders) : Type 0 where
   pub rows : AreRowsOfEach tells c orders found.rows.items
   pub told : AreTold day c.forest found.known
-  pub known : AreKnown found.known found.rows.items
+  pub known : AreUnitsKnown found.known found.rows.items
 
 -- The answer is whether the container is open to the reader, if these are the rows of the units that name it, and the
 -- units are known.

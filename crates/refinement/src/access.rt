@@ -1,6 +1,6 @@
 //! Whether a container is open to a reader.
 
-ghost use Rattle.std.specs.Prelude.{◌≡◌, ⊤, IfErr, IfOk, map};
+ghost use Rattle.std.specs.Prelude.{◌≡◌, IfErr, IfOk, map};
 ghost use Rattle.std.specs.List.{AllByRecursion, list_any};
 ghost use Rattle.sqlite.specs.Held.{state};
 ghost use Rattle.sqlite.specs.State.{HasCleanDisk};
@@ -11,6 +11,7 @@ ghost use Rattle.catalogue_core.specs.Units.{is_later};
 ghost use Rattle.catalogue_statements.specs.Representation.{Represents};
 ghost use Rattle.office_tables.specs.Calls.{Answers, StoreAnswers};
 ghost use Rattle.office_tables.specs.Faults.{BlamesDisk};
+ghost use Rattle.office_tables.specs.Premises.{◌within◌and◌gives◌, ◌within◌gives◌};
 ghost use Rattle.refinement.specs.AccessConditions.{CanBeJudged, RepresentsWhole};
 ghost use Rattle.refinement.specs.Openness.{AreTheirs, TellsClean, allows, are_clean_for};
 
@@ -99,9 +100,9 @@ fn are_clean<P: Places, S: Alter>(
     permits: &[Permit],
     today: Day,
 ) -> Result<bool, StoreFault>
-    ensures answers { StoreAnswers S.Store (Represents P.represents P.version) IsKept tables.old tables.new result
-        (λ c. AllByRecursion (P.tells c) rows.now)
-        (λ _ c yes. AreTheirs P.tells c rows.now → yes ≡ are_clean_for today permits.now c rows.now) }
+    ensures answers { StoreAnswers S.Store (Represents P.represents P.version) tables.old tables.new result
+        within IsKept and (λ c. AllByRecursion (P.tells c) rows.now)
+        gives λ _ c yes. AreTheirs P.tells c rows.now → yes ≡ are_clean_for today permits.now c rows.now }
 {
     let mut known = Vec::new(alloc);
     for row in rows {
@@ -122,8 +123,8 @@ fn is_open<P: Places, S: Alter>(
     ticket: u64,
     today: Day,
 ) -> Result<bool, StoreFault>
-    ensures answers { Answers S.Store (RepresentsWhole P.represents P.version) CanBeJudged tables.old tables.new result
-        (λ _. ⊤) (λ _ s yes. CanBeJudged s → today ≡ s.day → yes ≡ opens s ticket container) }
+    ensures answers { Answers S.Store (RepresentsWhole P.represents P.version) tables.old tables.new result
+        within CanBeJudged gives λ _ s yes. CanBeJudged s → today ≡ s.day → yes ≡ opens s ticket container }
     ensures disk { HasCleanDisk (state S.Store tables.new)
         → IfErr result (BlamesDisk (state S.Store tables.old) (state S.Store tables.new)) }
 {
@@ -145,8 +146,8 @@ pub fn is_open_to<P: Places, S: Alter>(
     ticket: u64,
     today: Day,
 ) -> Result<bool, StoreFault>
-    ensures answers { Answers S.Store (RepresentsWhole P.represents P.version) CanBeJudged tables.old tables.new result
-        (λ _. ⊤) (λ _ s yes. CanBeJudged s → today ≡ s.day → yes ≡ opens s ticket container) }
+    ensures answers { Answers S.Store (RepresentsWhole P.represents P.version) tables.old tables.new result
+        within CanBeJudged gives λ _ s yes. CanBeJudged s → today ≡ s.day → yes ≡ opens s ticket container }
     ensures disk { HasCleanDisk (state S.Store tables.new)
         → IfErr result (BlamesDisk (state S.Store tables.old) (state S.Store tables.new)) }
 {

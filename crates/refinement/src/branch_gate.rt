@@ -2,11 +2,12 @@
 //! change can only withhold containers in which a unit of the branch lies. If more than a few containers are out, only
 //! these are checked. The containers in which the changed unit itself lies are asked first, with what is known of it.
 
-ghost use Rattle.std.specs.Prelude.{◌≡◌, ◌<◌, ⊤, IfOk, Some, filter, length};
+ghost use Rattle.std.specs.Prelude.{◌≡◌, ◌<◌, IfOk, Some, filter, length};
 ghost use Rattle.std.specs.List.Sorted.{IsNonDecreasing};
 ghost use Rattle.desk_store.specs.Holdings.{issued_of};
 ghost use Rattle.state_encoding.specs.OfficeRows.{tables as tables_of};
 ghost use Rattle.office_tables.specs.Calls.{Answers};
+ghost use Rattle.office_tables.specs.Premises.{◌within◌gives◌};
 ghost use Rattle.office_core.specs.Rules.{lowest_withheld};
 ghost use Rattle.refinement.specs.Gate.{AreAsked, AreEnough, AreNear, IsHoused, IsWithheldAt, OthersAreOpen};
 ghost use Rattle.refinement.specs.Gate.{gate_reply, is_one_of};
@@ -35,8 +36,8 @@ fn containers_near<P: Places, S: Alter>(
     unit: Number,
     housed: &HousedUnit,
 ) -> Result<Vec<Number>, StoreFault>
-    ensures answers { Answers S.Store (RepresentsWhole P.represents P.version) CanBeJudged tables.old tables.new result
-        (λ _. ⊤) (λ _ s found. IsHoused unit s housed.now → AreNear unit s found.items) }
+    ensures answers { Answers S.Store (RepresentsWhole P.represents P.version) tables.old tables.new result
+        within CanBeJudged gives λ _ s found. IsHoused unit s housed.now → AreNear unit s found.items }
 {
     let branch = P::branch(alloc, tables, unit)?;
     let mut containers = containers_of_each(alloc, tables, &branch)?;
@@ -72,8 +73,8 @@ fn loans_in_branch<P: Places, S: Alter>(
     housed: &HousedUnit,
     loans: &[ContainerOrder],
 ) -> Result<Vec<ContainerOrder>, StoreFault>
-    ensures answers { Answers S.Store (RepresentsWhole P.represents P.version) CanBeJudged tables.old tables.new result
-        (λ _. ⊤) (λ _ s found. IsHoused unit s housed.now → AreAsked unit s loans.now found.items) }
+    ensures answers { Answers S.Store (RepresentsWhole P.represents P.version) tables.old tables.new result
+        within CanBeJudged gives λ _ s found. IsHoused unit s housed.now → AreAsked unit s loans.now found.items }
 {
     let mut containers = containers_near(alloc, tables, unit, housed)?;
     containers.sort_unstable();
@@ -89,8 +90,8 @@ fn loans_to_ask<P: Places, S: Alter>(
     housed: &HousedUnit,
     loans: Vec<ContainerOrder>,
 ) -> Result<Vec<ContainerOrder>, StoreFault>
-    ensures answers { Answers S.Store (RepresentsWhole P.represents P.version) CanBeJudged tables.old tables.new result
-        (λ _. ⊤) (λ _ s found. IsHoused unit s housed.now → AreAsked unit s loans.items found.items) }
+    ensures answers { Answers S.Store (RepresentsWhole P.represents P.version) tables.old tables.new result
+        within CanBeJudged gives λ _ s found. IsHoused unit s housed.now → AreAsked unit s loans.items found.items }
 {
     if loans.len() <= FEW {
         return Ok(loans);
@@ -105,8 +106,8 @@ pub fn loans_near<P: Places, S: Alter>(
     tables: &mut Tables<P, S>,
     unit: Number,
 ) -> Result<Vec<ContainerOrder>, StoreFault>
-    ensures answers { Answers S.Store (RepresentsWhole P.represents P.version) CanBeJudged tables.old tables.new result
-        (λ _. ⊤) (λ _ s found. AreAsked unit s (issued_of (tables_of P.version s).desk) found.items) }
+    ensures answers { Answers S.Store (RepresentsWhole P.represents P.version) tables.old tables.new result
+        within CanBeJudged gives λ _ s found. AreAsked unit s (issued_of (tables_of P.version s).desk) found.items }
 {
     let loans = issued(alloc, tables)?;
     let housed = housed_unit(alloc, tables, unit)?;
@@ -122,8 +123,9 @@ pub fn pass_of<P: Places, S: Alter>(
     loans: &[ContainerOrder],
     done: Done,
 ) -> Result<Result<Done, Refusal>, StoreFault>
-    ensures answers { Answers S.Store (RepresentsWhole P.represents P.version) CanBeJudged tables.old tables.new result
-        (λ _. ⊤) (λ _ s reply. CanBeJudged s → today ≡ s.day → AreEnough loans.now s → reply ≡ gate_reply s done) }
+    ensures answers { Answers S.Store (RepresentsWhole P.represents P.version) tables.old tables.new result
+        within CanBeJudged
+        gives λ _ s reply. CanBeJudged s → today ≡ s.day → AreEnough loans.now s → reply ≡ gate_reply s done }
 {
     match first_closed(alloc, tables, loans, today)? {
         Some(container) => Ok(Err(Refusal::WithReader { container })),
@@ -141,9 +143,9 @@ fn lower_loans<P: Places, S: Alter>(
     loans: &[ContainerOrder],
 ) -> Result<Vec<ContainerOrder>, StoreFault>
     requires rise { IsNonDecreasing housed.now.containers.items }
-    ensures answers { Answers S.Store (RepresentsWhole P.represents P.version) CanBeJudged tables.old tables.new result
-        (λ _. ⊤)
-        (λ _ s found. CanBeJudged s → IsHoused unit s housed.now → AreAsked unit s loans.now found.items) }
+    ensures answers { Answers S.Store (RepresentsWhole P.represents P.version) tables.old tables.new result
+        within CanBeJudged
+        gives λ _ s found. CanBeJudged s → IsHoused unit s housed.now → AreAsked unit s loans.now found.items }
 {
     let Some(apart) = containers_apart(alloc, tables, unit, housed, loans)? else {
         return loans_in_branch(alloc, tables, unit, housed, loans);
@@ -164,10 +166,10 @@ fn lowest_closed<P: Places, S: Alter>(
 ) -> Result<u64, StoreFault>
     requires rise { IsNonDecreasing housed.now.containers.items }
     requires there { place < length loans.now }
-    ensures answers { Answers S.Store (RepresentsWhole P.represents P.version) CanBeJudged tables.old tables.new result
-        (λ _. ⊤) (λ _ s container. CanBeJudged s → today ≡ s.day → OthersAreOpen unit s
+    ensures answers { Answers S.Store (RepresentsWhole P.represents P.version) tables.old tables.new result
+        within CanBeJudged gives λ _ s container. CanBeJudged s → today ≡ s.day → OthersAreOpen unit s
         → IsHoused unit s housed.now → IsWithheldAt s housed.now loans.now place
-        → loans.now ≡ issued_of (tables_of P.version s).desk → lowest_withheld s ≡ Some container) }
+        → loans.now ≡ issued_of (tables_of P.version s).desk → lowest_withheld s ≡ Some container }
 {
     let lower = lower_loans(alloc, tables, unit, housed, &loans[..place])?;
     match first_closed(alloc, tables, &lower, today)? {
@@ -186,8 +188,9 @@ pub fn pass_near<P: Places, S: Alter>(
     unit: Number,
     done: Done,
 ) -> Result<Result<Done, Refusal>, StoreFault>
-    ensures answers { Answers S.Store (RepresentsWhole P.represents P.version) CanBeJudged tables.old tables.new result
-        (λ _. ⊤) (λ _ s reply. CanBeJudged s → today ≡ s.day → OthersAreOpen unit s → reply ≡ gate_reply s done) }
+    ensures answers { Answers S.Store (RepresentsWhole P.represents P.version) tables.old tables.new result
+        within CanBeJudged
+        gives λ _ s reply. CanBeJudged s → today ≡ s.day → OthersAreOpen unit s → reply ≡ gate_reply s done }
 {
     let loans = issued(alloc, tables)?;
     if loans.is_empty() {

@@ -1,11 +1,12 @@
 //! The containers in which nothing of a branch lies. They are told by the units that name them, so the branch is not
 //! read.
 
-ghost use Rattle.std.specs.Prelude.{◌≡◌, ⊤, IfOk, IfSome, Some, false, filter, not, true};
+ghost use Rattle.std.specs.Prelude.{◌≡◌, IfOk, IfSome, Some, false, filter, not, true};
 ghost use Rattle.std.specs.List.{list_any};
 ghost use Rattle.std.specs.List.Sorted.{IsNonDecreasing};
 ghost use Rattle.office_tables.specs.Calls.{Answers};
-ghost use Rattle.refinement.specs.Gate.{AreApart, IsHoused, is_named_near, is_on_path, is_one_of};
+ghost use Rattle.office_tables.specs.Premises.{◌within◌gives◌};
+ghost use Rattle.refinement.specs.Gate.{HoldNothingOfBranch, IsHoused, is_named_near, is_on_path, is_one_of};
 ghost use Rattle.refinement.specs.AccessConditions.{CanBeJudged, RepresentsWhole};
 
 use crate::housed_units::{HousedUnit, is_among};
@@ -27,8 +28,8 @@ fn is_some_below<P: Places, S: Alter>(
     units: &[Number],
     other: Number,
 ) -> Result<bool, StoreFault>
-    ensures answers { Answers S.Store (RepresentsWhole P.represents P.version) CanBeJudged tables.old tables.new result
-        (λ _. ⊤) (λ _ s found. found ≡ list_any (is_on_path other s) units.now) }
+    ensures answers { Answers S.Store (RepresentsWhole P.represents P.version) tables.old tables.new result
+        within CanBeJudged gives λ _ s found. found ≡ list_any (is_on_path other s) units.now }
 {
     for unit in units {
         if P::is_below(alloc, tables, *unit, other)? {
@@ -48,9 +49,9 @@ fn lies_apart<P: Places, S: Alter>(
     container: Number,
 ) -> Result<Option<bool>, StoreFault>
     requires rise { IsNonDecreasing housed.now.containers.items }
-    ensures answers { Answers S.Store (RepresentsWhole P.represents P.version) CanBeJudged tables.old tables.new result
-        (λ _. ⊤) (λ _ s found. CanBeJudged s → IsHoused unit s housed.now → found ≡ Some true
-        → is_named_near unit s container ≡ false) }
+    ensures answers { Answers S.Store (RepresentsWhole P.represents P.version) tables.old tables.new result
+        within CanBeJudged gives λ _ s found. CanBeJudged s → IsHoused unit s housed.now → found ≡ Some true
+        → is_named_near unit s container ≡ false }
 {
     if is_among(&housed.containers, container) {
         return Ok(Some(false));
@@ -74,9 +75,9 @@ pub(crate) fn containers_apart<P: Places, S: Alter>(
     loans: &[ContainerOrder],
 ) -> Result<Option<Vec<Number>>, StoreFault>
     requires rise { IsNonDecreasing housed.now.containers.items }
-    ensures answers { Answers S.Store (RepresentsWhole P.represents P.version) CanBeJudged tables.old tables.new result
-        (λ _. ⊤) (λ _ s found. CanBeJudged s → IsHoused unit s housed.now
-        → IfSome found (λ apart. AreApart unit s apart.items)) }
+    ensures answers { Answers S.Store (RepresentsWhole P.represents P.version) tables.old tables.new result
+        within CanBeJudged gives λ _ s found. CanBeJudged s → IsHoused unit s housed.now
+        → IfSome found (λ apart. HoldNothingOfBranch unit s apart.items) }
 {
     if loans.len() > FEW {
         return Ok(None);

@@ -1,7 +1,7 @@
 //! The rules of the day about the containers that are out. A reader who has one must have a seat, must not have more
 //! containers than are allowed at once, and must be allowed to see what lies in it.
 
-ghost use Rattle.std.specs.Prelude.{◌≡◌, ⊤, IfErr, IfOk, IsPermutation, map, nat_eq, not};
+ghost use Rattle.std.specs.Prelude.{◌≡◌, IfErr, IfOk, IsPermutation, map, nat_eq, not};
 ghost use Rattle.std.specs.List.{list_any};
 ghost use Rattle.std.specs.List.Sorted.{IsNonDecreasing};
 ghost use Rattle.sqlite.specs.Held.{state};
@@ -11,8 +11,9 @@ ghost use Rattle.desk_store.specs.declared.taken_seats.TakenSeat.{TakenSeat as T
 ghost use Rattle.desk_store.specs.Representation.{RepresentsDeskAlone, IsLegible};
 ghost use Rattle.office_tables.specs.Calls.{Answers};
 ghost use Rattle.office_tables.specs.Faults.{BlamesDisk};
+ghost use Rattle.office_tables.specs.Premises.{◌within◌gives◌};
 ghost use Rattle.refinement.specs.DayRules.{are_against_rules as are_against_rules_of, breaks_day_rules};
-ghost use Rattle.refinement.specs.DayRules.{has_no_row, has_too_many, occurs_more_than};
+ghost use Rattle.refinement.specs.DayRules.{has_no_row, has_too_many, number_occurs_more_than};
 ghost use Rattle.refinement.specs.AccessConditions.{CanBeJudged, RepresentsWhole};
 
 use crate::gate::first_closed;
@@ -39,7 +40,7 @@ fn holders(alloc: Global, loans: &[ContainerOrder]) -> Result<Vec<u64>, AllocErr
 /// Whether one of these numbers occurs more than `most` times. They must be in ascending order, so that equal ones are
 /// adjacent.
 fn occurs_more_than(numbers: &[u64], most: usize) -> bool
-    ensures { IsNonDecreasing numbers.now → result ≡ occurs_more_than most numbers.now }
+    ensures { IsNonDecreasing numbers.now → result ≡ number_occurs_more_than most numbers.now }
 {
     for i in most..numbers.len() {
         if numbers[i - most] == numbers[i] {
@@ -78,8 +79,8 @@ fn is_one_without_seat<P: Versioned, S: Alter>(
     tables: &mut Tables<P, S>,
     loans: &[ContainerOrder],
 ) -> Result<bool, StoreFault>
-    ensures answers { Answers S.Store RepresentsDeskAlone IsLegible tables.old tables.new result (λ _. ⊤)
-        (λ _ d yes. yes ≡ list_any (has_no_row d) loans.now) }
+    ensures answers { Answers S.Store RepresentsDeskAlone tables.old tables.new result
+        within IsLegible gives λ _ d yes. yes ≡ list_any (has_no_row d) loans.now }
     ensures disk { HasCleanDisk (state S.Store tables.new)
         → IfErr result (BlamesDisk (state S.Store tables.old) (state S.Store tables.new)) }
 {
@@ -95,9 +96,9 @@ fn are_against_rules<P: Places, S: Alter>(
     hands: u32,
     today: Day,
 ) -> Result<bool, StoreFault>
-    ensures answers { Answers S.Store (RepresentsWhole P.represents P.version) CanBeJudged tables.old tables.new result
-        (λ _. ⊤) (λ _ s broken. CanBeJudged s → today ≡ s.day → hands ≡ s.settings.hands
-        → broken ≡ are_against_rules_of s loans.now) }
+    ensures answers { Answers S.Store (RepresentsWhole P.represents P.version) tables.old tables.new result
+        within CanBeJudged gives λ _ s broken. CanBeJudged s → today ≡ s.day → hands ≡ s.settings.hands
+        → broken ≡ are_against_rules_of s loans.now }
     ensures disk { HasCleanDisk (state S.Store tables.new)
         → IfErr result (BlamesDisk (state S.Store tables.old) (state S.Store tables.new)) }
 {
@@ -118,9 +119,9 @@ pub fn breaks_day_rules<P: Places, S: Alter>(
     hands: u32,
     today: Day,
 ) -> Result<bool, StoreFault>
-    ensures answers { Answers S.Store (RepresentsWhole P.represents P.version) CanBeJudged tables.old tables.new result
-        (λ _. ⊤)
-        (λ _ s broken. CanBeJudged s → today ≡ s.day → hands ≡ s.settings.hands → broken ≡ breaks_day_rules s) }
+    ensures answers { Answers S.Store (RepresentsWhole P.represents P.version) tables.old tables.new result
+        within CanBeJudged
+        gives λ _ s broken. CanBeJudged s → today ≡ s.day → hands ≡ s.settings.hands → broken ≡ breaks_day_rules s }
     ensures disk { HasCleanDisk (state S.Store tables.new)
         → IfErr result (BlamesDisk (state S.Store tables.old) (state S.Store tables.new)) }
 {

@@ -1,11 +1,12 @@
 //! The gate: after a change, nothing that is out may be withheld from the reader who has it.
 
-ghost use Rattle.std.specs.Prelude.{◌≡◌, ⊤, IfErr};
+ghost use Rattle.std.specs.Prelude.{◌≡◌, IfErr};
 ghost use Rattle.sqlite.specs.Held.{state};
 ghost use Rattle.sqlite.specs.State.{HasCleanDisk};
 ghost use Rattle.office_core.specs.Rules.{lowest_withheld};
 ghost use Rattle.office_tables.specs.Calls.{Answers};
 ghost use Rattle.office_tables.specs.Faults.{BlamesDisk};
+ghost use Rattle.office_tables.specs.Premises.{◌within◌gives◌};
 ghost use Rattle.refinement.specs.Gate.{first_closed as first_closed_of, gate_reply};
 ghost use Rattle.refinement.specs.AccessConditions.{CanBeJudged, RepresentsWhole};
 
@@ -27,8 +28,8 @@ pub(crate) fn first_closed<P: Places, S: Alter>(
     loans: &[ContainerOrder],
     today: Day,
 ) -> Result<Option<u64>, StoreFault>
-    ensures answers { Answers S.Store (RepresentsWhole P.represents P.version) CanBeJudged tables.old tables.new result
-        (λ _. ⊤) (λ _ s found. CanBeJudged s → today ≡ s.day → found ≡ first_closed_of s loans.now) }
+    ensures answers { Answers S.Store (RepresentsWhole P.represents P.version) tables.old tables.new result
+        within CanBeJudged gives λ _ s found. CanBeJudged s → today ≡ s.day → found ≡ first_closed_of s loans.now }
     ensures disk { HasCleanDisk (state S.Store tables.new)
         → IfErr result (BlamesDisk (state S.Store tables.old) (state S.Store tables.new)) }
 {
@@ -47,8 +48,8 @@ pub fn kept_back<P: Places, S: Alter>(
     tables: &mut Tables<P, S>,
     today: Day,
 ) -> Result<Option<u64>, StoreFault>
-    ensures answers { Answers S.Store (RepresentsWhole P.represents P.version) CanBeJudged tables.old tables.new result
-        (λ _. ⊤) (λ _ s found. CanBeJudged s → today ≡ s.day → found ≡ lowest_withheld s) }
+    ensures answers { Answers S.Store (RepresentsWhole P.represents P.version) tables.old tables.new result
+        within CanBeJudged gives λ _ s found. CanBeJudged s → today ≡ s.day → found ≡ lowest_withheld s }
 {
     let loans = issued(alloc, tables)?;
     first_closed(alloc, tables, &loans, today)
@@ -62,8 +63,8 @@ pub fn pass<P: Places, S: Alter>(
     today: Day,
     done: Done,
 ) -> Result<Result<Done, Refusal>, StoreFault>
-    ensures answers { Answers S.Store (RepresentsWhole P.represents P.version) CanBeJudged tables.old tables.new result
-        (λ _. ⊤) (λ _ s reply. CanBeJudged s → today ≡ s.day → reply ≡ gate_reply s done) }
+    ensures answers { Answers S.Store (RepresentsWhole P.represents P.version) tables.old tables.new result
+        within CanBeJudged gives λ _ s reply. CanBeJudged s → today ≡ s.day → reply ≡ gate_reply s done }
 {
     match kept_back(alloc, tables, today)? {
         Some(container) => Ok(Err(Refusal::WithReader { container })),

@@ -2,7 +2,7 @@
 //! depend on the reader, so it is found once for all of them. Permits only open more, and decide only where a unit is
 //! withheld from such a reader.
 
-ghost use Rattle.std.specs.Prelude.{◌≡◌, ⊤, ℕ, IfErr, IfOk, Some, int_le, filter, true};
+ghost use Rattle.std.specs.Prelude.{◌≡◌, ℕ, IfErr, IfOk, Some, int_le, filter, true};
 ghost use Rattle.std.specs.List.{AllByRecursion};
 ghost use Rattle.sqlite.specs.Held.{state};
 ghost use Rattle.sqlite.specs.State.{HasCleanDisk};
@@ -16,9 +16,10 @@ ghost use Rattle.catalogue_statements.specs.Representation.{Represents};
 ghost use Rattle.desk_store.specs.declared.reader_permits.Permit.{Permit as Permitted};
 ghost use Rattle.office_tables.specs.Calls.{Answers, StoreAnswers};
 ghost use Rattle.office_tables.specs.Faults.{BlamesDisk};
+ghost use Rattle.office_tables.specs.Premises.{◌within◌and◌gives◌, ◌within◌gives◌};
 ghost use Rattle.tree_places.specs.Attachments.{AreWholeMarksOf};
 ghost use Rattle.refinement.specs.AccessConditions.{CanBeJudged, RepresentsWhole};
-ghost use Rattle.refinement.specs.KnownUnits.{AreTold, IsTold, TellsOpen, are_known, is_known};
+ghost use Rattle.refinement.specs.KnownUnits.{AreTold, TellsWithholding, TellsOpen, are_known, is_unit_known};
 ghost use Rattle.refinement.specs.Openness.{AreTheirs, allows, are_clean_for};
 
 use crate::access::is_clean;
@@ -38,7 +39,7 @@ pub type KnownUnits = BTreeMap<u64, Option<Attached>>;
 /// What is to be known of a unit with these marks.
 fn told_of(alloc: Global, marks: Attached, today: Day) -> Result<Option<Attached>, AllocError>
     ensures { IfOk result (λ told. (f : Forest Described) (u : ℕ) → has_unit f u ≡ true → AreWholeMarksOf f u marks
-        → IsTold today f u told) }
+        → TellsWithholding today f u told) }
 {
     if is_clean(alloc, &marks, &[], today)? {
         return Ok(None);
@@ -55,10 +56,10 @@ pub(crate) fn know_rows<P: Places, S: Alter>(
     rows: &[Mark],
     today: Day,
 ) -> Result<KnownUnits, StoreFault>
-    ensures answers { StoreAnswers S.Store (Represents P.represents P.version) IsKept tables.old tables.new result
-        (λ c. AllByRecursion (P.tells c) rows.now)
-        (λ _ c found. AreTheirs P.tells c rows.now → AreTold today c.forest known
-        → AreTold today c.forest found × (are_known found rows.now ≡ true)) }
+    ensures answers { StoreAnswers S.Store (Represents P.represents P.version) tables.old tables.new result
+        within IsKept and (λ c. AllByRecursion (P.tells c) rows.now)
+        gives λ _ c found. AreTheirs P.tells c rows.now → AreTold today c.forest known
+        → AreTold today c.forest found × (are_known found rows.now ≡ true) }
 {
     let mut known = known;
     let mut path = Vec::new(alloc);
@@ -81,7 +82,7 @@ fn is_opened(
     permits: &[Permit],
     today: Day,
 ) -> Result<bool, AllocError>
-    ensures { IfOk result (λ yes. (f : Forest Described) (u : ℕ) → IsTold today f u (Some marks.now)
+    ensures { IfOk result (λ yes. (f : Forest Described) (u : ℕ) → TellsWithholding today f u (Some marks.now)
         → yes ≡ is_clean_for (allows today permits.now) today f u) }
 {
     if permits.is_empty() {
@@ -99,7 +100,7 @@ fn is_unit_open(
     today: Day,
 ) -> Result<bool, AllocError>
     ensures { IfOk result (λ yes. (f : Forest Described) → AreTold today f known.now
-        → is_known known.now unit ≡ true → yes ≡ is_clean_for (allows today permits.now) today f unit) }
+        → is_unit_known known.now unit ≡ true → yes ≡ is_clean_for (allows today permits.now) today f unit) }
 {
     let Some(told) = known.get(&unit) else {
         return Ok(false);
@@ -161,8 +162,9 @@ pub(crate) fn is_open_by<P: Places, S: Alter>(
     ticket: u64,
     today: Day,
 ) -> Result<bool, StoreFault>
-    ensures answers { Answers S.Store (RepresentsWhole P.represents P.version) CanBeJudged tables.old tables.new result
-        (λ _. ⊤) (λ _ s yes. CanBeJudged s → today ≡ s.day → TellsOpen P.tells s known.now rows.now ticket yes) }
+    ensures answers { Answers S.Store (RepresentsWhole P.represents P.version) tables.old tables.new result
+        within CanBeJudged
+        gives λ _ s yes. CanBeJudged s → today ≡ s.day → TellsOpen P.tells s known.now rows.now ticket yes }
     ensures disk { HasCleanDisk (state S.Store tables.new)
         → IfErr result (BlamesDisk (state S.Store tables.old) (state S.Store tables.new)) }
 {

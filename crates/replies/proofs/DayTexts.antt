@@ -1,15 +1,17 @@
 -- A date is ASCII.
-use Rattle.std.proofs.Common.{◌≡◌, ℕ, zero, suc, ◌+◌, ◌*◌, ◌/◌, ◌%◌, ◌<◌, ◌≤◌, Bool, true, false, cond, ◌&&◌, Result, Ok, Err, List, [], ◌∷◌, ◌++◌, Option, Some, None, ℤ, pos, arith, ap, sym, ◌∙◌, refl}
+use Rattle.std.proofs.Common.{◌≡◌, ℕ, zero, suc, ◌+◌, ◌*◌, ◌/◌, ◌%◌, ◌<◌, ◌≤◌, Bool, true, false, cond, ◌&&◌, Result}
+use Rattle.std.proofs.Common.{Ok, Err, List, [], ◌∷◌, ◌++◌, Option, Some, None, ℤ, pos, arith, ap, sym, ◌∙◌, refl}
+use Rattle.std.proofs.lemmas.Bool.{and_parts}
+use Rattle.std.proofs.lemmas.Str.{IsUtf8-from_ascii}
 use Rattle.std.specs.Prelude.{IsOk, IsUtf8, MatchResult, option_and_then}
 use Rattle.std.specs.Str.{IsAscii}
-use Rattle.std.proofs.lemmas.Str.{IsUtf8-from_ascii}
 use Rattle.jiff_core.proofs.CalendarLemmas.{days_in_month_bounds}
 use Rattle.jiff_core.proofs.SignedLemmas.{signed_arith}
-use Rattle.std.proofs.lemmas.Bool.{and_parts}
 use Rattle.jiff_core.specs.Calendar.{days_from_civil}
-use Rattle.isad_core.specs.Days.{is_civil, YearMonthDay, date_of, date_text, day_of, day_text, in_two_digits, is_day_number, number_of_date, two_digits}
-use Rattle.isad_core.proofs.DayLemmas.{is_day_number-so}
 use Rattle.isad_core.proofs.DateLemmas.{HasNumber, date_of-HasNumber}
+use Rattle.isad_core.proofs.DayLemmas.{is_day_number-so}
+use Rattle.isad_core.specs.Days.{is_civil, YearMonthDay, date_of, date_text, day_of, day_text, in_two_digits}
+use Rattle.isad_core.specs.Days.{is_day_number, number_of_date, two_digits}
 
 next : (b : ℕ) (bs : List ℕ) → b < 128 → IsAscii bs → IsAscii (b ∷ bs)
 next b bs low rest zero = low

@@ -2,7 +2,13 @@
 use Rattle.std.proofs.Common.{◌≡◌, false, Ok, Err, refl}
 use Rattle.serde_json.specs.Written.{has_float}
 use Rattle.desk_core.specs.declared.refusal.Refusal.{Refusal}
-use Rattle.desk_core.specs.declared.refusal.Refusal.TheVariants.{UnknownUnit, UnknownTicket, UnknownContainer, TicketExpired, NotAvailable, AlreadyOrdered, DailyLimit, NoSeatFree, AlreadySeated, NotSeated, HoldsContainers, UnknownOrder, OrderNotWaiting, NotAtDesk, NotFirst, HandsFull, NotIssued, DayNotLater, StillIssued, IntoItself, WithReader, BadFile, Full, NothingToMove, TooDeep, UnknownRun, BadName, NoPermit}
+use Rattle.desk_core.specs.declared.refusal.Refusal.TheVariants.{UnknownUnit, UnknownTicket, UnknownContainer}
+use Rattle.desk_core.specs.declared.refusal.Refusal.TheVariants.{TicketExpired, NotAvailable, AlreadyOrdered}
+use Rattle.desk_core.specs.declared.refusal.Refusal.TheVariants.{DailyLimit, NoSeatFree, AlreadySeated, NotSeated}
+use Rattle.desk_core.specs.declared.refusal.Refusal.TheVariants.{HoldsContainers, UnknownOrder, OrderNotWaiting}
+use Rattle.desk_core.specs.declared.refusal.Refusal.TheVariants.{NotAtDesk, NotFirst, HandsFull, NotIssued, DayNotLater}
+use Rattle.desk_core.specs.declared.refusal.Refusal.TheVariants.{StillIssued, IntoItself, WithReader, BadFile, Full}
+use Rattle.desk_core.specs.declared.refusal.Refusal.TheVariants.{NothingToMove, TooDeep, UnknownRun, BadName, NoPermit}
 use Rattle.office_core.specs.Json.{count, done_json, refusal_json, remark_json, reply_json}
 use Rattle.office_core.specs.Rules.{Reply}
 use Rattle.office_core.specs.declared.done.Done.{Done}

@@ -1,13 +1,14 @@
 -- A row of a table whose last column is NOT NULL has all its cells: it has a value there, and no row has more cells than columns.
-use Rattle.std.proofs.Common.{◌≡◌, ◌<◌, ◌≤◌, ◌+◌, ℕ, zero, suc, List, [], ◌∷◌, length, Bool, true, false, not, ◌&&◌, ◌||◌, Option, drop, refl, sym, subst, arith}
+use Rattle.std.proofs.Common.{◌≡◌, ◌<◌, ◌≤◌, ◌+◌, ℕ, zero, suc, List, [], ◌∷◌, length, Bool, true, false, not, ◌&&◌}
+use Rattle.std.proofs.Common.{◌||◌, Option, drop, refl, sym, subst, arith}
 use Rattle.sqlite.specs.Effect.{Database, IsDatabase}
+use Rattle.sqlite.specs.Ops.{is_null}
 use Rattle.sqlite.specs.Table.{Table}
 use Rattle.sqlite_schema.specs.Names.{is_key}
 use Rattle.sqlite_schema.specs.Rules.{are_typed, are_present, has_computed, passes}
 use Rattle.sqlite_schema.specs.declared.schema.Column.{Column}
 use Rattle.sqlite_schema.specs.declared.schema.Constraint.TheVariants.{Datatype, NotNull}
 use Rattle.sqlite_schema.specs.declared.schema.Schema.{Schema}
-use Rattle.sqlite.specs.Ops.{is_null}
 use Rattle.office_tables.specs.Schema.{Version, First, Second, schema}
 use Rattle.row_completeness.specs.OrderedRows.{StandsInOrder, StandInOrder}
 use Rattle.row_completeness.specs.WholeRows.{IsWholeTable, AreWholeTables}

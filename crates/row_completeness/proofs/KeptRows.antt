@@ -1,13 +1,15 @@
 -- Rows of which each can be read and has all its cells are the rows of what is read.
-use Rattle.std.proofs.Common.{◌≡◌, ℕ, zero, suc, ℤ, pos, List, [], ◌∷◌, length, map, false, Option, Some, None, is_none, filter_map, Ordering, Less, refl, sym, ap, ap₂, ◌∙◌, unwrap_or, IsTrue}
+use Rattle.std.proofs.Common.{◌≡◌, ℕ, zero, suc, ℤ, pos, List, [], ◌∷◌, length, map, false, Option, Some, None, is_none}
+use Rattle.std.proofs.Common.{filter_map, Ordering, Less, refl, sym, ap, ap₂, ◌∙◌, unwrap_or, IsTrue}
 use Rattle.std.specs.Prelude.{option_map}
 use Rattle.sqlite.specs.declared.types.Value.{Value}
 use Rattle.sqlite_trees.specs.View.{is_int}
-use Rattle.sqlite_value.specs.Order.{value_cmp}
 use Rattle.sqlite_value.proofs.OrderLemmas.{value_cmp-Int}
+use Rattle.sqlite_value.specs.Order.{value_cmp}
 use Rattle.office_tables.specs.Cells.{whole_in, has_unread}
 use Rattle.office_tables.specs.RowNumbers.{HasNumbered}
-use Rattle.row_completeness.proofs.Common.{AllByRecursion, Blob, Int, IsPermutation-same, IsTable, Null, Real, Rises, Row, Text, column, cons_option, int_cmp, or_from, or_parts, true≢false}
+use Rattle.row_completeness.proofs.Common.{AllByRecursion, Blob, Int, IsPermutation-same, IsTable, Null, Real, Rises}
+use Rattle.row_completeness.proofs.Common.{Row, Text, column, cons_option, int_cmp, or_from, or_parts, true≢false}
 
 -- a whole number
 pub int_of : (v : Value) → IsTrue (is_int v) → (n : ℤ) × (v ≡ Int n)

@@ -1,19 +1,21 @@
 -- Rows that a unique index guards have no key twice.
-use Rattle.std.proofs.Common.{◌≡◌, ℕ, ℤ, pos, List, [], ◌∷◌, map, nat_eq, Bool, true, false, cond, ◌&&◌, Option, Some, None, filter_map, Ordering, Less, arith, refl, sym, ap, ap₂, ◌∙◌, inl, inr, IsTrue}
+use Rattle.std.proofs.Common.{◌≡◌, ℕ, ℤ, pos, List, [], ◌∷◌, map, nat_eq, Bool, true, false, cond, ◌&&◌, Option, Some}
+use Rattle.std.proofs.Common.{None, filter_map, Ordering, Less, arith, refl, sym, ap, ap₂, ◌∙◌, inl, inr, IsTrue}
 use Rattle.std.specs.List.{IsDistinct}
+use Rattle.sqlite.specs.Ops.{binary}
 use Rattle.sqlite.specs.declared.types.Value.{Value}
 use Rattle.sqlite_schema.specs.Rules.{agree, clashes, differ}
-use Rattle.sqlite.specs.Ops.{binary}
 use Rattle.sqlite_trees.specs.Tree.{rowid}
 use Rattle.sqlite_trees.specs.View.{is_int}
 use Rattle.sqlite_value.specs.Order.{value_cmp}
 use Rattle.sqlite_value.specs.declared.keys.Order.{Order}
 use Rattle.tree_core.proofs.Lists.{In}
+use Rattle.desk_core.specs.Orders.{in_order, put_in_order}
 use Rattle.office_tables.proofs.Tests.{only}
 use Rattle.office_tables.proofs.numbered.Counted.{less_below}
-use Rattle.desk_core.specs.Orders.{in_order, put_in_order}
 use Rattle.row_decoding.specs.TableRows.{by}
-use Rattle.row_completeness.proofs.Common.{AllByRecursion, Int, IsAscending, IsTable, Rises, Row, cons_option, int_cmp, le-ltb, list_any, ne_eqb, or_parts}
+use Rattle.row_completeness.proofs.Common.{AllByRecursion, Int, IsAscending, IsTable, Rises, Row, cons_option, int_cmp}
+use Rattle.row_completeness.proofs.Common.{le-ltb, list_any, ne_eqb, or_parts}
 use Rattle.row_completeness.proofs.KeptRows.{int_of}
 
 -- ---- numbers of rows

@@ -1,11 +1,11 @@
 -- Calls that read, one after the other.
 use Rattle.std.proofs.Common.{◌≡◌, Result, Ok, Err, ap, refl}
 use Rattle.sqlite.specs.State.{State, HasCleanDisk}
+use Rattle.office_tables.proofs.CallEnds.{read_well, read_cut}
+use Rattle.office_tables.proofs.Calls.{early, looks_then}
 use Rattle.office_tables.specs.Query.{Reads}
 use Rattle.office_tables.specs.Step.{LeavesUnchanged}
 use Rattle.office_tables.specs.declared.fault.StoreFault.{StoreFault}
-use Rattle.office_tables.proofs.CallEnds.{read_well, read_cut}
-use Rattle.office_tables.proofs.Calls.{early, looks_then}
 
 -- the tables are as they were
 pub same_trees : (a b : State) → LeavesUnchanged a b → HasCleanDisk b → b.now.trees ≡ a.now.trees

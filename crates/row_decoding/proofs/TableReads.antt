@@ -1,27 +1,21 @@
 -- What is gathered of the rows of a table, for any query of ours that shows all of them.
-use Rattle.std.proofs.Common.{◌≡◌, ◌⊎◌, IsTrue, ℕ, List, [], ◌∷◌, map, Bool, true, not, ◌||◌, Option, Result, Ok, Err, IfOk, IfErr, is_none, filter_map, Ordering, refl, sym, ap, ap₂, subst, ◌∙◌}
-use Rattle.std.specs.List.Sorted.{IsSorted, IsPermutation}
+use Rattle.std.proofs.Common.{◌≡◌, ◌⊎◌, IsTrue, ℕ, List, [], ◌∷◌, map, Bool, true, not, ◌||◌, Option, Result, Ok, Err}
+use Rattle.std.proofs.Common.{IfOk, IfErr, is_none, filter_map, Ordering, refl, sym, ap, ap₂, subst, ◌∙◌}
 use Rattle.std.proofs.lemmas.Bool.{both_ways}
 use Rattle.std.proofs.lemmas.List.Sorted.{list_any-IsPermutation}
-use Rattle.sqlite_trees.specs.declared.store.Store as store
-use Rattle.sqlite.specs.declared.error.Error.{Error}
-use Rattle.sqlite.specs.Held.{Held, state}
+use Rattle.std.specs.List.Sorted.{IsSorted, IsPermutation}
+use Rattle.sqlite.specs.Command.TheVariants.{Select}
 use Rattle.sqlite.specs.Given.{IsPlain}
+use Rattle.sqlite.specs.Held.{Held, state}
 use Rattle.sqlite.specs.Listing.{understood}
 use Rattle.sqlite.specs.Query.{inner, end, key_cmp}
+use Rattle.sqlite.specs.State.{State, HasCleanDisk, Shown, FailsToQuery}
 use Rattle.sqlite.specs.Table.{Table}
 use Rattle.sqlite.specs.Term.{Term, eval_all}
-use Rattle.sqlite.specs.Command.TheVariants.{Select}
-use Rattle.sqlite.specs.State.{State, HasCleanDisk, Shown, FailsToQuery}
+use Rattle.sqlite.specs.declared.error.Error.{Error}
+use Rattle.sqlite_trees.specs.declared.store.Store as store
 use Rattle.sqlite_typing.specs.Types.{accepts_program}
 use Rattle.sqlite_value.specs.declared.keys.Key.{Key}
-use Rattle.office_tables.specs.Versions.{Version}
-use Rattle.office_tables.specs.ChangeStatement.{IsOutside}
-use Rattle.office_tables.specs.Query.{IsQuery, Reads, FoundInside, Gathers, StopsShort}
-use Rattle.office_tables.specs.Faults.{fault_of, IsUnlimited, HasCause, FaultsHaveCause}
-use Rattle.office_tables.specs.StatementMeaning.{Means}
-use Rattle.office_tables.specs.Schema.{schema}
-use Rattle.office_tables.specs.declared.fault.StoreFault.{StoreFault}
 use Rattle.office_tables.proofs.Causes.{read_cause, none_refuse, sums_nothing}
 use Rattle.office_tables.proofs.Errors.{keeps}
 use Rattle.office_tables.proofs.Gatherings.{stop_cause}
@@ -29,6 +23,13 @@ use Rattle.office_tables.proofs.Queries.{asking, plain_query}
 use Rattle.office_tables.proofs.Rows.{kept_all}
 use Rattle.office_tables.proofs.StatementEnds.{answered, caused}
 use Rattle.office_tables.proofs.statements.SelectOf.{select_rows}
+use Rattle.office_tables.specs.ChangeStatement.{IsOutside}
+use Rattle.office_tables.specs.Faults.{fault_of, IsUnlimited, HasCause, FaultsHaveCause}
+use Rattle.office_tables.specs.Query.{IsQuery, Reads, FoundInside, Gathers, StopsShort}
+use Rattle.office_tables.specs.Schema.{schema}
+use Rattle.office_tables.specs.StatementMeaning.{Means}
+use Rattle.office_tables.specs.Versions.{Version}
+use Rattle.office_tables.specs.declared.fault.StoreFault.{StoreFault}
 use Rattle.row_decoding.specs.Examinations.{Examines}
 use Rattle.row_decoding.specs.declared.decoded_rows.Gathered.{Gathered}
 use Rattle.row_decoding.proofs.Common.{AreGathered, IsTable, Row, cons_option, has_unread}

@@ -8,10 +8,10 @@ use Rattle.sqlite.specs.Term.{Term, col}
 use Rattle.sqlite_tied.specs.Compute.{everything}
 use Rattle.sqlite_value.specs.Keys.{ascending}
 use Rattle.sqlite_value.specs.declared.keys.Key.{Key}
-use Rattle.office_tables.specs.Versions.{Version}
-use Rattle.office_tables.specs.StatementMeaning.{Means}
-use Rattle.office_tables.specs.Schema as tables
 use Rattle.office_tables.proofs.Queries.{asking}
+use Rattle.office_tables.specs.Schema as tables
+use Rattle.office_tables.specs.StatementMeaning.{Means}
+use Rattle.office_tables.specs.Versions.{Version}
 
 abbrev pub by_first : List (Term × Key)
 by_first = (col 1 0, ascending Binary) ∷ []

@@ -8,10 +8,13 @@ use Rattle.tree_core.specs.Encodings.{TreeEncoding, Links, Spans}
 use Rattle.office_tables.specs.Versions.{Version, encoding}
 use Rattle.desk_core.specs.DeskRows.{Desk, ReaderRow, SeatRow, OrderRow, HoldingRow, RunRow, RunLineRow, PermitRow}
 use Rattle.desk_core.specs.Orders.{in_order}
-use Rattle.catalogue_core.specs.CatalogueRows.{CatalogueRows, UnitRow, ElementRow, ContainerRow, HousingRow, PlaceRows, LinkRows, SpanRows}
+use Rattle.catalogue_core.specs.CatalogueRows.{CatalogueRows, UnitRow, ElementRow, ContainerRow, HousingRow, PlaceRows}
+use Rattle.catalogue_core.specs.CatalogueRows.{LinkRows, SpanRows}
 use Rattle.office_tables.specs.Cells.{has_unread}
-use Rattle.office_tables.specs.CatalogueCells.{read_unit, read_link, read_span, read_element, read_container, read_housing}
-use Rattle.office_tables.specs.DeskCells.{read_reader, read_seat, read_order, read_holding, read_run, read_run_line, read_permit}
+use Rattle.office_tables.specs.CatalogueCells.{read_unit, read_link, read_span, read_element, read_container}
+use Rattle.office_tables.specs.CatalogueCells.{read_housing}
+use Rattle.office_tables.specs.DeskCells.{read_reader, read_seat, read_order, read_holding, read_run, read_run_line}
+use Rattle.office_tables.specs.DeskCells.{read_permit}
 use Rattle.office_tables.specs.Schema as tables
 
 -- `by`: by one number; `then_by`: by one number, then by a second

@@ -3,7 +3,7 @@
 ghost use Rattle.std.specs.Prelude.{◌≡◌, true};
 ghost use Rattle.std.specs.Option.{option_map_or};
 ghost use Rattle.catalogue_core.specs.CatalogueCauses as causes;
-ghost use Rattle.row_decoding.specs.PlaceReadings.{only};
+ghost use Rattle.row_decoding.specs.PlaceReadings.{if_passes};
 
 use crate::cells::{cell, number_in, number_or_null_in};
 use crate::decoded_rows::FromCells;
@@ -37,7 +37,7 @@ fn is_place_number(n: u64) -> bool
 
 /// The link with these numbers, or none if a link may not have them.
 fn link_of(id: u64, parent: Option<u64>, ord: u64) -> Option<Link>
-    ensures { result ≡ only causes.is_good_link (record { id = id; parent = parent; ord = ord }) }
+    ensures { result ≡ if_passes causes.is_good_link (record { id = id; parent = parent; ord = ord }) }
 {
     if is_unit_number(id) && may_be_parent(parent) && is_place_number(ord) {
         Some(Link {
@@ -52,7 +52,7 @@ fn link_of(id: u64, parent: Option<u64>, ord: u64) -> Option<Link>
 
 /// The span with these numbers, or none if a span may not have them.
 fn span_of(id: u64, lft: u64, rgt: u64) -> Option<Span>
-    ensures { result ≡ only causes.is_good_span (record { id = id; lft = lft; rgt = rgt }) }
+    ensures { result ≡ if_passes causes.is_good_span (record { id = id; lft = lft; rgt = rgt }) }
 {
     if is_unit_number(id) && is_place_number(lft) && is_place_number(rgt) {
         Some(Span {

@@ -4,7 +4,8 @@ ghost use Rattle.office_tables.specs.DeskCells as cells;
 ghost use Rattle.office_tables.specs.Schema as schema;
 ghost use Rattle.row_decoding.specs.Examinations.{Examines};
 ghost use Rattle.row_decoding.specs.Readings.{IsTable, by_rowid, in_any_order, read_number};
-ghost use Rattle.desk_core.specs.RowRecords.{seat_row, order_row, holding_row, run_row, run_line_row, permit_row};
+ghost use Rattle.desk_core.specs.RowRecords.{seat_record, order_record, holding_record, run_record, run_line_record};
+ghost use Rattle.desk_core.specs.RowRecords.{permit_record};
 
 use crate::cells::{cell, number_in, number_or_null_in, whole_in};
 use crate::decoded_rows::{FromCells, Gathered, read_rows};
@@ -31,11 +32,11 @@ impl FromCells for u64 {
 impl FromCells for SeatRow {
     ghost use Rattle.desk_core.specs.DeskRows.{SeatRow as ToldSeatRow};
     ghost use Rattle.row_decoding.specs.Readings.{seat_in_answer};
-    ghost use Rattle.desk_core.specs.RowRecords.{seat_row};
+    ghost use Rattle.desk_core.specs.RowRecords.{seat_record};
 
     ghost Told = { ToldSeatRow };
 
-    ghost told = { seat_row };
+    ghost told = { seat_record };
 
     ghost says = { seat_in_answer };
 
@@ -49,11 +50,11 @@ impl FromCells for SeatRow {
 impl FromCells for PermitRow {
     ghost use Rattle.desk_core.specs.DeskRows.{PermitRow as ToldPermitRow};
     ghost use Rattle.row_decoding.specs.Readings.{permit_in_answer};
-    ghost use Rattle.desk_core.specs.RowRecords.{permit_row};
+    ghost use Rattle.desk_core.specs.RowRecords.{permit_record};
 
     ghost Told = { ToldPermitRow };
 
-    ghost told = { permit_row };
+    ghost told = { permit_record };
 
     ghost says = { permit_in_answer };
 
@@ -72,11 +73,11 @@ impl FromCells for PermitRow {
 impl FromCells for OrderRow {
     ghost use Rattle.desk_core.specs.DeskRows.{OrderRow as ToldOrderRow};
     ghost use Rattle.row_decoding.specs.Readings.{order_in_answer};
-    ghost use Rattle.desk_core.specs.RowRecords.{order_row};
+    ghost use Rattle.desk_core.specs.RowRecords.{order_record};
 
     ghost Told = { ToldOrderRow };
 
-    ghost told = { order_row };
+    ghost told = { order_record };
 
     ghost says = { order_in_answer };
 
@@ -99,11 +100,11 @@ impl FromCells for OrderRow {
 impl FromCells for HoldingRow {
     ghost use Rattle.desk_core.specs.DeskRows.{HoldingRow as ToldHoldingRow};
     ghost use Rattle.row_decoding.specs.Readings.{holding_in_answer};
-    ghost use Rattle.desk_core.specs.RowRecords.{holding_row};
+    ghost use Rattle.desk_core.specs.RowRecords.{holding_record};
 
     ghost Told = { ToldHoldingRow };
 
-    ghost told = { holding_row };
+    ghost told = { holding_record };
 
     ghost says = { holding_in_answer };
 
@@ -122,11 +123,11 @@ impl FromCells for HoldingRow {
 impl FromCells for RunRow {
     ghost use Rattle.desk_core.specs.DeskRows.{RunRow as ToldRunRow};
     ghost use Rattle.row_decoding.specs.Readings.{run_in_answer};
-    ghost use Rattle.desk_core.specs.RowRecords.{run_row};
+    ghost use Rattle.desk_core.specs.RowRecords.{run_record};
 
     ghost Told = { ToldRunRow };
 
-    ghost told = { run_row };
+    ghost told = { run_record };
 
     ghost says = { run_in_answer };
 
@@ -140,11 +141,11 @@ impl FromCells for RunRow {
 impl FromCells for RunLineRow {
     ghost use Rattle.desk_core.specs.DeskRows.{RunLineRow as ToldRunLineRow};
     ghost use Rattle.row_decoding.specs.Readings.{run_line_in_answer};
-    ghost use Rattle.desk_core.specs.RowRecords.{run_line_row};
+    ghost use Rattle.desk_core.specs.RowRecords.{run_line_record};
 
     ghost Told = { ToldRunLineRow };
 
-    ghost told = { run_line_row };
+    ghost told = { run_line_record };
 
     ghost says = { run_line_in_answer };
 
@@ -168,7 +169,7 @@ pub fn seats<P: Versioned, S: Alter>(
     tables: &mut Tables<P, S>,
 ) -> Result<Gathered<SeatRow>, StoreFault>
     ensures { Examines S.Store tables.old tables.new result
-        (IsTable in_any_order cells.read_seat schema.seat seat_row) }
+        (IsTable in_any_order cells.read_seat schema.seat seat_record) }
 {
     read_rows(alloc, tables, "SELECT seat, ticket FROM seat")
 }
@@ -179,7 +180,7 @@ pub fn permits<P: Versioned, S: Alter>(
     tables: &mut Tables<P, S>,
 ) -> Result<Gathered<PermitRow>, StoreFault>
     ensures { Examines S.Store tables.old tables.new result
-        (IsTable in_any_order cells.read_permit schema.permit permit_row) }
+        (IsTable in_any_order cells.read_permit schema.permit permit_record) }
 {
     read_rows(alloc, tables, "SELECT ticket, unit, until FROM permit")
 }
@@ -190,7 +191,7 @@ pub fn orders<P: Versioned, S: Alter>(
     tables: &mut Tables<P, S>,
 ) -> Result<Gathered<OrderRow>, StoreFault>
     ensures { Examines S.Store tables.old tables.new result
-        (IsTable by_rowid cells.read_order schema.orders order_row) }
+        (IsTable by_rowid cells.read_order schema.orders order_record) }
 {
     read_rows(
         alloc,
@@ -205,7 +206,7 @@ pub fn holdings<P: Versioned, S: Alter>(
     tables: &mut Tables<P, S>,
 ) -> Result<Gathered<HoldingRow>, StoreFault>
     ensures { Examines S.Store tables.old tables.new result
-        (IsTable in_any_order cells.read_holding schema.holding holding_row) }
+        (IsTable in_any_order cells.read_holding schema.holding holding_record) }
 {
     read_rows(
         alloc,
@@ -219,7 +220,7 @@ pub fn runs<P: Versioned, S: Alter>(
     alloc: Global,
     tables: &mut Tables<P, S>,
 ) -> Result<Gathered<RunRow>, StoreFault>
-    ensures { Examines S.Store tables.old tables.new result (IsTable by_rowid cells.read_run schema.run run_row) }
+    ensures { Examines S.Store tables.old tables.new result (IsTable by_rowid cells.read_run schema.run run_record) }
 {
     read_rows(alloc, tables, "SELECT id, day FROM run ORDER BY id")
 }
@@ -230,7 +231,7 @@ pub fn run_lines<P: Versioned, S: Alter>(
     tables: &mut Tables<P, S>,
 ) -> Result<Gathered<RunLineRow>, StoreFault>
     ensures { Examines S.Store tables.old tables.new result
-        (IsTable in_any_order cells.read_run_line schema.run_line run_line_row) }
+        (IsTable in_any_order cells.read_run_line schema.run_line run_line_record) }
 {
     read_rows(
         alloc,

@@ -1,8 +1,11 @@
 -- Rows of units that are all different, by a number of the unit and one of their own.
-use Rattle.std.proofs.Common.{◌≡◌, ℕ, Bool, false, not, ◌&&◌, List, [], ◌∷◌, ◌++◌, refl, sym, ap, ◌∙◌, subst, nat_eq, inl, inr, map}
+use Rattle.std.proofs.Common.{◌≡◌, ℕ, Bool, false, not, ◌&&◌, List, [], ◌∷◌, ◌++◌, refl, sym, ap, ◌∙◌, subst, nat_eq}
+use Rattle.std.proofs.Common.{inl, inr, map}
 use Rattle.std.specs.List.{IsDistinct}
-use Rattle.isad_core.specs.Boxes.{is_same as is_same_box}
-use Rattle.state_encoding.proofs.Common.{AllByRecursion, BoxKey, In, In-append, In-map, Unit, all_append, and_left, and_right, any_from_In, distinct, distinct_again, distinct_filter, false≢true, filter, flat_map, flat_map-cons, head_apart, not-true, number_of, other_number}
+use Rattle.state_encoding.proofs.Common.{AllByRecursion, BoxKey, In, In-append, In-map, Unit, all_append, and_left}
+use Rattle.state_encoding.proofs.Common.{and_right, any_from_In, distinct, distinct_again, distinct_filter, false≢true}
+use Rattle.state_encoding.proofs.Common.{filter, flat_map, flat_map-cons, head_apart, is_same_box, not-true}
+use Rattle.state_encoding.proofs.Common.{other_number, unit_number}
 use Rattle.state_encoding.proofs.RowsByNumber.{each_in, in_each, in_filter}
 
 -- ---- lists of lists
@@ -45,13 +48,13 @@ module _ {R : Type 0} (first second : R → ℕ) (rows : Unit → List R) (own :
       others (x ∷ xs) h = (and_right (nat_eq (first r) (first x)) (nat_eq (second r) (second x)) h.0, others xs h.1)
 
   -- where the units have numbers of their own, and the rows of each unit too
-  pub pairs_apart : (us : List Unit) → IsDistinct nat_eq (map number_of us)
+  pub pairs_apart : (us : List Unit) → IsDistinct nat_eq (map unit_number us)
       → ((u : Unit) → In u us → IsDistinct nat_eq (map second (rows u)))
       → IsDistinct (λ a b. nat_eq (first a) (first b) && nat_eq (second a) (second b)) (flat_map rows us)
   unfolding IsDistinct
   pairs_apart [] d h = tt
   pairs_apart (u ∷ us) d h =
-      let p = head_apart u.id (map number_of us) d in
+      let p = head_apart u.id (map unit_number us) d in
       subst (IsDistinct same) (sym (flat_map-cons rows u us))
       (distinct_beside same (rows u) (flat_map rows us) (one_apart (rows u) (h u (inl refl))) (pairs_apart us p.1 (λ v i. h v (inr i)))
       (λ a b i j.
@@ -59,7 +62,7 @@ module _ {R : Type 0} (first second : R → ℕ) (rows : Unit → List R) (own :
       let x : first a ≡ u.id = each_in (λ r. first r ≡ u.id) (rows u) a (own u) i in
       let y : first b ≡ o.unit.id = each_in (λ r. first r ≡ o.unit.id) (rows o.unit) b (own o.unit) o.own in
       and_left (nat_eq (first a) (first b)) (nat_eq (second a) (second b))
-      (other_number (first a) (first b) (λ e. false≢true (sym p.0 ∙ any_from_In (map number_of us) u.id (subst (λ n. In n (map number_of us)) (sym y ∙ (sym e ∙ x)) (In-map number_of us o.unit o.there)))))))
+      (other_number (first a) (first b) (λ e. false≢true (sym p.0 ∙ any_from_In (map unit_number us) u.id (subst (λ n. In n (map unit_number us)) (sym y ∙ (sym e ∙ x)) (In-map unit_number us o.unit o.there)))))))
 
 -- ---- containers
 

@@ -1,11 +1,16 @@
 -- Tables without a cause, told of their cells.
-use Rattle.std.proofs.Common.{◌≡◌, true, false, Bool, List, [], ◌∷◌, ◌++◌, length, None, Some, Option, filter_map, if◌then◌else◌, refl, ap, subst, ◌||◌, IsUtf8, arith, unwrap_or, cond, nat_eq}
+use Rattle.std.proofs.Common.{◌≡◌, true, false, Bool, List, [], ◌∷◌, ◌++◌, length, None, Some, Option, filter_map}
+use Rattle.std.proofs.Common.{if◌then◌else◌, refl, ap, subst, ◌||◌, IsUtf8, arith, unwrap_or, cond, nat_eq}
 use Rattle.std.proofs.lemmas.Str.{IsUtf8-nil}
 use Rattle.desk_core.specs.Orders.{in_order}
 use Rattle.office_tables.specs.Schema as tables
-use Rattle.office_tables.specs.Cells.{number_in}
 use Rattle.state_encoding.specs.CellCauses.{rows_in, unread, either_of, no_office}
-use Rattle.state_encoding.proofs.Common.{AllByRecursion, AreLegibleRows, CellsDescribeASoundState, CellsHaveNoCause, ContainerRow, ElementRow, IsLegibleContainerRow, IsLegibleUnitRow, OfficeRow, ReaderRow, Row, Trees, UnitRow, Version, all_read, catalogue_tests, column, desk_tests, first, first_held, flag_in, from_first, is_text, or_null_in, or_parts, put_in_order, read_container, read_element, read_office, read_reader, read_unit, text_in, whole_in}
+use Rattle.state_encoding.proofs.Common.{AllByRecursion, AreLegibleRows, CellsDescribeASoundState, CellsHaveNoCause}
+use Rattle.state_encoding.proofs.Common.{ContainerRow, ElementRow, IsLegibleContainerRow, IsLegibleUnitRow, OfficeRow}
+use Rattle.state_encoding.proofs.Common.{ReaderRow, Row, Trees, UnitRow, Version, all_read, catalogue_tests, column}
+use Rattle.state_encoding.proofs.Common.{desk_tests, first, first_held, flag_in, from_first, is_text, number_in}
+use Rattle.state_encoding.proofs.Common.{or_null_in, or_parts, put_in_order, read_container, read_element, read_office}
+use Rattle.state_encoding.proofs.Common.{read_reader, read_unit, text_in, whole_in}
 use Rattle.state_encoding.proofs.Judging.{none_held, hold_none}
 use Rattle.state_encoding.proofs.JudgedWhole.{rows_are_said}
 use Rattle.state_encoding.proofs.DeskSound.{desk_sound}

@@ -1,9 +1,17 @@
 -- The rows of a sound state meet the keys of the desk's tables.
-use Rattle.std.proofs.Common.{◌≡◌, ◌≢◌, ℕ, zero, suc, ◌<◌, List, [], ◌∷◌, ◌++◌, length, Option, Some, None, refl, sym, ap, ◌∙◌, subst, inl, inr, ◌⊎◌, arith}
+use Rattle.std.proofs.Common.{◌≡◌, ◌≢◌, ℕ, zero, suc, ◌<◌, List, [], ◌∷◌, ◌++◌, length, Option, Some, None, refl, sym}
+use Rattle.std.proofs.Common.{ap, ◌∙◌, subst, inl, inr, ◌⊎◌, arith}
 use Rattle.std.specs.Prelude.{map, filter_map, nat_eq}
 use Rattle.desk_core.specs.declared.reader.Place.TheVariants.{Desk}
-use Rattle.state_encoding.proofs.Common.{AllByRecursion, AreInOrder, ByContainer, ByUnit, HoldingRow, IsAscending, IsSoundDesk, Line, MeetsDeskKeys, OrderRow, Out, Permit, PermitRow, Place, ReaderRow, Run, RunLineRow, RunRow, SeatRow, Shelf, SitOnce, StandsIn, State, Version, ascending-push, cons_option, containers, false≢true, flat_map, flat_map-cons, holding_row, is_seat_of, lines_from, numbers_to, order_row, permit_row, reader_row, run_line_row, run_row, same_number, seat_rows_from, tables}
-use Rattle.state_encoding.proofs.Members.{all_in, all_of_in, none_in, in_append, in_filter_map, in_map, in_flat_map, in_numbers}
+use Rattle.state_encoding.proofs.Common.{AllByRecursion, AreInOrder, ByContainer, ByUnit, HoldingRow, IsAscending}
+use Rattle.state_encoding.proofs.Common.{IsSoundDesk, Line, MeetsDeskKeys, OrderRow, Out, Permit, PermitRow, Place}
+use Rattle.state_encoding.proofs.Common.{ReaderRow, Run, RunLineRow, RunRow, SeatRow, Shelf, SitOnce, StandsIn, State}
+use Rattle.state_encoding.proofs.Common.{Version, ascending-push, cons_option, containers, false≢true, flat_map}
+use Rattle.state_encoding.proofs.Common.{flat_map-cons, holding_row, is_seat_of, lines_from, numbers_to, order_row}
+use Rattle.state_encoding.proofs.Common.{permit_row, reader_row, run_line_row, run_row, same_number, seat_rows_from}
+use Rattle.state_encoding.proofs.Common.{tables}
+use Rattle.state_encoding.proofs.Members.{all_in, all_of_in, none_in, in_append, in_filter_map, in_map, in_flat_map}
+use Rattle.state_encoding.proofs.Members.{in_numbers}
 use Rattle.state_encoding.proofs.NumberedRows.{in_order, rows_are_numbered, stands_at}
 use Rattle.state_encoding.proofs.ReadersPass.{in_seats}
 use Rattle.state_encoding.proofs.RunsPass.{in_lines_from}

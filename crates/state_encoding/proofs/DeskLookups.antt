@@ -3,7 +3,12 @@ use Rattle.std.proofs.Common.{◌≡◌, ℕ, ◌≤◌, Bool, true, ◌&&◌, O
 use Rattle.std.proofs.lemmas.Int.{ints}
 use Rattle.std.specs.Prelude.{ℤ, nat_eq}
 use Rattle.catalogue_core.specs.Sources.{is_between}
-use Rattle.state_encoding.proofs.Common.{ContainerRow, Order, OrderRow, ReaderRow, RunRow, State, Unit, UnitRow, Version, and_from, and_parts, cases_eq, container_row, eq-eqb, has_unit, int_le, is_container, is_container_there, is_registered, is_some, is_ticket, is_unit_there, le-leb, leb-true, list_any, list_any-map, nat_le, nodes, nth, option_map, order_row, order_rows, other_number, reader_row, run_row, some_and, tables, unit_row, ◌≤ℤ◌}
+use Rattle.state_encoding.proofs.Common.{ContainerRow, Order, OrderRow, ReaderRow, RunRow, State, Unit, UnitRow}
+use Rattle.state_encoding.proofs.Common.{Version, and_from, and_parts, cases_eq, container_row, eq-eqb, has_unit}
+use Rattle.state_encoding.proofs.Common.{int_le, is_container, is_container_there, is_registered, is_some, is_ticket}
+use Rattle.state_encoding.proofs.Common.{is_unit_there, le-leb, leb-true, list_any, list_any-map, nat_le, nodes, nth}
+use Rattle.state_encoding.proofs.Common.{option_map, order_row, order_rows, other_number, reader_row, run_row, some_and}
+use Rattle.state_encoding.proofs.Common.{tables, unit_row, ◌≤ℤ◌}
 use Rattle.state_encoding.proofs.Members.{any_same}
 use Rattle.state_encoding.proofs.NumberedRows.{any_numbered, known_numbered, rows_are_numbered, numbered-rows}
 

@@ -1,8 +1,16 @@
 -- What it means, part by part, that the desk's tables have none of the causes 6 to 9.
-use Rattle.std.proofs.Common.{◌≡◌, ℕ, ◌≤◌, Bool, true, false, not, ◌&&◌, List, length, Option, Some, None, refl, sym, ap, ◌∙◌}
+use Rattle.std.proofs.Common.{◌≡◌, ℕ, ◌≤◌, Bool, true, false, not, ◌&&◌, List, length, Option, Some, None, refl, sym}
+use Rattle.std.proofs.Common.{ap, ◌∙◌}
 use Rattle.std.specs.Prelude.{map, nat_eq}
 use Rattle.catalogue_core.specs.Sources.{is_between}
-use Rattle.state_encoding.proofs.Common.{ContainerRow, IsDayNumber, OfficeRows, OrderRow, PermitRow, ReaderRow, SeatRow, StandsIn, and_parts, are_good_orders, are_good_readers, are_numbered_from, are_twice, around, box_from, count_by, false≢true, int_le, is_container, is_container_there, is_day_number, is_day_number-so, is_good_order, is_good_permit, is_good_reader, is_good_seat, is_name, is_of_the_day, is_registered, is_some, is_ticket, is_unit_there, leb-true, list_all, list_any, most_orders, most_permits, most_tickets, nat_le, not-true, nth, option_map, reader_from, state_of, ◌≤ℤ◌}
+use Rattle.state_encoding.proofs.Common.{ContainerRow, IsDayNumber, OfficeRows, OrderRow, PermitRow, ReaderRow, SeatRow}
+use Rattle.state_encoding.proofs.Common.{StandsIn, and_parts, are_good_orders, are_good_readers, are_numbered_from}
+use Rattle.state_encoding.proofs.Common.{are_twice, around, box_from, count_by, false≢true, int_le, is_container}
+use Rattle.state_encoding.proofs.Common.{is_container_there, is_day_number, is_day_number-so, is_good_order}
+use Rattle.state_encoding.proofs.Common.{is_good_permit, is_good_reader, is_good_seat, is_name, is_of_the_day}
+use Rattle.state_encoding.proofs.Common.{is_registered, is_some, is_ticket, is_unit_there, leb-true, list_all, list_any}
+use Rattle.state_encoding.proofs.Common.{most_orders, most_permits, most_tickets, nat_le, not-true, nth, option_map}
+use Rattle.state_encoding.proofs.Common.{reader_from, state_of, ◌≤ℤ◌}
 use Rattle.state_encoding.proofs.Members.{test_in}
 use Rattle.state_encoding.proofs.NumberedRows.{known_numbered, numbered-map}
 use Rattle.state_encoding.proofs.DeskLookups.{is_some-map, is_between_so, is_not_later}

@@ -1,7 +1,9 @@
 -- Rows with none of the causes 6 to 10 say a sound desk, which shows just those rows.
-use Rattle.state_encoding.proofs.Common.{OfficeRows, PassingRowsAreSound, Version, are_good_holdings, are_good_orders, are_good_readers, are_good_runs, around}
+use Rattle.state_encoding.proofs.Common.{OfficeRows, PassingRowsAreSound, Version, are_good_holdings, are_good_orders}
+use Rattle.state_encoding.proofs.Common.{are_good_readers, are_good_runs, around}
 use Rattle.state_encoding.proofs.DeskParts.{reader_parts, orders_parts, not_bad}
-use Rattle.state_encoding.proofs.SaidReaders.{said_readers, reader_days, readers_again, said_seats, seats_again, said_permits, permit_days, permits_placed, permits_again}
+use Rattle.state_encoding.proofs.SaidReaders.{said_readers, reader_days, readers_again, said_seats, seats_again}
+use Rattle.state_encoding.proofs.SaidReaders.{said_permits, permit_days, permits_placed, permits_again}
 use Rattle.state_encoding.proofs.SaidOrders.{holding_parts, said_filed, orders_again}
 use Rattle.state_encoding.proofs.SaidPlaces.{said_orders, order_days, said_places, holdings_again}
 use Rattle.state_encoding.proofs.SaidRuns.{run_parts, said_runs, run_days, runs_again, lines_again}

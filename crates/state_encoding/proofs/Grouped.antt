@@ -1,7 +1,10 @@
 -- Rows in ascending order of a number: what is found by each number in turn is all of them.
-use Rattle.std.proofs.Common.{◌≡◌, ◌≢◌, ℕ, zero, suc, ◌+◌, ◌<◌, ◌≤◌, Bool, true, false, not, cond, ◌&&◌, ◌||◌, List, [], ◌∷◌, ◌++◌, Some, None, refl, sym, ap, ◌∙◌, subst, inl, inr, arith}
+use Rattle.std.proofs.Common.{◌≡◌, ◌≢◌, ℕ, zero, suc, ◌+◌, ◌<◌, ◌≤◌, Bool, true, false, not, cond, ◌&&◌, ◌||◌, List, []}
+use Rattle.std.proofs.Common.{◌∷◌, ◌++◌, Some, None, refl, sym, ap, ◌∙◌, subst, inl, inr, arith}
 use Rattle.std.specs.Prelude.{map, filter_map, nat_eq}
-use Rattle.state_encoding.proofs.Common.{AreInOrder, StandsIn, cases_eq, cons_option, eqb-true, false≢true, filter, find, flat_map, flat_map-cons, list_any, numbers_from, other_number, same_number}
+use Rattle.state_encoding.proofs.Common.{AreInOrder, StandsIn, cases_eq, cons_option, eqb-true, false≢true, filter}
+use Rattle.state_encoding.proofs.Common.{find, flat_map, flat_map-cons, list_any, numbers_from, other_number}
+use Rattle.state_encoding.proofs.Common.{same_number}
 use Rattle.state_encoding.proofs.Members.{all_in, all_of_in, in_filter, in_map}
 
 module _ {X : Type 0} where

@@ -1,6 +1,12 @@
 -- All tables: the catalogue's and the desk's together.
 use Rattle.std.proofs.Common.{◌≡◌, ℕ, true, [], ◌∷◌, List, None, refl, sym, ap, ◌∙◌, nat_eq, inl, inr, map}
-use Rattle.state_encoding.proofs.Common.{ContainerRow, HasGoodCatalogue, HasNoCause, HasNoDeskCause, In, In-permutation, IsCatalogueOf, IsSound, IsSoundCatalogue, OfficeRows, PassingRowsAreSound, SaysASoundState, SoundTablesPass, State, UnitRow, Version, and_parts, any_passes, are_numbered_from, around, catalogue_tests, day_is_broken, desk_tests, eq-eqb, eqb-true, false≢true, first_held, has_id, holdings_are_bad, list_any, nodes, or_cases, orders_are_bad, readers_are_bad, runs_are_bad, state_of, tables, unit_row}
+use Rattle.state_encoding.proofs.Common.{ContainerRow, HasGoodCatalogueRows, HasNoCause, HasNoDeskCause, In}
+use Rattle.state_encoding.proofs.Common.{In-permutation, IsCatalogueOf, IsSound, IsSoundCatalogue, OfficeRows}
+use Rattle.state_encoding.proofs.Common.{PassingRowsAreSound, SaysASoundState, SoundTablesPass, State, UnitRow, Version}
+use Rattle.state_encoding.proofs.Common.{and_parts, any_passes, are_numbered_from, around, catalogue_tests}
+use Rattle.state_encoding.proofs.Common.{day_is_broken, desk_tests, eq-eqb, eqb-true, false≢true, first_held, has_id}
+use Rattle.state_encoding.proofs.Common.{holdings_are_bad, list_any, nodes, or_cases, orders_are_bad, readers_are_bad}
+use Rattle.state_encoding.proofs.Common.{runs_are_bad, state_of, tables, unit_row}
 use Rattle.state_encoding.proofs.Judging.{none_held, hold_none, none_before, none_behind, none_in_both}
 use Rattle.state_encoding.proofs.RowsByNumber.{in_map}
 use Rattle.state_encoding.proofs.told.ToldCatalogue.{no_cause, catalogue_is_said}
@@ -50,7 +56,7 @@ found u (row ∷ rows) h = elim (or_cases (nat_eq row.id u) (list_any (λ (row :
 ]
 
 good_catalogue : (version : Version) (t : OfficeRows) → IsSoundCatalogue (state_of t)
-    → IsCatalogueOf version t (state_of t) → first_held (catalogue_tests version t) ≡ None → HasGoodCatalogue t
+    → IsCatalogueOf version t (state_of t) → first_held (catalogue_tests version t) ≡ None → HasGoodCatalogueRows t
 good_catalogue version t g c h =
     record {
       containers = (and_parts (are_numbered_from (λ (row : ContainerRow). row.id) 1 t.catalogue.containers) _ (no_cause version t h).containers).0;

@@ -1,9 +1,16 @@
 -- The rows of a sound office's desk can be read back.
-use Rattle.std.proofs.Common.{◌≡◌, ℕ, zero, suc, ◌<◌, ◌≤◌, ◌^◌, true, false, ◌&&◌, ◌||◌, List, [], ◌∷◌, length, Option, Some, None, inl, inr, arith}
+use Rattle.std.proofs.Common.{◌≡◌, ℕ, zero, suc, ◌<◌, ◌≤◌, ◌^◌, true, false, ◌&&◌, ◌||◌, List, [], ◌∷◌, length, Option}
+use Rattle.std.proofs.Common.{Some, None, inl, inr, arith}
 use Rattle.std.specs.Prelude.{nat_eq, IsUtf8}
 use Rattle.desk_core.specs.DeskRows.{Desk}
 use Rattle.desk_core.specs.LegibleDesks.{IsKnownPlace, IsLegible, IsLegibleHolding, IsLegibleOrder, IsLegibleReader}
-use Rattle.state_encoding.proofs.Common.{AllByRecursion, Around, IsDayNumber, IsSoundOffice, PassesAtTheDesk, PermitRow, Reader, RunRow, SeatRow, StandsIn, State, Version, and_parts, are_good_holdings, are_good_orders, are_good_readers, are_good_runs, around, eqb-true, false≢true, is_day_number, is_day_number-true, is_good_holding, is_good_order, is_good_permit, is_good_reader, is_good_run, is_good_seat, is_none, is_out_order, list_all, list_any, most_seats, numbers_to, or_cases, reader_row, rows_from, tables}
+use Rattle.state_encoding.proofs.Common.{AllByRecursion, Around, IsDayNumber, IsSoundOffice, PassesAtTheDesk, PermitRow}
+use Rattle.state_encoding.proofs.Common.{Reader, RunRow, SeatRow, StandsIn, State, Version, and_parts}
+use Rattle.state_encoding.proofs.Common.{are_good_holdings, are_good_orders, are_good_readers, are_good_runs, around}
+use Rattle.state_encoding.proofs.Common.{eqb-true, false≢true, is_day_number, is_day_number-true, is_good_holding}
+use Rattle.state_encoding.proofs.Common.{is_good_order, is_good_permit, is_good_reader, is_good_run, is_good_seat}
+use Rattle.state_encoding.proofs.Common.{is_none, is_out_order, list_all, list_any, most_seats, numbers_to, or_cases}
+use Rattle.state_encoding.proofs.Common.{reader_row, rows_from, tables}
 use Rattle.state_encoding.proofs.DeskLookups.{is_between_so}
 use Rattle.state_encoding.proofs.DeskParts.{not_bad}
 use Rattle.state_encoding.proofs.DeskPasses.{desk_passes}

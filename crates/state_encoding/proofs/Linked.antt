@@ -1,7 +1,9 @@
 -- A forest is what its link rows say.
-use Rattle.std.proofs.Common.{◌≡◌, ℕ, zero, suc, ◌+◌, ◌<◌, List, length, Option, Some, None, refl, ap, ◌∙◌, arith, length-append}
+use Rattle.std.proofs.Common.{◌≡◌, ℕ, zero, suc, ◌+◌, ◌<◌, List, length, Option, Some, None, refl, ap, ◌∙◌, arith}
+use Rattle.std.proofs.Common.{length-append}
 use Rattle.tree_core.specs.Steps.{Fits}
-use Rattle.state_encoding.proofs.Common.{Empty, Forest, HoldsLinks, Link, LinkRows, Node, fits_all, forest_of_links, grow, length_permutation, places_said, rows_below, siblings, size}
+use Rattle.state_encoding.proofs.Common.{Empty, Forest, HoldsLinks, Link, LinkRows, Node, fits_all, forest_of_links}
+use Rattle.state_encoding.proofs.Common.{grow, length_permutation, places_said, rows_below, siblings, size}
 
 linked_fits : (fuel : ℕ) (links : List Link) (p : Option ℕ) (k : ℕ) (f : Forest ℕ) → Fits links p k f → size f < fuel
     → forest_of_links fuel links p k ≡ f

@@ -1,9 +1,13 @@
 -- What stands in a list, and what tests say of it.
-use Rattle.std.proofs.Common.{◌≡◌, ℕ, zero, suc, ◌+◌, ◌≤◌, Bool, true, List, [], ◌∷◌, ◌++◌, Option, Some, None, refl, sym, ap, ◌∙◌, subst, inl, inr, arith}
+use Rattle.std.proofs.Common.{◌≡◌, ℕ, zero, suc, ◌+◌, ◌≤◌, Bool, true, List, [], ◌∷◌, ◌++◌, Option, Some, None, refl}
+use Rattle.std.proofs.Common.{sym, ap, ◌∙◌, subst, inl, inr, arith}
 use Rattle.std.specs.Prelude.{map, filter_map}
-use Rattle.state_encoding.proofs.Common.{AllByRecursion, StandsIn, and_from, and_parts, cons_option, false≢true, flat_map, flat_map-cons, list_all, list_any, numbers_from, numbers_to, or_cases, or_left, or_right}
+use Rattle.state_encoding.proofs.Common.{AllByRecursion, StandsIn, and_from, and_parts, cons_option, false≢true}
+use Rattle.state_encoding.proofs.Common.{flat_map, flat_map-cons, list_all, list_any, numbers_from, numbers_to}
+use Rattle.state_encoding.proofs.Common.{or_cases, or_left, or_right}
 pub use Rattle.tree_core.proofs.Lists.{any_agree as any_same, any_none as none_of_in, none_any as none_in}
-pub use Rattle.tree_core.proofs.Lists.{In-append as in_append, In-append_left as append_in_left, In-append_right as append_in_right}
+pub use Rattle.tree_core.proofs.Lists.{In-append as in_append, In-append_left as append_in_left}
+pub use Rattle.tree_core.proofs.Lists.{In-append_right as append_in_right}
 pub use Rattle.tree_core.proofs.Members.{In-filter as in_filter}
 
 module _ {X : Type 0} where

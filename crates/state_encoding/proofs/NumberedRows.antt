@@ -1,8 +1,11 @@
 -- Rows that are numbered from 1 without a gap.
-use Rattle.std.proofs.Common.{◌≡◌, ℕ, zero, suc, ◌+◌, ◌<◌, Bool, true, false, ◌&&◌, ◌||◌, List, [], ◌∷◌, length, Option, Some, None, refl, sym, ap, ◌∙◌, subst, inl, inr, arith}
-use Rattle.std.specs.Prelude.{map, nat_eq}
+use Rattle.std.proofs.Common.{◌≡◌, ℕ, zero, suc, ◌+◌, ◌<◌, Bool, true, false, ◌&&◌, ◌||◌, List, [], ◌∷◌, length, Option}
+use Rattle.std.proofs.Common.{Some, None, refl, sym, ap, ◌∙◌, subst, inl, inr, arith}
 use Rattle.std.proofs.Math.Bool.{or-false}
-use Rattle.state_encoding.proofs.Common.{AllByRecursion, AreInOrder, StandsIn, and_from, and_left, and_parts, are_numbered_from, eqb-true, is_some, list_any, nth, option_map, or_from, other_number, rows_from, same_number, slice_get, some_and}
+use Rattle.std.specs.Prelude.{map, nat_eq}
+use Rattle.state_encoding.proofs.Common.{AllByRecursion, AreInOrder, StandsIn, and_from, and_left, and_parts}
+use Rattle.state_encoding.proofs.Common.{are_numbered_from, eqb-true, is_some, list_any, nth, option_map, or_from}
+use Rattle.state_encoding.proofs.Common.{other_number, rows_from, same_number, slice_get, some_and}
 use Rattle.state_encoding.proofs.Members.{any_same}
 
 module _ {R : Type 0} (key : R → ℕ) where

@@ -1,13 +1,27 @@
 -- The rows of orders and places of a sound state are good.
-use Rattle.std.proofs.Common.{◌≡◌, ℕ, suc, Bool, true, false, not, cond, ◌&&◌, List, [], ◌∷◌, length, Option, Some, None, refl, sym, ap, ◌∙◌, subst, inl, inr, arith}
+use Rattle.std.proofs.Common.{◌≡◌, ℕ, suc, Bool, true, false, not, cond, ◌&&◌, List, [], ◌∷◌, length, Option, Some}
+use Rattle.std.proofs.Common.{None, refl, sym, ap, ◌∙◌, subst, inl, inr, arith}
 use Rattle.std.specs.Prelude.{nat_eq}
 use Rattle.desk_core.specs.declared.reader.Place.TheVariants.{Desk}
-use Rattle.office_core.specs.Words.{stands}
 use Rattle.catalogue_core.specs.Sources.{is_between}
 use Rattle.office_core.proofs.Orders.{out_is}
 use Rattle.office_core.proofs.Places.{out_order}
-use Rattle.state_encoding.proofs.Common.{Cancelled, Done, End, Ended, ExactlyOne, HoldingRow, IsDayNumber, IsFiled, IsSound, Order, OrderRow, Out, Place, Shelf, Standing, StandsIn, State, Version, Waiting, WithItsReader, and_from, and_parts, are_good_holdings, are_good_orders, are_numbered_from, are_twice, around, cases_Bool, container_of, containers, count_by, eqb-true, false_from_ne_true, false≢true, filter, has_its_holding, holding_row, holding_rows, int_eq, int_le, is_container, is_container_there, is_day_number, is_day_number-true, is_good_holding, is_good_order, is_holding_of, is_live, is_of_the_day, is_out_for, is_out_order, is_registered, is_some, le-leb, length-filter, list_all, list_any, most_orders, nat_le, not_from_false, nth, numbered_from_one, numbered_within, option_map, or_left, or_right, order_out, order_row, order_rows, out_stands, out_with, rows_from, same_number, some_and, standing, stands_as, stands_out, state_number, tables}
-use Rattle.state_encoding.proofs.Members.{all_in, any_of_in, none_of_in, tests_of_in, in_filter_map, filter_map_in, numbers_in}
+use Rattle.office_core.specs.Words.{stands}
+use Rattle.state_encoding.proofs.Common.{Cancelled, Done, End, Ended, ExactlyOne, HoldingRow, IsDayNumber, IsFiled}
+use Rattle.state_encoding.proofs.Common.{IsSound, Order, OrderRow, Out, Place, Shelf, Standing, StandsIn, State}
+use Rattle.state_encoding.proofs.Common.{Version, Waiting, WithItsReader, and_from, and_parts, are_good_holdings}
+use Rattle.state_encoding.proofs.Common.{are_good_orders, are_numbered_from, are_twice, around, cases_Bool}
+use Rattle.state_encoding.proofs.Common.{container_of, containers, count_by, eqb-true, false_from_ne_true, false≢true}
+use Rattle.state_encoding.proofs.Common.{filter, has_its_holding, holding_row, holding_rows, int_eq, int_le}
+use Rattle.state_encoding.proofs.Common.{is_container, is_container_there, is_day_number, is_day_number-true}
+use Rattle.state_encoding.proofs.Common.{is_good_holding, is_good_order, is_holding_of, is_live, is_of_the_day}
+use Rattle.state_encoding.proofs.Common.{is_out_for, is_out_order, is_registered, is_some, le-leb, length-filter}
+use Rattle.state_encoding.proofs.Common.{list_all, list_any, most_orders, nat_le, not_from_false, nth}
+use Rattle.state_encoding.proofs.Common.{numbered_from_one, numbered_within, option_map, or_left, or_right, order_out}
+use Rattle.state_encoding.proofs.Common.{order_row, order_rows, out_stands, out_with, rows_from, same_number, some_and}
+use Rattle.state_encoding.proofs.Common.{standing, stands_as, stands_out, state_number, tables}
+use Rattle.state_encoding.proofs.Members.{all_in, any_of_in, none_of_in, tests_of_in, in_filter_map, filter_map_in}
+use Rattle.state_encoding.proofs.Members.{numbers_in}
 use Rattle.state_encoding.proofs.NumberedRows.{rows_are_numbered, length-rows, in_rows, numbered_in}
 use Rattle.state_encoding.proofs.DeskLookups.{registered, container_there, order_there, not_later}
 

@@ -1,9 +1,17 @@
 -- Seats, runs and permits are what their rows say.
-use Rattle.std.proofs.Common.{◌≡◌, ℕ, zero, suc, ◌<◌, ◌≤◌, Bool, true, false, cond, ◌||◌, List, [], ◌∷◌, ◌++◌, length, Option, Some, None, refl, sym, ap, ◌∙◌, inl, inr, arith, append_assoc}
-use Rattle.std.specs.Prelude.{nat_eq, map}
+use Rattle.std.proofs.Common.{◌≡◌, ℕ, zero, suc, ◌<◌, ◌≤◌, Bool, true, false, cond, ◌||◌, List, [], ◌∷◌, ◌++◌, length}
+use Rattle.std.proofs.Common.{Option, Some, None, refl, sym, ap, ◌∙◌, inl, inr, arith, append_assoc}
 use Rattle.std.proofs.lemmas.Grind.{flat_map-append}
+use Rattle.std.specs.Prelude.{nat_eq, map}
 use Rattle.office_core.specs.Words.{stands}
-use Rattle.state_encoding.proofs.Common.{AllByRecursion, AreGoodPermits, IsSoundDesk, Line, Permit, PermitRow, Run, RunLineRow, SaysAllButUnits, SeatRow, State, Version, all_append, append-nil, box_from, cases_Bool, cases_eq, container_row, eq-eqb, false≢true, filter, filter-append, find, flat_map, flat_map-cons, fun_ext, is_some, line_from, lines_from, map-append, none_to, nth, numbered_from_one, numbered_within, numbers_to, option_map, other_number, permit_row, permit_rows, permits_from_rows, rows_from, run_from, run_line_row, run_row, same_number, seat_rows_from, seats_from_rows, stands-push}
+use Rattle.state_encoding.proofs.Common.{AllByRecursion, AreGoodPermits, IsSoundDesk, Line, Permit, PermitRow, Run}
+use Rattle.state_encoding.proofs.Common.{RunLineRow, SaysAllButUnits, SeatRow, State, Version, all_append, append-nil}
+use Rattle.state_encoding.proofs.Common.{box_from, cases_Bool, cases_eq, container_row, eq-eqb, false≢true, filter}
+use Rattle.state_encoding.proofs.Common.{filter-append, find, flat_map, flat_map-cons, fun_ext, is_some, line_from}
+use Rattle.state_encoding.proofs.Common.{lines_from, map-append, none_to, nth, numbered_from_one, numbered_within}
+use Rattle.state_encoding.proofs.Common.{numbers_to, option_map, other_number, permit_row, permit_rows}
+use Rattle.state_encoding.proofs.Common.{permits_from_rows, rows_from, run_from, run_line_row, run_row, same_number}
+use Rattle.state_encoding.proofs.Common.{seat_rows_from, seats_from_rows, stands-push}
 use Rattle.state_encoding.proofs.TableLaws.{rows_back, reads_back}
 
 -- ---- seats

@@ -1,8 +1,15 @@
 -- The rows of readers, seats and permits of a sound state are good.
-use Rattle.std.proofs.Common.{◌≡◌, ℕ, suc, ◌+◌, ◌<◌, ◌≤◌, true, List, [], ◌∷◌, length, Option, Some, None, refl, sym, ap, ◌∙◌, subst, inl, inr, arith}
+use Rattle.std.proofs.Common.{◌≡◌, ℕ, suc, ◌+◌, ◌<◌, ◌≤◌, true, List, [], ◌∷◌, length, Option, Some, None, refl, sym}
+use Rattle.std.proofs.Common.{ap, ◌∙◌, subst, inl, inr, arith}
 use Rattle.std.specs.Prelude.{map, nat_eq}
 use Rattle.catalogue_core.specs.Sources.{is_between}
-use Rattle.state_encoding.proofs.Common.{IsDayNumber, IsSound, Permit, PermitRow, ReaderRow, SeatRow, StandsIn, State, Version, and_from, are_good_readers, are_numbered_from, around, cases_Bool, count_by, filter, has_unit, is_day_number, is_day_number-true, is_good_permit, is_good_reader, is_good_seat, is_name, is_registered, is_seat_of, is_ticket, is_unit_there, le-leb, length-filter, length-map, list_all, most_permits, most_tickets, nat_le, numbers_to, permit_row, permit_rows, reader_row, reader_rows, same_number, seat_rows, seat_rows_from, tables}
+use Rattle.state_encoding.proofs.Common.{IsDayNumber, IsSound, Permit, PermitRow, ReaderRow, SeatRow, StandsIn, State}
+use Rattle.state_encoding.proofs.Common.{Version, and_from, are_good_readers, are_numbered_from, around, cases_Bool}
+use Rattle.state_encoding.proofs.Common.{count_by, filter, has_unit, is_day_number, is_day_number-true, is_good_permit}
+use Rattle.state_encoding.proofs.Common.{is_good_reader, is_good_seat, is_name, is_registered, is_seat_of, is_ticket}
+use Rattle.state_encoding.proofs.Common.{is_unit_there, le-leb, length-filter, length-map, list_all, most_permits}
+use Rattle.state_encoding.proofs.Common.{most_tickets, nat_le, numbers_to, permit_row, permit_rows, reader_row}
+use Rattle.state_encoding.proofs.Common.{reader_rows, same_number, seat_rows, seat_rows_from, tables}
 use Rattle.state_encoding.proofs.ReadBack.{permits_back}
 use Rattle.state_encoding.proofs.Members.{all_in, any_of_in, tests_of_in, in_flat_map, in_map}
 use Rattle.state_encoding.proofs.NumberedRows.{rows_are_numbered, length-rows, in_rows, numbered_in}

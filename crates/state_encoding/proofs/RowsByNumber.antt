@@ -1,9 +1,15 @@
 -- Rows taken by a number of each: those of one number after those of another are all of them.
-use Rattle.std.proofs.Common.{◌≡◌, ℕ, zero, suc, ◌+◌, ◌<◌, ◌≤◌, Bool, true, false, cond, not, ◌&&◌, List, [], ◌∷◌, ◌++◌, length, Some, refl, sym, ap, ◌∙◌, subst, inl, inr, arith, nat_eq, map}
+use Rattle.std.proofs.Common.{◌≡◌, ℕ, zero, suc, ◌+◌, ◌<◌, ◌≤◌, Bool, true, false, cond, not, ◌&&◌, List, [], ◌∷◌, ◌++◌}
+use Rattle.std.proofs.Common.{length, Some, refl, sym, ap, ◌∙◌, subst, inl, inr, arith, nat_eq, map}
 use Rattle.std.specs.List.{IsDistinct}
 use Rattle.tree_core.proofs.Repeats.{distinct_repeats}
 use Rattle.office_core.specs.Words.{stands}
-use Rattle.state_encoding.proofs.Common.{AllByRecursion, In, In-map, IsPermutation, IsPermutation-append, IsPermutation-filter_both, IsPermutation-refl, IsPermutation-sym, IsPermutation-trans, and_from, and_parts, any_from_In, cases_eq, distinct_cons, eq-eqb, eqb-true, false≢true, filter, find, flat_map, flat_map-cons, head_apart, list_all, list_any, numbers_from, option_to_list, or_cases, or_from, or_parts, other_number}
+use Rattle.state_encoding.proofs.Common.{AllByRecursion, In, In-map, IsPermutation, IsPermutation-append}
+use Rattle.state_encoding.proofs.Common.{IsPermutation-filter_both, IsPermutation-refl, IsPermutation-sym}
+use Rattle.state_encoding.proofs.Common.{IsPermutation-trans, and_from, and_parts, any_from_In, cases_eq, distinct_cons}
+use Rattle.state_encoding.proofs.Common.{eq-eqb, eqb-true, false≢true, filter, find, flat_map, flat_map-cons}
+use Rattle.state_encoding.proofs.Common.{head_apart, list_all, list_any, numbers_from, option_to_list, or_cases}
+use Rattle.state_encoding.proofs.Common.{or_from, or_parts, other_number}
 
 -- ---- what stands in a list
 

@@ -1,11 +1,21 @@
 -- The rows of runs of a sound state are good, and its day's rules hold.
-use Rattle.std.proofs.Common.{◌≡◌, ℕ, suc, ◌+◌, true, false, not, ◌&&◌, List, [], ◌∷◌, length, Option, Some, None, refl, sym, ap, ◌∙◌, inl, inr, arith}
+use Rattle.std.proofs.Common.{◌≡◌, ℕ, suc, ◌+◌, true, false, not, ◌&&◌, List, [], ◌∷◌, length, Option, Some, None, refl}
+use Rattle.std.proofs.Common.{sym, ap, ◌∙◌, inl, inr, arith}
 use Rattle.std.specs.Prelude.{map, nat_eq}
-use Rattle.state_encoding.proofs.Common.{IsDayNumber, IsGoodLine, IsSound, Line, Order, OrderRow, Run, RunLineRow, RunRow, StandsIn, State, Version, and_from, are_good_runs, are_numbered_from, around, containers, count_by, day_is_broken, filter, held_count, holds_well, int_le, is_day_number, is_day_number-true, is_good_line, is_good_run, is_held_against_rules, is_order_of_line, is_seated, is_some, le-leb, length-filter, length-map, line_from, lines_from, list_all, list_any, most_runs, nat_le, nth, opens, option_and_then, option_map, order_out, run_from, run_line_row, run_line_rows, run_row, run_rows, same_number, slice_get, some_and, tables}
+use Rattle.state_encoding.proofs.Common.{IsDayNumber, IsGoodLine, IsSound, Line, Order, OrderRow, Run, RunLineRow}
+use Rattle.state_encoding.proofs.Common.{RunRow, StandsIn, State, Version, and_from, are_good_runs, are_numbered_from}
+use Rattle.state_encoding.proofs.Common.{around, containers, count_by, day_is_broken, filter, held_count, holds_well}
+use Rattle.state_encoding.proofs.Common.{int_le, is_day_number, is_day_number-true, is_good_line, is_good_run}
+use Rattle.state_encoding.proofs.Common.{is_held_against_rules, is_order_of_line, is_seated, is_some, le-leb}
+use Rattle.state_encoding.proofs.Common.{length-filter, length-map, line_from, lines_from, list_all, list_any}
+use Rattle.state_encoding.proofs.Common.{most_runs, nat_le, nth, opens, option_and_then, option_map, order_out}
+use Rattle.state_encoding.proofs.Common.{run_from, run_line_row, run_line_rows, run_row, run_rows, same_number}
+use Rattle.state_encoding.proofs.Common.{slice_get, some_and, tables}
 use Rattle.state_encoding.proofs.ReadBack.{runs_back}
 use Rattle.state_encoding.proofs.Whole.{says_the_state}
 use Rattle.state_encoding.proofs.Members.{all_in, none_of_in, tests_of_in, in_append, in_map}
-use Rattle.state_encoding.proofs.NumberedRows.{rows_are_numbered, length-rows, in_rows, numbered_in, numbered-map, numbered-rows}
+use Rattle.state_encoding.proofs.NumberedRows.{rows_are_numbered, length-rows, in_rows, numbered_in, numbered-map}
+use Rattle.state_encoding.proofs.NumberedRows.{numbered-rows}
 use Rattle.state_encoding.proofs.DeskLookups.{order_there, run_there, between, not_later}
 
 -- a line row is a line of a run

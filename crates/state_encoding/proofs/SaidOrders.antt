@@ -1,11 +1,22 @@
 -- Orders and places whose rows pass: each order stands where its row says.
-use Rattle.std.proofs.Common.{◌≡◌, ◌≢◌, ℕ, ◌<◌, Bool, true, false, not, cond, ◌&&◌, ◌||◌, List, [], ◌∷◌, Option, Some, None, refl, sym, ap, ◌∙◌, subst, inl, inr, ◌⊎◌, arith}
+use Rattle.std.proofs.Common.{◌≡◌, ◌≢◌, ℕ, ◌<◌, Bool, true, false, not, cond, ◌&&◌, ◌||◌, List, [], ◌∷◌, Option, Some}
+use Rattle.std.proofs.Common.{None, refl, sym, ap, ◌∙◌, subst, inl, inr, ◌⊎◌, arith}
 use Rattle.std.specs.Prelude.{nat_eq, unwrap_or}
 use Rattle.desk_core.specs.declared.reader.Place.TheVariants.{Desk}
 use Rattle.office_core.specs.Words.{stands}
-use Rattle.state_encoding.proofs.Common.{AreFiled, AreInOrder, Cancelled, Done, End, HoldingRow, IsAscending, IsFiled, IsOutWith, IsPast, IsWaitingFor, MeetsDeskKeys, OfficeRows, OrderRow, Out, Shelf, StandsIn, and_from, and_parts, and_right, are_good_holdings, around, cases_eq, container_of, end_of, eqb-true, false_from_ne_true, false≢true, filed_out, filed_past, filed_waiting, filter, has_its_holding, is_at_desk, is_container_there, is_good_holding, is_holding_of, is_none, is_out_for, is_out_order, is_out_well, list_all, list_any, list_any-map, nth, option_and_then, option_map, or_cases, order_from, order_row, order_rows, other_number, past_in, place_from, place_in, same_number, some_and, standing, stands_out, stands_past, stands_waiting, state_number, state_of, waiting_for}
+use Rattle.state_encoding.proofs.Common.{AreFiled, AreInOrder, Cancelled, Done, End, HoldingRow, IsAscending, IsFiled}
+use Rattle.state_encoding.proofs.Common.{IsOutWith, IsPast, IsWaitingFor, MeetsDeskKeys, OfficeRows, OrderRow, Out}
+use Rattle.state_encoding.proofs.Common.{Shelf, StandsIn, and_from, and_parts, and_right, are_good_holdings, around}
+use Rattle.state_encoding.proofs.Common.{cases_eq, container_of, end_of_state, eqb-true, false_from_ne_true, false≢true}
+use Rattle.state_encoding.proofs.Common.{filed_out, filed_past, filed_waiting, filter, has_its_holding, is_at_desk}
+use Rattle.state_encoding.proofs.Common.{is_container_there, is_good_holding, is_holding_of, is_none, is_out_for}
+use Rattle.state_encoding.proofs.Common.{is_out_order, is_out_well, list_all, list_any, list_any-map, nth}
+use Rattle.state_encoding.proofs.Common.{option_and_then, option_map, or_cases, order_from, order_row, order_rows}
+use Rattle.state_encoding.proofs.Common.{other_number, past_in, place_from, place_in, same_number, some_and, standing}
+use Rattle.state_encoding.proofs.Common.{stands_out, stands_past, stands_waiting, state_number, state_of, waiting_for}
 use Rattle.state_encoding.proofs.Members.{all_in, some_in, any_same, test_in}
-use Rattle.state_encoding.proofs.NumberedRows.{any_numbered, has_number, by_number, numbered_in, numbered-map, rows_again}
+use Rattle.state_encoding.proofs.NumberedRows.{any_numbered, has_number, by_number, numbered_in, numbered-map}
+use Rattle.state_encoding.proofs.NumberedRows.{rows_again}
 use Rattle.state_encoding.proofs.DeskLookups.{flipped}
 use Rattle.state_encoding.proofs.Grouped.{any_filter, order-filter, order-map}
 use Rattle.state_encoding.proofs.DeskParts.{OrdersParts}
@@ -168,8 +179,8 @@ module _ (t : OfficeRows) (k : MeetsDeskKeys t.desk) (p : OrdersParts t) (q : Ho
     pub for_its : container_of (state_of t) o ≡ Some row.container
     for_its = ap (option_map (λ order. order.container)) (numbered-map order_from t.desk.orders o ∙ ap (option_map order_from) e)
 
-    past_is : past_in t.desk.orders o ≡ end_of row.state
-    past_is = ap (option_and_then (λ (row : OrderRow). end_of row.state)) e
+    past_is : past_in t.desk.orders o ≡ end_of_state row.state
+    past_is = ap (option_and_then (λ (row : OrderRow). end_of_state row.state)) e
 
     waits_as : (c : ℕ) → stands o ((state_of t).queue c) ≡ (nat_eq row.container c && nat_eq row.state 1)
     waits_as c = waits_so o c ∙ ap (some_and (λ (row : OrderRow). nat_eq row.container c && nat_eq row.state 1)) e
@@ -195,7 +206,7 @@ module _ (t : OfficeRows) (k : MeetsDeskKeys t.desk) (p : OrdersParts t) (q : Ho
           in_queue = waits_as row.container ∙ and_from (nat_eq row.container row.container) (nat_eq row.state 1) (same_number row.container) (ap (λ n. nat_eq n 1) s);
           in_no_other = λ c ne. waits_as c ∙ ap (λ b. b && nat_eq row.state 1) (other_number row.container c (λ same. ne (sym same)));
           in_no_place = out_not (λ two. omega (arith, s, two));
-          not_past = past_is ∙ ap end_of s;
+          not_past = past_is ∙ ap end_of_state s;
         }
 
     pub is_out_with : row.state ≡ 2
@@ -206,10 +217,10 @@ module _ (t : OfficeRows) (k : MeetsDeskKeys t.desk) (p : OrdersParts t) (q : Ho
           in_place = ap (is_out_for o) (out_of_order o row e s) ∙ same_number o;
           in_no_other = λ c ne. false_from_ne_true (is_out_for o ((state_of t).place c)) (λ h. ne (sym (out_as c h).0));
           in_no_queue = waits_not (λ one. omega (arith, s, one));
-          not_past = past_is ∙ ap end_of s;
+          not_past = past_is ∙ ap end_of_state s;
         }
 
-    pub is_past : (how : End) → row.state ≢ 1 → row.state ≢ 2 → end_of row.state ≡ Some how
+    pub is_past : (how : End) → row.state ≢ 1 → row.state ≢ 2 → end_of_state row.state ≡ Some how
         → IsPast (container_of (state_of t) o) (λ c. stands o ((state_of t).queue c)) (λ c. is_out_for o ((state_of t).place c)) ((state_of t).past o) row.container how
     is_past how one two s =
         record {
@@ -233,8 +244,8 @@ module _ (t : OfficeRows) (k : MeetsDeskKeys t.desk) (p : OrdersParts t) (q : Ho
           | inr not_one ↦ elim (cases_eq row.state 2) [
             | inl two ↦ filed_out k w h past row.container (is_out_with two)
             | inr not_two ↦ elim (cases_eq row.state 3) [
-              | inl three ↦ filed_past k w h past row.container Done (is_past Done not_one not_two (ap end_of three))
-              | inr not_three ↦ filed_past k w h past row.container Cancelled (is_past Cancelled not_one not_two (let four : row.state ≡ 4 = omega (arith, low, high, not_one, not_two, not_three) in ap end_of four))
+              | inl three ↦ filed_past k w h past row.container Done (is_past Done not_one not_two (ap end_of_state three))
+              | inr not_three ↦ filed_past k w h past row.container Cancelled (is_past Cancelled not_one not_two (let four : row.state ≡ 4 = omega (arith, low, high, not_one, not_two, not_three) in ap end_of_state four))
             ]
           ]
         ]
@@ -253,8 +264,8 @@ module _ (t : OfficeRows) (k : MeetsDeskKeys t.desk) (p : OrdersParts t) (q : Ho
           | inr not_one ↦ elim (cases_eq row.state 2) [
             | inl two ↦ ap state_number (stands_out k w h past row.container (is_out_with two)) ∙ sym two
             | inr not_two ↦ elim (cases_eq row.state 3) [
-              | inl three ↦ ap state_number (stands_past k w h past row.container Done (is_past Done not_one not_two (ap end_of three))) ∙ sym three
-              | inr not_three ↦ (let four : row.state ≡ 4 = omega (arith, low, high, not_one, not_two, not_three) in ap state_number (stands_past k w h past row.container Cancelled (is_past Cancelled not_one not_two (ap end_of four))) ∙ sym four)
+              | inl three ↦ ap state_number (stands_past k w h past row.container Done (is_past Done not_one not_two (ap end_of_state three))) ∙ sym three
+              | inr not_three ↦ (let four : row.state ≡ 4 = omega (arith, low, high, not_one, not_two, not_three) in ap state_number (stands_past k w h past row.container Cancelled (is_past Cancelled not_one not_two (ap end_of_state four))) ∙ sym four)
             ]
           ]
         ]
@@ -270,7 +281,7 @@ module _ (t : OfficeRows) (k : MeetsDeskKeys t.desk) (p : OrdersParts t) (q : Ho
       subst (λ k. IsFiled k (λ c. stands o ((state_of t).queue c)) (λ c. is_out_for o ((state_of t).place c)) ((state_of t).past o)) (sym none) (
         λ c. waits_so o c ∙ ap (some_and (λ (row : OrderRow). nat_eq row.container c && nat_eq row.state 1)) e,
         λ c. false_from_ne_true (is_out_for o ((state_of t).place c)) (λ h. (let x = out_at_place o c h in let is = x.is in absurd (cc))),
-        ap (option_and_then (λ (row : OrderRow). end_of row.state)) e,
+        ap (option_and_then (λ (row : OrderRow). end_of_state row.state)) e,
       )
 
   pub said_filed : AreFiled (state_of t)

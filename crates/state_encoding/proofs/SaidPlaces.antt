@@ -1,15 +1,25 @@
 -- Orders and places whose rows pass are sound, and the places show those rows again.
-use Rattle.std.proofs.Common.{◌≡◌, ℕ, suc, ◌≤◌, Bool, true, false, not, cond, ◌&&◌, List, [], ◌∷◌, length, Option, Some, None, refl, sym, ap, ◌∙◌, subst, inl, inr, arith}
-use Rattle.std.specs.Prelude.{ℤ, map, filter_map, nat_eq, unwrap_or}
+use Rattle.std.proofs.Common.{◌≡◌, ℕ, suc, ◌≤◌, Bool, true, false, not, cond, ◌&&◌, List, [], ◌∷◌, length, Option, Some}
+use Rattle.std.proofs.Common.{None, refl, sym, ap, ◌∙◌, subst, inl, inr, arith}
 use Rattle.std.proofs.lemmas.Bool.Decides.{Decides-int_eq}
+use Rattle.std.specs.Prelude.{ℤ, map, filter_map, nat_eq, unwrap_or}
 use Rattle.catalogue_core.specs.Sources.{is_between}
-use Rattle.state_encoding.proofs.Common.{AllByRecursion, AreGoodOrders, AreGoodPlaces, HasGoodCatalogue, HoldingRow, IsDayNumber, IsGoodOrder, MeetsDeskKeys, OfficeRows, Order, OrderRow, Shelf, StandsIn, State, and_from, and_parts, are_twice, cases_Bool, cases_eq, containers, count_by, day_is_broken, end_of, eq-eqb, eqb-true, false≢true, filter, find, fun_ext, held_count, holder_of, holding_row, holding_rows, holds_well, int_eq, is_container, is_held_against_rules, is_live, is_seated, leb-true, length-filter, length-map, nat_le, nth, numbered_from_one, numbered_within, numbers_to, opens, option_and_then, option_map, order_from, order_out, place_from, place_in, some_and, state_of}
+use Rattle.state_encoding.proofs.Common.{AllByRecursion, AreGoodOrders, AreGoodPlaces, HasGoodCatalogueRows, HoldingRow}
+use Rattle.state_encoding.proofs.Common.{IsDayNumber, IsGoodOrder, MeetsDeskKeys, OfficeRows, Order, OrderRow, Shelf}
+use Rattle.state_encoding.proofs.Common.{StandsIn, State, and_from, and_parts, are_twice, cases_Bool, cases_eq}
+use Rattle.state_encoding.proofs.Common.{containers, count_by, day_is_broken, end_of_state, eq-eqb, eqb-true}
+use Rattle.state_encoding.proofs.Common.{false≢true, filter, find, fun_ext, held_count, holder_of, holding_row}
+use Rattle.state_encoding.proofs.Common.{holding_rows, holds_well, int_eq, is_container, is_held_against_rules, is_live}
+use Rattle.state_encoding.proofs.Common.{is_seated, leb-true, length-filter, length-map, nat_le, nth, numbered_from_one}
+use Rattle.state_encoding.proofs.Common.{numbered_within, numbers_to, opens, option_and_then, option_map, order_from}
+use Rattle.state_encoding.proofs.Common.{order_out, place_from, place_in, some_and, state_of}
 use Rattle.state_encoding.proofs.Members.{all_of_in, none_in, in_map, in_filter, numbers_in, to_from}
 use Rattle.state_encoding.proofs.NumberedRows.{has_number, numbered_in}
 use Rattle.state_encoding.proofs.DeskLookups.{between}
 use Rattle.state_encoding.proofs.Grouped.{found, found_all}
 use Rattle.state_encoding.proofs.DeskParts.{ReaderParts, OrdersParts, not_bad, said_ticket, said_container, said_by}
-use Rattle.state_encoding.proofs.SaidOrders.{place_cases, HoldingKind, AtDesk, OutWith, HoldingParts, place_is_desk, place_is_out}
+use Rattle.state_encoding.proofs.SaidOrders.{place_cases, HoldingKind, AtDesk, OutWith, HoldingParts, place_is_desk}
+use Rattle.state_encoding.proofs.SaidOrders.{place_is_out}
 
 -- ---- counts
 
@@ -29,17 +39,17 @@ count_map p f xs = sym (length-filter p (map f xs)) ∙ (kept_map p f xs ∙ len
 
 -- ---- orders
 
-live_still : (state : ℕ) → 1 ≤ state → state ≤ 4 → end_of state ≡ None → is_between 1 2 state ≡ true
+live_still : (state : ℕ) → 1 ≤ state → state ≤ 4 → end_of_state state ≡ None → is_between 1 2 state ≡ true
 live_still state low high e =
     elim (cases_eq state 3) [
-      | inl three ↦ absurd (let x = ap end_of three in cc)
+      | inl three ↦ absurd (let x = ap end_of_state three in cc)
       | inr not_three ↦ elim (cases_eq state 4) [
-        | inl four ↦ absurd (let x = ap end_of four in cc)
+        | inl four ↦ absurd (let x = ap end_of_state four in cc)
         | inr not_four ↦ between 1 2 state low (omega (arith, low, high, not_three, not_four))
       ]
     ]
 
-module _ (t : OfficeRows) (r : ReaderParts t) (p : OrdersParts t) (c : HasGoodCatalogue t) where
+module _ (t : OfficeRows) (r : ReaderParts t) (p : OrdersParts t) (c : HasGoodCatalogueRows t) where
   abbrev of_that_day : ℕ → ℤ → OrderRow → Bool
   of_that_day ticket day row = nat_eq row.ticket ticket && int_eq row.day day
 
@@ -60,7 +70,7 @@ module _ (t : OfficeRows) (r : ReaderParts t) (p : OrdersParts t) (c : HasGoodCa
       → is_live row ≡ true
   is_live_row o row e past =
       let range = (p.orders row (numbered_in t.desk.orders o row e)).state in
-      live_still row.state range.0 range.1 (sym (ap (option_and_then (λ (row : OrderRow). end_of row.state)) e) ∙ past)
+      live_still row.state range.0 range.1 (sym (ap (option_and_then (λ (row : OrderRow). end_of_state row.state)) e) ∙ past)
 
   pub said_orders : AreGoodOrders (state_of t)
   said_orders =
@@ -121,7 +131,7 @@ place_found (x ∷ xs) c = at (nat_eq x.container c) (place_found xs c)
     at true e = refl
     at false e = e
 
-module _ (t : OfficeRows) (k : MeetsDeskKeys t.desk) (q : HoldingParts t) (c : HasGoodCatalogue t) where
+module _ (t : OfficeRows) (k : MeetsDeskKeys t.desk) (q : HoldingParts t) (c : HasGoodCatalogueRows t) where
   holding_known : (row : HoldingRow) → StandsIn row t.desk.holdings → is_container (state_of t) row.container ≡ true
   holding_known row l = said_container t row.container c.containers ∙ q.there row l
 

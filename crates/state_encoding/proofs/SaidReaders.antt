@@ -1,11 +1,21 @@
 -- Readers, seats and permits whose rows pass are sound, and show those rows again.
-use Rattle.std.proofs.Common.{◌≡◌, ◌≢◌, ℕ, zero, suc, ◌<◌, ◌≤◌, true, List, [], ◌∷◌, length, Option, Some, None, refl, sym, ap, ◌∙◌, subst, inl, inr, arith}
+use Rattle.std.proofs.Common.{◌≡◌, ◌≢◌, ℕ, zero, suc, ◌<◌, ◌≤◌, true, List, [], ◌∷◌, length, Option, Some, None, refl}
+use Rattle.std.proofs.Common.{sym, ap, ◌∙◌, subst, inl, inr, arith}
 use Rattle.std.specs.Prelude.{map, filter_map, nat_eq}
-use Rattle.state_encoding.proofs.Common.{AllByRecursion, AreGoodPermits, AreGoodReaders, AreGoodSeats, AreInOrder, ArePermitsOfUnits, ByUnit, IsDayNumber, MeetsDeskKeys, OfficeRows, Permit, PermitRow, Reader, ReaderRow, SeatRow, SitOnce, StandsIn, cons_option, count_by, eqb-true, false_from_ne_true, false≢true, filter, find, flat_map, fun_ext, has_unit, is_name, is_registered, is_seat_of, is_unit_there, length-filter, length-map, list_any, most_permits, numbered_from_one, numbered_within, numbers_from, numbers_to, option_map, permit_row, permit_rows, permits_from_rows, reader_from, reader_row, reader_rows, seat_rows, seat_rows_from, seats_from_rows, state_of}
+use Rattle.state_encoding.proofs.Common.{AllByRecursion, AreGoodPermits, AreGoodReaders, AreGoodSeats, AreInOrder}
+use Rattle.state_encoding.proofs.Common.{ArePermitsOfUnits, ByUnit, IsDayNumber, MeetsDeskKeys, OfficeRows, Permit}
+use Rattle.state_encoding.proofs.Common.{PermitRow, Reader, ReaderRow, SeatRow, SitOnce, StandsIn, cons_option}
+use Rattle.state_encoding.proofs.Common.{count_by, eqb-true, false_from_ne_true, false≢true, filter, find, flat_map}
+use Rattle.state_encoding.proofs.Common.{fun_ext, has_unit, is_name, is_registered, is_seat_of, is_unit_there}
+use Rattle.state_encoding.proofs.Common.{length-filter, length-map, list_any, most_permits, numbered_from_one}
+use Rattle.state_encoding.proofs.Common.{numbered_within, numbers_from, numbers_to, option_map, permit_row, permit_rows}
+use Rattle.state_encoding.proofs.Common.{permits_from_rows, reader_from, reader_row, reader_rows, seat_rows}
+use Rattle.state_encoding.proofs.Common.{seat_rows_from, seats_from_rows, state_of}
 use Rattle.state_encoding.proofs.Members.{all_of_in, some_in, in_map, in_filter, to_from}
 use Rattle.state_encoding.proofs.NumberedRows.{rows_again, numbered_in}
 use Rattle.state_encoding.proofs.DeskKeys.{PermitBefore}
-use Rattle.state_encoding.proofs.Grouped.{filter_none, order_weaker, order-filter, order-map, found, same_row, found_all, grouped_all}
+use Rattle.state_encoding.proofs.Grouped.{filter_none, order_weaker, order-filter, order-map, found, same_row}
+use Rattle.state_encoding.proofs.Grouped.{found_all, grouped_all}
 use Rattle.state_encoding.proofs.DeskParts.{ReaderParts, said_ticket, said_by}
 
 -- ---- seats

@@ -1,8 +1,17 @@
 -- Runs whose rows pass are sound, and show those rows again.
-use Rattle.std.proofs.Common.{◌≡◌, ℕ, suc, ◌<◌, ◌≤◌, true, ◌&&◌, List, [], ◌∷◌, ◌++◌, length, Option, Some, None, refl, sym, ap, ◌∙◌, subst, inl, inr, arith}
+use Rattle.std.proofs.Common.{◌≡◌, ℕ, suc, ◌<◌, ◌≤◌, true, ◌&&◌, List, [], ◌∷◌, ◌++◌, length, Option, Some, None, refl}
+use Rattle.std.proofs.Common.{sym, ap, ◌∙◌, subst, inl, inr, arith}
 use Rattle.std.specs.Prelude.{map, nat_eq}
 use Rattle.catalogue_core.specs.Sources.{is_between}
-use Rattle.state_encoding.proofs.Common.{AllByRecursion, AreGoodRuns, AreInOrder, ByContainer, IsDayNumber, IsGoodLine, IsGoodRun, Line, MeetsDeskKeys, OfficeRows, Order, OrderRow, Run, RunLineRow, RunRow, StandsIn, State, and_parts, are_good_runs, are_numbered_from, around, container_of, count_by, eqb-true, false≢true, filter, flat_map, flat_map-cons, int_le, is_by, is_day_number, is_day_number-so, is_good_line, is_good_run, is_order_of_line, leb-true, length-filter, length-map, line_from, lines_from, list_all, list_any, most_runs, nat_le, nth, numbered_from_one, numbered_within, numbers_from, option_map, order_from, run_from, run_line_row, run_line_rows, run_row, run_rows, some_and, state_of, ◌≤ℤ◌}
+use Rattle.state_encoding.proofs.Common.{AllByRecursion, AreGoodRuns, AreInOrder, ByContainer, IsDayNumber, IsGoodLine}
+use Rattle.state_encoding.proofs.Common.{IsGoodRun, Line, MeetsDeskKeys, OfficeRows, Order, OrderRow, Run, RunLineRow}
+use Rattle.state_encoding.proofs.Common.{RunRow, StandsIn, State, and_parts, are_good_runs, are_numbered_from, around}
+use Rattle.state_encoding.proofs.Common.{container_of, count_by, eqb-true, false≢true, filter, flat_map, flat_map-cons}
+use Rattle.state_encoding.proofs.Common.{int_le, is_by, is_day_number, is_day_number-so, is_good_line, is_good_run}
+use Rattle.state_encoding.proofs.Common.{is_order_of_line, leb-true, length-filter, length-map, line_from, lines_from}
+use Rattle.state_encoding.proofs.Common.{list_all, list_any, most_runs, nat_le, nth, numbered_from_one, numbered_within}
+use Rattle.state_encoding.proofs.Common.{numbers_from, option_map, order_from, run_from, run_line_row, run_line_rows}
+use Rattle.state_encoding.proofs.Common.{run_row, run_rows, some_and, state_of, ◌≤ℤ◌}
 use Rattle.state_encoding.proofs.Members.{all_of_in, in_map, in_filter, test_in}
 use Rattle.state_encoding.proofs.NumberedRows.{known_numbered, any_numbered, numbered_in, numbered-map, rows_again}
 use Rattle.state_encoding.proofs.DeskKeys.{LineBefore}

@@ -1,10 +1,16 @@
 -- The texts of a state that rows say are texts of the rows.
-use Rattle.std.proofs.Common.{◌≡◌, ℕ, zero, suc, ◌&&◌, Bool, length, List, [], ◌∷◌, Option, Some, None, map, refl, nat_eq, IsUtf8, sym, subst}
-use Rattle.std.specs.Prelude.{unwrap_or, false}
+use Rattle.std.proofs.Common.{◌≡◌, ℕ, zero, suc, ◌&&◌, Bool, length, List, [], ◌∷◌, Option, Some, None, map, refl}
+use Rattle.std.proofs.Common.{nat_eq, IsUtf8, sym, subst}
 use Rattle.std.proofs.lemmas.Str.{IsUtf8-nil}
+use Rattle.std.specs.Prelude.{unwrap_or, false}
 use Rattle.isad_core.specs.LegibleValues.{IsLegibleBox, AreLegibleValues}
 use Rattle.catalogue_core.specs.LegibleCatalogues.{HasLegibleTexts}
-use Rattle.state_encoding.proofs.Common.{AllByRecursion, AreLegibleRows, AreTexts, BoxKey, Bytes, ContainerRow, ElementRow, HousingRow, IfSome, In, IsLegibleContainerRow, IsLegibleUnitRow, OfficeRows, ReaderRow, UnitRow, after_level, box_at, box_from, boxes_from, cons_option, find, find_some, housings_of, nodes, nodes-each, nth, numbers_from, option_map, places_said, reader_from, state_of, text_said, unit_from, unit_from_rows, values_from_rows}
+use Rattle.state_encoding.proofs.Common.{AllByRecursion, AreLegibleRows, AreTexts, BoxKey, Bytes, ContainerRow}
+use Rattle.state_encoding.proofs.Common.{ElementRow, HousingRow, IfSome, In, IsLegibleContainerRow, IsLegibleUnitRow}
+use Rattle.state_encoding.proofs.Common.{OfficeRows, ReaderRow, UnitRow, after_level, box_at, box_from, boxes_from}
+use Rattle.state_encoding.proofs.Common.{cons_option, find, find_some, housings_of, nodes, nodes-each, nth}
+use Rattle.state_encoding.proofs.Common.{numbers_from, option_map, places_said, reader_from, state_of, text_said}
+use Rattle.state_encoding.proofs.Common.{unit_from, unit_from_rows, values_from_rows}
 use Rattle.state_encoding.proofs.RowsByNumber.{each_in}
 use Rattle.state_encoding.proofs.NumberedRows.{numbered_in}
 

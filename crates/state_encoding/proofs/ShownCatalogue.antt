@@ -1,9 +1,14 @@
 -- The rows of a sound catalogue have their keys and no cause.
 use Rattle.std.proofs.Common.{[], ◌∷◌, refl}
-use Rattle.state_encoding.proofs.Common.{HasNoCatalogueCause, OfficeRows, State, Version, and_from, are_good_container_rows, are_good_places, are_good_units, containers_are_bad, elements_are_bad, encoding, is_good_element, is_good_housing, is_good_office, list_all, not_from_true, office_is_bad, places_are_bad, tables, unit_numbers, units_are_bad}
+use Rattle.state_encoding.proofs.Common.{HasNoCatalogueCause, OfficeRows, State, Version, and_from}
+use Rattle.state_encoding.proofs.Common.{are_good_container_rows, are_good_places, are_good_units, containers_are_bad}
+use Rattle.state_encoding.proofs.Common.{elements_are_bad, encoding, is_good_element, is_good_housing, is_good_office}
+use Rattle.state_encoding.proofs.Common.{list_all, not_from_true, office_is_bad, places_are_bad, tables, unit_numbers}
+use Rattle.state_encoding.proofs.Common.{units_are_bad}
 use Rattle.state_encoding.proofs.Judging.{hold_none}
 use Rattle.state_encoding.proofs.ShownUnits.{office_shown, AreShownUnits, units_shown}
-use Rattle.state_encoding.proofs.ShownElements.{elements_shown, AreShownContainers, containers_shown, AreShownHousings, housings_shown}
+use Rattle.state_encoding.proofs.ShownElements.{elements_shown, AreShownContainers, containers_shown, AreShownHousings}
+use Rattle.state_encoding.proofs.ShownElements.{housings_shown}
 
 pub catalogue_is_shown : (version : Version) (s : State) → HasNoCatalogueCause version s
 catalogue_is_shown version s g =

@@ -1,12 +1,22 @@
 -- The rows of the texts and of the containers of a sound catalogue have their keys and no cause.
-use Rattle.std.proofs.Common.{◌≡◌, ℕ, zero, suc, ◌+◌, ◌<◌, ◌≤◌, Bool, true, false, cond, not, List, [], ◌∷◌, length, Option, Some, None, refl, sym, ap, ◌∙◌, subst, nat_eq, nat_lt, inl, inr, arith, map}
-use Rattle.std.specs.Prelude.{unwrap_or}
+use Rattle.std.proofs.Common.{◌≡◌, ℕ, zero, suc, ◌+◌, ◌<◌, ◌≤◌, Bool, true, false, cond, not, List, [], ◌∷◌, length}
+use Rattle.std.proofs.Common.{Option, Some, None, refl, sym, ap, ◌∙◌, subst, nat_eq, nat_lt, inl, inr, arith, map}
 use Rattle.std.specs.List.{IsDistinct}
-use Rattle.isad_core.specs.Boxes.{is_same as is_same_box}
-use Rattle.office_core.specs.Words.{stands}
+use Rattle.std.specs.Prelude.{unwrap_or}
 use Rattle.catalogue_core.specs.Sources.{is_between}
-use Rattle.state_encoding.proofs.Common.{AllByRecursion, BoxKey, Bytes, ContainerRow, ElementRow, HousingRow, In, In-map, IsGoodUnit, IsSoundCatalogue, OfficeRows, State, Unit, Version, after_level, and_from, and_parts, any_from_In, are_good_container_rows, are_numbered_from, box_itself, box_number, container_row, element_rows_from, false≢true, housing_row, housings_of, is_blank_text, is_good_element, is_good_housing, is_good_text, is_housed_alike, is_same_container, is_same_element, is_same_place, le-leb, list_all, list_any, ltb-false, ltb-true, most_containers, nat_le, nodes, not-true, not_from_false, nth, number_of, numbers_from, other_number, rows_from, same_number, slice_get, tables, unit_numbers}
-use Rattle.state_encoding.proofs.UnitRows.{HasRows, all_rows, number_there, number_back, after_less, elements_own, housings_own}
+use Rattle.office_core.specs.Words.{stands}
+use Rattle.state_encoding.proofs.Common.{AllByRecursion, BoxKey, Bytes, ContainerRow, ElementRow, HousingRow, In}
+use Rattle.state_encoding.proofs.Common.{In-map, IsGoodUnit, IsSoundCatalogue, OfficeRows, State, Unit, Version}
+use Rattle.state_encoding.proofs.Common.{after_level, and_from, and_parts, any_from_In, are_good_container_rows}
+use Rattle.state_encoding.proofs.Common.{are_numbered_from, box_itself, box_number, container_row, element_rows_from}
+use Rattle.state_encoding.proofs.Common.{false≢true, housing_row, housings_of, is_blank_text, is_good_element}
+use Rattle.state_encoding.proofs.Common.{is_good_housing, is_good_text, is_housed_alike, is_same_box, is_same_container}
+use Rattle.state_encoding.proofs.Common.{is_same_element, is_same_place, le-leb, list_all, list_any, ltb-false}
+use Rattle.state_encoding.proofs.Common.{ltb-true, most_containers, nat_le, nodes, not-true, not_from_false, nth}
+use Rattle.state_encoding.proofs.Common.{numbers_from, other_number, rows_from, same_number, slice_get, tables}
+use Rattle.state_encoding.proofs.Common.{unit_number, unit_numbers}
+use Rattle.state_encoding.proofs.UnitRows.{HasRows, all_rows, number_there, number_back, after_less, elements_own}
+use Rattle.state_encoding.proofs.UnitRows.{housings_own}
 use Rattle.state_encoding.proofs.RowsByNumber.{each_in, in_each, all_in, in_all, in_map, numbers_apart}
 use Rattle.state_encoding.proofs.Apart.{in_flat_map, pairs_apart, all_different}
 
@@ -68,7 +78,7 @@ numbers_differ u j (Some text ∷ texts) h =
     )
 
 pub elements_shown : (version : Version) (s : State) → IsSoundCatalogue s
-    → unit_numbers (tables version s).catalogue ≡ map number_of (nodes s.catalogue.forest)
+    → unit_numbers (tables version s).catalogue ≡ map unit_number (nodes s.catalogue.forest)
     → (list_all (is_good_element (unit_numbers (tables version s).catalogue)) (tables version s).catalogue.elements ≡ true) × IsDistinct is_same_element (tables version s).catalogue.elements
 elements_shown version s g told =
     let us = nodes s.catalogue.forest in
@@ -83,7 +93,7 @@ elements_shown version s g told =
           and_from (is_between 1 26 row.k) _ (ap (is_between 1 26) r.number ∙ w.0)
           (and_from (not (nat_eq row.k 4)) _ (ap (λ n. not (nat_eq n 4)) r.number ∙ w.1)
           (and_from (not (is_blank_text row.value)) (stands row.unit (unit_numbers (tables version s).catalogue)) (not_from_false (is_blank_text row.value) r.filled)
-          (ap (λ n. stands n (unit_numbers (tables version s).catalogue)) r.unit ∙ (ap (stands o.unit.id) told ∙ any_from_In (map number_of us) o.unit.id (In-map number_of us o.unit o.there)))))),
+          (ap (λ n. stands n (unit_numbers (tables version s).catalogue)) r.unit ∙ (ap (stands o.unit.id) told ∙ any_from_In (map unit_number us) o.unit.id (In-map unit_number us o.unit o.there)))))),
       pairs_apart (λ (row : ElementRow). row.unit) (λ (row : ElementRow). row.k) rows (λ u. elements_own u.id 1 u.values.texts) us g.units.ids
           (λ u i. numbers_differ u.id 1 u.values.texts (each_in (IsGoodUnit s.catalogue.containers) us u g.units.each i).texts),
     )
@@ -213,7 +223,7 @@ pub record AreShownHousings (version : Version) (s : State) : Type 0 where
   pub once : IsDistinct is_housed_alike (tables version s).catalogue.housings
 
 pub housings_shown : (version : Version) (s : State) → IsSoundCatalogue s
-    → unit_numbers (tables version s).catalogue ≡ map number_of (nodes s.catalogue.forest) → AreShownHousings version s
+    → unit_numbers (tables version s).catalogue ≡ map unit_number (nodes s.catalogue.forest) → AreShownHousings version s
 housings_shown version s g told =
     let t : OfficeRows = tables version s in
     let us = nodes s.catalogue.forest in
@@ -229,7 +239,7 @@ housings_shown version s g told =
           ap (λ n. length (housings_of n t.catalogue.housings)) r.unit
           ∙ (ap length (each_in (HasRows t s.catalogue.containers) us u (all_rows version s g.units.ids) o.there).housings ∙ count_rows (housing_row s.catalogue.containers u.id) 1 u.values.boxes) in
           let last = r.before in
-          and_from (stands row.unit (unit_numbers t.catalogue)) _ (ap (λ n. stands n (unit_numbers t.catalogue)) r.unit ∙ (ap (stands u.id) told ∙ any_from_In (map number_of us) u.id (In-map number_of us u o.there)))
+          and_from (stands row.unit (unit_numbers t.catalogue)) _ (ap (λ n. stands n (unit_numbers t.catalogue)) r.unit ∙ (ap (stands u.id) told ∙ any_from_In (map unit_number us) u.id (In-map unit_number us u o.there)))
           (and_from (is_between 1 (length t.catalogue.containers) row.container) (is_between 1 (length (housings_of row.unit t.catalogue.housings)) row.ord)
           (ap (λ n. is_between 1 n row.container) (count_rows container_row 1 s.catalogue.containers) ∙ (ap (is_between 1 (length s.catalogue.containers)) r.container ∙ number_ranged s.catalogue.containers r.box (all_in (λ box. list_any (is_same_box box) s.catalogue.containers) u.values.boxes r.box k.known r.there)))
           (and_from (nat_le 1 row.ord) (nat_le row.ord (length (housings_of row.unit t.catalogue.housings))) (le-leb 1 row.ord r.behind) (le-leb row.ord (length (housings_of row.unit t.catalogue.housings)) (omega (arith, mine, last))))));

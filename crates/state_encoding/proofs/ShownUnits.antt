@@ -1,15 +1,28 @@
 -- The rows of the units of a sound catalogue, and of their places, have their keys and no cause.
-use Rattle.std.proofs.Common.{◌≡◌, ℕ, ◌+◌, ◌*◌, ◌^◌, ◌<◌, ◌≤◌, true, false, not, List, [], ◌∷◌, length, Option, Some, None, refl, sym, ap, ◌∙◌, subst, nat_eq, arith, map}
-use Rattle.std.specs.Prelude.{ℤ, nat_lt}
-use Rattle.std.specs.List.{IsDistinct}
+use Rattle.std.proofs.Common.{◌≡◌, ℕ, ◌+◌, ◌*◌, ◌^◌, ◌<◌, ◌≤◌, true, false, not, List, [], ◌∷◌, length, Option, Some}
+use Rattle.std.proofs.Common.{None, refl, sym, ap, ◌∙◌, subst, nat_eq, arith, map}
 use Rattle.std.proofs.lemmas.Slice.Eq.{bytes_eq-Decides}
+use Rattle.std.specs.List.{IsDistinct}
+use Rattle.std.specs.Prelude.{ℤ, nat_lt}
 use Rattle.tree_core.proofs.LinkPaths.{ids-rows_below}
 use Rattle.tree_core.proofs.NumberingWalk.{ids-number}
-use Rattle.catalogue_core.proofs.NodeLemmas.{length-nodes}
-use Rattle.office_core.specs.Words.{stands}
-use Rattle.catalogue_core.specs.Sources.{is_between}
 use Rattle.catalogue_core.proofs.Heights.{height-each}
-use Rattle.state_encoding.proofs.Common.{AllByRecursion, Forest, In, IsGoodUnit, IsPermutation-refl, IsSomeDay, IsSoundCatalogue, Links, OfficeRow, Spans, State, TreeEncoding, Unit, UnitRow, Version, all_stand_in, and_from, any_from_In, are_good_places, are_good_units, each, encoding, faultless, height, is_blank_text, is_country, is_day_number, is_day_number-true, is_good_link, is_good_office, is_good_span, is_good_unit_row, is_named_alike, is_repository, is_same_unit, is_some, is_some_day, is_source, is_unit_number, le-leb, leb-true, length-map, link_faultless, list_all, list_all-map, lt-ltb, most_bytes, most_daily, most_deep, most_hands, most_run_size, most_seats, most_unit_numbers, most_units, nat_le, no_fault, no_link_fault, nodes, nodes-each, not_from_false, number, number_of, place_numbers, place_rows, places_said, same_number, siblings, size, tables, unit_from_rows, unit_numbers, unit_row, version_number}
+use Rattle.catalogue_core.proofs.NodeLemmas.{length-nodes}
+use Rattle.catalogue_core.specs.Sources.{is_between}
+use Rattle.office_core.specs.Words.{stands}
+use Rattle.state_encoding.proofs.Common.{AllByRecursion, Forest, In, IsGoodUnit, IsPermutation-refl, IsSomeDay}
+use Rattle.state_encoding.proofs.Common.{IsSoundCatalogue, Links, OfficeRow, Spans, State, TreeEncoding, Unit, UnitRow}
+use Rattle.state_encoding.proofs.Common.{Version, all_stand_in, and_from, any_from_In, are_good_places, are_good_units}
+use Rattle.state_encoding.proofs.Common.{each, encoding, faultless, height, is_blank_text, is_country, is_day_number}
+use Rattle.state_encoding.proofs.Common.{is_day_number-true, is_good_link, is_good_office, is_good_span}
+use Rattle.state_encoding.proofs.Common.{is_good_unit_row, is_named_alike, is_repository, is_same_unit, is_some}
+use Rattle.state_encoding.proofs.Common.{is_some_day, is_source, is_unit_number, le-leb, leb-true, length-map}
+use Rattle.state_encoding.proofs.Common.{link_faultless, list_all, list_all-map, lt-ltb, most_bytes, most_daily}
+use Rattle.state_encoding.proofs.Common.{most_deep, most_hands, most_run_size, most_seats, most_unit_numbers}
+use Rattle.state_encoding.proofs.Common.{most_units, nat_le, no_fault, no_link_fault, nodes, nodes-each, not_from_false}
+use Rattle.state_encoding.proofs.Common.{number_from, place_numbers, place_rows, places_said, same_number, siblings}
+use Rattle.state_encoding.proofs.Common.{size, tables, unit_from_rows, unit_number, unit_numbers, unit_row}
+use Rattle.state_encoding.proofs.Common.{version_number}
 use Rattle.state_encoding.proofs.UnitRows.{units_back}
 use Rattle.state_encoding.proofs.RowsByNumber.{in_all, each_in, in_map}
 use Rattle.state_encoding.proofs.PlaceNumbers.{links_numbered, spans_numbered}
@@ -46,14 +59,14 @@ places_shown Links f d n few =
     and_from (list_all is_good_link (siblings f)) _ (links_numbered None 1 f refl n (omega (arith, few, enough)))
     (ap (λ fault. not (is_some fault)) (no_link_fault (siblings f) (link_faultless f (siblings f) (record { distinct = d; rows = IsPermutation-refl (siblings f) }))))
 places_shown Spans f d n few =
-    and_from (list_all is_good_span (number 1 f)) _ (spans_numbered 1 f n (omega (arith, few, enough)))
-    (ap (λ fault. not (is_some fault)) (no_fault (number 1 f) (faultless f (number 1 f) (record { distinct = d; rows = refl }))))
+    and_from (list_all is_good_span (number_from 1 f)) _ (spans_numbered 1 f n (omega (arith, few, enough)))
+    (ap (λ fault. not (is_some fault)) (no_fault (number_from 1 f) (faultless f (number_from 1 f) (record { distinct = d; rows = refl }))))
 
 numbers_placed : (way : TreeEncoding) (f : Forest ℕ) → place_numbers (place_rows way f) ≡ nodes f
 numbers_placed Links f = ids-rows_below None 1 f
 numbers_placed Spans f = ids-number 1 f
 
-numbers_of_rows : (us : List Unit) → map (λ (row : UnitRow). row.id) (map unit_row us) ≡ map number_of us
+numbers_of_rows : (us : List Unit) → map (λ (row : UnitRow). row.id) (map unit_row us) ≡ map unit_number us
 numbers_of_rows [] = refl
 numbers_of_rows (u ∷ us) = ap (λ l. u.id ∷ l) (numbers_of_rows us)
 
@@ -95,16 +108,16 @@ pub record AreShownUnits (version : Version) (s : State) : Type 0 where
   pub numbers : IsDistinct nat_eq (unit_numbers (tables version s).catalogue)
   pub names : IsDistinct is_named_alike (tables version s).catalogue.units
   pub placed : IsDistinct nat_eq (place_numbers (tables version s).catalogue.places)
-  pub told : unit_numbers (tables version s).catalogue ≡ map number_of (nodes s.catalogue.forest)
+  pub told : unit_numbers (tables version s).catalogue ≡ map unit_number (nodes s.catalogue.forest)
 
 pub units_shown : (version : Version) (s : State) → IsSoundCatalogue s → AreShownUnits version s
 units_shown version s g =
     let us = nodes s.catalogue.forest in
-    let f : Forest ℕ = each number_of s.catalogue.forest in
-    let ids : nodes f ≡ map number_of us = nodes-each number_of s.catalogue.forest in
+    let f : Forest ℕ = each unit_number s.catalogue.forest in
+    let ids : nodes f ≡ map unit_number us = nodes-each unit_number s.catalogue.forest in
     let apart : IsDistinct nat_eq (nodes f) = subst (IsDistinct nat_eq) (sym ids) g.units.ids in
-    let told : unit_numbers (tables version s).catalogue ≡ map number_of us = numbers_of_rows us in
-    let placed : place_numbers (tables version s).catalogue.places ≡ map number_of us =
+    let told : unit_numbers (tables version s).catalogue ≡ map unit_number us = numbers_of_rows us in
+    let placed : place_numbers (tables version s).catalogue.places ≡ map unit_number us =
     numbers_placed (encoding version) f ∙ ids in
     let rows : list_all (is_good_unit_row s.catalogue.next) (map unit_row us) ≡ true =
     list_all-map (is_good_unit_row s.catalogue.next) unit_row us
@@ -115,10 +128,10 @@ units_shown version s g =
     length-map us unit_row ∙ length-nodes s.catalogue.forest in
     let few = g.units.few in
     let same_count : size f ≡ size s.catalogue.forest =
-    sym (length-nodes f) ∙ (ap length ids ∙ (length-map us number_of ∙ length-nodes s.catalogue.forest)) in
+    sym (length-nodes f) ∙ (ap length ids ∙ (length-map us unit_number ∙ length-nodes s.catalogue.forest)) in
     let next = g.units.next in
     let numbers : (u : ℕ) → In u (nodes f) → is_unit_number u ≡ true = λ u i.
-    let r = in_map number_of us u (subst (In u) ids i) in
+    let r = in_map unit_number us u (subst (In u) ids i) in
     let given = each_in (λ (unit : Unit). (1 ≤ unit.id) × (unit.id < s.catalogue.next)) us r.it g.units.given r.there in
     subst (λ n. is_unit_number n ≡ true) r.is (between 1 most_unit_numbers r.it.id given.0 (omega (arith, given, next))) in
     let t = tables version s in
@@ -130,8 +143,8 @@ units_shown version s g =
     record {
       places = places_shown (encoding version) f apart numbers (omega (arith, few, same_count));
       units = and_from (list_all (is_good_unit_row s.catalogue.next) (map unit_row us)) _ rows
-          (and_from (all_stand_in (place_numbers (tables version s).catalogue.places) (unit_numbers (tables version s).catalogue)) _ (ap (λ ns. all_stand_in ns (unit_numbers (tables version s).catalogue)) placed ∙ (ap (all_stand_in (map number_of us)) told ∙ stand_in_themselves (map number_of us)))
-          (and_from (all_stand_in (unit_numbers (tables version s).catalogue) (place_numbers (tables version s).catalogue.places)) _ (ap (λ ns. all_stand_in ns (place_numbers (tables version s).catalogue.places)) told ∙ (ap (all_stand_in (map number_of us)) placed ∙ stand_in_themselves (map number_of us)))
+          (and_from (all_stand_in (place_numbers (tables version s).catalogue.places) (unit_numbers (tables version s).catalogue)) _ (ap (λ ns. all_stand_in ns (unit_numbers (tables version s).catalogue)) placed ∙ (ap (all_stand_in (map unit_number us)) told ∙ stand_in_themselves (map unit_number us)))
+          (and_from (all_stand_in (unit_numbers (tables version s).catalogue) (place_numbers (tables version s).catalogue.places)) _ (ap (λ ns. all_stand_in ns (place_numbers (tables version s).catalogue.places)) told ∙ (ap (all_stand_in (map unit_number us)) placed ∙ stand_in_themselves (map unit_number us)))
           (and_from (nat_le (length (map unit_row us)) most_units) (nat_le (height (places_said t.catalogue.places)) most_deep) (le-leb (length (map unit_row us)) most_units (omega (arith, few, count))) (le-leb (height (places_said t.catalogue.places)) most_deep deep))));
       numbers = subst (IsDistinct nat_eq) (sym told) g.units.ids;
       names = names_shown us g.units.pairs;

@@ -1,12 +1,25 @@
 -- What the desk's commands do to the rows of orders, and what the rows say.
-use Rattle.std.proofs.Common.{◌≡◌, ◌≢◌, ℕ, zero, suc, ◌+◌, ◌<◌, ◌≤◌, Bool, true, false, cond, ◌&&◌, ◌||◌, List, [], ◌∷◌, length, Option, Some, None, Ok, refl, sym, ap, ◌∙◌, subst, inl, inr, arith}
+use Rattle.std.proofs.Common.{◌≡◌, ◌≢◌, ℕ, zero, suc, ◌+◌, ◌<◌, ◌≤◌, Bool, true, false, cond, ◌&&◌, ◌||◌, List, [], ◌∷◌}
+use Rattle.std.proofs.Common.{length, Option, Some, None, Ok, refl, sym, ap, ◌∙◌, subst, inl, inr, arith}
 use Rattle.std.specs.Prelude.{nat_eq, map, filter_map, unwrap_or}
-use Rattle.office_core.specs.Words.{stands}
 use Rattle.desk_core.specs.declared.reader.Place.TheVariants.{Desk}
+use Rattle.office_core.proofs.PassedChecks.{passed_issue}
+use Rattle.office_core.proofs.Steps.{step_at}
+use Rattle.office_core.specs.Words.{stands}
 use Rattle.office_core.specs.declared.command.Command.TheVariants as command
 use Rattle.office_core.specs.declared.done.Done.TheVariants as done
-use Rattle.office_core.proofs.Steps.{held_so, step_at}
-use Rattle.state_encoding.proofs.Common.{AllByRecursion, AreFiled, AreGoodPlaces, Cancelled, Done, End, Ended, ExactlyOne, HoldingRow, IsAscending, IsFiled, IsSoundDesk, OneRowChanges, OnlyMoves, Order, OrderRow, Out, Place, ReadsBack, Reply, Shelf, Standing, State, Waiting, WithItsReader, and_parts, below_none, cases_Bool, cases_eq, cons_option, container_of, containers, end_of, eqb-true, false≢true, filter, first, fun_ext, goes_same, holding_row, holding_rows, is_by, is_desk, is_issued, is_out_for, is_some, issued, no_order, none_to, nth, numbered_from_one, numbered_within, numbers_to, only_issues, option_and_then, option_map, or_cases, order_from, order_row, order_rows, other_number, past_in, place_in, reader_from, reader_row, rows_from, same_number, slice_get, some_and, standing, stands_as, stands_out, stands_waiting, state_number, step, waiting, waiting_for, waiting_stands, with_state}
+use Rattle.state_encoding.proofs.Common.{AllByRecursion, AreFiled, AreGoodPlaces, Cancelled, Done, End, Ended}
+use Rattle.state_encoding.proofs.Common.{ExactlyOne, HoldingRow, IsAscending, IsFiled, IsSoundDesk, OneRowChanges}
+use Rattle.state_encoding.proofs.Common.{OnlyMoves, Order, OrderRow, Out, Place, ReadsBack, Reply, Shelf, Standing}
+use Rattle.state_encoding.proofs.Common.{State, Waiting, WithItsReader, and_parts, below_none, cases_Bool, cases_eq}
+use Rattle.state_encoding.proofs.Common.{cons_option, container_of, containers, end_of_state, eqb-true, false≢true}
+use Rattle.state_encoding.proofs.Common.{filter, first, fun_ext, goes_same, holding_row, holding_rows, is_by, is_desk}
+use Rattle.state_encoding.proofs.Common.{is_issued, is_out_for, is_some, issued, no_order, none_to, nth}
+use Rattle.state_encoding.proofs.Common.{numbered_from_one, numbered_within, numbers_to, only_issues, option_and_then}
+use Rattle.state_encoding.proofs.Common.{option_map, or_cases, order_from, order_row, order_rows, other_number, past_in}
+use Rattle.state_encoding.proofs.Common.{place_in, reader_from, reader_row, rows_from, same_number, slice_get, some_and}
+use Rattle.state_encoding.proofs.Common.{standing, stands_as, stands_out, stands_waiting, state_number, step, waiting}
+use Rattle.state_encoding.proofs.Common.{waiting_for, waiting_stands, with_state}
 
 -- where one order moves, one row changes
 
@@ -239,7 +252,7 @@ rows_get row n (x ∷ xs) zero = let e : n ≡ n + 0 = omega arith in ap (λ k. 
 rows_get row n (x ∷ xs) (suc j) = let e : suc n + j ≡ n + suc j = omega arith in rows_get row (suc n) xs j ∙ ap (λ k. option_map (row k) (slice_get xs j)) e
 
 end_at : (a b : Bool) (p : Option End) → ExactlyOne a b (is_some p)
-    → end_of (state_number (cond a (Some Waiting) (cond b (Some WithItsReader) (option_map Ended p)))) ≡ p
+    → end_of_state (state_number (cond a (Some Waiting) (cond b (Some WithItsReader) (option_map Ended p)))) ≡ p
 end_at true false None x = refl
 end_at false true None x = refl
 end_at false false (Some Done) x = refl
@@ -251,11 +264,11 @@ end_at false true (Some p) x = absurd x
 end_at false false None x = absurd x
 
 end_is : (k : Option ℕ) (w h : ℕ → Bool) (p : Option End) (c : ℕ) → k ≡ Some c → IsFiled k w h p
-    → end_of (state_number (stands_as k w h p)) ≡ p
-end_is k w h p c e f = let g = subst (λ k. IsFiled k w h p) e f in ap (λ k. end_of (state_number (stands_as k w h p))) e ∙ end_at (w c) (h c) p g.0
+    → end_of_state (state_number (stands_as k w h p)) ≡ p
+end_is k w h p c e f = let g = subst (λ k. IsFiled k w h p) e f in ap (λ k. end_of_state (state_number (stands_as k w h p))) e ∙ end_at (w c) (h c) p g.0
 
 past_row : (s : State) (o : ℕ) (r : Option Order) → AreFiled s → nth s.orders o ≡ r
-    → option_and_then (λ row. end_of row.state) (option_map (order_row s o) r) ≡ s.past o
+    → option_and_then (λ row. end_of_state row.state) (option_map (order_row s o) r) ≡ s.past o
 past_row s o None f e =
     let none = ap (option_map (λ order. order.container)) e in
     sym (no_order (container_of s o) (λ c. stands o (s.queue c)) (λ c. is_out_for o (s.place c)) (s.past o) none (f.each o)).2
@@ -266,7 +279,7 @@ past_is : (s : State) → AreFiled s → (o : ℕ) → past_in (order_rows s) o 
 past_is s f zero = past_row s zero None f refl
 past_is s f (suc j) =
     let e : 1 + j ≡ suc j = omega arith in
-    ap (option_and_then (λ row. end_of row.state)) (rows_get (order_row s) 1 s.orders j ∙ ap (λ k. option_map (order_row s k) (slice_get s.orders j)) e)
+    ap (option_and_then (λ row. end_of_state row.state)) (rows_get (order_row s) 1 s.orders j ∙ ap (λ k. option_map (order_row s k) (slice_get s.orders j)) e)
     ∙ past_row s (suc j) (nth s.orders (suc j)) f refl
 
 pub rows_back : {X Y : Type 0} (row : ℕ → X → Y) (back : Y → X) → ((n : ℕ) (x : X) → back (row n x) ≡ x)
@@ -301,7 +314,7 @@ pub issue_rows : (s : State) (c t o : ℕ) → AreFiled s → (step s (command.I
 issue_rows s c t o f =
     step_at (λ u reply. reply ≡ Ok (done.Issue o) → order_rows u ≡ with_state o 2 (order_rows s)) s (command.Issue c t)
     (λ why r. absurd (cc))
-    (λ ok r. issue_rows_at s c t o (s.queue c) refl (held_so (is_desk (s.place c)) _ ok.1.0) (held_so (some_and (is_by s t) (first (s.queue c))) _ ok.1.1.0) f r)
+    (λ ok r. issue_rows_at s c t o (s.queue c) refl (passed_issue s c t ok).at_desk (passed_issue s c t ok).first_waits f r)
 
 pub one_row_changes : (s : State) → IsSoundDesk s → OneRowChanges s
 one_row_changes s g = record { issue = λ c t o. issue_rows s c t o g.filed }

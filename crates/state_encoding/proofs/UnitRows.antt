@@ -1,10 +1,18 @@
 -- The units are what their rows say.
-use Rattle.std.proofs.Common.{◌≡◌, ℕ, zero, suc, ◌+◌, ◌<◌, Bool, true, false, cond, ◌&&◌, List, [], ◌∷◌, ◌++◌, length, Option, Some, None, refl, sym, ap, ◌∙◌, subst, inl, inr, arith}
-use Rattle.std.specs.Prelude.{nat_eq, nat_lt, map, filter_map, unwrap_or}
+use Rattle.std.proofs.Common.{◌≡◌, ℕ, zero, suc, ◌+◌, ◌<◌, Bool, true, false, cond, ◌&&◌, List, [], ◌∷◌, ◌++◌, length}
+use Rattle.std.proofs.Common.{Option, Some, None, refl, sym, ap, ◌∙◌, subst, inl, inr, arith}
 use Rattle.std.specs.List.{IsDistinct}
-use Rattle.isad_core.specs.Boxes.{is_same as is_same_box}
-use Rattle.catalogue_core.specs.CatalogueMerge.{number_in}
-use Rattle.state_encoding.proofs.Common.{AllByRecursion, BoxKey, Bytes, ElementRow, Empty, Forest, HousingRow, IsGoodUnit, IsPermutation-refl, Links, Node, OfficeRows, SaysUnits, Spans, State, TreeEncoding, Unit, UnitRow, Version, after_level, and_parts, box_at, box_from, box_itself, box_number, boxes_from, boxes_from_rows, cons_option, container_row, each, element_rows_from, encoding, false≢true, filter, filter-append, find, flat_map, flat_map-cons, fun_ext, housing_row, list_all, list_any, nodes, nodes-each, nth, number_of, numbers_from, option_map, or_cases, other_number, place_rows, places_said, rows_from, same_box, same_number, siblings, slice_get, tables, text_said, unit_from, unit_from_rows, unit_row, values_from_rows}
+use Rattle.std.specs.Prelude.{nat_eq, nat_lt, map, filter_map, unwrap_or}
+use Rattle.state_encoding.proofs.Common.{AllByRecursion, BoxKey, Bytes, ElementRow, Empty, Forest, HousingRow}
+use Rattle.state_encoding.proofs.Common.{IsGoodUnit, IsPermutation-refl, Links, Node, OfficeRows, SaysUnits, Spans}
+use Rattle.state_encoding.proofs.Common.{State, TreeEncoding, Unit, UnitRow, Version, after_level, and_parts, box_at}
+use Rattle.state_encoding.proofs.Common.{box_from, box_itself, box_number, boxes_from, boxes_from_rows, cons_option}
+use Rattle.state_encoding.proofs.Common.{container_row, each, element_rows_from, encoding, false≢true, filter}
+use Rattle.state_encoding.proofs.Common.{filter-append, find, flat_map, flat_map-cons, fun_ext, housing_row}
+use Rattle.state_encoding.proofs.Common.{is_same_box, list_all, list_any, nodes, nodes-each, nth, number_among}
+use Rattle.state_encoding.proofs.Common.{numbers_from, option_map, or_cases, other_number, place_rows, places_said}
+use Rattle.state_encoding.proofs.Common.{rows_from, same_box, same_number, siblings, slice_get, tables, text_said}
+use Rattle.state_encoding.proofs.Common.{unit_from, unit_from_rows, unit_number, unit_row, values_from_rows}
 use Rattle.state_encoding.proofs.TableLaws.{rows_back}
 use Rattle.state_encoding.proofs.Nested.{spans_say}
 use Rattle.state_encoding.proofs.Linked.{links_say}
@@ -16,7 +24,7 @@ apart_head : (x : ℕ) (xs : List ℕ) → IsDistinct nat_eq (x ∷ xs)
 unfolding IsDistinct
 apart_head x xs h = (h.0, h.1)
 
-of_units : (P : ℕ → Type 0) (us : List Unit) → AllByRecursion P (map number_of us) → AllByRecursion (λ u. P u.id) us
+of_units : (P : ℕ → Type 0) (us : List Unit) → AllByRecursion P (map unit_number us) → AllByRecursion (λ u. P u.id) us
 of_units P [] h = tt
 of_units P (u ∷ us) h = (h.0, of_units P us h.1)
 
@@ -25,11 +33,11 @@ all_two : (P Q R : Unit → Type 0) → ((u : Unit) → P u → Q u → R u) →
 all_two P Q R f [] p q = tt
 all_two P Q R f (u ∷ us) p q = (f u p.0 q.0, all_two P Q R f us p.1 q.1)
 
-pub rows_found : (us : List Unit) → IsDistinct nat_eq (map number_of us)
+pub rows_found : (us : List Unit) → IsDistinct nat_eq (map unit_number us)
     → AllByRecursion (λ u. find (λ (row : UnitRow). nat_eq row.id u.id) (map unit_row us) ≡ Some (unit_row u)) us
 rows_found [] d = tt
 rows_found (u ∷ us) d =
-    let h = apart_head u.id (map number_of us) d in (
+    let h = apart_head u.id (map unit_number us) d in (
       ap (λ b. cond b (Some (unit_row u)) (find (λ (row : UnitRow). nat_eq row.id u.id) (map unit_row us))) (same_number u.id),
       all_two (λ v. nat_eq u.id v.id ≡ false) (λ v. find (λ (row : UnitRow). nat_eq row.id v.id) (map unit_row us) ≡ Some (unit_row v)) (λ v. find (λ (row : UnitRow). nat_eq row.id v.id) (map unit_row (u ∷ us)) ≡ Some (unit_row v))
           (λ v e f. ap (λ b. cond b (Some (unit_row u)) (find (λ (row : UnitRow). nat_eq row.id v.id) (map unit_row us))) e ∙ f) us (of_units (λ n. nat_eq u.id n ≡ false) us h.0) (rows_found us h.1),
@@ -64,11 +72,11 @@ module _ {R : Type 0} (key : R → ℕ) (rows : Unit → List R) (own : (u : Uni
   flip : (n m : ℕ) → nat_eq n m ≡ false → nat_eq m n ≡ false
   flip n m e = other_number m n (λ s. false≢true (sym e ∙ (ap (λ k. nat_eq n k) s ∙ same_number n)))
 
-  pub own_rows : (us : List Unit) → IsDistinct nat_eq (map number_of us)
+  pub own_rows : (us : List Unit) → IsDistinct nat_eq (map unit_number us)
       → AllByRecursion (λ u. filter (λ r. nat_eq (key r) u.id) (flat_map rows us) ≡ rows u) us
   own_rows [] d = tt
   own_rows (v ∷ us) d =
-      let h = apart_head v.id (map number_of us) d in
+      let h = apart_head v.id (map unit_number us) d in
       let apart = of_units (λ n. nat_eq v.id n ≡ false) us h.0 in (
         ap (filter (λ r. nat_eq (key r) v.id)) (flat_map-cons rows v us)
             ∙ (filter-append (λ r. nat_eq (key r) v.id) (rows v) (flat_map rows us)
@@ -140,13 +148,13 @@ texts_back u k (Some text ∷ texts) =
 -- ---- the containers of a unit
 
 pub number_there : (boxes : List BoxKey) (b : BoxKey) → list_any (is_same_box b) boxes ≡ true
-    → (n : ℕ) × (number_in boxes b ≡ Some (suc n)) × (slice_get boxes n ≡ Some b)
+    → (n : ℕ) × (number_among boxes b ≡ Some (suc n)) × (slice_get boxes n ≡ Some b)
 number_there [] b h = absurd (false≢true h)
 number_there (c ∷ boxes) b h = at (is_same_box c b) refl (number_there boxes b)
   where
     at : (x : Bool) → is_same_box c b ≡ x
-        → (list_any (is_same_box b) boxes ≡ true → (n : ℕ) × (number_in boxes b ≡ Some (suc n)) × (slice_get boxes n ≡ Some b))
-        → (n : ℕ) × (cond x (Some 1) (option_map suc (number_in boxes b)) ≡ Some (suc n)) × (slice_get (c ∷ boxes) n ≡ Some b)
+        → (list_any (is_same_box b) boxes ≡ true → (n : ℕ) × (number_among boxes b ≡ Some (suc n)) × (slice_get boxes n ≡ Some b))
+        → (n : ℕ) × (cond x (Some 1) (option_map suc (number_among boxes b)) ≡ Some (suc n)) × (slice_get (c ∷ boxes) n ≡ Some b)
     at true e f = (0, refl, ap Some (same_box c b e))
     at false e f =
         let r = f (elim (or_cases (is_same_box b c) (list_any (is_same_box b) boxes) h) [
@@ -229,7 +237,7 @@ all_three P Q R S f (u ∷ us) p q r = (f u p.0 q.0 r.0, all_three P Q R S f us 
 abbrev ElementsOf : OfficeRows → Unit → Type 0
 ElementsOf t u = filter (λ (r : ElementRow). nat_eq r.unit u.id) t.catalogue.elements ≡ element_rows_from u.id 1 u.values.texts
 
-pub all_rows : (version : Version) (s : State) → IsDistinct nat_eq (map number_of (nodes s.catalogue.forest))
+pub all_rows : (version : Version) (s : State) → IsDistinct nat_eq (map unit_number (nodes s.catalogue.forest))
     → AllByRecursion (HasRows (tables version s) s.catalogue.containers) (nodes s.catalogue.forest)
 all_rows version s d =
     let us = nodes s.catalogue.forest in
@@ -255,17 +263,17 @@ each_same g (Node u c o) h =
     let r = split (λ u. g u ≡ u) (nodes c) (nodes o) h.1 in
     ap (λ v. Node v (each g c) (each g o)) h.0 ∙ (ap (λ k. Node u k (each g o)) (each_same g c r.0) ∙ ap (λ k. Node u c k) (each_same g o r.1))
 
-places_back : (way : TreeEncoding) (f : Forest Unit) → IsDistinct nat_eq (map number_of (nodes f))
-    → places_said (place_rows way (each number_of f)) ≡ each number_of f
-places_back Links f d = links_say (each number_of f) (siblings (each number_of f)) (record { distinct = subst (IsDistinct nat_eq) (sym (nodes-each number_of f)) d; rows = IsPermutation-refl (siblings (each number_of f)) })
-places_back Spans f d = spans_say (each number_of f)
+places_back : (way : TreeEncoding) (f : Forest Unit) → IsDistinct nat_eq (map unit_number (nodes f))
+    → places_said (place_rows way (each unit_number f)) ≡ each unit_number f
+places_back Links f d = links_say (each unit_number f) (siblings (each unit_number f)) (record { distinct = subst (IsDistinct nat_eq) (sym (nodes-each unit_number f)) d; rows = IsPermutation-refl (siblings (each unit_number f)) })
+places_back Spans f d = spans_say (each unit_number f)
 
-pub units_back : (version : Version) (s : State) → IsDistinct nat_eq (map number_of (nodes s.catalogue.forest))
+pub units_back : (version : Version) (s : State) → IsDistinct nat_eq (map unit_number (nodes s.catalogue.forest))
     → AllByRecursion (IsGoodUnit s.catalogue.containers) (nodes s.catalogue.forest) → SaysUnits version s
 units_back version s d g =
     let t = tables version s in
     let c = rows_back container_row box_from (λ n box. refl) 1 s.catalogue.containers in
     ap (each (unit_from_rows t.catalogue)) (places_back (encoding version) s.catalogue.forest d)
-    ∙ (each_each number_of (unit_from_rows t.catalogue) s.catalogue.forest
+    ∙ (each_each unit_number (unit_from_rows t.catalogue) s.catalogue.forest
     ∙ each_same (λ u. unit_from_rows t.catalogue u.id) s.catalogue.forest
     (all_two (HasRows t s.catalogue.containers) (IsGoodUnit s.catalogue.containers) (λ u. unit_from_rows t.catalogue u.id ≡ u) (λ u h k. unit_back t s.catalogue.containers u c h k) (nodes s.catalogue.forest) (all_rows version s d) g))

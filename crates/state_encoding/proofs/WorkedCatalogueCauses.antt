@@ -1,9 +1,9 @@
 -- What the causes 1 to 5 say of a small office, computed.
 use Rattle.std.proofs.Common.{refl}
 use Rattle.catalogue_core.specs.ContainerContents.{is_open}
-use Rattle.state_encoding.specs.WorkedCatalogueCauses.{Told}
+use Rattle.state_encoding.specs.WorkedCatalogueCauses.{CatalogueCausesTold}
 
-pub told : Told
+pub told : CatalogueCausesTold
 unfolding is_open
 told =
     record {

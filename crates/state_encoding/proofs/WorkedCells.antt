@@ -1,8 +1,8 @@
 -- What is told of rows with a cell that its column cannot have, computed.
 use Rattle.std.proofs.Common.{refl}
-use Rattle.state_encoding.specs.WorkedCells.{Told}
+use Rattle.state_encoding.specs.WorkedCells.{CellCausesTold}
 
-pub told : Told
+pub told : CellCausesTold
 told =
     record {
       second_office = refl;

@@ -1,9 +1,9 @@
 -- What the causes say of a small office, computed.
 use Rattle.std.proofs.Common.{refl}
 use Rattle.catalogue_core.specs.ContainerContents.{is_open}
-use Rattle.state_encoding.specs.WorkedDeskCauses.{Told}
+use Rattle.state_encoding.specs.WorkedDeskCauses.{DeskCausesTold}
 
-pub told : Told
+pub told : DeskCausesTold
 unfolding is_open
 told =
     record {

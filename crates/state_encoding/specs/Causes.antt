@@ -1,15 +1,19 @@
 -- Why the rows of all tables represent no sound state: the list of ten causes, and the number of the first that holds.
-use Rattle.std.specs.Prelude.{ℕ, ◌+◌, Bool, not, ◌&&◌, List, [], ◌∷◌, ◌++◌, Option, option_and_then, option_map, nat_eq, nat_le}
+use Rattle.std.specs.Prelude.{ℕ, ◌+◌, Bool, not, ◌&&◌, List, [], ◌∷◌, ◌++◌, Option, option_and_then, option_map, nat_eq}
+use Rattle.std.specs.Prelude.{nat_le}
 use Rattle.std.specs.List.{list_any}
 use Rattle.isad_core.specs.Days.{is_day_number}
 use Rattle.isad_core.specs.Limits.{most_daily, most_hands, most_run_size, most_seats, most_unit_numbers}
 use Rattle.isad_core.specs.Words.{is_between, some_and}
 use Rattle.office_tables.specs.Versions.{Version, version_number, encoding}
-use Rattle.desk_core.specs.DeskCauses.{Around, readers_are_bad, orders_are_bad, holdings_are_bad, runs_are_bad, MeetsDeskKeys}
+use Rattle.desk_core.specs.DeskCauses.{Around, readers_are_bad, orders_are_bad, holdings_are_bad, runs_are_bad}
+use Rattle.desk_core.specs.DeskCauses.{MeetsDeskKeys}
 use Rattle.catalogue_core.specs.CatalogueRows.{OfficeRow, UnitRow, ContainerRow}
-use Rattle.catalogue_core.specs.CatalogueCauses.{places_are_bad, units_are_bad, elements_are_bad, containers_are_bad, MeetsCatalogueKeys}
+use Rattle.catalogue_core.specs.CatalogueCauses.{places_are_bad, units_are_bad, elements_are_bad, containers_are_bad}
+use Rattle.catalogue_core.specs.CatalogueCauses.{MeetsCatalogueKeys}
 use Rattle.office_core.specs.Words.{nth, place_of}
-use Rattle.office_core.specs.State.{State, containers, is_seated, held_count, opens, order_out}
+use Rattle.desk_core.specs.Decisions.{order_out}
+use Rattle.office_core.specs.State.{State, containers, is_seated, held_count, opens}
 use Rattle.office_core.specs.Soundness.{is_country, is_repository}
 use Rattle.state_encoding.specs.OfficeRows.{OfficeRows, state_of}
 

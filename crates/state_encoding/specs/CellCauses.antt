@@ -10,7 +10,8 @@ use Rattle.office_tables.specs.Schema as tables
 use Rattle.office_tables.specs.Cells.{has_unread}
 use Rattle.office_tables.specs.CatalogueCells.{read_office, read_unit, read_element}
 use Rattle.office_tables.specs.DeskCells.{read_order, read_holding}
-use Rattle.row_decoding.specs.TableRows.{catalogue_in, desk_in, places_are_unread, containers_are_unread, registration_is_unread, runs_are_unread}
+use Rattle.row_decoding.specs.TableRows.{catalogue_in, desk_in, places_are_unread, containers_are_unread}
+use Rattle.row_decoding.specs.TableRows.{registration_is_unread, runs_are_unread}
 use Rattle.state_encoding.specs.OfficeRows.{OfficeRows}
 use Rattle.state_encoding.specs.Causes.{catalogue_tests, first_held, desk_tests}
 

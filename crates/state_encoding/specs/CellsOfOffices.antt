@@ -11,8 +11,10 @@ use Rattle.office_core.specs.SoundOffice.{IsSoundOffice}
 use Rattle.office_tables.specs.Schema as tables
 use Rattle.office_tables.specs.RowNumbers.{HasNumbered}
 use Rattle.office_tables.specs.Permits.{permit_cells}
-pub use Rattle.office_tables.specs.RowCells.{unit_cells, element_cells, container_cells, housing_cells, link_cells, span_cells}
-pub use Rattle.office_tables.specs.RowCells.{reader_cells, seat_cells, order_cells, holding_cells, run_cells, run_line_cells}
+pub use Rattle.office_tables.specs.RowCells.{unit_cells, element_cells, container_cells, housing_cells, link_cells}
+pub use Rattle.office_tables.specs.RowCells.{span_cells}
+pub use Rattle.office_tables.specs.RowCells.{reader_cells, seat_cells, order_cells, holding_cells, run_cells}
+pub use Rattle.office_tables.specs.RowCells.{run_line_cells}
 use Rattle.office_tables.specs.SharedRows.{office_cells}
 use Rattle.state_encoding.specs.Causes.{first_held, MeetsKeys}
 use Rattle.state_encoding.specs.CellCauses.{rows_in, unread, cell_cause}
@@ -22,29 +24,29 @@ use Rattle.state_encoding.specs.OfficeRows.{OfficeRows, tables as tables_of, sta
 -- ---- the trees that represent an office
 
 -- the table has these rows, in any order
-pub record HasRows {R : Type 0} (cells : R → Row) (there : List Row) (rows : List R) : Type 0 where
+pub record HasRowsInAnyOrder {R : Type 0} (cells : R → Row) (there : List Row) (rows : List R) : Type 0 where
   pub stored : List R
   pub are : there ≡ map cells stored
   pub tell : IsPermutation rows stored
 
 -- the table of the places has the rows of the version
 abbrev pub HasPlaces : Trees → PlaceRows → Type 0
-HasPlaces db (LinkRows links) = HasRows link_cells (db tables.link.tree) links
-HasPlaces db (SpanRows spans) = HasRows span_cells (db tables.span.tree) spans
+HasPlaces db (LinkRows links) = HasRowsInAnyOrder link_cells (db tables.link.tree) links
+HasPlaces db (SpanRows spans) = HasRowsInAnyOrder span_cells (db tables.span.tree) spans
 
 pub record HasCatalogue (db : Trees) (c : CatalogueRows) : Type 0 where
-  pub units : HasRows unit_cells (db tables.unit.tree) c.units
+  pub units : HasRowsInAnyOrder unit_cells (db tables.unit.tree) c.units
   pub places : HasPlaces db c.places
   pub elements : HasNumbered element_cells (db tables.element.tree) c.elements
-  pub containers : HasRows container_cells (db tables.container.tree) c.containers
+  pub containers : HasRowsInAnyOrder container_cells (db tables.container.tree) c.containers
   pub housings : HasNumbered housing_cells (db tables.housing.tree) c.housings
 
 pub record HasDesk (db : Trees) (d : Desk) : Type 0 where
-  pub readers : HasRows reader_cells (db tables.reader.tree) d.readers
-  pub seats : HasRows seat_cells (db tables.seat.tree) d.seats
-  pub orders : HasRows order_cells (db tables.orders.tree) d.orders
-  pub holdings : HasRows holding_cells (db tables.holding.tree) d.holdings
-  pub runs : HasRows run_cells (db tables.run.tree) d.runs
+  pub readers : HasRowsInAnyOrder reader_cells (db tables.reader.tree) d.readers
+  pub seats : HasRowsInAnyOrder seat_cells (db tables.seat.tree) d.seats
+  pub orders : HasRowsInAnyOrder order_cells (db tables.orders.tree) d.orders
+  pub holdings : HasRowsInAnyOrder holding_cells (db tables.holding.tree) d.holdings
+  pub runs : HasRowsInAnyOrder run_cells (db tables.run.tree) d.runs
   pub run_lines : HasNumbered run_line_cells (db tables.run_line.tree) d.run_lines
   pub permits : HasNumbered permit_cells (db tables.permit.tree) d.permits
 
@@ -54,12 +56,12 @@ pub record HasTables (db : Trees) (t : OfficeRows) : Type 0 where
   pub desk : HasDesk db t.desk
 
 -- the tables of this version represent the state
-abbrev pub RepresentsState : Version → Trees → State → Type 0
-RepresentsState version db s = HasTables db (tables_of version s)
+abbrev pub HasTablesOf : Version → Trees → State → Type 0
+HasTablesOf version db s = HasTables db (tables_of version s)
 
 -- some trees represent the state
 abbrev pub IsRepresentedByTrees : Version → State → Type 0
-IsRepresentedByTrees version s = (db : Trees) × RepresentsState version db s
+IsRepresentedByTrees version s = (db : Trees) × HasTablesOf version db s
 
 -- ---- what is read of a sound office
 
@@ -70,13 +72,13 @@ pub record IsRead (version : Version) (db : Trees) (s : State) : Type 0 where
   pub desk : (rows_in version db).desk ≡ (tables_of version s).desk
 
 abbrev pub SoundOfficesAreRead : Version → Trees → State → Type 0
-SoundOfficesAreRead version db s = RepresentsState version db s → IsSoundOffice s → IsRead version db s
+SoundOfficesAreRead version db s = HasTablesOf version db s → IsSoundOffice s → IsRead version db s
 
 -- the tables meet the keys, have no cause, and describe the state
-pub record IsTold (version : Version) (db : Trees) (s : State) : Type 0 where
+pub record TablesDescribe (version : Version) (db : Trees) (s : State) : Type 0 where
   pub keys : MeetsKeys (rows_in version db)
   pub causes : cell_cause version db ≡ None
   pub state : state_of (rows_in version db) ≡ s
 
 abbrev pub SoundOfficesAreTold : Version → Trees → State → Type 0
-SoundOfficesAreTold version db s = RepresentsState version db s → IsSoundOffice s → IsTold version db s
+SoundOfficesAreTold version db s = HasTablesOf version db s → IsSoundOffice s → TablesDescribe version db s

@@ -1,9 +1,11 @@
 -- The rows of the desk's tables that represent a state, and what is read back from rows.
-use Rattle.std.specs.Prelude.{◌≡◌, ℕ, suc, ◌++◌, Ok, cond, List, [], ◌∷◌, map, filter_map, length, Option, Some, None, option_and_then, unwrap_or, nat_eq}
+use Rattle.std.specs.Prelude.{◌≡◌, ℕ, suc, ◌++◌, Ok, cond, List, [], ◌∷◌, map, filter_map, length, Option, Some, None}
+use Rattle.std.specs.Prelude.{option_and_then, unwrap_or, nat_eq}
 use Rattle.std.specs.List.{flat_map}
 use Rattle.desk_core.specs.declared.reader.Place.{Place}
 use Rattle.desk_core.specs.declared.reader.Place.TheVariants.{Shelf, Desk, Out}
-use Rattle.desk_core.specs.DeskRows.{ReaderRow, SeatRow, OrderRow, with_state, waiting_for, HoldingRow, RunRow, RunLineRow, PermitRow}
+use Rattle.desk_core.specs.DeskRows.{ReaderRow, SeatRow, OrderRow, with_state, waiting_for, HoldingRow, RunRow}
+use Rattle.desk_core.specs.DeskRows.{RunLineRow, PermitRow}
 use Rattle.office_core.specs.declared.command.Command.TheVariants as command
 use Rattle.office_core.specs.declared.done.Done.TheVariants as done
 use Rattle.office_core.specs.Words.{nth, numbers_to}
@@ -103,11 +105,11 @@ abbrev pub place_in : List HoldingRow → ℕ → Place
 place_in [] c = Shelf
 place_in (row ∷ rows) c = cond (nat_eq row.container c) (place_from row) (place_in rows c)
 
-abbrev pub end_of : ℕ → Option End
-end_of state = cond (nat_eq state 3) (Some Done) (cond (nat_eq state 4) (Some Cancelled) None)
+abbrev pub end_of_state : ℕ → Option End
+end_of_state state = cond (nat_eq state 3) (Some Done) (cond (nat_eq state 4) (Some Cancelled) None)
 
 abbrev pub past_in : List OrderRow → ℕ → Option End
-past_in rows o = option_and_then (λ row. end_of row.state) (nth rows o)
+past_in rows o = option_and_then (λ row. end_of_state row.state) (nth rows o)
 
 -- The rows contain the readers, the orders, where each container is, who waits for it, and how each order ended.
 pub record ReadsBack (s : State) : Type 0 where

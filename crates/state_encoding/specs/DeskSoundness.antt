@@ -35,7 +35,7 @@ SoundTablesPass version s = IsSound s → PassesAtTheDesk (tables version s)
 
 -- what rows without the causes 1 to 5 have: the containers are numbered and distinct, and the units of the rows have
 -- places
-pub record HasGoodCatalogue (t : OfficeRows) : Type 0 where
+pub record HasGoodCatalogueRows (t : OfficeRows) : Type 0 where
   pub containers : are_numbered_from (λ (row : ContainerRow). row.id) 1 t.catalogue.containers ≡ true
   pub apart : distinct (state_of t).catalogue.containers ≡ (state_of t).catalogue.containers
   pub placed : (u : ℕ) → is_unit_there t u ≡ true → has_unit (state_of t).catalogue.forest u ≡ true
@@ -65,4 +65,4 @@ pub record RepresentsSoundDesk (version : Version) (t : OfficeRows) : Type 0 whe
   pub rows : SaysDeskAgain version t
 
 abbrev pub PassingRowsAreSound : Version → OfficeRows → Type 0
-PassingRowsAreSound version t = HasGoodCatalogue t → PassesAtTheDesk t → RepresentsSoundDesk version t
+PassingRowsAreSound version t = HasGoodCatalogueRows t → PassesAtTheDesk t → RepresentsSoundDesk version t

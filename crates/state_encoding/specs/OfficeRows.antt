@@ -1,5 +1,6 @@
 -- All the rows that represent a state, in either version, and the state that rows describe.
-use Rattle.std.specs.Prelude.{◌≡◌, ℕ, zero, suc, false, List, [], ◌∷◌, length, map, filter, filter_map, find, Option, Some, None, option_map, unwrap_or, nat_eq}
+use Rattle.std.specs.Prelude.{◌≡◌, ℕ, zero, suc, false, List, [], ◌∷◌, length, map, filter, filter_map, find, Option}
+use Rattle.std.specs.Prelude.{Some, None, option_map, unwrap_or, nat_eq}
 use Rattle.std.specs.List.{flat_map}
 use Rattle.isad_core.specs.Texts.{Bytes}
 use Rattle.isad_core.specs.declared.values.BoxKey.{BoxKey}
@@ -8,11 +9,14 @@ use Rattle.tree_core.specs.Forest.{nodes, each}
 use Rattle.office_tables.specs.Versions.{Version, version_number, encoding}
 use Rattle.desk_core.specs.DeskRows.{Desk, SeatRow, waiting_for, RunRow, RunLineRow, PermitRow}
 use Rattle.catalogue_core.specs.Units.{Unit}
-use Rattle.catalogue_core.specs.CatalogueRows.{CatalogueRows, OfficeRow, UnitRow, unit_row, element_rows_from, container_row, HousingRow, housing_row, place_rows, places_said, box_from, text_said, housings_of}
+use Rattle.catalogue_core.specs.CatalogueRows.{CatalogueRows, OfficeRow, UnitRow, unit_row, element_rows_from}
+use Rattle.catalogue_core.specs.CatalogueRows.{container_row, HousingRow, housing_row, place_rows, places_said}
+use Rattle.catalogue_core.specs.CatalogueRows.{box_from, text_said, housings_of}
 use Rattle.office_core.specs.Words.{nth}
 use Rattle.office_core.specs.Laws.{numbers_from}
 use Rattle.office_core.specs.State.{Line, Run, Permit, State}
-use Rattle.state_encoding.specs.DeskEncoding.{rows_from, reader_rows, reader_from, seat_rows, order_rows, order_from, past_in, holding_rows, place_in, run_rows, run_line_rows, permit_rows}
+use Rattle.state_encoding.specs.DeskEncoding.{rows_from, reader_rows, reader_from, seat_rows, order_rows, order_from}
+use Rattle.state_encoding.specs.DeskEncoding.{past_in, holding_rows, place_in, run_rows, run_line_rows, permit_rows}
 
 -- ---- all tables
 
@@ -22,8 +26,8 @@ pub record OfficeRows : Type 0 where
   pub catalogue : CatalogueRows
   pub desk : Desk
 
-abbrev pub number_of : Unit → ℕ
-number_of unit = unit.id
+abbrev pub unit_number : Unit → ℕ
+unit_number unit = unit.id
 
 -- the rows that represent a state; a table has no other rows
 abbrev pub tables : Version → State → OfficeRows
@@ -42,7 +46,7 @@ tables version s =
       };
       catalogue = record {
         units = map unit_row (nodes s.catalogue.forest);
-        places = place_rows (encoding version) (each number_of s.catalogue.forest);
+        places = place_rows (encoding version) (each unit_number s.catalogue.forest);
         elements = flat_map (λ (unit : Unit). element_rows_from unit.id 1 unit.values.texts) (nodes s.catalogue.forest);
         containers = rows_from container_row 1 s.catalogue.containers;
         housings = flat_map (λ (unit : Unit). rows_from (housing_row s.catalogue.containers unit.id) 1 unit.values.boxes) (nodes s.catalogue.forest);

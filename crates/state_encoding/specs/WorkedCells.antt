@@ -13,39 +13,39 @@ use Rattle.state_encoding.specs.CellCauses.{unread, cell_cause}
 -- ---- tables
 
 -- a file with one row, in the table with this number
-abbrev pub only : ℕ → Row → Trees
-only tree row = λ other. cond (nat_eq other tree) (row ∷ []) []
+abbrev pub only_row : ℕ → Row → Trees
+only_row tree row = λ other. cond (nat_eq other tree) (row ∷ []) []
 
 -- whether this cause has a row that cannot be read, in a file with only this row
 abbrev pub is_unread : ℕ → ℕ → Row → Option Bool
-is_unread cause tree row = nth (unread First (only tree row)) cause
+is_unread cause tree row = nth (unread First (only_row tree row)) cause
 
 abbrev pub is_unread_span : Row → Option Bool
-is_unread_span row = nth (unread Second (only tables.span.tree row)) 2
+is_unread_span row = nth (unread Second (only_row tables.span.tree row)) 2
 
 abbrev pub text : Value
 text = Text (codes "a")
 
 -- the row of an office with this number, this version, these seats and this day
-abbrev pub office : ℤ → ℤ → Value → Value → Row
-office one version seats day =
+abbrev pub office_with_cells : ℤ → ℤ → Value → Value → Row
+office_with_cells one version seats day =
     Int one ∷ Null ∷ Int version ∷ Text (codes "GB") ∷ Text (codes "0999") ∷ seats ∷ Int (pos 2) ∷ Int (pos 1) ∷ Int (pos 2) ∷ day ∷ Int (pos 2) ∷ []
 
 abbrev pub minus : ℕ → Value
 minus n = Int (neg_ℤ (pos n))
 
 -- the row of unit 1 with this draft cell and this end of its closure
-abbrev pub unit : Value → Value → Row
-unit draft until = Int (pos 1) ∷ Null ∷ text ∷ text ∷ text ∷ until ∷ draft ∷ []
+abbrev pub unit_with_cells : Value → Value → Row
+unit_with_cells draft until = Int (pos 1) ∷ Null ∷ text ∷ text ∷ text ∷ until ∷ draft ∷ []
 
 -- ---- their causes
 
-pub record Told : Type 0 where
+pub record CellCausesTold : Type 0 where
   -- the office
-  pub second_office : cell_cause First (only tables.office.tree (office (pos 2) (pos 1) (Int (pos 2)) (Int (pos 20000)))) ≡ Some 1
-  pub version_below_0 : cell_cause First (only tables.office.tree (office (pos 1) (neg_ℤ (pos 7)) (Int (pos 2)) (Int (pos 20000)))) ≡ Some 1
-  pub seats_below_0 : cell_cause First (only tables.office.tree (office (pos 1) (pos 1) (minus 1) (Int (pos 20000)))) ≡ Some 1
-  pub no_day : cell_cause Second (only tables.office.tree (office (pos 1) (pos 2) (Int (pos 2)) Null)) ≡ Some 1
+  pub second_office : cell_cause First (only_row tables.office.tree (office_with_cells (pos 2) (pos 1) (Int (pos 2)) (Int (pos 20000)))) ≡ Some 1
+  pub version_below_0 : cell_cause First (only_row tables.office.tree (office_with_cells (pos 1) (neg_ℤ (pos 7)) (Int (pos 2)) (Int (pos 20000)))) ≡ Some 1
+  pub seats_below_0 : cell_cause First (only_row tables.office.tree (office_with_cells (pos 1) (pos 1) (minus 1) (Int (pos 20000)))) ≡ Some 1
+  pub no_day : cell_cause Second (only_row tables.office.tree (office_with_cells (pos 1) (pos 2) (Int (pos 2)) Null)) ≡ Some 1
   -- the places
   pub place_below_0 : is_unread 2 tables.link.tree (minus 1 ∷ Null ∷ Null ∷ Int (pos 1) ∷ []) ≡ Some true
   pub parent_below_0 : is_unread 2 tables.link.tree (Int (pos 1) ∷ Null ∷ minus 1 ∷ Int (pos 1) ∷ []) ≡ Some true
@@ -57,9 +57,9 @@ pub record Told : Type 0 where
   pub no_rgt : is_unread_span (Int (pos 1) ∷ Null ∷ Int (pos 1) ∷ Null ∷ []) ≡ Some true
   pub span : is_unread_span (Int (pos 1) ∷ Null ∷ Int (pos 1) ∷ Int (pos 2) ∷ []) ≡ Some false
   -- the units
-  pub draft_2 : is_unread 3 tables.unit.tree (unit (Int (pos 2)) Null) ≡ Some true
-  pub draft_below_0 : is_unread 3 tables.unit.tree (unit (minus 1) Null) ≡ Some true
-  pub until_a_text : is_unread 3 tables.unit.tree (unit (Int (pos 1)) text) ≡ Some true
+  pub draft_2 : is_unread 3 tables.unit.tree (unit_with_cells (Int (pos 2)) Null) ≡ Some true
+  pub draft_below_0 : is_unread 3 tables.unit.tree (unit_with_cells (minus 1) Null) ≡ Some true
+  pub until_a_text : is_unread 3 tables.unit.tree (unit_with_cells (Int (pos 1)) text) ≡ Some true
   -- the elements
   pub k_below_0 : is_unread 4 tables.element.tree (Int (pos 1) ∷ Int (pos 1) ∷ minus 2 ∷ text ∷ []) ≡ Some true
   pub no_value : is_unread 4 tables.element.tree (Int (pos 1) ∷ Int (pos 1) ∷ Int (pos 2) ∷ Null ∷ []) ≡ Some true

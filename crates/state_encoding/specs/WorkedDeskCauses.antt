@@ -1,7 +1,7 @@
 -- The rows of a small sound office, and which of the causes 6 to 10 hold after a few of them are changed.
 use Rattle.std.specs.Prelude.{◌≡◌, ℕ, suc, ℤ, pos, ◌+ℤ◌, ◌-ℤ◌, true, false, Bool, List, [], ◌∷◌, map, Some, None, codes}
 use Rattle.isad_core.specs.Limits.{first_day, last_day, most_permits}
-use Rattle.tree_core.specs.WorkedExamples.{link}
+use Rattle.tree_core.specs.WorkedExamples.{link_of}
 use Rattle.desk_core.specs.DeskRows.{Desk, ReaderRow, SeatRow, OrderRow, HoldingRow, RunLineRow, PermitRow}
 use Rattle.catalogue_core.specs.CatalogueRows.{CatalogueRows, LinkRows, UnitRow}
 use Rattle.state_encoding.specs.OfficeRows.{OfficeRows}
@@ -31,11 +31,11 @@ just_10 = false ∷ false ∷ false ∷ false ∷ true ∷ []
 
 -- ---- the rows
 
-abbrev pub ann : ReaderRow
-ann = record { ticket = 1; name = codes "Ann"; until = year_end }
+abbrev pub ann_row : ReaderRow
+ann_row = record { ticket = 1; name = codes "Ann"; until = year_end }
 
-abbrev pub bob : ReaderRow
-bob = record { ticket = 2; name = codes "Bob"; until = march_1 }
+abbrev pub bob_row : ReaderRow
+bob_row = record { ticket = 2; name = codes "Bob"; until = march_1 }
 
 abbrev pub ann_sits : SeatRow
 ann_sits = record { seat = 1; ticket = 1 }
@@ -67,15 +67,15 @@ second_line = record { run = 1; container = 2; order_no = 3; ticket = 2 }
 abbrev pub permit_of_bob : PermitRow
 permit_of_bob = record { ticket = 2; unit = 1; until = year_end }
 
-abbrev pub plans : UnitRow
-plans = record { id = 1; source = codes "a"; legacy = codes "1"; level = []; draft = false; until = Some february_1 }
+abbrev pub plans_row : UnitRow
+plans_row = record { id = 1; source = codes "a"; legacy = codes "1"; level = []; draft = false; until = Some february_1 }
 
 -- one unit in two containers
 abbrev pub catalogue : CatalogueRows
 catalogue =
     record {
-      units = plans ∷ [];
-      places = LinkRows (link 1 None 1 ∷ []);
+      units = plans_row ∷ [];
+      places = LinkRows (link_of 1 None 1 ∷ []);
       elements = [];
       containers = record { id = 1; name = codes "Box 1"; location = []; kind = [] }
           ∷ record { id = 2; name = codes "Box 2"; location = []; kind = [] } ∷ [];
@@ -86,7 +86,7 @@ catalogue =
 abbrev pub desk : Desk
 desk =
     record {
-      readers = ann ∷ bob ∷ [];
+      readers = ann_row ∷ bob_row ∷ [];
       seats = ann_sits ∷ [];
       orders = first_order ∷ second_order ∷ third_order ∷ [];
       holdings = out_with_ann ∷ at_the_desk ∷ [];
@@ -113,7 +113,7 @@ day_of_1899 = first_day -ℤ pos 1
 
 -- n units, and a permit for each
 abbrev pub many_units : ℕ → List UnitRow
-many_units n = map (λ u. record plans { id = u }) (numbers_from 1 n)
+many_units n = map (λ u. record plans_row { id = u }) (numbers_from 1 n)
 
 abbrev pub many_permits : ℕ → List PermitRow
 many_permits n = map (λ u. record permit_of_bob { unit = u }) (numbers_from 1 n)
@@ -127,12 +127,12 @@ abbrev pub tests_among : List UnitRow → Desk → List Bool
 tests_among units rows = desk_tests (record sound { catalogue = record catalogue { units = units }; desk = rows })
 
 -- which causes hold after some of the rows are changed
-pub record Told : Type 0 where
+pub record DeskCausesTold : Type 0 where
   pub nothing : desk_tests sound ≡ none_of_them
   -- readers
-  pub ticket_left_out : tests_with (record desk { readers = ann ∷ bob ∷ record bob { ticket = 4 } ∷ [] }) ≡ just_6
-  pub blank_name : tests_with (record desk { readers = ann ∷ record bob { name = codes "  " } ∷ [] }) ≡ just_6
-  pub ticket_for_ever : tests_with (record desk { readers = ann ∷ record bob { until = year_10000 } ∷ [] }) ≡ just_6
+  pub ticket_left_out : tests_with (record desk { readers = ann_row ∷ bob_row ∷ record bob_row { ticket = 4 } ∷ [] }) ≡ just_6
+  pub blank_name : tests_with (record desk { readers = ann_row ∷ record bob_row { name = codes "  " } ∷ [] }) ≡ just_6
+  pub ticket_for_ever : tests_with (record desk { readers = ann_row ∷ record bob_row { until = year_10000 } ∷ [] }) ≡ just_6
   -- seats
   pub seat_of_another_office : tests_with (record desk { seats = ann_sits ∷ record { seat = 3; ticket = 2 } ∷ [] }) ≡ just_6
   pub a_third_seat : desk_tests (record sound { office = record sound.office { seats = 3 }; desk = record desk { seats = ann_sits ∷ record { seat = 3; ticket = 2 } ∷ [] } }) ≡ none_of_them
@@ -177,6 +177,6 @@ pub record Told : Type 0 where
   -- the day
   pub holder_without_a_seat : tests_with (record desk { seats = [] }) ≡ just_10
   pub two_in_one_hand : tests_with (record desk { orders = first_order ∷ second_order ∷ record third_order { ticket = 1; state = 2 } ∷ []; holdings = out_with_ann ∷ record { container = 2; place = 2; held_by = Some 3 } ∷ []; run_lines = first_line ∷ [] }) ≡ just_10
-  pub draft_is_out : tests_among (record plans { draft = true } ∷ []) desk ≡ just_10
-  pub closed_is_out : tests_among (record plans { until = Some march_2 } ∷ []) desk ≡ just_10
-  pub out_by_a_permit : tests_among (record plans { until = Some march_2 } ∷ []) (record desk { permits = record permit_of_bob { ticket = 1 } ∷ [] }) ≡ none_of_them
+  pub draft_is_out : tests_among (record plans_row { draft = true } ∷ []) desk ≡ just_10
+  pub closed_is_out : tests_among (record plans_row { until = Some march_2 } ∷ []) desk ≡ just_10
+  pub out_by_a_permit : tests_among (record plans_row { until = Some march_2 } ∷ []) (record desk { permits = record permit_of_bob { ticket = 1 } ∷ [] }) ≡ none_of_them

@@ -2,19 +2,19 @@
 use Rattle.std.specs.Prelude.{◌≡◌, ℕ, false, replicate, [], ◌∷◌, Some, None, codes, List}
 use Rattle.isad_core.specs.declared.values.BoxKey.{BoxKey}
 use Rattle.tree_core.specs.Forest.{Empty, Node}
-use Rattle.tree_core.specs.WorkedExamples.{link, span}
+use Rattle.tree_core.specs.WorkedExamples.{link_of, span_of}
 use Rattle.catalogue_core.specs.Units.{Unit}
 use Rattle.office_core.specs.State.{State}
 use Rattle.office_tables.specs.Versions.{Version, First, Second}
 use Rattle.catalogue_core.specs.CatalogueRows.{LinkRows, SpanRows}
 use Rattle.state_encoding.specs.OfficeRows.{tables, state_of}
-use Rattle.office_core.specs.WorkedExamples.{office, march_1, march_2, year_end}
+use Rattle.office_core.specs.WorkedExamples.{new_office, march_1, march_2, year_end}
 
-abbrev pub box : ℕ → BoxKey
-box letter = record { name = letter ∷ []; location = codes "L"; kind = [] }
+abbrev pub box_named : ℕ → BoxKey
+box_named letter = record { name = letter ∷ []; location = codes "L"; kind = [] }
 
-abbrev pub unit : ℕ → List BoxKey → Unit
-unit n boxes =
+abbrev pub unit_with_boxes : ℕ → List BoxKey → Unit
+unit_with_boxes n boxes =
     record {
       id = n;
       source = codes "a";
@@ -27,10 +27,10 @@ unit n boxes =
 -- a move has put unit 4 below unit 1, before unit 2
 abbrev pub sample : State
 sample =
-    record office {
+    record new_office {
       catalogue = record {
-        forest = Node (unit 1 (box 66 ∷ box 65 ∷ [])) (Node (unit 4 []) Empty (Node (unit 2 (box 65 ∷ [])) Empty Empty)) (Node (unit 3 []) Empty Empty);
-        containers = box 65 ∷ box 66 ∷ [];
+        forest = Node (unit_with_boxes 1 (box_named 66 ∷ box_named 65 ∷ [])) (Node (unit_with_boxes 4 []) Empty (Node (unit_with_boxes 2 (box_named 65 ∷ [])) Empty Empty)) (Node (unit_with_boxes 3 []) Empty Empty);
+        containers = box_named 65 ∷ box_named 66 ∷ [];
         next = 5;
       };
       readers = record { name = codes "Ann"; until = year_end } ∷ record { name = codes "Bob"; until = march_1 } ∷ [];
@@ -53,5 +53,5 @@ pub record ReadAgain : Type 0 where
   pub linked : SaysAgain First
   pub nested : SaysAgain Second
   -- places follow the order of the units in the tree, not their numbers
-  pub links : (tables First sample).catalogue.places ≡ LinkRows (link 1 None 1 ∷ link 4 (Some 1) 1 ∷ link 2 (Some 1) 2 ∷ link 3 None 2 ∷ [])
-  pub spans : (tables Second sample).catalogue.places ≡ SpanRows (span 1 1 6 ∷ span 4 2 3 ∷ span 2 4 5 ∷ span 3 7 8 ∷ [])
+  pub links : (tables First sample).catalogue.places ≡ LinkRows (link_of 1 None 1 ∷ link_of 4 (Some 1) 1 ∷ link_of 2 (Some 1) 2 ∷ link_of 3 None 2 ∷ [])
+  pub spans : (tables Second sample).catalogue.places ≡ SpanRows (span_of 1 1 6 ∷ span_of 4 2 3 ∷ span_of 2 4 5 ∷ span_of 3 7 8 ∷ [])

@@ -12,15 +12,15 @@ pub fn worked_tables()
 
 /// Each of the causes 1 to 5 is found in a small office after a few of its rows are changed, and none of them before.
 pub fn worked_catalogue_causes()
-    ensures { causes.Told }
+    ensures { causes.CatalogueCausesTold }
 {}
 
 /// Each of the causes 6 to 10 is found in a small office after a few of its rows are changed, and none of them before.
 pub fn worked_desk_causes()
-    ensures { desk_causes.Told }
+    ensures { desk_causes.DeskCausesTold }
 {}
 
 /// A row with a cell that its column cannot have cannot be read, so the cause of its table holds.
 pub fn worked_cell_causes()
-    ensures { cell_causes.Told }
+    ensures { cell_causes.CellCausesTold }
 {}

@@ -326,6 +326,19 @@ fn read_attached<P: Places, S: Alter>(
     Ok(())
 }
 
+/// Unit 2 is moved below unit 20, which is in Box 1, and the marks of unit 20's branch are read. Its numbers lie far
+/// apart.
+fn read_far_branch<P: Places, S: Alter>(
+    alloc: Global,
+    tables: &mut Tables<P, S>,
+    text: &mut String,
+) -> Result<(), StoreFault> {
+    two_units(alloc, tables)?;
+    add(alloc, tables, 20, None, MAPS)?;
+    move_second(alloc, tables, Some(20))?;
+    show_walk(text, &branch_marks(alloc, tables, Some(Number::from(20)))?)
+}
+
 fn show_heads(text: &mut String, heads: &[Head]) -> Result<(), StoreFault> {
     for head in heads {
         let id = head.id.get();
@@ -399,6 +412,7 @@ pub(crate) enum Act {
     Revise,
     Mark,
     Attach,
+    MarkFar,
     Head,
     Set,
     LookUp,
@@ -420,6 +434,7 @@ fn carry_out<P: Places, S: Alter>(
         Act::Revise => revise_unit(alloc, tables, text),
         Act::Mark => read_marks(alloc, tables, text),
         Act::Attach => read_attached(alloc, tables, text),
+        Act::MarkFar => read_far_branch(alloc, tables, text),
         Act::Head => read_heads(alloc, tables, text),
         Act::Set => set(alloc, tables, text),
         Act::LookUp => looked_up(alloc, tables, text),
@@ -600,9 +615,19 @@ const ATTACHED: Case = Case {
     spans: " 1 1 12\n 2 4 9\n 3 2 11\n 4 3 10\n 5 5 6\n 6 7 8\n",
 };
 
+/// The marks of a branch whose numbers lie far apart.
+const FAR: Case = Case {
+    done: Act::MarkFar,
+    queries: &[],
+    told: " 20 true false 0 2 false false 0\n\
+           \u{20}20 0 3 2 1 2\n",
+    links: " 1 - 1\n 2 20 1\n 20 - 2\n",
+    spans: " 1 1 2\n 2 4 5\n 20 3 6\n",
+};
+
 #[test]
 fn units_are_described_and_marked(rt: HostRuntime) -> Result<(), Fail> {
-    let cases: [Case; 6] = [
+    let cases: [Case; 7] = [
         Case {
             done: Act::Revise,
             told: "true true\n",
@@ -624,6 +649,7 @@ fn units_are_described_and_marked(rt: HostRuntime) -> Result<(), Fail> {
             ..MOVED
         },
         ATTACHED,
+        FAR,
         Case {
             done: Act::Head,
             told: " 1 Hull Dock Company 4 Maps\n 2 Minutes\n 4 Maps 2 Minutes\n",

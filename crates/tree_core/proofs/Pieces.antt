@@ -1,8 +1,13 @@
 -- The nodes of a forest whose ids do not repeat, after a branch is cut away or moved. `id` says the id of what stands in a node.
-use Rattle.std.proofs.Common.{◌≡◌, ℕ, Bool, true, false, not, ◌||◌, List, [], ◌∷◌, ◌++◌, map, Option, Some, None, refl, sym, ap, ◌∙◌, subst, nat_eq, inl, inr, arith, append-nil, append_assoc}
+use Rattle.std.proofs.Common.{◌≡◌, ℕ, Bool, true, false, not, ◌||◌, List, [], ◌∷◌, ◌++◌, map, Option, Some, None, refl}
+use Rattle.std.proofs.Common.{sym, ap, ◌∙◌, subst, nat_eq, inl, inr, arith, append-nil, append_assoc}
 use Rattle.std.specs.List.{filter}
 use Rattle.std.specs.List.Sorted.{IsPermutation}
-use Rattle.tree_core.proofs.Common.{Empty, Forest, HasDistinctIds, IsPermutation-append_comm, IsPermutation-append_left, IsPermutation-append_right, IsPermutation-cons, IsPermutation-sym, IsPermutation-trans, Node, branch, cases_Bool, cut, each, eqb-true, false≢true, filter-append, has, has_place, join, list_any, list_any-IsPermutation, list_any-append, move_last, nodes, put_below, tree}
+use Rattle.tree_core.proofs.Common.{Empty, Forest, HasDistinctIds, IsPermutation-append_comm, IsPermutation-append_left}
+use Rattle.tree_core.proofs.Common.{IsPermutation-append_right, IsPermutation-cons, IsPermutation-sym}
+use Rattle.tree_core.proofs.Common.{IsPermutation-trans, Node, branch, cases_Bool, cut, each, eqb-true, false≢true}
+use Rattle.tree_core.proofs.Common.{filter-append, has, has_place, join, list_any, list_any-IsPermutation}
+use Rattle.tree_core.proofs.Common.{list_any-append, move_last, nodes, put_below, tree}
 use Rattle.tree_core.proofs.Lists.{In, In-map, any_from_In}
 use Rattle.tree_core.proofs.LinkPaths.{parts}
 use Rattle.tree_core.proofs.Adding.{pull, perm_same}

@@ -1,8 +1,11 @@
 -- Lists in which nothing stands twice.
-use Rattle.std.proofs.Common.{◌≡◌, ℕ, suc, ◌<◌, ◌≤◌, Bool, true, false, ◌||◌, List, [], ◌∷◌, Option, Some, None, length, refl, sym, ap, ◌∙◌, nat_eq, inl, inr, arith, get_or, drop, drop-cons}
+use Rattle.std.proofs.Common.{◌≡◌, ℕ, suc, ◌<◌, ◌≤◌, Bool, true, false, ◌||◌, List, [], ◌∷◌, Option, Some, None, length}
+use Rattle.std.proofs.Common.{refl, sym, ap, ◌∙◌, nat_eq, inl, inr, arith, get_or, drop, drop-cons}
 use Rattle.std.specs.List.{IsDistinct}
 use Rattle.std.specs.List.Sorted.{IsPermutation}
-use Rattle.tree_core.proofs.Common.{AllByRecursion, IsDistinct-IsPermutation, IsNonDecreasing, IsPermutation-sym, cases_Bool, cases_eq, drop_all, eq-eqb, false≢true, list_any, ne_eqb, option_eq, or_from, or_parts, repeats}
+use Rattle.tree_core.proofs.Common.{AllByRecursion, IsDistinct-IsPermutation, IsNonDecreasing, IsPermutation-sym}
+use Rattle.tree_core.proofs.Common.{cases_Bool, cases_eq, drop_all, eq-eqb, false≢true, list_any, ne_eqb, option_eq}
+use Rattle.tree_core.proofs.Common.{or_from, or_parts, repeats}
 use Rattle.tree_core.proofs.Lists.{In}
 
 none_of_all : {X : Type 0} (e : X → X → Bool) (x : X) (ys : List X) → AllByRecursion (λ y. e x y ≡ false) ys

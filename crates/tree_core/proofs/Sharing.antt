@@ -1,8 +1,11 @@
 -- Which units share the containers above them, and who may see all of these.
-use Rattle.std.proofs.Common.{if◌then◌else◌, ◌≡◌, ℕ, ℤ, Bool, true, false, cond, not, ◌&&◌, ◌||◌, List, [], ◌∷◌, ◌++◌, refl, sym, ap, ◌∙◌, nat_eq, inl, inr, map, append_assoc, subst}
-use Rattle.tree_core.specs.Visibility.{sharing, sharing_paths}
+use Rattle.std.proofs.Common.{if◌then◌else◌, ◌≡◌, ℕ, ℤ, Bool, true, false, cond, not, ◌&&◌, ◌||◌, List, [], ◌∷◌, ◌++◌}
+use Rattle.std.proofs.Common.{refl, sym, ap, ◌∙◌, nat_eq, inl, inr, map, append_assoc, subst}
 use Rattle.tree_core.specs.Marks.{is_closed, withholds, contents_paths}
-use Rattle.tree_core.proofs.Common.{Empty, Forest, HasDistinctIds, Mark, Node, cases_Bool, each, eq-eqb, false≢true, has, list_all, list_any, list_any-append, map-append, nodes, or-false, or_parts, path}
+use Rattle.tree_core.specs.Visibility.{sharing, sharing_paths}
+use Rattle.tree_core.proofs.Common.{Empty, Forest, HasDistinctIds, Mark, Node, cases_Bool, each, eq-eqb, false≢true}
+use Rattle.tree_core.proofs.Common.{has, list_all, list_any, list_any-append, map-append, nodes, or-false, or_parts}
+use Rattle.tree_core.proofs.Common.{path}
 use Rattle.tree_core.proofs.Lists.{In, In-append, In-append_left, In-append_right, In-map, any_from_In}
 use Rattle.tree_core.proofs.LinkPaths.{parts, other_id}
 use Rattle.tree_core.proofs.Adding.{Here, Below, Beside, place}

@@ -13,11 +13,11 @@ leaf a others = Node a Empty others
 abbrev pub example_forest : Forest ℕ
 example_forest = Node 1 (leaf 2 (leaf 3 Empty)) (leaf 4 Empty)
 
-abbrev pub link : ℕ → Option ℕ → ℕ → Link
-link u p k = record { id = u; parent = p; ord = k }
+abbrev pub link_of : ℕ → Option ℕ → ℕ → Link
+link_of u p k = record { id = u; parent = p; ord = k }
 
-abbrev pub span : ℕ → ℕ → ℕ → Span
-span u l r = record { id = u; lft = l; rgt = r }
+abbrev pub span_of : ℕ → ℕ → ℕ → Span
+span_of u l r = record { id = u; lft = l; rgt = r }
 
 abbrev pub mark : ℕ → ℕ → ℕ → Bool → Option ℤ → Mark
 mark u l r draft until = record { id = u; lft = l; rgt = r; draft = draft; until = until; boxed = false; permit = false }

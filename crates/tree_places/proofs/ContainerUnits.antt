@@ -1,13 +1,21 @@
 -- What the rows of containers say of the units that name them.
-use Rattle.std.proofs.Common.{◌≡◌, inl, inr, ℕ, suc, pos, ◌+◌, ◌<◌, true, false, List, [], ◌∷◌, map, filter, length, get_or, nat_eq, Ordering, Less, Equal, Greater, refl, sym, ap, subst, ◌∙◌, arith}
+use Rattle.std.proofs.Common.{◌≡◌, inl, inr, ℕ, suc, pos, ◌+◌, ◌<◌, true, false, List, [], ◌∷◌, map, filter, length}
+use Rattle.std.proofs.Common.{get_or, nat_eq, Ordering, Less, Equal, Greater, refl, sym, ap, subst, ◌∙◌, arith}
+use Rattle.std.proofs.Math.Dec.{eqb}
 use Rattle.std.proofs.lemmas.Int.{ints}
 use Rattle.std.proofs.lemmas.List.Kept.{Contains-dedup_nat, Contains-from_dedup, AllPairs-from_increasing}
 use Rattle.std.proofs.lemmas.Map.Keys.{IsStrictlyIncreasing-dedup}
-use Rattle.std.proofs.Math.Dec.{eqb}
+use Rattle.isad_core.specs.declared.values.BoxKey.{BoxKey}
 use Rattle.tree_core.proofs.Lists.{In, In-from_Contains, Contains-from_In}
 use Rattle.office_tables.proofs.Sorted.{same_rising}
-use Rattle.isad_core.specs.declared.values.BoxKey.{BoxKey}
-use Rattle.tree_places.proofs.Common.{AllByRecursion, AllPairs, AreAttached, Catalogue, Has, HousingRow, IsPermutation, IsPermutation-filter, IsPermutation-sym, IsSorted, IsTotalOrder, RepresentsHousings, RepresentsUnits, Rises, Trees, Unit, all_has, ascending-filter, ascending-map, box_number, by_housing, by_number, counted_from, dedup, eq-eqb, eqb-true, get_or-map, had, has, has_filtered, has_id, has_kept, has_map, housing_cells, housings_of, int_cmp, int_cmp_total, is_lt, length-map, map_has, names, nat_cmp, nodes, on_total, ordering_then, some_from, some_has}
+use Rattle.tree_places.proofs.Common.{AllByRecursion, AllPairs, AreAttached, Catalogue, Has, HousingRow, IsPermutation}
+use Rattle.tree_places.proofs.Common.{IsPermutation-filter, IsPermutation-sym, IsSorted, IsTotalOrder}
+use Rattle.tree_places.proofs.Common.{RepresentsHousings, RepresentsUnits, Rises, Trees, Unit, all_has}
+use Rattle.tree_places.proofs.Common.{ascending-filter, ascending-map, box_number, by_housing, by_number, counted_from}
+use Rattle.tree_places.proofs.Common.{dedup, eq-eqb, eqb-true, get_or-map, had, has, has_filtered, has_id, has_kept}
+use Rattle.tree_places.proofs.Common.{has_map, housing_places, int_cmp, int_cmp_total, is_lt, length-map, map_has}
+use Rattle.tree_places.proofs.Common.{names_container, nat_cmp, nodes, numbered_containers, on_total, ordering_then}
+use Rattle.tree_places.proofs.Common.{some_from, some_has}
 
 -- ---- numbers in order, each once
 
@@ -86,11 +94,11 @@ module _ (db : Trees) (c : Catalogue) (units : RepresentsUnits db c.forest) (at 
   rows = filter (λ (h : HousingRow). nat_eq container h.container) at.housings
 
   theirs : List Unit
-  theirs = filter (names c.containers container) units.units
+  theirs = filter (names_container c.containers container) units.units
 
   cells : (u : Unit) → Has (nodes c.forest) u
-      → IsPermutation (housing_cells c.containers u.values) (housings_of u.id at.housings)
-  cells u h = all_has (λ u. IsPermutation (housing_cells c.containers u.values) (housings_of u.id at.housings)) (nodes c.forest) u at.are h
+      → IsPermutation (numbered_containers c.containers u.values) (housing_places u.id at.housings)
+  cells u h = all_has (λ u. IsPermutation (numbered_containers c.containers u.values) (housing_places u.id at.housings)) (nodes c.forest) u at.are h
 
   -- a row of the container is of a unit that names it
   named : (h : HousingRow) → Has rows h → (u : Unit) × Has theirs u × (h.unit ≡ u.id)
@@ -102,24 +110,24 @@ module _ (db : Trees) (c : Catalogue) (units : RepresentsUnits db c.forest) (at 
       let same : h.unit ≡ u.id = eqb-true h.unit u.id of.2 in
       let mine : Has (filter (λ (h : HousingRow). nat_eq u.id h.unit) at.housings) h =
       has_kept (λ (h : HousingRow). nat_eq u.id h.unit) at.housings h row.0 (eq-eqb u.id h.unit (sym same)) in
-      let cell = had (housing_cells c.containers u.values) (housings_of u.id at.housings) (cells u of.1) (cell_of h) (has_map cell_of (filter (λ (h : HousingRow). nat_eq u.id h.unit) at.housings) h mine) in
+      let cell = had (numbered_containers c.containers u.values) (housing_places u.id at.housings) (cells u of.1) (cell_of h) (has_map cell_of (filter (λ (h : HousingRow). nat_eq u.id h.unit) at.housings) h mine) in
       let box = map_has (λ (box : ℕ × BoxKey). (let y : ℕ × ℕ = (box.0, box_number c.containers box.1) in y)) (counted_from 1 u.values.boxes) (cell_of h) cell in
       let number : container ≡ box_number c.containers box.0.1 =
       eqb-true container h.container row.1 ∙ ap (λ (y : ℕ × ℕ). y.1) box.2 in
       let passes = some_from (λ b. nat_eq container (box_number c.containers b)) u.values.boxes box.0.1 (counted 1 u.values.boxes box.0 box.1) (eq-eqb container (box_number c.containers box.0.1) number) in
-      (u, has_kept (names c.containers container) units.units u (had units.units (nodes c.forest) (IsPermutation-sym (nodes c.forest) units.units units.are) u of.1) passes, same)
+      (u, has_kept (names_container c.containers container) units.units u (had units.units (nodes c.forest) (IsPermutation-sym (nodes c.forest) units.units units.are) u of.1) passes, same)
 
   -- and each that names it has a row
   naming : (u : Unit) → Has theirs u → (h : HousingRow) × Has rows h × (h.unit ≡ u.id)
   unfolding rows theirs cell_of
   naming u there =
-      let mine = has_filtered (names c.containers container) units.units u there in
+      let mine = has_filtered (names_container c.containers container) units.units u there in
       let node = had (nodes c.forest) units.units units.are u mine.0 in
       let box = some_has (λ b. nat_eq container (box_number c.containers b)) u.values.boxes mine.1 in
       let place = is_counted 1 u.values.boxes box.0 box.1 in
       let cell : ℕ × ℕ = (place.0, box_number c.containers box.0) in
       let told = has_map (λ (box : ℕ × BoxKey). (let y : ℕ × ℕ = (box.0, box_number c.containers box.1) in y)) (counted_from 1 u.values.boxes) (place.0, box.0) place.1 in
-      let kept = had (housings_of u.id at.housings) (housing_cells c.containers u.values) (IsPermutation-sym (housing_cells c.containers u.values) (housings_of u.id at.housings) (cells u node)) cell told in
+      let kept = had (housing_places u.id at.housings) (numbered_containers c.containers u.values) (IsPermutation-sym (numbered_containers c.containers u.values) (housing_places u.id at.housings) (cells u node)) cell told in
       let row = map_has cell_of (filter (λ (h : HousingRow). nat_eq u.id h.unit) at.housings) cell kept in
       let own = has_filtered (λ (h : HousingRow). nat_eq u.id h.unit) at.housings row.0 row.1 in
       let number : container ≡ row.0.container =
@@ -130,7 +138,7 @@ module _ (db : Trees) (c : Catalogue) (units : RepresentsUnits db c.forest) (at 
   pub attached_ids : (ys : List HousingRow) (ids once : List ℕ)
       → IsPermutation (filter (λ (h : HousingRow). nat_eq container h.container) at.housings) ys
       → IsSorted by_housing ys → ids ≡ map (λ (h : HousingRow). h.unit) ys → once ≡ dedup eqb ids
-      → once ≡ map (λ (u : Unit). u.id) (filter (names c.containers container) units.units)
+      → once ≡ map (λ (u : Unit). u.id) (filter (names_container c.containers container) units.units)
   unfolding rows theirs by_size
   attached_ids ys ids once perm sorted is squeezed =
       let unit = λ (h : HousingRow). h.unit in
@@ -139,7 +147,7 @@ module _ (db : Trees) (c : Catalogue) (units : RepresentsUnits db c.forest) (at 
       let up : Rises by_size (dedup eqb list) =
       rise_by_pairs (dedup eqb list) (AllPairs-from_increasing (dedup eqb list) (IsStrictlyIncreasing-dedup list (units_sorted ys sorted))) in
       let risen : Rises by_number theirs =
-      ascending-filter (λ a b. by_number a b ≡ Less) (names c.containers container) units.units units.rise in
+      ascending-filter (λ a b. by_number a b ≡ Less) (names_container c.containers container) units.units units.rise in
       let up' : Rises by_size (map id theirs) = ascending-map (λ a b. by_size a b ≡ Less) id theirs risen in
       let there : (n : ℕ) → Has (dedup eqb list) n → Has (map id theirs) n = λ n h.
       let h' = has_from_in list n (In-from_Contains list n (Contains-from_dedup eqb list n (Contains-from_In (dedup eqb list) n (in_from_has (dedup eqb list) n h)))) in
@@ -159,10 +167,10 @@ module _ (db : Trees) (c : Catalogue) (units : RepresentsUnits db c.forest) (at 
       → IsSorted by_housing ys → ids ≡ map (λ (h : HousingRow). h.unit) ys → once ≡ dedup eqb ids
       → (us : List Unit) × AreAttached c container us × (once ≡ map (λ (u : Unit). u.id) us)
   attached ys ids once perm sorted is squeezed = (
-    filter (names c.containers container) units.units,
+    filter (names_container c.containers container) units.units,
     record {
-      are = IsPermutation-filter (names c.containers container) (nodes c.forest) units.units units.are;
-      rise = ascending-filter (λ a b. by_number a b ≡ Less) (names c.containers container) units.units units.rise;
+      are = IsPermutation-filter (names_container c.containers container) (nodes c.forest) units.units units.are;
+      rise = ascending-filter (λ a b. by_number a b ≡ Less) (names_container c.containers container) units.units units.rise;
     },
     attached_ids ys ids once perm sorted is squeezed,
   )

@@ -1,7 +1,10 @@
 -- Why reading marks fails: never for the units of a catalogue within its limits.
-use Rattle.std.proofs.Common.{◌≡◌, ℕ, ◌<◌, ◌^◌, List, map, find, length, get_or, Some, None, option_map, nat_eq, sym, ap, subst, ◌∙◌, arith}
+use Rattle.std.proofs.Common.{◌≡◌, ℕ, ◌<◌, ◌^◌, List, map, find, length, get_or, Some, None, option_map, nat_eq, sym}
+use Rattle.std.proofs.Common.{ap, subst, ◌∙◌, arith}
 use Rattle.catalogue_statements.specs.declared.row_types.Status.{Status}
-use Rattle.tree_places.proofs.Common.{AllByRecursion, Catalogue, Forest, Has, IsKept, IsLegibleUnit, IsPermutation-sym, RepresentsUnits, Span, Trees, Unit, all-get_or, all-permutation, all_from_map, all_has, get_or-map, had, length-map, nodes, nodes-each}
+use Rattle.tree_places.proofs.Common.{AllByRecursion, Catalogue, Forest, Has, IsKept, IsLegibleUnit, IsPermutation-sym}
+use Rattle.tree_places.proofs.Common.{RepresentsUnits, Span, Trees, Unit, all-get_or, all-permutation, all_from_map}
+use Rattle.tree_places.proofs.Common.{all_has, get_or-map, had, length-map, nodes, nodes-each}
 use Rattle.tree_places.proofs.MarkReads.{blank_unit, found_unit}
 
 -- ---- the units of a catalogue

@@ -1,11 +1,18 @@
 -- What the rows of a unit say of its mark.
-use Rattle.std.proofs.Common.{◌≡◌, inl, inr, ℕ, zero, suc, pos, ◌+◌, ◌<◌, ◌≤◌, List, [], ◌∷◌, ◌++◌, map, filter, length, take, get_or, Some, None, option_map, false, not, ◌==◌, nat_eq, Less, Equal, refl, sym, ap, ap₂, ◌∙◌, arith}
+use Rattle.std.proofs.Common.{◌≡◌, inl, inr, ℕ, zero, suc, pos, ◌+◌, ◌<◌, ◌≤◌, List, [], ◌∷◌, ◌++◌, map, filter, length}
+use Rattle.std.proofs.Common.{take, get_or, Some, None, option_map, false, not, ◌==◌, nat_eq, Less, Equal, refl, sym}
+use Rattle.std.proofs.Common.{ap, ap₂, ◌∙◌, arith}
 use Rattle.std.specs.List.{find}
 use Rattle.isad_core.specs.declared.values.BoxKey.{BoxKey}
 use Rattle.catalogue_core.specs.ContainerContents.{is_some_there}
-use Rattle.catalogue_statements.specs.declared.row_types.Status.{Status}
 use Rattle.catalogue_statements.proofs.Numbered.{length-counted}
-use Rattle.tree_places.proofs.Common.{AllByRecursion, Forest, Has, HousingRow, IsPermutation, IsPermutation-sym, Mark, RepresentsHousings, RepresentsUnits, Rises, Span, Trees, Unit, all_has, box_number, by_number, cases_Bool, counted_from, eq-eqb, eqb-true, get_or-map, had, housing_cells, housings_of, int_cmp, int_cmp_total, length-map, length-take-le, length_permutation, mark_at, marks_at, ne_eqb, nodes, take_all, take_more, tied_itself}
+use Rattle.catalogue_statements.specs.declared.row_types.Status.{Status}
+use Rattle.tree_places.proofs.Common.{AllByRecursion, Forest, Has, HousingRow, IsPermutation, IsPermutation-sym, Mark}
+use Rattle.tree_places.proofs.Common.{RepresentsHousings, RepresentsUnits, Rises, Span, Trees, Unit, all_has}
+use Rattle.tree_places.proofs.Common.{box_number, by_number, cases_Bool, counted_from, eq-eqb, eqb-true, get_or-map}
+use Rattle.tree_places.proofs.Common.{had, housing_places, int_cmp, int_cmp_total, length-map, length-take-le}
+use Rattle.tree_places.proofs.Common.{length_permutation, mark_at, marks_at, ne_eqb, nodes, numbered_containers}
+use Rattle.tree_places.proofs.Common.{take_all, take_more, tied_itself}
 
 -- ---- the status
 
@@ -53,9 +60,9 @@ pub boxes_read : (db : Trees) (f : Forest Unit) (containers : List BoxKey) (at :
     → not (n == 0) ≡ is_some_there u.values.boxes
 boxes_read db f containers at id n u ys there same perm long =
     let cell = λ (h : HousingRow). (let c : ℕ × ℕ = (h.ord, h.container) in c) in
-    let theirs : IsPermutation (housing_cells containers u.values) (housings_of u.id at.housings) =
-    all_has (λ u. IsPermutation (housing_cells containers u.values) (housings_of u.id at.housings)) (nodes f) u at.are there in
-    let a = length_permutation (housing_cells containers u.values) (housings_of u.id at.housings) theirs in
+    let theirs : IsPermutation (numbered_containers containers u.values) (housing_places u.id at.housings) =
+    all_has (λ u. IsPermutation (numbered_containers containers u.values) (housing_places u.id at.housings)) (nodes f) u at.are there in
+    let a = length_permutation (numbered_containers containers u.values) (housing_places u.id at.housings) theirs in
     let b = length-map (filter (λ (h : HousingRow). nat_eq u.id h.unit) at.housings) cell in
     let c = length_permutation (filter (λ (h : HousingRow). nat_eq id h.unit) at.housings) ys perm in
     let d : length (filter (λ (h : HousingRow). nat_eq id h.unit) at.housings) ≡ length (filter (λ (h : HousingRow). nat_eq u.id h.unit) at.housings) =

@@ -8,16 +8,16 @@ use Rattle.office_tables.specs.Order.{Rises}
 use Rattle.catalogue_statements.specs.Rows.{by_number}
 use Rattle.catalogue_core.specs.Units.{Unit, has_id}
 use Rattle.tree_places.specs.declared.attached.Attached.{Attached}
-use Rattle.catalogue_core.specs.UnitMarks.{AreMarks, AreWalkMarks, names}
+use Rattle.catalogue_core.specs.UnitMarks.{AreMarks, AreWalkMarks, names_container}
 
 -- the units that name the container, each once, in order of their numbers
 pub record AreAttached (c : Catalogue) (container : ℕ) (units : List Unit) : Type 0 where
-  pub are : IsPermutation (filter (names c.containers container) (nodes c.forest)) units
+  pub are : IsPermutation (filter (names_container c.containers container) (nodes c.forest)) units
   pub rise : Rises by_number units
 
 -- the numbers of the units that name the container
 abbrev pub named_by : Catalogue → ℕ → List ℕ
-named_by c container = map (λ (u : Unit). u.id) (filter (names c.containers container) (nodes c.forest))
+named_by c container = map (λ (u : Unit). u.id) (filter (names_container c.containers container) (nodes c.forest))
 
 -- the marks of the units that name the container, one for each, in some order
 abbrev pub AreAttachedMarks : (Catalogue → Mark → Type 0) → Catalogue → ℕ → List Mark → Type 0

@@ -1,19 +1,29 @@
 -- The rows of the catalogue's tables have their keys.
-use Rattle.std.proofs.Common.{◌≡◌, ℕ, pos, List, [], ◌∷◌, map, Bool, true, false, not, ◌&&◌, Option, Some, filter_map, nat_eq, sym, ap₂, subst, ◌∙◌, arith}
-use Rattle.std.specs.List.{IsDistinct}
+use Rattle.std.proofs.Common.{◌≡◌, ℕ, pos, List, [], ◌∷◌, map, Bool, true, false, not, ◌&&◌, Option, Some, filter_map}
+use Rattle.std.proofs.Common.{nat_eq, sym, ap₂, subst, ◌∙◌, arith}
+use Rattle.std.proofs.Math.Bool.{and_comm}
 use Rattle.std.proofs.lemmas.Map.Keys.{IsDistinct-IsPermutation}
+use Rattle.std.specs.List.{IsDistinct}
 use Rattle.sqlite_schema.specs.Rules.{passes}
 use Rattle.sqlite_value.specs.Keys.{first_key}
 use Rattle.tree_core.specs.declared.rows.Link.{Link}
 use Rattle.tree_core.specs.declared.rows.Span.{Span}
-use Rattle.office_tables.specs.Schema as tables
 use Rattle.office_tables.proofs.Tests.{both, same_number, same_bytes}
-use Rattle.state_encoding.proofs.shown_cells.OtherOrders.{flips}
-use Rattle.row_completeness.specs.WholePlaces.{AreWholePlaces}
+use Rattle.office_tables.specs.Schema as tables
 use Rattle.row_completeness.proofs.KeptPlaces.{links_rise, spans_rise}
-use Rattle.std.proofs.Math.Bool.{and_comm}
-use Rattle.adoption.proofs.Common.{AllByRecursion, AreGoodTables, ContainerRow, Database, Datatype, ElementRow, First, HousingRow, IsPermutation-map, IsWholeTable, KeysDiffer, MeetsCatalogueKeys, Null, Rises, Row, Second, Table, Unique, UnitRow, Version, agree, all_weaker, and_parts, by, clashes, column, distinct_numbers, distinct_pairs, encoding, eqb_comm, in_order, in_order-permutation, int_cmp, is_housed_alike, is_named_alike, is_null, is_same_container, is_same_element, is_same_place, keys_differ, not-true, place_numbers, places_in, plain, read_container, read_element, read_housing, read_link, read_pairs, read_span, read_unit, rows_in, rows_rise, schema, stay_in_order, then_by}
-use Rattle.adoption.proofs.catalogue.Rules.{IsKeyed, live, rows_keyed, place_whole, unit_whole, element_whole, container_whole, housing_whole, unit_keyed, container_keyed}
+use Rattle.row_completeness.specs.WholePlaces.{AreWholePlaces}
+use Rattle.state_encoding.proofs.shown_cells.OtherOrders.{flips}
+use Rattle.adoption.proofs.Common.{AllByRecursion, AreGoodTables, ContainerRow, Database, Datatype, ElementRow, First}
+use Rattle.adoption.proofs.Common.{HousingRow, IsPermutation-map, IsWholeTable, KeysDiffer, MeetsCatalogueKeys, Null}
+use Rattle.adoption.proofs.Common.{Rises, Row, Second, Table, Unique, UnitRow, Version, agree, all_weaker, and_parts}
+use Rattle.adoption.proofs.Common.{by, clashes, column, distinct_numbers, distinct_pairs, encoding, eqb_comm, in_order}
+use Rattle.adoption.proofs.Common.{in_order-permutation, int_cmp, is_housed_alike, is_named_alike, is_null}
+use Rattle.adoption.proofs.Common.{is_same_container, is_same_element, is_same_place, keys_differ, not-true}
+use Rattle.adoption.proofs.Common.{place_numbers, places_in, plain, read_container, read_element, read_housing}
+use Rattle.adoption.proofs.Common.{read_link, read_pairs, read_span, read_unit, rows_in, rows_rise, schema}
+use Rattle.adoption.proofs.Common.{stay_in_order, then_by}
+use Rattle.adoption.proofs.catalogue.Rules.{IsKeyed, live, rows_keyed, place_whole, unit_whole, element_whole}
+use Rattle.adoption.proofs.catalogue.Rules.{container_whole, housing_whole, unit_keyed, container_keyed}
 use Rattle.adoption.proofs.catalogue.Readings.{unit_parts, element_parts, container_parts, housing_parts}
 
 -- ---- what a key is of rows that are read

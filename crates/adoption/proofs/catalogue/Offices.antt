@@ -1,7 +1,10 @@
 -- The table of the office has the one row that is said of it.
-use Rattle.std.proofs.Common.{◌≡◌, pos, ◌<◌, List, [], ◌∷◌, false, Option, Some, None, is_none, filter_map, unwrap_or, Less, refl, sym, ap, ap₂, ◌∙◌, arith}
+use Rattle.std.proofs.Common.{◌≡◌, pos, ◌<◌, List, [], ◌∷◌, false, Option, Some, None, is_none, filter_map, unwrap_or}
+use Rattle.std.proofs.Common.{Less, refl, sym, ap, ap₂, ◌∙◌, arith}
 use Rattle.office_core.specs.Words.{first}
-use Rattle.adoption.proofs.Common.{AllByRecursion, First, IsTable, OfficeRow, Row, Second, Version, column, cons_option, has_unread, int_cmp, less_below, no_office, office_cells, or_parts, read_office, true≢false, value_cmp, value_cmp-Int, version_number}
+use Rattle.adoption.proofs.Common.{AllByRecursion, First, IsTable, OfficeRow, Row, Second, Version, column, cons_option}
+use Rattle.adoption.proofs.Common.{has_unread, int_cmp, less_below, no_office, office_cells, or_parts, read_office}
+use Rattle.adoption.proofs.Common.{true≢false, value_cmp, value_cmp-Int, version_number}
 use Rattle.adoption.proofs.catalogue.Rules.{IsKeyed}
 use Rattle.adoption.proofs.catalogue.Readings.{office_parts, is_office}
 

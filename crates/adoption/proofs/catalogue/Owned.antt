@@ -1,9 +1,12 @@
 -- What rows tell of each unit, among the rows of all units.
-use Rattle.std.proofs.Common.{◌≡◌, ℕ, List, [], ◌∷◌, ◌++◌, map, filter, Bool, true, false, nat_eq, refl, sym, ap, ap₂, subst, ◌∙◌, append-nil}
-use Rattle.std.specs.List.{IsDistinct}
+use Rattle.std.proofs.Common.{◌≡◌, ℕ, List, [], ◌∷◌, ◌++◌, map, filter, Bool, true, false, nat_eq, refl, sym, ap, ap₂}
+use Rattle.std.proofs.Common.{subst, ◌∙◌, append-nil}
 use Rattle.std.proofs.lemmas.List.Concat.{flat_map-cons}
 use Rattle.std.proofs.lemmas.List.Elements.{filter-append}
-use Rattle.adoption.proofs.Common.{AllByRecursion, In-permutation, IsPermutation, IsPermutation-filter, all_in, all_of_in, all_weaker, any_of_in, eq-eqb, eqb_comm, filter_all, filter_none, flat_map, in_flat_map, list_any}
+use Rattle.std.specs.List.{IsDistinct}
+use Rattle.adoption.proofs.Common.{AllByRecursion, In-permutation, IsPermutation, IsPermutation-filter, all_in}
+use Rattle.adoption.proofs.Common.{all_of_in, all_weaker, any_of_in, eq-eqb, eqb_comm, filter_all, filter_none}
+use Rattle.adoption.proofs.Common.{flat_map, in_flat_map, list_any}
 
 module _ {U A : Type 0} (number : U → ℕ) (key : A → ℕ) (shown : U → List A) (own : (u : U) → AllByRecursion (λ a. key a ≡ number u) (shown u)) where
   abbrev is_of : ℕ → A → Bool

@@ -3,8 +3,11 @@ use Rattle.std.proofs.Common.{◌≡◌, ℕ, ℤ, pos, Bool, true, false, Optio
 use Rattle.std.specs.Prelude.{option_map, unwrap_or, nat_eq, cond}
 use Rattle.sqlite.specs.Values.{or_null}
 use Rattle.office_tables.specs.Flags.{flag}
-use Rattle.office_tables.specs.RowCells.{element_cells, housing_cells}
-use Rattle.adoption.proofs.Common.{ContainerRow, ElementRow, HousingRow, Int, OfficeRow, Row, Text, UnitRow, Value, column, container_cells, eqb-true, flag_in, from_first, is_flag, is_number, is_or_null, is_text, is_whole, number_in, office_cells, or_null_in, read_container, read_element, read_housing, read_office, read_unit, text_in, unit_cells, whole_in, whole_row}
+use Rattle.adoption.proofs.Common.{ContainerRow, ElementRow, HousingRow, Int, OfficeRow, Row, Text, UnitRow, Value}
+use Rattle.adoption.proofs.Common.{column, container_cells, element_cells, eqb-true, flag_in, from_first, housing_cells}
+use Rattle.adoption.proofs.Common.{is_flag, is_number, is_or_null, is_text, is_whole, number_in, office_cells}
+use Rattle.adoption.proofs.Common.{or_null_in, read_container, read_element, read_housing, read_office, read_unit}
+use Rattle.adoption.proofs.Common.{text_in, unit_cells, whole_in, whole_row}
 use Rattle.adoption.proofs.catalogue.Rules.{IsKeyed, IsNumbered}
 
 same_day : (o : Option ℤ) → option_map (λ (n : ℤ). n) o ≡ o

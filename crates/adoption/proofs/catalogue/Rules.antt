@@ -2,7 +2,10 @@
 use Rattle.std.proofs.Common.{◌≡◌, ℕ, ◌<◌, List, [], ◌∷◌, length, true, ◌&&◌, drop, refl, sym, subst, IsTrue, arith}
 use Rattle.office_tables.specs.Schema as tables
 use Rattle.row_completeness.proofs.FullRows.{whole_tables}
-use Rattle.adoption.proofs.Common.{AllByRecursion, AreGoodTables, AreWholeTables, Blob, Database, Datatype, Int, IsDatabase, IsWholeTable, Null, Real, Row, StandInOrder, Table, Text, Value, Version, all_both, and_parts, are_typed, column, encoding, has_computed, is_int, is_null, schema, true≢false}
+use Rattle.adoption.proofs.Common.{AllByRecursion, AreGoodTables, AreWholeTables, Blob, Database, Datatype, Int}
+use Rattle.adoption.proofs.Common.{IsDatabase, IsWholeTable, Null, Real, Row, StandInOrder, Table, Text, Value, Version}
+use Rattle.adoption.proofs.Common.{all_both, and_parts, are_typed, column, encoding, has_computed, is_int, is_null}
+use Rattle.adoption.proofs.Common.{schema, true≢false}
 
 -- ---- a row of a table
 

@@ -1,25 +1,37 @@
 -- The tables show the catalogue that their rows say.
-use Rattle.std.proofs.Common.{◌≡◌, ℕ, List, [], ◌∷◌, map, filter, Bool, true, false, not, filter_map, nat_eq, refl, sym, ap, ap₂, subst, ◌∙◌}
+use Rattle.std.proofs.Common.{◌≡◌, ℕ, List, [], ◌∷◌, map, filter, Bool, true, false, not, filter_map, nat_eq, refl, sym}
+use Rattle.std.proofs.Common.{ap, ap₂, subst, ◌∙◌}
 use Rattle.std.specs.List.{IsDistinct}
-use Rattle.catalogue_core.specs.CatalogueRows.{unit_row}
-use Rattle.catalogue_statements.specs.Representation.{element_cells, housing_cells}
 use Rattle.office_tables.specs.RowCells.{element_cells as element_row_cells, housing_cells as housing_row_cells}
 use Rattle.office_tables.specs.Schema as tables
+use Rattle.row_completeness.specs.WholePlaces.{RepresentsWhatItDescribes, places_are_defective}
 use Rattle.office_core.specs.State.{State}
-use Rattle.state_encoding.specs.DeskEncoding.{rows_from}
-use Rattle.state_encoding.specs.RowSoundness.{IsCatalogueOf, IsSoundCatalogue}
 use Rattle.state_encoding.proofs.told.ToldCatalogue.{HasNoCause, no_cause, catalogue_is_said}
 use Rattle.state_encoding.proofs.told.ToldUnits.{said_id}
+use Rattle.state_encoding.specs.DeskEncoding.{rows_from}
+use Rattle.state_encoding.specs.RowSoundness.{IsCatalogueOf, IsSoundCatalogue}
 use Rattle.refinement.specs.Representation.{office_of}
-use Rattle.row_completeness.specs.WholePlaces.{RepresentsWhatItDescribes, places_are_defective}
-use Rattle.adoption.proofs.Common.{AllByRecursion, AreGoodTables, ContainerRow, Database, ElementRow, Empty, First, Forest, HousingRow, IsPermutation, IsPermutation-map, IsPermutation-sym, IsPermutation-trans, Node, OfficeRows, RepresentsCatalogue, RepresentsContainers, RepresentsElements, RepresentsHousings, RepresentsItsCatalogue, RepresentsOffice, RepresentsUnits, Second, Trees, Unit, Version, all_weaker, and_parts, are_good_places, are_numbered_from, container_cells, each, element_rows_from, elements_of, encoding, eqb-true, flat_map, has_numbered, has_unread, housing_row, housings_of, in_order, in_order-permutation, nodes, office_cells, or_from, or_parts, places_said, read_container, read_element, read_housing, read_unit, rows_in, rows_kept, state_of, then_by, unit_cells, unit_from_rows, unread, version_number}
+use Rattle.adoption.proofs.Common.{AllByRecursion, AreGoodTables, ContainerRow, Database, ElementRow, Empty, First}
+use Rattle.adoption.proofs.Common.{Forest, HousingRow, IsPermutation, IsPermutation-map, IsPermutation-sym}
+use Rattle.adoption.proofs.Common.{IsPermutation-trans, Node, OfficeRows, RepresentsCatalogue, RepresentsContainers}
+use Rattle.adoption.proofs.Common.{RepresentsElements, RepresentsHousings, RepresentsItsCatalogue, RepresentsOffice}
+use Rattle.adoption.proofs.Common.{RepresentsUnits, Second, Trees, Unit, Version, all_weaker, and_parts}
+use Rattle.adoption.proofs.Common.{are_good_places, are_numbered_from, container_cells, each, element_rows_from}
+use Rattle.adoption.proofs.Common.{elements_of, encoding, eqb-true, flat_map, has_numbered, has_unread, housing_places}
+use Rattle.adoption.proofs.Common.{housing_row, in_order, in_order-permutation, nodes, numbered_containers}
+use Rattle.adoption.proofs.Common.{numbered_texts, office_cells, or_from, or_parts, places_said, read_container}
+use Rattle.adoption.proofs.Common.{read_element, read_housing, read_unit, rows_in, rows_kept, state_of, then_by}
+use Rattle.adoption.proofs.Common.{unit_cells, unit_from_rows, unit_row, unread, version_number}
 use Rattle.adoption.proofs.tables.Causeless.{ArePassed, are_passed}
-use Rattle.adoption.proofs.catalogue.Rules.{IsKeyed, IsNumbered, office_whole, office_keyed, unit_keyed, container_keyed, element_whole, element_numbered, housing_whole, housing_numbered}
+use Rattle.adoption.proofs.catalogue.Rules.{IsKeyed, IsNumbered, office_whole, office_keyed, unit_keyed}
+use Rattle.adoption.proofs.catalogue.Rules.{container_keyed, element_whole, element_numbered, housing_whole}
+use Rattle.adoption.proofs.catalogue.Rules.{housing_numbered}
 use Rattle.adoption.proofs.catalogue.Readings.{is_unit, is_element, is_container, is_housing}
 use Rattle.adoption.proofs.catalogue.Keys.{keys_met, whole_places, units_rise, units_ordered, containers_ordered}
 use Rattle.adoption.proofs.catalogue.Offices.{office_stored}
 use Rattle.adoption.proofs.catalogue.Owned.{each_has, all_owned}
-use Rattle.adoption.proofs.catalogue.Told.{element_cell, element_units, elements_told, housing_cell, housing_units, housings_told, containers_told}
+use Rattle.adoption.proofs.catalogue.Told.{element_cell, element_units, elements_told, housing_cell, housing_units}
+use Rattle.adoption.proofs.catalogue.Told.{housings_told, containers_told}
 use Rattle.adoption.proofs.catalogue.Units.{units_stored}
 
 no_defect : (v : Version) (db : Trees) → AllByRecursion (λ (b : Bool). b ≡ false) (unread v db)
@@ -93,7 +105,7 @@ module _ (v : Version) (db : Database) (it : AreGoodTables v db) where
   elements = record {
     elements = element_list;
     rows = has_numbered read_element (IsNumbered 4) (λ row fit. fit.1) element_row_cells is_element (db.trees tables.element.tree) read.1.1.1.0 (element_whole v db it).rise (element_numbered v db it);
-    are = all_weaker (λ (u : Unit). IsPermutation (texts_of u) (filter (λ (e : ElementRow). nat_eq u.id e.unit) element_list)) (λ (u : Unit). IsPermutation (element_cells u.values) (elements_of u.id element_list))
+    are = all_weaker (λ (u : Unit). IsPermutation (texts_of u) (filter (λ (e : ElementRow). nat_eq u.id e.unit) element_list)) (λ (u : Unit). IsPermutation (numbered_texts u.values) (elements_of u.id element_list))
         (λ u same. subst (λ cells. IsPermutation cells (elements_of u.id element_list)) (elements_told u.id u.values.texts) (IsPermutation-map element_cell (texts_of u) (filter (λ (e : ElementRow). nat_eq u.id e.unit) element_list) same))
         (nodes s.catalogue.forest) (each_has (λ (u : Unit). u.id) (λ (e : ElementRow). e.unit) texts_of (λ u. element_units u.id 1 u.values.texts) (nodes s.catalogue.forest) element_list apart all_texts);
     others = all_owned (λ (u : Unit). u.id) (λ (e : ElementRow). e.unit) texts_of (λ u. element_units u.id 1 u.values.texts) (nodes s.catalogue.forest) element_list apart all_texts;
@@ -125,8 +137,8 @@ module _ (v : Version) (db : Database) (it : AreGoodTables v db) where
   housings = record {
     housings = housing_list;
     rows = has_numbered read_housing (IsNumbered 4) (λ row fit. fit.1) housing_row_cells is_housing (db.trees tables.housing.tree) read_both.1 (housing_whole v db it).rise (housing_numbered v db it);
-    are = all_weaker (λ (u : Unit). IsPermutation (boxes_of u) (filter (λ (l : HousingRow). nat_eq u.id l.unit) housing_list)) (λ (u : Unit). IsPermutation (housing_cells s.catalogue.containers u.values) (housings_of u.id housing_list))
-        (λ u same. subst (λ cells. IsPermutation cells (housings_of u.id housing_list)) (housings_told s.catalogue.containers u.id u.values.boxes) (IsPermutation-map housing_cell (boxes_of u) (filter (λ (l : HousingRow). nat_eq u.id l.unit) housing_list) same))
+    are = all_weaker (λ (u : Unit). IsPermutation (boxes_of u) (filter (λ (l : HousingRow). nat_eq u.id l.unit) housing_list)) (λ (u : Unit). IsPermutation (numbered_containers s.catalogue.containers u.values) (housing_places u.id housing_list))
+        (λ u same. subst (λ cells. IsPermutation cells (housing_places u.id housing_list)) (housings_told s.catalogue.containers u.id u.values.boxes) (IsPermutation-map housing_cell (boxes_of u) (filter (λ (l : HousingRow). nat_eq u.id l.unit) housing_list) same))
         (nodes s.catalogue.forest) (each_has (λ (u : Unit). u.id) (λ (l : HousingRow). l.unit) boxes_of (λ u. housing_units s.catalogue.containers u.id 1 u.values.boxes) (nodes s.catalogue.forest) housing_list apart all_boxes);
     others = all_owned (λ (u : Unit). u.id) (λ (l : HousingRow). l.unit) boxes_of (λ u. housing_units s.catalogue.containers u.id 1 u.values.boxes) (nodes s.catalogue.forest) housing_list apart all_boxes;
   }

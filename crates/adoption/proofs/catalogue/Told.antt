@@ -1,11 +1,14 @@
 -- What the rows of elements and containers tell of a unit is what its description has.
-use Rattle.std.proofs.Common.{◌≡◌, ℕ, zero, suc, ◌+◌, List, [], ◌∷◌, map, true, cond, Option, Some, None, nat_eq, refl, ap, ap₂, ◌∙◌, arith}
+use Rattle.std.proofs.Common.{◌≡◌, ℕ, zero, suc, ◌+◌, List, [], ◌∷◌, map, true, cond, Option, Some, None, nat_eq, refl}
+use Rattle.std.proofs.Common.{ap, ap₂, ◌∙◌, arith}
 use Rattle.isad_core.specs.Texts.{Bytes}
 use Rattle.isad_core.specs.declared.values.BoxKey.{BoxKey}
 use Rattle.catalogue_core.specs.CatalogueMerge.{box_number}
+use Rattle.office_tables.specs.SharedRows.{numbered_container_cells}
 use Rattle.state_encoding.specs.DeskEncoding.{rows_from}
-use Rattle.office_tables.specs.SharedRows.{container_row}
-use Rattle.adoption.proofs.Common.{AllByRecursion, ContainerRow, ElementRow, HousingRow, after_level, and_parts, are_numbered_from, box_from, container_cells, counted_from, element_number, element_rows_from, eqb-true, housing_row, le-ltb, texts_from}
+use Rattle.adoption.proofs.Common.{AllByRecursion, ContainerRow, ElementRow, HousingRow, after_level, and_parts}
+use Rattle.adoption.proofs.Common.{are_numbered_from, box_from, container_cells, counted_from, element_number}
+use Rattle.adoption.proofs.Common.{element_rows_from, eqb-true, housing_row, le-ltb, texts_from}
 
 -- ---- elements
 
@@ -68,13 +71,13 @@ module _ (containers : List BoxKey) (u : ℕ) where
 -- ---- containers
 
 counted : (n m : ℕ) (rows : List ContainerRow) → are_numbered_from (λ (row : ContainerRow). row.id) n rows ≡ true
-    → n ≡ m → map container_cells rows ≡ map container_row (counted_from m (map box_from rows))
+    → n ≡ m → map container_cells rows ≡ map numbered_container_cells (counted_from m (map box_from rows))
 counted n m [] h e = refl
 counted n m (row ∷ rows) h e =
     let parts = and_parts (nat_eq row.id n) (are_numbered_from (λ (row : ContainerRow). row.id) (suc n) rows) h in
     let here : row.id ≡ m = eqb-true row.id n parts.0 ∙ e in
-    ap₂ ◌∷◌ (ap (λ k. container_row (k, box_from row)) here) (counted (suc n) (m + 1) rows parts.1 (omega (arith, e)))
+    ap₂ ◌∷◌ (ap (λ k. numbered_container_cells (k, box_from row)) here) (counted (suc n) (m + 1) rows parts.1 (omega (arith, e)))
 
 pub containers_told : (rows : List ContainerRow) → are_numbered_from (λ (row : ContainerRow). row.id) 1 rows ≡ true
-    → map container_cells rows ≡ map container_row (counted_from 1 (map box_from rows))
+    → map container_cells rows ≡ map numbered_container_cells (counted_from 1 (map box_from rows))
 containers_told rows h = counted 1 1 rows h refl

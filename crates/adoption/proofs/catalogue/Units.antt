@@ -1,11 +1,13 @@
 -- The units that rows say have these rows.
-use Rattle.std.proofs.Common.{◌≡◌, ℕ, pos, List, [], ◌∷◌, map, Option, Some, None, find, nat_eq, false, Less, refl, sym, ap, ap₂, subst, ◌∙◌}
+use Rattle.std.proofs.Common.{◌≡◌, ℕ, pos, List, [], ◌∷◌, map, Option, Some, None, find, nat_eq, false, Less, refl, sym}
+use Rattle.std.proofs.Common.{ap, ap₂, subst, ◌∙◌}
 use Rattle.std.specs.Prelude.{option_map, unwrap_or}
 use Rattle.tree_core.proofs.EachLemmas.{nodes-each}
 use Rattle.catalogue_core.specs.CatalogueRows.{unit_row as row_of_unit}
-use Rattle.catalogue_statements.specs.Rows.{unit_row}
 use Rattle.office_tables.specs.Schema as tables
-use Rattle.adoption.proofs.Common.{AllByRecursion, CatalogueRows, Forest, IsPermutation, IsPermutation-map, RepresentsUnits, Rises, Trees, Unit, UnitRow, by_number, each, int_cmp, map-map, nodes, unit_cells, unit_from, unit_from_rows, values_from_rows}
+use Rattle.adoption.proofs.Common.{AllByRecursion, CatalogueRows, Forest, IsPermutation, IsPermutation-map}
+use Rattle.adoption.proofs.Common.{RepresentsUnits, Rises, Trees, Unit, UnitRow, by_number, cells_of_unit, each}
+use Rattle.adoption.proofs.Common.{int_cmp, map-map, nodes, unit_cells, unit_from, unit_from_rows, values_from_rows}
 
 module _ (c : CatalogueRows) where
   abbrev made : ℕ → Option UnitRow → Unit
@@ -48,7 +50,7 @@ module _ (c : CatalogueRows) where
       → IsPermutation (map row_of_unit (nodes (each (unit_from_rows c) f))) rows → RepresentsUnits db (each (unit_from_rows c) f)
   units_stored db f rows stored up same = record {
     units = map (unit_from c) rows;
-    rows = stored ∙ sym (map-map unit_row (unit_from c) rows);
+    rows = stored ∙ sym (map-map cells_of_unit (unit_from c) rows);
     rise = rise rows up;
     are = units_are f rows same;
   }

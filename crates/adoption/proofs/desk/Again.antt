@@ -1,21 +1,26 @@
 -- Rows with none of the causes 1 to 9 say a state that is sound but for the rules of the day, and are that state's rows of the desk.
 use Rattle.std.proofs.Common.{◌≡◌, true, map, None, sym, ap, ◌∙◌, inl, inr, nat_eq}
 use Rattle.tree_core.proofs.Lookups.{any_passes}
-use Rattle.catalogue_core.specs.CatalogueRows.{unit_row}
 use Rattle.office_core.specs.State.{State, is_container}
 use Rattle.state_encoding.proofs.SaidOrders.{HoldingParts, holding_parts, place_cases, said_filed, orders_again}
 use Rattle.state_encoding.proofs.SaidPlaces.{said_orders, order_days, holdings_again}
-use Rattle.state_encoding.proofs.SaidReaders.{said_readers, reader_days, readers_again, said_seats, seats_again, said_permits, permit_days, permits_placed, permits_again}
+use Rattle.state_encoding.proofs.SaidReaders.{said_readers, reader_days, readers_again, said_seats, seats_again}
+use Rattle.state_encoding.proofs.SaidReaders.{said_permits, permit_days, permits_placed, permits_again}
 use Rattle.state_encoding.proofs.SaidTexts.{texts_said}
 use Rattle.state_encoding.proofs.told.ToldCatalogue.{catalogue_is_said, no_cause}
-use Rattle.state_encoding.specs.DeskSoundness.{HasGoodCatalogue}
+use Rattle.state_encoding.specs.DeskSoundness.{HasGoodCatalogueRows}
 use Rattle.state_encoding.specs.RowSoundness.{IsCatalogueOf, IsSoundCatalogue}
-use Rattle.adoption.proofs.Common.{ContainerRow, Desk, HoldingRow, In-permutation, IsSoundButForTheDay, MeetsCatalogueKeys, MeetsDeskKeys, OfficeRows, OrdersParts, ReaderParts, RunParts, Trees, UnitRow, Version, and_parts, are_good_holdings, are_numbered_from, around, catalogue_cause, eq-eqb, eqb-true, false≢true, has_id, in_map, legible_rows, lines_again, nodes, not_bad, rows_in, run_days, runs_again, said_container, said_runs, some_in, state_of, tables}
+use Rattle.adoption.proofs.Common.{ContainerRow, Desk, HoldingRow, In-permutation, IsSoundButForTheDay}
+use Rattle.adoption.proofs.Common.{MeetsCatalogueKeys, MeetsDeskKeys, OfficeRows, OrdersParts, ReaderParts, RunParts}
+use Rattle.adoption.proofs.Common.{Trees, UnitRow, Version, and_parts, are_good_holdings, are_numbered_from, around}
+use Rattle.adoption.proofs.Common.{catalogue_cause, eq-eqb, eqb-true, false≢true, has_id, in_map, legible_rows}
+use Rattle.adoption.proofs.Common.{lines_again, nodes, not_bad, rows_in, run_days, runs_again, said_container}
+use Rattle.adoption.proofs.Common.{said_runs, some_in, state_of, tables, unit_row}
 use Rattle.adoption.proofs.desk.ShownDesk.{reader_facts, order_facts, run_facts}
 use Rattle.adoption.proofs.tables.Causeless.{ArePassed}
 
 good_catalogue : (version : Version) (t : OfficeRows) → IsSoundCatalogue (state_of t)
-    → IsCatalogueOf version t (state_of t) → catalogue_cause version t ≡ None → HasGoodCatalogue t
+    → IsCatalogueOf version t (state_of t) → catalogue_cause version t ≡ None → HasGoodCatalogueRows t
 good_catalogue version t sound rows none = record {
   containers = (and_parts (are_numbered_from (λ (row : ContainerRow). row.id) 1 t.catalogue.containers) _ (no_cause version t none).containers).0;
   apart = sound.boxes;
@@ -40,7 +45,7 @@ module _ (version : Version) (db : Trees) (passed : ArePassed version db) (named
   catalogue_facts : IsSoundCatalogue s × IsCatalogueOf version t s
   catalogue_facts = catalogue_is_said version t named passed.catalogue
 
-  c : HasGoodCatalogue t
+  c : HasGoodCatalogueRows t
   c = good_catalogue version t catalogue_facts.0 catalogue_facts.1 passed.catalogue
 
   r : ReaderParts t

@@ -1,6 +1,10 @@
 -- A whole row of a table of the desk that can be read has the cells of what is read.
 use Rattle.std.proofs.Common.{◌≡◌, ℤ, pos, ◌∷◌, Some, refl, ap, ap₂, ◌∙◌}
-use Rattle.adoption.proofs.Common.{HoldingRow, Int, OrderRow, PermitRow, ReaderRow, Row, RunLineRow, RunRow, SeatRow, Value, column, from_first, holding_cells, is_number, is_or_null, is_text, is_whole, number_in, or_null_in, order_cells, permit_cells, read_holding, read_order, read_permit, read_reader, read_run, read_run_line, read_seat, reader_cells, run_cells, run_line_cells, seat_cells, text_in, whole_in, whole_row}
+use Rattle.adoption.proofs.Common.{HoldingRow, Int, OrderRow, PermitRow, ReaderRow, Row, RunLineRow, RunRow, SeatRow}
+use Rattle.adoption.proofs.Common.{Value, column, from_first, holding_cells, is_number, is_or_null, is_text, is_whole}
+use Rattle.adoption.proofs.Common.{number_in, or_null_in, order_cells, permit_cells, read_holding, read_order}
+use Rattle.adoption.proofs.Common.{read_permit, read_reader, read_run, read_run_line, read_seat, reader_cells}
+use Rattle.adoption.proofs.Common.{run_cells, run_line_cells, seat_cells, text_in, whole_in, whole_row}
 use Rattle.adoption.proofs.catalogue.Rules.{IsKeyed, IsNumbered}
 
 -- a cell, and those behind it

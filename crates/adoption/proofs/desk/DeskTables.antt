@@ -1,8 +1,9 @@
 -- The desk's tables of a live connection, whose rows stand in order, with none of the causes 1 to 9 against them.
 use Rattle.std.proofs.Common.{subst}
-use Rattle.adoption.specs.Desk.{RowsRepresentTheDesk}
 use Rattle.row_completeness.proofs.FullRows.{whole_tables}
-use Rattle.adoption.proofs.Common.{AllByRecursion, AreGoodTables, Database, IsWholeTable, Obeys, Schema, Table, Version, schema}
+use Rattle.adoption.specs.Desk.{RowsRepresentTheDesk}
+use Rattle.adoption.proofs.Common.{AllByRecursion, AreGoodTables, Database, IsWholeTable, Obeys, Schema, Table, Version}
+use Rattle.adoption.proofs.Common.{schema}
 use Rattle.adoption.proofs.desk.KeptDesk.{keys}
 use Rattle.adoption.proofs.desk.ShownDesk.{shows_desk}
 use Rattle.adoption.proofs.tables.Causeless.{ArePassed, are_passed}

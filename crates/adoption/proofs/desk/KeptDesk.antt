@@ -1,15 +1,23 @@
 -- What a live connection tells of the desk's tables, when they are whole and all of their rows can be read: each has the cells of the
 -- rows that are read, and these have their keys.
-use Rattle.std.proofs.Common.{◌≡◌, ℕ, length, List, [], ◌∷◌, true, false, not, ◌&&◌, inl, inr, IsTrue, filter_map, nat_eq, refl, sym, ap, subst, ◌∙◌, arith}
+use Rattle.std.proofs.Common.{◌≡◌, ℕ, length, List, [], ◌∷◌, true, false, not, ◌&&◌, inl, inr, IsTrue, filter_map}
+use Rattle.std.proofs.Common.{nat_eq, refl, sym, ap, subst, ◌∙◌, arith}
 use Rattle.sqlite_catalog.specs.Listing.{automatic}
 use Rattle.sqlite_schema.specs.Rules.{passes}
 use Rattle.sqlite_schema.specs.declared.schema.Index.{Index}
 use Rattle.catalogue_core.specs.Members.{StandsIn}
-use Rattle.state_encoding.proofs.Grouped.{order_weaker}
 use Rattle.office_tables.specs.Schema as tables
-use Rattle.adoption.proofs.Common.{AllByRecursion, AreInOrder, Datatype, Desk, HasNumbered, HoldingRow, IsWholeTable, MeetsDeskKeys, Obeys, OrderRow, PermitRow, ReaderRow, Row, RunLineRow, RunRow, SeatRow, Table, Trees, Unique, Version, all_both, all_weaker, and_parts, clashes, eq-eqb, false≢true, guards, holding_cells, is_int, is_null, not-true, order_cells, permit_cells, read_holding, read_order, read_permit, read_reader, read_run, read_run_line, read_seat, reader_cells, rowid, rows_in, run_cells, run_line_cells, schema, seat_cells, test_in, then_by}
+use Rattle.state_encoding.proofs.Grouped.{order_weaker}
+use Rattle.adoption.proofs.Common.{AllByRecursion, AreInOrder, Datatype, Desk, HasNumbered, HoldingRow, IsWholeTable}
+use Rattle.adoption.proofs.Common.{MeetsDeskKeys, Obeys, OrderRow, PermitRow, ReaderRow, Row, RunLineRow, RunRow}
+use Rattle.adoption.proofs.Common.{SeatRow, Table, Trees, Unique, Version, all_both, all_weaker, and_parts, clashes}
+use Rattle.adoption.proofs.Common.{eq-eqb, false≢true, guards, holding_cells, is_int, is_null, not-true, order_cells}
+use Rattle.adoption.proofs.Common.{permit_cells, read_holding, read_order, read_permit, read_reader, read_run}
+use Rattle.adoption.proofs.Common.{read_run_line, read_seat, reader_cells, rowid, rows_in, run_cells, run_line_cells}
+use Rattle.adoption.proofs.Common.{schema, seat_cells, test_in, then_by}
 use Rattle.adoption.proofs.catalogue.Rules.{IsKeyed, IsNumbered, rows_keyed}
-use Rattle.adoption.proofs.desk.DeskRows.{reader_is, seat_is, order_is, holding_is, run_is, run_line_is, permit_is, seat_parts, line_parts, permit_parts}
+use Rattle.adoption.proofs.desk.DeskRows.{reader_is, seat_is, order_is, holding_is, run_is, run_line_is, permit_is}
+use Rattle.adoption.proofs.desk.DeskRows.{seat_parts, line_parts, permit_parts}
 use Rattle.adoption.proofs.tables.Causeless.{IsDeskRead}
 use Rattle.adoption.proofs.tables.PairsInOrder.{pairs_rise}
 use Rattle.adoption.proofs.tables.RowsStored.{AreStored, stored, numbered, stays}

@@ -1,7 +1,11 @@
 -- Tables of a desk against which there is no cause show the desk of their rows.
 use Rattle.std.proofs.Common.{◌≡◌, ℕ, suc, ◌+◌, ◌<◌, ◌≤◌, length, List, [], ◌∷◌, true, nat_eq, inl, inr, arith}
 use Rattle.desk_store.specs.Representation.{IsNumberOf, RepresentsDesk}
-use Rattle.adoption.proofs.Common.{AllByRecursion, AreCountedFrom, IsWholeTable, Obeys, OfficeRows, OrderRow, OrdersParts, PermitRow, ReaderParts, ReaderRow, RunLineRow, RunParts, RunRow, Table, Trees, Version, all_of_in, and_parts, are_good_orders, are_good_readers, are_good_runs, are_numbered_from, around, eqb-true, false≢true, list_any, not_bad, or_cases, orders_parts, reader_parts, rows_in, run_parts, schema}
+use Rattle.adoption.proofs.Common.{AllByRecursion, AreCountedFrom, IsWholeTable, Obeys, OfficeRows, OrderRow}
+use Rattle.adoption.proofs.Common.{OrdersParts, PermitRow, ReaderParts, ReaderRow, RunLineRow, RunParts, RunRow, Table}
+use Rattle.adoption.proofs.Common.{Trees, Version, all_of_in, and_parts, are_good_orders, are_good_readers}
+use Rattle.adoption.proofs.Common.{are_good_runs, are_numbered_from, around, eqb-true, false≢true, list_any, not_bad}
+use Rattle.adoption.proofs.Common.{or_cases, orders_parts, reader_parts, rows_in, run_parts, schema}
 use Rattle.adoption.proofs.desk.KeptDesk.{readers, seats, orders, holdings, runs, run_lines, permits}
 use Rattle.adoption.proofs.tables.Causeless.{ArePassed}
 

@@ -1,7 +1,13 @@
 -- What it means, table by table, that none of the causes 1 to 9 holds of the rows of tables.
 use Rattle.std.proofs.Common.{◌≡◌, Bool, true, false, ◌||◌, [], ◌∷◌, None, refl}
 use Rattle.office_tables.specs.Schema as tables
-use Rattle.adoption.proofs.Common.{AllByRecursion, OfficeRows, Trees, Version, around, catalogue_cause, catalogue_cell_cause, cell_cause, containers_are_bad, day_is_broken, elements_are_bad, encoding, first_held, has_unread, hold_none, holdings_are_bad, of_desk, office_is_bad, or_parts, orders_are_bad, places_are_bad, places_are_unread, read_container, read_element, read_holding, read_housing, read_office, read_order, read_permit, read_reader, read_run, read_run_line, read_seat, read_unit, readers_are_bad, rows_in, runs_are_bad, units_are_bad, unread}
+use Rattle.adoption.proofs.Common.{AllByRecursion, OfficeRows, Trees, Version, around, catalogue_cause}
+use Rattle.adoption.proofs.Common.{catalogue_cell_cause, cell_cause, containers_are_bad, day_is_broken}
+use Rattle.adoption.proofs.Common.{elements_are_bad, encoding, first_held, has_unread, hold_none, holdings_are_bad}
+use Rattle.adoption.proofs.Common.{of_desk, office_is_bad, or_parts, orders_are_bad, places_are_bad, places_are_unread}
+use Rattle.adoption.proofs.Common.{read_container, read_element, read_holding, read_housing, read_office, read_order}
+use Rattle.adoption.proofs.Common.{read_permit, read_reader, read_run, read_run_line, read_seat, read_unit}
+use Rattle.adoption.proofs.Common.{readers_are_bad, rows_in, runs_are_bad, units_are_bad, unread}
 
 -- ---- nine of ten tests do not hold
 

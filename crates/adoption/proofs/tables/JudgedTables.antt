@@ -2,16 +2,18 @@
 use Rattle.std.proofs.Common.{◌≡◌, ◌<◌, ◌^◌, true, sym, subst, inr, arith}
 use Rattle.isad_core.proofs.DayLemmas.{is_day_number-true}
 use Rattle.isad_core.specs.Days.{is_day_number}
+use Rattle.desk_core.specs.LegibleDesks.{IsKnownPlace, IsLegible, IsLegibleHolding, IsLegibleOrder, IsLegibleReader}
 use Rattle.catalogue_core.proofs.KeptCatalogues.{kept, knows}
 use Rattle.catalogue_core.specs.Members.{StandsIn}
-use Rattle.desk_core.specs.LegibleDesks.{IsKnownPlace, IsLegible, IsLegibleHolding, IsLegibleOrder, IsLegibleReader}
 use Rattle.office_core.proofs.Words.{numbered_within}
 use Rattle.office_core.specs.State.{State}
 use Rattle.state_encoding.proofs.DeskLookups.{is_between_so}
 use Rattle.state_encoding.proofs.SaidOrders.{HoldingKind, AtDesk, OutWith}
 use Rattle.refinement.proofs.Judged.{distinct_ids, orders_there}
 use Rattle.refinement.specs.AccessConditions.{CanBeJudged}
-use Rattle.adoption.proofs.Common.{HoldingRow, IsSoundButForTheDay, IsUtf8, MeetsCatalogueKeys, MeetsDeskKeys, OfficeRows, OrdersParts, PermitRow, ReaderParts, ReaderRow, RunParts, RunRow, SeatRow, Trees, Version, all_in, all_of_in, legible_rows, rows_in, state_of}
+use Rattle.adoption.proofs.Common.{HoldingRow, IsSoundButForTheDay, IsUtf8, MeetsCatalogueKeys, MeetsDeskKeys}
+use Rattle.adoption.proofs.Common.{OfficeRows, OrdersParts, PermitRow, ReaderParts, ReaderRow, RunParts, RunRow}
+use Rattle.adoption.proofs.Common.{SeatRow, Trees, Version, all_in, all_of_in, legible_rows, rows_in, state_of}
 use Rattle.adoption.proofs.desk.Again.{q, said_again, holding_known, sound_but}
 use Rattle.adoption.proofs.desk.ShownDesk.{reader_facts, order_facts, run_facts}
 use Rattle.adoption.proofs.tables.Causeless.{ArePassed}

@@ -1,6 +1,8 @@
 -- Rows of which no two have the same pair of numbers stand in strict order, once they are put in order.
-use Rattle.std.proofs.Common.{◌≡◌, ◌⊎◌, ℕ, ◌<◌, ◌≤◌, List, [], ◌∷◌, Bool, true, false, ◌&&◌, if◌then◌else◌, nat_eq, nat_lt, refl, sym, ap, ◌∙◌, inl, inr, arith}
-use Rattle.adoption.proofs.Common.{AllByRecursion, AreInOrder, all_weaker, and_parts, cases_eq, eq-eqb, eqb-true, false≢true, in_order, ltb-false, ltb-true, or_cases, or_parts, put_in_order, then_by}
+use Rattle.std.proofs.Common.{◌≡◌, ◌⊎◌, ℕ, ◌<◌, ◌≤◌, List, [], ◌∷◌, Bool, true, false, ◌&&◌, if◌then◌else◌, nat_eq}
+use Rattle.std.proofs.Common.{nat_lt, refl, sym, ap, ◌∙◌, inl, inr, arith}
+use Rattle.adoption.proofs.Common.{AllByRecursion, AreInOrder, all_weaker, and_parts, cases_eq, eq-eqb, eqb-true}
+use Rattle.adoption.proofs.Common.{false≢true, in_order, ltb-false, ltb-true, or_cases, or_parts, put_in_order, then_by}
 
 module _ {X : Type 0} (key second : X → ℕ) where
   abbrev pub IsPairBefore : X → X → Type 0

@@ -1,6 +1,10 @@
 -- A table whose rows are whole and can all be read has the cells of what is read, in the order of its key.
-use Rattle.std.proofs.Common.{◌≡◌, ℕ, ℤ, pos, ◌<◌, List, [], ◌∷◌, map, Bool, false, Option, Some, Less, filter_map, sym, ap, subst, ◌∙◌, IsTrue}
-use Rattle.adoption.proofs.Common.{AllByRecursion, AreByNumber, AreInOrder, HasNumbered, Int, IsAscending, IsPermutation-sym, IsPermutation-trans, IsTable, Row, all_weaker, by, column, has_numbered, has_unread, in_order, in_order-permutation, int_cmp, is_int, less_below, rows_kept, rows_rise, stay_in_order}
+use Rattle.std.proofs.Common.{◌≡◌, ℕ, ℤ, pos, ◌<◌, List, [], ◌∷◌, map, Bool, false, Option, Some, Less, filter_map, sym}
+use Rattle.std.proofs.Common.{ap, subst, ◌∙◌, IsTrue}
+use Rattle.adoption.proofs.Common.{AllByRecursion, AreByNumber, AreInOrder, HasNumbered, Int, IsAscending}
+use Rattle.adoption.proofs.Common.{IsPermutation-sym, IsPermutation-trans, IsTable, Row, all_weaker, by, column}
+use Rattle.adoption.proofs.Common.{has_numbered, has_unread, in_order, in_order-permutation, int_cmp, is_int}
+use Rattle.adoption.proofs.Common.{less_below, rows_kept, rows_rise, stay_in_order}
 
 -- ---- orders
 

@@ -3,7 +3,10 @@ use Rattle.std.proofs.Common.{◌≡◌, ℕ, None, sym, ap, subst}
 use Rattle.std.specs.Prelude.{drop}
 use Rattle.desk_store.specs.Representation.{RepresentsDesk}
 use Rattle.adoption.specs.Desk.{RepresentsItsDesk}
-use Rattle.adoption.proofs.Common.{AreGoodTables, AreSoundTables, Database, Forest, RepresentsAGoodState, RepresentsItsCatalogue, RepresentsItsState, Trees, Version, catalogue_cell_cause, catalogue_tests, cell_cause, cells_are_said, desk_tests, either_of, none_before, of_desk, rows_in, unread}
+use Rattle.adoption.proofs.Common.{AreGoodTables, AreSoundTables, Database, Forest, RepresentsAGoodState}
+use Rattle.adoption.proofs.Common.{RepresentsItsCatalogue, RepresentsItsState, Trees, Version, catalogue_cell_cause}
+use Rattle.adoption.proofs.Common.{catalogue_tests, cell_cause, cells_are_said, desk_tests, either_of, none_before}
+use Rattle.adoption.proofs.Common.{of_desk, rows_in, unread}
 use Rattle.adoption.proofs.desk.Again.{said_again, sound_but}
 use Rattle.adoption.proofs.desk.DeskTables.{passed, desk_shown}
 use Rattle.adoption.proofs.tables.JudgedTables.{can_be_judged}

@@ -1,8 +1,10 @@
 -- Rows of a table with a unique index differ in the numbers of its columns.
-use Rattle.std.proofs.Common.{◌≡◌, ℕ, pos, List, [], ◌∷◌, false, ◌&&◌, nat_eq, Option, Some, filter_map, sym, ◌∙◌, IsTrue}
+use Rattle.std.proofs.Common.{◌≡◌, ℕ, pos, List, [], ◌∷◌, false, ◌&&◌, nat_eq, Option, Some, filter_map, sym, ◌∙◌}
+use Rattle.std.proofs.Common.{IsTrue}
 use Rattle.sqlite_value.specs.Keys.{first_key}
 use Rattle.office_tables.proofs.Tests.{both, only, same_number}
-use Rattle.adoption.proofs.Common.{AllByRecursion, AreInOrder, Int, IsTable, KeysDiffer, Row, agree, clashes, column, is_int, keys_differ, plain, read_pairs, rowid}
+use Rattle.adoption.proofs.Common.{AllByRecursion, AreInOrder, Int, IsTable, KeysDiffer, Row, agree, clashes, column}
+use Rattle.adoption.proofs.Common.{is_int, keys_differ, plain, read_pairs, rowid}
 use Rattle.adoption.proofs.tables.RowsStored.{in_order_so}
 
 agrees_in_one : (a b : Row) (p m n : ℕ) → column a p ≡ Int (pos m) → column b p ≡ Int (pos n)

@@ -3,8 +3,8 @@ ghost use Rattle.std.specs.Prelude.{◌≡◌, IfOk, map, false};
 ghost use Rattle.std.specs.List.{list_all};
 ghost use Rattle.desk_core.specs.DeskCauses.{Around as Held, are_good_holdings, orders_are_bad};
 ghost use Rattle.desk_core.specs.DeskRows.{Desk};
-ghost use Rattle.desk_core.specs.RowRecords.{Surrounds, order_row, holding_row};
-ghost use Rattle.desk_core.specs.Consistency.{holder, is_held, is_fit_holding, is_out_for};
+ghost use Rattle.desk_core.specs.RowRecords.{Surrounds, order_record, holding_record};
+ghost use Rattle.desk_core.specs.Consistency.{holder, is_held, is_fit_holding, is_order_out_for};
 ghost use Rattle.desk_core.specs.Consistency.{lies_well as lies_well_of};
 
 use crate::consistency::context::Around;
@@ -22,7 +22,7 @@ pub fn are_good_holdings(
     holdings: &[HoldingRow],
 ) -> Result<bool, AllocError>
     ensures { IfOk result (λ good. (a : Held) (d : Desk) → Surrounds around.now a d
-        → d.orders ≡ map order_row orders.now → d.holdings ≡ map holding_row holdings.now
+        → d.orders ≡ map order_record orders.now → d.holdings ≡ map holding_record holdings.now
         → orders_are_bad a d ≡ false → good ≡ are_good_holdings a d) }
 {
     if !are_fit(around, orders, holdings) {
@@ -51,7 +51,7 @@ fn lies_well(orders: &[OrderRow], row: &HoldingRow) -> bool
 
 /// Whether the order with this number is out with this container.
 fn is_out(orders: &[OrderRow], container: u64, number: u64) -> bool
-    ensures { result ≡ is_out_for orders.now container number }
+    ensures { result ≡ is_order_out_for orders.now container number }
 {
     match nth_order(orders, number) {
         None => false,

@@ -2,11 +2,11 @@
 ghost use Rattle.std.specs.Prelude.{◌≡◌, ◌<◌, ◌≤◌, cond, length, slice_index_or};
 ghost use Rattle.std.specs.List.Sorted.{IsSorted};
 ghost use Rattle.std.specs.Ordering.{is_eq};
-ghost use Rattle.desk_core.specs.KeyCounts.{occurs_more_than as occurs_more_than_of};
+ghost use Rattle.desk_core.specs.KeyCounts.{key_occurs_more_than};
 
 /// Whether a key occurs more than `most` times.
 pub(crate) fn occurs_more_than<K: Ord + Copy + Drop>(mut keys: Vec<K>, most: u64) -> bool
-    ensures { result ≡ occurs_more_than_of K.cmp most keys.items }
+    ensures { result ≡ key_occurs_more_than K.cmp most keys.items }
 {
     keys.sort_unstable();
     runs_over(&keys, most)
@@ -14,7 +14,7 @@ pub(crate) fn occurs_more_than<K: Ord + Copy + Drop>(mut keys: Vec<K>, most: u64
 
 /// The same for sorted keys, in which equal ones are adjacent.
 fn runs_over<K: Ord + Copy>(keys: &[K], most: u64) -> bool
-    ensures { IsSorted K.cmp keys.now → result ≡ occurs_more_than_of K.cmp most keys.now }
+    ensures { IsSorted K.cmp keys.now → result ≡ key_occurs_more_than K.cmp most keys.now }
 {
     let mut first = 0;
     for i in 0..keys.len() {

@@ -5,10 +5,10 @@ ghost use Rattle.isad_core.specs.Limits.{most_orders};
 ghost use Rattle.isad_core.specs.Words.{are_numbered_from};
 ghost use Rattle.desk_core.specs.DeskCauses.{Around as Held, are_good_orders};
 ghost use Rattle.desk_core.specs.DeskRows.{Desk};
-ghost use Rattle.desk_core.specs.RowRecords.{Surrounds, order_row};
+ghost use Rattle.desk_core.specs.RowRecords.{Surrounds, order_record};
 ghost use Rattle.desk_core.specs.Consistency.{is_fit_order as is_fit_order_of, placing, placing_cmp};
 ghost use Rattle.desk_core.specs.Consistency.{asking, asking_cmp};
-ghost use Rattle.desk_core.specs.KeyCounts.{occurs_more_than as occurs_more_than_of};
+ghost use Rattle.desk_core.specs.KeyCounts.{key_occurs_more_than};
 ghost use Rattle.desk_core.specs.Consistency.{waits_or_is_out as waits_or_is_out_of};
 
 use crate::consistency::context::{Around, is_given};
@@ -30,7 +30,7 @@ pub fn are_good_orders(
     orders: &[OrderRow],
 ) -> Result<bool, AllocError>
     ensures { IfOk result (λ good. (a : Held) (d : Desk) → Surrounds around.now a d
-        → d.orders ≡ map order_row orders.now → good ≡ are_good_orders a d) }
+        → d.orders ≡ map order_record orders.now → good ≡ are_good_orders a d) }
 {
     let numbers = numbers_of(alloc, orders)?;
     if !are_plain(around, &numbers, orders) {
@@ -55,7 +55,7 @@ fn are_plain(around: &Around, numbers: &[u64], orders: &[OrderRow]) -> bool
 /// Whether no ticket placed more orders on a day than it may.
 fn keep_the_limit(alloc: Global, daily: u64, orders: &[OrderRow]) -> Result<bool, AllocError>
     ensures { IfOk result (λ good. good
-        ≡ not (occurs_more_than_of placing_cmp daily (map placing orders.now))) }
+        ≡ not (key_occurs_more_than placing_cmp daily (map placing orders.now))) }
 {
     let placings = placings_of(alloc, orders)?;
     Ok(!occurs_more_than(placings, daily))
@@ -64,7 +64,7 @@ fn keep_the_limit(alloc: Global, daily: u64, orders: &[OrderRow]) -> Result<bool
 /// Whether no ticket asks twice for a container, by orders that wait or are out.
 fn ask_once(alloc: Global, orders: &[OrderRow]) -> Result<bool, AllocError>
     ensures { IfOk result (λ good. good
-        ≡ not (occurs_more_than_of asking_cmp 1 (map asking (filter waits_or_is_out_of orders.now)))) }
+        ≡ not (key_occurs_more_than asking_cmp 1 (map asking (filter waits_or_is_out_of orders.now)))) }
 {
     let askings = askings_of(alloc, orders)?;
     Ok(!occurs_more_than(askings, 1))

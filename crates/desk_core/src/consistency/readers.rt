@@ -3,7 +3,7 @@ ghost use Rattle.std.specs.Prelude.{◌≡◌, IfOk, map};
 ghost use Rattle.std.specs.List.{list_all};
 ghost use Rattle.desk_core.specs.DeskCauses.{Around as Held, is_good_seat, is_good_permit};
 ghost use Rattle.desk_core.specs.DeskRows.{Desk};
-ghost use Rattle.desk_core.specs.RowRecords.{Surrounds, seat_row, permit_row};
+ghost use Rattle.desk_core.specs.RowRecords.{Surrounds, seat_record, permit_record};
 ghost use Rattle.desk_core.specs.Consistency.{is_fit_seat, is_fit_permit};
 
 use crate::consistency::context::{Around, is_given};
@@ -15,7 +15,7 @@ use std::alloc::{AllocError, Global};
 
 /// Whether each seat is one of the office's and is taken by a reader.
 pub fn are_good_seats(around: &Around, seats: &[SeatRow]) -> bool
-    ensures { (a : Held) (d : Desk) → Surrounds around.now a d → d.seats ≡ map seat_row seats.now
+    ensures { (a : Held) (d : Desk) → Surrounds around.now a d → d.seats ≡ map seat_record seats.now
         → result ≡ list_all (is_good_seat a d) d.seats }
 {
     seats_are_fit(around, seats)
@@ -35,7 +35,7 @@ pub fn are_good_permits(
     permits: &[PermitRow],
 ) -> Result<bool, AllocError>
     ensures { IfOk result (λ good. (a : Held) (d : Desk) → Surrounds around.now a d
-        → d.permits ≡ map permit_row permits.now → good ≡ list_all (is_good_permit a d) d.permits) }
+        → d.permits ≡ map permit_record permits.now → good ≡ list_all (is_good_permit a d) d.permits) }
 {
     let tickets = tickets_of(alloc, permits)?;
     let tally = Tally::of(alloc, around.readers, &tickets)?;

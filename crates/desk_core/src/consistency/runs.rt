@@ -5,7 +5,7 @@ ghost use Rattle.isad_core.specs.Limits.{most_runs};
 ghost use Rattle.isad_core.specs.Words.{are_numbered_from};
 ghost use Rattle.desk_core.specs.DeskCauses.{Around as Held, are_good_runs, orders_are_bad};
 ghost use Rattle.desk_core.specs.DeskRows.{Desk};
-ghost use Rattle.desk_core.specs.RowRecords.{Surrounds, order_row, run_row, run_line_row};
+ghost use Rattle.desk_core.specs.RowRecords.{Surrounds, order_record, run_record, run_line_record};
 ghost use Rattle.desk_core.specs.Consistency.{is_fit_line as is_fit_line_of};
 ghost use Rattle.desk_core.specs.Consistency.{is_fit_run as is_fit_run_of};
 
@@ -29,8 +29,8 @@ pub fn are_good_runs(
     lines: &[RunLineRow],
 ) -> Result<bool, AllocError>
     ensures { IfOk result (λ good. (a : Held) (d : Desk) → Surrounds around.now a d
-        → d.orders ≡ map order_row orders.now → d.runs ≡ map run_row runs.now
-        → d.run_lines ≡ map run_line_row lines.now
+        → d.orders ≡ map order_record orders.now → d.runs ≡ map run_record runs.now
+        → d.run_lines ≡ map run_line_record lines.now
         → orders_are_bad a d ≡ false → good ≡ are_good_runs a d) }
 {
     let numbers = numbers_of(alloc, runs)?;

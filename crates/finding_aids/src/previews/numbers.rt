@@ -4,8 +4,8 @@ ghost use Rattle.std.specs.Prelude.{IfOk, OnOk, None, Some};
 ghost use Rattle.std.specs.BTreeMap.{btree_map_len};
 ghost use Rattle.std.specs.List.{flat_map};
 ghost use Rattle.isad_core.specs.declared.values.BoxKey as spec;
-ghost use Rattle.isad_core.specs.Boxes.{is_same};
-ghost use Rattle.finding_aids.specs.Numbers.{AreNumbered, number_at};
+ghost use Rattle.isad_core.specs.Boxes.{is_same_box};
+ghost use Rattle.finding_aids.specs.Numbers.{AreNumbered, mapped_number};
 
 use atom_csv::Row;
 use isad_core::BoxKey;
@@ -28,7 +28,7 @@ pub fn number_boxes(alloc: Global, rows: &[Row]) -> Result<Numbers<'_>, AllocErr
 
 /// The number of a container, if it has one.
 pub fn number_of<'a>(numbers: &Numbers<'a>, container: &'a BoxKey) -> Option<u64>
-    ensures { result ≡ number_at numbers.now container.now }
+    ensures { result ≡ mapped_number numbers.now container.now }
 {
     let texts = (
         container.name.as_str(),
@@ -67,9 +67,9 @@ fn set_number<'a>(
     container: &'a BoxKey,
     number: u64,
 ) -> Result<(), AllocError>
-    ensures set { OnOk result ((q : spec.BoxKey) → number_at numbers.new q
-        ≡ (if is_same container.now q then Some number else number_at numbers.old q)) }
-    ensures count { OnOk result (number_at numbers.old container.now ≡ None →
+    ensures set { OnOk result ((q : spec.BoxKey) → mapped_number numbers.new q
+        ≡ (if is_same_box container.now q then Some number else mapped_number numbers.old q)) }
+    ensures count { OnOk result (mapped_number numbers.old container.now ≡ None →
         btree_map_len numbers.new ≡ btree_map_len numbers.old + 1) }
 {
     let texts = (

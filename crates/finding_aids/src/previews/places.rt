@@ -68,7 +68,7 @@ fn bad(row: &Row, cause: u8) -> FileFault
 /// The place below this parent, if the parent is known, or the place of a top.
 fn place_of(known: &Known, places: &[RowPosition], parent: Option<&Text>) -> Option<RowPosition>
     requires { All (λ p. p.depth ≤ most_deep) places.now }
-    ensures { result ≡ spec.place_of (get_by_text known.now) places.now (option_copied parent.entry) }
+    ensures { result ≡ spec.place_below (get_by_text known.now) places.now (option_copied parent.entry) }
 {
     match parent {
         None => Some(RowPosition {

@@ -1,14 +1,16 @@
 -- The rows of the reading room, computed.
 use Rattle.std.proofs.Common.{refl}
-use Rattle.std.specs.Str.{is_utf8, chars}
 use Rattle.std.proofs.Math.Utf8.{encode}
-use Rattle.csv.specs.Reading.{records_from, strip_bom}
+use Rattle.std.specs.Str.{is_utf8, chars}
 use Rattle.csv.specs.Machine.{next_record}
+use Rattle.csv.specs.Reading.{records_from, strip_bom}
 use Rattle.atom_csv.specs.Columns.{columns}
 use Rattle.atom_csv.specs.Values.{text_elements}
 use Rattle.catalogue_core.specs.ContainerContents.{is_open}
 use Rattle.catalogue_core.specs.Intake.{take}
-use Rattle.office_core.specs.WorkedDesk.{RenewedAlone, RegisteredTooLate, RunForAnExpiredTicket, ReshelvedInOrder, NotFirstAndExpired, HandsFullAndClosed, OrderedAndClosed, UnknownTicketAndUnit, RunForFullHands, ExpiredHolder, PermitsOfTheExpired, PermitOfAnEarlierDay}
+use Rattle.office_core.specs.WorkedDesk.{RenewedAlone, RegisteredTooLate, RunForAnExpiredTicket, ReshelvedInOrder}
+use Rattle.office_core.specs.WorkedDesk.{NotFirstAndExpired, HandsFullAndClosed, OrderedAndClosed, UnknownTicketAndUnit}
+use Rattle.office_core.specs.WorkedDesk.{RunForFullHands, ExpiredHolder, PermitsOfTheExpired, PermitOfAnEarlierDay}
 
 pub renewed_alone : RenewedAlone
 unfolding is_open take is_utf8 chars encode records_from strip_bom next_record columns text_elements

@@ -1,15 +1,16 @@
 -- The rows of imports, closures and moves, computed.
 use Rattle.std.proofs.Common.{refl}
+use Rattle.std.proofs.Math.Utf8.{encode}
 use Rattle.std.specs.Fmt.{digits}
 use Rattle.std.specs.Str.{is_utf8, chars}
-use Rattle.std.proofs.Math.Utf8.{encode}
-use Rattle.csv.specs.Reading.{records_from, strip_bom}
 use Rattle.csv.specs.Machine.{next_record}
+use Rattle.csv.specs.Reading.{records_from, strip_bom}
 use Rattle.atom_csv.specs.Columns.{columns}
 use Rattle.atom_csv.specs.Values.{text_elements}
 use Rattle.catalogue_core.specs.ContainerContents.{is_open}
 use Rattle.catalogue_core.specs.Intake.{take}
-use Rattle.office_core.specs.WorkedImports.{LevelsWithoutRank, OneMissing, ChangedAlone, NewBelow, ClosuresKept, TooDeepBeforeTheGate}
+use Rattle.office_core.specs.WorkedImports.{LevelsWithoutRank, OneMissing, ChangedAlone, NewBelow, ClosuresKept}
+use Rattle.office_core.specs.WorkedImports.{TooDeepBeforeTheGate}
 
 pub levels_without_rank : LevelsWithoutRank
 unfolding is_open take is_utf8 chars encode records_from strip_bom next_record columns text_elements

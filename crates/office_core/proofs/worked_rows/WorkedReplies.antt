@@ -1,15 +1,20 @@
 -- The worked rows, computed.
 use Rattle.std.proofs.Common.{refl}
+use Rattle.std.proofs.Math.Utf8.{encode}
 use Rattle.std.specs.Fmt.{digits}
 use Rattle.std.specs.Str.{is_utf8, chars}
-use Rattle.std.proofs.Math.Utf8.{encode}
-use Rattle.csv.specs.Reading.{records_from, strip_bom}
 use Rattle.csv.specs.Machine.{next_record}
+use Rattle.csv.specs.Reading.{records_from, strip_bom}
 use Rattle.atom_csv.specs.Columns.{columns}
 use Rattle.atom_csv.specs.Values.{text_elements}
 use Rattle.catalogue_core.specs.ContainerContents.{is_open}
 use Rattle.catalogue_core.specs.Intake.{take}
-use Rattle.office_core.specs.WorkedReplies.{Depths, NamesOfReaders, AtTheCounter, QueueOfTwo, GateAndDay, RunOfTwoAndOne, OrdersOfADay, Seats, ExpiryAndRenewal, HandsAndReshelving, LeastOrders, LockGates, Permits, PermitsAndDrafts, ImportAgain, FaultyFiles, Remarks, Moves, Unknown, ExpiredAtTheDesk, ClosureEnds, SeatsOvernight, LowestContainer, HeadCancelled, TwoAtOnce, WithReaderAgain, PermitsAbove, Placed}
+use Rattle.office_core.specs.WorkedReplies.{Depths, NamesOfReaders, AtTheCounter, QueueOfTwo, GateAndDay}
+use Rattle.office_core.specs.WorkedReplies.{RunOfTwoAndOne, OrdersOfADay, Seats, ExpiryAndRenewal, HandsAndReshelving}
+use Rattle.office_core.specs.WorkedReplies.{LeastOrders, LockGates, Permits, PermitsAndDrafts, ImportAgain, FaultyFiles}
+use Rattle.office_core.specs.WorkedReplies.{Remarks, Moves, Unknown, ExpiredAtTheDesk, ClosureEnds, SeatsOvernight}
+use Rattle.office_core.specs.WorkedReplies.{LowestContainer, HeadCancelled, TwoAtOnce, WithReaderAgain, PermitsAbove}
+use Rattle.office_core.specs.WorkedReplies.{Placed}
 
 pub queue_of_two : QueueOfTwo
 unfolding is_open take is_utf8 chars encode records_from strip_bom next_record columns text_elements

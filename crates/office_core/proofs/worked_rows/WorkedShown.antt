@@ -1,17 +1,18 @@
 -- The rows of what is shown, computed.
 use Rattle.std.proofs.Common.{refl}
+use Rattle.std.proofs.Math.Utf8.{encode}
 use Rattle.std.specs.Fmt.{digits}
 use Rattle.std.specs.Str.{is_utf8, chars}
-use Rattle.std.proofs.Math.Utf8.{encode}
-use Rattle.csv.specs.Reading.{records_from, strip_bom}
 use Rattle.csv.specs.Machine.{next_record}
+use Rattle.csv.specs.Reading.{records_from, strip_bom}
 use Rattle.serde_json.proofs.OnLiterals.{serde_json_on_literals}
 use Rattle.isad_core.specs.Days.{day_text}
 use Rattle.atom_csv.specs.Columns.{columns}
 use Rattle.atom_csv.specs.Values.{text_elements}
 use Rattle.catalogue_core.specs.ContainerContents.{is_open}
 use Rattle.catalogue_core.specs.Intake.{take}
-use Rattle.office_core.specs.WorkedShown.{ClosedShown, OldSlips, Lists, PermitKept, NearestAbove, LinesInOrder, ToldApart}
+use Rattle.office_core.specs.WorkedShown.{ClosedShown, OldSlips, Lists, PermitKept, NearestAbove, LinesInOrder}
+use Rattle.office_core.specs.WorkedShown.{ToldApart}
 
 pub closed_shown : ClosedShown
 unfolding is_open take is_utf8 chars encode records_from strip_bom next_record columns text_elements digits day_text

@@ -1,40 +1,47 @@
 -- The row on permits, and that its office is sound.
-use Rattle.std.proofs.Common.{◌≡◌, ℕ, zero, suc, ◌+◌, ◌<◌, ◌≤◌, Bool, true, false, not, ◌&&◌, List, [], ◌∷◌, length, map, Some, refl, sym, ap, subst, inl, inr, arith}
-use Rattle.std.specs.Fmt.{digits}
-use Rattle.std.specs.List.{IsDistinct}
+use Rattle.std.proofs.Common.{◌≡◌, ℕ, zero, suc, ◌+◌, ◌<◌, ◌≤◌, Bool, true, false, not, ◌&&◌, List, [], ◌∷◌, length}
+use Rattle.std.proofs.Common.{map, Some, refl, sym, ap, subst, inl, inr, arith}
 use Rattle.std.proofs.lemmas.Fmt.{decimal_injective}
 use Rattle.std.proofs.lemmas.Slice.Eq.{bytes_eq-Decides}
+use Rattle.std.specs.Fmt.{digits}
+use Rattle.std.specs.List.{IsDistinct}
+use Rattle.std.specs.Prelude.{nat_le}
 use Rattle.catalogue_core.specs.ContainerContents.{is_open}
 use Rattle.office_core.specs.Rules.{is_name}
+use Rattle.office_core.specs.WorkedExamples.{new_office, march_1, march_31, year_end, titled, titled_units}
+use Rattle.office_core.specs.WorkedExamples.{permits_from, with_most_permits}
 use Rattle.office_core.specs.WorkedReplies.{MostPermits}
-use Rattle.office_core.specs.WorkedExamples.{office, march_1, march_31, year_end, titled, units_from, permits_from, with_most_permits}
-use Rattle.office_core.proofs.Common.{AllByRecursion, AreGoodUnits, ByUnit, IsDayNumber, IsGoodUnit, IsSomeDay, IsSound, IsSoundDesk, Permit, Reader, Unit, and_parts, bytes_eq, cases_Bool, cases_eq, codes, decimal, eq-eqb, false≢true, has_unit, height, ints, is_blank_text, is_same_unit, is_ticket, leb-true, list_all, most_bytes, most_permits, nat_eq, nat_le, ne_eqb, nodes, not-true, nth, or_left, or_right, size}
+use Rattle.office_core.proofs.Common.{AllByRecursion, AreGoodUnits, ByUnit, IsDayNumber, IsGoodUnit, IsSomeDay, IsSound}
+use Rattle.office_core.proofs.Common.{IsSoundDesk, Permit, Reader, Unit, and_parts, bytes_eq, cases_Bool, cases_eq}
+use Rattle.office_core.proofs.Common.{codes, decimal, eq-eqb, false≢true, has_unit, height, ints, is_blank_text}
+use Rattle.office_core.proofs.Common.{is_same_unit, is_ticket, leb-true, list_all, most_bytes, most_permits, nat_eq}
+use Rattle.office_core.proofs.Common.{ne_eqb, nodes, not-true, nth, or_left, or_right, size}
 use Rattle.office_core.proofs.Words.{put_each}
 use Rattle.office_core.proofs.SoundDesk.{desk_start, no_value}
 
 -- ---- units side by side
 
 all_units : (P : Unit → Type 0) (first n : ℕ) → ((k : ℕ) → first ≤ k → k < first + n → P (titled k))
-    → AllByRecursion P (nodes (units_from first n))
+    → AllByRecursion P (nodes (titled_units first n))
 all_units P first zero f = tt
 all_units P first (suc n) f =
     (f first (omega arith) (omega arith), all_units P (suc first) n (λ k l h. f k (omega arith) (omega arith)))
 
-size-units : (first n : ℕ) → size (units_from first n) ≡ n
+size-units : (first n : ℕ) → size (titled_units first n) ≡ n
 size-units first zero = refl
 size-units first (suc n) = (let e = size-units (suc first) n in omega (arith, e))
 
-height_units : (first n : ℕ) → height (units_from first n) ≤ 1
+height_units : (first n : ℕ) → height (titled_units first n) ≤ 1
 height_units first zero = omega arith
 height_units first (suc n) = (let l = height_units (suc first) n in omega (arith, l))
 
-numbers_apart : (first n : ℕ) → IsDistinct nat_eq (map (λ (unit : Unit). unit.id) (nodes (units_from first n)))
+numbers_apart : (first n : ℕ) → IsDistinct nat_eq (map (λ (unit : Unit). unit.id) (nodes (titled_units first n)))
 unfolding IsDistinct
 numbers_apart first zero = tt
 numbers_apart first (suc n) = (other first (suc first) n (omega arith), numbers_apart (suc first) n)
   where
     other : (m first n : ℕ) → m < first
-        → AllByRecursion (λ k. nat_eq m k ≡ false) (map (λ (unit : Unit). unit.id) (nodes (units_from first n)))
+        → AllByRecursion (λ k. nat_eq m k ≡ false) (map (λ (unit : Unit). unit.id) (nodes (titled_units first n)))
     other m first zero l = tt
     other m first (suc n) l = (ne_eqb m first (λ e. omega (arith, e, l)), other m (suc first) n (omega arith))
 
@@ -49,7 +56,7 @@ other_text a b l h =
       | inr n ↦ n
     ])
 
-texts_apart : (first n : ℕ) → first + n < 1000 → IsDistinct is_same_unit (nodes (units_from first n))
+texts_apart : (first n : ℕ) → first + n < 1000 → IsDistinct is_same_unit (nodes (titled_units first n))
 unfolding IsDistinct
 texts_apart first zero l = tt
 texts_apart first (suc n) l =
@@ -63,7 +70,7 @@ each_passes p (x ∷ xs) h = (let r = and_parts (p x) (list_all p xs) h in (r.0,
 has_text : Unit → Bool
 has_text unit = not (is_blank_text unit.legacy) && nat_le (length unit.legacy) most_bytes
 
-texts_there : list_all has_text (nodes (units_from 1 (suc most_permits))) ≡ true
+texts_there : list_all has_text (nodes (titled_units 1 (suc most_permits))) ≡ true
 unfolding has_text digits
 texts_there = refl
 
@@ -83,8 +90,8 @@ good_unit k h =
       apart = refl;
     }
 
-good_units : (first n : ℕ) → AllByRecursion (λ unit. has_text unit ≡ true) (nodes (units_from first n))
-    → AllByRecursion (IsGoodUnit []) (nodes (units_from first n))
+good_units : (first n : ℕ) → AllByRecursion (λ unit. has_text unit ≡ true) (nodes (titled_units first n))
+    → AllByRecursion (IsGoodUnit []) (nodes (titled_units first n))
 good_units first zero h = tt
 good_units first (suc n) h = (good_unit first h.0, good_units (suc first) n h.1)
 
@@ -93,7 +100,7 @@ units_good =
     let size = size-units 1 (suc most_permits) in
     let high = height_units 1 (suc most_permits) in
     record {
-      each = good_units 1 (suc most_permits) (each_passes has_text (nodes (units_from 1 (suc most_permits))) texts_there);
+      each = good_units 1 (suc most_permits) (each_passes has_text (nodes (titled_units 1 (suc most_permits))) texts_there);
       ids = numbers_apart 1 (suc most_permits);
       pairs = texts_apart 1 (suc most_permits) (omega arith);
       given = all_units (λ unit. (1 ≤ unit.id) × (unit.id < most_permits + 2)) 1 (suc most_permits) (λ k l h. (l, omega arith));
@@ -119,11 +126,11 @@ length-permits : (first n : ℕ) → length (permits_from first n) ≡ n
 length-permits first zero = refl
 length-permits first (suc n) = ap suc (length-permits (suc first) n)
 
-is_there : (first n k : ℕ) → first ≤ k → k < first + n → has_unit (units_from first n) k ≡ true
+is_there : (first n k : ℕ) → first ≤ k → k < first + n → has_unit (titled_units first n) k ≡ true
 is_there first zero k l h = absurd (omega arith)
 is_there first (suc n) k l h = elim (cases_eq k first) [
-  | inl e ↦ or_left (nat_eq k first) (has_unit (units_from (suc first) n) k) (eq-eqb k first e)
-  | inr ne ↦ or_right (nat_eq k first) (has_unit (units_from (suc first) n) k) (is_there (suc first) n k (omega arith) (omega arith))
+  | inl e ↦ or_left (nat_eq k first) (has_unit (titled_units (suc first) n) k) (eq-eqb k first e)
+  | inr ne ↦ or_right (nat_eq k first) (has_unit (titled_units (suc first) n) k) (is_there (suc first) n k (omega arith) (omega arith))
 ]
 
 -- Ann's permits are as these, and no other ticket has one
@@ -140,7 +147,7 @@ ann_alone (suc (suc t)) reader e = cc
 
 desk_sound : IsSoundDesk with_most_permits
 desk_sound =
-    let old = desk_start office.settings march_1 in
+    let old = desk_start new_office.settings march_1 in
     record {
       boxes = refl;
       filed = record { each = old.filed.each; queues = old.filed.queues };

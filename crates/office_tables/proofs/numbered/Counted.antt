@@ -1,7 +1,9 @@
 -- Rows that are numbered one after another.
-use Rattle.std.proofs.Common.{◌≡◌, ℕ, suc, ◌+◌, ◌<◌, pos, false, nat_eq, List, [], ◌∷◌, ◌++◌, length, map, Less, inl, inr, Bool, true, cond, Greater, Equal, refl, ap, ◌∙◌, arith}
+use Rattle.std.proofs.Common.{◌≡◌, ℕ, suc, ◌+◌, ◌<◌, pos, false, nat_eq, List, [], ◌∷◌, ◌++◌, length, map, Less, inl}
+use Rattle.std.proofs.Common.{inr, Bool, true, cond, Greater, Equal, refl, ap, ◌∙◌, arith}
 use Rattle.std.specs.Prelude.{nat_lt}
-use Rattle.office_tables.proofs.Common.{AllByRecursion, AreCountedFrom, Has, Rises, all_weaker, int_cmp, list_any, lt-ltb, ltb-true, nat_tests, or_from, put_by}
+use Rattle.office_tables.proofs.Common.{AllByRecursion, AreCountedFrom, Has, Rises, all_weaker, int_cmp, list_any}
+use Rattle.office_tables.proofs.Common.{lt-ltb, ltb-true, nat_tests, or_from, put_by}
 
 pub below_less : (m n : ℕ) → m < n → int_cmp (pos m) (pos n) ≡ Less
 below_less m n h = rw (lt-ltb m n h) refl

@@ -1,6 +1,12 @@
 -- Rows with numbers of their own that tell nothing: one more, and those that are left.
-use Rattle.std.proofs.Common.{◌≡◌, ◌<◌, ◌+◌, ℤ, List, [], ◌∷◌, ◌++◌, map, filter, length, Bool, false, not, Ordering, refl, ap, subst, ◌∙◌, arith}
-use Rattle.office_tables.proofs.Common.{AllByRecursion, HasNumbered, Int, IsOrdered, IsPermutation, IsPermutation-append_comm, IsPermutation-cons, IsPermutation-filter, IsPermutation-map, IsPermutation-refl, IsPermutation-sym, IsPermutation-trans, IsSorted, Row, all-map, all-permutation, all_from_map, ascending-filter, filter-map, get_or-map, is_taken, length-map, list_any, map-map, or_from, or_parts, put_by, put_row, rowid}
+use Rattle.std.proofs.Common.{◌≡◌, ◌<◌, ◌+◌, ℤ, List, [], ◌∷◌, ◌++◌, map, filter, length, Bool, false, not, Ordering}
+use Rattle.std.proofs.Common.{refl, ap, subst, ◌∙◌, arith}
+use Rattle.office_tables.proofs.Common.{AllByRecursion, HasNumbered, Int, IsOrdered, IsPermutation}
+use Rattle.office_tables.proofs.Common.{IsPermutation-append_comm, IsPermutation-cons, IsPermutation-filter}
+use Rattle.office_tables.proofs.Common.{IsPermutation-map, IsPermutation-refl, IsPermutation-sym, IsPermutation-trans}
+use Rattle.office_tables.proofs.Common.{IsSorted, Row, all-map, all-permutation, all_from_map, ascending-filter}
+use Rattle.office_tables.proofs.Common.{filter-map, get_or-map, is_taken, length-map, list_any, map-map, or_from}
+use Rattle.office_tables.proofs.Common.{or_parts, put_by, put_row, rowid}
 use Rattle.office_tables.proofs.Puts.{put_rows, put_rises, put_more, fresh_key}
 
 -- what no row is, none is in another order

@@ -1,7 +1,9 @@
 -- A row that is taken out and then put again: it stands in place of the one that was there.
-use Rattle.std.proofs.Common.{◌≡◌, ℕ, ◌<◌, pos, true, false, not, nat_eq, List, [], ◌∷◌, filter, Less, Equal, Greater, inl, inr, refl, sym, ap, ◌∙◌, arith}
+use Rattle.std.proofs.Common.{◌≡◌, ℕ, ◌<◌, pos, true, false, not, nat_eq, List, [], ◌∷◌, filter, Less, Equal, Greater}
+use Rattle.std.proofs.Common.{inl, inr, refl, sym, ap, ◌∙◌, arith}
 use Rattle.std.specs.Prelude.{nat_lt}
-use Rattle.office_tables.proofs.Common.{AllByRecursion, Rises, all_weaker, cases_Bool, int_cmp, ltb-true, nat_tests, put_by}
+use Rattle.office_tables.proofs.Common.{AllByRecursion, Rises, all_weaker, cases_Bool, int_cmp, ltb-true, nat_tests}
+use Rattle.office_tables.proofs.Common.{put_by}
 use Rattle.office_tables.proofs.numbered.Counted.{below_less, less_below}
 
 greater : (m n : ℕ) → n < m → int_cmp (pos m) (pos n) ≡ Greater

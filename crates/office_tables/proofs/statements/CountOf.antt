@@ -1,12 +1,15 @@
 -- A SELECT that counts the rows of one table, for any of our texts and any records.
-use Rattle.std.proofs.Common.{◌≡◌, ℕ, ◌<◌, ◌^◌, pos, Bool, true, List, [], ◌∷◌, length, map, Result, IfOk, IfErr, ap, ◌∙◌, arith}
+use Rattle.std.proofs.Common.{◌≡◌, ℕ, ◌<◌, ◌^◌, pos, Bool, true, List, [], ◌∷◌, length, map, Result, IfOk, IfErr, ap}
+use Rattle.std.proofs.Common.{◌∙◌, arith}
 use Rattle.std.proofs.lemmas.Bool.{both_ways}
 use Rattle.std.proofs.lemmas.List.Sums.{count_by-le-length, length-filter}
 use Rattle.sqlite.specs.State.{Shown}
-use Rattle.office_tables.specs.RowCounts.{cap}
 use Rattle.office_tables.specs.Faults.{HasCause}
+use Rattle.office_tables.specs.RowCounts.{cap}
 use Rattle.office_tables.specs.Schema.{Version}
-use Rattle.office_tables.proofs.Common.{FindsFirst, IfOk-weaker, Int, IsUnlimited, Means, Misses, Null, Program, Row, Select, State, StoreFault, Table, Term, accepts_program, count_by, end, holds, inner, list_all, reads_as, schema}
+use Rattle.office_tables.proofs.Common.{FindsFirst, IfOk-weaker, Int, IsUnlimited, Means, Misses, Null, Program, Row}
+use Rattle.office_tables.proofs.Common.{Select, State, StoreFault, Table, Term, accepts_program, count_by, end, holds}
+use Rattle.office_tables.proofs.Common.{inner, list_all, reads_as, schema}
 use Rattle.office_tables.proofs.Causes.{read_cause, none_refuse, counts_always}
 use Rattle.office_tables.proofs.Counts.{summary_query, count_rows, counts}
 use Rattle.office_tables.proofs.RowReads.{all_caused}

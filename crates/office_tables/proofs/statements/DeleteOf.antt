@@ -1,11 +1,15 @@
 -- What a DELETE from one table does that no foreign key refers to, and why it fails, for any of our texts and any records.
-use Rattle.std.proofs.Common.{◌≡◌, ℕ, ℤ, List, [], ◌∷◌, length, map, filter, Bool, true, false, not, Some, Ok, Result, OnOk, IfErr, ◌∙◌, slice_get}
+use Rattle.std.proofs.Common.{◌≡◌, ℕ, ℤ, List, [], ◌∷◌, length, map, filter, Bool, true, false, not, Some, Ok, Result}
+use Rattle.std.proofs.Common.{OnOk, IfErr, ◌∙◌, slice_get}
 use Rattle.std.proofs.lemmas.Bool.{both_ways}
 use Rattle.sqlite.specs.Command.TheVariants.{Delete}
 use Rattle.sqlite.specs.Listing.{understood}
 use Rattle.office_tables.specs.Faults.{HasCause}
 use Rattle.office_tables.specs.Schema.{Version}
-use Rattle.office_tables.proofs.Common.{Executes, HasRows, Int, IsLive, IsUnlimited, Means, Null, Program, Ran, Rises, Row, State, StoreFault, Table, Term, accepts_program, end, eval_all, holds, id_in, inner, list_all, mode_of, references_fit, rowid, runs_as, schema, statement_of}
+use Rattle.office_tables.proofs.Common.{Executes, HasRows, Int, IsLive, IsUnlimited, Means, Null, Program, Ran, Rises}
+use Rattle.office_tables.proofs.Common.{Row, State, StoreFault, Table, Term, accepts_program, end, eval_all, holds}
+use Rattle.office_tables.proofs.Common.{id_in, inner, list_all, mode_of, references_fit, rowid, runs_as, schema}
+use Rattle.office_tables.proofs.Common.{statement_of}
 use Rattle.office_tables.proofs.Causes.{none_refuse, sums_nothing}
 use Rattle.office_tables.proofs.DeleteCauses.{leaf_cause}
 use Rattle.office_tables.proofs.Queries.{plain_query, choosing, chosen}

@@ -1,11 +1,14 @@
 -- What an INSERT of one row does, and why it fails, for any of our texts.
-use Rattle.std.proofs.Common.{◌≡◌, ℕ, ◌/◌, List, [], ◌∷◌, length, true, Ok, Result, OnOk, IfErr, Some, sym, ap, ◌∙◌, slice_get}
+use Rattle.std.proofs.Common.{◌≡◌, ℕ, ◌/◌, List, [], ◌∷◌, length, true, Ok, Result, OnOk, IfErr, Some, sym, ap, ◌∙◌}
+use Rattle.std.proofs.Common.{slice_get}
 use Rattle.std.proofs.lemmas.Bool.{both_ways}
-use Rattle.sqlite.specs.Source.TheVariants.{Values}
 use Rattle.sqlite.specs.Listing.{understood}
+use Rattle.sqlite.specs.Source.TheVariants.{Values}
 use Rattle.office_tables.specs.Faults.{HasCause}
 use Rattle.office_tables.specs.Schema.{Version}
-use Rattle.office_tables.proofs.Common.{Chosen, Executes, Insert, IsLive, IsUnlimited, Means, PutsRow, Ran, Row, State, StoreFault, Table, Term, accepts_terms, are_fresh, edit_of, mode_of, put_all, runs_as, schema, statement_of, value_rows}
+use Rattle.office_tables.proofs.Common.{Chosen, Executes, Insert, IsLive, IsUnlimited, Means, PutsRow, Ran, Row, State}
+use Rattle.office_tables.proofs.Common.{StoreFault, Table, Term, accepts_terms, are_fresh, edit_of, mode_of, put_all}
+use Rattle.office_tables.proofs.Common.{runs_as, schema, statement_of, value_rows}
 use Rattle.office_tables.proofs.InsertCauses.{IsWelcome, values_typed, insert_cause}
 use Rattle.office_tables.proofs.Puts.{not_taken}
 use Rattle.office_tables.proofs.RowWrites.{ran_well, ran_badly}

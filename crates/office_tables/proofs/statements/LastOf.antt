@@ -1,12 +1,19 @@
 -- A SELECT of the greatest number of a table whose rows are numbered one after another: it is how many there are.
-use Rattle.std.proofs.Common.{◌≡◌, ℕ, ◌+◌, ◌≤◌, ◌<◌, ◌^◌, pos, true, false, cond, List, [], ◌∷◌, length, map, take, slice_index_or, Result, IfOk, IfErr, Less, Equal, Greater, Ordering, inl, inr, refl, sym, ap, subst, ◌∙◌, arith}
-use Rattle.std.specs.Prelude.{nat_lt}
+use Rattle.std.proofs.Common.{◌≡◌, ℕ, ◌+◌, ◌≤◌, ◌<◌, ◌^◌, pos, true, false, cond, List, [], ◌∷◌, length, map, take}
+use Rattle.std.proofs.Common.{slice_index_or, Result, IfOk, IfErr, Less, Equal, Greater, Ordering, inl, inr, refl, sym}
+use Rattle.std.proofs.Common.{ap, subst, ◌∙◌, arith}
 use Rattle.std.proofs.lemmas.Bool.{both_ways}
 use Rattle.std.proofs.lemmas.Cmp.{back_total}
+use Rattle.std.specs.Prelude.{nat_lt}
 use Rattle.sqlite.specs.State.{Shown}
 use Rattle.office_tables.specs.Faults.{HasCause}
 use Rattle.office_tables.specs.Schema.{Version}
-use Rattle.office_tables.proofs.Common.{AllByRecursion, AreCounted, Binary, FindsFirst, Has, IfOk-weaker, Int, IsPermutation, IsPermutation-sym, IsSorted, IsTotalOrder, IsUnlimited, Key, Means, Misses, Null, Program, Row, Select, State, StoreFault, Table, Term, accepts_program, all_has, all_weaker, cases_Bool, col, end, eval_all, inner, int_cmp, int_cmp_total, is_lt, key_cmp, length_permutation, ltb-false, map-map, on_total, reads_as, schema, then-Equal, value_cmp-Int}
+use Rattle.office_tables.proofs.Common.{AllByRecursion, AreCounted, Binary, FindsFirst, Has, IfOk-weaker, Int}
+use Rattle.office_tables.proofs.Common.{IsPermutation, IsPermutation-sym, IsSorted, IsTotalOrder, IsUnlimited, Key}
+use Rattle.office_tables.proofs.Common.{Means, Misses, Null, Program, Row, Select, State, StoreFault, Table, Term}
+use Rattle.office_tables.proofs.Common.{accepts_program, all_has, all_weaker, cases_Bool, col, end, eval_all, inner}
+use Rattle.office_tables.proofs.Common.{int_cmp, int_cmp_total, is_lt, key_cmp, length_permutation, ltb-false, map-map}
+use Rattle.office_tables.proofs.Common.{on_total, reads_as, schema, then-Equal, value_cmp-Int}
 use Rattle.office_tables.proofs.Causes.{read_cause, none_refuse, sums_nothing}
 use Rattle.office_tables.proofs.Limits.{limited_query, first_answers}
 use Rattle.office_tables.proofs.Reading.{all_found}

@@ -3,7 +3,8 @@ use Rattle.std.proofs.Common.{◌≡◌, ℕ, List, [], ◌∷◌, length, false
 use Rattle.sqlite.specs.Command.TheVariants.{Delete}
 use Rattle.sqlite.specs.Listing.{understood}
 use Rattle.office_tables.specs.Schema.{Version}
-use Rattle.office_tables.proofs.Common.{Means, OnlyTouches, Program, Ran, Row, State, StoreFault, Table, Update, mode_of, runs_as, schema, statement_of}
+use Rattle.office_tables.proofs.Common.{Means, OnlyTouches, Program, Ran, Row, State, StoreFault, Table, Update}
+use Rattle.office_tables.proofs.Common.{mode_of, runs_as, schema, statement_of}
 use Rattle.office_tables.proofs.RowWrites.{ran_well}
 use Rattle.office_tables.proofs.Steps.{deleted, Deleted, updated_with, Updated, is_referred_to, plain}
 use Rattle.office_tables.proofs.Touching.{touched}

@@ -1,10 +1,13 @@
 -- What a SELECT of one table tells, and why it fails, for any of our texts and any records.
-use Rattle.std.proofs.Common.{◌≡◌, ℕ, List, [], ◌∷◌, length, map, filter, Bool, true, Result, IfOk, IfErr, Ordering, ◌∙◌, sym}
+use Rattle.std.proofs.Common.{◌≡◌, ℕ, List, [], ◌∷◌, length, map, filter, Bool, true, Result, IfOk, IfErr, Ordering}
+use Rattle.std.proofs.Common.{◌∙◌, sym}
 use Rattle.std.proofs.lemmas.Bool.{both_ways}
 use Rattle.sqlite.specs.State.{Shown}
 use Rattle.office_tables.specs.Faults.{HasCause}
 use Rattle.office_tables.specs.Schema.{Version}
-use Rattle.office_tables.proofs.Common.{AllByRecursion, Finds, IfOk-weaker, IsOrdered, IsUnlimited, Key, Means, Misses, Null, Row, Select, State, StoreFault, Table, Term, accepts_program, end, eval_all, holds, inner, key_cmp, list_all, map-map, reads_as, schema}
+use Rattle.office_tables.proofs.Common.{AllByRecursion, Finds, IfOk-weaker, IsOrdered, IsUnlimited, Key, Means, Misses}
+use Rattle.office_tables.proofs.Common.{Null, Row, Select, State, StoreFault, Table, Term, accepts_program, end}
+use Rattle.office_tables.proofs.Common.{eval_all, holds, inner, key_cmp, list_all, map-map, reads_as, schema}
 use Rattle.office_tables.proofs.Causes.{read_cause, none_refuse, sums_nothing}
 use Rattle.office_tables.proofs.Queries.{plain_query, asking, answers}
 use Rattle.office_tables.proofs.Reading.{all_found}

@@ -1,12 +1,16 @@
 -- What an UPDATE of one table does, and why it fails, for any of our texts and any records.
-use Rattle.std.proofs.Common.{◌≡◌, ℕ, ℤ, List, [], ◌∷◌, length, map, filter, drop, if◌then◌else◌, Bool, true, Some, Ok, Result, OnOk, IfErr, ◌∙◌, slice_get}
+use Rattle.std.proofs.Common.{◌≡◌, ℕ, ℤ, List, [], ◌∷◌, length, map, filter, drop, if◌then◌else◌, Bool, true, Some, Ok}
+use Rattle.std.proofs.Common.{Result, OnOk, IfErr, ◌∙◌, slice_get}
 use Rattle.std.proofs.lemmas.Bool.{both_ways}
 use Rattle.sqlite.specs.Effect.{Answers}
 use Rattle.sqlite.specs.Listing.{understood}
 use Rattle.sqlite_rules.specs.Steps.{is_typed, is_present}
 use Rattle.office_tables.specs.Faults.{HasCause}
 use Rattle.office_tables.specs.Schema.{Version}
-use Rattle.office_tables.proofs.Common.{Executes, Has, HasRows, Int, IsLive, IsPermutation, IsUnlimited, Means, Null, Program, Ran, Rises, Row, Schema, State, StoreFault, Table, Term, Update, accepts_program, cast_row, column, end, eval_all, has_filtered, holds, id_in, inner, list_all, mode_of, passes_checks, rowid, runs_as, schema, statement_of}
+use Rattle.office_tables.proofs.Common.{Executes, Has, HasRows, Int, IsLive, IsPermutation, IsUnlimited, Means, Null}
+use Rattle.office_tables.proofs.Common.{Program, Ran, Rises, Row, Schema, State, StoreFault, Table, Term, Update}
+use Rattle.office_tables.proofs.Common.{accepts_program, cast_row, column, end, eval_all, has_filtered, holds, id_in}
+use Rattle.office_tables.proofs.Common.{inner, list_all, mode_of, passes_checks, rowid, runs_as, schema, statement_of}
 use Rattle.office_tables.proofs.Causes.{none_refuse, sums_nothing}
 use Rattle.office_tables.proofs.Queries.{plain_query, choosing, chosen}
 use Rattle.office_tables.proofs.RowWrites.{ran_well, ran_badly}

@@ -2,7 +2,9 @@
 use Rattle.std.proofs.Common.{◌≡◌, ℕ, ℤ, pos, List, ◌∷◌, map, Bool, true, false, not, ◌&&◌, ◌||◌, nat_eq, ap, ◌∙◌}
 use Rattle.sqlite_value.specs.Keys.{plain}
 use Rattle.office_tables.specs.Schema.{Version, First, Second}
-use Rattle.office_tables.proofs.Common.{Check, Datatype, HasNumbered, Int, NotNull, Row, Table, Trees, agree, guards, has_parent, is_int, is_key_of, is_taken, list_all, list_any, next_rowid, passes, rowid, schema}
+use Rattle.office_tables.proofs.Common.{Check, Datatype, HasNumbered, Int, NotNull, Row, Table, Trees, agree, guards}
+use Rattle.office_tables.proofs.Common.{has_parent, is_int, is_key_of, is_taken, list_all, list_any, next_rowid, passes}
+use Rattle.office_tables.proofs.Common.{rowid, schema}
 use Rattle.office_tables.proofs.Fresh.{any_mapped, next_free, not_there}
 use Rattle.office_tables.proofs.InsertCauses.{IsWelcome}
 use Rattle.office_tables.proofs.NumberedKeys.{is_numbered}

@@ -2,7 +2,10 @@
 use Rattle.std.proofs.Common.{ℕ, suc, List, [], ◌∷◌, ◌++◌, Option, Some, None, sym, subst, map, IsUtf8}
 use Rattle.isad_core.specs.LegibleValues.{IsLegibleBox}
 use Rattle.catalogue_core.specs.LegibleCatalogues.{HasLegibleTexts}
-use Rattle.state_encoding.proofs.Common.{AllByRecursion, AreLegibleRows, AreTexts, BoxKey, Bytes, ElementRow, IfSome, IsLegibleContainerRow, IsLegibleUnitRow, Reader, ReaderRow, State, Unit, Version, container_row, element_rows_from, flat_map, flat_map-cons, nodes, reader_row, rows_from, tables, unit_row}
+use Rattle.state_encoding.proofs.Common.{AllByRecursion, AreLegibleRows, AreTexts, BoxKey, Bytes, ElementRow, IfSome}
+use Rattle.state_encoding.proofs.Common.{IsLegibleContainerRow, IsLegibleUnitRow, Reader, ReaderRow, State, Unit}
+use Rattle.state_encoding.proofs.Common.{Version, container_row, element_rows_from, flat_map, flat_map-cons, nodes}
+use Rattle.state_encoding.proofs.Common.{reader_row, rows_from, tables, unit_row}
 
 units_legible : (us : List Unit) → AllByRecursion HasLegibleTexts us → AllByRecursion IsLegibleUnitRow (map unit_row us)
 units_legible [] h = tt

@@ -1,10 +1,22 @@
 -- What rows say, and what is told of them, is the same in each other order of them.
-use Rattle.std.proofs.Common.{◌≡◌, ℕ, Bool, true, false, cond, not, ◌&&◌, List, [], ◌∷◌, length, Option, Some, None, refl, sym, ap, ◌∙◌, subst, inl, inr, nat_eq, map}
-use Rattle.std.specs.Prelude.{filter_map, unwrap_or}
+use Rattle.std.proofs.Common.{◌≡◌, ℕ, Bool, true, false, cond, not, ◌&&◌, List, [], ◌∷◌, length, Option, Some, None}
+use Rattle.std.proofs.Common.{refl, sym, ap, ◌∙◌, subst, inl, inr, nat_eq, map}
 use Rattle.std.specs.List.{IsDistinct}
+use Rattle.std.specs.Prelude.{filter_map, unwrap_or}
 use Rattle.isad_core.specs.Words.{is_between, stands}
 use Rattle.isad_core.specs.declared.values.Values.{Values}
-use Rattle.state_encoding.proofs.Common.{BoxKey, Bytes, CatalogueRows, ContainerRow, ElementRow, HousingRow, In, In-permutation, IsDistinct-IsPermutation, IsPermutation, IsPermutation-map, IsPermutation-sym, MeetsCatalogueKeys, Unit, UnitRow, after_level, all_stand_in, and_from, and_parts, any_passes, are_good_units, box_at, box_from, boxes_from, boxes_from_rows, each, eq-eqb, eqb-true, eqb_comm, false≢true, filter, find, find_none, find_some, fun_ext, height, housings_of, is_blank_text, is_good_element, is_good_housing, is_good_unit_row, is_housed_alike, is_named_alike, is_same_container, is_same_element, is_same_place, length-filter, length_permutation, list_all, list_any, list_any-IsPermutation, most_deep, most_units, nat_le, numbers_from, option_map, place_numbers, places_said, sum_by-IsPermutation, text_said, unit_from, unit_from_rows, unit_numbers, values_from_rows}
+use Rattle.state_encoding.proofs.Common.{BoxKey, Bytes, CatalogueRows, ContainerRow, ElementRow, HousingRow, In}
+use Rattle.state_encoding.proofs.Common.{In-permutation, IsDistinct-IsPermutation, IsPermutation, IsPermutation-map}
+use Rattle.state_encoding.proofs.Common.{IsPermutation-sym, MeetsCatalogueKeys, Unit, UnitRow, after_level}
+use Rattle.state_encoding.proofs.Common.{all_stand_in, and_from, and_parts, any_passes, are_good_units, box_at}
+use Rattle.state_encoding.proofs.Common.{box_from, boxes_from, boxes_from_rows, each, eq-eqb, eqb-true, eqb_comm}
+use Rattle.state_encoding.proofs.Common.{false≢true, filter, find, find_none, find_some, fun_ext, height, housings_of}
+use Rattle.state_encoding.proofs.Common.{is_blank_text, is_good_element, is_good_housing, is_good_unit_row}
+use Rattle.state_encoding.proofs.Common.{is_housed_alike, is_named_alike, is_same_container, is_same_element}
+use Rattle.state_encoding.proofs.Common.{is_same_place, length-filter, length_permutation, list_all, list_any}
+use Rattle.state_encoding.proofs.Common.{list_any-IsPermutation, most_deep, most_units, nat_le, numbers_from}
+use Rattle.state_encoding.proofs.Common.{option_map, place_numbers, places_said, sum_by-IsPermutation, text_said}
+use Rattle.state_encoding.proofs.Common.{unit_from, unit_from_rows, unit_numbers, values_from_rows}
 use Rattle.state_encoding.proofs.RowsByNumber.{all_in, in_all, each_in, found_by}
 use Rattle.state_encoding.proofs.UnitRows.{found_kept}
 use Rattle.state_encoding.proofs.told.ToldCatalogue.{alike_flips}

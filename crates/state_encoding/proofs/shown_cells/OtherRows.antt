@@ -1,12 +1,19 @@
 -- Tables whose catalogue stands in another order say the same state, and have a cause no sooner.
 use Rattle.std.proofs.Common.{◌≡◌, Bool, true, false, List, [], ◌∷◌, None, refl, sym, ap, ◌∙◌, subst, nat_eq, map}
-use Rattle.state_encoding.proofs.Common.{CatalogueRows, ContainerRow, IsSound, MeetsCatalogueKeys, OfficeRows, State, UnitRow, Version, and_from, are_good_container_rows, are_good_places, are_good_units, around, box_from, catalogue_tests, cause, containers, day_is_broken, desk_tests, encoding, first_held, fun_ext, holdings_are_bad, is_good_element, is_good_housing, is_good_office, is_held_against_rules, list_all, list_any, not_from_true, orders_are_bad, readers_are_bad, runs_are_bad, state_of, tables, unit_numbers}
+use Rattle.state_encoding.proofs.Common.{CatalogueRows, ContainerRow, IsSound, MeetsCatalogueKeys, OfficeRows, State}
+use Rattle.state_encoding.proofs.Common.{UnitRow, Version, and_from, are_good_container_rows, are_good_places}
+use Rattle.state_encoding.proofs.Common.{are_good_units, around, box_from, catalogue_tests, cause, containers}
+use Rattle.state_encoding.proofs.Common.{day_is_broken, desk_tests, encoding, first_held, fun_ext, holdings_are_bad}
+use Rattle.state_encoding.proofs.Common.{is_good_element, is_good_housing, is_good_office, is_held_against_rules}
+use Rattle.state_encoding.proofs.Common.{list_all, list_any, not_from_true, orders_are_bad, readers_are_bad}
+use Rattle.state_encoding.proofs.Common.{runs_are_bad, state_of, tables, unit_numbers}
 use Rattle.state_encoding.proofs.DeskPasses.{desk_passes}
 use Rattle.state_encoding.proofs.JudgedWhole.{sound_catalogue, tables_are_shown}
 use Rattle.state_encoding.proofs.Judging.{none_behind, none_in_both}
 use Rattle.state_encoding.proofs.ShownElements.{elements_shown, containers_shown, housings_shown}
 use Rattle.state_encoding.proofs.ShownUnits.{office_shown, units_shown}
-use Rattle.state_encoding.proofs.shown_cells.OtherOrders.{IsReordered, any_too, units_too, elements_too, housings_too, forest_too}
+use Rattle.state_encoding.proofs.shown_cells.OtherOrders.{IsReordered, any_too, units_too, elements_too, housings_too}
+use Rattle.state_encoding.proofs.shown_cells.OtherOrders.{forest_too}
 
 pub five_none : {a b c d e : Bool} → a ≡ false → b ≡ false → c ≡ false → d ≡ false → e ≡ false
     → first_held (a ∷ b ∷ c ∷ d ∷ e ∷ []) ≡ None

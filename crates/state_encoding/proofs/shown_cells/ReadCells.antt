@@ -1,12 +1,21 @@
 -- Each reading gives back the row of which the cells are.
-use Rattle.std.proofs.Common.{◌≡◌, ℕ, ℤ, pos, true, false, Bool, List, [], ◌∷◌, None, Some, Option, filter_map, map, refl, sym, ap, subst, ◌∙◌, inl, inr, IsUtf8}
-use Rattle.sqlite.specs.declared.types.Value.TheVariants.{Int, Text}
+use Rattle.std.proofs.Common.{◌≡◌, ℕ, ℤ, pos, true, false, Bool, List, [], ◌∷◌, None, Some, Option, filter_map, map}
+use Rattle.std.proofs.Common.{refl, sym, ap, subst, ◌∙◌, inl, inr, IsUtf8}
 use Rattle.sqlite.specs.Values.{or_null}
-use Rattle.office_tables.specs.Cells.{number_in}
+use Rattle.sqlite.specs.declared.types.Value.TheVariants.{Int, Text}
 use Rattle.office_tables.specs.Flags.{flag}
 use Rattle.office_tables.specs.RowNumbers.{HasNumbered}
-use Rattle.state_encoding.specs.CellsOfOffices.{HasRows}
-use Rattle.state_encoding.proofs.Common.{ContainerRow, ElementRow, HoldingRow, HousingRow, In, In-permutation, IsLegibleContainerRow, IsLegibleUnitRow, IsPermutation, Link, OfficeRow, OrderRow, PermitRow, ReaderRow, Row, RunLineRow, RunRow, SeatRow, Span, UnitRow, cons_option, container_cells, element_cells, flag_in, from, has_unread, holding_cells, housing_cells, is_none, link_cells, map-id, office_cells, option_map, or_from, or_null_in, order_cells, permit_cells, read_container, read_element, read_holding, read_housing, read_link, read_office, read_order, read_permit, read_reader, read_run, read_run_line, read_seat, read_span, read_unit, reader_cells, run_cells, run_line_cells, says_text, seat_cells, span_cells, text_in, unit_cells, whole_in}
+use Rattle.state_encoding.proofs.Common.{ContainerRow, ElementRow, HasRowsInAnyOrder, HoldingRow, HousingRow, In}
+use Rattle.state_encoding.proofs.Common.{In-permutation, IsLegibleContainerRow, IsLegibleUnitRow, IsPermutation, Link}
+use Rattle.state_encoding.proofs.Common.{OfficeRow, OrderRow, PermitRow, ReaderRow, Row, RunLineRow, RunRow, SeatRow}
+use Rattle.state_encoding.proofs.Common.{Span, UnitRow, cons_option, container_cells, element_cells, flag_in, from}
+use Rattle.state_encoding.proofs.Common.{has_unread, holding_cells, housing_cells, is_none, link_cells, map-id}
+use Rattle.state_encoding.proofs.Common.{number_in, office_cells, option_map, or_from, or_null_in, order_cells}
+use Rattle.state_encoding.proofs.Common.{permit_cells, read_container, read_element, read_holding, read_housing}
+use Rattle.state_encoding.proofs.Common.{read_link, read_office, read_order, read_permit, read_reader, read_run}
+use Rattle.state_encoding.proofs.Common.{read_run_line, read_seat, read_span, read_unit, reader_cells, run_cells}
+use Rattle.state_encoding.proofs.Common.{run_line_cells, says_text, seat_cells, span_cells, text_in, unit_cells}
+use Rattle.state_encoding.proofs.Common.{whole_in}
 
 -- ---- cells
 
@@ -115,7 +124,7 @@ numbered_read read cells P back there rows has h =
 
 pub keyed_read : {R : Type 0} (read : Row → Option R) (cells : R → Row) (P : R → Type 0)
     → ((x : R) → P x → read (cells x) ≡ Some x)
-    → (there : List Row) (rows : List R) → HasRows cells there rows → ((r : R) → In r rows → P r)
+    → (there : List Row) (rows : List R) → HasRowsInAnyOrder cells there rows → ((r : R) → In r rows → P r)
     → AreRead read there rows
 keyed_read read cells P back there rows has h =
     all_back read cells (λ x. x) P back there rows has.stored has.are (subst (IsPermutation rows) (sym (map-id has.stored)) has.tell) h

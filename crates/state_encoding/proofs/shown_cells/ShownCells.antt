@@ -1,14 +1,26 @@
 -- Tables that show a sound office: all is read, there is no cause, and they say the office.
-use Rattle.std.proofs.Common.{◌≡◌, Bool, false, List, [], ◌∷◌, ◌++◌, None, refl, sym, ap, ◌∙◌, subst, nat_eq, ◌||◌, unwrap_or, IsUtf8}
-use Rattle.std.specs.Prelude.{filter_map}
+use Rattle.std.proofs.Common.{◌≡◌, Bool, false, List, [], ◌∷◌, ◌++◌, None, refl, sym, ap, ◌∙◌, subst, nat_eq, ◌||◌}
+use Rattle.std.proofs.Common.{unwrap_or, IsUtf8}
 use Rattle.std.specs.List.{IsDistinct}
+use Rattle.std.specs.Prelude.{filter_map}
+use Rattle.desk_core.proofs.OrderLemmas.{in_order-permutation}
 use Rattle.desk_core.specs.DeskRows.{Desk}
 use Rattle.desk_core.specs.Orders.{in_order}
-use Rattle.desk_core.proofs.OrderLemmas.{in_order-permutation}
 use Rattle.office_tables.specs.Schema as tables
 use Rattle.state_encoding.specs.CellCauses.{rows_in, unread, either_of, no_office}
 use Rattle.state_encoding.specs.OfficeRows.{tables as tables_of}
-use Rattle.state_encoding.proofs.Common.{AreLegibleRows, ContainerRow, ElementRow, HasTables, HoldingRow, IsLegibleContainerRow, IsLegibleUnitRow, IsPermutation, IsPermutation-trans, IsRead, IsSoundOffice, IsTold, MeetsDeskKeys, OfficeRows, OrderRow, PermitRow, ReaderRow, RunLineRow, RunRow, SeatRow, SoundOfficesAreRead, SoundOfficesAreTold, State, Trees, Version, and_parts, catalogue_tests, cause, cons_option, container_cells, desk_tests, each, element_cells, encoding, first, first_held, has_unread, holding_cells, housing_cells, is_none, nodes-each, number_of, office_cells, or_from, order_cells, permit_cells, read_container, read_element, read_holding, read_housing, read_office, read_order, read_permit, read_reader, read_run, read_run_line, read_seat, read_unit, reader_cells, run_cells, run_line_cells, seat_cells, state_of, unit_cells, ⊤}
+use Rattle.state_encoding.proofs.Common.{AreLegibleRows, ContainerRow, ElementRow, HasTables, HoldingRow}
+use Rattle.state_encoding.proofs.Common.{IsLegibleContainerRow, IsLegibleUnitRow, IsPermutation, IsPermutation-trans}
+use Rattle.state_encoding.proofs.Common.{IsRead, IsSoundOffice, MeetsDeskKeys, OfficeRows, OrderRow, PermitRow}
+use Rattle.state_encoding.proofs.Common.{ReaderRow, RunLineRow, RunRow, SeatRow, SoundOfficesAreRead}
+use Rattle.state_encoding.proofs.Common.{SoundOfficesAreTold, State, TablesDescribe, Trees, Version, and_parts}
+use Rattle.state_encoding.proofs.Common.{catalogue_tests, cause, cons_option, container_cells, desk_tests, each}
+use Rattle.state_encoding.proofs.Common.{element_cells, encoding, first, first_held, has_unread, holding_cells}
+use Rattle.state_encoding.proofs.Common.{housing_cells, is_none, nodes-each, office_cells, or_from, order_cells}
+use Rattle.state_encoding.proofs.Common.{permit_cells, read_container, read_element, read_holding, read_housing}
+use Rattle.state_encoding.proofs.Common.{read_office, read_order, read_permit, read_reader, read_run, read_run_line}
+use Rattle.state_encoding.proofs.Common.{read_seat, read_unit, reader_cells, run_cells, run_line_cells, seat_cells}
+use Rattle.state_encoding.proofs.Common.{state_of, unit_cells, unit_number, ⊤}
 use Rattle.state_encoding.proofs.DeskPasses.{desk_passes}
 use Rattle.state_encoding.proofs.JudgedWhole.{tables_are_shown, sound_catalogue}
 use Rattle.state_encoding.proofs.Judging.{none_held, hold_none}
@@ -21,7 +33,10 @@ use Rattle.state_encoding.proofs.shown_cells.KeyOrder.{by_again, then_by_again}
 use Rattle.state_encoding.proofs.shown_cells.LegibleTables.{tables_legible}
 use Rattle.state_encoding.proofs.shown_cells.OtherOrders.{IsReordered, keys_too}
 use Rattle.state_encoding.proofs.shown_cells.OtherRows.{state_too, no_cause_too}
-use Rattle.state_encoding.proofs.shown_cells.ReadCells.{AreRead, keyed_read, numbered_read, office_back, unit_back, element_back, container_back, housing_back, reader_back, seat_back, order_back, holding_back, run_back, run_line_back, permit_back}
+use Rattle.state_encoding.proofs.shown_cells.ReadCells.{AreRead, keyed_read, numbered_read, office_back, unit_back}
+use Rattle.state_encoding.proofs.shown_cells.ReadCells.{element_back, container_back, housing_back, reader_back}
+use Rattle.state_encoding.proofs.shown_cells.ReadCells.{seat_back, order_back, holding_back, run_back, run_line_back}
+use Rattle.state_encoding.proofs.shown_cells.ReadCells.{permit_back}
 use Rattle.state_encoding.proofs.shown_cells.ReadPlaces.{ArePlacesRead, places_read}
 
 either_too : (us ts : List Bool) → first_held us ≡ None → first_held ts ≡ None → first_held (either_of us ts) ≡ None
@@ -65,10 +80,10 @@ module _ (version : Version) (db : Trees) (s : State) (has : HasTables db (table
   housings : AreRead read_housing (db tables.housing.tree) t.catalogue.housings
   housings = numbered_read read_housing housing_cells (λ _. ⊤) (λ row h. housing_back row) (db tables.housing.tree) t.catalogue.housings has.catalogue.housings (λ row i. tt)
 
-  places : ArePlacesRead (encoding version) db (each number_of s.catalogue.forest)
+  places : ArePlacesRead (encoding version) db (each unit_number s.catalogue.forest)
   places =
-      places_read (encoding version) db (each number_of s.catalogue.forest)
-      (subst (IsDistinct nat_eq) (sym (nodes-each number_of s.catalogue.forest)) g.sound.units.ids) has.catalogue.places
+      places_read (encoding version) db (each unit_number s.catalogue.forest)
+      (subst (IsDistinct nat_eq) (sym (nodes-each unit_number s.catalogue.forest)) g.sound.units.ids) has.catalogue.places
 
   readers : AreRead read_reader (db tables.reader.tree) t.desk.readers
   readers =
@@ -156,7 +171,7 @@ module _ (version : Version) (db : Trees) (s : State) (has : HasTables db (table
       ap (λ o. record (rows_in version db) { office = o }) office_same
       ∙ ap (λ d. record t { catalogue = (rows_in version db).catalogue; desk = d }) desk_same
 
-  is_told : IsTold version db s
+  is_told : TablesDescribe version db s
   is_told =
       let c = (rows_in version db).catalogue in
       let placed = places.same.good (units_shown version s (sound_catalogue s g.sound)).places in

@@ -1,12 +1,16 @@
 -- Each state has trees that show it: its rows as they stand, those without an INTEGER PRIMARY KEY numbered from 1 on.
-use Rattle.std.proofs.Common.{◌≡◌, ℕ, suc, ◌<◌, ℤ, pos, List, [], ◌∷◌, cond, refl, sym, ap, subst, nat_eq, map, arith, Less}
-use Rattle.office_tables.specs.Schema as tables
-use Rattle.office_tables.specs.RowNumbers.{HasNumbered}
-use Rattle.office_tables.specs.Order.{Rises}
+use Rattle.std.proofs.Common.{◌≡◌, ℕ, suc, ◌<◌, ℤ, pos, List, [], ◌∷◌, cond, refl, sym, ap, subst, nat_eq, map, arith}
+use Rattle.std.proofs.Common.{Less}
 use Rattle.office_tables.proofs.numbered.Counted.{below_less}
-use Rattle.state_encoding.specs.CellsOfOffices.{HasRows}
+use Rattle.office_tables.specs.Order.{Rises}
+use Rattle.office_tables.specs.RowNumbers.{HasNumbered}
+use Rattle.office_tables.specs.Schema as tables
 use Rattle.state_encoding.specs.OfficeRows.{tables as tables_of}
-use Rattle.state_encoding.proofs.Common.{AllByRecursion, HasPlaces, HasTables, IsPermutation, IsPermutation-refl, IsRepresentedByTrees, LinkRows, OfficeRows, PlaceRows, Row, SpanRows, State, Trees, Version, container_cells, element_cells, holding_cells, housing_cells, int_cmp, link_cells, office_cells, order_cells, permit_cells, reader_cells, run_cells, run_line_cells, seat_cells, span_cells, unit_cells}
+use Rattle.state_encoding.proofs.Common.{AllByRecursion, HasPlaces, HasRowsInAnyOrder, HasTables, IsPermutation}
+use Rattle.state_encoding.proofs.Common.{IsPermutation-refl, IsRepresentedByTrees, LinkRows, OfficeRows, PlaceRows, Row}
+use Rattle.state_encoding.proofs.Common.{SpanRows, State, Trees, Version, container_cells, element_cells, holding_cells}
+use Rattle.state_encoding.proofs.Common.{housing_cells, int_cmp, link_cells, office_cells, order_cells, permit_cells}
+use Rattle.state_encoding.proofs.Common.{reader_cells, run_cells, run_line_cells, seat_cells, span_cells, unit_cells}
 
 module _ {R : Type 0} where
   counted_from : ℕ → List R → List (ℤ × R)
@@ -32,7 +36,7 @@ module _ {R : Type 0} where
   has_numbered cells rows =
       record { numbered = counted_from 1 rows; are = refl; rise = rise 1 rows; tell = subst (IsPermutation rows) (sym (told 1 rows)) (IsPermutation-refl rows) }
 
-  has_rows : (cells : R → Row) (rows : List R) → HasRows cells (map cells rows) rows
+  has_rows : (cells : R → Row) (rows : List R) → HasRowsInAnyOrder cells (map cells rows) rows
   has_rows cells rows = record { stored = rows; are = refl; tell = IsPermutation-refl rows }
 
 abbrev place_cells : PlaceRows → List Row

@@ -1,14 +1,31 @@
 -- Rows of the catalogue's tables with their keys and without a cause say a sound catalogue, and are its rows.
-use Rattle.std.proofs.Common.{◌≡◌, ℕ, ◌+◌, ◌<◌, ◌≤◌, true, false, not, List, [], ◌∷◌, length, Option, Some, None, refl, sym, ap, ◌∙◌, subst, nat_eq, inl, inr, arith, map}
-use Rattle.std.specs.Prelude.{ℤ, nat_lt}
-use Rattle.std.specs.List.{IsDistinct}
+use Rattle.std.proofs.Common.{◌≡◌, ℕ, ◌+◌, ◌<◌, ◌≤◌, true, false, not, List, [], ◌∷◌, length, Option, Some, None, refl}
+use Rattle.std.proofs.Common.{sym, ap, ◌∙◌, subst, nat_eq, inl, inr, arith, map}
 use Rattle.std.proofs.lemmas.Slice.Eq.{bytes_eq-Decides}
-use Rattle.isad_core.specs.Boxes.{is_same as is_same_box}
-use Rattle.catalogue_core.proofs.NodeLemmas.{length-nodes}
-use Rattle.office_core.specs.Words.{stands}
-use Rattle.catalogue_core.specs.Sources.{is_between}
+use Rattle.std.specs.List.{IsDistinct}
+use Rattle.std.specs.Prelude.{ℤ, nat_lt}
 use Rattle.catalogue_core.proofs.Heights.{height-each}
-use Rattle.state_encoding.proofs.Common.{AllByRecursion, AreGoodSettings, AreGoodUnits, ArePlacesOf, BoxKey, ContainerRow, ElementRow, Empty, Forest, HousingRow, In, In-map, IsCatalogueOf, IsDayNumber, IsDistinct-IsPermutation, IsGoodUnit, IsPermutation, IsPermutation-refl, IsPermutation-sym, IsSomeDay, IsSoundCatalogue, MeetsCatalogueKeys, Node, OfficeRow, OfficeRows, SaysTheCatalogue, Unit, UnitRow, Version, all_stand_in, and_parts, are_good_container_rows, are_good_places, are_good_units, are_numbered_from, box_from, boxes_from_rows, catalogue_cause, containers_are_bad, distinct, each, elements_are_bad, encoding, eqb-true, height, housings_of, is_blank_text, is_country, is_day_number, is_day_number-so, is_good_element, is_good_housing, is_good_office, is_good_unit_row, is_named_alike, is_repository, is_same_unit, is_some_day, is_source, is_unit_number, leb-true, length-map, length_permutation, list_all, list_all-map, ltb-true, most_bytes, most_containers, most_daily, most_deep, most_hands, most_run_size, most_seats, most_unit_numbers, most_units, nat_le, nodes, nodes-each, not-false, not-true, number_of, numbers_from, office_is_bad, place_numbers, place_rows, places_are_bad, places_said, size, state_of, text_said, unit_from, unit_from_rows, unit_numbers, unit_row, units_are_bad, version_number}
+use Rattle.catalogue_core.proofs.NodeLemmas.{length-nodes}
+use Rattle.catalogue_core.specs.Sources.{is_between}
+use Rattle.office_core.specs.Words.{stands}
+use Rattle.state_encoding.proofs.Common.{AllByRecursion, AreGoodSettings, AreGoodUnits, ArePlacesOf, BoxKey}
+use Rattle.state_encoding.proofs.Common.{ContainerRow, ElementRow, Empty, Forest, HousingRow, In, In-map, IsCatalogueOf}
+use Rattle.state_encoding.proofs.Common.{IsDayNumber, IsDistinct-IsPermutation, IsGoodUnit, IsPermutation}
+use Rattle.state_encoding.proofs.Common.{IsPermutation-refl, IsPermutation-sym, IsSomeDay, IsSoundCatalogue}
+use Rattle.state_encoding.proofs.Common.{MeetsCatalogueKeys, Node, OfficeRow, OfficeRows, SaysTheCatalogue, Unit}
+use Rattle.state_encoding.proofs.Common.{UnitRow, Version, all_stand_in, and_parts, are_good_container_rows}
+use Rattle.state_encoding.proofs.Common.{are_good_places, are_good_units, are_numbered_from, box_from, boxes_from_rows}
+use Rattle.state_encoding.proofs.Common.{catalogue_cause, containers_are_bad, distinct, each, elements_are_bad}
+use Rattle.state_encoding.proofs.Common.{encoding, eqb-true, height, housings_of, is_blank_text, is_country}
+use Rattle.state_encoding.proofs.Common.{is_day_number, is_day_number-so, is_good_element, is_good_housing}
+use Rattle.state_encoding.proofs.Common.{is_good_office, is_good_unit_row, is_named_alike, is_repository, is_same_box}
+use Rattle.state_encoding.proofs.Common.{is_same_unit, is_some_day, is_source, is_unit_number, leb-true, length-map}
+use Rattle.state_encoding.proofs.Common.{length_permutation, list_all, list_all-map, ltb-true, most_bytes}
+use Rattle.state_encoding.proofs.Common.{most_containers, most_daily, most_deep, most_hands, most_run_size, most_seats}
+use Rattle.state_encoding.proofs.Common.{most_unit_numbers, most_units, nat_le, nodes, nodes-each, not-false, not-true}
+use Rattle.state_encoding.proofs.Common.{numbers_from, office_is_bad, place_numbers, place_rows, places_are_bad}
+use Rattle.state_encoding.proofs.Common.{places_said, size, state_of, text_said, unit_from, unit_from_rows, unit_number}
+use Rattle.state_encoding.proofs.Common.{unit_numbers, unit_row, units_are_bad, version_number}
 use Rattle.state_encoding.proofs.Judging.{none_held}
 use Rattle.state_encoding.proofs.RowsByNumber.{in_map, all_in, stands_in}
 use Rattle.state_encoding.proofs.told.ToldPlaces.{ArePlaced, good_places, numbers_given}
@@ -289,11 +306,11 @@ module _ (version : Version) (t : OfficeRows) (k : MeetsCatalogueKeys t.catalogu
         housings = housings_are_said t f placed.apart boxes_differ k.housings housing;
       }
     where
-      numbers_back : (g : Forest ℕ) → each number_of (each (unit_from_rows t.catalogue) g) ≡ g
+      numbers_back : (g : Forest ℕ) → each unit_number (each (unit_from_rows t.catalogue) g) ≡ g
       numbers_back Empty = refl
       numbers_back (Node u c o) =
-          ap (λ v. Node v (each number_of (each (unit_from_rows t.catalogue) c)) (each number_of (each (unit_from_rows t.catalogue) o))) (said_id t u)
-          ∙ (ap (λ x. Node u x (each number_of (each (unit_from_rows t.catalogue) o))) (numbers_back c) ∙ ap (λ x. Node u c x) (numbers_back o))
+          ap (λ v. Node v (each unit_number (each (unit_from_rows t.catalogue) c)) (each unit_number (each (unit_from_rows t.catalogue) o))) (said_id t u)
+          ∙ (ap (λ x. Node u x (each unit_number (each (unit_from_rows t.catalogue) o))) (numbers_back c) ∙ ap (λ x. Node u c x) (numbers_back o))
 
 pub catalogue_is_said : (version : Version) (t : OfficeRows) → SaysTheCatalogue version t
 catalogue_is_said version t k h = let n = no_cause version t h in (sound version t k n, shown version t k n)

@@ -1,10 +1,13 @@
 -- Containers that rows say are those rows, and each stands once.
-use Rattle.std.proofs.Common.{◌≡◌, ℕ, zero, suc, ◌≤◌, Bool, true, false, cond, not, List, [], ◌∷◌, length, Some, refl, sym, ap, ◌∙◌, nat_eq, inl, inr, arith, map}
-use Rattle.std.specs.Prelude.{unwrap_or}
+use Rattle.std.proofs.Common.{◌≡◌, ℕ, zero, suc, ◌≤◌, Bool, true, false, cond, not, List, [], ◌∷◌, length, Some, refl}
+use Rattle.std.proofs.Common.{sym, ap, ◌∙◌, nat_eq, inl, inr, arith, map}
 use Rattle.std.specs.List.{IsDistinct}
-use Rattle.isad_core.specs.Boxes.{is_same as is_same_box}
-use Rattle.catalogue_core.specs.CatalogueMerge.{number_in}
-use Rattle.state_encoding.proofs.Common.{AllByRecursion, BoxKey, ContainerRow, In, and_parts, are_numbered_from, box_from, box_itself, box_number, container_row, distinct, eq-eqb, eqb-true, false_from_ne_true, false≢true, filter, is_same_container, list_any, nth, option_map, or_left, or_right, rows_from, same_box, slice_get}
+use Rattle.std.specs.Prelude.{unwrap_or}
+use Rattle.state_encoding.proofs.Common.{AllByRecursion, BoxKey, ContainerRow, In, and_parts, are_numbered_from}
+use Rattle.state_encoding.proofs.Common.{box_from, box_itself, box_number, container_row, distinct, eq-eqb, eqb-true}
+use Rattle.state_encoding.proofs.Common.{false_from_ne_true, false≢true, filter, is_same_box, is_same_container}
+use Rattle.state_encoding.proofs.Common.{list_any, nth, number_among, option_map, or_left, or_right, rows_from}
+use Rattle.state_encoding.proofs.Common.{same_box, slice_get}
 use Rattle.state_encoding.proofs.RowsByNumber.{each_in}
 
 abbrev are_counted : ℕ → List ContainerRow → Bool
@@ -67,14 +70,14 @@ in_get (c ∷ boxes) zero b e = inl (cc)
 in_get (c ∷ boxes) (suc i) b e = inr (in_get boxes i b e)
 
 pub numbered_back : (boxes : List BoxKey) (i : ℕ) (b : BoxKey) → IsDistinct is_same_box boxes
-    → slice_get boxes i ≡ Some b → number_in boxes b ≡ Some (suc i)
+    → slice_get boxes i ≡ Some b → number_among boxes b ≡ Some (suc i)
 unfolding IsDistinct
 numbered_back [] i b d e = cc
 numbered_back (c ∷ boxes) zero b d e =
     let same : c ≡ b = cc in
-    ap (λ x. cond x (Some 1) (option_map suc (number_in boxes b))) (ap (is_same_box c) (sym same) ∙ box_itself c)
+    ap (λ x. cond x (Some 1) (option_map suc (number_among boxes b))) (ap (is_same_box c) (sym same) ∙ box_itself c)
 numbered_back (c ∷ boxes) (suc i) b d e =
-    ap (λ x. cond x (Some 1) (option_map suc (number_in boxes b))) (each_in (λ x. is_same_box c x ≡ false) boxes b d.0 (in_get boxes i b e))
+    ap (λ x. cond x (Some 1) (option_map suc (number_among boxes b))) (each_in (λ x. is_same_box c x ≡ false) boxes b d.0 (in_get boxes i b e))
     ∙ ap (option_map suc) (numbered_back boxes i b d.1 e)
 
 pub back_to_number : (boxes : List BoxKey) (n : ℕ) (b : BoxKey) → IsDistinct is_same_box boxes → nth boxes n ≡ Some b

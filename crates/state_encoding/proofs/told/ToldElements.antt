@@ -1,12 +1,20 @@
 -- The texts that rows of elements say are those rows.
-use Rattle.std.proofs.Common.{◌≡◌, ℕ, zero, suc, ◌+◌, ◌<◌, ◌≤◌, true, false, cond, not, ◌&&◌, List, [], ◌∷◌, ◌++◌, Option, Some, None, refl, sym, ap, ◌∙◌, subst, nat_eq, inl, inr, arith, map}
+use Rattle.std.proofs.Common.{◌≡◌, ℕ, zero, suc, ◌+◌, ◌<◌, ◌≤◌, true, false, cond, not, ◌&&◌, List, [], ◌∷◌, ◌++◌}
+use Rattle.std.proofs.Common.{Option, Some, None, refl, sym, ap, ◌∙◌, subst, nat_eq, inl, inr, arith, map}
 use Rattle.std.specs.List.{IsDistinct}
 use Rattle.tree_core.proofs.Repeats.{distinct_repeats}
-use Rattle.office_core.specs.Words.{stands}
 use Rattle.catalogue_core.specs.Sources.{is_between}
-use Rattle.state_encoding.proofs.Common.{Bytes, ElementRow, Forest, In, In-map, IsPermutation, IsPermutation-trans, OfficeRows, Unit, after_level, and_from, and_parts, cases_eq, cases_lt, each, element_rows_from, eq-eqb, eqb-true, false≢true, filter, find, find_some, flat_map, flat_map-cons, flat_map-map, is_blank_text, is_good_element, is_good_text, is_same_element, le-ltb, leb-true, list_all, lt-ltb, nat_le, nodes, nodes-each, not-true, numbers_from, option_map, option_to_list, text_said, unit_from_rows}
+use Rattle.office_core.specs.Words.{stands}
+use Rattle.state_encoding.proofs.Common.{Bytes, ElementRow, Forest, In, In-map, IsPermutation, IsPermutation-trans}
+use Rattle.state_encoding.proofs.Common.{OfficeRows, Unit, after_level, and_from, and_parts, cases_eq, cases_lt, each}
+use Rattle.state_encoding.proofs.Common.{element_rows_from, eq-eqb, eqb-true, false≢true, filter, find, find_some}
+use Rattle.state_encoding.proofs.Common.{flat_map, flat_map-cons, flat_map-map, is_blank_text, is_good_element}
+use Rattle.state_encoding.proofs.Common.{is_good_text, is_same_element, le-ltb, leb-true, list_all, lt-ltb, nat_le}
+use Rattle.state_encoding.proofs.Common.{nodes, nodes-each, not-true, numbers_from, option_map, option_to_list}
+use Rattle.state_encoding.proofs.Common.{text_said, unit_from_rows}
 use Rattle.state_encoding.proofs.UnitRows.{found_kept}
-use Rattle.state_encoding.proofs.RowsByNumber.{in_filter, flat_map_same, flat_map_reordered, grouped, one_kept, in_numbers, own_apart}
+use Rattle.state_encoding.proofs.RowsByNumber.{in_filter, flat_map_same, flat_map_reordered, grouped, one_kept}
+use Rattle.state_encoding.proofs.RowsByNumber.{in_numbers, own_apart}
 use Rattle.state_encoding.proofs.told.ToldUnits.{said_id, said_texts}
 
 abbrev mine : ℕ → List ElementRow → List ElementRow

@@ -1,12 +1,20 @@
 -- What lies in the units that rows say is in those rows.
-use Rattle.std.proofs.Common.{◌≡◌, ℕ, zero, suc, ◌+◌, ◌<◌, ◌≤◌, true, List, [], ◌∷◌, ◌++◌, length, Option, Some, None, refl, sym, ap, ◌∙◌, subst, nat_eq, arith, map}
+use Rattle.std.proofs.Common.{◌≡◌, ℕ, zero, suc, ◌+◌, ◌<◌, ◌≤◌, true, List, [], ◌∷◌, ◌++◌, length, Option, Some, None}
+use Rattle.std.proofs.Common.{refl, sym, ap, ◌∙◌, subst, nat_eq, arith, map}
 use Rattle.std.specs.List.{IsDistinct}
-use Rattle.isad_core.specs.Boxes.{is_same as is_same_box}
-use Rattle.state_encoding.proofs.Common.{BoxKey, Forest, HousingRow, In, IsDistinct-IsPermutation, IsPermutation, IsPermutation-map, IsPermutation-sym, IsPermutation-trans, OfficeRows, Unit, and_from, box_at, box_from, box_number, boxes_from, boxes_from_rows, cons_option, distinct, each, eqb-true, eqb_comm, fills, filter, find, flat_map, flat_map-cons, flat_map-map, housing_row, housings_of, is_housed_alike, is_same_place, length-map, list_all, list_any, nodes, nodes-each, nth, numbers_from, option_to_list, rows_from, unit_from_rows}
-use Rattle.state_encoding.proofs.RowsByNumber.{in_map, in_filter, flat_map_same, flat_map_reordered, grouped, found_by, one_kept, in_numbers, numbers_length, numbers_apart, own_apart}
+use Rattle.state_encoding.proofs.Common.{BoxKey, Forest, HousingRow, In, IsDistinct-IsPermutation, IsPermutation}
+use Rattle.state_encoding.proofs.Common.{IsPermutation-map, IsPermutation-sym, IsPermutation-trans, OfficeRows, Unit}
+use Rattle.state_encoding.proofs.Common.{and_from, box_at, box_from, box_number, boxes_from, boxes_from_rows}
+use Rattle.state_encoding.proofs.Common.{cons_option, distinct, each, eqb-true, eqb_comm, fills, filter, find, flat_map}
+use Rattle.state_encoding.proofs.Common.{flat_map-cons, flat_map-map, housing_row, housings_of, is_housed_alike}
+use Rattle.state_encoding.proofs.Common.{is_same_box, is_same_place, length-map, list_all, list_any, nodes, nodes-each}
+use Rattle.state_encoding.proofs.Common.{nth, numbers_from, option_to_list, rows_from, unit_from_rows}
+use Rattle.state_encoding.proofs.RowsByNumber.{in_map, in_filter, flat_map_same, flat_map_reordered, grouped, found_by}
+use Rattle.state_encoding.proofs.RowsByNumber.{one_kept, in_numbers, numbers_length, numbers_apart, own_apart}
 use Rattle.state_encoding.proofs.told.ToldUnits.{said_id, said_boxes}
 use Rattle.state_encoding.proofs.NumberedRows.{numbered_in}
-use Rattle.state_encoding.proofs.told.ToldContainers.{back_to_number, one_numbered, is_there, stay_distinct, numbers_tell}
+use Rattle.state_encoding.proofs.told.ToldContainers.{back_to_number, one_numbered, is_there, stay_distinct}
+use Rattle.state_encoding.proofs.told.ToldContainers.{numbers_tell}
 
 abbrev at_place : ℕ → List HousingRow → Option HousingRow
 at_place m rows = find (λ (row : HousingRow). nat_eq row.ord m) rows

@@ -1,9 +1,12 @@
 -- The units that rows say are those rows.
 use Rattle.std.proofs.Common.{◌≡◌, ℕ, false, List, [], ◌∷◌, Option, Some, None, refl, sym, ap, ◌∙◌, subst, nat_eq, map}
-use Rattle.std.specs.Prelude.{unwrap_or}
 use Rattle.std.specs.List.{IsDistinct}
+use Rattle.std.specs.Prelude.{unwrap_or}
 use Rattle.tree_core.proofs.Members.{permutation_from_members}
-use Rattle.state_encoding.proofs.Common.{Forest, In, In-map, IsPermutation, OfficeRows, Unit, UnitRow, box_from, boxes_from_rows, each, eqb-true, find, find_some, nodes, nodes-each, numbers_from, option_map, text_said, unit_from, unit_from_rows, unit_numbers, unit_row, values_from_rows}
+use Rattle.state_encoding.proofs.Common.{Forest, In, In-map, IsPermutation, OfficeRows, Unit, UnitRow, box_from}
+use Rattle.state_encoding.proofs.Common.{boxes_from_rows, each, eqb-true, find, find_some, nodes, nodes-each}
+use Rattle.state_encoding.proofs.Common.{numbers_from, option_map, text_said, unit_from, unit_from_rows, unit_numbers}
+use Rattle.state_encoding.proofs.Common.{unit_row, values_from_rows}
 use Rattle.state_encoding.proofs.RowsByNumber.{From, in_map, found_by}
 
 abbrev row_of : OfficeRows → ℕ → Option UnitRow

@@ -1,10 +1,11 @@
 use Rattle.std.proofs.Common.{refl, rules}
-use Rattle.office_tables.specs.Schema as tables
 use Rattle.office_tables.proofs.StatementEnds.{found_in}
+use Rattle.office_tables.specs.Schema as tables
 use Rattle.row_decoding.proofs.TableReads.{is_query, is_excused}
 use Rattle.adoption.proofs.Common.{state}
 use Rattle.adoption.proofs.JudgmentEnds.{judged, passes_of}
-use Rattle.adoption.proofs.OwnRowLemmas.{own_text, own_terms, by_one, own_names, own_means, scanned_office, office_risen, judged_one, judged_not_one}
+use Rattle.adoption.proofs.OwnRowLemmas.{own_text, own_terms, by_one, own_names, own_means, scanned_office}
+use Rattle.adoption.proofs.OwnRowLemmas.{office_risen, judged_one, judged_not_one}
 use Rattle.adoption.proofs.own_row.own_row.Goals as goal
 
 pub gather-requires-clause-ours : goal.gather-requires-clause-ours

@@ -1,6 +1,6 @@
 use Rattle.std.proofs.Common.{◌≡◌, ap, ◌∙◌}
-use Rattle.sqlite.specs.Steps.{over_memory}
 use Rattle.sqlite.proofs.Callers.{memory_is_clean}
+use Rattle.sqlite.specs.Steps.{over_memory}
 use Rattle.adoption.proofs.Common.{Database, no_schema, state}
 use Rattle.adoption.proofs.NewTables.{making, made_desk}
 use Rattle.adoption.proofs.own_tables.new_tables.Goals as goal

@@ -1,7 +1,7 @@
 use Rattle.std.proofs.Common.{◌≡◌, Some, sym, ap, subst, ◌∙◌}
 use Rattle.integrity_checks.proofs.ExaminationEnds.{earlier, still}
-use Rattle.adoption.specs.Judgments.{HasGoodCatalogue}
-use Rattle.adoption.proofs.Common.{Database, HasCleanDisk, StandInOrder, cell_cause, looks_then, own_row_of, state}
+use Rattle.adoption.proofs.Common.{Database, HasCleanDisk, HasGoodCatalogueTables, StandInOrder, cell_cause, looks_then}
+use Rattle.adoption.proofs.Common.{own_row_of, state}
 use Rattle.adoption.proofs.CauseLemmas.{no_own_row, told_catalogue, fine_catalogue}
 use Rattle.adoption.proofs.JudgmentEnds.{as_judged, judged, judged_last, passes, passes_later, still_known}
 use Rattle.adoption.proofs.verdicts.least_cause.Goals as goal
@@ -39,6 +39,6 @@ returns g c =
     let good = λ (clean : HasCleanDisk (state g.S.Store c.load_check.new.tables)) (ordered : StandInOrder old.now).
     let first = one.answers (earlier two clean) in
     let is : Some own ≡ own_row_of v old.now.trees = sym c.in-Some.is ∙ first.2 ordered in
-    let here : HasGoodCatalogue v own old.now = record { schema_is = first.0; live = first.1; ordered = ordered; own_row = sym is; catalogue = fine_catalogue v old.now.trees own is (sym c.in_default-2.is ∙ still one.reads.looks two clean) } in
-    still_known (HasGoodCatalogue v own) looked clean here in
+    let here : HasGoodCatalogueTables v own old.now = record { schema_is = first.0; live = first.1; ordered = ordered; own_row = sym is; catalogue = fine_catalogue v old.now.trees own is (sym c.in_default-2.is ∙ still one.reads.looks two clean) } in
+    still_known (HasGoodCatalogueTables v own) looked clean here in
     judged_last looked c.desk_cause.ensures good (λ clean cause answers ordered. subst (λ (db : Database). cause ≡ cell_cause v db.trees) (looked.same clean) (answers (good clean ordered)))

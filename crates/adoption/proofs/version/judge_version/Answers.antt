@@ -1,5 +1,6 @@
 use Rattle.std.proofs.Common.{◌≡◌, inl, inr, rules, length, slice_index_or, sym, ap, ap₂, subst, ◌∙◌}
-use Rattle.adoption.proofs.Common.{AreVersions, IsVersionVerdict, ShowsVersions, column, number_in, state, verdict_of_version, version_number}
+use Rattle.adoption.proofs.Common.{AreVersions, IsVersionVerdict, ShowsVersions, column, number_in, state}
+use Rattle.adoption.proofs.Common.{verdict_of_version, version_number}
 use Rattle.adoption.proofs.JudgmentEnds.{judged, passes}
 use Rattle.adoption.proofs.VersionLemmas.{one_row, version_judged}
 use Rattle.adoption.proofs.version.judge_version.Goals as goal

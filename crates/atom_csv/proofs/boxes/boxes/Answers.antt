@@ -1,12 +1,13 @@
 use Rattle.std.proofs.Common.{◌≡◌, ◌∙◌, ap, ap₂, arith, take, filter, List, length, ℕ, Bor}
-use Rattle.atom_csv.proofs.Common.{BoxKey, Bytes, borrowed_fields, distinct, entries, entry_at, is_named_box, is_same, list_any, take-length, triples}
+use Rattle.atom_csv.proofs.Common.{BoxKey, Bytes, borrowed_fields, distinct, entries, entry_at, is_named_box}
+use Rattle.atom_csv.proofs.Common.{is_same_box, list_any, take-length, triples}
 use Rattle.atom_csv.proofs.BoxLemmas.{Told, holds_more, key_of, length-triples}
 use Rattle.atom_csv.proofs.boxes.boxes.Goals as goal
 
 pub loop-i-init : goal.loop-i-init
 loop-i-init c = record {
   kept = c.new-2.ensures;
-  stood = λ q. ap (λ (ks : List Told). list_any (λ k. is_same q (key_of k)) ks) c.new.ensures.empty;
+  stood = λ q. ap (λ (ks : List Told). list_any (λ k. is_same_box q (key_of k)) ks) c.new.ensures.empty;
 }
 
 pub loop-i-preserved : goal.loop-i-preserved

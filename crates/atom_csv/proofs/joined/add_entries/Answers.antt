@@ -1,7 +1,7 @@
 use Rattle.std.proofs.Common.{◌∙◌, ap, sym, refl, lit<, Bor, map, fold, [], ◌∷◌}
-use Rattle.std.proofs.lemmas.Iterator.Splits.{YieldsList-from_str_split}
 use Rattle.std.proofs.lemmas.Iterator.Consumers.{YieldsList-at, YieldsList-end}
-use Rattle.atom_csv.proofs.Common.{Bytes, entry_of, fold-append, map-append, string_bytes, with_entry}
+use Rattle.std.proofs.lemmas.Iterator.Splits.{YieldsList-from_str_split}
+use Rattle.atom_csv.proofs.Common.{Bytes, fold-append, map-append, string_bytes, trimmed_entry, with_entry}
 use Rattle.atom_csv.proofs.EntryLemmas.{entries_seen}
 use Rattle.atom_csv.proofs.joined.add_entries.Goals as goal
 
@@ -10,7 +10,7 @@ loop-part-init c = refl
 
 pub loop-part-preserved : goal.loop-part-preserved
 loop-part-preserved c =
-    let told : Bor Bytes → Bytes = λ part. entry_of part.now in
+    let told : Bor Bytes → Bytes = λ part. trimmed_entry part.now in
     let start = string_bytes c.args.text.now in
     let before = map told c.loop-part.yielded in
     c.in_ok-add.ensures
@@ -22,4 +22,4 @@ pub returns : goal.returns
 returns c =
     let cut = YieldsList-from_str_split 124 c.args.value.now (lit< tt) c.split-part-items.ensures.text c.split-part-items.ensures.has_more c.split-part-items.ensures.pattern in
     let all = YieldsList-end (YieldsList-at c.into_iter-part-iterator.ensures.into_iter_gives cut) c.loop-part.yielded _ c.loop-part.yielded_by _ _ c.in-None.is c.next.ensures.steps in
-    c.loop-part.invariant ∙ ap (fold with_entry (string_bytes c.args.text.now)) (entries_seen c.loop-part.yielded ∙ ap (map entry_of) all.0)
+    c.loop-part.invariant ∙ ap (fold with_entry (string_bytes c.args.text.now)) (entries_seen c.loop-part.yielded ∙ ap (map trimmed_entry) all.0)

@@ -1,7 +1,9 @@
-use Rattle.std.proofs.Common.{◌≡◌, ◌∙◌, ◌+◌, ◌<◌, ◌++◌, ◌∷◌, [], ℕ, suc, List, ap, sym, arith, fold, take, get_or, length}
+use Rattle.std.proofs.Common.{◌≡◌, ◌∙◌, ◌+◌, ◌<◌, ◌++◌, ◌∷◌, [], ℕ, suc, List, ap, sym, arith, fold, take, get_or}
+use Rattle.std.proofs.Common.{length}
 use Rattle.std.proofs.lemmas.Grind.{flat_map-append}
 use Rattle.std.proofs.lemmas.List.{append-nil}
-use Rattle.atom_csv.proofs.Common.{Bytes, Column, Fields, columns_of, fields_in, flat_map, fold-append, take-length, take-suc, told_by, value, with_entry}
+use Rattle.atom_csv.proofs.Common.{Bytes, Column, Fields, columns_of, fields_in, flat_map, fold-append, take-length}
+use Rattle.atom_csv.proofs.Common.{take-suc, told_by, value, with_entry}
 use Rattle.atom_csv.proofs.EntryLemmas.{fold_joined}
 use Rattle.atom_csv.proofs.joined.join_entries.Goals as goal
 

@@ -1,10 +1,11 @@
 use Rattle.std.proofs.Common.{◌≡◌, ◌∙◌, Bool, true, false, sym, ap, refl, ℕ}
+use Rattle.std.proofs.lemmas.Result.{IfErr-weaker, IfOk-weaker}
 use Rattle.std.specs.Prelude.{Err}
 use Rattle.std.specs.Str.{IsUtf8, is_utf8}
-use Rattle.std.proofs.lemmas.Result.{IfErr-weaker, IfOk-weaker}
 use Rattle.atom_csv.specs.declared.file.FileFault.{FileFault}
 use Rattle.atom_csv.specs.declared.file.FileFault.TheVariants.{Memory, Bad}
-use Rattle.atom_csv.proofs.Common.{Bytes, IsBad, IsUtf8-from_is_utf8, file_of, if◌then◌else◌, is_utf8-from_IsUtf8, of_records, records_of}
+use Rattle.atom_csv.proofs.Common.{Bytes, IsBad, IsUtf8-from_is_utf8, file_of, if◌then◌else◌, is_utf8-from_IsUtf8}
+use Rattle.atom_csv.proofs.Common.{of_records, records_of}
 use Rattle.atom_csv.proofs.read.read_file.Goals as goal
 
 -- a text says what its records say

@@ -1,7 +1,8 @@
 use Rattle.std.proofs.Common.{◌≡◌, ℤ, true, false, sym, subst, ◌∙◌}
 use Rattle.office_core.specs.declared.command.Command.TheVariants as command
 use Rattle.office_core.specs.declared.done.Done.TheVariants as done
-use Rattle.catalogue_commands.proofs.Common.{OthersAreOpen, catalogue_passed, has_unit, is_later, passed_freely, passed_where, state}
+use Rattle.catalogue_commands.proofs.Common.{OthersAreOpen, catalogue_passed, has_unit, is_later, passed_freely}
+use Rattle.catalogue_commands.proofs.Common.{passed_where, state}
 use Rattle.catalogue_commands.proofs.Closed.{closes, closes_near, ends}
 use Rattle.catalogue_commands.proofs.closure.close_known.Goals as goal
 

@@ -1,5 +1,6 @@
 use Rattle.std.proofs.Common.{◌≡◌, false, refl, sym, ap, ◌∙◌}
-use Rattle.catalogue_commands.proofs.Common.{catalogue_passed, does_then, has_unit, is_refused, is_some, office_kept, office_of}
+use Rattle.catalogue_commands.proofs.Common.{catalogue_passed, does_then, has_unit, is_refused, is_some, office_kept}
+use Rattle.catalogue_commands.proofs.Common.{office_of}
 use Rattle.catalogue_commands.proofs.KnownUnits.{same_number}
 use Rattle.catalogue_commands.proofs.removal.remove_unit.Goals as goal
 

@@ -1,7 +1,8 @@
 use Rattle.std.proofs.Common.{◌≡◌, Bool, true, None, sym, subst}
 use Rattle.office_core.specs.declared.command.Command.TheVariants as command
 use Rattle.office_core.specs.declared.done.Done.TheVariants as done
-use Rattle.catalogue_commands.proofs.Common.{OthersAreOpen, after, catalogue_passed, gate, has_unit, passed_freely, passed_where, state}
+use Rattle.catalogue_commands.proofs.Common.{OthersAreOpen, after, catalogue_passed, gate, has_unit, passed_freely}
+use Rattle.catalogue_commands.proofs.Common.{passed_where, state}
 use Rattle.catalogue_commands.proofs.Statused.{publishes, sets, sets_near}
 use Rattle.catalogue_commands.proofs.status.set_known.Goals as goal
 

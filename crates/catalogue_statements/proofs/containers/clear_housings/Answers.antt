@@ -1,6 +1,8 @@
 use Rattle.std.proofs.Common.{refl}
 use Rattle.catalogue_statements.proofs.Common.{thins_numbered}
-use Rattle.catalogue_statements.proofs.HousingStatements.{clear_housings_command, clear_housings_means, clear_housings_leaves, clear_housings_only, clear_housings_faults}
+use Rattle.catalogue_statements.proofs.HousingStatements.{clear_housings_command, clear_housings_means}
+use Rattle.catalogue_statements.proofs.HousingStatements.{clear_housings_leaves, clear_housings_only}
+use Rattle.catalogue_statements.proofs.HousingStatements.{clear_housings_faults}
 use Rattle.catalogue_statements.proofs.containers.clear_housings.Goals as goal
 
 pub change-requires : goal.change-requires

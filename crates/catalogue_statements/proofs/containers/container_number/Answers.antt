@@ -1,6 +1,7 @@
 use Rattle.std.proofs.Common.{Ok, [], slice_get, ap, ◌∙◌}
 use Rattle.catalogue_statements.proofs.Common.{IfOk-weaker, looks_up}
-use Rattle.catalogue_statements.proofs.ContainerStatements.{container_number_command, container_number_means, container_number_finds, container_number_faults}
+use Rattle.catalogue_statements.proofs.ContainerStatements.{container_number_command, container_number_means}
+use Rattle.catalogue_statements.proofs.ContainerStatements.{container_number_finds, container_number_faults}
 use Rattle.catalogue_statements.proofs.containers.container_number.Goals as goal
 
 pub find_one-requires : goal.find_one-requires

@@ -1,6 +1,7 @@
 use Rattle.std.proofs.Common.{Ok, [], slice_get, ap, ◌∙◌}
 use Rattle.catalogue_statements.proofs.Common.{IfOk-weaker, looks_up}
-use Rattle.catalogue_statements.proofs.ContainerStatements.{find_container_command, find_container_means, find_container_finds, find_container_faults}
+use Rattle.catalogue_statements.proofs.ContainerStatements.{find_container_command, find_container_means}
+use Rattle.catalogue_statements.proofs.ContainerStatements.{find_container_finds, find_container_faults}
 use Rattle.catalogue_statements.proofs.containers.find_container.Goals as goal
 
 pub find_one-requires : goal.find_one-requires

@@ -1,5 +1,6 @@
 use Rattle.catalogue_statements.proofs.Common.{looks_up}
-use Rattle.catalogue_statements.proofs.HousingStatements.{housings_command, housings_means, of_unit_finds, of_unit_faults}
+use Rattle.catalogue_statements.proofs.HousingStatements.{housings_command, housings_means, of_unit_finds}
+use Rattle.catalogue_statements.proofs.HousingStatements.{of_unit_faults}
 use Rattle.catalogue_statements.proofs.containers.housings_of.Goals as goal
 
 pub find-requires : goal.find-requires

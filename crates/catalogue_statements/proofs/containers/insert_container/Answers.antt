@@ -1,6 +1,7 @@
 use Rattle.std.proofs.Common.{refl}
 use Rattle.catalogue_statements.proofs.Common.{puts_row}
-use Rattle.catalogue_statements.proofs.ContainerStatements.{insert_container_command, insert_container_means, insert_container_puts, insert_container_faults}
+use Rattle.catalogue_statements.proofs.ContainerStatements.{insert_container_command, insert_container_means}
+use Rattle.catalogue_statements.proofs.ContainerStatements.{insert_container_puts, insert_container_faults}
 use Rattle.catalogue_statements.proofs.containers.insert_container.Goals as goal
 
 pub change-requires : goal.change-requires

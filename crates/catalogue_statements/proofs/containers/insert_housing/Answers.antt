@@ -1,6 +1,7 @@
 use Rattle.std.proofs.Common.{refl}
 use Rattle.catalogue_statements.proofs.Common.{puts_numbered}
-use Rattle.catalogue_statements.proofs.HousingStatements.{insert_housing_command, insert_housing_means, insert_housing_puts, insert_housing_faults}
+use Rattle.catalogue_statements.proofs.HousingStatements.{insert_housing_command, insert_housing_means}
+use Rattle.catalogue_statements.proofs.HousingStatements.{insert_housing_puts, insert_housing_faults}
 use Rattle.catalogue_statements.proofs.containers.insert_housing.Goals as goal
 
 pub change-requires : goal.change-requires

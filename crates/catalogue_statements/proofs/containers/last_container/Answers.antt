@@ -1,6 +1,7 @@
 use Rattle.std.proofs.Common.{◌≡◌, ℕ, Ok, List, [], ◌∷◌, map, take, slice_get, refl, ap, ◌∙◌}
 use Rattle.catalogue_statements.proofs.Common.{BoxKey, IfOk-weaker, looks_up}
-use Rattle.catalogue_statements.proofs.ContainerStatements.{last_container_command, last_container_means, last_container_finds, last_container_faults}
+use Rattle.catalogue_statements.proofs.ContainerStatements.{last_container_command, last_container_means}
+use Rattle.catalogue_statements.proofs.ContainerStatements.{last_container_finds, last_container_faults}
 use Rattle.catalogue_statements.proofs.containers.last_container.Goals as goal
 
 first_of_one : (xs : List ℕ) → slice_get (take 1 xs) 0 ≡ slice_get xs 0

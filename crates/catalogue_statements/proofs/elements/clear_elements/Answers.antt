@@ -1,6 +1,8 @@
 use Rattle.std.proofs.Common.{refl}
 use Rattle.catalogue_statements.proofs.Common.{thins_numbered}
-use Rattle.catalogue_statements.proofs.ElementStatements.{clear_elements_command, clear_elements_means, clear_elements_leaves, clear_elements_only, clear_elements_faults}
+use Rattle.catalogue_statements.proofs.ElementStatements.{clear_elements_command, clear_elements_means}
+use Rattle.catalogue_statements.proofs.ElementStatements.{clear_elements_leaves, clear_elements_only}
+use Rattle.catalogue_statements.proofs.ElementStatements.{clear_elements_faults}
 use Rattle.catalogue_statements.proofs.elements.clear_elements.Goals as goal
 
 pub change-requires : goal.change-requires

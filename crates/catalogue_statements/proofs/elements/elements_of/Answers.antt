@@ -1,5 +1,6 @@
 use Rattle.catalogue_statements.proofs.Common.{looks_up}
-use Rattle.catalogue_statements.proofs.ElementStatements.{elements_command, elements_means, elements_found, elements_faults}
+use Rattle.catalogue_statements.proofs.ElementStatements.{elements_command, elements_means, elements_found}
+use Rattle.catalogue_statements.proofs.ElementStatements.{elements_faults}
 use Rattle.catalogue_statements.proofs.elements.elements_of.Goals as goal
 
 pub find-requires : goal.find-requires

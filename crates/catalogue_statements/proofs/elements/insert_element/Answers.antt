@@ -1,6 +1,7 @@
 use Rattle.std.proofs.Common.{refl}
 use Rattle.catalogue_statements.proofs.Common.{puts_numbered}
-use Rattle.catalogue_statements.proofs.ElementStatements.{insert_element_command, insert_element_means, insert_element_puts, insert_element_faults}
+use Rattle.catalogue_statements.proofs.ElementStatements.{insert_element_command, insert_element_means}
+use Rattle.catalogue_statements.proofs.ElementStatements.{insert_element_puts, insert_element_faults}
 use Rattle.catalogue_statements.proofs.elements.insert_element.Goals as goal
 
 pub change-requires : goal.change-requires

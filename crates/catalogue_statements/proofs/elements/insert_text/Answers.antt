@@ -1,6 +1,8 @@
-use Rattle.office_tables.specs.Schema as tables
 use Rattle.std.proofs.Common.{◌≡◌, ℤ, None, [], ◌∷◌, ap, sym, subst, option_copied, false, nat_eq, ◌&&◌}
-use Rattle.catalogue_statements.proofs.Common.{AddsTexts, ElementRow, IsPermutation-refl, OnlyTouches, PutsRow, WithTexts, element_number, element_row, goes_nowhere, list_any, next_rowid, nothing_touched, on_ok_then, state, text_cells}
+use Rattle.office_tables.specs.Schema as tables
+use Rattle.catalogue_statements.proofs.Common.{AddsTexts, ElementRow, IsPermutation-refl, OnlyTouches, PutsRow}
+use Rattle.catalogue_statements.proofs.Common.{WithTexts, element_number, element_row, goes_nowhere, list_any}
+use Rattle.catalogue_statements.proofs.Common.{next_rowid, nothing_touched, on_ok_then, state, text_cells}
 use Rattle.catalogue_statements.proofs.TextLemmas.{one_element}
 use Rattle.catalogue_statements.proofs.WritingCalls.{writes_well}
 use Rattle.catalogue_statements.proofs.elements.insert_text.Goals as goal

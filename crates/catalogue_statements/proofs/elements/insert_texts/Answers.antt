@@ -1,6 +1,9 @@
+use Rattle.std.proofs.Common.{map, take, arith, refl, false, nat_eq, ◌&&◌, Option, length, get_or, ◌≡◌, ◌<◌, ◌+◌, ◌∙◌}
+use Rattle.std.proofs.Common.{List, [], ◌∷◌, ◌++◌, ap, sym, subst, option_copied}
 use Rattle.office_tables.specs.Schema as tables
-use Rattle.std.proofs.Common.{map, take, arith, refl, false, nat_eq, ◌&&◌, Option, length, get_or, ◌≡◌, ◌<◌, ◌+◌, ◌∙◌, List, [], ◌∷◌, ◌++◌, ap, sym, subst, option_copied}
-use Rattle.catalogue_statements.proofs.Common.{Bytes, ElementRow, WithTexts, cell_of, early, element_number, goes_then, list_any, state, take_all, text_cells, texts_from, touched_again, untouched}
+use Rattle.catalogue_statements.proofs.Common.{Bytes, ElementRow, WithTexts, cell_of, early, element_number, goes_then}
+use Rattle.catalogue_statements.proofs.Common.{list_any, state, take_all, text_cells, texts_from, touched_again}
+use Rattle.catalogue_statements.proofs.Common.{untouched}
 use Rattle.catalogue_statements.proofs.Parts.{cells_then}
 use Rattle.catalogue_statements.proofs.TextLemmas.{first_cells, cells_step}
 use Rattle.catalogue_statements.proofs.Untold.{text_free, unit_still}

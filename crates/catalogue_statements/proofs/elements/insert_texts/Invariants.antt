@@ -1,6 +1,7 @@
-use Rattle.office_tables.specs.Schema as tables
 use Rattle.std.proofs.Common.{◌≡◌, List, [], ◌∷◌}
-use Rattle.catalogue_statements.proofs.Common.{AreElements, ElementRow, Goes, HasCleanDisk, OnlyTouches, WithTexts, state}
+use Rattle.office_tables.specs.Schema as tables
+use Rattle.catalogue_statements.proofs.Common.{AreElements, ElementRow, Goes, HasCleanDisk, OnlyTouches, WithTexts}
+use Rattle.catalogue_statements.proofs.Common.{state}
 use Rattle.catalogue_statements.proofs.TextLemmas.{first_cells}
 use Rattle.catalogue_statements.proofs.elements.insert_texts.Given as goal
 

@@ -1,6 +1,7 @@
-use Rattle.office_tables.specs.Schema as tables
 use Rattle.std.proofs.Common.{◌≡◌, ◌+◌, [], ◌∷◌, length, ap, ◌∙◌, arith}
-use Rattle.catalogue_statements.proofs.Common.{Database, RepresentsContainers, counted_from, early, goes_then, same_untouched, state, touched_again}
+use Rattle.office_tables.specs.Schema as tables
+use Rattle.catalogue_statements.proofs.Common.{Database, RepresentsContainers, counted_from, early, goes_then}
+use Rattle.catalogue_statements.proofs.Common.{same_untouched, state, touched_again}
 use Rattle.catalogue_statements.proofs.Numbered.{one_container}
 use Rattle.catalogue_statements.proofs.Untold.{next_free, none_alike}
 use Rattle.catalogue_statements.proofs.WritingCalls.{writes_cut_looked, writes_not, writes_well}

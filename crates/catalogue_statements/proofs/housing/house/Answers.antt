@@ -1,6 +1,8 @@
-use Rattle.office_tables.specs.Schema as tables
 use Rattle.std.proofs.Common.{◌≡◌, ℤ, [], ◌∷◌, false, nat_eq, ◌&&◌, refl, sym, subst}
-use Rattle.catalogue_statements.proofs.Common.{AddsHousings, HousingRow, OnlyTouches, PutsRow, box_number, housing_row, leaves_part, list_any, next_rowid, on_ok_then, state, still_numbered, touched_wider, untouched, with_boxes}
+use Rattle.office_tables.specs.Schema as tables
+use Rattle.catalogue_statements.proofs.Common.{AddsHousings, HousingRow, OnlyTouches, PutsRow, box_number, housing_row}
+use Rattle.catalogue_statements.proofs.Common.{leaves_part, list_any, next_rowid, on_ok_then, state, still_numbered}
+use Rattle.catalogue_statements.proofs.Common.{touched_wider, untouched, with_boxes}
 use Rattle.catalogue_statements.proofs.HousingLemmas.{housed}
 use Rattle.catalogue_statements.proofs.Untold.{unit_still}
 use Rattle.catalogue_statements.proofs.WritingCalls.{writes_last, writes_not}

@@ -1,7 +1,11 @@
-use Rattle.office_tables.specs.Schema as tables
-use Rattle.std.proofs.Common.{append-nil, refl, false, nat_eq, ◌&&◌, ◌≡◌, ◌<◌, ◌+◌, ◌∙◌, List, [], ◌∷◌, ◌++◌, length, get_or, take, ap, sym, subst, arith}
+use Rattle.std.proofs.Common.{append-nil, refl, false, nat_eq, ◌&&◌, ◌≡◌, ◌<◌, ◌+◌, ◌∙◌, List, [], ◌∷◌, ◌++◌, length}
+use Rattle.std.proofs.Common.{get_or, take, ap, sym, subst, arith}
 use Rattle.std.proofs.lemmas.List.{length-take-le}
-use Rattle.catalogue_statements.proofs.Common.{AddsHousings, AreHoused, BoxKey, HousingRow, IsPermutation-refl, WithHousings, box_number, distinct, early, goes_nowhere, goes_then, housing_cell, list_any, nothing_touched, state, take_all, take_more, touched_again, with_boxes}
+use Rattle.office_tables.specs.Schema as tables
+use Rattle.catalogue_statements.proofs.Common.{AddsHousings, AreHoused, BoxKey, HousingRow, IsPermutation-refl}
+use Rattle.catalogue_statements.proofs.Common.{WithHousings, box_number, distinct, early, goes_nowhere, goes_then}
+use Rattle.catalogue_statements.proofs.Common.{housing_cell, list_any, nothing_touched, state, take_all, take_more}
+use Rattle.catalogue_statements.proofs.Common.{touched_again, with_boxes}
 use Rattle.catalogue_statements.proofs.Parts.{cells_then}
 use Rattle.catalogue_statements.proofs.HousingLemmas.{boxes_more, cells_in, housing_more}
 use Rattle.catalogue_statements.proofs.Untold.{housing_number, housing_place, not_seen, unit_still}

@@ -1,6 +1,7 @@
-use Rattle.office_tables.specs.Schema as tables
 use Rattle.std.proofs.Common.{◌≡◌, List, [], ◌∷◌, take}
-use Rattle.catalogue_statements.proofs.Common.{AreHoused, BoxKey, Goes, HasCleanDisk, HousingRow, OnlyTouches, WithHousings, state, with_boxes}
+use Rattle.office_tables.specs.Schema as tables
+use Rattle.catalogue_statements.proofs.Common.{AreHoused, BoxKey, Goes, HasCleanDisk, HousingRow, OnlyTouches}
+use Rattle.catalogue_statements.proofs.Common.{WithHousings, state, with_boxes}
 use Rattle.catalogue_statements.proofs.HousingLemmas.{cells_in}
 use Rattle.catalogue_statements.proofs.housing.insert_housings.Given as goal
 

@@ -1,7 +1,9 @@
-use Rattle.office_tables.specs.Schema as tables
 use Rattle.std.proofs.Common.{◌≡◌, ◌+◌, ◌++◌, ◌∷◌, [], length, sym, ap, subst, ◌∙◌, None, Some}
-use Rattle.catalogue_statements.proofs.Common.{Database, IfOk-weaker, RepresentsContainers, box_number, counted_from, distinct, number_in, same_untouched, state, with_boxes}
-use Rattle.catalogue_statements.proofs.BoxNumbers.{box_number_known, box_number_new, known_numbered, unknown_unnumbered, with_known, with_new}
+use Rattle.office_tables.specs.Schema as tables
+use Rattle.catalogue_statements.proofs.Common.{Database, IfOk-weaker, RepresentsContainers, box_number, counted_from}
+use Rattle.catalogue_statements.proofs.Common.{distinct, number_among, same_untouched, state, with_boxes}
+use Rattle.catalogue_statements.proofs.BoxNumbers.{box_number_known, box_number_new, known_numbered, unknown_unnumbered}
+use Rattle.catalogue_statements.proofs.BoxNumbers.{with_known, with_new}
 use Rattle.catalogue_statements.proofs.Numbered.{number_read}
 use Rattle.catalogue_statements.proofs.WritingCalls.{writes_last_looked, writes_not, writes_well}
 use Rattle.catalogue_statements.proofs.housing.number_of.Goals as goal
@@ -22,7 +24,7 @@ returns-in-None g c =
     writes_last_looked looked added.leaves added.only
     (λ before clean boxes at.
     let got = found.answers before (counted_from 1 boxes) at tt in
-    let none : number_in boxes key ≡ None =
+    let none : number_among boxes key ≡ None =
     sym (number_read boxes key got.0 got.1) ∙ sym got.2 ∙ c.in-None.is in
     let there : RepresentsContainers b.now.trees boxes = ap (λ (db : Database). db.trees tables.container.tree) (looked.same before) ∙ at in
     IfOk-weaker c.add_container.result (λ n. (n ≡ length boxes + 1) × RepresentsContainers d.now.trees (boxes ++ key ∷ []))
@@ -33,7 +35,7 @@ returns-in-None g c =
     (added.makes clean boxes there))
     (λ before boxes at _.
     let got = found.answers before (counted_from 1 boxes) at tt in
-    let none : number_in boxes key ≡ None =
+    let none : number_among boxes key ≡ None =
     sym (number_read boxes key got.0 got.1) ∙ sym got.2 ∙ c.in-None.is in
     let there : RepresentsContainers b.now.trees boxes = ap (λ (db : Database). db.trees tables.container.tree) (looked.same before) ∙ at in
     added.faults boxes there (unknown_unnumbered boxes key none))
@@ -48,7 +50,7 @@ returns-in-Some g c =
     writes_well looked.goes (λ clean. same_untouched (tables.container.tree ∷ []) a.now b.now (looked.same clean))
     (λ clean boxes at apart.
     let got = found.answers clean (counted_from 1 boxes) at tt in
-    let some : number_in boxes key ≡ Some c.in-Some.number =
+    let some : number_among boxes key ≡ Some c.in-Some.number =
     sym (number_read boxes key got.0 got.1) ∙ sym got.2 ∙ c.in-Some.is in
     let there : RepresentsContainers b.now.trees boxes = ap (λ (db : Database). db.trees tables.container.tree) (looked.same clean) ∙ at in
     (box_number_known boxes key c.in-Some.number apart some, subst (RepresentsContainers b.now.trees) (sym (with_known boxes key apart (known_numbered boxes key c.in-Some.number some))) there))

@@ -1,6 +1,7 @@
 use Rattle.std.proofs.Common.{Ok, List, [], slice_get, ap, ◌∙◌}
 use Rattle.catalogue_statements.proofs.Common.{IfOk-weaker, OfficeRow, answered, caused, state}
-use Rattle.catalogue_statements.proofs.OfficeStatements.{office_is_command, office_is_means, office_is_finds, office_is_faults}
+use Rattle.catalogue_statements.proofs.OfficeStatements.{office_is_command, office_is_means, office_is_finds}
+use Rattle.catalogue_statements.proofs.OfficeStatements.{office_is_faults}
 use Rattle.catalogue_statements.proofs.office.find_office.Goals as goal
 
 pub find_one-requires : goal.find_one-requires

@@ -1,6 +1,7 @@
 use Rattle.std.proofs.Common.{refl}
 use Rattle.catalogue_statements.proofs.Common.{caused, done, state}
-use Rattle.catalogue_statements.proofs.OfficeStatements.{set_next_command, set_next_means, set_next_leaves, set_next_only, set_next_faults}
+use Rattle.catalogue_statements.proofs.OfficeStatements.{set_next_command, set_next_means, set_next_leaves}
+use Rattle.catalogue_statements.proofs.OfficeStatements.{set_next_only, set_next_faults}
 use Rattle.catalogue_statements.proofs.office.set_next_unit.Goals as goal
 
 pub change-requires : goal.change-requires

@@ -1,6 +1,7 @@
 use Rattle.std.proofs.Common.{Ok, refl, ◌∷◌, [], slice_get, ap, ◌∙◌}
 use Rattle.catalogue_statements.proofs.Common.{IfOk-weaker, IsLegibleUnit, IsUtf8, Text, Unit, all_weaker, looks_up}
-use Rattle.catalogue_statements.proofs.UnitQueries.{level_text, level_columns, level_names, level_means, level_command, numbered_finds, numbered_faults}
+use Rattle.catalogue_statements.proofs.UnitQueries.{level_text, level_columns, level_names, level_means, level_command}
+use Rattle.catalogue_statements.proofs.UnitQueries.{numbered_finds, numbered_faults}
 use Rattle.catalogue_statements.proofs.units.find_level.Goals as goal
 
 pub find_one-requires : goal.find_one-requires

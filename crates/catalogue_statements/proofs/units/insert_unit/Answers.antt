@@ -1,7 +1,8 @@
 use Rattle.std.proofs.Common.{refl}
 use Rattle.catalogue_statements.specs.NewUnit.{unit_of}
 use Rattle.catalogue_statements.proofs.Common.{puts_row}
-use Rattle.catalogue_statements.proofs.UnitWrites.{insert_unit_command, insert_unit_means, insert_unit_puts, insert_unit_faults}
+use Rattle.catalogue_statements.proofs.UnitWrites.{insert_unit_command, insert_unit_means, insert_unit_puts}
+use Rattle.catalogue_statements.proofs.UnitWrites.{insert_unit_faults}
 use Rattle.catalogue_statements.proofs.units.insert_unit.Goals as goal
 
 pub change-requires : goal.change-requires

@@ -1,5 +1,8 @@
 use Rattle.std.proofs.Common.{rules, ◌≡◌, ◌∙◌, ℕ, List, [], ◌∷◌, take, get_or, sym, subst, arith}
-use Rattle.catalogue_statements.proofs.Common.{AreRemoved, IsUnlimited, ascending-filter, cause_then, early, get_or_default, goes_nowhere, goes_then, nothing_touched, state, still_unlimited, take_all, take_more, touched_again, unit_tables, untouched, without}
+use Rattle.catalogue_statements.proofs.Common.{AreRemoved, IsUnlimited, ascending-filter, cause_then, early}
+use Rattle.catalogue_statements.proofs.Common.{get_or_default, goes_nowhere, goes_then, nothing_touched, state}
+use Rattle.catalogue_statements.proofs.Common.{still_unlimited, take_all, take_more, touched_again, unit_tables}
+use Rattle.catalogue_statements.proofs.Common.{untouched, without_records}
 use Rattle.catalogue_statements.proofs.Moves.{id_of}
 use Rattle.catalogue_statements.proofs.Removals.{removed_none, removed_then, next_listed}
 use Rattle.catalogue_statements.proofs.UnitFaults.{told_after}
@@ -39,7 +42,7 @@ loop-id-preserved g c =
         λ clean xs stored up listed.
             let gone = take i ids in
             let before = invariant.1.1 (early b d _ last.on.crash clean) xs stored up listed in
-            let one = removed.removes clean (without id_of gone xs) (before.units xs stored up) (ascending-filter _ _ xs up) (next_listed ids i xs listed c.loop-id-test.true) in
+            let one = removed.removes clean (without_records id_of gone xs) (before.units xs stored up) (ascending-filter _ _ xs up) (next_listed ids i xs listed c.loop-id-test.true) in
             subst (λ (l : List ℕ). AreRemoved l a.now d.now) (sym (take_more ids i 0 c.loop-id-test.true)) (removed_then gone (get_or ids i 0 ∷ []) a.now b.now d.now before one),
       ),
     )

@@ -1,6 +1,7 @@
 use Rattle.std.proofs.Common.{refl}
 use Rattle.catalogue_statements.proofs.Common.{changes}
-use Rattle.catalogue_statements.proofs.UnitWrites.{set_level_command, set_level_means, set_level_leaves, set_level_only, set_level_faults}
+use Rattle.catalogue_statements.proofs.UnitWrites.{set_level_command, set_level_means, set_level_leaves, set_level_only}
+use Rattle.catalogue_statements.proofs.UnitWrites.{set_level_faults}
 use Rattle.catalogue_statements.proofs.units.set_level.Goals as goal
 
 pub change-requires : goal.change-requires

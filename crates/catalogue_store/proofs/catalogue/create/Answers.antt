@@ -1,8 +1,11 @@
 use Rattle.std.proofs.Common.{[]}
 use Rattle.sqlite.specs.Change.{KeepsRows}
-use Rattle.office_tables.specs.Schema as tables
 use Rattle.office_tables.specs.Schema.{desk_tables}
-use Rattle.catalogue_store.proofs.Common.{BlamesDisk, Continues, Empty, Goes, InTransaction, IsSame, PutsRow, Represents, Spares, continues_then, early, if_err_then, making_last, making_not, making_then, office_row, on_ok_both, on_ok_then, same_fault, state}
+use Rattle.office_tables.specs.Schema as tables
+use Rattle.catalogue_store.proofs.Common.{BlamesDisk, Continues, Empty, Goes, InTransaction, IsSame, PutsRow}
+use Rattle.catalogue_store.proofs.Common.{Represents, Spares, continues_then, early, if_err_then, making_last}
+use Rattle.catalogue_store.proofs.Common.{making_not, making_then, office_row, on_ok_both, on_ok_then, same_fault}
+use Rattle.catalogue_store.proofs.Common.{state}
 use Rattle.catalogue_store.proofs.Beginning.{shows_beginning, desk_kept}
 use Rattle.catalogue_store.proofs.catalogue.create.Goals as goal
 

@@ -9,10 +9,12 @@ returns g c =
     let told = c.unit_number.ensures in
     record {
       answers = record {
-        answers = λ clean beside f shown. IfOk-weaker c.unit_number.result _ _ (λ found got. subst (FindsUnit is f) (sym got.2) (finds_first is f shown.units got.0 shown.are got.1.0)) (told.answers clean shown.units shown.rows tt);
-        looks = told.reads.looks;
-        aborts = told.reads.aborts;
+        call = record {
+          answers = λ clean beside f shown. IfOk-weaker c.unit_number.result _ _ (λ found got. subst (FindsUnit is f) (sym got.2) (finds_first is f shown.units got.0 shown.are got.1.0)) (told.answers clean shown.units shown.rows tt);
+          looks = told.reads.looks;
+          aborts = told.reads.aborts;
+          faults = λ beside f shown may kept. told.faults shown.units shown.rows tt;
+        };
         spares = told.reads.spares;
-        faults = λ beside f shown may kept. told.faults shown.units shown.rows tt;
       };
     }

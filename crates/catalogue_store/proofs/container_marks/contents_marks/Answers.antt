@@ -1,5 +1,6 @@
 use Rattle.std.proofs.Common.{List, ℕ, sym, subst, ◌∙◌}
-use Rattle.catalogue_store.proofs.Common.{AreContentsMarks, AreWholeMarksOfEach, Database, IsKept, Represents, same_fault, tells_not, ⊤}
+use Rattle.catalogue_store.proofs.Common.{AreContentsMarks, AreWholeMarksOfEach, Database, IsKept, Represents}
+use Rattle.catalogue_store.proofs.Common.{same_fault, tells_not, ⊤}
 use Rattle.catalogue_store.proofs.LaterAnswers.{answers_later}
 use Rattle.catalogue_store.proofs.container_marks.contents_marks.Goals as goal
 

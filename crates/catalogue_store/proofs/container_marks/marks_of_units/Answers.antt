@@ -1,6 +1,8 @@
 use Rattle.std.proofs.Common.{List, ℕ, [], ◌∷◌, ◌++◌, take, sym, subst, ap, ◌∙◌, arith}
 use Rattle.office_tables.specs.declared.fault.StoreFault.TheVariants as fault
-use Rattle.catalogue_store.proofs.Common.{AreWholeMarksOfEach, Database, IsKept, Represents, cut_after, early, looks_nowhere, looks_then, same_fault, spares_full, state, take_all, take_more, tells_cut, tells_not, ⊤}
+use Rattle.catalogue_store.proofs.Common.{AreWholeMarksOfEach, Database, IsKept, Represents, cut_after, early}
+use Rattle.catalogue_store.proofs.Common.{looks_nowhere, looks_then, same_fault, spares_full, state, take_all}
+use Rattle.catalogue_store.proofs.Common.{take_more, tells_cut, tells_not, ⊤}
 use Rattle.catalogue_store.proofs.ContentsMarks.{whole_more}
 use Rattle.catalogue_store.proofs.container_marks.marks_of_units.Goals as goal
 
@@ -80,12 +82,14 @@ pub returns : goal.returns
 returns g c =
     record {
       answers = record {
-        answers = λ clean o k it.
-            subst (λ (units : List ℕ). AreWholeMarksOfEach k.forest units c.loop-unit.found.items) (take_all c.loop-unit.unit-index c.args.units.now (omega (arith, c.loop-unit-test.false)))
-            (c.loop-unit.invariant.so_far clean o k it);
-        looks = c.loop-unit.invariant.looks;
-        aborts = tt;
+        call = record {
+          answers = λ clean o k it.
+              subst (λ (units : List ℕ). AreWholeMarksOfEach k.forest units c.loop-unit.found.items) (take_all c.loop-unit.unit-index c.args.units.now (omega (arith, c.loop-unit-test.false)))
+              (c.loop-unit.invariant.so_far clean o k it);
+          looks = c.loop-unit.invariant.looks;
+          aborts = tt;
+          faults = λ o k it all kept clean free. tt;
+        };
         spares = λ clean. tt;
-        faults = λ o k it all kept clean free. tt;
       };
     }

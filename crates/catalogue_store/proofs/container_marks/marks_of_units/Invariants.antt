@@ -1,5 +1,6 @@
 use Rattle.std.proofs.Common.{take}
-use Rattle.catalogue_store.proofs.Common.{AreWholeMarksOfEach, Catalogue, HasCleanDisk, LeavesUnchanged, OfficeRow, Represents, state}
+use Rattle.catalogue_store.proofs.Common.{AreWholeMarksOfEach, Catalogue, HasCleanDisk, LeavesUnchanged, OfficeRow}
+use Rattle.catalogue_store.proofs.Common.{Represents, state}
 use Rattle.catalogue_store.proofs.container_marks.marks_of_units.Given as goal
 
 abbrev pub invariant-loop-unit : goal.invariant-loop-unit

@@ -3,7 +3,13 @@ use Rattle.isad_core.specs.Limits.{IsNumber}
 use Rattle.office_tables.specs.Schema as tables
 use Rattle.office_tables.specs.declared.fault.StoreFault.TheVariants as fault
 use Rattle.catalogue_statements.proofs.NewUnits.{no_unit, shows_added}
-use Rattle.catalogue_store.proofs.Common.{ElementRow, Goes, HasPlaceFor, HasRows, HousingRow, IsAborted, IsKept, IsNew, OnlyTouches, RepresentsNumbered, Unit, add, catalogue_trees, cut_after, cut_then, each, early, excused_then, goes_then, has-each, has_id, has_place-each, is_from, last_touched, list_any-IsPermutation, looks_nowhere, makes_cut, makes_not, nodes, none_yet, office_row, on_err_then, on_ok_by, on_ok_then, same_fault, spares_known, state, touched_then, touched_wider, unit_added, unit_of, untouched_last, wider_spares, with_numbered}
+use Rattle.catalogue_store.proofs.Common.{ElementRow, Goes, HasPlaceFor, HasRows, HousingRow, IsAborted, IsKept, IsNew}
+use Rattle.catalogue_store.proofs.Common.{OnlyTouches, RepresentsNumbered, Unit, add, catalogue_trees, cut_after}
+use Rattle.catalogue_store.proofs.Common.{cut_then, each, early, excused_then, goes_then, has-each, has_id}
+use Rattle.catalogue_store.proofs.Common.{has_place-each, is_from, last_touched, list_any-IsPermutation, looks_nowhere}
+use Rattle.catalogue_store.proofs.Common.{makes_cut, makes_not, nodes, none_yet, office_row, on_err_then, on_ok_by}
+use Rattle.catalogue_store.proofs.Common.{on_ok_then, same_fault, spares_known, state, touched_then, touched_wider}
+use Rattle.catalogue_store.proofs.Common.{unit_added, unit_of, untouched_last, wider_spares, with_numbered}
 use Rattle.catalogue_store.proofs.Telling.{descriptions_in, descriptions_shown, same_described, same_descriptions}
 use Rattle.catalogue_store.proofs.descriptions.add_placed.Goals as goal
 
@@ -109,59 +115,69 @@ returns g c =
     let went = goes_then a d e (goes_then a b d c.in_ok-insert_unit.ensures.leaves.goes added.goes) described.leaves.goes in
     record {
       updates = record {
-        represents_updated = λ clean o k it may.
-            let before = record o { next_unit = k.next } in
-            let at = it.catalogue in
-            let rows = descriptions_in v a.now before k at in
-            let ids = each (λ (x : Unit). x.id) k.forest in
-            let grown = add nat_eq parent u.id ids in
-            let shown = RepresentsNumbered represents v h.now o (with_numbered parent u k) in
-            on_ok_by r (Goes e h) shown
-            (λ last.
-            let at_e = early e h _ last.on.crash clean in
-            let at_d = early d e _ described.leaves.goes.on.crash at_e in
-            let at_b = early b d _ added.goes.on.crash at_d in
-            let put = c.in_ok-insert_unit.ensures.puts at_b in
-            let kept = put.only in
-            let new_id = no_unit a.now.trees k.forest at.units u put.fresh in
-            let placed = added.represents_updated at_d tt ids (same a.now.trees b.now.trees ids (kept tables.link.tree refl refl) it.shown)
-            (has_place-each nat_eq (λ (x : Unit). x.id) parent k.forest ∙ may.place, has-each (nat_eq u.id) (λ (x : Unit). x.id) k.forest ∙ new_id) in
-            let aside = added.only at_d in
-            let here = same_descriptions a.now.trees d.now.trees rows (aside tables.element.tree refl refl ∙ kept tables.element.tree refl refl) (aside tables.container.tree refl refl ∙ kept tables.container.tree refl refl) (aside tables.housing.tree refl refl ∙ kept tables.housing.tree refl refl) (descriptions_shown v a.now before k at may.knows) in
-            let made = described.makes at_e rows here in
-            let told = described.only at_e in
-            let office = told tables.office.tree refl refl ∙ aside tables.office.tree refl refl ∙ kept tables.office.tree refl refl ∙ at.office in
-            on_ok_then r (HasRows tables.office.tree (office_row v (record before { next_unit = u.id + 1 }) ∷ []) e.now h.now) shown
-            (λ wrote. shows_added v represents a.now h.now before k parent u it may.place may.knows (record {
-              schema = (goes_then a e h went last).schema clean;
-              office = wrote.are;
-              units = wrote.only tables.unit.tree refl refl ∙ told tables.unit.tree refl refl ∙ aside tables.unit.tree refl refl ∙ put.rows;
-              fresh = put.fresh;
-              described = same_described e.now.trees h.now.trees u.id u.values rows.housed.boxes rows.elements rows.housed.rows (wrote.only tables.element.tree refl refl) (wrote.only tables.container.tree refl refl) (wrote.only tables.housing.tree refl refl) made;
-              shown = same e.now.trees h.now.trees grown (wrote.only tables.link.tree refl refl) (same d.now.trees e.now.trees grown (told tables.link.tree refl refl) placed);
-            }))
-            (numbered.rows clean v before office))
-            numbered.leaves.goes;
-        only = λ clean.
-            let unit = tables.unit.tree ∷ [] in
-            let link = tables.link.tree ∷ [] in
-            let told = tables.element.tree ∷ tables.container.tree ∷ tables.housing.tree ∷ [] in
-            let office = tables.office.tree ∷ [] in
-            let touched = OnlyTouches catalogue_trees a.now h.now in
-            on_ok_by r (Goes e h) touched
-            (λ last.
-            let at_e = early e h _ last.on.crash clean in
-            let at_d = early d e _ described.leaves.goes.on.crash at_e in
-            let at_b = early b d _ added.goes.on.crash at_d in
-            let two = touched_then unit link a.now b.now d.now (c.in_ok-insert_unit.ensures.puts at_b).only (added.only at_d) in
-            let three = touched_then (tables.unit.tree ∷ link) told a.now d.now e.now two (described.only at_e) in
-            on_ok_then r (OnlyTouches office e.now h.now) touched
-            (λ only. touched_wider (tables.unit.tree ∷ tables.link.tree ∷ tables.element.tree ∷ tables.container.tree ∷ tables.housing.tree ∷ office) catalogue_trees a.now h.now refl
-            (touched_then (tables.unit.tree ∷ tables.link.tree ∷ told) office a.now e.now h.now three only))
-            (numbered.only clean))
-            numbered.leaves.goes;
-        goes = on_ok_then r (Goes e h) (Goes a h) (goes_then a e h went) numbered.leaves.goes;
-        aborts = on_err_then r (IsAborted e h) (IsAborted a h) (cut_then a e h went.on) numbered.leaves.aborts;
+        call = record {
+          represents_updated = λ clean o k it may.
+              let before = record o { next_unit = k.next } in
+              let at = it.catalogue in
+              let rows = descriptions_in v a.now before k at in
+              let ids = each (λ (x : Unit). x.id) k.forest in
+              let grown = add nat_eq parent u.id ids in
+              let shown = RepresentsNumbered represents v h.now o (with_numbered parent u k) in
+              on_ok_by r (Goes e h) shown
+              (λ last.
+              let at_e = early e h _ last.on.crash clean in
+              let at_d = early d e _ described.leaves.goes.on.crash at_e in
+              let at_b = early b d _ added.goes.on.crash at_d in
+              let put = c.in_ok-insert_unit.ensures.puts at_b in
+              let kept = put.only in
+              let new_id = no_unit a.now.trees k.forest at.units u put.fresh in
+              let placed = added.represents_updated at_d tt ids (same a.now.trees b.now.trees ids (kept tables.link.tree refl refl) it.shown)
+              (has_place-each nat_eq (λ (x : Unit). x.id) parent k.forest ∙ may.place, has-each (nat_eq u.id) (λ (x : Unit). x.id) k.forest ∙ new_id) in
+              let aside = added.only at_d in
+              let here = same_descriptions a.now.trees d.now.trees rows (aside tables.element.tree refl refl ∙ kept tables.element.tree refl refl) (aside tables.container.tree refl refl ∙ kept tables.container.tree refl refl) (aside tables.housing.tree refl refl ∙ kept tables.housing.tree refl refl) (descriptions_shown v a.now before k at may.knows) in
+              let made = described.makes at_e rows here in
+              let told = described.only at_e in
+              let office = told tables.office.tree refl refl ∙ aside tables.office.tree refl refl ∙ kept tables.office.tree refl refl ∙ at.office in
+              on_ok_then r (HasRows tables.office.tree (office_row v (record before { next_unit = u.id + 1 }) ∷ []) e.now h.now) shown
+              (λ wrote. shows_added v represents a.now h.now before k parent u it may.place may.knows (record {
+                schema = (goes_then a e h went last).schema clean;
+                office = wrote.are;
+                units = wrote.only tables.unit.tree refl refl ∙ told tables.unit.tree refl refl ∙ aside tables.unit.tree refl refl ∙ put.rows;
+                fresh = put.fresh;
+                described = same_described e.now.trees h.now.trees u.id u.values rows.housed.boxes rows.elements rows.housed.rows (wrote.only tables.element.tree refl refl) (wrote.only tables.container.tree refl refl) (wrote.only tables.housing.tree refl refl) made;
+                shown = same e.now.trees h.now.trees grown (wrote.only tables.link.tree refl refl) (same d.now.trees e.now.trees grown (told tables.link.tree refl refl) placed);
+              }))
+              (numbered.rows clean v before office))
+              numbered.leaves.goes;
+          only = λ clean.
+              let unit = tables.unit.tree ∷ [] in
+              let link = tables.link.tree ∷ [] in
+              let told = tables.element.tree ∷ tables.container.tree ∷ tables.housing.tree ∷ [] in
+              let office = tables.office.tree ∷ [] in
+              let touched = OnlyTouches catalogue_trees a.now h.now in
+              on_ok_by r (Goes e h) touched
+              (λ last.
+              let at_e = early e h _ last.on.crash clean in
+              let at_d = early d e _ described.leaves.goes.on.crash at_e in
+              let at_b = early b d _ added.goes.on.crash at_d in
+              let two = touched_then unit link a.now b.now d.now (c.in_ok-insert_unit.ensures.puts at_b).only (added.only at_d) in
+              let three = touched_then (tables.unit.tree ∷ link) told a.now d.now e.now two (described.only at_e) in
+              on_ok_then r (OnlyTouches office e.now h.now) touched
+              (λ only. touched_wider (tables.unit.tree ∷ tables.link.tree ∷ tables.element.tree ∷ tables.container.tree ∷ tables.housing.tree ∷ office) catalogue_trees a.now h.now refl
+              (touched_then (tables.unit.tree ∷ tables.link.tree ∷ told) office a.now e.now h.now three only))
+              (numbered.only clean))
+              numbered.leaves.goes;
+          goes = on_ok_then r (Goes e h) (Goes a h) (goes_then a e h went) numbered.leaves.goes;
+          aborts = on_err_then r (IsAborted e h) (IsAborted a h) (cut_then a e h went.on) numbered.leaves.aborts;
+          faults = λ o k it may kept. excused_then a e h went.on r numbered.leaves.aborts (λ at_e.
+              let before = record o { next_unit = k.next } in
+              let at_d = early d e _ described.leaves.goes.on.crash at_e in
+              let at_b = early b d _ added.goes.on.crash at_d in
+              let only = (c.in_ok-insert_unit.ensures.puts at_b).only in
+              let aside = added.only at_d in
+              let told = described.only at_e in
+              numbered.faults v before (told tables.office.tree refl refl ∙ aside tables.office.tree refl refl ∙ only tables.office.tree refl refl ∙ it.catalogue.office));
+        };
         spares = λ clean. last_touched catalogue_trees a e h went.on
             (λ at_e.
             let unit = tables.unit.tree ∷ [] in
@@ -172,13 +188,5 @@ returns g c =
             let two = touched_then unit link a.now b.now d.now (c.in_ok-insert_unit.ensures.puts at_b).only (added.only at_d) in
             touched_wider (tables.unit.tree ∷ tables.link.tree ∷ told) catalogue_trees a.now e.now refl (touched_then (tables.unit.tree ∷ link) told a.now d.now e.now two (described.only at_e)))
             r numbered.leaves.aborts clean (untouched_last catalogue_trees e h r (numbered.leaves.spares clean));
-        faults = λ o k it may kept. excused_then a e h went.on r numbered.leaves.aborts (λ at_e.
-            let before = record o { next_unit = k.next } in
-            let at_d = early d e _ described.leaves.goes.on.crash at_e in
-            let at_b = early b d _ added.goes.on.crash at_d in
-            let only = (c.in_ok-insert_unit.ensures.puts at_b).only in
-            let aside = added.only at_d in
-            let told = described.only at_e in
-            numbered.faults v before (told tables.office.tree refl refl ∙ aside tables.office.tree refl refl ∙ only tables.office.tree refl refl ∙ it.catalogue.office));
       };
     }

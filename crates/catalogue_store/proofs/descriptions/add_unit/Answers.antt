@@ -1,6 +1,8 @@
 use Rattle.std.proofs.Common.{◌≡◌, ◌+◌, ◌∙◌, true, sym}
 use Rattle.isad_core.specs.Limits.{IsNumber}
-use Rattle.catalogue_store.proofs.Common.{Goes, HasPlaceFor, IsKept, IsNew, RepresentsNumbered, catalogue_trees, early, false≢true, has_id, has_place, makes_not, on_ok_then, same_fault, state, unit_of, with_numbered}
+use Rattle.catalogue_store.proofs.Common.{Goes, HasPlaceFor, IsKept, IsNew, RepresentsNumbered, catalogue_trees, early}
+use Rattle.catalogue_store.proofs.Common.{false≢true, has_id, has_place, makes_not, on_ok_then, same_fault, state}
+use Rattle.catalogue_store.proofs.Common.{unit_of, with_numbered}
 use Rattle.catalogue_store.proofs.Accepted.{makes_after, makes_refused}
 use Rattle.catalogue_store.proofs.descriptions.add_unit.Goals as goal
 

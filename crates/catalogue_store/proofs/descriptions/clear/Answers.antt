@@ -1,7 +1,9 @@
-use Rattle.office_tables.specs.Schema as tables
 use Rattle.std.proofs.Common.{[], ◌∷◌, refl, ◌∙◌}
 use Rattle.office_tables.specs.RowNumbers.{HoldsNumbered}
-use Rattle.catalogue_store.proofs.Common.{AreElements, HasDescriptions, OnlyTouches, descriptions_of_others, housing_row, leaves_part, on_ok_both, only_wider, state, touched_wider, untouched, writes_last, writes_not}
+use Rattle.office_tables.specs.Schema as tables
+use Rattle.catalogue_store.proofs.Common.{AreElements, HasDescriptions, OnlyTouches, descriptions_of_others}
+use Rattle.catalogue_store.proofs.Common.{housing_row, leaves_part, on_ok_both, only_wider, state, touched_wider}
+use Rattle.catalogue_store.proofs.Common.{untouched, writes_last, writes_not}
 use Rattle.catalogue_store.proofs.Telling.{same_elements, same_housed}
 use Rattle.catalogue_store.proofs.descriptions.clear.Goals as goal
 

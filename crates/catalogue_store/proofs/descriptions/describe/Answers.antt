@@ -1,6 +1,8 @@
-use Rattle.office_tables.specs.Schema as tables
 use Rattle.std.proofs.Common.{refl, [], ◌∷◌}
-use Rattle.catalogue_store.proofs.Common.{AddsHousings, IsDescribed, OnlyTouches, housing_cells, leaves_wider, on_ok_both, only_wider, state, touched_wider, unit_still, wider_spares, with_boxes, writes_last, writes_not}
+use Rattle.office_tables.specs.Schema as tables
+use Rattle.catalogue_store.proofs.Common.{AddsHousings, IsDescribed, OnlyTouches, leaves_wider, numbered_containers}
+use Rattle.catalogue_store.proofs.Common.{on_ok_both, only_wider, state, touched_wider, unit_still, wider_spares}
+use Rattle.catalogue_store.proofs.Common.{with_boxes, writes_last, writes_not}
 use Rattle.catalogue_store.proofs.Telling.{same_elements, same_housed}
 use Rattle.catalogue_store.proofs.descriptions.describe.Goals as goal
 
@@ -33,7 +35,7 @@ returns g c =
     let added = first.makes before told.elements at.texts in
     let here = same_housed a.now.trees b.now.trees told.housed.boxes told.housed.rows (kept tables.container.tree refl refl) (kept tables.housing.tree refl refl) at.housings in
     let all = with_boxes told.housed.boxes values.boxes in
-    on_ok_both r (AddsHousings unit all (housing_cells all values) told.housed.rows d.now.trees) (OnlyTouches housings b.now d.now) (IsDescribed unit values told.housed.boxes told.elements told.housed.rows d.now.trees)
+    on_ok_both r (AddsHousings unit all (numbered_containers all values) told.housed.rows d.now.trees) (OnlyTouches housings b.now d.now) (IsDescribed unit values told.housed.boxes told.elements told.housed.rows d.now.trees)
     (λ housed still. record {
       elements = added.0;
       texts = same_elements b.now.trees d.now.trees added.0 (still tables.element.tree refl refl) added.1;

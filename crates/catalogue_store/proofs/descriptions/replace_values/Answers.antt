@@ -1,5 +1,7 @@
 use Rattle.std.proofs.Common.{◌≡◌, ◌∙◌, true, refl, sym}
-use Rattle.catalogue_store.proofs.Common.{AreWhole, Goes, IsKept, MayDescribe, Represents, Unit, described_trees, each_each, early, false≢true, has, has_id, makes_not, on_ok_then, same_fault, state, with_values}
+use Rattle.catalogue_store.proofs.Common.{AreWhole, Goes, IsKept, MayDescribe, Represents, Unit, described_trees}
+use Rattle.catalogue_store.proofs.Common.{each_each, early, false≢true, has, has_id, makes_not, on_ok_then, same_fault}
+use Rattle.catalogue_store.proofs.Common.{state, with_values}
 use Rattle.catalogue_store.proofs.Accepted.{makes_after, makes_refused}
 use Rattle.catalogue_store.proofs.Entered.{makes_placed}
 use Rattle.catalogue_store.proofs.Valued.{same_id, valued}

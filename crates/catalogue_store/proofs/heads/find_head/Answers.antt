@@ -1,13 +1,16 @@
 use Rattle.std.proofs.Common.{◌≡◌, ℕ, List, [], filter, map, nat_eq, refl, sym, ap, subst, ◌∙◌, arith}
 use Rattle.std.specs.Prelude.{find, option_map}
+use Rattle.office_tables.proofs.Reading.{first_shown}
 use Rattle.office_tables.specs.Schema as tables
 use Rattle.office_tables.specs.declared.fault.StoreFault.TheVariants as fault
-use Rattle.catalogue_statements.specs.Standings.{standing_of}
-use Rattle.catalogue_statements.specs.declared.row_types.Element.{Element}
-use Rattle.office_tables.proofs.Reading.{first_shown}
 use Rattle.catalogue_statements.proofs.FirstTexts.{text_among_first}
 use Rattle.catalogue_statements.proofs.FoundUnits.{one_told}
-use Rattle.catalogue_store.proofs.Common.{Database, IsKept, IsPermutation, IsPermutation-refl, Represents, Unit, all_has, cut_after, early, element_cells, element_row, elements_of, has_id, head_of, legible_units, looks_then, nodes, none_found, same_fault, spares_full, state, still_numbered, tells_cut, tells_not, unwrap_or, ⊤}
+use Rattle.catalogue_statements.specs.Standings.{standing_of}
+use Rattle.catalogue_statements.specs.declared.row_types.Element.{Element}
+use Rattle.catalogue_store.proofs.Common.{Database, IsKept, IsPermutation, IsPermutation-refl, Represents, Unit}
+use Rattle.catalogue_store.proofs.Common.{all_has, cut_after, early, element_row, elements_of, has_id, head_of}
+use Rattle.catalogue_store.proofs.Common.{legible_units, looks_then, nodes, none_found, numbered_texts, same_fault}
+use Rattle.catalogue_store.proofs.Common.{spares_full, state, still_numbered, tells_cut, tells_not, unwrap_or, ⊤}
 use Rattle.catalogue_store.proofs.HeadForests.{head_told}
 use Rattle.catalogue_store.proofs.ValueCauses.{legible_elements}
 use Rattle.catalogue_store.proofs.heads.find_head.Goals as goal
@@ -28,16 +31,18 @@ returns-in_default g c =
     let a = state g.S.Store c.args.tables.now in
     record {
       answers = record {
-        answers = λ clean o k it.
-            let at = it.catalogue.units in
-            let rows = filter (has_id c.args.unit) at.units in
-            let got = c.in_ok-standing.ensures.answers clean at.units at.rows at.rise in
-            let told = first_shown standing_of (has_id c.args.unit) at.units (map standing_of rows) refl ∙ (sym got ∙ c.in_default.is) in
-            sym (ap (option_map head_of) (none_found a.now.trees k.forest at c.args.unit rows (IsPermutation-refl rows) standing_of told));
-        looks = c.in_ok-standing.ensures.reads.looks;
-        aborts = tt;
+        call = record {
+          answers = λ clean o k it.
+              let at = it.catalogue.units in
+              let rows = filter (has_id c.args.unit) at.units in
+              let got = c.in_ok-standing.ensures.answers clean at.units at.rows at.rise in
+              let told = first_shown standing_of (has_id c.args.unit) at.units (map standing_of rows) refl ∙ (sym got ∙ c.in_default.is) in
+              sym (ap (option_map head_of) (none_found a.now.trees k.forest at c.args.unit rows (IsPermutation-refl rows) standing_of told));
+          looks = c.in_ok-standing.ensures.reads.looks;
+          aborts = tt;
+          faults = λ o k it may kept clean free. tt;
+        };
         spares = λ clean. tt;
-        faults = λ o k it may kept clean free. tt;
       };
     }
 
@@ -88,24 +93,26 @@ returns g c =
     let among = λ (n : ℕ) (elements : List Element). unwrap_or (option_map (λ (e : Element). e.value) (find (λ (e : Element). nat_eq e.k n) elements)) [] in
     record {
       answers = record {
-        answers = λ clean o k it.
-            let at = it.catalogue.units in
-            let texts = it.catalogue.elements in
-            let at_b = early b d _ c.in_ok-elements.ensures.reads.looks.goes.on.crash clean in
-            let rows = filter (has_id c.args.unit) at.units in
-            let got = c.in_ok-standing.ensures.answers at_b at.units at.rows at.rise in
-            let first = first_shown standing_of (has_id c.args.unit) at.units (map standing_of rows) refl ∙ (sym got ∙ c.in-Some.is) in
-            let found = one_told a.now.trees k.forest at c.args.unit rows (IsPermutation-refl rows) standing_of c.in-Some.standing first in
-            let u = found.0 in
-            let told = subst (λ n. IsPermutation (element_cells u.values) (elements_of n texts.elements)) (sym found.2)
-            (all_has (λ (u : Unit). IsPermutation (element_cells u.values) (elements_of u.id texts.elements)) (nodes k.forest) u texts.are found.1) in
-            let read = (rw c.from.ensures at c.in_ok-elements.ensures).answers clean texts.elements (still_numbered element_row _ _ texts.elements (ap (λ (db : Database). db.trees tables.element.tree) (looked.same at_b)) texts.rows) tt in
-            let identifier = c.in_ok-identifier.ensures ∙ ap (among 1) (c.deref.ensures.value ∙ read.2) ∙ ap (λ t. unwrap_or t []) (text_among_first c.args.unit 0 2 u.values texts.elements read.0 (omega arith) told read.1.0) in
-            let title = c.in_ok-title.ensures ∙ ap (among 2) (c.deref-2.ensures.value ∙ read.2) ∙ ap (λ t. unwrap_or t []) (text_among_first c.args.unit 1 2 u.values texts.elements read.0 (omega arith) told read.1.0) in
-            head_told k.forest c.args.unit u c.in-Some.standing c.in_ok-identifier.identifier c.in_ok-title.title found.2 found.3 found.4 identifier title;
-        looks = looks_then a b d looked c.in_ok-elements.ensures.reads.looks;
-        aborts = tt;
+        call = record {
+          answers = λ clean o k it.
+              let at = it.catalogue.units in
+              let texts = it.catalogue.elements in
+              let at_b = early b d _ c.in_ok-elements.ensures.reads.looks.goes.on.crash clean in
+              let rows = filter (has_id c.args.unit) at.units in
+              let got = c.in_ok-standing.ensures.answers at_b at.units at.rows at.rise in
+              let first = first_shown standing_of (has_id c.args.unit) at.units (map standing_of rows) refl ∙ (sym got ∙ c.in-Some.is) in
+              let found = one_told a.now.trees k.forest at c.args.unit rows (IsPermutation-refl rows) standing_of c.in-Some.standing first in
+              let u = found.0 in
+              let told = subst (λ n. IsPermutation (numbered_texts u.values) (elements_of n texts.elements)) (sym found.2)
+              (all_has (λ (u : Unit). IsPermutation (numbered_texts u.values) (elements_of u.id texts.elements)) (nodes k.forest) u texts.are found.1) in
+              let read = (rw c.from.ensures at c.in_ok-elements.ensures).answers clean texts.elements (still_numbered element_row _ _ texts.elements (ap (λ (db : Database). db.trees tables.element.tree) (looked.same at_b)) texts.rows) tt in
+              let identifier = c.in_ok-identifier.ensures ∙ ap (among 1) (c.deref.ensures.value ∙ read.2) ∙ ap (λ t. unwrap_or t []) (text_among_first c.args.unit 0 2 u.values texts.elements read.0 (omega arith) told read.1.0) in
+              let title = c.in_ok-title.ensures ∙ ap (among 2) (c.deref-2.ensures.value ∙ read.2) ∙ ap (λ t. unwrap_or t []) (text_among_first c.args.unit 1 2 u.values texts.elements read.0 (omega arith) told read.1.0) in
+              head_told k.forest c.args.unit u c.in-Some.standing c.in_ok-identifier.identifier c.in_ok-title.title found.2 found.3 found.4 identifier title;
+          looks = looks_then a b d looked c.in_ok-elements.ensures.reads.looks;
+          aborts = tt;
+          faults = λ o k it may kept clean free. tt;
+        };
         spares = λ clean. tt;
-        faults = λ o k it may kept clean free. tt;
       };
     }

@@ -1,6 +1,9 @@
 use Rattle.std.proofs.Common.{◌≡◌, ◌++◌, ◌∷◌, [], Some, map, take, get_or, true, refl, sym, ap, ap₂, subst, ◌∙◌, arith}
 use Rattle.office_tables.specs.declared.fault.StoreFault.TheVariants as fault
-use Rattle.catalogue_store.proofs.Common.{AllByRecursion, Database, IsKept, Represents, all-get_or, cut_after, early, get_or_default, has_unit, head_at, looks_nowhere, looks_then, map-append, same_fault, spares_full, spares_known, state, take_all, take_more, tells_cut, tells_not}
+use Rattle.catalogue_store.proofs.Common.{AllByRecursion, Database, IsKept, Represents, all-get_or, cut_after, early}
+use Rattle.catalogue_store.proofs.Common.{get_or_default, has_unit, head_at, looks_nowhere, looks_then, map-append}
+use Rattle.catalogue_store.proofs.Common.{same_fault, spares_full, spares_known, state, take_all, take_more, tells_cut}
+use Rattle.catalogue_store.proofs.Common.{tells_not}
 use Rattle.catalogue_store.proofs.HeadForests.{some_head}
 use Rattle.catalogue_store.proofs.heads.heads_of.Goals as goal
 
@@ -75,10 +78,12 @@ pub returns : goal.returns
 returns g c =
     record {
       answers = record {
-        answers = λ clean o k it. c.loop-unit.invariant.so_far clean o k it ∙ ap (map (head_at k.forest)) (take_all c.loop-unit.unit-index c.args.units.now (omega (arith, c.loop-unit-test.false)));
-        looks = c.loop-unit.invariant.looks;
-        aborts = tt;
+        call = record {
+          answers = λ clean o k it. c.loop-unit.invariant.so_far clean o k it ∙ ap (map (head_at k.forest)) (take_all c.loop-unit.unit-index c.args.units.now (omega (arith, c.loop-unit-test.false)));
+          looks = c.loop-unit.invariant.looks;
+          aborts = tt;
+          faults = λ o k it there kept clean free. tt;
+        };
         spares = λ clean. tt;
-        faults = λ o k it there kept clean free. tt;
       };
     }

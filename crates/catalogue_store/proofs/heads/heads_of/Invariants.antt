@@ -1,5 +1,6 @@
 use Rattle.std.proofs.Common.{◌≡◌, Some, map, take}
-use Rattle.catalogue_store.proofs.Common.{Catalogue, HasCleanDisk, LeavesUnchanged, OfficeRow, Represents, head_at, state}
+use Rattle.catalogue_store.proofs.Common.{Catalogue, HasCleanDisk, LeavesUnchanged, OfficeRow, Represents, head_at}
+use Rattle.catalogue_store.proofs.Common.{state}
 use Rattle.catalogue_store.proofs.heads.heads_of.Given as goal
 
 abbrev pub invariant-loop-unit : goal.invariant-loop-unit

@@ -1,7 +1,12 @@
 use Rattle.std.proofs.Common.{[], ◌∷◌, refl, sym, ◌∙◌}
 use Rattle.office_tables.specs.Schema as tables
 use Rattle.catalogue_store.specs.ImportEntries.{with_entered}
-use Rattle.catalogue_store.proofs.Common.{ElementRow, Goes, HasPlaceFor, HousingRow, IsAborted, IsDescribed, IsKept, IsNew, OnlyTouches, RepresentsCatalogue, cut_then, described_trees, early, excused_then, goes_then, has_id, is_from, last_touched, list_any-IsPermutation, makes_not, nodes, none_yet, on_err_then, on_ok_both, on_ok_by, on_ok_then, same_fault, state, touched_then, touched_wider, unit_added, unit_of, wider_last}
+use Rattle.catalogue_store.proofs.Common.{ElementRow, Goes, HasPlaceFor, HousingRow, IsAborted, IsDescribed, IsKept}
+use Rattle.catalogue_store.proofs.Common.{IsNew, OnlyTouches, RepresentsCatalogue, cut_then, described_trees, early}
+use Rattle.catalogue_store.proofs.Common.{excused_then, goes_then, has_id, is_from, last_touched}
+use Rattle.catalogue_store.proofs.Common.{list_any-IsPermutation, makes_not, nodes, none_yet, on_err_then, on_ok_both}
+use Rattle.catalogue_store.proofs.Common.{on_ok_by, on_ok_then, same_fault, state, touched_then, touched_wider}
+use Rattle.catalogue_store.proofs.Common.{unit_added, unit_of, wider_last}
 use Rattle.catalogue_store.proofs.Entered.{shows_entered}
 use Rattle.catalogue_store.proofs.Telling.{descriptions_in, descriptions_shown, same_descriptions}
 use Rattle.catalogue_store.proofs.import_entries.enter_unit.Goals as goal
@@ -34,49 +39,51 @@ returns g c =
     let last = c.describe.ensures in
     record {
       updates = λ v parent. record {
-        represents_updated = λ clean o k it may.
-            let told = descriptions_in v a.now o k it in
-            let shown = RepresentsCatalogue v d.now o (with_entered parent u k) in
-            on_ok_by r (Goes b d) shown
-            (λ went.
-            let at_b = early b d _ went.on.crash clean in
-            let put = c.in_ok-insert_unit.ensures.puts at_b in
-            let kept = put.only in
-            let here = same_descriptions a.now.trees b.now.trees told (kept tables.element.tree refl refl) (kept tables.container.tree refl refl) (kept tables.housing.tree refl refl) (descriptions_shown v a.now o k it may.knows) in
-            on_ok_both r (IsDescribed u.id u.values told.housed.boxes told.elements told.housed.rows d.now.trees) (OnlyTouches described b.now d.now) shown
-            (λ made only. shows_entered v a.now d.now o k parent u it may.place may.knows (record {
-              schema = (goes_then a b d first went).schema clean;
-              office = only tables.office.tree refl refl ∙ kept tables.office.tree refl refl;
-              units = only tables.unit.tree refl refl ∙ put.rows;
-              fresh = put.fresh;
-              described = made;
-            }))
-            (last.makes clean told here) (last.only clean))
-            last.leaves.goes;
-        only = λ clean.
-            let touched = OnlyTouches described_trees a.now d.now in
-            on_ok_by r (Goes b d) touched
-            (λ went.
-            let put = c.in_ok-insert_unit.ensures.puts (early b d _ went.on.crash clean) in
-            on_ok_then r (OnlyTouches described b.now d.now) touched
-            (λ only. touched_wider (tables.unit.tree ∷ described) described_trees a.now d.now refl (touched_then (tables.unit.tree ∷ []) described a.now b.now d.now put.only only))
-            (last.only clean))
-            last.leaves.goes;
-        goes = on_ok_then r (Goes b d) (Goes a d) (goes_then a b d first) last.leaves.goes;
-        aborts = on_err_then r (IsAborted b d) (IsAborted a d) (cut_then a b d first.on) last.leaves.aborts;
+        call = record {
+          represents_updated = λ clean o k it may.
+              let told = descriptions_in v a.now o k it in
+              let shown = RepresentsCatalogue v d.now o (with_entered parent u k) in
+              on_ok_by r (Goes b d) shown
+              (λ went.
+              let at_b = early b d _ went.on.crash clean in
+              let put = c.in_ok-insert_unit.ensures.puts at_b in
+              let kept = put.only in
+              let here = same_descriptions a.now.trees b.now.trees told (kept tables.element.tree refl refl) (kept tables.container.tree refl refl) (kept tables.housing.tree refl refl) (descriptions_shown v a.now o k it may.knows) in
+              on_ok_both r (IsDescribed u.id u.values told.housed.boxes told.elements told.housed.rows d.now.trees) (OnlyTouches described b.now d.now) shown
+              (λ made only. shows_entered v a.now d.now o k parent u it may.place may.knows (record {
+                schema = (goes_then a b d first went).schema clean;
+                office = only tables.office.tree refl refl ∙ kept tables.office.tree refl refl;
+                units = only tables.unit.tree refl refl ∙ put.rows;
+                fresh = put.fresh;
+                described = made;
+              }))
+              (last.makes clean told here) (last.only clean))
+              last.leaves.goes;
+          only = λ clean.
+              let touched = OnlyTouches described_trees a.now d.now in
+              on_ok_by r (Goes b d) touched
+              (λ went.
+              let put = c.in_ok-insert_unit.ensures.puts (early b d _ went.on.crash clean) in
+              on_ok_then r (OnlyTouches described b.now d.now) touched
+              (λ only. touched_wider (tables.unit.tree ∷ described) described_trees a.now d.now refl (touched_then (tables.unit.tree ∷ []) described a.now b.now d.now put.only only))
+              (last.only clean))
+              last.leaves.goes;
+          goes = on_ok_then r (Goes b d) (Goes a d) (goes_then a b d first) last.leaves.goes;
+          aborts = on_err_then r (IsAborted b d) (IsAborted a d) (cut_then a b d first.on) last.leaves.aborts;
+          faults = λ o k it may kept. excused_then a b d first.on r last.leaves.aborts (λ at_b.
+              let told = descriptions_in v a.now o k it in
+              let put = c.in_ok-insert_unit.ensures.puts at_b in
+              let only = put.only in
+              let unit = unit_added a.now.trees b.now.trees u it.units.units it.units.rows put.rows in
+              let here = same_descriptions a.now.trees b.now.trees told (only tables.element.tree refl refl) (only tables.container.tree refl refl) (only tables.housing.tree refl refl) (descriptions_shown v a.now o k it may.knows) in
+              last.faults told here (
+                unit,
+                kept.1.whole,
+                none_yet (λ (x : ElementRow). x.unit) u.id k.forest told.elements kept.1.number it.elements.others,
+                none_yet (λ (h : HousingRow). h.unit) u.id k.forest told.housed.rows kept.1.number it.housings.others,
+              ));
+        };
         spares = λ clean. last_touched described_trees a b d first.on (λ at_b. touched_wider (tables.unit.tree ∷ []) described_trees a.now b.now refl (c.in_ok-insert_unit.ensures.puts at_b).only) r last.leaves.aborts clean
             (wider_last described described_trees b d r refl (last.leaves.spares clean));
-        faults = λ o k it may kept. excused_then a b d first.on r last.leaves.aborts (λ at_b.
-            let told = descriptions_in v a.now o k it in
-            let put = c.in_ok-insert_unit.ensures.puts at_b in
-            let only = put.only in
-            let unit = unit_added a.now.trees b.now.trees u it.units.units it.units.rows put.rows in
-            let here = same_descriptions a.now.trees b.now.trees told (only tables.element.tree refl refl) (only tables.container.tree refl refl) (only tables.housing.tree refl refl) (descriptions_shown v a.now o k it may.knows) in
-            last.faults told here (
-              unit,
-              kept.1.whole,
-              none_yet (λ (x : ElementRow). x.unit) u.id k.forest told.elements kept.1.number it.elements.others,
-              none_yet (λ (h : HousingRow). h.unit) u.id k.forest told.housed.rows kept.1.number it.housings.others,
-            ));
       };
     }

@@ -1,9 +1,12 @@
 use Rattle.std.proofs.Common.{rules, refl}
+use Rattle.office_tables.proofs.Errors.{stops}
 use Rattle.office_tables.proofs.WriteCauses.{write_disk}
 use Rattle.catalogue_statements.proofs.InsertFaults.{insert_office_cause}
-use Rattle.catalogue_statements.proofs.Inserts.{insert_office_text, insert_office_command, insert_office_is, insert_office_plain, insert_office_done, insert_office_rows, insert_office_touches, insert_office_fresh}
-use Rattle.office_tables.proofs.Errors.{stops}
-use Rattle.catalogue_store.proofs.Common.{HasCleanDisk, early, fault_of, in_office, office_of, spares_stopped, state, write_cut, write_went}
+use Rattle.catalogue_statements.proofs.Inserts.{insert_office_text, insert_office_command, insert_office_is}
+use Rattle.catalogue_statements.proofs.Inserts.{insert_office_plain, insert_office_done, insert_office_rows}
+use Rattle.catalogue_statements.proofs.Inserts.{insert_office_touches, insert_office_fresh}
+use Rattle.catalogue_store.proofs.Common.{HasCleanDisk, early, fault_of, in_office, office_of, spares_stopped, state}
+use Rattle.catalogue_store.proofs.Common.{write_cut, write_went}
 use Rattle.catalogue_store.proofs.office.insert_office.Goals as goal
 
 pub returns-in_err-execute-clause-leaves : goal.returns-in_err-execute-clause-leaves

@@ -3,10 +3,12 @@ use Rattle.catalogue_core.proofs.NodeLemmas.{length-nodes}
 use Rattle.office_tables.specs.RowCounts.{cap}
 use Rattle.office_tables.specs.Schema as tables
 use Rattle.office_tables.specs.declared.fault.StoreFault.TheVariants as fault
+use Rattle.catalogue_statements.proofs.Numbered.{length-counted}
 use Rattle.catalogue_statements.specs.Settings.{AreLegibleSettings}
 use Rattle.catalogue_store.specs.Offices.{office_with_counts}
-use Rattle.catalogue_statements.proofs.Numbered.{length-counted}
-use Rattle.catalogue_store.proofs.Common.{Database, RepresentsSettings, counted_from, cut_after, early, length_permutation, looks_then, nodes, same_fault, spares_known, state, tells_cut, tells_not, ⊤}
+use Rattle.catalogue_store.proofs.Common.{Database, RepresentsSettings, counted_from, cut_after, early}
+use Rattle.catalogue_store.proofs.Common.{length_permutation, looks_then, nodes, same_fault, spares_known, state}
+use Rattle.catalogue_store.proofs.Common.{tells_cut, tells_not, ⊤}
 use Rattle.catalogue_store.proofs.office.office_row.Goals as goal
 
 pub returns-in_default : goal.returns-in_default
@@ -57,20 +59,22 @@ returns g c =
     let looked_d = looks_then a b d looked_b c.in_ok-units.ensures.reads.looks in
     record {
       answers = record {
-        answers = λ clean k o it.
-            let at = it.catalogue in
-            let at_d = early d e _ c.in_ok-containers.ensures.reads.looks.goes.on.crash clean in
-            let at_b = early b d _ c.in_ok-units.ensures.reads.looks.goes.on.crash at_d in
-            let same : Some c.in-Some.row ≡ Some o = sym c.in-Some.is ∙ c.in_ok-row.ensures.row at_b g.P.Versioned.version o at.office in
-            let row : c.in-Some.row ≡ o = cc in
-            let units = c.in_ok-units.ensures.answers at_d at.units.units (ap (λ (db : Database). db.trees tables.unit.tree) (looked_b.same at_b) ∙ at.units.rows) tt
-            ∙ ap cap (length_permutation (nodes k.forest) at.units.units at.units.are ∙ length-nodes k.forest) in
-            let containers = c.in_ok-containers.ensures.answers clean (counted_from 1 k.containers) (ap (λ (db : Database). db.trees tables.container.tree) (looked_d.same at_d) ∙ at.containers) tt
-            ∙ ap cap (length-counted 1 k.containers) in
-            rw (row, units, containers) refl;
-        looks = looks_then a d e looked_d c.in_ok-containers.ensures.reads.looks;
-        aborts = tt;
+        call = record {
+          answers = λ clean k o it.
+              let at = it.catalogue in
+              let at_d = early d e _ c.in_ok-containers.ensures.reads.looks.goes.on.crash clean in
+              let at_b = early b d _ c.in_ok-units.ensures.reads.looks.goes.on.crash at_d in
+              let same : Some c.in-Some.row ≡ Some o = sym c.in-Some.is ∙ c.in_ok-row.ensures.row at_b g.P.Versioned.version o at.office in
+              let row : c.in-Some.row ≡ o = cc in
+              let units = c.in_ok-units.ensures.answers at_d at.units.units (ap (λ (db : Database). db.trees tables.unit.tree) (looked_b.same at_b) ∙ at.units.rows) tt
+              ∙ ap cap (length_permutation (nodes k.forest) at.units.units at.units.are ∙ length-nodes k.forest) in
+              let containers = c.in_ok-containers.ensures.answers clean (counted_from 1 k.containers) (ap (λ (db : Database). db.trees tables.container.tree) (looked_d.same at_d) ∙ at.containers) tt
+              ∙ ap cap (length-counted 1 k.containers) in
+              rw (row, units, containers) refl;
+          looks = looks_then a d e looked_d c.in_ok-containers.ensures.reads.looks;
+          aborts = tt;
+          faults = λ k o it may legible clean free. tt;
+        };
         spares = λ clean. tt;
-        faults = λ k o it may legible clean free. tt;
       };
     }

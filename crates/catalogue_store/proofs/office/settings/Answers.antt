@@ -28,10 +28,12 @@ pub returns : goal.returns
 returns g c =
     record {
       answers = record {
-        answers = λ clean k o it. let same : Some c.in-Some.row ≡ Some o = sym c.in-Some.is ∙ c.in_ok-row.ensures.row clean g.P.Versioned.version o it.catalogue.office in cc;
-        looks = c.in_ok-row.ensures.reads.looks;
-        aborts = tt;
+        call = record {
+          answers = λ clean k o it. let same : Some c.in-Some.row ≡ Some o = sym c.in-Some.is ∙ c.in_ok-row.ensures.row clean g.P.Versioned.version o it.catalogue.office in cc;
+          looks = c.in_ok-row.ensures.reads.looks;
+          aborts = tt;
+          faults = λ k o it may legible clean free. tt;
+        };
         spares = λ clean. tt;
-        faults = λ k o it may legible clean free. tt;
       };
     }

@@ -1,6 +1,8 @@
 use Rattle.std.proofs.Common.{◌≡◌, ◌∙◌, ℕ, List, [], ◌∷◌, take, get_or, sym, subst, arith}
 use Rattle.office_tables.specs.Schema as tables
-use Rattle.catalogue_store.proofs.Common.{Catalogue, Represents, draft_step, early, get_or_default, goes_nowhere, goes_then, makes_cut, nothing_touched, same_fault, state, status_of_none, take_all, take_more, touched_again, untouched, with_status, ⊤}
+use Rattle.catalogue_store.proofs.Common.{Catalogue, Represents, draft_step, early, get_or_default, goes_nowhere}
+use Rattle.catalogue_store.proofs.Common.{goes_then, makes_cut, nothing_touched, same_fault, state, status_of_none}
+use Rattle.catalogue_store.proofs.Common.{take_all, take_more, touched_again, untouched, with_status, ⊤}
 use Rattle.catalogue_store.proofs.status_and_closure.set_drafts.Goals as goal
 
 pub loop-unit-init : goal.loop-unit-init
@@ -54,11 +56,13 @@ returns g c =
     let b = state g.S.Store c.loop-unit.tables in
     let so_far = c.loop-unit.invariant in
     record {
-      represents_updated = λ clean o k it may.
-          subst (λ (ids : List ℕ). Represents g.P.Places.represents g.P.Versioned.version b.now o (with_status ids c.args.draft k)) (take_all c.loop-unit.unit-index c.args.units.now (omega (arith, c.loop-unit-test.false))) (so_far.represents clean o k it);
-      only = so_far.only;
-      goes = so_far.goes;
-      aborts = tt;
+      call = record {
+        represents_updated = λ clean o k it may.
+            subst (λ (ids : List ℕ). Represents g.P.Places.represents g.P.Versioned.version b.now o (with_status ids c.args.draft k)) (take_all c.loop-unit.unit-index c.args.units.now (omega (arith, c.loop-unit-test.false))) (so_far.represents clean o k it);
+        only = so_far.only;
+        goes = so_far.goes;
+        aborts = tt;
+        faults = λ o k it may kept clean free. tt;
+      };
       spares = λ clean. tt;
-      faults = λ o k it may kept clean free. tt;
     }

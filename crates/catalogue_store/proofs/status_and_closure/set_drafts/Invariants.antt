@@ -1,6 +1,7 @@
 use Rattle.std.proofs.Common.{take, [], ◌∷◌}
 use Rattle.office_tables.specs.Schema as tables
-use Rattle.catalogue_store.proofs.Common.{Catalogue, Goes, HasCleanDisk, OfficeRow, OnlyTouches, Represents, state, with_status}
+use Rattle.catalogue_store.proofs.Common.{Catalogue, Goes, HasCleanDisk, OfficeRow, OnlyTouches, Represents, state}
+use Rattle.catalogue_store.proofs.Common.{with_status}
 use Rattle.catalogue_store.proofs.status_and_closure.set_drafts.Given as goal
 
 abbrev pub invariant-loop-unit : goal.invariant-loop-unit

@@ -1,7 +1,9 @@
 use Rattle.std.proofs.Common.{◌≡◌, ℕ, List, [], ◌∷◌, length, ap, arith, sym, subst, ◌∙◌}
-use Rattle.office_tables.specs.Schema as tables
 use Rattle.office_tables.proofs.LaterCauses.{next_cause}
-use Rattle.catalogue_store.proofs.Common.{Database, IsKept, OnlyTouches, Represents, Unit, chosen, cut_then, each, early, goes_then, looked_spares, makes_not, makes_part, same_fault, state, still_unlimited, with_status, ⊤}
+use Rattle.office_tables.specs.Schema as tables
+use Rattle.catalogue_store.proofs.Common.{Database, IsKept, OnlyTouches, Represents, Unit, chosen, cut_then, each}
+use Rattle.catalogue_store.proofs.Common.{early, goes_then, looked_spares, makes_not, makes_part, same_fault, state}
+use Rattle.catalogue_store.proofs.Common.{still_unlimited, with_status, ⊤}
 use Rattle.catalogue_store.proofs.status_and_closure.set_status.Goals as goal
 
 pub returns-in_err-units-clause-updates : goal.returns-in_err-units-clause-updates
@@ -36,17 +38,19 @@ returns-clause-updates g c =
     let told = c.in_ok-units.ensures.answers in
     let went = c.in_ok-set_drafts.ensures.goes in
     record {
-      represents_updated = λ clean o k it may.
-          let represents = λ (db : Database). Represents g.P.Places.represents g.P.Versioned.version db o in
-          let before = early b d _ went.on.crash clean in
-          let ids = c.deref.ensures.value ∙ told.answers before tt (each (λ (u : Unit). u.id) k.forest) it.shown in
-          subst (λ (ids : List ℕ). represents d.now (with_status ids c.args.draft k)) ids
-          (c.in_ok-set_drafts.ensures.represents_updated clean o k (subst (λ (db : Database). represents db k) (sym (told.looks.same before)) it) tt);
-      only = λ clean. subst (λ (db : Database). OnlyTouches (tables.unit.tree ∷ []) db d.now) (told.looks.same (early b d _ went.on.crash clean)) (c.in_ok-set_drafts.ensures.only clean);
-      goes = goes_then a b d told.looks.goes went;
-      aborts = tt;
+      call = record {
+        represents_updated = λ clean o k it may.
+            let represents = λ (db : Database). Represents g.P.Places.represents g.P.Versioned.version db o in
+            let before = early b d _ went.on.crash clean in
+            let ids = c.deref.ensures.value ∙ told.answers before tt (each (λ (u : Unit). u.id) k.forest) it.shown in
+            subst (λ (ids : List ℕ). represents d.now (with_status ids c.args.draft k)) ids
+            (c.in_ok-set_drafts.ensures.represents_updated clean o k (subst (λ (db : Database). represents db k) (sym (told.looks.same before)) it) tt);
+        only = λ clean. subst (λ (db : Database). OnlyTouches (tables.unit.tree ∷ []) db d.now) (told.looks.same (early b d _ went.on.crash clean)) (c.in_ok-set_drafts.ensures.only clean);
+        goes = goes_then a b d told.looks.goes went;
+        aborts = tt;
+        faults = λ o k it may kept clean free. tt;
+      };
       spares = λ clean. tt;
-      faults = λ o k it may kept clean free. tt;
     }
 
 pub returns-clause-count : goal.returns-clause-count

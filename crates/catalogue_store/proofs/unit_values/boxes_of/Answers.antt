@@ -1,7 +1,10 @@
 use Rattle.std.proofs.Common.{rules, ◌≡◌, ◌<◌, ℕ, List, [], ◌∷◌, ◌++◌, length, get_or, take, sym, ap, subst, ◌∙◌}
 use Rattle.office_tables.specs.Schema as tables
 use Rattle.office_tables.specs.declared.fault.StoreFault.TheVariants as fault
-use Rattle.catalogue_store.proofs.Common.{BoxKey, Database, IsUnlimited, RepresentsContainers, box_number, cause_then, cut_after, early, get_or-map, get_or_default, length-map, looks_then, read_cut, read_not, same_fault, spares_full, state, still_unlimited, take_more}
+use Rattle.catalogue_store.proofs.Common.{BoxKey, Database, IsUnlimited, RepresentsContainers, box_number, cause_then}
+use Rattle.catalogue_store.proofs.Common.{cut_after, early, get_or-map, get_or_default, length-map, looks_then}
+use Rattle.catalogue_store.proofs.Common.{read_cut, read_not, same_fault, spares_full, state, still_unlimited}
+use Rattle.catalogue_store.proofs.Common.{take_more}
 use Rattle.catalogue_store.proofs.ValueCauses.{box_at}
 use Rattle.catalogue_store.proofs.unit_values.boxes_of.Goals as goal
 

@@ -1,5 +1,6 @@
 use Rattle.std.proofs.Common.{◌≡◌, List, map, take}
-use Rattle.catalogue_store.proofs.Common.{BoxKey, HasCleanDisk, LeavesUnchanged, RepresentsContainers, box_number, state}
+use Rattle.catalogue_store.proofs.Common.{BoxKey, HasCleanDisk, LeavesUnchanged, RepresentsContainers, box_number}
+use Rattle.catalogue_store.proofs.Common.{state}
 use Rattle.catalogue_store.proofs.unit_values.boxes_of.Given as goal
 
 abbrev pub invariant-loop-number : goal.invariant-loop-number

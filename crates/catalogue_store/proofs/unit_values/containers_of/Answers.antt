@@ -1,13 +1,13 @@
 use Rattle.std.proofs.Common.{rules, ◌≡◌, ℕ, map, ap, sym, ◌∙◌}
-use Rattle.catalogue_statements.specs.declared.row_types.Housing.{Housing}
 use Rattle.catalogue_statements.proofs.CellReads.{cells_read, housings_in_order, numbers_told}
-use Rattle.catalogue_store.proofs.Common.{HousingRow, housing_cell, housing_cells, map-map}
+use Rattle.catalogue_statements.specs.declared.row_types.Housing.{Housing}
+use Rattle.catalogue_store.proofs.Common.{HousingRow, housing_cell, map-map, numbered_containers}
 use Rattle.catalogue_store.proofs.unit_values.containers_of.Goals as goal
 
 pub returns-clause-numbers : goal.returns-clause-numbers
 returns-clause-numbers g c clean xs stored boxes values tell =
     let got = c.in_ok-found.ensures.answers clean xs stored tt in
-    let cells = cells_read (λ (h : HousingRow). h.unit) housing_cell c.args.unit (housing_cells boxes values) xs got.0 (housings_in_order boxes values) tell got.1.0 got.1.1 in
+    let cells = cells_read (λ (h : HousingRow). h.unit) housing_cell c.args.unit (numbered_containers boxes values) xs got.0 (housings_in_order boxes values) tell got.1.0 got.1.1 in
     let second = λ (c : ℕ × ℕ). c.1 in
     let read = λ (h : HousingRow). (let x : Housing = record { ord = h.ord; container = h.container } in x) in
     let all : map (λ (h : Housing). h.container) c.in_ok-found.found.items ≡ map second (map housing_cell got.0) =

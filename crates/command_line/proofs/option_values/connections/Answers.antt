@@ -1,6 +1,7 @@
 use Rattle.std.proofs.Common.{◌≡◌, ◌∙◌, ◌≤◌, ℕ, Some, arith, refl, subst, sym, codes}
 use Rattle.isad_core.specs.Limits.{most_connections}
-use Rattle.command_line.proofs.Common.{ExplainsUnsignedError, HasUnsignedDigitsIfOk, IsSome, ParsesUnsigned, found_of, one_text-rows, signed_reads, without_minus}
+use Rattle.command_line.proofs.Common.{ExplainsUnsignedError, HasUnsignedDigitsIfOk, IsSome, ParsesUnsigned, found_of}
+use Rattle.command_line.proofs.Common.{one_text-rows, signed_reads, without_minus}
 use Rattle.command_line.proofs.Bounded.{bounded}
 use Rattle.command_line.proofs.option_values.connections.Goals as goal
 

@@ -1,5 +1,6 @@
 use Rattle.std.proofs.Common.{◌≡◌, ◌∙◌, ◌≤◌, ℕ, Some, arith, refl, subst, sym, codes}
-use Rattle.command_line.proofs.Common.{ExplainsUnsignedError, HasUnsignedDigitsIfOk, IsSome, ParsesUnsigned, found_of, one_text-rows, signed_reads, without_minus}
+use Rattle.command_line.proofs.Common.{ExplainsUnsignedError, HasUnsignedDigitsIfOk, IsSome, ParsesUnsigned, found_of}
+use Rattle.command_line.proofs.Common.{one_text-rows, signed_reads, without_minus}
 use Rattle.command_line.proofs.Bounded.{bounded}
 use Rattle.command_line.proofs.option_values.port.Goals as goal
 

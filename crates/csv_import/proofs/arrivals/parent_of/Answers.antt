@@ -1,5 +1,5 @@
 use Rattle.std.proofs.Common.{◌≡◌, [], IfSome, None, sym, ap, subst, ◌∙◌}
-use Rattle.csv_import.proofs.Common.{get_by_text, number_of, number_there, option_and_then, or_there}
+use Rattle.csv_import.proofs.Common.{get_by_text, number_there, option_and_then, or_there, parent_number}
 use Rattle.csv_import.proofs.arrivals.parent_of.Goals as goal
 
 pub returns : goal.returns
@@ -10,7 +10,7 @@ returns c = record {
       let there : get_by_text c.args.catalogued.now p ≡ number_there k source p = subst (λ o. IfSome o (λ parent. get_by_text c.args.catalogued.now parent ≡ number_there k source parent)) c.in-Some.is told in
       c.kept_number.ensures
       ∙ (there
-      ∙ (sym (ap (λ o. or_there o (number_of k.forest source next [] p)) none)
+      ∙ (sym (ap (λ o. or_there o (parent_number k.forest source next [] p)) none)
       ∙ (sym (knows p)
-      ∙ sym (ap (option_and_then (number_of k.forest source next above)) c.in-Some.is))));
+      ∙ sym (ap (option_and_then (parent_number k.forest source next above)) c.in-Some.is))));
 }

@@ -1,7 +1,7 @@
 use Rattle.std.proofs.Common.{length, ap, ◌∙◌}
-use Rattle.catalogue_statements.specs.Rows.{counted_from}
-use Rattle.catalogue_statements.proofs.Numbered.{length-counted}
 use Rattle.office_tables.specs.RowCounts.{cap}
+use Rattle.catalogue_statements.proofs.Numbered.{length-counted}
+use Rattle.catalogue_statements.specs.Rows.{counted_from}
 use Rattle.csv_import.proofs.Common.{most_containers, nat_lt, tells_passed}
 use Rattle.csv_import.proofs.Counting.{many_counted}
 use Rattle.csv_import.proofs.Tellings.{tells_so}

@@ -1,7 +1,8 @@
 use Rattle.std.proofs.Common.{◌+◌, ap, arith, length, subst}
 use Rattle.std.specs.Prelude.{◌≤◌, IfSome}
 use Rattle.csv_import.proofs.Common.{catalogue_passed, does_pass, most_unit_numbers, office_of, office_settings, state}
-use Rattle.csv_import.proofs.Carried.{imports, ready_for, refused_full, refused_row, settings_shown, shown_legible, when_known, when_placed, when_roomy}
+use Rattle.csv_import.proofs.Carried.{imports, ready_for, refused_full, refused_row, settings_shown, shown_legible}
+use Rattle.csv_import.proofs.Carried.{when_known, when_placed, when_roomy}
 use Rattle.csv_import.proofs.Frames.{entering_of}
 use Rattle.csv_import.proofs.catalogue_import.import_read.Goals as goal
 
@@ -9,7 +10,7 @@ pub returns-in_err-catalogued : goal.returns-in_err-catalogued
 returns-in_err-catalogued g c bytes read =
     let told = c.in_err-catalogued.ensures.answers in
     does_pass _ c.from_residual.ensures told.aborts
-    (λ s sound so it. told.faults (office_of s) s.catalogue (entering_of g.P.Versioned.version (state g.S.Store c.args.tables.now).now (office_of s) s.catalogue it.catalogue.catalogue) sound.sound.units tt)
+    (λ s sound so it. told.faults (office_of s) s.catalogue (entering_of g.P.Versioned.version (state g.S.Store c.args.tables.now).now (office_of s) s.catalogue it.catalogue.catalogue) tt sound.sound.units)
 
 pub returns-in_err-new : goal.returns-in_err-new
 returns-in_err-new g c bytes read =

@@ -3,7 +3,9 @@ use Rattle.office_core.specs.ImportReply as reply
 use Rattle.office_core.specs.State.{State}
 use Rattle.office_core.specs.declared.done.Done.TheVariants as done
 use Rattle.refinement.specs.Gate.{gate_reply}
-use Rattle.csv_import.proofs.Common.{Database, Full, HasCleanDisk, Remark, Represents, RepresentsState, early, import_outcome, looks_then, most_containers, nat_lt, office_of, state, tells_passed}
+use Rattle.csv_import.proofs.Common.{Database, Full, HasCleanDisk, Remark, Represents, RepresentsState, early}
+use Rattle.csv_import.proofs.Common.{import_outcome, looks_then, most_containers, nat_lt, office_of, state}
+use Rattle.csv_import.proofs.Common.{tells_passed}
 use Rattle.csv_import.proofs.Carried.{few_containers, have_units, judged_few, settings_shown}
 use Rattle.csv_import.proofs.Tellings.{tells_cut_later, tells_so, told_last}
 use Rattle.csv_import.proofs.catalogue_import.judge.Goals as goal

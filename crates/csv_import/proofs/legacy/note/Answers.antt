@@ -1,6 +1,6 @@
 use Rattle.std.proofs.Common.{not, ◌||◌, ap, ◌∙◌}
-use Rattle.std.specs.String.{string_bytes}
 use Rattle.std.proofs.lemmas.Map.Text.{btree_set_updates_text}
+use Rattle.std.specs.String.{string_bytes}
 use Rattle.csv_import.proofs.Common.{Bytes, bytes_eq, contains_text}
 use Rattle.csv_import.proofs.Noted.{added_or_there}
 use Rattle.csv_import.proofs.legacy.note.Goals as goal

@@ -1,6 +1,8 @@
 use Rattle.std.proofs.Common.{◌≡◌, ◌+◌, ◌++◌, [], ◌∷◌, take, refl, sym, ap, subst, ◌∙◌, arith}
 use Rattle.atom_csv.specs.declared.file.Row.{Row as RowTold}
-use Rattle.csv_import.proofs.Common.{AllByRecursion, Database, IsAsked, RepresentsEntering, all_append, contains_text, early, get_by_text, looks_nowhere, looks_then, state, take_all, take_more, tells_passed_later}
+use Rattle.csv_import.proofs.Common.{AllByRecursion, Database, IsAsked, RepresentsEntering, all_append, contains_text}
+use Rattle.csv_import.proofs.Common.{early, get_by_text, looks_nowhere, looks_then, state, take_all, take_more}
+use Rattle.csv_import.proofs.Common.{tells_passed_later}
 use Rattle.csv_import.proofs.KnownUnits.{all_known, asked_nothing, still_asked}
 use Rattle.csv_import.proofs.Tellings.{tells_so}
 use Rattle.csv_import.proofs.numbers.known_units.Goals as goal
@@ -18,7 +20,7 @@ pub returns-in_err-look_up_row : goal.returns-in_err-look_up_row
 returns-in_err-look_up_row g c =
     let looks = c.loop-row.invariant.looks in
     let told = c.in_err-look_up_row.ensures.answers in
-    record { answers = tells_passed_later _ c.from_residual.ensures looks told.aborts (λ o k it good kept. told.faults o k it good tt) }
+    record { answers = tells_passed_later _ c.from_residual.ensures looks told.aborts (λ o k it may good. told.faults o k it may good) }
 
 pub loop-row-preserved : goal.loop-row-preserved
 loop-row-preserved g c =

@@ -1,5 +1,6 @@
 use Rattle.std.proofs.Common.{take}
-use Rattle.csv_import.proofs.Common.{AllByRecursion, AreGoodUnits, Catalogue, HasCleanDisk, IsAsked, KnowsAsked, LeavesUnchanged, OfficeRow, RepresentsEntering, contains_text, get_by_text, state}
+use Rattle.csv_import.proofs.Common.{AllByRecursion, AreGoodUnits, Catalogue, HasCleanDisk, IsAsked, KnowsAsked}
+use Rattle.csv_import.proofs.Common.{LeavesUnchanged, OfficeRow, RepresentsEntering, contains_text, get_by_text, state}
 use Rattle.csv_import.proofs.numbers.known_units.Given as goal
 
 abbrev pub invariant-loop-row : goal.invariant-loop-row

@@ -1,6 +1,7 @@
 use Rattle.std.proofs.Common.{◌≡◌, true, false, Option, sym, ap, subst, ◌∙◌}
 use Rattle.std.specs.Prelude.{IfSome}
-use Rattle.csv_import.proofs.Common.{Bytes, Database, RepresentsEntering, contains_text, early, is_some, looks_then, state, tells_passed_later}
+use Rattle.csv_import.proofs.Common.{Bytes, Database, RepresentsEntering, contains_text, early, is_some, looks_then}
+use Rattle.csv_import.proofs.Common.{state, tells_passed_later}
 use Rattle.csv_import.proofs.Noted.{noted_itself, still_noted}
 use Rattle.csv_import.proofs.Tellings.{tells_so}
 use Rattle.csv_import.proofs.numbers.look_up_row.Goals as goal
@@ -36,7 +37,7 @@ pub returns-in_err-look_up-2-clause-answers : goal.returns-in_err-look_up-2-clau
 returns-in_err-look_up-2-clause-answers g c =
     let looks = c.in_ok-look_up.ensures.answers.looks in
     let told = c.in_err-look_up-2.ensures.answers in
-    tells_passed_later _ c.from_residual-in_err-look_up-2.ensures looks told.aborts (λ o k it good kept. told.faults o k it good tt)
+    tells_passed_later _ c.from_residual-in_err-look_up-2.ensures looks told.aborts (λ o k it may good. told.faults o k it may good)
 
 pub returns-clause-answers : goal.returns-clause-answers
 returns-clause-answers g c =

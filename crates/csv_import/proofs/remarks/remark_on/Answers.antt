@@ -2,7 +2,9 @@ use Rattle.std.proofs.Common.{◌≡◌, Some, None, sym, ◌∙◌}
 use Rattle.std.specs.Prelude.{map}
 use Rattle.catalogue_core.specs.Units.{Unit as Described}
 use Rattle.office_core.specs.ImportReply as reply
-use Rattle.csv_import.proofs.Common.{Bytes, Catalogue, HasParent, IsRanked, LevelTooHigh, find, has_id, if_ok_then, is_from, is_level_above, last_but_one, looks_nowhere, nodes, option_to_list, path, rank_of, remark_if}
+use Rattle.csv_import.proofs.Common.{Bytes, Catalogue, HasParent, IsRanked, LevelTooHigh, find, has_id, if_ok_then}
+use Rattle.csv_import.proofs.Common.{is_from, is_level_above, last_but_one, looks_nowhere, nodes, option_to_list, path}
+use Rattle.csv_import.proofs.Common.{rank_of, remark_if}
 use Rattle.csv_import.proofs.Remarked.{is_below, top_remark}
 use Rattle.csv_import.proofs.RightAbove.{last_number, there}
 use Rattle.csv_import.proofs.Tellings.{tells_so}

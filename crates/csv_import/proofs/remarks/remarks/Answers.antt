@@ -1,6 +1,7 @@
 use Rattle.std.proofs.Common.{sym, subst, ◌∙◌}
 use Rattle.catalogue_core.specs.Units.{Unit as Described}
-use Rattle.csv_import.proofs.Common.{Catalogue, Database, HasCleanDisk, HaveParents, HaveUnits, OfficeRow, Represents, each, state, tells_passed}
+use Rattle.csv_import.proofs.Common.{Catalogue, Database, HasCleanDisk, HaveParents, HaveUnits, OfficeRow, Represents}
+use Rattle.csv_import.proofs.Common.{each, state, tells_passed}
 use Rattle.csv_import.proofs.RightAbove.{above_numbers}
 use Rattle.csv_import.proofs.Tellings.{told_last}
 use Rattle.csv_import.proofs.remarks.remarks.Goals as goal

@@ -1,9 +1,10 @@
 use Rattle.std.proofs.Common.{◌≡◌, ℕ, Bor, [], ◌++◌, length, Option, sym, ap, subst, ◌∙◌, append-nil}
+use Rattle.std.proofs.lemmas.Slice.Zip.{zip_turn, zip_end}
 use Rattle.std.specs.Iterator.Adapters.{zip_first, zip_second}
 use Rattle.std.specs.Slice.Iter.{iter_rest}
-use Rattle.std.proofs.lemmas.Slice.Zip.{zip_turn, zip_end}
 use Rattle.atom_csv.specs.declared.file.Row.{Row as RowTold}
-use Rattle.csv_import.proofs.Common.{Database, Remark, Represents, early, length_push, looks_then, option_to_list, state, tells_full, tells_passed_later}
+use Rattle.csv_import.proofs.Common.{Database, Remark, Represents, early, length_push, looks_then, option_to_list}
+use Rattle.csv_import.proofs.Common.{state, tells_full, tells_passed_later}
 use Rattle.csv_import.proofs.RightAbove.{parent_at, told_all, told_at}
 use Rattle.csv_import.proofs.Tellings.{tells_so}
 use Rattle.csv_import.proofs.remarks.remarks_below.Goals as goal

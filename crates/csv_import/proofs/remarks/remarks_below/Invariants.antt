@@ -1,6 +1,7 @@
 use Rattle.std.proofs.Common.{◌≡◌, ◌++◌, drop, length}
 use Rattle.office_core.specs.ImportReply as reply
-use Rattle.csv_import.proofs.Common.{Bytes, Catalogue, HasCleanDisk, HaveParents, IsRanked, LeavesUnchanged, OfficeRow, Represents, state}
+use Rattle.csv_import.proofs.Common.{Bytes, Catalogue, HasCleanDisk, HaveParents, IsRanked, LeavesUnchanged, OfficeRow}
+use Rattle.csv_import.proofs.Common.{Represents, state}
 use Rattle.csv_import.proofs.remarks.remarks_below.Given as goal
 
 abbrev pub invariant-loop-row : goal.invariant-loop-row

@@ -1,7 +1,10 @@
 use Rattle.std.proofs.Common.{◌≡◌, ◌∙◌, ◌≤◌, ◌+◌, [], ◌∷◌, arith, drop, sym, subst}
-use Rattle.csv_import.proofs.Common.{Catalogue, Counts, RepresentsEntering, catalogue_after, cut_after, described_trees, early, get_by_text, goes_nowhere, goes_then, makes_passed_later, nothing_touched, number_there, state, touched_again}
+use Rattle.csv_import.proofs.Common.{Catalogue, Counts, RepresentsEntering, catalogue_after, cut_after, described_trees}
+use Rattle.csv_import.proofs.Common.{early, get_by_text, goes_nowhere, goes_then, makes_passed_later, nothing_touched}
+use Rattle.csv_import.proofs.Common.{number_there, state, touched_again}
 use Rattle.csv_import.proofs.KnownUnits.{known_still, told_here}
-use Rattle.csv_import.proofs.RowsToCome.{HaveCome, all_come, at_end, counted_few, from_here, next_comes, none_come, one_entered}
+use Rattle.csv_import.proofs.RowsToCome.{HaveCome, all_come, at_end, counted_few, from_here, next_comes, none_come}
+use Rattle.csv_import.proofs.RowsToCome.{one_entered}
 use Rattle.csv_import.proofs.row_entry.enter_each.Goals as goal
 
 pub loop-row-init : goal.loop-row-init

@@ -1,5 +1,6 @@
 use Rattle.std.proofs.Common.{◌+◌, ◌≤◌, drop}
-use Rattle.csv_import.proofs.Common.{AreToCome, Catalogue, Goes, HasCleanDisk, OfficeRow, OnlyTouches, RepresentsEntering, TellsUnits, described_trees, get_by_text, state}
+use Rattle.csv_import.proofs.Common.{AreToCome, Catalogue, Goes, HasCleanDisk, OfficeRow, OnlyTouches}
+use Rattle.csv_import.proofs.Common.{RepresentsEntering, TellsUnits, described_trees, get_by_text, state}
 use Rattle.csv_import.proofs.RowsToCome.{HaveCome}
 use Rattle.csv_import.proofs.row_entry.enter_each.Given as goal
 

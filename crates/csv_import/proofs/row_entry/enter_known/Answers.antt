@@ -1,7 +1,9 @@
 use Rattle.std.proofs.Common.{cond, refl, sym, ap, ◌∙◌}
 use Rattle.office_tables.specs.declared.fault.StoreFault.TheVariants as fault
 use Rattle.csv_import.specs.declared.row_entry.Entry.TheVariants as entry
-use Rattle.csv_import.proofs.Common.{MayChange, RepresentsEntering, Values, all_places, as_updates, cut_after, described_trees, early, makes_not, makes_passed, same_values, state, with_values, ⊤}
+use Rattle.csv_import.proofs.Common.{MayChange, RepresentsEntering, Values, all_places, as_updates, cut_after}
+use Rattle.csv_import.proofs.Common.{described_trees, early, makes_not, makes_passed, same_values, state, with_values}
+use Rattle.csv_import.proofs.Common.{⊤}
 use Rattle.csv_import.proofs.Afterwards.{makes_fault, makes_nothing, makes_same, makes_then}
 use Rattle.csv_import.proofs.Frames.{at_next, kept_at, knows_at, makes_valued}
 use Rattle.csv_import.proofs.OneRow.{is_valued, not_untold, told_of_it}

@@ -1,6 +1,5 @@
 use Rattle.std.proofs.Common.{◌≡◌, Option, refl, sym, ◌∙◌, subst}
-use Rattle.csv_import.specs.Turns.{entry_of}
-use Rattle.csv_import.proofs.Common.{IfOk, Unit, looks_nowhere}
+use Rattle.csv_import.proofs.Common.{IfOk, Unit, entry_of, looks_nowhere}
 use Rattle.csv_import.proofs.Afterwards.{makes_then}
 use Rattle.csv_import.proofs.OneRow.{entered_known, entered_new, is_found, may_change, may_come, none_there}
 use Rattle.csv_import.proofs.row_entry.enter_row.Goals as goal

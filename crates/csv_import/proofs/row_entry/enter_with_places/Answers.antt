@@ -1,9 +1,11 @@
 use Rattle.std.proofs.Common.{◌≡◌, [], ◌∷◌, refl, sym, ap, subst, ◌∙◌, arith}
 use Rattle.tree_core.specs.Arrivals.{added}
+use Rattle.office_tables.specs.Schema as tables
 use Rattle.catalogue_statements.specs.Rows.{office_row}
 use Rattle.tree_places.specs.Arrivals.{MayJoin}
-use Rattle.office_tables.specs.Schema as tables
-use Rattle.csv_import.proofs.Common.{Catalogue, OfficeRow, catalogue_after, catalogue_trees, cut_after, described_trees, early, goes_nowhere, goes_then, kept_within, makes_passed, makes_passed_later, state, touched_then, touched_wider}
+use Rattle.csv_import.proofs.Common.{Catalogue, OfficeRow, catalogue_after, catalogue_trees, cut_after, described_trees}
+use Rattle.csv_import.proofs.Common.{early, goes_nowhere, goes_then, kept_within, makes_passed, makes_passed_later}
+use Rattle.csv_import.proofs.Common.{state, touched_then, touched_wider}
 use Rattle.csv_import.proofs.ComeToStand.{come_to_stand, ids, may_join}
 use Rattle.csv_import.proofs.Frames.{at_next, described_kept}
 use Rattle.csv_import.proofs.row_entry.enter_with_places.Goals as goal

@@ -1,8 +1,10 @@
-use Rattle.std.proofs.Common.{◌≡◌, ℕ, ◌+◌, ◌++◌, cond, [], ◌∷◌, Option, append_assoc, append-nil, drop, sym, ap, ◌∙◌, arith}
+use Rattle.std.proofs.Common.{◌≡◌, ℕ, ◌+◌, ◌++◌, cond, [], ◌∷◌, Option, append_assoc, append-nil, drop, sym, ap, ◌∙◌}
+use Rattle.std.proofs.Common.{arith}
 use Rattle.atom_csv.specs.declared.file.Row.{Row as RowTold}
 use Rattle.csv_import.proofs.Common.{drop_all, drop_more, get_by_text, is_some, units_from, unwrap_or}
 use Rattle.csv_import.proofs.row_entry.units_of.Goals as goal
-use Rattle.csv_import.proofs.row_entry.units_of.Goals.{in-Some+in_ok-push-in-Some, in-None+in_ok-unit-in-None+in_ok-push-in-None}
+use Rattle.csv_import.proofs.row_entry.units_of.Goals.{in-Some+in_ok-push-in-Some}
+use Rattle.csv_import.proofs.row_entry.units_of.Goals.{in-None+in_ok-unit-in-None+in_ok-push-in-None}
 
 pub returns-in_err-unit-in-None-clause-faults : goal.returns-in_err-unit-in-None-clause-faults
 returns-in_err-unit-in-None-clause-faults c = absurd (omega (arith, c.loop-row.invariant.few, c.loop-row-test.true, c.args.import.now.few, c.in_err-unit-in-None.ensures.great))

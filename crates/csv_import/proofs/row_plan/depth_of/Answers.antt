@@ -1,5 +1,7 @@
-use Rattle.std.proofs.Common.{◌≡◌, ℕ, ◌+◌, true, false, [], length, IfSome, Option, Some, None, sym, ap, subst, ◌∙◌, arith}
-use Rattle.csv_import.proofs.Common.{Bytes, Unit, depth_under, get_by_text, is_from, length-map, number_there, or_there, path}
+use Rattle.std.proofs.Common.{◌≡◌, ℕ, ◌+◌, true, false, [], length, IfSome, Option, Some, None, sym, ap, subst, ◌∙◌}
+use Rattle.std.proofs.Common.{arith}
+use Rattle.csv_import.proofs.Common.{Bytes, Unit, depth_under, get_by_text, is_from, length-map, number_there, or_there}
+use Rattle.csv_import.proofs.Common.{path}
 use Rattle.csv_import.proofs.FoundPaths.{depth_found}
 use Rattle.csv_import.proofs.Planned.{knows_parent}
 use Rattle.csv_import.proofs.Tellings.{tells_so}

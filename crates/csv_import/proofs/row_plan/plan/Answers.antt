@@ -1,6 +1,7 @@
 use Rattle.std.proofs.Common.{◌≡◌, ◌+◌, ◌∷◌, drop, sym, ap, subst, ◌∙◌, arith}
 use Rattle.atom_csv.specs.declared.file.Row.{Row as RowTold}
-use Rattle.csv_import.proofs.Common.{Database, Represents, drop_all, drop_more, early, get_by_text, looks_then, state, tells_full, tells_passed_later}
+use Rattle.csv_import.proofs.Common.{Database, Represents, drop_all, drop_more, early, get_by_text, looks_then, state}
+use Rattle.csv_import.proofs.Common.{tells_full, tells_passed_later}
 use Rattle.csv_import.proofs.KnownUnits.{parent_at, told_at}
 use Rattle.csv_import.proofs.Planned.{IsPlanned, begins, ends_faulty, ends_well, goes_known, goes_new}
 use Rattle.csv_import.proofs.Tellings.{tells_so}

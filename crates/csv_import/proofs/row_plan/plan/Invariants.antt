@@ -1,5 +1,6 @@
 use Rattle.std.proofs.Common.{◌≤◌, drop}
-use Rattle.csv_import.proofs.Common.{AreGoodUnits, Bytes, Catalogue, HasCleanDisk, KnowsUnits, LeavesUnchanged, OfficeRow, Represents, get_by_text, state}
+use Rattle.csv_import.proofs.Common.{AreGoodUnits, Bytes, Catalogue, HasCleanDisk, KnowsUnits, LeavesUnchanged}
+use Rattle.csv_import.proofs.Common.{OfficeRow, Represents, get_by_text, state}
 use Rattle.csv_import.proofs.Planned.{IsPlanned}
 use Rattle.csv_import.proofs.row_plan.plan.Given as goal
 

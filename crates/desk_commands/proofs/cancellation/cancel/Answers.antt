@@ -1,8 +1,8 @@
 use Rattle.std.proofs.Common.{◌≡◌, true, false, nat_eq, Option, Err, sym, subst, ◌∙◌}
-use Rattle.desk_store.specs.Orders.{state_number}
 use Rattle.desk_store.specs.declared.orders.PlacedOrder.{PlacedOrder}
 use Rattle.office_core.specs.declared.command.Command.TheVariants as command
-use Rattle.desk_commands.proofs.Common.{IsThere, OrderNotWaiting, UnknownOrder, desk_passed, does_refuse, does_then, not_placed, order_with, state, tables, was_placed}
+use Rattle.desk_commands.proofs.Common.{IsThere, OrderNotWaiting, UnknownOrder, desk_passed, does_refuse, does_then}
+use Rattle.desk_commands.proofs.Common.{not_placed, order_state_number, order_with, state, tables, was_placed}
 use Rattle.desk_commands.proofs.Cancelled.{not_waiting, unknown_order, waits_or_not}
 use Rattle.desk_commands.proofs.cancellation.cancel.Goals as goal
 
@@ -25,7 +25,7 @@ returns-then-not-is_waiting g c =
     let b = state g.S.Store c.order.new.tables in
     let told = c.in_ok-placed.ensures.answers in
     let placed = c.in-Some.placed in
-    let no : nat_eq (state_number placed.state) 1 ≡ false = sym c.is_waiting.ensures ∙ c.if-not-is_waiting.true in
+    let no : nat_eq (order_state_number placed.state) 1 ≡ false = sym c.is_waiting.ensures ∙ c.if-not-is_waiting.true in
     does_refuse g.P.Places.represents g.P.Versioned.version _ (command.Cancel c.args.number) a b (Err OrderNotWaiting) told.looks
     (λ clean s sound so it.
     let there = was_placed s g.P.Versioned.version c.args.number placed
@@ -36,7 +36,7 @@ pub returns : goal.returns
 returns g c =
     let told = c.in_ok-placed.ensures.answers in
     let placed = c.in-Some.placed in
-    let yes : nat_eq (state_number placed.state) 1 ≡ true = sym c.is_waiting.ensures ∙ c.if-not-is_waiting.false in
+    let yes : nat_eq (order_state_number placed.state) 1 ≡ true = sym c.is_waiting.ensures ∙ c.if-not-is_waiting.false in
     does_then told.looks c.end_waiting.ensures
     (λ clean s sound so it.
     let there = was_placed s g.P.Versioned.version c.args.number placed

@@ -1,7 +1,7 @@
 use Rattle.std.proofs.Common.{◌∷◌, [], refl}
-use Rattle.desk_store.proofs.MadeInTurn.{legible_state, makes_then}
-use Rattle.office_tables.specs.Schema as tables
 use Rattle.office_tables.proofs.StoreCalls.{as_updates}
+use Rattle.office_tables.specs.Schema as tables
+use Rattle.desk_store.proofs.MadeInTurn.{legible_state, makes_then}
 use Rattle.desk_commands.proofs.Common.{makes_passed, with_order_state, with_place, ⊤}
 use Rattle.desk_commands.proofs.container_moves.hand_over.Goals as goal
 

@@ -1,8 +1,9 @@
 use Rattle.std.proofs.Common.{ℕ, ◌<◌, ◌^◌, List, ◌∷◌, [], take, get_or, sym, subst, arith}
-use Rattle.office_tables.specs.Schema as tables
 use Rattle.office_tables.proofs.Causes.{cause_then, still_unlimited}
 use Rattle.office_tables.proofs.Touching.{nothing_touched, touched_again}
-use Rattle.desk_commands.proofs.Common.{HoldingRow, IsNumber, RepresentsDesk, cut_after, cut_then, early, goes_nowhere, goes_then, makes_passed, state, take_all, take_more, with_all_placed}
+use Rattle.office_tables.specs.Schema as tables
+use Rattle.desk_commands.proofs.Common.{HoldingRow, IsNumber, RepresentsDesk, cut_after, cut_then, early, goes_nowhere}
+use Rattle.desk_commands.proofs.Common.{goes_then, makes_passed, state, take_all, take_more, with_all_placed}
 use Rattle.desk_commands.proofs.MovedAll.{all_taken, each_of, legible_all, one_more_placed}
 use Rattle.desk_commands.proofs.container_moves.move_all.Goals as goal
 

@@ -1,7 +1,9 @@
 use Rattle.std.proofs.Common.{Option, Err, sym, ap, subst, ◌∙◌}
-use Rattle.office_core.specs.declared.command.Command.TheVariants as command
 use Rattle.desk_core.proofs.UnknownContainers.{nothing_found}
-use Rattle.desk_commands.proofs.Common.{IsHeaded, NotIssued, Place, QueueHead, container_with, does_pass, does_refuse, does_then, is_refused, is_some, legible_storage, order_out, shows_storage, state, storage_of}
+use Rattle.office_core.specs.declared.command.Command.TheVariants as command
+use Rattle.desk_commands.proofs.Common.{IsHeaded, NotIssued, Place, QueueHead, container_with, does_pass, does_refuse}
+use Rattle.desk_commands.proofs.Common.{does_then, is_refused, is_some, legible_storage, order_out, shows_storage}
+use Rattle.desk_commands.proofs.Common.{state, storage_of}
 use Rattle.desk_commands.proofs.HeadTold.{none_queued, queued_at}
 use Rattle.desk_commands.proofs.Returned.{in_house, not_issued, unknown_container}
 use Rattle.desk_commands.proofs.container_return.return_container.Goals as goal

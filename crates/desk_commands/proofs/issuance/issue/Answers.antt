@@ -1,6 +1,7 @@
 use Rattle.std.proofs.Common.{Option, subst}
 use Rattle.desk_core.proofs.UnknownContainers.{nothing_found}
-use Rattle.desk_commands.proofs.Common.{IsHeaded, QueueHead, container_with, does_pass, does_then, is_refused, legible_storage, shows_storage, state, storage_of}
+use Rattle.desk_commands.proofs.Common.{IsHeaded, QueueHead, container_with, does_pass, does_then, is_refused}
+use Rattle.desk_commands.proofs.Common.{legible_storage, shows_storage, state, storage_of}
 use Rattle.desk_commands.proofs.HeadTold.{none_queued, queued_at}
 use Rattle.desk_commands.proofs.Issued.{nothing_to_issue}
 use Rattle.desk_commands.proofs.issuance.issue.Goals as goal

@@ -1,5 +1,7 @@
 use Rattle.std.proofs.Common.{sym, ap, subst, ◌∙◌}
-use Rattle.desk_commands.proofs.Common.{Database, RepresentsState, WaitingOrder, after_look, desk_passed, does_then, early, is_refused, judged_now, looks_then, office_passed, option_map, state, tables}
+use Rattle.desk_commands.proofs.Common.{Database, RepresentsState, WaitingOrder, after_look, desk_passed, does_then}
+use Rattle.desk_commands.proofs.Common.{early, is_refused, judged_now, looks_then, office_passed, option_map, state}
+use Rattle.desk_commands.proofs.Common.{tables}
 use Rattle.desk_commands.proofs.Issued.{decided_as, first_order}
 use Rattle.desk_commands.proofs.issuance.issue_known.Goals as goal
 

@@ -1,6 +1,7 @@
 use Rattle.std.proofs.Common.{◌≡◌, Bool, true, false, not, Err, refl, sym, ap, ◌∙◌}
 use Rattle.office_core.specs.declared.command.Command.TheVariants as command
-use Rattle.desk_commands.proofs.Common.{StillIssued, containers, desk_passed, does_refuse, does_then, is_empty, is_out, list_any, state, tables}
+use Rattle.desk_commands.proofs.Common.{StillIssued, containers, desk_passed, does_refuse, does_then, is_empty, is_out}
+use Rattle.desk_commands.proofs.Common.{list_any, state, tables}
 use Rattle.desk_commands.proofs.DayOpened.{refuses_day}
 use Rattle.desk_commands.proofs.StillOut.{out_or_none}
 use Rattle.desk_commands.proofs.new_day.open.Goals as goal

@@ -1,8 +1,8 @@
-use Rattle.office_core.specs.declared.command.Command.TheVariants as command
-use Rattle.refinement.specs.Gate.{OthersAreOpen}
-use Rattle.refinement.proofs.Passing.{passed_where}
 use Rattle.std.proofs.Common.{refl, arith}
+use Rattle.office_core.specs.declared.command.Command.TheVariants as command
 use Rattle.office_core.specs.declared.done.Done.TheVariants as done
+use Rattle.refinement.proofs.Passing.{passed_where}
+use Rattle.refinement.specs.Gate.{OthersAreOpen}
 use Rattle.desk_commands.proofs.Common.{cut_after, desk_passed, does_pass, looks_nowhere, state, tables}
 use Rattle.desk_commands.proofs.KnownNumbers.{kept_ticket, kept_unit}
 use Rattle.desk_commands.proofs.Revoked.{gate_is_left, judged, revokes_near, represents}
@@ -13,14 +13,14 @@ returns-in_err-reader g c =
     let a = state g.S.Store c.args.tables.now in
     let great = c.in_err-reader.ensures.great in
     does_pass _ c.from_residual.ensures (cut_after a a (looks_nowhere a).goes.on)
-    (λ s sound so it clean free. let kept = kept_ticket s sound c.args.ticket so.1.ticket_there in absurd (omega (arith, kept, great)))
+    (λ s sound so it clean free. let kept = kept_ticket s sound c.args.ticket so.1.ticket in absurd (omega (arith, kept, great)))
 
 pub returns-in_err-read : goal.returns-in_err-read
 returns-in_err-read g c =
     let a = state g.S.Store c.args.tables.now in
     let great = c.in_err-read.ensures.great in
     does_pass _ c.from_residual-in_err-read.ensures (cut_after a a (looks_nowhere a).goes.on)
-    (λ s sound so it clean free. let kept = kept_unit s sound c.args.unit so.1.unit_there in absurd (omega (arith, kept, great)))
+    (λ s sound so it clean free. let kept = kept_unit s sound c.args.unit so.1.unit in absurd (omega (arith, kept, great)))
 
 pub returns-in_err-revoke : goal.returns-in_err-revoke
 returns-in_err-revoke g c = let made = c.in_err-revoke.ensures.updates in desk_passed _ c.from_residual-in_err-revoke.ensures made.aborts made.faults

@@ -1,10 +1,10 @@
 use Rattle.std.proofs.Common.{ℕ, List, ◌∷◌, [], refl, sym, subst, ◌∙◌}
 use Rattle.desk_core.specs.declared.reader.Place.TheVariants.{Desk}
-use Rattle.desk_store.specs.Runs.{next_run}
-use Rattle.office_tables.specs.Schema as schema
 use Rattle.office_tables.proofs.Causes.{cause_then, still_unlimited}
 use Rattle.office_tables.proofs.Touching.{touched_again, touched_wider}
-use Rattle.desk_commands.proofs.Common.{RepresentsDesk, TakesEachOnce, cut_then, desk_legible, does_pass, early, goes_then, state, tables, with_all_placed, with_run}
+use Rattle.office_tables.specs.Schema as schema
+use Rattle.desk_commands.proofs.Common.{RepresentsDesk, TakesEachOnce, cut_then, desk_legible, does_pass, early}
+use Rattle.desk_commands.proofs.Common.{goes_then, next_run, state, tables, with_all_placed, with_run}
 use Rattle.desk_commands.proofs.Fetched.{taken_once}
 use Rattle.desk_commands.proofs.RunMade.{legible_run, runs_out, runs_with, today_legible}
 use Rattle.desk_commands.proofs.run_creation.bring.Goals as goal

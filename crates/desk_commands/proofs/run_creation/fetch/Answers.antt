@@ -1,7 +1,9 @@
 use Rattle.std.proofs.Common.{◌≡◌, Err, sym, ap, subst, ◌∙◌}
 use Rattle.desk_store.proofs.PickingCalls.{candidates_are}
 use Rattle.office_core.specs.declared.command.Command.TheVariants as command
-use Rattle.desk_commands.proofs.Common.{Database, Limits, NothingToMove, RepresentsState, after_look, desk_passed, does_refuse, does_then, early, is_empty, judged_now, looks_then, office_passed, on_shelf, open_orders, state, tables, taken_by}
+use Rattle.desk_commands.proofs.Common.{Database, Limits, NothingToMove, RepresentsState, after_look, desk_passed}
+use Rattle.desk_commands.proofs.Common.{does_refuse, does_then, early, is_empty, judged_now, looks_then, office_passed}
+use Rattle.desk_commands.proofs.Common.{on_shelf, open_orders, state, tables, taken_by}
 use Rattle.desk_commands.proofs.RunMade.{nothing_due}
 use Rattle.desk_commands.proofs.run_creation.fetch.Goals as goal
 

@@ -2,9 +2,11 @@ use Rattle.std.proofs.Common.{◌≤◌, ◌++◌, append-nil, append_assoc, len
 use Rattle.std.proofs.lemmas.Grind.{common_steps}
 use Rattle.desk_store.proofs.ToldCalls.{ends_well, shown_on}
 use Rattle.refinement.specs.KnownUnits.{open_ones}
-use Rattle.desk_commands.proofs.Common.{CanBeJudged, ContainerOrder, RepresentsWhole, early, looks_nowhere, looks_then, opens, state, take_all, tells_full, tells_passed_later, ⊤}
+use Rattle.desk_commands.proofs.Common.{CanBeJudged, ContainerOrder, RepresentsWhole, early, looks_nowhere, looks_then}
+use Rattle.desk_commands.proofs.Common.{opens, state, take_all, tells_full, tells_passed_later, ⊤}
 use Rattle.desk_commands.proofs.Fetched.{enough_with, part_more}
-use Rattle.desk_commands.proofs.run_creation.found_and_open.Goals.{then-loop-place-test+else-len-most, else-loop-place-test}
+use Rattle.desk_commands.proofs.run_creation.found_and_open.Goals.{then-loop-place-test+else-len-most}
+use Rattle.desk_commands.proofs.run_creation.found_and_open.Goals.{else-loop-place-test}
 use Rattle.desk_commands.proofs.run_creation.found_and_open.Goals as goal
 
 pub loop-place-init : goal.loop-place-init

@@ -1,7 +1,8 @@
 use Rattle.std.proofs.Common.{◌≡◌, true, false, Err, sym, ap, ◌∙◌}
 use Rattle.desk_core.specs.Runs as decided
 use Rattle.office_core.specs.declared.command.Command.TheVariants as command
-use Rattle.desk_commands.proofs.Common.{NothingToMove, desk_passed, does_refuse, does_then, idle, is_empty, state, tables}
+use Rattle.desk_commands.proofs.Common.{NothingToMove, desk_passed, does_refuse, does_then, idle, is_empty, state}
+use Rattle.desk_commands.proofs.Common.{tables}
 use Rattle.desk_commands.proofs.Reshelved.{nothing_idle, picks_idle}
 use Rattle.desk_commands.proofs.shelf_return.reshelve.Goals as goal
 
@@ -16,7 +17,7 @@ returns-then-are_none g c =
     does_refuse g.P.Places.represents g.P.Versioned.version _ command.Reshelve a b (Err NothingToMove) told.looks
     (λ clean s sound so it.
     let is : c.in_ok-idle.idle.items ≡ idle s =
-    c.in_ok-idle.ensures ∙ ap decided.reshelved (c.deref.ensures.value ∙ told.answers clean tt (tables g.P.Versioned.version s).desk it.desk) ∙ picks_idle g.P.Versioned.version s sound in
+    c.in_ok-idle.ensures ∙ ap decided.reshelved_containers (c.deref.ensures.value ∙ told.answers clean tt (tables g.P.Versioned.version s).desk it.desk) ∙ picks_idle g.P.Versioned.version s sound in
     let none : is_empty (idle s) ≡ true = ap is_empty (sym is) ∙ ap is_empty (sym c.deref-2.ensures.value) ∙ sym c.are_none.ensures ∙ c.if-are_none.true in
     nothing_idle g.P.Versioned.version s sound g.P.Places.represents b.now none)
 
@@ -26,6 +27,6 @@ returns g c =
     does_then told.looks c.shelve.ensures
     (λ clean s sound so it.
     let is : c.in_ok-idle.idle.items ≡ idle s =
-    c.in_ok-idle.ensures ∙ ap decided.reshelved (c.deref.ensures.value ∙ told.answers clean tt (tables g.P.Versioned.version s).desk it.desk) ∙ picks_idle g.P.Versioned.version s sound in
+    c.in_ok-idle.ensures ∙ ap decided.reshelved_containers (c.deref.ensures.value ∙ told.answers clean tt (tables g.P.Versioned.version s).desk it.desk) ∙ picks_idle g.P.Versioned.version s sound in
     let some : is_empty (idle s) ≡ false = ap is_empty (sym is) ∙ ap is_empty (sym c.deref-2.ensures.value) ∙ sym c.are_none.ensures ∙ c.if-are_none.false in
     (is, some))

@@ -1,7 +1,8 @@
 use Rattle.std.proofs.Common.{ℕ, List, Ok, sym, subst, ◌∙◌}
 use Rattle.office_core.specs.declared.command.Command.TheVariants as command
 use Rattle.office_core.specs.declared.done.Done.TheVariants as done
-use Rattle.desk_commands.proofs.Common.{AllByRecursion, CarriesOutStep, IsNumber, RepresentsDesk, Shelf, desk_legible, does_pass, state, tables, with_all_placed}
+use Rattle.desk_commands.proofs.Common.{AllByRecursion, CarriesOutStep, IsNumber, RepresentsDesk, Shelf, desk_legible}
+use Rattle.desk_commands.proofs.Common.{does_pass, state, tables, with_all_placed}
 use Rattle.desk_commands.proofs.Reshelved.{reshelves, small_idle}
 use Rattle.desk_commands.proofs.shelf_return.shelve.Goals as goal
 

@@ -1,5 +1,6 @@
 use Rattle.std.proofs.Common.{◌≡◌, ◌++◌, map, take, rules, ap, ◌∙◌, Bor}
-use Rattle.desk_core.proofs.Common.{Candidate, answers_always, flat_map, is_lt, ranks_by, shelf_order, slip_head, slip_line}
+use Rattle.desk_core.proofs.Common.{Candidate, answers_always, flat_map, is_lt, ranks_by, shelf_order, slip_head}
+use Rattle.desk_core.proofs.Common.{slip_line}
 use Rattle.desk_core.proofs.SlipLemmas.{lines-of_lent, shelf_order-ranks}
 use Rattle.desk_core.proofs.slip.slip_text.Goals as goal
 

@@ -1,7 +1,8 @@
 use Rattle.std.proofs.Common.{List, map, refl, ap, ◌∙◌}
 use Rattle.desk_store.specs.declared.container_orders.ContainerOrder.{ContainerOrder}
 use Rattle.office_core.specs.declared.query.Query.TheVariants as query
-use Rattle.desk_queries.proofs.Common.{Json, answers_by, compact_text, desk_answers_passed, list, loan_data, no_float, state, tables}
+use Rattle.desk_queries.proofs.Common.{Json, answers_by, compact_text, desk_answers_passed, list, loan_data, no_float}
+use Rattle.desk_queries.proofs.Common.{state, tables}
 use Rattle.desk_queries.proofs.IssuedTold.{issued_told}
 use Rattle.desk_queries.proofs.loans.issued_now.Goals as goal
 

@@ -1,10 +1,11 @@
 use Rattle.std.proofs.Common.{List, map, refl, sym, ap, ◌∙◌}
+use Rattle.office_tables.proofs.Calls.{early, looks_then}
 use Rattle.desk_store.specs.declared.reader_permits.Permit.{Permit}
 use Rattle.office_core.specs.declared.query.Query.TheVariants as query
 use Rattle.state_encoding.proofs.LegibleRows.{desk_legible}
-use Rattle.office_tables.proofs.Calls.{early, looks_then}
 use Rattle.refinement.proofs.CardsShown.{known_ticket}
-use Rattle.desk_queries.proofs.Common.{Json, Unknown, UnknownTicket, answers_by, answers_passed_later, compact_text, desk_answers_passed, list, no_float, permit_data, state, still_shown, tables}
+use Rattle.desk_queries.proofs.Common.{Json, Unknown, UnknownTicket, answers_by, answers_passed_later, compact_text}
+use Rattle.desk_queries.proofs.Common.{desk_answers_passed, list, no_float, permit_data, state, still_shown, tables}
 use Rattle.desk_queries.proofs.PermitsTold.{has_ticket, no_ticket, permits_told}
 use Rattle.desk_queries.proofs.permits.reader_permits.Goals as goal
 

@@ -1,8 +1,9 @@
 use Rattle.std.proofs.Common.{Option, sym, ap, ◌∙◌}
+use Rattle.desk_core.proofs.UnknownContainers.{nothing_found}
 use Rattle.desk_store.specs.declared.queues.ContainerQueue.{ContainerQueue}
 use Rattle.office_core.specs.declared.query.Query.TheVariants as query
-use Rattle.desk_core.proofs.UnknownContainers.{nothing_found}
-use Rattle.desk_queries.proofs.Common.{Json, Unknown, UnknownContainer, answers_by, answers_passed, known_json, legible_storage, option_map, queue_data, shows_storage, state, storage_of}
+use Rattle.desk_queries.proofs.Common.{Json, Unknown, UnknownContainer, answers_by, answers_passed, known_json}
+use Rattle.desk_queries.proofs.Common.{legible_storage, option_map, queue_data, shows_storage, state, storage_of}
 use Rattle.desk_queries.proofs.QueueTold.{queue_answer}
 use Rattle.desk_queries.proofs.queues.queue.Goals as goal
 

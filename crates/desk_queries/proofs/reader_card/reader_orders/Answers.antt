@@ -1,7 +1,8 @@
 use Rattle.std.proofs.Common.{Option, sym, ap, ◌∙◌}
 use Rattle.desk_store.specs.declared.reader_summary.ReaderCard.{ReaderCard}
 use Rattle.office_core.specs.declared.query.Query.TheVariants as query
-use Rattle.desk_queries.proofs.Common.{Json, Unknown, UnknownTicket, answers_by, card_data, desk_answers_passed, known_json, option_map, state, tables}
+use Rattle.desk_queries.proofs.Common.{Json, Unknown, UnknownTicket, answers_by, card_data, desk_answers_passed}
+use Rattle.desk_queries.proofs.Common.{known_json, option_map, state, tables}
 use Rattle.desk_queries.proofs.CardTold.{card_answer}
 use Rattle.desk_queries.proofs.reader_card.reader_orders.Goals as goal
 

@@ -1,6 +1,7 @@
 use Rattle.std.proofs.Common.{sym, ap, ◌∙◌}
 use Rattle.office_core.specs.declared.query.Query.TheVariants as query
-use Rattle.desk_queries.proofs.Common.{Text, Unknown, UnknownRun, answers_by, answers_passed, legible_storage, shows_storage, slip, state, storage_of}
+use Rattle.desk_queries.proofs.Common.{Text, Unknown, UnknownRun, answers_by, answers_passed, legible_storage}
+use Rattle.desk_queries.proofs.Common.{shows_storage, slip, state, storage_of}
 use Rattle.desk_queries.proofs.RunTold.{lines_known, run_told, told_slip}
 use Rattle.desk_queries.proofs.slips.run_slip.Goals as goal
 

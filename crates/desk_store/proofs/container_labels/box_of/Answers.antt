@@ -4,10 +4,12 @@ pub returns : goal.returns
 returns g c =
     record {
       answers = record {
-        answers = λ clean beside s shown. c.find_box.ensures.answers clean s.containers shown.containers shown.numbers;
-        looks = c.find_box.ensures.reads.looks;
-        aborts = c.find_box.ensures.reads.aborts;
+        call = record {
+          answers = λ clean beside s shown. c.find_box.ensures.answers clean s.containers shown.containers shown.numbers;
+          looks = c.find_box.ensures.reads.looks;
+          aborts = c.find_box.ensures.reads.aborts;
+          faults = λ beside s shown may kept. c.find_box.ensures.faults s.containers shown.containers kept.containers;
+        };
         spares = c.find_box.ensures.reads.spares;
-        faults = λ beside s shown may kept. c.find_box.ensures.faults s.containers shown.containers kept.containers;
       };
     }

@@ -1,5 +1,6 @@
 use Rattle.std.proofs.Common.{◌≡◌, ℕ, ◌<◌, zero, suc, get_or, List, [], ◌∷◌, ◌++◌, length, refl, ap, ◌∙◌, arith}
-use Rattle.desk_store.proofs.Common.{IsLegible, Memory, RepresentsDeskAlone, early, list_any, looks_then, same_fault, state, waits_for, ⊤}
+use Rattle.desk_store.proofs.Common.{IsLegible, Memory, RepresentsDeskAlone, early, list_any, looks_then, same_fault}
+use Rattle.desk_store.proofs.Common.{state, waits_for, ⊤}
 use Rattle.desk_store.proofs.ReshelvingCalls.{told_more, told_whole}
 use Rattle.desk_store.proofs.desk_containers.at_desk.Goals as goal
 use Rattle.desk_store.proofs.ToldCalls.{shown_on}

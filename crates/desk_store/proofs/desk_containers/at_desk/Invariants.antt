@@ -1,5 +1,6 @@
 use Rattle.std.proofs.Common.{◌≡◌, map, filter, nat_eq, take}
-use Rattle.desk_store.proofs.Common.{Desk, HasCleanDisk, HoldingRow, LeavesUnchanged, RepresentsDesk, list_any, state, waits_for}
+use Rattle.desk_store.proofs.Common.{Desk, HasCleanDisk, HoldingRow, LeavesUnchanged, RepresentsDesk, list_any, state}
+use Rattle.desk_store.proofs.Common.{waits_for}
 use Rattle.desk_store.proofs.desk_containers.at_desk.Given as goal
 
 abbrev pub invariant-loop-container : goal.invariant-loop-container

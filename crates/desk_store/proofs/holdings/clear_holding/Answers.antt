@@ -1,6 +1,7 @@
 use Rattle.std.proofs.Common.{refl}
 use Rattle.desk_store.proofs.Common.{thins}
-use Rattle.desk_store.proofs.HoldingWrites.{clear_holding_command, clear_holding_means, clear_holding_leaves, clear_holding_only, clear_holding_faults}
+use Rattle.desk_store.proofs.HoldingWrites.{clear_holding_command, clear_holding_means, clear_holding_leaves}
+use Rattle.desk_store.proofs.HoldingWrites.{clear_holding_only, clear_holding_faults}
 use Rattle.desk_store.proofs.holdings.clear_holding.Goals as goal
 
 pub change-requires : goal.change-requires

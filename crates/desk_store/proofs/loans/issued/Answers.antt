@@ -1,5 +1,6 @@
 use Rattle.std.proofs.Common.{Some, None, ap, sym, ◌∙◌}
-use Rattle.desk_store.proofs.Common.{HoldingLine, IsLegible, Memory, RepresentsDeskAlone, append-nil, early, loan_by, looks_then, same_fault, state, ⊤}
+use Rattle.desk_store.proofs.Common.{HoldingLine, IsLegible, Memory, RepresentsDeskAlone, append-nil, early, loan_by}
+use Rattle.desk_store.proofs.Common.{looks_then, same_fault, state, ⊤}
 use Rattle.desk_store.proofs.LoanCalls.{loans_more, loans_whole}
 use Rattle.desk_store.proofs.loans.issued.Goals.{in-Some+in_ok-push, in_default}
 use Rattle.desk_store.proofs.loans.issued.Goals as goal

@@ -1,5 +1,6 @@
 use Rattle.std.proofs.Common.{◌≡◌, map, take}
-use Rattle.desk_store.proofs.Common.{Desk, HasCleanDisk, HoldingLine, LeavesUnchanged, RepresentsDesk, filter_map, loan_by, state}
+use Rattle.desk_store.proofs.Common.{Desk, HasCleanDisk, HoldingLine, LeavesUnchanged, RepresentsDesk, filter_map}
+use Rattle.desk_store.proofs.Common.{loan_by, state}
 use Rattle.desk_store.proofs.LoanRows.{line_of}
 use Rattle.desk_store.proofs.loans.issued.Given as goal
 

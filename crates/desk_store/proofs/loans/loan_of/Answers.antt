@@ -1,5 +1,6 @@
 use Rattle.std.proofs.Common.{None, sym, ap, ◌∙◌}
-use Rattle.desk_store.proofs.Common.{ContainerOrder, IsLegible, RepresentsDeskAlone, loan_by, looks_nowhere, option_map, same_fault, state, ⊤}
+use Rattle.desk_store.proofs.Common.{ContainerOrder, IsLegible, RepresentsDeskAlone, loan_by, looks_nowhere, option_map}
+use Rattle.desk_store.proofs.Common.{same_fault, state, ⊤}
 use Rattle.desk_store.proofs.loans.loan_of.Goals as goal
 use Rattle.desk_store.proofs.TellingCalls.{ends_not, ends_well}
 

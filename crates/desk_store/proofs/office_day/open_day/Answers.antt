@@ -1,6 +1,6 @@
 use Rattle.std.proofs.Common.{Result, [], ◌∷◌, sym, subst}
 use Rattle.office_tables.specs.Schema as tables
-use Rattle.desk_store.specs.OfficeDay.{RepresentsBoth, IsLegibleHouse, opened}
+use Rattle.desk_store.specs.OfficeDay.{RepresentsBoth, IsLegibleHouse, opened_house}
 use Rattle.desk_store.proofs.Common.{StoreFault, StoreUpdates, same_fault, ⊤}
 use Rattle.desk_store.proofs.OpeningCalls.{not_freed, opens}
 use Rattle.desk_store.proofs.office_day.open_day.Goals as goal
@@ -10,7 +10,7 @@ returns-in_err-free_seats g c =
     let whole = not_freed g.S.Store c.args.tables.now c.free_seats.new.tables c.args.on c.in_err-free_seats.field-0.0 c.in_err-free_seats.ensures.leaves c.in_err-free_seats.ensures.faults in
     let e = c.from_residual.ensures in
     record {
-      updates = subst (λ (r : Result Unit StoreFault). StoreUpdates g.S.Store RepresentsBoth IsLegibleHouse c.args.tables.now c.free_seats.new.tables r (λ _. ⊤) (opened c.args.on) (tables.seat.tree ∷ tables.office.tree ∷ []))
+      updates = subst (λ (r : Result Unit StoreFault). StoreUpdates g.S.Store (tables.seat.tree ∷ tables.office.tree ∷ []) RepresentsBoth c.args.tables.now c.free_seats.new.tables r (λ _. ⊤) IsLegibleHouse (opened_house c.args.on))
           (sym (same_fault c.from_residual.result c.in_err-free_seats.field-0.0 e.0 e.1)) whole;
     }
 

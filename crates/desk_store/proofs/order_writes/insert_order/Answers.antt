@@ -1,6 +1,7 @@
 use Rattle.std.proofs.Common.{refl}
 use Rattle.desk_store.proofs.Common.{puts_row}
-use Rattle.desk_store.proofs.OrderWrites.{insert_order_command, insert_order_means, insert_order_puts, insert_order_faults}
+use Rattle.desk_store.proofs.OrderWrites.{insert_order_command, insert_order_means, insert_order_puts}
+use Rattle.desk_store.proofs.OrderWrites.{insert_order_faults}
 use Rattle.desk_store.proofs.order_writes.insert_order.Goals as goal
 
 pub change-requires : goal.change-requires

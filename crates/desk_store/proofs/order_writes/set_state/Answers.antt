@@ -1,6 +1,7 @@
 use Rattle.std.proofs.Common.{refl}
 use Rattle.desk_store.proofs.Common.{changes}
-use Rattle.desk_store.proofs.OrderWrites.{set_state_command, set_state_means, set_state_leaves, set_state_only, set_state_faults}
+use Rattle.desk_store.proofs.OrderWrites.{set_state_command, set_state_means, set_state_leaves, set_state_only}
+use Rattle.desk_store.proofs.OrderWrites.{set_state_faults}
 use Rattle.desk_store.proofs.order_writes.set_state.Goals as goal
 
 pub change-requires : goal.change-requires

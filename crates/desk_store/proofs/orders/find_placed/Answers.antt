@@ -1,5 +1,6 @@
 use Rattle.std.proofs.Common.{◌≡◌, true, false, nat_eq, None, sym, subst, ◌∙◌}
-use Rattle.desk_store.proofs.Common.{Database, IsLegible, OrderRow, RepresentsDesk, RepresentsDeskAlone, cut_after, looks_nowhere, order_with, same_fault, spares_own, state, ⊤}
+use Rattle.desk_store.proofs.Common.{Database, IsLegible, OrderRow, RepresentsDesk, RepresentsDeskAlone, cut_after}
+use Rattle.desk_store.proofs.Common.{looks_nowhere, order_with, same_fault, spares_own, state, ⊤}
 use Rattle.desk_store.proofs.OrderReads.{told_none, told_there, legible_there}
 use Rattle.desk_store.proofs.orders.find_placed.Goals as goal
 use Rattle.desk_store.proofs.TellingCalls.{ends_not, ends_well}

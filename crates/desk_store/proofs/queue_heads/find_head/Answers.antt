@@ -1,5 +1,6 @@
 use Rattle.std.proofs.Common.{None, refl, sym, ◌∙◌}
-use Rattle.desk_store.proofs.Common.{IsLegibleStorage, RepresentsQueues, container_with, early, first_shown, looks_nowhere, looks_then, queue_of, same_fault, state, waits_for, ⊤}
+use Rattle.desk_store.proofs.Common.{IsLegibleStorage, RepresentsQueues, container_with, early, first_shown}
+use Rattle.desk_store.proofs.Common.{looks_nowhere, looks_then, queue_of, same_fault, state, waits_for, ⊤}
 use Rattle.desk_store.proofs.QueueCalls.{unknown_head, known_head}
 use Rattle.desk_store.proofs.ToldCalls.{shown_on}
 use Rattle.desk_store.proofs.TellingCalls.{ends_not, ends_well}

@@ -1,5 +1,6 @@
 use Rattle.std.proofs.Common.{None, refl, ap, arith}
-use Rattle.desk_store.proofs.Common.{IsLegibleStorage, RepresentsQueues, container_with, is_some, looks_nowhere, state, ⊤}
+use Rattle.desk_store.proofs.Common.{IsLegibleStorage, RepresentsQueues, container_with, is_some, looks_nowhere, state}
+use Rattle.desk_store.proofs.Common.{⊤}
 use Rattle.desk_store.proofs.BoxRows.{Numbered}
 use Rattle.desk_store.proofs.CardCalls.{unknown}
 use Rattle.desk_store.proofs.QueueCalls.{unknown_head}

@@ -1,5 +1,6 @@
 use Rattle.std.proofs.Common.{None, sym, ◌∙◌}
-use Rattle.desk_store.proofs.Common.{IsLegibleStorage, RepresentsQueues, container_with, early, looks_nowhere, looks_then, same_fault, state, ⊤}
+use Rattle.desk_store.proofs.Common.{IsLegibleStorage, RepresentsQueues, container_with, early, looks_nowhere}
+use Rattle.desk_store.proofs.Common.{looks_then, same_fault, state, ⊤}
 use Rattle.desk_store.proofs.QueueCalls.{unknown_queue, known_queue}
 use Rattle.desk_store.proofs.ToldCalls.{shown_on}
 use Rattle.desk_store.proofs.TellingCalls.{ends_not, ends_well}

@@ -1,6 +1,7 @@
 use Rattle.std.proofs.Common.{sym, ◌∙◌}
 use Rattle.std.specs.Prelude.{nat_eq}
-use Rattle.desk_store.proofs.Common.{HoldingRow, IfOk-weaker, IsLegible, RepresentsDeskAlone, cut_looks, holding_of, on_ok_from, own_last, state, ⊤}
+use Rattle.desk_store.proofs.Common.{HoldingRow, IfOk-weaker, IsLegible, RepresentsDeskAlone, cut_looks, holding_of}
+use Rattle.desk_store.proofs.Common.{on_ok_from, own_last, state, ⊤}
 use Rattle.desk_store.proofs.PlaceRows.{at_entry, at_shelf, legible_place}
 use Rattle.desk_store.proofs.ToldCalls.{never_fails}
 use Rattle.desk_store.proofs.TellingCalls.{ends_well}
@@ -14,15 +15,17 @@ returns-in-Some g c =
     let entry = c.in-Some.entry in
     record {
       answers = record {
-        answers = λ clean beside d shown.
-            let there = c.in_ok-entry.ensures.answers clean d.holdings shown.holdings shown.holdings_rise in
-            IfOk-weaker c.place.result _ _ (λ place at. at_entry (holding_of c.args.container d) entry place (sym there ∙ c.in-Some.is) at) c.place.ensures.place;
-        looks = on_ok_from c.place.result _ looked;
-        aborts = cut_looks c.place.result a b looked;
+        call = record {
+          answers = λ clean beside d shown.
+              let there = c.in_ok-entry.ensures.answers clean d.holdings shown.holdings shown.holdings_rise in
+              IfOk-weaker c.place.result _ _ (λ place at. at_entry (holding_of c.args.container d) entry place (sym there ∙ c.in-Some.is) at) c.place.ensures.place;
+          looks = on_ok_from c.place.result _ looked;
+          aborts = cut_looks c.place.result a b looked;
+          faults = λ beside d shown may kept clean free.
+              let there = c.in_ok-entry.ensures.answers clean d.holdings shown.holdings shown.holdings_rise in
+              never_fails c.place.result _ (c.place.ensures.known (legible_place (λ (h : HoldingRow). nat_eq c.args.container h.container) d.holdings kept.holdings entry (sym there ∙ c.in-Some.is)));
+        };
         spares = own_last a b looked c.place.result c.place.ensures.fair;
-        faults = λ beside d shown may kept clean free.
-            let there = c.in_ok-entry.ensures.answers clean d.holdings shown.holdings shown.holdings_rise in
-            never_fails c.place.result _ (c.place.ensures.known (legible_place (λ (h : HoldingRow). nat_eq c.args.container h.container) d.holdings kept.holdings entry (sym there ∙ c.in-Some.is)));
       };
     }
 

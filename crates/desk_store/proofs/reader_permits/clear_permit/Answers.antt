@@ -1,6 +1,7 @@
 use Rattle.std.proofs.Common.{refl}
 use Rattle.desk_store.proofs.Common.{thins_numbered}
-use Rattle.desk_store.proofs.PermitRows.{clear_permit_command, clear_permit_means, clear_permit_leaves, clear_permit_only, clear_permit_faults}
+use Rattle.desk_store.proofs.PermitRows.{clear_permit_command, clear_permit_means, clear_permit_leaves}
+use Rattle.desk_store.proofs.PermitRows.{clear_permit_only, clear_permit_faults}
 use Rattle.desk_store.proofs.reader_permits.clear_permit.Goals as goal
 
 pub change-requires : goal.change-requires

@@ -1,6 +1,7 @@
 use Rattle.std.proofs.Common.{Result, [], ◌∷◌, sym, subst}
 use Rattle.office_tables.specs.Schema as tables
-use Rattle.desk_store.proofs.Common.{IsLegible, MayHave, RepresentsDeskAlone, StoreFault, StoreUpdates, same_fault, state, with_permit}
+use Rattle.desk_store.proofs.Common.{IsLegible, MayHave, RepresentsDeskAlone, StoreFault, StoreUpdates}
+use Rattle.desk_store.proofs.Common.{desk_with_permit, same_fault, state}
 use Rattle.desk_store.proofs.PermitCalls.{not_cleared, grants, rows_granted}
 use Rattle.desk_store.proofs.reader_permits.grant.Goals as goal
 
@@ -9,7 +10,7 @@ returns-in_err-clear_permit-clause-updates g c =
     let old = state g.S.Store c.args.tables.now in
     let whole = not_cleared g.S.Store c.args.tables.now c.clear_permit.new.tables c.clear_permit.new.tables c.args.ticket c.args.unit c.args.until c.in_err-clear_permit.field-0.0 c.in_err-clear_permit.ensures in
     let e = c.from_residual.ensures in
-    subst (λ (r : Result Unit StoreFault). StoreUpdates g.S.Store RepresentsDeskAlone IsLegible c.args.tables.now c.clear_permit.new.tables r (MayHave c.args.ticket c.args.unit old.now.trees) (with_permit c.args.ticket c.args.unit c.args.until) (tables.permit.tree ∷ []))
+    subst (λ (r : Result Unit StoreFault). StoreUpdates g.S.Store (tables.permit.tree ∷ []) RepresentsDeskAlone c.args.tables.now c.clear_permit.new.tables r (MayHave c.args.ticket c.args.unit old.now.trees) IsLegible (desk_with_permit c.args.ticket c.args.unit c.args.until))
     (sym (same_fault c.from_residual.result c.in_err-clear_permit.field-0.0 e.0 e.1)) whole
 
 pub returns : goal.returns

@@ -1,6 +1,7 @@
 use Rattle.std.proofs.Common.{refl}
 use Rattle.desk_store.proofs.Common.{PermitRow, puts_numbered}
-use Rattle.desk_store.proofs.PermitRows.{insert_permit_command, insert_permit_means, insert_permit_puts, insert_permit_faults}
+use Rattle.desk_store.proofs.PermitRows.{insert_permit_command, insert_permit_means, insert_permit_puts}
+use Rattle.desk_store.proofs.PermitRows.{insert_permit_faults}
 use Rattle.desk_store.proofs.reader_permits.insert_permit.Goals as goal
 
 pub change-requires : goal.change-requires

@@ -1,5 +1,6 @@
 use Rattle.std.proofs.Common.{None, refl, ap, sym, ◌∙◌}
-use Rattle.desk_store.proofs.Common.{IsLegible, RepresentsDeskAlone, early, looks_then, option_map, same_fault, state, ⊤}
+use Rattle.desk_store.proofs.Common.{IsLegible, RepresentsDeskAlone, early, looks_then, option_map, same_fault, state}
+use Rattle.desk_store.proofs.Common.{⊤}
 use Rattle.desk_store.proofs.CardCalls.{seat_told, card_with, card_told}
 use Rattle.desk_store.proofs.reader_summary.find_card.Goals as goal
 use Rattle.desk_store.proofs.ToldCalls.{shown_on}

@@ -1,6 +1,7 @@
 use Rattle.std.proofs.Common.{◌<◌, ◌^◌, List, length, map, filter, nat_eq, ◌&&◌, refl, ap, sym, subst, ◌∙◌}
 use Rattle.desk_store.specs.declared.reader_summary.LiveOrder.{LiveOrder}
-use Rattle.desk_store.proofs.Common.{IsLegible, OrderLine, OrderRow, RepresentsDeskAlone, count_by, early, is_live, looks_then, map-map, same_fault, state, ⊤}
+use Rattle.desk_store.proofs.Common.{IsLegible, OrderLine, OrderRow, RepresentsDeskAlone, count_by, early}
+use Rattle.desk_store.proofs.Common.{has_not_ended, looks_then, map-map, same_fault, state, ⊤}
 use Rattle.desk_store.proofs.CardCalls.{out_of_lines, few_lines}
 use Rattle.desk_store.proofs.CardRows.{line_of}
 use Rattle.desk_store.proofs.reader_summary.orders_of.Goals as goal
@@ -35,7 +36,7 @@ returns g c =
           let shown_p = shown_on RepresentsDeskAlone a p two at_p d shown in
           let lines = c.in_ok-lines.ensures.answers at_b d.orders shown.orders shown.order_numbers in
           let told = λ (o : OrderLine). (let x : LiveOrder = record { order = o.order; container = o.container; is_out = nat_eq o.state 2 } in x) in
-          let live = c.in_ok-live.ensures ∙ ap (map told) (c.deref.ensures.value ∙ lines) ∙ map-map told line_of (filter (λ (o : OrderRow). nat_eq c.args.ticket o.ticket && is_live o) d.orders) in
+          let live = c.in_ok-live.ensures ∙ ap (map told) (c.deref.ensures.value ∙ lines) ∙ map-map told line_of (filter (λ (o : OrderRow). nat_eq c.args.ticket o.ticket && has_not_ended o) d.orders) in
           let read = c.deref-2.ensures.value ∙ lines in
           let few = subst (λ (l : List OrderLine). length l < 2 ^ 32) (sym read) (few_lines c.args.ticket d shown.few_orders) in
           let held = c.count_out-held.ensures few ∙ ap (count_by (λ (l : OrderLine). nat_eq l.state 2)) read ∙ out_of_lines c.args.ticket d.orders in

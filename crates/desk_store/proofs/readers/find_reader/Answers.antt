@@ -1,6 +1,8 @@
 use Rattle.std.proofs.Common.{Ok, [], map, filter, nat_eq, ap, ◌∙◌}
-use Rattle.desk_store.proofs.Common.{IfOk-weaker, ReaderRow, ascending-filter, counted_rises, first_shown, looks_up, only_order}
-use Rattle.desk_store.proofs.ReaderRows.{find_reader_command, find_reader_means, find_reader_finds, find_reader_faults, named, by_ticket, by_ticket_total}
+use Rattle.desk_store.proofs.Common.{IfOk-weaker, ReaderRow, ascending-filter, counted_rises, first_shown, looks_up}
+use Rattle.desk_store.proofs.Common.{only_order}
+use Rattle.desk_store.proofs.ReaderRows.{find_reader_command, find_reader_means, find_reader_finds, find_reader_faults}
+use Rattle.desk_store.proofs.ReaderRows.{named, by_ticket, by_ticket_total}
 use Rattle.desk_store.proofs.readers.find_reader.Goals as goal
 
 pub find_one-requires : goal.find_one-requires

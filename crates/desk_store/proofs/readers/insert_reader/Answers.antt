@@ -1,6 +1,7 @@
 use Rattle.std.proofs.Common.{refl}
 use Rattle.desk_store.proofs.Common.{puts_row}
-use Rattle.desk_store.proofs.ReaderRows.{insert_reader_command, insert_reader_means, insert_reader_puts, insert_reader_faults}
+use Rattle.desk_store.proofs.ReaderRows.{insert_reader_command, insert_reader_means, insert_reader_puts}
+use Rattle.desk_store.proofs.ReaderRows.{insert_reader_faults}
 use Rattle.desk_store.proofs.readers.insert_reader.Goals as goal
 
 pub change-requires : goal.change-requires

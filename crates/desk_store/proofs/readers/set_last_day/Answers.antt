@@ -1,6 +1,7 @@
 use Rattle.std.proofs.Common.{refl}
 use Rattle.desk_store.proofs.Common.{changes}
-use Rattle.desk_store.proofs.ReaderRows.{set_last_day_command, set_last_day_means, set_last_day_leaves, set_last_day_only, set_last_day_faults}
+use Rattle.desk_store.proofs.ReaderRows.{set_last_day_command, set_last_day_means, set_last_day_leaves}
+use Rattle.desk_store.proofs.ReaderRows.{set_last_day_only, set_last_day_faults}
 use Rattle.desk_store.proofs.readers.set_last_day.Goals as goal
 
 pub change-requires : goal.change-requires

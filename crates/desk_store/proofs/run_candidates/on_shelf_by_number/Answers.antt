@@ -1,5 +1,6 @@
 use Rattle.std.proofs.Common.{◌≡◌, cond, [], ◌∷◌, ◌++◌, get_or, sym, ap, ◌∙◌, arith, rules}
-use Rattle.desk_store.proofs.Common.{ContainerOrder, IsLegible, Memory, RepresentsDeskAlone, append-nil, early, is_on_shelf, looks_nowhere, looks_then, on_shelf, same_fault, state, take_all, ⊤}
+use Rattle.desk_store.proofs.Common.{ContainerOrder, IsLegible, Memory, RepresentsDeskAlone, append-nil, early}
+use Rattle.desk_store.proofs.Common.{is_on_shelf, looks_nowhere, looks_then, on_shelf, same_fault, state, take_all, ⊤}
 use Rattle.desk_store.proofs.PickingCalls.{is_shelf, shelf_is}
 use Rattle.desk_store.proofs.PickingLists.{kept_more}
 use Rattle.desk_store.proofs.TellingCalls.{ends_full, ends_not, ends_well}

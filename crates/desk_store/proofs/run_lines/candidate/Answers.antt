@@ -1,5 +1,6 @@
 use Rattle.std.proofs.Common.{◌≡◌, Some, None, sym, ap, ◌∙◌, refl}
-use Rattle.desk_store.proofs.Common.{IsKnownLine, IsLegibleStorage, RepresentsQueues, container_with, cut_after, looks_nowhere, option_map, same_fault, spares_known, state}
+use Rattle.desk_store.proofs.Common.{IsKnownLine, IsLegibleStorage, RepresentsQueues, container_with, cut_after}
+use Rattle.desk_store.proofs.Common.{looks_nowhere, option_map, same_fault, spares_known, state}
 use Rattle.desk_store.proofs.BoxRows.{Numbered}
 use Rattle.desk_store.proofs.BroughtRows.{line_told}
 use Rattle.desk_store.proofs.TellingCalls.{ends_not, ends_well}
@@ -20,12 +21,14 @@ returns-in_default g c =
     let b = state g.S.Store c.box_of.new.tables in
     record {
       answers = record {
-        answers = λ clean beside s shown. tt;
-        looks = tt;
-        aborts = cut_after a b c.in_ok-written.ensures.answers.looks.goes.on;
+        call = record {
+          answers = λ clean beside s shown. tt;
+          looks = tt;
+          aborts = cut_after a b c.in_ok-written.ensures.answers.looks.goes.on;
+          faults = λ beside s shown may kept clean free.
+              absurd (let none : option_map (λ (b : Numbered). b.1) (Some may.0) ≡ None = ap (option_map (λ (b : Numbered). b.1)) (sym may.1) ∙ sym (c.in_ok-written.ensures.answers.answers clean tt s shown) ∙ c.in_default.is in cc);
+        };
         spares = spares_known a b c.in_ok-written.ensures.answers.looks;
-        faults = λ beside s shown may kept clean free.
-            absurd (let none : option_map (λ (b : Numbered). b.1) (Some may.0) ≡ None = ap (option_map (λ (b : Numbered). b.1)) (sym may.1) ∙ sym (c.in_ok-written.ensures.answers.answers clean tt s shown) ∙ c.in_default.is in cc);
       };
     }
 

@@ -1,7 +1,9 @@
 use Rattle.std.proofs.Common.{take, ◌+◌, ◌++◌, [], ◌∷◌, sym, subst}
 use Rattle.std.specs.Prelude.{get_or, List}
 use Rattle.desk_core.specs.declared.run.Candidate.{Candidate}
-use Rattle.desk_store.proofs.Common.{AllByRecursion, AllZip, ContainerOrder, IsKnownLine, IsLegibleStorage, IsToldLine, Memory, RepresentsQueues, Storage, all_has, early, has_at, looks_then, same_fault, state, take_more}
+use Rattle.desk_store.proofs.Common.{AllByRecursion, AllZip, ContainerOrder, IsKnownLine, IsLegibleStorage, IsToldLine}
+use Rattle.desk_store.proofs.Common.{Memory, RepresentsQueues, Storage, all_has, early, has_at, looks_then, same_fault}
+use Rattle.desk_store.proofs.Common.{state, take_more}
 use Rattle.desk_store.proofs.BroughtRows.{zip_more}
 use Rattle.desk_store.proofs.ToldCalls.{shown_on}
 use Rattle.desk_store.proofs.TellingCalls.{ends_not, ends_full}

@@ -1,5 +1,6 @@
 use Rattle.std.proofs.Common.{take}
-use Rattle.desk_store.proofs.Common.{AllZip, HasCleanDisk, IsToldLine, LeavesUnchanged, RepresentsQueues, Storage, state}
+use Rattle.desk_store.proofs.Common.{AllZip, HasCleanDisk, IsToldLine, LeavesUnchanged, RepresentsQueues, Storage}
+use Rattle.desk_store.proofs.Common.{state}
 use Rattle.desk_store.proofs.run_lines.candidates_of.Given as goal
 
 abbrev pub invariant-loop-line : goal.invariant-loop-line

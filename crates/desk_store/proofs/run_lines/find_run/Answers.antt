@@ -1,5 +1,6 @@
 use Rattle.std.proofs.Common.{None, refl, sym, ◌∙◌}
-use Rattle.desk_store.proofs.Common.{AreKnown, IsLegibleStorage, RepresentsQueues, early, looks_then, run_with, same_fault, state}
+use Rattle.desk_store.proofs.Common.{AreKnown, IsLegibleStorage, RepresentsQueues, early, looks_then, run_with}
+use Rattle.desk_store.proofs.Common.{same_fault, state}
 use Rattle.desk_store.proofs.BroughtCalls.{none_told, run_told, known_lines}
 use Rattle.desk_store.proofs.ToldCalls.{shown_on, shown_back}
 use Rattle.desk_store.proofs.TellingCalls.{ends_not, ends_well}

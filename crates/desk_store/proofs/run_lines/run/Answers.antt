@@ -1,5 +1,6 @@
 use Rattle.std.proofs.Common.{None, refl, sym, subst, arith}
-use Rattle.desk_store.proofs.Common.{AreKnown, IsLegibleStorage, IsToldRun, RepresentsQueues, RunRow, looks_nowhere, state}
+use Rattle.desk_store.proofs.Common.{AreKnown, IsLegibleStorage, IsToldRun, RepresentsQueues, RunRow, looks_nowhere}
+use Rattle.desk_store.proofs.Common.{state}
 use Rattle.desk_store.proofs.CardCalls.{unknown}
 use Rattle.desk_store.proofs.TellingCalls.{ends_well}
 use Rattle.desk_store.proofs.run_lines.run.Goals as goal

@@ -1,6 +1,7 @@
 use Rattle.std.proofs.Common.{refl}
 use Rattle.desk_store.proofs.Common.{thins}
-use Rattle.desk_store.proofs.SeatRows.{clear_seat_command, clear_seat_means, clear_seat_leaves, clear_seat_only, clear_seat_faults}
+use Rattle.desk_store.proofs.SeatRows.{clear_seat_command, clear_seat_means, clear_seat_leaves, clear_seat_only}
+use Rattle.desk_store.proofs.SeatRows.{clear_seat_faults}
 use Rattle.desk_store.proofs.taken_seats.clear_seat.Goals as goal
 
 pub change-requires : goal.change-requires

@@ -1,6 +1,7 @@
 use Rattle.std.proofs.Common.{Ok, [], map, filter, nat_eq, ap, ◌∙◌}
 use Rattle.desk_store.proofs.Common.{IfOk-weaker, SeatRow, ascending-filter, first_shown, looks_up, only_order}
-use Rattle.desk_store.proofs.SeatRows.{find_seat_command, find_seat_means, find_seat_finds, find_seat_faults, taken, by_seat, by_seat_total}
+use Rattle.desk_store.proofs.SeatRows.{find_seat_command, find_seat_means, find_seat_finds, find_seat_faults, taken}
+use Rattle.desk_store.proofs.SeatRows.{by_seat, by_seat_total}
 use Rattle.desk_store.proofs.taken_seats.find_seat.Goals as goal
 
 pub find_one-requires : goal.find_one-requires

@@ -1,5 +1,6 @@
 use Rattle.std.proofs.Common.{◌<◌, ◌^◌, length, List, None, refl, ap, sym, subst, ◌∙◌, nat_eq}
-use Rattle.desk_store.proofs.Common.{IsLegible, OrderLine, RepresentsDeskAlone, count_by, early, looks_then, option_map, same_fault, state, ⊤}
+use Rattle.desk_store.proofs.Common.{IsLegible, OrderLine, RepresentsDeskAlone, count_by, early, looks_then, option_map}
+use Rattle.desk_store.proofs.Common.{same_fault, state, ⊤}
 use Rattle.desk_store.proofs.CardCalls.{out_of_lines, few_lines, seat_told, holder_with, holder_told}
 use Rattle.desk_store.proofs.ticket_holders.find_holder.Goals as goal
 use Rattle.desk_store.proofs.ToldCalls.{shown_on}

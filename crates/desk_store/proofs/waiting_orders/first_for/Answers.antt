@@ -1,7 +1,9 @@
 use Rattle.std.proofs.Common.{Ok, List, [], map, filter, take, refl, sym, ap, ◌∙◌}
-use Rattle.desk_store.proofs.Common.{IfOk-weaker, OrderRow, ascending-filter, counted_rises, first_shown, looks_up, only_order, slice_get, take-map, waits_for}
+use Rattle.desk_store.proofs.Common.{IfOk-weaker, OrderRow, ascending-filter, counted_rises, first_shown, looks_up}
+use Rattle.desk_store.proofs.Common.{only_order, slice_get, take-map, waits_for}
 use Rattle.desk_store.proofs.CardRows.{by_order, by_order_total}
-use Rattle.desk_store.proofs.WaitingRows.{first_command, first_means, first_finds, first_faults, first_taken, waiting_of}
+use Rattle.desk_store.proofs.WaitingRows.{first_command, first_means, first_finds, first_faults, first_taken}
+use Rattle.desk_store.proofs.WaitingRows.{waiting_of}
 use Rattle.desk_store.proofs.waiting_orders.first_for.Goals as goal
 
 pub find_one-requires : goal.find_one-requires

@@ -7,10 +7,12 @@ pub returns : goal.returns
 returns g c =
     record {
       answers = record {
-        answers = λ clean beside d shown. ap (nat_lt 0) (c.in_ok-waiting.ensures.answers clean d.orders shown.orders shown.few_orders) ∙ any_counted (waits_for c.args.container) d.orders;
-        looks = c.in_ok-waiting.ensures.reads.looks;
-        aborts = tt;
+        call = record {
+          answers = λ clean beside d shown. ap (nat_lt 0) (c.in_ok-waiting.ensures.answers clean d.orders shown.orders shown.few_orders) ∙ any_counted (waits_for c.args.container) d.orders;
+          looks = c.in_ok-waiting.ensures.reads.looks;
+          aborts = tt;
+          faults = λ beside d shown may kept clean free. tt;
+        };
         spares = λ clean. tt;
-        faults = λ beside d shown may kept clean free. tt;
       };
     }

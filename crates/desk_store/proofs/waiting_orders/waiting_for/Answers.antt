@@ -1,5 +1,6 @@
 use Rattle.std.proofs.Common.{map, filter, ap, ◌∙◌}
-use Rattle.desk_store.proofs.Common.{IfOk-weaker, OrderRow, ascending-filter, counted_rises, looks_up, only_order, waits_for}
+use Rattle.desk_store.proofs.Common.{IfOk-weaker, OrderRow, ascending-filter, counted_rises, looks_up, only_order}
+use Rattle.desk_store.proofs.Common.{waits_for}
 use Rattle.desk_store.proofs.CardRows.{by_order, by_order_total}
 use Rattle.desk_store.proofs.WaitingRows.{waiting_command, waiting_means, waiting_finds, waiting_faults, waiting_of}
 use Rattle.desk_store.proofs.waiting_orders.waiting_for.Goals as goal

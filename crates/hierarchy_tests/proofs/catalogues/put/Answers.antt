@@ -1,10 +1,12 @@
 use Rattle.std.proofs.Common.{refl}
-use Rattle.catalogue_statements.proofs.UnitWrites.{insert_unit_command, insert_unit_means, set_level_command, set_level_means, set_draft_command, set_draft_means, set_until_command, set_until_means}
+use Rattle.catalogue_statements.proofs.ContainerStatements.{insert_container_command, insert_container_means}
+use Rattle.catalogue_statements.proofs.ElementStatements.{insert_element_command, insert_element_means}
+use Rattle.catalogue_statements.proofs.HousingStatements.{insert_housing_command, insert_housing_means}
 use Rattle.catalogue_statements.proofs.UnitDeletes.{remove_unit_command}
 use Rattle.catalogue_statements.proofs.UnitFaults.{remove_unit_means}
-use Rattle.catalogue_statements.proofs.ElementStatements.{insert_element_command, insert_element_means}
-use Rattle.catalogue_statements.proofs.ContainerStatements.{insert_container_command, insert_container_means}
-use Rattle.catalogue_statements.proofs.HousingStatements.{insert_housing_command, insert_housing_means}
+use Rattle.catalogue_statements.proofs.UnitWrites.{insert_unit_command, insert_unit_means, set_level_command}
+use Rattle.catalogue_statements.proofs.UnitWrites.{set_level_means, set_draft_command, set_draft_means}
+use Rattle.catalogue_statements.proofs.UnitWrites.{set_until_command, set_until_means}
 use Rattle.hierarchy_tests.proofs.catalogues.put.Goals as goal
 
 pub change-requires : goal.change-requires

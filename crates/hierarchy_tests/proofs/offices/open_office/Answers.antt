@@ -2,15 +2,15 @@ use Rattle.std.proofs.Common.{ℕ, IsTrue, refl, [], ap, ◌∙◌, Result, Ok, 
 use Rattle.sqlite.specs.Held.{state}
 use Rattle.sqlite.specs.State.{State, HasCleanDisk}
 use Rattle.sqlite.specs.Tree.{Trees}
-use Rattle.office_tables.specs.Schema.{no_schema, desk_schema, desk_tables}
 use Rattle.tree_core.specs.Forest.{Forest}
-use Rattle.office_tables.specs.Versions.{Version}
-use Rattle.office_tables.specs.Creation.{IsMaking}
-use Rattle.office_tables.specs.Step.{InTransaction, Continues}
 use Rattle.catalogue_core.specs.CatalogueMerge.{Catalogue}
+use Rattle.office_tables.proofs.Calls.{early}
+use Rattle.office_tables.specs.Creation.{IsMaking}
+use Rattle.office_tables.specs.Schema.{no_schema, desk_schema, desk_tables}
+use Rattle.office_tables.specs.Step.{InTransaction, Continues}
+use Rattle.office_tables.specs.Versions.{Version}
 use Rattle.catalogue_statements.specs.Representation.{Represents}
 use Rattle.catalogue_statements.specs.declared.office.OfficeRow.{OfficeRow}
-use Rattle.office_tables.proofs.Calls.{early}
 use Rattle.hierarchy_tests.proofs.offices.open_office.Goals as goal
 
 -- a new office has our tables, and its transaction goes on

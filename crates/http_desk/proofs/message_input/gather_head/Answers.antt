@@ -1,10 +1,12 @@
-use Rattle.std.proofs.Common.{◌≡◌, ◌<◌, ◌≤◌, ◌+◌, ◌++◌, [], refl, append-nil, ℕ, List, length, length-append, take, arith, ap, sym, ◌∙◌, subst}
-use Rattle.http_messages.specs.HeadScan.{scan}
+use Rattle.std.proofs.Common.{◌≡◌, ◌<◌, ◌≤◌, ◌+◌, ◌++◌, [], refl, append-nil, ℕ, List, length, length-append, take}
+use Rattle.std.proofs.Common.{arith, ap, sym, ◌∙◌, subst}
 use Rattle.std.specs.Prelude.{◌||◌, Bool}
+use Rattle.http_messages.specs.HeadScan.{scan}
 use Rattle.http_desk.specs.declared.input_buffer.Filled.{Filled}
 use Rattle.http_desk.specs.declared.input_buffer.Filled.TheVariants.{More, AtEnd, Failed}
 use Rattle.http_desk.specs.declared.message_input.FoundHead.TheVariants.{Cut, Bound}
-use Rattle.http_desk.proofs.Common.{Consumes-nil, Lead, Open, QuietFill, fill_failed, longest_head, scan_take_limit, scan_take_open, scan_take_within}
+use Rattle.http_desk.proofs.Common.{Consumes-nil, Lead, Open, QuietFill, fill_failed, longest_head, scan_take_limit}
+use Rattle.http_desk.proofs.Common.{scan_take_open, scan_take_within}
 use Rattle.http_desk.proofs.Fills.{reads_trans}
 use Rattle.http_desk.proofs.Faults.{takes_on}
 use Rattle.http_desk.proofs.Places.{blank_or_cut, led_on}

@@ -1,4 +1,5 @@
-use Rattle.std.proofs.Common.{◌≡◌, ◌++◌, length, refl, sym, ap, ◌∙◌, subst, append-nil, append_assoc, length-append, arith}
+use Rattle.std.proofs.Common.{◌≡◌, ◌++◌, length, refl, sym, ap, ◌∙◌, subst, append-nil, append_assoc, length-append}
+use Rattle.std.proofs.Common.{arith}
 use Rattle.http_desk.proofs.Common.{Appends, Appends-trans}
 use Rattle.http_desk.proofs.Sends.{quiet_all}
 use Rattle.http_desk.proofs.output.gather_or_send.Goals as goal

@@ -1,4 +1,5 @@
-use Rattle.std.proofs.Common.{◌≡◌, ◌<◌, ◌≤◌, ◌+◌, ◌++◌, arith, ap, sym, ◌∙◌, subst, refl, append-nil, length-append, [], length, false}
+use Rattle.std.proofs.Common.{◌≡◌, ◌<◌, ◌≤◌, ◌+◌, ◌++◌, arith, ap, sym, ◌∙◌, subst, refl, append-nil, length-append, []}
+use Rattle.std.proofs.Common.{length, false}
 use Rattle.std.specs.Prelude.{◌||◌}
 use Rattle.http_desk.specs.declared.output.Sent.TheVariants.{Bound}
 use Rattle.http_desk.proofs.Common.{Appends, Appends-trans, IsFront, flat_map, send_failed}

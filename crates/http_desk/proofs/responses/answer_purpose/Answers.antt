@@ -1,7 +1,7 @@
 use Rattle.std.proofs.Common.{subst, sym}
+use Rattle.http_desk.specs.MachineAnswers.{AnswersAs}
 use Rattle.http_desk.specs.declared.requests.Purpose.{Purpose}
 use Rattle.http_desk.specs.declared.requests.Purpose.TheVariants as purpose
-use Rattle.http_desk.specs.MachineAnswers.{AnswersAs}
 use Rattle.http_desk.proofs.Common.{IsNoQuestion, carried_out, meaning_of}
 use Rattle.http_desk.proofs.responses.answer_purpose.Goals as goal
 

@@ -1,7 +1,10 @@
-use Rattle.std.proofs.Common.{◌⊎◌, inl, inr, arith, ℕ, List, [], ◌++◌, append_assoc, take, drop, refl, ap, ◌∙◌, subst, false}
+use Rattle.std.proofs.Common.{◌⊎◌, inl, inr, arith, ℕ, List, [], ◌++◌, append_assoc, take, drop, refl, ap, ◌∙◌, subst}
+use Rattle.std.proofs.Common.{false}
 use Rattle.http_messages.specs.Heads as heads
 use Rattle.http_messages.specs.declared.status.Status.TheVariants.{Busy}
-use Rattle.http_desk.proofs.Common.{Appends-nil, BadRequest, Consumes-trans, Fails, HasHead, HeadCut, IsBlank, IsHeadCut, IsTooLong, Judges, NoHead, Nothing, Refuses, StopsBounded, TakesTurns, Through, Turn, request_in, verdict_in}
+use Rattle.http_desk.proofs.Common.{Appends-nil, BadRequest, Consumes-trans, Fails, HasHead, HeadCut, IsBlank}
+use Rattle.http_desk.proofs.Common.{IsHeadCut, IsTooLong, JudgesHead, NoHead, Nothing, Refuses, StopsBounded}
+use Rattle.http_desk.proofs.Common.{TakesTurns, Through, Turn, request_in, verdict_in}
 use Rattle.http_desk.proofs.Turns.{refused, head_found, may_fail, bound_here, stops_early}
 use Rattle.http_desk.proofs.Endings.{begun, came, came_then, ends_on, ran_out}
 use Rattle.http_desk.proofs.Faults.{takes_on, used_up}
@@ -12,8 +15,8 @@ pub receive-requires-clause-accepted : goal.receive-requires-clause-accepted
 receive-requires-clause-accepted g c =
     let items = c.gather_head.new.buffer.items in
     let (found, within, limit) = c.in-Whole.ensures.found in
-    let j = subst (λ v. Judges (take c.in-Whole.size c.deref.result.now) (verdict_in (take c.in-Whole.size c.deref.result.now) v)) c.in-Accepted.is c.judge.ensures.judged in
-    head_found items c.in-Whole.size _ found within (subst (λ b. Judges (take c.in-Whole.size b) (heads.Accepted (request_in (take c.in-Whole.size b) c.in-Accepted.head))) c.deref.ensures.value j)
+    let j = subst (λ v. JudgesHead (take c.in-Whole.size c.deref.result.now) (verdict_in (take c.in-Whole.size c.deref.result.now) v)) c.in-Accepted.is c.judge.ensures.judged in
+    head_found items c.in-Whole.size _ found within (subst (λ b. JudgesHead (take c.in-Whole.size b) (heads.Accepted (request_in (take c.in-Whole.size b) c.in-Accepted.head))) c.deref.ensures.value j)
 
 pub returns-in-Refused-clause-turn : goal.returns-in-Refused-clause-turn
 returns-in-Refused-clause-turn g c =
@@ -22,8 +25,8 @@ returns-in-Refused-clause-turn g c =
     let (found, within, limit) = c.in-Whole.ensures.found in
     let status = c.in-Refused.status in
     let bare = c.in-Refused.bare in
-    let j = subst (λ v. Judges (take c.in-Whole.size c.deref.result.now) (verdict_in (take c.in-Whole.size c.deref.result.now) v)) c.in-Refused.is c.judge.ensures.judged in
-    let head = head_found items c.in-Whole.size (heads.Refused status bare) found within (subst (λ b. Judges (take c.in-Whole.size b) (heads.Refused status bare)) c.deref.ensures.value j) in
+    let j = subst (λ v. JudgesHead (take c.in-Whole.size c.deref.result.now) (verdict_in (take c.in-Whole.size c.deref.result.now) v)) c.in-Refused.is c.judge.ensures.judged in
+    let head = head_found items c.in-Whole.size (heads.Refused status bare) found within (subst (λ b. JudgesHead (take c.in-Whole.size b) (heads.Refused status bare)) c.deref.ensures.value j) in
     let (written, appended, through) = refused g.M.Machine.represents g.M.Machine.is_intact g.M.Machine.is_open g.M.Machine.recovers c.args.number c.args.office.now c.args.office.now (c.args.buffer.now.items ++ got) [] items (Refuses status bare) bare status _ _ _ c.refuse.ensures.sent
     (subst (λ i. (block more : List ℕ) × HasHead i block (heads.Refused status bare) more) e (take c.in-Whole.size items, drop c.in-Whole.size items, head)) tt (λ s. (refl, refl)) (λ i s h. h) (λ s stays. stays) (λ i s h asked before. inl before) in
     (got, written, consumed, appended, through)
@@ -111,8 +114,8 @@ returns-in-Refused-clause-breaks_off g c = λ bound.
     let (found, within, limit) = c.in-Whole.ensures.found in
     let status = c.in-Refused.status in
     let bare = c.in-Refused.bare in
-    let j = subst (λ v. Judges (take c.in-Whole.size c.deref.result.now) (verdict_in (take c.in-Whole.size c.deref.result.now) v)) c.in-Refused.is c.judge.ensures.judged in
-    let head = head_found items c.in-Whole.size (heads.Refused status bare) found within (subst (λ b. Judges (take c.in-Whole.size b) (heads.Refused status bare)) c.deref.ensures.value j) in
+    let j = subst (λ v. JudgesHead (take c.in-Whole.size c.deref.result.now) (verdict_in (take c.in-Whole.size c.deref.result.now) v)) c.in-Refused.is c.judge.ensures.judged in
+    let head = head_found items c.in-Whole.size (heads.Refused status bare) found within (subst (λ b. JudgesHead (take c.in-Whole.size b) (heads.Refused status bare)) c.deref.ensures.value j) in
     let (written, appended, through) = refused_to_bound g.M.Machine.represents g.M.Machine.is_intact g.M.Machine.is_open g.M.Machine.recovers c.args.number c.args.office.now c.args.office.now (c.args.buffer.now.items ++ got) [] (Refuses status bare) bare status _ _ _ c.refuse.new.writer c.refuse.ensures.sent c.refuse.ensures.used_up
     (subst (λ i. (block more : List ℕ) × HasHead i block (heads.Refused status bare) more) e (take c.in-Whole.size items, drop c.in-Whole.size items, head)) refl (λ s. refl) (λ s. (refl, refl)) (λ i s h. h) bound in
     inr (got, written, consumed, appended, through)

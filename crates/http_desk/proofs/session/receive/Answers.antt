@@ -1,9 +1,11 @@
 use Rattle.std.proofs.Common.{◌<◌, ◌+◌, ◌++◌, length, take, drop, refl, ◌∙◌, subst, inl, inr, arith, false, true}
 use Rattle.http_messages.specs.Answers.{continue_text}
-use Rattle.http_desk.specs.declared.session_end.Ended.TheVariants.{Cut}
 use Rattle.http_messages.specs.declared.status.Status.TheVariants.{Busy}
-use Rattle.http_desk.proofs.Common.{Accepted, Appends-trans, Closed, Ends, Fails, HasHead, ReadFault, StopsBounded, Through, Turn, continue_if, request_in, unwrap_or}
-use Rattle.http_desk.proofs.Turns.{leave_broken, front_same, head_grown, head_more, stops_in_body, bound_here, may_fail_after, refused}
+use Rattle.http_desk.specs.declared.session_end.Ended.TheVariants.{Cut}
+use Rattle.http_desk.proofs.Common.{Accepted, Appends-trans, Closed, Ends, Fails, HasHead, ReadFault, StopsBounded}
+use Rattle.http_desk.proofs.Common.{Through, Turn, continue_if, request_in, unwrap_or}
+use Rattle.http_desk.proofs.Turns.{leave_broken, front_same, head_grown, head_more, stops_in_body, bound_here}
+use Rattle.http_desk.proofs.Turns.{may_fail_after, refused}
 use Rattle.http_desk.proofs.Endings.{allowed, answered, by_writer, came_then, ends_on, ran_out}
 use Rattle.http_desk.proofs.Faults.{closed_no_bound, tells_bound, used_up}
 use Rattle.http_desk.proofs.Bounds.{leave_to_bound, refused_to_bound}

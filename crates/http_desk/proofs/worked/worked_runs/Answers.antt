@@ -1,26 +1,30 @@
 use Rattle.std.proofs.Common.{[], ◌∷◌, ◌++◌, refl, lit<, codes}
+use Rattle.std.proofs.Math.Utf8.{encode}
 use Rattle.std.specs.Fmt.{digits}
 use Rattle.std.specs.Str.{is_utf8, chars}
-use Rattle.std.proofs.Math.Utf8.{encode}
 use Rattle.serde_json.proofs.OnLiterals.{serde_json_on_literals}
 use Rattle.isad_core.specs.Days.{day_text}
-use Rattle.office_core.specs.declared.query.Query.TheVariants as query
 use Rattle.office_core.specs.WorkedExamples.{draft}
-use Rattle.http_desk.proofs.Common.{Means, Puts, ToDo, ToTell, draft_head, draft_request, filled_office, fonds_list, half_a_request, list_request, not_found, one_unit, page_request, register_head, with_draft}
+use Rattle.office_core.specs.declared.query.Query.TheVariants as query
+use Rattle.http_desk.proofs.Common.{HasMeaning, Puts, ToDo, ToTell, draft_head, draft_request, filled_office}
+use Rattle.http_desk.proofs.Common.{fonds_list, half_a_request, list_request, not_found, one_unit, page_request}
+use Rattle.http_desk.proofs.Common.{register_head, with_draft}
 use Rattle.http_desk.proofs.Meanings.{same_answers}
-use Rattle.http_desk.proofs.WorkedHeads.{list_has, page_has, register_has, draft_has, orders_at, two_answered, one_answered}
-use Rattle.http_desk.proofs.WorkedPieces.{list_message, page_message, draft_message, list_told, list_keeps, draft_told, draft_leaves, page_told, page_keeps}
+use Rattle.http_desk.proofs.WorkedHeads.{list_has, page_has, register_has, draft_has, orders_at, two_answered}
+use Rattle.http_desk.proofs.WorkedHeads.{one_answered}
+use Rattle.http_desk.proofs.WorkedPieces.{list_message, page_message, draft_message, list_told, list_keeps, draft_told}
+use Rattle.http_desk.proofs.WorkedPieces.{draft_leaves, page_told, page_keeps}
 use Rattle.http_desk.proofs.worked.worked_runs.Goals as goal
 
-list_means : Means list_message (Puts (ToTell query.Fonds))
+list_means : HasMeaning list_message (Puts (ToTell query.Fonds))
 unfolding is_utf8 chars encode
 list_means s = refl
 
-page_means : Means page_message (Puts (ToTell (query.Page 2)))
+page_means : HasMeaning page_message (Puts (ToTell (query.Page 2)))
 unfolding digits is_utf8 chars encode
 page_means s = refl
 
-draft_means : Means draft_message (Puts (ToDo (draft 2)))
+draft_means : HasMeaning draft_message (Puts (ToDo (draft 2)))
 unfolding is_utf8 chars encode digits day_text serde_json_on_literals
 draft_means s = refl
 

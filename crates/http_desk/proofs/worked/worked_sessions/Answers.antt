@@ -1,7 +1,10 @@
 use Rattle.std.proofs.Common.{[], ◌++◌, refl, lit<, codes}
-use Rattle.http_desk.proofs.Common.{draft_head, draft_request, filled_office, fonds_list, half_a_request, list_request, not_found, one_unit, page_request, register_head, with_draft}
-use Rattle.http_desk.proofs.WorkedHeads.{list_has, page_has, register_has, draft_has, orders_at, two_answered, one_answered}
-use Rattle.http_desk.proofs.WorkedPieces.{list_message, page_message, draft_message, list_told, list_keeps, draft_told, draft_leaves, page_told, page_keeps}
+use Rattle.http_desk.proofs.Common.{draft_head, draft_request, filled_office, fonds_list, half_a_request, list_request}
+use Rattle.http_desk.proofs.Common.{not_found, one_unit, page_request, register_head, with_draft}
+use Rattle.http_desk.proofs.WorkedHeads.{list_has, page_has, register_has, draft_has, orders_at, two_answered}
+use Rattle.http_desk.proofs.WorkedHeads.{one_answered}
+use Rattle.http_desk.proofs.WorkedPieces.{list_message, page_message, draft_message, list_told, list_keeps, draft_told}
+use Rattle.http_desk.proofs.WorkedPieces.{draft_leaves, page_told, page_keeps}
 use Rattle.http_desk.proofs.worked.worked_sessions.Goals as goal
 
 pub returns : goal.returns

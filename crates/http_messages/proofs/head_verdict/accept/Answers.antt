@@ -1,6 +1,7 @@
 use Rattle.std.proofs.Common.{sym, ap, ◌∙◌, Bool}
 use Rattle.std.specs.Prelude.{◌==◌}
-use Rattle.http_messages.proofs.Common.{Accepted, Verdict, asks_close, header_bytes, is_continue_expectation, span_bytes, ◌&&◌, ◌||◌}
+use Rattle.http_messages.proofs.Common.{Accepted, Verdict, asks_close, header_bytes, is_continue_expectation}
+use Rattle.http_messages.proofs.Common.{span_bytes, ◌&&◌, ◌||◌}
 use Rattle.http_messages.proofs.Folds.{list_any_map}
 use Rattle.http_messages.proofs.head_verdict.accept.Goals as goal
 

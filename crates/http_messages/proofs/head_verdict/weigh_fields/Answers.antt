@@ -1,5 +1,6 @@
 use Rattle.std.proofs.Common.{sym, ap, ◌∙◌, map}
-use Rattle.http_messages.proofs.Common.{Field, codes, find, header_bytes, is_named, option_map, span_bytes, weigh_length}
+use Rattle.http_messages.proofs.Common.{Field, codes, find, header_bytes, is_named, option_map, span_bytes}
+use Rattle.http_messages.proofs.Common.{weigh_length}
 use Rattle.http_messages.proofs.Folds.{list_any_map, find_map_list, option_map_map}
 use Rattle.http_messages.proofs.Weighs.{weigh_coded, weigh_on}
 use Rattle.http_messages.proofs.head_verdict.weigh_fields.Goals as goal

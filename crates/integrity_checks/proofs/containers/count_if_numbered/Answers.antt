@@ -2,7 +2,8 @@ use Rattle.std.proofs.Common.{◌≡◌, refl, ap, ◌∙◌, sym, nat_le, ◌&&
 use Rattle.office_tables.specs.Schema as tables
 use Rattle.integrity_checks.proofs.Common.{by_rowid, found_in, in_table, is_excused, is_query, state, then-Equal}
 use Rattle.integrity_checks.proofs.ExaminationEnds.{examined, passes_of}
-use Rattle.integrity_checks.proofs.JudgedContainers.{containers_text, containers_terms, by_id, containers_names, containers_mean, so_many, not_good}
+use Rattle.integrity_checks.proofs.JudgedContainers.{containers_text, containers_terms, by_id, containers_names}
+use Rattle.integrity_checks.proofs.JudgedContainers.{containers_mean, so_many, not_good}
 use Rattle.integrity_checks.proofs.containers.count_if_numbered.Goals as goal
 use Rattle.integrity_checks.proofs.containers.count_if_numbered.Goals.{then-all, else-all}
 

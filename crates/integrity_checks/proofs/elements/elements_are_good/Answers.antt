@@ -2,7 +2,8 @@ use Rattle.std.proofs.Common.{[], refl, ◌∙◌}
 use Rattle.office_tables.specs.Schema as tables
 use Rattle.integrity_checks.proofs.Common.{found_in, in_any_order, in_table, is_excused, is_query, state, was_open}
 use Rattle.integrity_checks.proofs.ExaminationEnds.{examined, passes_of}
-use Rattle.integrity_checks.proofs.JudgedElements.{elements_text, elements_terms, elements_names, elements_mean, elements_judged}
+use Rattle.integrity_checks.proofs.JudgedElements.{elements_text, elements_terms, elements_names, elements_mean}
+use Rattle.integrity_checks.proofs.JudgedElements.{elements_judged}
 use Rattle.integrity_checks.proofs.UnitsThere.{elements_have_units}
 use Rattle.integrity_checks.proofs.elements.elements_are_good.Goals as goal
 

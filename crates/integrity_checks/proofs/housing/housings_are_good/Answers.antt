@@ -2,7 +2,8 @@ use Rattle.std.proofs.Common.{◌≡◌, refl, nat_le, ◌&&◌, sym, ap, ◌∙
 use Rattle.office_tables.specs.Schema as tables
 use Rattle.integrity_checks.proofs.Common.{found_in, in_table, is_excused, is_query, state, was_open}
 use Rattle.integrity_checks.proofs.ExaminationEnds.{examined, passes_of}
-use Rattle.integrity_checks.proofs.JudgedHousings.{housings_text, housings_terms, by_unit_and_ord, housings_names, housings_mean, by_unit, compares, housings_judged}
+use Rattle.integrity_checks.proofs.JudgedHousings.{housings_text, housings_terms, by_unit_and_ord, housings_names}
+use Rattle.integrity_checks.proofs.JudgedHousings.{housings_mean, by_unit, compares, housings_judged}
 use Rattle.integrity_checks.proofs.UnitsThere.{housings_have_units}
 use Rattle.integrity_checks.proofs.housing.housings_are_good.Goals as goal
 use Rattle.integrity_checks.proofs.housing.housings_are_good.Goals.{then-all, else-all}

@@ -1,8 +1,11 @@
 use Rattle.std.proofs.Common.{◌≡◌, refl, ap, ◌∙◌, sym, nat_le, ◌&&◌}
 use Rattle.office_tables.specs.Schema as tables
-use Rattle.integrity_checks.proofs.Common.{by_key, found_in, in_table, is_excused, is_query, read_reader, state, then-Equal}
+use Rattle.integrity_checks.proofs.Common.{by_key, found_in, in_table, is_excused, is_query, read_reader, state}
+use Rattle.integrity_checks.proofs.Common.{then-Equal}
 use Rattle.integrity_checks.proofs.ExaminationEnds.{examined, passes_of}
-use Rattle.integrity_checks.proofs.JudgedReaders.{all_readers_text, all_readers_terms, by_ticket, all_readers_names, all_readers_means, ticket_of, keyed, registered_so_many, registered_badly}
+use Rattle.integrity_checks.proofs.JudgedReaders.{all_readers_text, all_readers_terms, by_ticket, all_readers_names}
+use Rattle.integrity_checks.proofs.JudgedReaders.{all_readers_means, ticket_of, keyed, registered_so_many}
+use Rattle.integrity_checks.proofs.JudgedReaders.{registered_badly}
 use Rattle.integrity_checks.proofs.readers.count_if_registered.Goals as goal
 use Rattle.integrity_checks.proofs.readers.count_if_registered.Goals.{then-all, else-all}
 

@@ -1,7 +1,7 @@
 use Rattle.std.proofs.Common.{refl}
+use Rattle.std.proofs.Math.Utf8.{encode}
 use Rattle.std.specs.Fmt.{digits}
 use Rattle.std.specs.Str.{is_utf8, chars}
-use Rattle.std.proofs.Math.Utf8.{encode}
 use Rattle.http_messages.specs.Answers.{head_text, continue_text}
 use Rattle.model_tests.proofs.worked.worked_answers.Goals as goal
 

@@ -1,13 +1,13 @@
 use Rattle.std.proofs.Common.{refl, ◌≡◌, ap, arith, codes, option_map, pos, Some, subst}
+use Rattle.std.proofs.Math.Utf8.{encode}
+use Rattle.std.specs.Str.{is_utf8, chars}
 use Rattle.jiff_core.proofs.SignedLemmas.{signed_arith}
+use Rattle.serde_json.proofs.OnLiterals.{serde_json_on_literals}
+use Rattle.isad_core.proofs.DateLemmas.{day_of-day_text}
 use Rattle.isad_core.specs.Days.{IsDayNumber, day_of, day_text}
 use Rattle.isad_core.specs.Texts.{Bytes}
-use Rattle.isad_core.proofs.DateLemmas.{day_of-day_text}
 use Rattle.office_core.specs.declared.command.Command.TheVariants as command
 use Rattle.http_messages.specs.Members.{of_one, of_two, of_three}
-use Rattle.std.specs.Str.{is_utf8, chars}
-use Rattle.std.proofs.Math.Utf8.{encode}
-use Rattle.serde_json.proofs.OnLiterals.{serde_json_on_literals}
 use Rattle.model_tests.proofs.worked.worked_bodies.Goals as goal
 
 written : day_text (pos 19783) ≡ codes "2024-03-01"

@@ -1,8 +1,8 @@
 use Rattle.std.proofs.Common.{refl}
-use Rattle.std.specs.Str.{is_utf8, chars}
 use Rattle.std.proofs.Math.Utf8.{encode}
-use Rattle.csv.specs.Reading.{records_from, strip_bom}
+use Rattle.std.specs.Str.{is_utf8, chars}
 use Rattle.csv.specs.Machine.{next_record}
+use Rattle.csv.specs.Reading.{records_from, strip_bom}
 use Rattle.atom_csv.specs.Columns.{columns}
 use Rattle.atom_csv.specs.Values.{text_elements}
 use Rattle.model_tests.proofs.worked.worked_records.Goals as goal

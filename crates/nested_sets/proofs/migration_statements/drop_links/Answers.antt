@@ -1,6 +1,8 @@
 use Rattle.std.proofs.Common.{◌∙◌}
-use Rattle.nested_sets.proofs.Common.{Continues, First, HasCleanDisk, early, known_in, making_not, same_fault, schema, state}
-use Rattle.nested_sets.proofs.Dropping.{drop_text, drop_command, drop_says, drops, drop_cause, drop_cut, drop_continues, blames}
+use Rattle.nested_sets.proofs.Common.{Continues, First, HasCleanDisk, early, known_in, making_not, same_fault, schema}
+use Rattle.nested_sets.proofs.Common.{state}
+use Rattle.nested_sets.proofs.Dropping.{drop_text, drop_command, drop_says, drops, drop_cause, drop_cut, drop_continues}
+use Rattle.nested_sets.proofs.Dropping.{blames}
 use Rattle.nested_sets.proofs.migration_statements.drop_links.Goals as goal
 
 pub returns-in_err-execute-clause-leaves : goal.returns-in_err-execute-clause-leaves

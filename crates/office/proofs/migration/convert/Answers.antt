@@ -1,9 +1,9 @@
 use Rattle.std.proofs.Common.{[], ◌∷◌, refl}
+use Rattle.office_tables.specs.Schema as tables
+use Rattle.nested_sets.specs.Representation.{RepresentsSpanRows}
 use Rattle.office_core.proofs.KeptOffices.{office_kept}
 use Rattle.state_encoding.specs.OfficeRows as rows
-use Rattle.office_tables.specs.Schema as tables
 use Rattle.refinement.proofs.Frames.{desk_kept}
-use Rattle.nested_sets.specs.Representation.{RepresentsSpanRows}
 use Rattle.office.proofs.Common.{First, OnlyTouches, Represents, RepresentsState, Second, office_of, on_ok_both, state}
 use Rattle.office.proofs.migration.convert.Goals as goal
 

@@ -1,8 +1,9 @@
 use Rattle.std.proofs.Common.{[], ◌∷◌, ◌∙◌, subst, sym}
-use Rattle.office_tables.specs.Schema as tables
 use Rattle.office_tables.proofs.Causes.{outer_cause}
+use Rattle.office_tables.specs.Schema as tables
 use Rattle.office.specs.Migration.{MigratesIfSound}
-use Rattle.office.proofs.Common.{Database, First, OnlyTouches, RepresentsLinkRows, RepresentsState, continues_then, cut_then, early, state, state_in}
+use Rattle.office.proofs.Common.{Database, First, OnlyTouches, RepresentsLinkRows, RepresentsState, continues_then}
+use Rattle.office.proofs.Common.{cut_then, early, state, state_in}
 use Rattle.office.proofs.Adoptions.{store_cause}
 use Rattle.office.proofs.HandedOn.{handed_on}
 use Rattle.office.proofs.Migrations.{cause_of_call, migrated, shows_its_state}

@@ -1,4 +1,5 @@
-use Rattle.std.proofs.Common.{rules, ◌≡◌, ◌≢◌, inl, inr, ◌<◌, pos, List, [], ◌∷◌, Some, None, slice_get, length, sym, ap, subst, ◌∙◌, arith}
+use Rattle.std.proofs.Common.{rules, ◌≡◌, ◌≢◌, inl, inr, ◌<◌, pos, List, [], ◌∷◌, Some, None, slice_get, length, sym}
+use Rattle.std.proofs.Common.{ap, subst, ◌∙◌, arith}
 use Rattle.sqlite.specs.Reading.{IsReadError}
 use Rattle.sqlite.specs.declared.error.ErrorCode.TheVariants.{OutOfMemory}
 use Rattle.office_tables.specs.declared.fault.StoreFault.TheVariants as fault

@@ -1,6 +1,7 @@
 use Rattle.std.proofs.Common.{List, [], refl, rules, arith}
 use Rattle.sqlite.specs.Listing.{understood}
-use Rattle.office_tables.proofs.Common.{CommitsShowing, Gathers, HasCleanDisk, IsPlain, Row, State, Survives, begun_plain, never_commits, state, survives_weaker}
+use Rattle.office_tables.proofs.Common.{CommitsShowing, Gathers, HasCleanDisk, IsPlain, Row, State, Survives}
+use Rattle.office_tables.proofs.Common.{begun_plain, never_commits, state, survives_weaker}
 use Rattle.office_tables.proofs.Calls.{early}
 use Rattle.office_tables.proofs.Gatherings.{shown_from, query_fails_from}
 use Rattle.office_tables.proofs.streamed_rows.take_rows.Goals as goal

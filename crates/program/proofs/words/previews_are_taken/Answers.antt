@@ -1,5 +1,5 @@
-use Rattle.clap.proofs.OnLiterals.{clap_on_literals}
 use Rattle.std.proofs.Common.{refl}
+use Rattle.clap.proofs.OnLiterals.{clap_on_literals}
 use Rattle.program.proofs.words.previews_are_taken.Goals as goal
 
 pub returns-clause-preview : goal.returns-clause-preview

@@ -1,12 +1,12 @@
 use Rattle.std.proofs.Common.{◌≡◌, ◌∙◌, Bool, Some, None, true, false, map, ap, sym, refl, Option, option_map, subst}
-use Rattle.clap.specs.Faults.{fault_of, is_simple_and_free}
 use Rattle.std.specs.Box.{box_value}
+use Rattle.clap.specs.Faults.{fault_of, is_simple_and_free}
 use Rattle.clap.specs.Matches.{found_of}
-use Rattle.clap.specs.declared.parser.matches.ArgMatches.TheViews.{out-ArgMatches, out-SubCommand}
 use Rattle.clap.specs.Simple.{App, app_of, is_simple, subcommand_of, subcommand_rows_of}
 use Rattle.clap.specs.Takes.{takes}
-use Rattle.command_line.specs.CommandLine.{program}
+use Rattle.clap.specs.declared.parser.matches.ArgMatches.TheViews.{out-ArgMatches, out-SubCommand}
 use Rattle.command_line.proofs.Needs.{needs}
+use Rattle.command_line.specs.CommandLine.{program}
 use Rattle.program.proofs.Common.{AreRefusedFor, IfErr-weaker, IfOk-weaker, IsTaskOf, rows_of, string_bytes}
 use Rattle.program.proofs.words.task.Goals as goal
 

@@ -1,6 +1,8 @@
 use Rattle.std.proofs.Common.{◌≡◌, List, ap, ◌∙◌, sym}
 use Rattle.office_core.specs.declared.query.Query.TheVariants as query
-use Rattle.public_queries.proofs.Common.{Head, OfficeRow, Text, Unknown, UnknownUnit, aid, before_last, early, has_id, ids_of, looks_then, office_kept, office_of, public_of, repository_of, shown_below, shows_last, state, still_shown, tree}
+use Rattle.public_queries.proofs.Common.{Head, OfficeRow, Text, Unknown, UnknownUnit, aid, before_last, early, has_id}
+use Rattle.public_queries.proofs.Common.{head_identifiers, looks_then, office_kept, office_of, public_of, repository_of}
+use Rattle.public_queries.proofs.Common.{shown_below, shows_last, state, still_shown, tree}
 use Rattle.public_queries.proofs.AidAnswers.{apart, hidden, shown, tellable}
 use Rattle.public_queries.proofs.Knowings.{catalogue_passed, knows_by, knows_passed_later}
 use Rattle.public_queries.proofs.aids.aid_on_path.Goals as goal
@@ -39,7 +41,7 @@ returns g c =
     let represents = ap (λ (l : List Head). shows_last s.day l) (sym way) ∙ ap (λ (o : OfficeRow). shows_last o.day c.deref.result.now) (sym so) ∙ sym c.shows_last.ensures ∙ c.if-not-shows_last.false in
     let it_b = still_shown g.P.Places.represents v a _ first.looks at_b s it in
     let text = last.answers clean (office_of s) s.catalogue it_b.catalogue (tellable s sound) (apart s sound) in
-    let above = c.in_ok-above.ensures ∙ ap (λ (l : List Head). before_last (ids_of l)) (c.deref-2.ensures.value ∙ told) in
+    let above = c.in_ok-above.ensures ∙ ap (λ (l : List Head). before_last (head_identifiers l)) (c.deref-2.ensures.value ∙ told) in
     ap Text (text
     ∙ ap (λ (o : OfficeRow). aid (shown_below (repository_of o) s.catalogue.containers c.in_ok-above.above.items 0 (public_of o.day (tree (has_id c.args.unit) s.catalogue.forest)))) so
     ∙ ap (λ ids. aid (shown_below (repository_of (office_of s)) s.catalogue.containers ids 0 (public_of s.day (tree (has_id c.args.unit) s.catalogue.forest)))) above)

@@ -1,5 +1,6 @@
 use Rattle.std.proofs.Common.{length, ap, ◌∙◌, refl}
-use Rattle.public_queries.proofs.Common.{IsKept, Represents, aid, has_id, public_units, repository_of, state, tells_passed, tree, walk}
+use Rattle.public_queries.proofs.Common.{IsKept, Represents, aid, has_id, public_units, repository_of, state}
+use Rattle.public_queries.proofs.Common.{tells_passed, tree, walk}
 use Rattle.public_queries.proofs.AidCalls.{tells_then}
 use Rattle.public_queries.proofs.AidPrinted.{along_all}
 use Rattle.public_queries.proofs.AidUnits.{rows_of}

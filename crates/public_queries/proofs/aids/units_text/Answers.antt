@@ -1,5 +1,7 @@
 use Rattle.std.proofs.Common.{◌≡◌, ◌≤◌, ◌+◌, ◌++◌, ◌∷◌, [], length, take, drop, sym, ap, subst, ◌∙◌, arith, append-nil}
-use Rattle.public_queries.proofs.Common.{Database, Kept, Represents, aid, along, early, kept_row, length-map, looks_then, repository_of, shown_at, state, tells_full, tells_passed_later, unit_lines}
+use Rattle.public_queries.proofs.Common.{Database, Kept, Represents, aid, along, early, kept_from_walk, length-map}
+use Rattle.public_queries.proofs.Common.{looks_then, repository_of, shown_at, state, tells_full, tells_passed_later}
+use Rattle.public_queries.proofs.Common.{unit_lines}
 use Rattle.public_queries.proofs.AidPrinted.{along_more, drop_past, row_at}
 use Rattle.public_queries.proofs.aids.units_text.Goals as goal
 
@@ -51,7 +53,7 @@ returns g c =
     record {
       answers = record {
         answers = λ clean o k it tellable rows keeps.
-            let past : length rows ≤ i = (let long = ap length keeps.told ∙ length-map rows kept_row in omega (arith, long, c.loop-unit-test.false)) in
+            let past : length rows ≤ i = (let long = ap length keeps.told ∙ length-map rows kept_from_walk in omega (arith, long, c.loop-unit-test.false)) in
             let base : c.len-base.result ≡ length c.args.above.items = cc (c.len-base.ensures, c.args.above.ok.0) in
             sym (ap (λ n. aid (along at k.containers n c.args.above.items rows)) (sym base)
             ∙ c.loop-unit.invariant.so_far clean o k it tellable rows keeps

@@ -1,5 +1,6 @@
 use Rattle.std.proofs.Common.{◌≡◌, ◌++◌, List, drop}
-use Rattle.public_queries.proofs.Common.{Catalogue, HasCleanDisk, IsTellable, KeepsUnits, LeavesUnchanged, OfficeRow, Represents, Walked, aid, along, repository_of, state}
+use Rattle.public_queries.proofs.Common.{Catalogue, HasCleanDisk, IsTellable, KeepsUnits, LeavesUnchanged, OfficeRow}
+use Rattle.public_queries.proofs.Common.{Represents, Walked, aid, along, repository_of, state}
 use Rattle.public_queries.proofs.aids.units_text.Given as goal
 
 abbrev pub invariant-loop-unit : goal.invariant-loop-unit

@@ -1,7 +1,7 @@
 use Rattle.std.proofs.Common.{ℕ, Bor, map, ap, sym, ◌∙◌}
-use Rattle.std.specs.Option.{option_copied}
 use Rattle.std.proofs.lemmas.Iterator.{YieldsList-from_slice, YieldsList-from_zip}
 use Rattle.std.proofs.lemmas.Iterator.Consumers.{YieldsList-end}
+use Rattle.std.specs.Option.{option_copied}
 use Rattle.sqlite_trees.proofs.ListLemmas.{map-map}
 use Rattle.public_queries.proofs.Common.{BoxKey}
 use Rattle.public_queries.proofs.page_lines.boxes_of.Goals as goal

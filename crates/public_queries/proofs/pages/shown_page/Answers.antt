@@ -1,8 +1,11 @@
 use Rattle.std.proofs.Common.{◌≡◌, ℕ, List, map, sym, ap, ◌∙◌}
+use Rattle.office_tables.specs.declared.fault.StoreFault.TheVariants as fault
 use Rattle.office_core.specs.State.{State}
 use Rattle.office_core.specs.declared.query.Query.TheVariants as query
-use Rattle.office_tables.specs.declared.fault.StoreFault.TheVariants as fault
-use Rattle.public_queries.proofs.Common.{AreHeadsOf, Head, IsSoundOffice, IsTellable, RepresentsUnit, Text, early, has_id, head_alone, head_of, looks_nowhere, looks_then, office_kept, office_knows, office_of, office_places, path, repository_of, same_fault, state, still_shown}
+use Rattle.public_queries.proofs.Common.{AreHeadsOf, Head, IsSoundOffice, IsTellable, RepresentsUnit, Text, early}
+use Rattle.public_queries.proofs.Common.{has_id, head_alone, head_of, looks_nowhere, looks_then, office_kept}
+use Rattle.public_queries.proofs.Common.{office_knows, office_of, office_places, path, repository_of, same_fault, state}
+use Rattle.public_queries.proofs.Common.{still_shown}
 use Rattle.public_queries.proofs.Knowings.{knows_by, knows_passed, knows_passed_later, knows_short}
 use Rattle.public_queries.proofs.PageAnswers.{path_found, answers_closed, answers_told}
 use Rattle.public_queries.proofs.pages.shown_page.Goals as goal

@@ -1,5 +1,7 @@
 use Rattle.std.proofs.Common.{◌≡◌, ◌++◌, ◌∷◌, [], length, take, map, sym, ap, subst, ◌∙◌, arith}
-use Rattle.public_queries.proofs.Common.{Database, Head, Represents, early, head_of, length-map, looks_nowhere, looks_then, map-append, state, take_all, tells_full, tells_passed_later, unit_values}
+use Rattle.public_queries.proofs.Common.{Database, Head, Represents, early, head_of, length-map, looks_nowhere}
+use Rattle.public_queries.proofs.Common.{looks_then, map-append, state, take_all, tells_full, tells_passed_later}
+use Rattle.public_queries.proofs.Common.{unit_values}
 use Rattle.public_queries.proofs.FoundUnits.{HeadAt, head_at}
 use Rattle.public_queries.proofs.pages.values_of_all.Goals as goal
 

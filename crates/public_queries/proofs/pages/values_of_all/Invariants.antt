@@ -1,5 +1,6 @@
 use Rattle.std.proofs.Common.{◌≡◌, take, map}
-use Rattle.public_queries.proofs.Common.{AreHeadsOf, Catalogue, HasCleanDisk, IsTellable, LeavesUnchanged, OfficeRow, Represents, state, unit_values}
+use Rattle.public_queries.proofs.Common.{AreHeadsOf, Catalogue, HasCleanDisk, IsTellable, LeavesUnchanged, OfficeRow}
+use Rattle.public_queries.proofs.Common.{Represents, state, unit_values}
 use Rattle.public_queries.proofs.pages.values_of_all.Given as goal
 
 abbrev pub invariant-loop-head : goal.invariant-loop-head

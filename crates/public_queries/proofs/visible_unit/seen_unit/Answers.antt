@@ -1,6 +1,7 @@
 use Rattle.std.proofs.Common.{sym, ap, ◌∙◌, arith}
 use Rattle.std.specs.Prelude.{find}
-use Rattle.public_queries.proofs.Common.{IsKept, Kept, Represents, cut_after, has_id, looks_nowhere, nodes, public_unit, seen_of, state, tells_passed}
+use Rattle.public_queries.proofs.Common.{IsKept, Kept, Represents, cut_after, has_id, looks_nowhere, nodes, public_unit}
+use Rattle.public_queries.proofs.Common.{seen_of, state, tells_passed}
 use Rattle.public_queries.proofs.AidCalls.{tells_as}
 use Rattle.public_queries.proofs.AidUnits.{closed_until, seen_stub}
 use Rattle.public_queries.proofs.FoundUnits.{found_low}

@@ -1,7 +1,9 @@
 use Rattle.std.proofs.Common.{◌≡◌, true, map, refl, sym, subst, arith}
-use Rattle.office_tables.specs.declared.fault.StoreFault.TheVariants as fault
 use Rattle.office_tables.proofs.StoreCalls.{tells_not, tells_cut}
-use Rattle.refinement.proofs.Common.{AllByRecursion, AreTheirs, Database, IsKept, Mark, Represents, all-get_or, allows, are_clean_for, cut_after, early, has_unit, is_clean_for, length-map, looks_nowhere, looks_then, same_fault, spares_full, state}
+use Rattle.office_tables.specs.declared.fault.StoreFault.TheVariants as fault
+use Rattle.refinement.proofs.Common.{AllByRecursion, AreTheirs, Database, IsKept, Mark, Represents, all-get_or, allows}
+use Rattle.refinement.proofs.Common.{are_clean_for, cut_after, early, has_unit, is_clean_for, length-map, looks_nowhere}
+use Rattle.refinement.proofs.Common.{looks_then, same_fault, spares_full, state}
 use Rattle.refinement.proofs.AllPass.{all_of, more_clean, not_clean}
 use Rattle.refinement.proofs.access.are_clean.Goals as goal
 
@@ -64,17 +66,19 @@ returns-then-not-branch g c =
     let represents = Represents g.P.Places.represents g.P.Versioned.version in
     record {
       answers = record {
-        answers = λ clean o k it theirs.
-            let at_b = early b d _ told.looks.goes.on.crash clean in
-            let it_b = subst (λ (db : Database). represents db o k) (sym (before.looks.same at_b)) it in
-            let known = subst (g.P.Places.knows_way k) (sym c.deref.ensures.value) (before.known at_b o k it theirs.0) in
-            let own = told.answers clean o k it_b (all-get_or (g.P.Places.tells k) rows i _ theirs.0 c.loop-row-test.true) known in
-            let there = all-get_or (λ (row : Mark). has_unit k.forest row.id ≡ true) rows i _ theirs.1 c.loop-row-test.true in
-            not_clean (is_clean_for (allows c.args.today c.args.permits.now) c.args.today k.forest) rows i _ c.loop-row-test.true c.in_ok-is_clean.field-0 (c.in_ok-is_clean.ensures k.forest _ there own.0) c.if-not-branch.true;
-        looks = looks_then a b d before.looks told.looks;
-        aborts = tt;
+        call = record {
+          answers = λ clean o k it theirs.
+              let at_b = early b d _ told.looks.goes.on.crash clean in
+              let it_b = subst (λ (db : Database). represents db o k) (sym (before.looks.same at_b)) it in
+              let known = subst (g.P.Places.knows_way k) (sym c.deref.ensures.value) (before.known at_b o k it theirs.0) in
+              let own = told.answers clean o k it_b (all-get_or (g.P.Places.tells k) rows i _ theirs.0 c.loop-row-test.true) known in
+              let there = all-get_or (λ (row : Mark). has_unit k.forest row.id ≡ true) rows i _ theirs.1 c.loop-row-test.true in
+              not_clean (is_clean_for (allows c.args.today c.args.permits.now) c.args.today k.forest) rows i _ c.loop-row-test.true c.in_ok-is_clean.field-0 (c.in_ok-is_clean.ensures k.forest _ there own.0) c.if-not-branch.true;
+          looks = looks_then a b d before.looks told.looks;
+          aborts = tt;
+          faults = λ o k it all kept clean free. tt;
+        };
         spares = λ clean. tt;
-        faults = λ o k it all kept clean free. tt;
       };
     }
 
@@ -98,12 +102,14 @@ pub returns : goal.returns
 returns g c =
     record {
       answers = record {
-        answers = λ clean o k it all.
-            all_of (is_clean_for (allows c.args.today c.args.permits.now) c.args.today k.forest) (map (λ (row : Mark). row.id) c.args.rows.now) c.loop-row.row-index
-            (omega (arith, c.loop-row-test.false, length-map c.args.rows.now (λ (row : Mark). row.id))) (c.loop-row.invariant.so_far clean o k it all);
-        looks = c.loop-row.invariant.looks;
-        aborts = tt;
+        call = record {
+          answers = λ clean o k it all.
+              all_of (is_clean_for (allows c.args.today c.args.permits.now) c.args.today k.forest) (map (λ (row : Mark). row.id) c.args.rows.now) c.loop-row.row-index
+              (omega (arith, c.loop-row-test.false, length-map c.args.rows.now (λ (row : Mark). row.id))) (c.loop-row.invariant.so_far clean o k it all);
+          looks = c.loop-row.invariant.looks;
+          aborts = tt;
+          faults = λ o k it all kept clean free. tt;
+        };
         spares = λ clean. tt;
-        faults = λ o k it all kept clean free. tt;
       };
     }

@@ -1,5 +1,6 @@
 use Rattle.std.proofs.Common.{◌≡◌, true, map, take}
-use Rattle.refinement.proofs.Common.{AllByRecursion, AreTheirs, Catalogue, HasCleanDisk, LeavesUnchanged, Mark, OfficeRow, Represents, allows, is_clean_for, list_all, state}
+use Rattle.refinement.proofs.Common.{AllByRecursion, AreTheirs, Catalogue, HasCleanDisk, LeavesUnchanged, Mark}
+use Rattle.refinement.proofs.Common.{OfficeRow, Represents, allows, is_clean_for, list_all, state}
 use Rattle.refinement.proofs.access.are_clean.Given as goal
 
 abbrev pub invariant-loop-row : goal.invariant-loop-row

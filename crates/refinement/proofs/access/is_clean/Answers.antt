@@ -1,9 +1,10 @@
 use Rattle.std.proofs.Common.{rules, ◌≡◌, false, not, map, of_z, to_z, w32, FitsSigned, sym, ap, ◌∙◌}
-use Rattle.std.specs.Prelude.{◌&&◌, ℕ}
 use Rattle.std.proofs.lemmas.Int.{to_z-of_z}
+use Rattle.std.specs.Prelude.{◌&&◌, ℕ}
 use Rattle.tree_core.specs.Forest.{path as path_to}
 use Rattle.catalogue_core.proofs.OpenLemmas.{marks_say_clean}
-use Rattle.refinement.proofs.Common.{Empty, Forest, IsNumbered, Mark, Node, allows, contents_paths, has_id, is_opened_above, list_all, mark_of, nodes, with_permit, withholds}
+use Rattle.refinement.proofs.Common.{Empty, Forest, IsNumbered, Mark, Node, allows, contents_paths, has_id}
+use Rattle.refinement.proofs.Common.{is_opened_above, list_all, mark_of, nodes, with_permit, withholds}
 use Rattle.refinement.proofs.UnnumberedMarks.{path_opens, path_withholds, unnumbered_units}
 use Rattle.refinement.proofs.access.is_clean.Goals.{else-clean_path, then-clean_path}
 use Rattle.refinement.proofs.access.is_clean.Goals as goal

@@ -1,9 +1,11 @@
 use Rattle.std.proofs.Common.{arith, ◌≡◌, ℕ, ℤ, Bool, false, List, length, nat_eq, refl, sym, ap, subst, ◌∙◌}
+use Rattle.office_tables.proofs.CallEnds.{tells_cut, tells_not}
 use Rattle.desk_store.specs.declared.reader_permits.Permit.{Permit}
 use Rattle.office_core.specs.State.{State}
-use Rattle.office_tables.proofs.CallEnds.{tells_cut, tells_not}
 use Rattle.refinement.specs.Representation as shown
-use Rattle.refinement.proofs.Common.{AllByRecursion, AreTheirs, CanBeJudged, Mark, RepresentsWhole, are_clean_for, early, ends_not, ends_well, eqb-true, looks_then, opens, same_fault, shown_on, state, tables, ⊤}
+use Rattle.refinement.proofs.Common.{AllByRecursion, AreTheirs, CanBeJudged, Mark, RepresentsWhole, are_clean_for}
+use Rattle.refinement.proofs.Common.{early, ends_not, ends_well, eqb-true, looks_then, opens, same_fault, shown_on}
+use Rattle.refinement.proofs.Common.{state, tables, ⊤}
 use Rattle.refinement.proofs.DiskBlames.{blames_first, blames_later}
 use Rattle.refinement.proofs.OpenByRows.{clean_open, empty_closed, theirs}
 use Rattle.refinement.proofs.access.is_open.Goals as goal

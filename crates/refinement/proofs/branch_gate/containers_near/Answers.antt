@@ -1,9 +1,12 @@
 use Rattle.std.proofs.Common.{ℕ, List, Vec, Global, Result, Err, ◌++◌, nat_eq, ap, ap₂, sym, subst, ◌∙◌}
 use Rattle.std.specs.Prelude.{◌||◌}
+use Rattle.office_tables.proofs.CallEnds.{tells_not}
 use Rattle.office_tables.specs.Schema as tables
 use Rattle.office_tables.specs.declared.fault.StoreFault.TheVariants as fault
-use Rattle.office_tables.proofs.CallEnds.{tells_not}
-use Rattle.refinement.proofs.Common.{AreNear, CanBeJudged, Database, HasNumbered, IsHoused, RepresentsWhole, StoreFault, Unit, branch, branch-each, cut_after, cut_then, each, early, ends_well, excused_then, has_id, housing_row, is_one_of, list_any, list_any-append, looks_then, names, nearest, same_fault, says_so, state, ⊤}
+use Rattle.refinement.proofs.Common.{AreNear, CanBeJudged, Database, HasNumbered, IsHoused, RepresentsWhole, StoreFault}
+use Rattle.refinement.proofs.Common.{Unit, branch, branch-each, cut_after, cut_then, each, early, ends_well}
+use Rattle.refinement.proofs.Common.{excused_then, has_id, housing_row, is_one_of, list_any, list_any-append}
+use Rattle.refinement.proofs.Common.{looks_then, names_container, nearest, same_fault, says_so, state, ⊤}
 use Rattle.refinement.proofs.NearRows.{branch_named}
 use Rattle.refinement.proofs.branch_gate.containers_near.Goals as goal
 
@@ -70,5 +73,5 @@ returns g c =
           ap (is_one_of n) (c.in_ok-extend_from_slice.ensures.items ∙ ap (λ (l : List ℕ). c.in_ok-containers.containers.items ++ l) c.deref-2.ensures.value)
           ∙ list_any-append (λ m. nat_eq m n) c.in_ok-containers.containers.items c.args.housed.now.containers.items
           ∙ ap₂ ◌||◌ (each_of.answers clean housings.housings stored tt n ∙ ap (list_any (λ unit. list_any (says_so n unit) housings.housings)) ids ∙ branch_named a.now.trees f s.catalogue.containers housings n u) (housed.containers n)
-          ∙ sym (list_any-append (names s.catalogue.containers n) (branch (has_id u) f) (nearest u f)));
+          ∙ sym (list_any-append (names_container s.catalogue.containers n) (branch (has_id u) f) (nearest u f)));
     }

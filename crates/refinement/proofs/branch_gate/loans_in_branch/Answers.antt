@@ -1,6 +1,7 @@
 use Rattle.std.proofs.Common.{nat_eq, ap, sym, subst, ◌∙◌}
 use Rattle.office_tables.proofs.CallEnds.{tells_not}
-use Rattle.refinement.proofs.Common.{AreAsked, CanBeJudged, IsHoused, IsNonDecreasing, IsNonDecreasingBy-from_sort, RepresentsWhole, ends_well, is_one_of, list_any-IsPermutation, same_fault, ⊤}
+use Rattle.refinement.proofs.Common.{AreAsked, CanBeJudged, IsHoused, IsNonDecreasing, IsNonDecreasingBy-from_sort}
+use Rattle.refinement.proofs.Common.{RepresentsWhole, ends_well, is_one_of, list_any-IsPermutation, same_fault, ⊤}
 use Rattle.refinement.proofs.branch_gate.loans_in_branch.Goals as goal
 
 pub returns-in_err-containers : goal.returns-in_err-containers

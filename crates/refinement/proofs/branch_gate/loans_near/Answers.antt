@@ -1,6 +1,7 @@
 use Rattle.std.proofs.Common.{List, subst}
 use Rattle.office_tables.proofs.CallEnds.{tells_not}
-use Rattle.refinement.proofs.Common.{AreAsked, CanBeJudged, ContainerOrder, IsHoused, RepresentsWhole, early, ends_not, issued_of, looks_then, same_fault, shown_on, state, tables, ⊤}
+use Rattle.refinement.proofs.Common.{AreAsked, CanBeJudged, ContainerOrder, IsHoused, RepresentsWhole, early, ends_not}
+use Rattle.refinement.proofs.Common.{issued_of, looks_then, same_fault, shown_on, state, tables, ⊤}
 use Rattle.refinement.proofs.Tellings.{told_then}
 use Rattle.refinement.proofs.branch_gate.loans_near.Goals as goal
 

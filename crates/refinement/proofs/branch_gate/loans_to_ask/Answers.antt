@@ -1,5 +1,6 @@
 use Rattle.std.proofs.Common.{List, true, subst}
-use Rattle.refinement.proofs.Common.{AreAsked, CanBeJudged, ContainerOrder, IsHoused, RepresentsWhole, ends_well, looks_nowhere, state, ⊤}
+use Rattle.refinement.proofs.Common.{AreAsked, CanBeJudged, ContainerOrder, IsHoused, RepresentsWhole, ends_well}
+use Rattle.refinement.proofs.Common.{looks_nowhere, state, ⊤}
 use Rattle.refinement.proofs.NearRows.{all_pass}
 use Rattle.refinement.proofs.Tellings.{told_then}
 use Rattle.refinement.proofs.branch_gate.loans_to_ask.Goals as goal

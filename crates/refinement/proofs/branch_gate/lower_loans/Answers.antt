@@ -1,7 +1,8 @@
 use Rattle.std.proofs.Common.{◌≡◌, ℕ, Bool, true, false, not, Vec, Global, Option, ap, subst, sym, refl, ◌∙◌}
 use Rattle.office_tables.proofs.CallEnds.{tells_not}
 use Rattle.office_tables.specs.declared.fault.StoreFault.TheVariants.{Memory}
-use Rattle.refinement.proofs.Common.{AreApart, AreAsked, CanBeJudged, IfSome, IsHoused, RepresentsWhole, ends_full, ends_well, is_one_of, same_fault, ⊤}
+use Rattle.refinement.proofs.Common.{AreAsked, CanBeJudged, HoldNothingOfBranch, IfSome, IsHoused, RepresentsWhole}
+use Rattle.refinement.proofs.Common.{ends_full, ends_well, is_one_of, same_fault, ⊤}
 use Rattle.refinement.proofs.Tellings.{told_then}
 use Rattle.refinement.proofs.branch_gate.lower_loans.Goals as goal
 
@@ -44,7 +45,7 @@ returns g c =
       answers = ends_well (RepresentsWhole g.P.Places.represents v) CanBeJudged (λ _. ⊤) g.S.Store c.args.tables.now c.args.tables.now c.containers_apart.new.tables (λ _ s found. CanBeJudged s → IsHoused c.args.unit s c.args.housed.now → AreAsked c.args.unit s c.args.loans.now found.items)
           told.looks _
           (λ clean s shown judged housed.
-          let apart : AreApart c.args.unit s c.in-Some.apart.items = subst (λ (o : Option (Vec ℕ Global)). IfSome o (λ apart. AreApart c.args.unit s apart.items)) c.in-Some.is (told.answers clean tt s shown judged housed) in
+          let apart : HoldNothingOfBranch c.args.unit s c.in-Some.apart.items = subst (λ (o : Option (Vec ℕ Global)). IfSome o (λ apart. HoldNothingOfBranch c.args.unit s apart.items)) c.in-Some.is (told.answers clean tt s shown judged housed) in
           record {
             test = λ k. not (is_one_of k c.deref.result.now);
             near = λ k far. apart k (ap (is_one_of k) (sym c.deref.ensures.value) ∙ not_false (is_one_of k c.deref.result.now) far);

@@ -1,7 +1,9 @@
 use Rattle.std.proofs.Common.{◌≡◌, ℕ, List, Some, ap, sym, ◌∙◌}
-use Rattle.office_core.specs.State.{State}
 use Rattle.office_tables.proofs.CallEnds.{tells_not}
-use Rattle.refinement.proofs.Common.{CanBeJudged, ContainerOrder, HousedUnit, IsHoused, IsWithheldAt, OthersAreOpen, RepresentsWhole, Version, early, ends_not, ends_well, first_closed, issued_of, looks_then, lowest_withheld, same_fault, shown_on, state, tables, ⊤}
+use Rattle.office_core.specs.State.{State}
+use Rattle.refinement.proofs.Common.{CanBeJudged, ContainerOrder, HousedUnit, IsHoused, IsWithheldAt, OthersAreOpen}
+use Rattle.refinement.proofs.Common.{RepresentsWhole, Version, early, ends_not, ends_well, first_closed, issued_of}
+use Rattle.refinement.proofs.Common.{looks_then, lowest_withheld, same_fault, shown_on, state, tables, ⊤}
 use Rattle.refinement.proofs.EarlyRefusals.{refused_before, refused_there}
 use Rattle.refinement.proofs.branch_gate.lowest_closed.Goals as goal
 

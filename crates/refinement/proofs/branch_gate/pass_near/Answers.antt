@@ -1,6 +1,10 @@
-use Rattle.std.proofs.Common.{◌≡◌, ◌<◌, ℕ, Ok, Err, Option, Some, List, [], ◌∷◌, length, refl, ap, subst, sym, ◌∙◌, arith}
+use Rattle.std.proofs.Common.{◌≡◌, ◌<◌, ℕ, Ok, Err, Option, Some, List, [], ◌∷◌, length, refl, ap, subst, sym, ◌∙◌}
+use Rattle.std.proofs.Common.{arith}
 use Rattle.office_tables.proofs.CallEnds.{tells_not}
-use Rattle.refinement.proofs.Common.{AreAsked, AreEnough, CanBeJudged, ContainerOrder, IfSome, IsWithheldAt, OthersAreOpen, RepresentsWhole, WithReader, early, ends_not, ends_well, eqb-true, first_closed, gate_reply, issued_of, looks_then, option_map, same_fault, shown_on, state, tables, unless_refused, ⊤}
+use Rattle.refinement.proofs.Common.{AreAsked, AreEnough, CanBeJudged, ContainerOrder, IfSome, IsWithheldAt}
+use Rattle.refinement.proofs.Common.{OthersAreOpen, RepresentsWhole, WithReader, early, ends_not, ends_well, eqb-true}
+use Rattle.refinement.proofs.Common.{first_closed, gate_reply, issued_of, looks_then, option_map, same_fault, shown_on}
+use Rattle.refinement.proofs.Common.{state, tables, unless_refused, ⊤}
 use Rattle.refinement.proofs.Gates.{enough_of, kept_is}
 use Rattle.refinement.proofs.Tellings.{told_then}
 use Rattle.refinement.proofs.branch_gate.pass_near.Goals as goal

@@ -1,7 +1,8 @@
 use Rattle.std.proofs.Common.{◌≡◌, ap, sym, ◌∙◌, Ok, Err}
 use Rattle.std.specs.Prelude.{Option, ℕ}
 use Rattle.office_tables.proofs.CallEnds.{tells_not}
-use Rattle.refinement.proofs.Common.{AreEnough, CanBeJudged, RepresentsWhole, WithReader, ends_well, gate_reply, option_map, same_fault, unless_refused, ⊤}
+use Rattle.refinement.proofs.Common.{AreEnough, CanBeJudged, RepresentsWhole, WithReader, ends_well, gate_reply}
+use Rattle.refinement.proofs.Common.{option_map, same_fault, unless_refused, ⊤}
 use Rattle.refinement.proofs.branch_gate.pass_of.Goals as goal
 
 pub returns-in_err-container : goal.returns-in_err-container

@@ -1,13 +1,17 @@
-use Rattle.std.proofs.Common.{◌≡◌, ℕ, true, false, List, [], ◌∷◌, ◌++◌, Vec, Global, None, Some, inl, inr, nat_eq, ap, subst, sym, ◌∙◌}
+use Rattle.std.proofs.Common.{◌≡◌, ℕ, true, false, List, [], ◌∷◌, ◌++◌, Vec, Global, None, Some, inl, inr, nat_eq, ap}
+use Rattle.std.proofs.Common.{subst, sym, ◌∙◌}
 use Rattle.std.specs.Prelude.{◌||◌}
-use Rattle.office_core.specs.State.{State}
 use Rattle.office_tables.specs.declared.fault.StoreFault.TheVariants.{Memory}
-use Rattle.refinement.proofs.Common.{AreApart, CanBeJudged, IfSome, IsHoused, RepresentsWhole, cases_Bool, early, ends_full, ends_not, ends_well, eqb-true, false≢true, is_named_near, is_one_of, list_any-append, looks_nowhere, looks_then, or-false, same_fault, shown_on, state, ⊤}
+use Rattle.office_core.specs.State.{State}
+use Rattle.refinement.proofs.Common.{CanBeJudged, HoldNothingOfBranch, IfSome, IsHoused, RepresentsWhole, cases_Bool}
+use Rattle.refinement.proofs.Common.{early, ends_full, ends_not, ends_well, eqb-true, false≢true, is_named_near}
+use Rattle.refinement.proofs.Common.{is_one_of, list_any-append, looks_nowhere, looks_then, or-false, same_fault}
+use Rattle.refinement.proofs.Common.{shown_on, state, ⊤}
 use Rattle.refinement.proofs.containers_apart.containers_apart.Goals.{then-is_apart+in_ok-push, else-is_apart}
 use Rattle.refinement.proofs.containers_apart.containers_apart.Goals as goal
 
 -- one more in which nothing lies
-apart_more : (u : ℕ) (s : State) (apart : List ℕ) (n : ℕ) → AreApart u s apart → is_named_near u s n ≡ false → AreApart u s (apart ++ n ∷ [])
+apart_more : (u : ℕ) (s : State) (apart : List ℕ) (n : ℕ) → HoldNothingOfBranch u s apart → is_named_near u s n ≡ false → HoldNothingOfBranch u s (apart ++ n ∷ [])
 apart_more u s apart n so_far far k among = elim (cases_Bool (is_one_of k apart)) [
   | inl before ↦ so_far k before
   | inr new ↦
@@ -21,7 +25,7 @@ returns-then-loans-gt-FEW g c =
     let v = g.P.Versioned.version in
     let a = state g.S.Store c.args.tables.now in
     record {
-      answers = ends_well (RepresentsWhole g.P.Places.represents v) CanBeJudged (λ _. ⊤) g.S.Store c.args.tables.now c.args.tables.now c.args.tables.now (λ _ s found. CanBeJudged s → IsHoused c.args.unit s c.args.housed.now → IfSome found (λ apart. AreApart c.args.unit s apart.items))
+      answers = ends_well (RepresentsWhole g.P.Places.represents v) CanBeJudged (λ _. ⊤) g.S.Store c.args.tables.now c.args.tables.now c.args.tables.now (λ _ s found. CanBeJudged s → IsHoused c.args.unit s c.args.housed.now → IfSome found (λ apart. HoldNothingOfBranch c.args.unit s apart.items))
           (looks_nowhere a) None (λ clean s it judged housed. tt);
     }
 
@@ -41,7 +45,7 @@ returns-in_err-is_apart g c =
     let e = c.from_residual.ensures in
     let told = c.in_err-is_apart.ensures.answers in
     record {
-      answers = ends_not (RepresentsWhole g.P.Places.represents g.P.Versioned.version) CanBeJudged (λ _. ⊤) g.S.Store c.args.tables.now c.loop-loan.tables c.lies_apart.new.tables (λ _ s found. CanBeJudged s → IsHoused c.args.unit s c.args.housed.now → IfSome found (λ apart. AreApart c.args.unit s apart.items))
+      answers = ends_not (RepresentsWhole g.P.Places.represents g.P.Versioned.version) CanBeJudged (λ _. ⊤) g.S.Store c.args.tables.now c.loop-loan.tables c.lies_apart.new.tables (λ _ s found. CanBeJudged s → IsHoused c.args.unit s c.args.housed.now → IfSome found (λ apart. HoldNothingOfBranch c.args.unit s apart.items))
           c.loop-loan.invariant.looks c.in_err-is_apart.field-0.0 told.aborts
           (λ s it may judged clean free. told.faults tt s it tt judged clean free)
           c.from_residual.result (same_fault c.from_residual.result c.in_err-is_apart.field-0.0 e.0 e.1);
@@ -53,7 +57,7 @@ returns-in_default g c =
     let b = state g.S.Store c.loop-loan.tables in
     let d = state g.S.Store c.lies_apart.new.tables in
     record {
-      answers = ends_well (RepresentsWhole g.P.Places.represents g.P.Versioned.version) CanBeJudged (λ _. ⊤) g.S.Store c.args.tables.now c.args.tables.now c.lies_apart.new.tables (λ _ s found. CanBeJudged s → IsHoused c.args.unit s c.args.housed.now → IfSome found (λ apart. AreApart c.args.unit s apart.items))
+      answers = ends_well (RepresentsWhole g.P.Places.represents g.P.Versioned.version) CanBeJudged (λ _. ⊤) g.S.Store c.args.tables.now c.args.tables.now c.lies_apart.new.tables (λ _ s found. CanBeJudged s → IsHoused c.args.unit s c.args.housed.now → IfSome found (λ apart. HoldNothingOfBranch c.args.unit s apart.items))
           (looks_then a b d c.loop-loan.invariant.looks c.in_ok-is_apart.ensures.answers.looks) None (λ clean s it judged housed. tt);
     }
 
@@ -86,15 +90,15 @@ loop-loan-preserved g c =
           let so_far = c.loop-loan.invariant.apart before s judged it housed in
           elim c.if-is_apart.branch [
             | then-is_apart+in_ok-push w ↦
-                subst (AreApart u s) (sym (ap (λ v. v.items) w.apart-is ∙ w.in_ok-push.ensures.items))
+                subst (HoldNothingOfBranch u s) (sym (ap (λ v. v.items) w.apart-is ∙ w.in_ok-push.ensures.items))
                 (apart_more u s before_it _ so_far (told.answers clean tt s at_b judged housed (c.in-Some.is ∙ ap Some w.if-is_apart.true)))
-            | else-is_apart w ↦ subst (λ (v : Vec ℕ Global). AreApart u s v.items) (sym w.apart-is) so_far
+            | else-is_apart w ↦ subst (λ (v : Vec ℕ Global). HoldNothingOfBranch u s v.items) (sym w.apart-is) so_far
           ];
     }
 
 pub returns : goal.returns
 returns g c =
     record {
-      answers = ends_well (RepresentsWhole g.P.Places.represents g.P.Versioned.version) CanBeJudged (λ _. ⊤) g.S.Store c.args.tables.now c.args.tables.now c.loop-loan.tables (λ _ s found. CanBeJudged s → IsHoused c.args.unit s c.args.housed.now → IfSome found (λ apart. AreApart c.args.unit s apart.items))
+      answers = ends_well (RepresentsWhole g.P.Places.represents g.P.Versioned.version) CanBeJudged (λ _. ⊤) g.S.Store c.args.tables.now c.args.tables.now c.loop-loan.tables (λ _ s found. CanBeJudged s → IsHoused c.args.unit s c.args.housed.now → IfSome found (λ apart. HoldNothingOfBranch c.args.unit s apart.items))
           c.loop-loan.invariant.looks _ (λ clean s it judged housed. c.loop-loan.invariant.apart clean s judged it housed);
     }

@@ -1,10 +1,11 @@
 use Rattle.office_core.specs.State.{State}
-use Rattle.refinement.proofs.Common.{AreApart, CanBeJudged, HasCleanDisk, IsHoused, LeavesUnchanged, RepresentsState, state}
+use Rattle.refinement.proofs.Common.{CanBeJudged, HasCleanDisk, HoldNothingOfBranch, IsHoused, LeavesUnchanged}
+use Rattle.refinement.proofs.Common.{RepresentsState, state}
 use Rattle.refinement.proofs.containers_apart.containers_apart.Given as goal
 
 abbrev pub invariant-loop-loan : goal.invariant-loop-loan
 invariant-loop-loan g l = record {
   looks : LeavesUnchanged (state g.S.Store l.fn.tables) (state g.S.Store l.tables);
   apart : HasCleanDisk (state g.S.Store l.tables) → (s : State) → CanBeJudged s → RepresentsState g.P.Places.represents g.P.Versioned.version (state g.S.Store l.fn.tables).now s → IsHoused l.unit s l.housed
-      → AreApart l.unit s l.apart.items;
+      → HoldNothingOfBranch l.unit s l.apart.items;
 }

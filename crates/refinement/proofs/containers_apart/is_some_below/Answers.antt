@@ -1,6 +1,8 @@
 use Rattle.std.proofs.Common.{◌≡◌, true, false, [], ◌∷◌, get_or, take, refl, sym, ap, ap₂, ◌∙◌, arith}
 use Rattle.std.specs.Prelude.{◌||◌}
-use Rattle.refinement.proofs.Common.{CanBeJudged, RepresentsWhole, Unit, each, early, ends_not, ends_well, get_or_default, is_on_path, list_any, list_any-append, looks_nowhere, looks_then, same_fault, shown_on, state, take_all, take_more, ⊤}
+use Rattle.refinement.proofs.Common.{CanBeJudged, RepresentsWhole, Unit, each, early, ends_not, ends_well}
+use Rattle.refinement.proofs.Common.{get_or_default, is_on_path, list_any, list_any-append, looks_nowhere, looks_then}
+use Rattle.refinement.proofs.Common.{same_fault, shown_on, state, take_all, take_more, ⊤}
 use Rattle.refinement.proofs.JointWalks.{some_there}
 use Rattle.refinement.proofs.containers_apart.is_some_below.Goals as goal
 

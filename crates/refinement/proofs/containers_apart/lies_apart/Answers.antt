@@ -1,7 +1,9 @@
 use Rattle.std.proofs.Common.{◌≡◌, ℕ, Bool, true, false, not, Option, Some, None, ap, subst, sym, refl, ◌∙◌}
-use Rattle.office_core.specs.State.{State}
 use Rattle.office_tables.proofs.CallEnds.{tells_not}
-use Rattle.refinement.proofs.Common.{CanBeJudged, HousedUnit, IsHoused, IsNonDecreasing, RepresentsWhole, early, ends_not, ends_well, is_named_near, is_on_path, is_one_of, list_any, looks_nowhere, looks_then, same_fault, shown_on, state, ⊤}
+use Rattle.office_core.specs.State.{State}
+use Rattle.refinement.proofs.Common.{CanBeJudged, HousedUnit, IsHoused, IsNonDecreasing, RepresentsWhole, early}
+use Rattle.refinement.proofs.Common.{ends_not, ends_well, is_named_near, is_on_path, is_one_of, list_any, looks_nowhere}
+use Rattle.refinement.proofs.Common.{looks_then, same_fault, shown_on, state, ⊤}
 use Rattle.refinement.proofs.NamedApart.{apart_by_rows}
 use Rattle.refinement.proofs.containers_apart.lies_apart.Goals as goal
 

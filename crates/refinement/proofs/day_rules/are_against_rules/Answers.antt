@@ -1,6 +1,7 @@
 use Rattle.std.proofs.Common.{◌≡◌, ap, ◌∙◌}
 use Rattle.office_tables.proofs.CallEnds.{tells_not}
-use Rattle.refinement.proofs.Common.{CanBeJudged, RepresentsWhole, are_against_rules, early, ends_not, ends_well, is_some, looks_nowhere, looks_then, same_fault, shown_on, state, tables, ⊤}
+use Rattle.refinement.proofs.Common.{CanBeJudged, RepresentsWhole, are_against_rules, early, ends_not, ends_well}
+use Rattle.refinement.proofs.Common.{is_some, looks_nowhere, looks_then, same_fault, shown_on, state, tables, ⊤}
 use Rattle.refinement.proofs.DayRules.{by_hands, by_openness, by_seats}
 use Rattle.refinement.proofs.DiskBlames.{blames_first, blames_later}
 use Rattle.refinement.proofs.Gates.{some_closed}

@@ -1,7 +1,8 @@
 use Rattle.std.proofs.Common.{◌≡◌, ap, sym, ◌∙◌}
 use Rattle.office_tables.proofs.CallEnds.{tells_not}
 use Rattle.office_tables.proofs.WriteCauses.{last_disk}
-use Rattle.refinement.proofs.Common.{CanBeJudged, RepresentsWhole, are_against_rules, breaks_day_rules, same_fault, state, tables, ⊤}
+use Rattle.refinement.proofs.Common.{CanBeJudged, RepresentsWhole, are_against_rules, breaks_day_rules, same_fault}
+use Rattle.refinement.proofs.Common.{state, tables, ⊤}
 use Rattle.refinement.proofs.DayRules.{breaks_is}
 use Rattle.refinement.proofs.DiskBlames.{blames_first}
 use Rattle.refinement.proofs.Tellings.{told_then}

@@ -1,6 +1,6 @@
 use Rattle.std.proofs.Common.{◌≡◌, ◌∙◌}
-use Rattle.desk_store.specs.Representation.{IsLegible}
 use Rattle.office_tables.proofs.CallEnds.{tells_not}
+use Rattle.desk_store.specs.Representation.{IsLegible}
 use Rattle.refinement.proofs.Common.{RepresentsDeskAlone, ends_well, has_no_row, list_any, same_fault, state, ⊤}
 use Rattle.refinement.proofs.DayRules.{lacks_is}
 use Rattle.refinement.proofs.DiskBlames.{blames_first}

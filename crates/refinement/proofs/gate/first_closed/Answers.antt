@@ -1,6 +1,8 @@
 use Rattle.std.proofs.Common.{◌≡◌, ◌<◌, true, false, not, Option, Some, get_or, length, sym, ap, subst, ◌∙◌, arith}
 use Rattle.refinement.specs.Representation as shown
-use Rattle.refinement.proofs.Common.{CanBeJudged, ContainerOrder, IfSome, RepresentsWhole, early, ends_well, first_closed, first_that, is_closed_to, looks_then, opens, option_map, shown_on, slice_get-get_or, state, take_all, ⊤}
+use Rattle.refinement.proofs.Common.{CanBeJudged, ContainerOrder, IfSome, RepresentsWhole, early, ends_well}
+use Rattle.refinement.proofs.Common.{first_closed, first_that, is_closed_to, looks_then, opens, option_map, shown_on}
+use Rattle.refinement.proofs.Common.{slice_get-get_or, state, take_all, ⊤}
 use Rattle.refinement.proofs.Doings.{tells_passed, tells_passed_later}
 use Rattle.refinement.proofs.Gates.{first_here, none_more}
 use Rattle.refinement.proofs.TellingUnits.{nothing_told}

@@ -1,6 +1,7 @@
 use Rattle.std.proofs.Common.{◌≡◌, None, take}
 use Rattle.office_core.specs.State.{State}
-use Rattle.refinement.proofs.Common.{AreWalked, CanBeJudged, HasCleanDisk, LeavesUnchanged, RepresentsState, first_that, is_closed_to, state}
+use Rattle.refinement.proofs.Common.{AreWalked, CanBeJudged, HasCleanDisk, LeavesUnchanged, RepresentsState, first_that}
+use Rattle.refinement.proofs.Common.{is_closed_to, state}
 use Rattle.refinement.proofs.gate.first_closed.Given as goal
 
 abbrev pub invariant-loop-place : goal.invariant-loop-place

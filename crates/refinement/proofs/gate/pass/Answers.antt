@@ -1,7 +1,8 @@
 use Rattle.std.proofs.Common.{◌≡◌, ap, sym, ◌∙◌, Ok, Err}
 use Rattle.std.specs.Prelude.{Option, ℕ}
 use Rattle.office_tables.proofs.CallEnds.{tells_not}
-use Rattle.refinement.proofs.Common.{CanBeJudged, RepresentsWhole, WithReader, ends_well, gate_reply, option_map, same_fault, unless_refused, ⊤}
+use Rattle.refinement.proofs.Common.{CanBeJudged, RepresentsWhole, WithReader, ends_well, gate_reply, option_map}
+use Rattle.refinement.proofs.Common.{same_fault, unless_refused, ⊤}
 use Rattle.refinement.proofs.gate.pass.Goals as goal
 
 pub returns-in_err-container : goal.returns-in_err-container

@@ -1,6 +1,7 @@
 use Rattle.std.proofs.Common.{◌≡◌, ℕ, List, ◌++◌, get_or, ap, sym, subst, ◌∙◌, arith}
 use Rattle.office_tables.specs.Schema as tables
-use Rattle.refinement.proofs.Common.{Database, HasNumbered, early, get_or_default, housing_row, is_one_of, list_any, looks_full, looks_passed_later, looks_then, looks_well, says_so, state, take_all}
+use Rattle.refinement.proofs.Common.{Database, HasNumbered, early, get_or_default, housing_row, is_one_of, list_any}
+use Rattle.refinement.proofs.Common.{looks_full, looks_passed_later, looks_then, looks_well, says_so, state, take_all}
 use Rattle.refinement.proofs.NearRows.{one_more}
 use Rattle.refinement.proofs.housed_units.containers_of_each.Goals as goal
 

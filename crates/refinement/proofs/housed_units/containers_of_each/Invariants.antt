@@ -1,6 +1,7 @@
 use Rattle.std.proofs.Common.{◌≡◌, ℕ, List, take}
 use Rattle.office_tables.specs.Schema as tables
-use Rattle.refinement.proofs.Common.{HasCleanDisk, HoldsNumbered, HousingRow, LeavesUnchanged, housing_row, is_one_of, list_any, says_so, state}
+use Rattle.refinement.proofs.Common.{HasCleanDisk, HoldsNumbered, HousingRow, LeavesUnchanged, housing_row, is_one_of}
+use Rattle.refinement.proofs.Common.{list_any, says_so, state}
 use Rattle.refinement.proofs.housed_units.containers_of_each.Given as goal
 
 abbrev pub invariant-loop-unit : goal.invariant-loop-unit

@@ -1,6 +1,8 @@
 use Rattle.std.proofs.Common.{nat_eq, ap, sym, subst, ◌∙◌}
 use Rattle.office_tables.specs.Schema as tables
-use Rattle.refinement.proofs.Common.{Database, HasNumbered, IsNonDecreasingBy-from_sort, early, housing_row, list_any, list_any-IsPermutation, looks_full, looks_passed, looks_passed_later, looks_then, looks_well, option_to_list, says_so, state}
+use Rattle.refinement.proofs.Common.{Database, HasNumbered, IsNonDecreasingBy-from_sort, early, housing_row, list_any}
+use Rattle.refinement.proofs.Common.{list_any-IsPermutation, looks_full, looks_passed, looks_passed_later, looks_then}
+use Rattle.refinement.proofs.Common.{looks_well, option_to_list, says_so, state}
 use Rattle.refinement.proofs.housed_units.containers_on_path.Goals as goal
 
 pub returns-in_err-boxed-clause-finds : goal.returns-in_err-boxed-clause-finds

@@ -1,5 +1,7 @@
 use Rattle.std.proofs.Common.{◌≡◌, ◌<◌, length, ap, arith, sym, ◌∙◌}
-use Rattle.refinement.proofs.Common.{CanBeJudged, ContainerOrder, IfSome, IsWithheldAt, RepresentsWhole, early, ends_not, ends_well, is_withheld_in, looks_nowhere, looks_then, same_fault, shown_on, slice_get-get_or, some_and, state, ⊤}
+use Rattle.refinement.proofs.Common.{CanBeJudged, ContainerOrder, IfSome, IsWithheldAt, RepresentsWhole, early}
+use Rattle.refinement.proofs.Common.{ends_not, ends_well, is_withheld_in, looks_nowhere, looks_then, same_fault}
+use Rattle.refinement.proofs.Common.{shown_on, slice_get-get_or, some_and, state, ⊤}
 use Rattle.refinement.proofs.housed_units.first_withheld.Goals as goal
 
 pub loop-place-init : goal.loop-place-init

@@ -1,10 +1,13 @@
 use Rattle.std.proofs.Common.{ℕ, List, Vec, Global, None, Result, Err, filter, map, nat_eq, ap, subst, sym, ◌∙◌}
 use Rattle.isad_core.specs.Limits.{IsNumber}
-use Rattle.office_tables.specs.Schema as tables
 use Rattle.office_tables.proofs.CallEnds.{tells_not}
-use Rattle.refinement.specs.Representation as shown
+use Rattle.office_tables.specs.Schema as tables
 use Rattle.tree_places.proofs.MarkForests.{path_ids}
-use Rattle.refinement.proofs.Common.{AllByRecursion, CanBeJudged, Database, HasCause, HasNumbered, IsHoused, Mark, RepresentsWhole, StoreFault, Unit, cut_after, cut_then, each, early, ends_well, excused_then, has_id, has_row, housing_row, last_or, list_any, looks_then, option_to_list, path, same_fault, says_so, state, ⊤}
+use Rattle.refinement.specs.Representation as shown
+use Rattle.refinement.proofs.Common.{AllByRecursion, CanBeJudged, Database, HasCause, HasNumbered, IsHoused, Mark}
+use Rattle.refinement.proofs.Common.{RepresentsWhole, StoreFault, Unit, cut_after, cut_then, each, early, ends_well}
+use Rattle.refinement.proofs.Common.{excused_then, has_housing_row, has_id, housing_row, last_or, list_any, looks_then}
+use Rattle.refinement.proofs.Common.{option_to_list, path, same_fault, says_so, state, ⊤}
 use Rattle.refinement.proofs.NearRows.{all_path, last_with_rows, nearest_named}
 use Rattle.refinement.proofs.WithheldUnits.{ids_of_marks}
 use Rattle.refinement.proofs.housed_units.housed_unit.Goals as goal
@@ -72,7 +75,7 @@ returns g c =
           let marks = one.answers at_b (shown.office_of s) s.catalogue it.catalogue in
           let stored = subst (λ (db : Database). HasNumbered housing_row (db.trees tables.housing.tree) housings.housings) (sym (one.looks.same at_b)) housings.rows in
           let ids = c.deref-2.ensures.value ∙ c.in_ok-units.ensures.value ∙ ap (map (λ (mark : Mark). mark.id)) c.deref.ensures.value ∙ ids_of_marks (path (has_id u) f) c.in_ok-path.path.items marks in
-          let above = ap (λ (units : List ℕ). option_to_list (last_or None (filter (has_row housings.housings) units))) ids ∙ last_with_rows a.now.trees f s.catalogue.containers housings u in
+          let above = ap (λ (units : List ℕ). option_to_list (last_or None (filter (has_housing_row housings.housings) units))) ids ∙ last_with_rows a.now.trees f s.catalogue.containers housings u in
           record {
             containers = λ n. last.answers clean housings.housings stored tt n ∙ ap (list_any (λ unit. list_any (says_so n unit) housings.housings)) above ∙ nearest_named a.now.trees f s.catalogue.containers housings n u;
             path = marks;

@@ -1,9 +1,12 @@
-use Rattle.std.proofs.Common.{◌≡◌, ℕ, ℤ, Bool, true, false, not, map, of_z, to_z, w32, FitsSigned, rules, refl, ap, ap₂, subst, sym, ◌∙◌}
-use Rattle.std.specs.Prelude.{◌&&◌}
+use Rattle.std.proofs.Common.{◌≡◌, ℕ, ℤ, Bool, true, false, not, map, of_z, to_z, w32, FitsSigned, rules, refl, ap, ap₂}
+use Rattle.std.proofs.Common.{subst, sym, ◌∙◌}
 use Rattle.std.proofs.lemmas.Int.{to_z-of_z}
-use Rattle.office_tables.specs.declared.fault.StoreFault.TheVariants as fault
+use Rattle.std.specs.Prelude.{◌&&◌}
 use Rattle.office_tables.proofs.CallEnds.{tells_not}
-use Rattle.refinement.proofs.Common.{CanBeJudged, IsNonDecreasing, RepresentsWhole, allows, cut_after, ends_well, is_one_of, is_permitted, is_withheld_in, looks_nowhere, same_fault, state, tables, with_permit, withholds, ⊤}
+use Rattle.office_tables.specs.declared.fault.StoreFault.TheVariants as fault
+use Rattle.refinement.proofs.Common.{CanBeJudged, IsNonDecreasing, RepresentsWhole, allows, cut_after, ends_well}
+use Rattle.refinement.proofs.Common.{is_one_of, is_permitted, is_withheld_in, looks_nowhere, same_fault, state, tables}
+use Rattle.refinement.proofs.Common.{with_permit, withholds, ⊤}
 use Rattle.refinement.proofs.DiskBlames.{blames_first}
 use Rattle.refinement.proofs.OpenByRows.{allowed}
 use Rattle.refinement.proofs.housed_units.is_withheld_in.Goals as goal

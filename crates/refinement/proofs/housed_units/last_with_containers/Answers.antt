@@ -1,6 +1,7 @@
 use Rattle.std.proofs.Common.{◌≡◌, ℕ, cond, Option, Some, None, filter, take, get_or, ap, sym, subst, ◌∙◌, arith}
 use Rattle.office_tables.specs.Schema as tables
-use Rattle.refinement.proofs.Common.{Database, HasNumbered, early, get_or_default, has_row, housing_row, last_or, looks_passed_later, looks_then, looks_well, state, take_all}
+use Rattle.refinement.proofs.Common.{Database, HasNumbered, early, get_or_default, has_housing_row, housing_row}
+use Rattle.refinement.proofs.Common.{last_or, looks_passed_later, looks_then, looks_well, state, take_all}
 use Rattle.refinement.proofs.NearRows.{last_more}
 use Rattle.refinement.proofs.housed_units.last_with_containers.Goals as goal
 use Rattle.refinement.proofs.housed_units.last_with_containers.Goals.{then-branch, else-branch}
@@ -27,9 +28,9 @@ loop-unit-preserved g c =
       so_far = λ clean xs stored.
           let at_b = early b d _ told.reads.crash clean in
           let here = subst (λ (db : Database). HasNumbered housing_row (db.trees tables.housing.tree) xs) (sym (looks.same at_b)) stored in
-          let before : Option ℕ = last_or None (filter (has_row xs) (take i units)) in
+          let before : Option ℕ = last_or None (filter (has_housing_row xs) (take i units)) in
           let has = sym (told.answers clean xs here tt) in
-          let one_more = last_more (has_row xs) units i c.loop-unit-test.true in
+          let one_more = last_more (has_housing_row xs) units i c.loop-unit-test.true in
           elim c.if-branch.branch [
             | then-branch w ↦ w.last-is ∙ ap Some is ∙ sym (one_more ∙ ap (λ b. cond b (Some unit) before) (has ∙ w.if-branch.true))
             | else-branch w ↦ w.last-is ∙ c.loop-unit.invariant.so_far at_b xs stored ∙ sym (one_more ∙ ap (λ b. cond b (Some unit) before) (has ∙ w.if-branch.false))
@@ -40,4 +41,4 @@ pub returns : goal.returns
 returns g c =
     looks_well c.loop-unit.invariant.looks
     (λ clean xs stored _. c.loop-unit.invariant.so_far clean xs stored
-    ∙ ap (λ units. last_or None (filter (has_row xs) units)) (take_all c.loop-unit.unit-index c.args.units.now (omega (arith, c.loop-unit-test.false))))
+    ∙ ap (λ units. last_or None (filter (has_housing_row xs) units)) (take_all c.loop-unit.unit-index c.args.units.now (omega (arith, c.loop-unit-test.false))))

@@ -2,7 +2,9 @@ use Rattle.std.proofs.Common.{◌≡◌, ℕ, ℤ, Bool, true, false, List, [], 
 use Rattle.std.specs.Prelude.{Option}
 use Rattle.desk_store.specs.declared.reader_permits.Permit.{Permit}
 use Rattle.office_core.specs.State.{State}
-use Rattle.refinement.proofs.Common.{AreTold, Attached, BTreeMap, CanBeJudged, Catalogue, IsPermutation-refl, Mark, RepresentsWhole, TellsOpen, are_clean_for, ends_well, eqb-true, fun_ext, int_le, is_clean_for, list_all, looks_nowhere, permits_of, state, tables, ⊤}
+use Rattle.refinement.proofs.Common.{AreTold, Attached, BTreeMap, CanBeJudged, Catalogue, IsPermutation-refl, Mark}
+use Rattle.refinement.proofs.Common.{RepresentsWhole, TellsOpen, are_clean_for, ends_well, eqb-true, fun_ext, int_le}
+use Rattle.refinement.proofs.Common.{is_clean_for, list_all, looks_nowhere, permits_of, state, tables, ⊤}
 use Rattle.refinement.proofs.Doings.{tells_passed}
 use Rattle.refinement.proofs.MorePermits.{open_to_all, valid_allow}
 use Rattle.refinement.proofs.OpenByRows.{clean_open, empty_closed}

@@ -1,7 +1,9 @@
 use Rattle.std.proofs.Common.{◌≡◌, true, map, refl, sym, subst, ◌∙◌, arith}
-use Rattle.office_tables.specs.declared.fault.StoreFault.TheVariants as fault
 use Rattle.office_tables.proofs.StoreCalls.{tells_not, tells_cut}
-use Rattle.refinement.proofs.Common.{AllByRecursion, AreTheirs, AreTold, Database, IsKept, Mark, Represents, all-get_or, are_known, cut_after, early, has_unit, is_known, length-map, looks_then, same_fault, spares_full, state}
+use Rattle.office_tables.specs.declared.fault.StoreFault.TheVariants as fault
+use Rattle.refinement.proofs.Common.{AllByRecursion, AreTheirs, AreTold, Database, IsKept, Mark, Represents, all-get_or}
+use Rattle.refinement.proofs.Common.{are_known, cut_after, early, has_unit, is_unit_known, length-map, looks_then}
+use Rattle.refinement.proofs.Common.{same_fault, spares_full, state}
 use Rattle.refinement.proofs.AllPass.{all_of, more_clean}
 use Rattle.refinement.proofs.TellingUnits.{known_more, told_more}
 use Rattle.refinement.proofs.known_units.know_rows.Goals as goal
@@ -12,7 +14,7 @@ loop-row-preserved-then-contains_key g c =
     record {
       looks = before.looks;
       told = before.told;
-      known = more_clean (is_known c.loop-row.known) c.args.rows.now c.loop-row.row-index _ c.loop-row-test.true c.contains_key.result c.contains_key.ensures c.if-contains_key.true before.known;
+      known = more_clean (is_unit_known c.loop-row.known) c.args.rows.now c.loop-row.row-index _ c.loop-row-test.true c.contains_key.result c.contains_key.ensures c.if-contains_key.true before.known;
       path = before.path;
     }
 
@@ -105,13 +107,15 @@ pub returns : goal.returns
 returns g c =
     record {
       answers = record {
-        answers = λ clean o k it theirs told. (
-          c.loop-row.invariant.told clean o k it theirs told,
-          sym (all_of (is_known c.loop-row.known) (map (λ (row : Mark). row.id) c.args.rows.now) c.loop-row.row-index (omega (arith, c.loop-row-test.false, length-map c.args.rows.now (λ (row : Mark). row.id))) c.loop-row.invariant.known),
-        );
-        looks = c.loop-row.invariant.looks;
-        aborts = tt;
+        call = record {
+          answers = λ clean o k it theirs told. (
+            c.loop-row.invariant.told clean o k it theirs told,
+            sym (all_of (is_unit_known c.loop-row.known) (map (λ (row : Mark). row.id) c.args.rows.now) c.loop-row.row-index (omega (arith, c.loop-row-test.false, length-map c.args.rows.now (λ (row : Mark). row.id))) c.loop-row.invariant.known),
+          );
+          looks = c.loop-row.invariant.looks;
+          aborts = tt;
+          faults = λ o k it all kept clean free. tt;
+        };
         spares = λ clean. tt;
-        faults = λ o k it all kept clean free. tt;
       };
     }

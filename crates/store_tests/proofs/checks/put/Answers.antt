@@ -1,11 +1,11 @@
 use Rattle.std.proofs.Common.{refl}
 use Rattle.office_tables.specs.Versions.{First}
-use Rattle.desk_store.proofs.ReaderRows.{insert_reader_command, insert_reader_means}
-use Rattle.desk_store.proofs.SeatRows.{insert_seat_command, insert_seat_means}
-use Rattle.desk_store.proofs.PermitRows.{insert_permit_command, insert_permit_means}
-use Rattle.desk_store.proofs.OrderWrites.{insert_order_command, insert_order_means, set_state_command, set_state_means}
 use Rattle.desk_store.proofs.HoldingWrites.{insert_holding_command, insert_holding_means}
+use Rattle.desk_store.proofs.OrderWrites.{insert_order_command, insert_order_means, set_state_command, set_state_means}
+use Rattle.desk_store.proofs.PermitRows.{insert_permit_command, insert_permit_means}
+use Rattle.desk_store.proofs.ReaderRows.{insert_reader_command, insert_reader_means}
 use Rattle.desk_store.proofs.RunRows.{insert_run_command, insert_run_means, insert_line_command, insert_line_means}
+use Rattle.desk_store.proofs.SeatRows.{insert_seat_command, insert_seat_means}
 use Rattle.store_tests.proofs.checks.put.Goals as goal
 
 pub change-requires : goal.change-requires

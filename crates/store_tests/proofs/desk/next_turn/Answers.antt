@@ -2,10 +2,10 @@ use Rattle.std.proofs.Common.{◌≡◌, true, IsTrue, ap, ◌∙◌, Result, Ok
 use Rattle.sqlite.specs.Effect.{Database}
 use Rattle.sqlite.specs.Held.{state}
 use Rattle.sqlite.specs.State.{State, HasCleanDisk, Shows, Survives}
-use Rattle.office_tables.specs.Versions.{Version, First}
+use Rattle.office_tables.proofs.Calls.{early}
 use Rattle.office_tables.specs.Step.{AreTables, InTransaction}
 use Rattle.office_tables.specs.Transactions.{Committed}
-use Rattle.office_tables.proofs.Calls.{early}
+use Rattle.office_tables.specs.Versions.{Version, First}
 use Rattle.store_tests.proofs.desk.next_turn.Goals as goal
 
 -- what was done is committed, and another transaction begins

@@ -1,10 +1,13 @@
-use Rattle.std.proofs.Common.{◌≡◌, ◌∙◌, ◌+◌, ◌++◌, ◌∷◌, [], List, Some, true, false, sym, ap, ap₂, option_map, add-zero, ℕ}
-use Rattle.std.specs.Prelude.{Err, not}
+use Rattle.std.proofs.Common.{◌≡◌, ◌∙◌, ◌+◌, ◌++◌, ◌∷◌, [], List, Some, true, false, sym, ap, ap₂, option_map, add-zero}
+use Rattle.std.proofs.Common.{ℕ}
 use Rattle.std.specs.BTreeMap.{get_by_text}
-use Rattle.atom_csv.specs.declared.file.Row.{Row}
+use Rattle.std.specs.Prelude.{Err, not}
 use Rattle.atom_csv.specs.Findings.{causes_of, findings}
-use Rattle.atom_csv.proofs.Common.{Bytes, bytes_eq, fields_in, if◌then◌else◌, is_blank, is_some, is_told_again, is_translation, lowest, rows, stood_above, ◌&&◌, ◌||◌}
-use Rattle.atom_csv.proofs.LineLemmas.{fault_step, knows_blank, knows_new, knows_stood, line_at, none_step, rows_kept, rows_passed, told, told_is, translation_stood, translations_step}
+use Rattle.atom_csv.specs.declared.file.Row.{Row}
+use Rattle.atom_csv.proofs.Common.{Bytes, bytes_eq, fields_in, if◌then◌else◌, is_blank, is_some, is_told_again}
+use Rattle.atom_csv.proofs.Common.{is_translation, lowest, rows, stood_above, ◌&&◌, ◌||◌}
+use Rattle.atom_csv.proofs.LineLemmas.{fault_step, knows_blank, knows_new, knows_stood, line_at, none_step, rows_kept}
+use Rattle.atom_csv.proofs.LineLemmas.{rows_passed, told, told_is, translation_stood, translations_step}
 use Rattle.atom_csv.proofs.rows.Rows.add.Goals as goal
 
 pub returns-in-Some-clause-bad : goal.returns-in-Some-clause-bad

@@ -1,6 +1,7 @@
 use Rattle.std.proofs.Common.{◌≡◌, ℕ, suc, ◌+◌, length, get_or, List, None, refl, subst, ◌∙◌, arith}
 use Rattle.finding_aids.proofs.Common.{HasGrown, Slot, nil_from_length, the_lemmas}
-use Rattle.finding_aids.proofs.PlantLemmas.{grown_all, grown_draft, grown_none, grove-reverse, grown_published, height_of_all-reverse, last_slot, parent_below}
+use Rattle.finding_aids.proofs.PlantLemmas.{grown_all, grown_draft, grown_none, grove-reverse, grown_published}
+use Rattle.finding_aids.proofs.PlantLemmas.{height_of_all-reverse, last_slot, parent_below}
 use Rattle.finding_aids.proofs.previews.trees.plant.Goals as goal
 
 pub loop-slot-init : goal.loop-slot-init
