@@ -5,11 +5,11 @@ measures.js does the measuring."""
 import json
 import pathlib
 
-from asks import Asks
-from catalogue import ODD, dock_company
-from checks import wants
-from office import FRONT, MANY_PAGES, SIGNED_IN, TOP, Office
-from waits import until
+from acceptance.front.asks import Asks
+from acceptance.front.catalogue import ODD, dock_company
+from acceptance.front.checks import wants
+from acceptance.front.office import FRONT, MANY_PAGES, SIGNED_IN, TOP, Office
+from acceptance.front.waits import until
 
 MEASURES = (pathlib.Path(__file__).parent / "measures.js").read_text("utf-8")
 DESK, ZOOMED = (1280, 800), (320, 256)  # a window of 1280 x 1024 at 400 % is the second
@@ -19,7 +19,8 @@ FAR = "2030-12-31"
 ROLES = {"link", "button", "textbox", "searchbox", "checkbox", "radio", "combobox", "option", "Date", "spinbutton",
          "DisclosureTriangle", "heading", "group", "region", "RootWebArea", "dialog", "status"}
 
-OLD_ORDERS = (b"Order,Ordered on,Days,Ticket,Reader,Container,Name,Location,Where,Last ordered on,Orders that wait,Newest order\r\n"
+OLD_ORDERS = (b"Order,Ordered on,Days,Ticket,Reader,Container,Name,Location,Where,Last ordered on,Orders that wait,"
+              b"Newest order\r\n"
               b"1,2024-03-01,40,1,Ann,1,Box 1,Room 1,at the desk,2024-03-01,1,1\r\n")
 DIFFERENCES = json.dumps({
     "copy": "2024-03-01, 03:00", "answer": {"new": 0, "changed": 1, "same": 0}, "refused": None,

@@ -5,23 +5,23 @@ import contextlib
 import json
 import operator
 import os
+import pathlib
 import re
 import select
 import subprocess
 import urllib.parse
+from collections.abc import Callable, Mapping
+from typing import Any
 
-from waits import settings, until
+from acceptance.front.waits import settings, until
 
-FLAGS = ["--headless=new", "--remote-debugging-pipe", "--no-sandbox", "--disable-gpu", "--hide-scrollbars",
-         "--no-first-run",
+FLAGS = ["--headless=new", "--remote-debugging-pipe", "--no-sandbox", "--disable-gpu", "--hide-scrollbars", "--no-first-run",
          "--disable-extensions", "--disable-background-networking", "--disable-component-update", "--disable-sync",
          "--disable-renderer-backgrounding", "--disable-background-timer-throttling",
-         "--disable-backgrounding-occluded-windows",
-         "--force-prefers-reduced-motion"]
+         "--disable-backgrounding-occluded-windows", "--force-prefers-reduced-motion"]
 
-# A page that is left asks no more. On a busy machine it goes on for seconds, but without the headers of its tab: then
-# the browser
-# would wait for a password, on each of the connections that the next page needs.
+# A page that is left asks no more. On a busy machine it goes on for seconds, but without the headers of its tab: then the
+# browser would wait for a password, on each of the connections that the next page needs.
 LEAVE = "window.isLeft = true; window.fetch = () => new Promise(() => {}); 0"
 ANSWERED_HERE = "/no/such/file/of/the/front"
 LATENCY = 10  # milliseconds for each time that a page is slower
@@ -33,26 +33,29 @@ class Browser:
     """A running Chromium. `answer`: what it answers paused requests with; `on_event`: is called with each event; `covers`:
     it keeps what runs of each script."""
 
-    def __init__(self, profile, binary="chromium", covers=False):
+    def __init__(self, profile: str | pathlib.Path, binary: str = "chromium", covers: bool = False) -> None:
         out, self.write = os.pipe()
         self.read, into = os.pipe()
         shell = f'exec "$0" "$@" 3<&{out} 4>&{into}'
-        self.process = subprocess.Popen(["bash", "-c", shell, binary, *FLAGS, f"--user-data-dir={profile}",
-                                         "about:blank"],
+        self.process = subprocess.Popen(["bash", "-c", shell, binary, *FLAGS, f"--user-data-dir={profile}", "about:blank"],
                                         pass_fds=(out, into), stdout=subprocess.DEVNULL, stderr=subprocess.DEVNULL)
         os.close(out)
         os.close(into)
-        self.rest, self.last, self.events, self.answer, self.on_event = b"", 0, [], None, None
-        self.covers, self.ran, self.pages = covers, {}, []
+        self.rest, self.last, self.covers = b"", 0, covers
+        self.events: list[dict[str, Any]] = []
+        self.answer: tuple[int, bytes] | None = None
+        self.on_event: Callable[[dict[str, Any]], object] | None = None
+        self.ran: dict[str, bytes] = {}
+        self.pages: list[Page] = []
 
-    def call(self, method, session=None, **params):
+    def call(self, method: str, session: str | None = None, **params: Any) -> Any:
         """Calls a method of the protocol; returns its result. Raises RuntimeError if it fails."""
         self.last += 1
         message = {"id": self.last, "method": method, "params": params, **({"sessionId": session} if session else {})}
         os.write(self.write, json.dumps(message).encode() + b"\0")
         return self._until(self.last, method)
 
-    def _until(self, number, method):
+    def _until(self, number: int, method: str) -> Any:
         """Reads messages up to the reply of this number; returns its result."""
         while True:
             got = self._message()
@@ -63,7 +66,7 @@ class Browser:
             if "method" in got:
                 self._event(got)
 
-    def _event(self, got):
+    def _event(self, got: dict[str, Any]) -> None:
         """Keeps an event, and answers a request that is paused."""
         self.events.append(got)
         if self.on_event:
@@ -76,7 +79,7 @@ class Browser:
             os.write(self.write, json.dumps({"id": self.last, "method": "Fetch.fulfillRequest", "params": params,
                                              "sessionId": got["sessionId"]}).encode() + b"\0")
 
-    def _message(self):
+    def _message(self) -> dict[str, Any]:
         """The next message. Raises RuntimeError if none comes."""
         while b"\0" not in self.rest:
             ready = select.select([self.read], [], [], 2 * settings.patience)[0]
@@ -87,20 +90,20 @@ class Browser:
         one, self.rest = self.rest.split(b"\0", 1)
         return json.loads(one)
 
-    def page(self, headers=None):
+    def page(self, headers: Mapping[str, str] | None = None) -> "Page":
         """Opens a tab that sends these headers with each request."""
         target = self.call("Target.createTarget", url="about:blank")["targetId"]
         session = self.call("Target.attachToTarget", targetId=target, flatten=True)["sessionId"]
         self.pages.append(Page(self, session, headers))
         return self.pages[-1]
 
-    def covered(self):
+    def covered(self) -> dict[str, list[tuple[int, int]]]:
         """Of each script, by its path: where what ran begins and ends."""
         for page in self.pages:
             page.keep_ran()
         return {path: [found.span() for found in re.finditer(b"\1+", ran)] for path, ran in self.ran.items()}
 
-    def end(self):
+    def end(self) -> None:
         """Ends the browser."""
         with contextlib.suppress(RuntimeError, OSError):
             self.call("Browser.close")
@@ -114,7 +117,7 @@ class Browser:
 class Page:
     """A tab of the browser."""
 
-    def __init__(self, browser, session, headers):
+    def __init__(self, browser: Browser, session: str, headers: Mapping[str, str] | None) -> None:
         self.browser, self.session, self.opened = browser, session, 0
         for domain in ("Page", "Runtime", "Log", "Network"):
             self.call(f"{domain}.enable")
@@ -130,30 +133,30 @@ class Page:
             self.call("Profiler.startPreciseCoverage", callCount=True, detailed=True)
         self.size(1200, 850)
 
-    def call(self, method, **params):
+    def call(self, method: str, **params: Any) -> Any:
         """Calls a method of the protocol for this tab."""
         return self.browser.call(method, self.session, **params)
 
-    def size(self, width, height, scale=1, mobile=False):
+    def size(self, width: int, height: int, scale: float = 1, mobile: bool = False) -> None:
         """Gives the window this size in pixels."""
         self.call("Emulation.setDeviceMetricsOverride", width=width, height=height, deviceScaleFactor=scale,
                   mobile=mobile)
 
-    def js(self, code):
+    def js(self, code: str) -> Any:
         """Runs a script; returns its value, awaited. Raises RuntimeError if it throws."""
         got = self.call("Runtime.evaluate", expression=code, awaitPromise=True, returnByValue=True)
         if "exceptionDetails" in got:
             raise RuntimeError(f"{code}: {got['exceptionDetails']['exception'].get('description')}")
         return got["result"].get("value")
 
-    def wait(self, condition, minutes=1):
+    def wait(self, condition: str, minutes: float = 1) -> None:
         """Waits until the condition holds."""
         try:
             until(lambda: self.holds(condition), condition, minutes)
         except AssertionError as late:
             raise AssertionError(f"{late}\n--- the page shows:\n{self.text()[:2000]}") from None
 
-    def holds(self, condition):
+    def holds(self, condition: str) -> bool:
         """Whether the condition holds. While another page loads there is none to ask: then it does not."""
         try:
             holds = self.js(f"Boolean({condition})")
@@ -165,7 +168,7 @@ class Page:
             raise AssertionError(f"a script failed: {failed[0]}")
         return holds
 
-    def keep_ran(self):
+    def keep_ran(self) -> None:
         """Keeps what has run of the scripts since this was called last; nothing of a page in another process."""
         scripts = []
         with contextlib.suppress(RuntimeError):
@@ -180,12 +183,12 @@ class Page:
             before = self.browser.ran.get(path, b"").ljust(len(ran), b"\0")
             self.browser.ran[path] = bytes(map(operator.or_, before, ran.ljust(len(before), b"\0")))
 
-    def open(self, site, hash_, condition="document.querySelector('main h1')"):
+    def open(self, site: str, hash_: str, condition: str = "document.querySelector('main h1')") -> None:
         """Loads a page of the site again: the text after `?` differs each time, and nothing reads it."""
         self.opened += 1
         self.visit(f"{site}/?{self.opened}#{hash_}", condition)
 
-    def visit(self, address, condition="document.querySelector('main h1')"):
+    def visit(self, address: str, condition: str = "document.querySelector('main h1')") -> None:
         """Loads the page of this address, even if it is shown already."""
         if self.browser.covers:
             self.keep_ran()
@@ -194,67 +197,67 @@ class Page:
         self.call("Page.navigate", url=address)
         self.await_page(condition)
 
-    def reload(self, condition="document.querySelector('main h1')"):
+    def reload(self, condition: str = "document.querySelector('main h1')") -> None:
         """Loads the page again."""
         self.js(LEAVE)
         self.call("Page.reload")
         self.await_page(condition)
 
-    def await_page(self, condition):
+    def await_page(self, condition: str) -> None:
         """Waits until a new page is loaded and the condition holds there."""
         self.wait(f"!window.isLeft && document.readyState === 'complete' && {condition}")
 
-    def go(self, hash_, condition="true"):
+    def go(self, hash_: str, condition: str = "true") -> None:
         """To another page of the same site, by its address alone."""
         self.js(f"location.hash = {json.dumps(hash_)}")
         self.wait(condition)
 
-    def quote(self, text):
+    def quote(self, text: str) -> str:
         """A text as a string of JavaScript."""
         return json.dumps(text)
 
-    def text(self, selector="main"):
+    def text(self, selector: str = "main") -> str:
         """The text that an element shows; nothing if there is no such element."""
         return self.js(f"document.querySelector({json.dumps(selector)})?.innerText ?? ''")
 
-    def see(self, words, selector="main"):
+    def see(self, words: str, selector: str = "main") -> None:
         """Waits until an element of a page that is loaded, so that its scripts have run, shows these words."""
         quoted, place = json.dumps(words), json.dumps(selector)
-        self.wait(f"document.readyState === 'complete' && (document.querySelector({place})?.innerText ?? '').includes({quoted})")
+        self.wait("document.readyState === 'complete'"
+                  f" && (document.querySelector({place})?.innerText ?? '').includes({quoted})")
 
-    def fill(self, label, value, card=None):
+    def fill(self, label: str, value: object, card: str | None = None) -> None:
         """Writes a value into the field with this label, which gets the focus."""
-        self.js(
-            f"({FIND})({json.dumps(label)}, {json.dumps(card)}, (input) => "
-            f"{{ input.focus(); input.value = {json.dumps(value)}; }})")
+        self.js(f"({FIND})({json.dumps(label)}, {json.dumps(card)}, (input) => "
+                f"{{ input.focus(); input.value = {json.dumps(value)}; }})")
 
-    def choose(self, label, card=None):
+    def choose(self, label: str, card: str | None = None) -> None:
         """Clicks the field with this label."""
         self.js(f"({FIND})({json.dumps(label)}, {json.dumps(card)}, (input) => input.click())")
 
-    def press(self, button, card=None):
+    def press(self, button: str, card: str | None = None) -> None:
         """Clicks the button, link or summary with these words."""
         self.js(f"({PRESS})({json.dumps(button)}, {json.dumps(card)})")
 
-    def insist(self, button, words, selector="main", card=None):
+    def insist(self, button: str, words: str, selector: str = "main", card: str | None = None) -> None:
         """Presses a button again and again until the page says this: forms pass over what looks like a second click."""
         def said():
+            """Whether the page says it; presses the button if not."""
             return words in self.text(selector) or self.press(button, card)
         until(said, f"{button} leads to: {words}")
 
-    def pass_pause(self):
+    def pass_pause(self) -> None:
         """Waits, by the page's clock, until no form takes what is done now for a repetition of what it answered
         last."""
         began = self.js("performance.now()")
         self.wait(f"performance.now() > {began} + {PAUSE}")
 
-    def press_starting(self, words):
+    def press_starting(self, words: str) -> None:
         """Clicks the first button, link or summary whose text begins with these words."""
-        self.js(
-            f"[...document.querySelectorAll('summary, button, a')].find((one) => "
-            f"one.textContent.startsWith({json.dumps(words)})).click()")
+        self.js(f"[...document.querySelectorAll('summary, button, a')].find((one) => "
+                f"one.textContent.startsWith({json.dumps(words)})).click()")
 
-    def second_click(self, button):
+    def second_click(self, button: str) -> None:
         """Sends the second click of two to this button, wherever the first one was."""
         self.js(WATCH_CLICK)
 
@@ -266,25 +269,24 @@ class Page:
             return self.js(TWO_FRAMES + ".then(() => window.clicked)")
         until(clicked, f"{button} can be clicked")
 
-    def key_in(self, label, key, card=None):
+    def key_in(self, label: str, key: str, card: str | None = None) -> None:
         """Presses a key in the field with this label."""
         self.js(f"({FIND})({json.dumps(label)}, {json.dumps(card)}, (input) => input.focus())")
         self.key(key)
 
-    def scan(self, digits):
+    def scan(self, digits: str) -> None:
         """Sends what a barcode reader sends: digits one after the other, and Enter."""
         self.digits(digits)
         self.key("Enter")
 
-    def digits(self, digits):
+    def digits(self, digits: str) -> None:
         """Presses the keys of these digits."""
         for digit in digits:
             for kind in ("keyDown", "keyUp"):
                 self.call("Input.dispatchKeyEvent", type=kind, key=digit, code=f"Digit{digit}",
-                          windowsVirtualKeyCode=ord(digit),
-                          **({"text": digit} if kind == "keyDown" else {}))
+                          windowsVirtualKeyCode=ord(digit), **({"text": digit} if kind == "keyDown" else {}))
 
-    def key(self, key, repeat=False, shift=False):
+    def key(self, key: str, repeat: bool = False, shift: bool = False) -> None:
         """Presses a key; `repeat`: as one that is held down."""
         code = {"Enter": 13, "Tab": 9, "Escape": 27, " ": 32}[key]
         text = {"text": "\r"} if key == "Enter" else {}
@@ -293,21 +295,21 @@ class Page:
         self.call("Input.dispatchKeyEvent", type="keyUp", key=key, code=key, windowsVirtualKeyCode=code,
                   modifiers=8 * shift)
 
-    def type(self, text):
+    def type(self, text: str) -> None:
         """Types a text where the focus is."""
         self.call("Input.insertText", text=text)
 
-    def focus_name(self):
+    def focus_name(self) -> str:
         """What has the focus: its text, its name or its tag."""
         return self.js(
             "document.activeElement.innerText || document.activeElement.name || document.activeElement.tagName")
 
-    def file(self, path):
+    def file(self, path: str | pathlib.Path) -> None:
         """Chooses a file in the page's field for files."""
         found = self.call("Runtime.evaluate", expression="document.querySelector('input[type=file]')")
         self.call("DOM.setFileInputFiles", files=[str(path)], objectId=found["result"]["objectId"])
 
-    def shot(self, path, full=True):
+    def shot(self, path: pathlib.Path, full: bool = True) -> None:
         """Writes a picture of the page, or of the window alone, as PNG."""
         self.js(TWO_FRAMES)
         height = self.js("document.documentElement.scrollHeight")
@@ -316,12 +318,12 @@ class Page:
         got = self.call("Page.captureScreenshot", format="png", captureBeyondViewport=full, **clip)
         path.write_bytes(base64.b64decode(got["data"]))
 
-    def pdf(self, path):
+    def pdf(self, path: pathlib.Path) -> None:
         """Writes the page as it would be printed, as PDF."""
         got = self.call("Page.printToPDF", preferCSSPageSize=True, paperWidth=8.27, paperHeight=11.69)
         path.write_bytes(base64.b64decode(got["data"]))
 
-    def answer_with(self, pattern, status, body):
+    def answer_with(self, pattern: str | None, status: int, body: bytes) -> None:
         """The browser itself answers requests like `pattern`, or no more where it is None. It tells that it will before
         it does, so a request of ours is put until it is answered so."""
         self.browser.answer = (status, body)
@@ -332,14 +334,14 @@ class Page:
         until(lambda: self.js(f"fetch('{ANSWERED_HERE}').then((answer) => answer.status)") == status,
               f"the browser answers {pattern}")
 
-    def count_sent(self, method, part):
+    def count_sent(self, method: str, part: str) -> int:
         """How many requests with this method, and this part in their addresses, the page has sent so far."""
         self.js("0")  # what was told before this is read
         requests = [event["params"]["request"] for event in self.browser.events
                     if event.get("sessionId") == self.session and event["method"] == "Network.requestWillBeSent"]
         return sum(one["method"] == method and part in one["url"] for one in requests)
 
-    def complaints(self, warnings=False):
+    def complaints(self, warnings: bool = False) -> list[str]:
         """What the browser said of the pages: blocked by their policy, scripts that failed, files that were not
         there. warnings: also what a page has kept a clerk from seeing."""
         said = []
@@ -367,10 +369,10 @@ FIND = """(label, card, act) => { %s
   const found = [...scope.querySelectorAll('label')].find((one) => one.innerText === label);
   if (!found) throw new Error('no label ' + label); act(document.getElementById(found.htmlFor)); }""" % SCOPE
 PRESS = """(button, card) => { %s
-  const words = (one) => one.textContent.replace(/\\s+/g, ' ').trim();
+  const words = (one) => one.textContent.replace(/[ \\n]+/g, ' ').trim();
   const found = [...scope.querySelectorAll('button, summary, a')].find((one) => words(one) === button);
   if (!found) throw new Error('no button ' + button); found.click(); }""" % SCOPE
-PLACE = """(button) => { const words = (one) => one.textContent.replace(/\\s+/g, ' ').trim();
+PLACE = """(button) => { const words = (one) => one.textContent.replace(/[ \\n]+/g, ' ').trim();
   const found = [...document.querySelectorAll('button')].find((one) => words(one) === button);
   found.scrollIntoView({ block: 'center' }); const { left, top, width, height } = found.getBoundingClientRect();
   return [left + width / 2, top + height / 2]; }"""

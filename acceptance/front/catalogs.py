@@ -1,7 +1,6 @@
-#!/usr/bin/python3
 """Compares the catalogs of texts (front/readers/po) with the texts of the pages:
 
-    catalogs.py [--write] [--brackets FILE]
+    ./run acceptance.front.catalogs [--write] [--brackets FILE]
 
 prints for each language which texts its catalog lacks, has for nothing, or has with other places for values than
 the pages; exit status 1 if there is one. With --write the catalogs first get what is new, without a translation, and

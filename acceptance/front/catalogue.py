@@ -38,8 +38,7 @@ def dock_company():
               "port.",
               accessConditions="Open to the public.")
     yield row(legacyId="2", parentId="1", identifier="1", title="Minutes", levelOfDescription="Series",
-              publicationStatus="Published",
-              eventDates="1774-1850", extentAndMedium="12 volumes", physicalObjectName="Box 1",
+              publicationStatus="Published", eventDates="1774-1850", extentAndMedium="12 volumes", physicalObjectName="Box 1",
               physicalObjectLocation="Strongroom 2")
     yield row(legacyId="3", parentId="1", identifier="2", title="Plans of the locks", levelOfDescription="Series",
               publicationStatus="Published", eventDates="1803-1829", physicalObjectName="Box 2|Roll 7",
@@ -53,16 +52,14 @@ def dock_company():
                   publicationStatus="Published", eventActors=f"{text} (from GB 0999 HUL)", scopeAndContent=text,
                   physicalObjectName=text.replace("|", "/"), physicalObjectLocation=text.replace("|", "/"))
     yield row(legacyId="code", parentId="1", identifier="<b>[Series] x", title="Its code is odd",
-              levelOfDescription="[File] <i>",
-              publicationStatus="Published")
+              levelOfDescription="[File] <i>", publicationStatus="Published")
     yield row(legacyId="blank", parentId="1", publicationStatus="Published",
               scopeAndContent="Neither code, title nor level.")
     yield row(legacyId="rank", parentId="3", identifier="1", title="Of a level above", levelOfDescription="Subfonds",
               publicationStatus="Published")
     yield row(legacyId="lacks", identifier="LCK", title="It lacks dates", levelOfDescription="Fonds",
               publicationStatus="Published")
-    yield row(legacyId="below blank", parentId="blank", identifier="Y", title="Below a blank one",
-              levelOfDescription="File",
+    yield row(legacyId="below blank", parentId="blank", identifier="Y", title="Below a blank one", levelOfDescription="File",
               publicationStatus="Published")
 
 
@@ -73,8 +70,7 @@ def deep(levels):
     """A chain of units, each below the one before."""
     yield ",".join(COLUMNS) + "\n"
     for level in range(1, levels + 1):
-        yield row(legacyId=str(level), parentId=str(level - 1) if level > 1 else "", identifier="D",
-                  title=f"Level {level}",
+        yield row(legacyId=str(level), parentId=str(level - 1) if level > 1 else "", identifier="D", title=f"Level {level}",
                   levelOfDescription="Other", publicationStatus="Published")
 
 
@@ -83,8 +79,7 @@ def many(count):
     yield ",".join(COLUMNS) + "\n"
     for number in range(1, count + 1):
         yield row(legacyId=str(number), identifier=f"M{number}", title=f"Unit {number}", levelOfDescription="Fonds",
-                  publicationStatus="Published",
-                  physicalObjectName=f"Carton {number}", physicalObjectLocation="Strongroom 9")
+                  publicationStatus="Published", physicalObjectName=f"Carton {number}", physicalObjectLocation="Strongroom 9")
 
 
 def wide(count):
@@ -103,15 +98,12 @@ def harbour():
     fonds without containers."""
     yield ",".join(COLUMNS) + "\n"
     yield row(legacyId="top", identifier="HAR", title="Harbour Board", levelOfDescription="Fonds",
-              publicationStatus="Published",
-              eventDates="1800-1950", extentAndMedium="30 metres", eventActors="Harbour Board",
+              publicationStatus="Published", eventDates="1800-1950", extentAndMedium="30 metres", eventActors="Harbour Board",
               archivalHistory="Kept at the harbour until 1950.")
     yield row(legacyId="letters", parentId="top", identifier="1", title="Letters", levelOfDescription="Series",
-              publicationStatus="Published",
-              eventDates="1850-1899", extentAndMedium="120 files")
-    yield row(legacyId="plans", parentId="top", identifier="2", title="Plans of caf\u00e9s",
-              levelOfDescription="Series", publicationStatus="Published",
-              eventDates="1860", extentAndMedium="40 sheets")
+              publicationStatus="Published", eventDates="1850-1899", extentAndMedium="120 files")
+    yield row(legacyId="plans", parentId="top", identifier="2", title="Plans of caf\u00e9s", levelOfDescription="Series",
+              publicationStatus="Published", eventDates="1860", extentAndMedium="40 sheets")
     yield row(legacyId="lists", parentId="letters", identifier="lists", title="Lists", levelOfDescription="Subseries",
               publicationStatus="Published")
     for number in range(1, 121):

@@ -1,15 +1,14 @@
 """Counts what holds and what does not. A part that breaks off is one check that does not hold, and the others go on."""
 
-import pathlib
-import sys
 import time
 import traceback
+from collections.abc import Callable
+from typing import Any
 
-sys.path.append(str(pathlib.Path(__file__).resolve().parents[1]))
-import client  # noqa: E402
+from acceptance import client
 
 
-def wants(only, *names):
+def wants(only: str | None, *names: str) -> bool:
     """Whether a part that has one of these names is to be played: `only` has names with commas between them; None: all."""
     return only is None or bool(set(only.split(",")) & set(names))
 
@@ -22,11 +21,13 @@ class Checks(client.Checks):
     """The checks of acceptance/client.py, by parts; `told` has what was wrong. With `ends_at_first` the first check
     that does not hold raises Enough."""
 
-    def __init__(self, ends_at_first=False):
+    def __init__(self, ends_at_first: bool = False) -> None:
         super().__init__()
-        self.told, self.ends_at_first, self.now = [], ends_at_first, None
+        self.ends_at_first = ends_at_first
+        self.told: list[str] = []
+        self.now: str | None = None
 
-    def fail(self, what, told):
+    def fail(self, what: str, told: str) -> None:
         """Counts, prints and keeps something wrong."""
         super().fail(what, told)
         self.told.append(told)
@@ -34,7 +35,7 @@ class Checks(client.Checks):
             print(f"failed in {self.now}", flush=True)
             raise Enough
 
-    def part(self, name, function, *values):
+    def part(self, name: str, function: Callable[..., object], *values: Any) -> None:
         """Calls a function with these values; prints how many checks passed in it, and how many seconds it took."""
         before, began, outer, self.now = self.passed, time.time(), self.now, name
         try:

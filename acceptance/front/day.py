@@ -4,12 +4,12 @@ import json
 import os
 import time
 
-import catalogue
-from catalogue import BAD_FILE, ODD
-from checks import wants
-from desk_state import ANN, BEN, FAR, READERS, ZOE, DeskState
-from office import TOP
-from waits import until
+from acceptance.front import catalogue
+from acceptance.front.catalogue import BAD_FILE, ODD
+from acceptance.front.checks import wants
+from acceptance.front.desk_state import ANN, BEN, FAR, READERS, ZOE, DeskState
+from acceptance.front.office import TOP
+from acceptance.front.waits import until
 
 # Presses the button once more in the moment in which its outcome is shown.
 PRESSED_AGAIN = """new MutationObserver((_, seen) => {
@@ -49,11 +49,9 @@ class Day:
 
     def play(self, only=None):
         """Plays all parts in an office that has its descriptions, or one of them."""
-        for part in (self.register_readers, self.find_readers, self.reader_orders, self.desk_orders, self.fetch,
-                     self.counter,
+        for part in (self.register_readers, self.find_readers, self.reader_orders, self.desk_orders, self.fetch, self.counter,
                      self.waiting, self.out, self.take_back, self.permits, self.units, self.remove, self.next_day, self.red,
-                     self.keyboard,
-                     self.slow, self.uncertain, self.hold_every_form, self.second_clicks):
+                     self.keyboard, self.slow, self.uncertain, self.hold_every_form, self.second_clicks):
             if wants(only, part.__name__):
                 self.checks.part(f"day: {part.__name__}", part)
 
@@ -63,8 +61,7 @@ class Day:
         """Imports files into an empty office: a bad one, two good ones, and one of them again."""
         self.import_file("bad.csv", BAD_FILE, "old")
         page = self.page
-        page.see(
-            "Row 3 (3 in the spreadsheet), legacyId 2, “Orphan”: the unit above (parentId) is neither in the office "
+        page.see("Row 3 (3 in the spreadsheet), legacyId 2, “Orphan”: the unit above (parentId) is neither in the office "
                  "from this source")
         self.checks.check("a bad file is refused by row and cause", "nothing of it was used" in page.text())
         self.shot(page, "desk-import-refused")
@@ -236,8 +233,7 @@ class Day:
         page.wait(f"document.activeElement.innerText === 'Give ticket {ticket} a seat and issue'")
         self.shot(page, "desk-counter-refused", full=False)
         page.scan(f"{other:04}")
-        self.checks.same("a number that is scanned while a button has the focus goes to the field",
-                         page.js(TICKET_AND_FOCUS),
+        self.checks.same("a number that is scanned while a button has the focus goes to the field", page.js(TICKET_AND_FOCUS),
                          [f"{other:04}", "container"])
         self.checks.same("and nothing was pressed", self.asks.read(f"/desk/readers/{ticket}")["seat"], None)
 
@@ -436,6 +432,13 @@ class Day:
         page.press(f"Remove unit {archive.series}", "dialog")
         page.see(f"Unit {archive.series} is removed: 3 units in all.")
         self.checks.same("it is gone", self.asks.question(f"/public/units/{archive.series}")[0], 404)
+        draft = self.desk.import_archive("HID").draft
+        page = self.at(f"/units/{draft}")
+        page.press("Remove …", "Remove")
+        page.see("The public sees nothing of this unit", "dialog")
+        page.press(f"Remove unit {draft}", "dialog")
+        page.see(f"Unit {draft} is removed: 1 unit in all.")
+        self.checks.check("a draft is removed", True)
 
     # Another day
 
@@ -463,7 +466,8 @@ class Day:
         """Today shows what is red on the machine, and that nobody has looked for long."""
         folder = self.asks.office.folder / "cache/lists"
         folder.mkdir(parents=True, exist_ok=True)
-        lines = [{"level": 0, "name": "queue", "text": "runs"}, {"level": 2, "name": "copy", "text": "<i>office</i> is 60 hours old"}]
+        lines = [{"level": 0, "name": "queue", "text": "runs"},
+                 {"level": 2, "name": "copy", "text": "<i>office</i> is 60 hours old"}]
         status = folder / "status.json"
         for second, (at, seen, unseen) in enumerate((
                 (time.time(), ["copy: <i>office</i> is 60 hours old", "As of 2024-03-01 07:00."], "Nobody has looked"),

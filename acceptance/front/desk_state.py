@@ -4,7 +4,7 @@ orders, an archive of its own."""
 import json
 from typing import NamedTuple
 
-from files import csv_text, unit
+from acceptance.front.files import csv_text, unit
 
 FAR = "2030-12-31"
 ANN, BEN, ZOE, TURNED = READERS = ("Ann <b>Smith</b>", "Ben O'Neill", "Zo\u00eb \u0141ukasz", "\u202eneB")

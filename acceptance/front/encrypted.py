@@ -5,10 +5,9 @@ import socket
 import ssl
 import subprocess
 
-from office import PORTS, SIGNED_IN, TOP, Office, free_ports
-from rules import ask_once, check_policy, fields_of, status
-
-import client
+from acceptance import client
+from acceptance.front.office import PORTS, SIGNED_IN, TOP, Office, free_ports
+from acceptance.front.rules import ask_once, check_policy, fields_of, status
 
 READERS, DESK = "archive.example.org", "desk.example.org"
 YEAR = "max-age=31536000"

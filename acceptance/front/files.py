@@ -54,7 +54,7 @@ class File:
 
     name: str
     data: bytes
-    refused: tuple = None
+    refused: tuple[int, int] | None = None
     advice: dict = field(default_factory=dict)
     taken: str = ""
     becomes: str = ""  # a file that says the same, as an office reads it
@@ -521,7 +521,8 @@ NUMBERS = [
 CHANGED = [
     File(
         "a code of 301 letters",
-        csv_text(unit("1", identifier="H" * 149), unit("2", "1", identifier="1" * 149), unit("3", "2", identifier="2")).encode(),
+        csv_text(unit("1", identifier="H" * 149), unit("2", "1", identifier="1" * 149),
+                 unit("3", "2", identifier="2")).encode(),
         None,
         {"long_codes": "In 1 row, the reference code would be longer than 300 letters (the first: row 4, 4 in"},
     ),
@@ -534,7 +535,8 @@ CHANGED = [
     File("1.2E+05 for a number", csv_text(unit("1", **{**BOX, "physicalObjectName": "1.2E+05"})).encode(), None,
          {"reshaped": "column physicalObjectName, “1.2E+05”"}),
     File("a fault of a formula", csv_text(unit("1", title="#NAME?")).encode(), None, {"reshaped": "column title"}),
-    File("dates that a spreadsheet leaves alone", csv_text(unit("1", eventDates="4 March 1774", title="3/1/74 to 1803")).encode()),
+    File("dates that a spreadsheet leaves alone",
+         csv_text(unit("1", eventDates="4 March 1774", title="3/1/74 to 1803")).encode()),
     File(
         "zeros that were lost in one row",
         csv_text(unit("1"), unit("2", "1", identifier="001"), unit("3", "1", identifier="002"),

@@ -6,10 +6,10 @@ import pathlib
 import shutil
 import subprocess
 
-import files
-from catalogue import ODD
-from checks import wants
-from desk_state import ANN, FAR
+from acceptance.front import files
+from acceptance.front.catalogue import ODD
+from acceptance.front.checks import wants
+from acceptance.front.desk_state import ANN, FAR
 
 EMPTYING = b"legacyId,title\r\n1,Hull Dock Company\r\n"
 # From now on the page keeps how many of its requests were under way at a time.
@@ -49,8 +49,9 @@ class FirstYear:
 
     def play(self, only=None):
         """Plays all parts in an office that has its descriptions, or one of them."""
-        for part in (self.bad_files, self.converted, self.emptying, self.same_boxes, self.drafts, self.long_lists, self.questions,
-                     self.slips, self.scans, self.passed_over_orders, self.incomplete_list, self.failed_page, self.queue_away):
+        for part in (self.bad_files, self.converted, self.emptying, self.same_boxes, self.drafts, self.long_lists,
+                     self.questions, self.slips, self.scans, self.passed_over_orders, self.incomplete_list, self.failed_page,
+                     self.queue_away):
             if wants(only, part.__name__):
                 self.checks.part(f"first year: {part.__name__}", part)
 

@@ -7,9 +7,11 @@ import re
 import sqlite3
 import sys
 
-sys.dont_write_bytecode = True
-from checks import Checks  # noqa: E402
-from searched import Query, folding, index  # noqa: E402
+import folding
+import index
+from answers import Query
+
+from acceptance.front.checks import Checks
 
 HERE = pathlib.Path(__file__).parent
 EXAMPLES = json.loads((HERE / "folding.json").read_text("utf-8"))

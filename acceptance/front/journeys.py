@@ -4,11 +4,11 @@ and at 200 %, and by thumb on a phone. And what a long finding aid and a wide se
 import pathlib
 import time
 
-import catalogue
-from browser import TWO_FRAMES
-from visit import ORDERED, TICKET
-from checks import wants
-from waits import until
+from acceptance.front import catalogue
+from acceptance.front.browser import TWO_FRAMES
+from acceptance.front.checks import wants
+from acceptance.front.visit import ORDERED, TICKET
+from acceptance.front.waits import until
 
 MORE_ORDERS = (("rate=6r/m", "rate=600r/m"),)
 SHAPES = {"desk": (1280, 850, 1, False), "phone": (390, 844, 2, True), "200": (640, 425, 2, False)}
@@ -236,8 +236,8 @@ class Journeys:
         self.shot(page, "journey-list-ordered")
         page.press("Forget this list")
         page.see("Nothing is on your list.")
-        self.checks.same("an empty list has no line", page.js(
-            "getComputedStyle(document.querySelector('[data-list] ul.units')).borderTopWidth"), "0px")
+        self.checks.same("an empty list has no line",
+                         page.js("getComputedStyle(document.querySelector('[data-list] ul.units')).borderTopWidth"), "0px")
 
     def refused_orders(self):
         """What a reader is told when the front takes no order from this address."""

@@ -7,19 +7,16 @@ import io
 import json
 import pathlib
 import sqlite3
-import sys
 import tempfile
 
-from files import FILES
-from office import FRONT, TOP
+import record_office_look
+from convert import convert
+from look_at_file import Look
+from wording import read_rules, words
 
-import client
-
-sys.path.insert(0, str(FRONT / "look"))
-import record_office_look  # noqa: E402
-from convert import convert  # noqa: E402
-from look_at_file import Look  # noqa: E402
-from wording import read_rules, words  # noqa: E402
+from acceptance import client
+from acceptance.front.files import FILES
+from acceptance.front.office import TOP
 
 RULES = read_rules()
 LOOK = """Promise.all([import('/look/look.js'), import('/look/convert.js')]).then(
@@ -92,17 +89,20 @@ def fits(advice, wanted):
 
 def play(checks, program, page=None):
     """Looks at each file by the shell and by the program; with a page, also by the page's modules."""
+    seen = {file.name: look_by_shell(file.data) for file in FILES}
     for file in FILES:
-        told = look_by_shell(file.data)
+        told = seen[file.name]
         checks.check(f"the advice fits: {file.name}", fits(told[0], file.advice), told)
+        if page:
+            checks.same(f"the page gives the same advice: {file.name}", look_by_page(page, file.data), told)
+    for file in FILES:
+        told = seen[file.name]
         checks.same(f"the program's answer: {file.name}", preview(program, file.data), file.refused)
         came = take_in(program, file.data)
         checks.same(f"an import refuses the same: {file.name}", came.get("refused"), file.refused)
         checks.same(f"an import does what was foretold: {file.name}", "refused" if "refused" in came else came,
                     foretold(*told[:2]))
         check_converted(checks, program, file, told[2])
-        if page:
-            checks.same(f"the page gives the same advice: {file.name}", look_by_page(page, file.data), told)
     check_command(checks)
     check_labels(checks)
     check_rules(checks)

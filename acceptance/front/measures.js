@@ -177,22 +177,51 @@
     const found = [];
     for (let text = walker.nextNode(); text; text = walker.nextNode()) {
       if (text.parentElement.closest('.unseen, .words')) continue;
-      for (const { 0: word, index } of text.data.matchAll(/[^\s\-\u2010-\u2015/]+/g)) {
-        const range = document.createRange();
-        range.setStart(text, index);
-        range.setEnd(text, index + word.length);
-        found.push(range);
-      }
+      for (const { 0: word, index } of text.data.matchAll(/[^\s\-\u2010-\u2015/]+/g)) found.push(rangeOf(text, index, word.length));
     }
     return found;
   }
+
+  function rangeOf(text, index, length) {
+    const range = document.createRange();
+    range.setStart(text, index);
+    range.setEnd(text, index + length);
+    return range;
+  }
+
+  const linesOf = (range) => new Set([...range.getClientRects()].filter(({ width }) => width > 0).map(({ top }) => Math.round(top))).size;
 
   function isTooLong(word, node) {
     const box = node.getBoundingClientRect();
     const rects = [...word.getClientRects()].filter(({ width }) => width > 0);
     const end = node.closest('.wide') ? box.right : Math.min(box.right, innerWidth);
-    return new Set(rects.map(({ top }) => Math.round(top))).size > 1 || rects.some(({ left, right }) => left < box.left - 1 || right > end + 1);
+    return linesOf(word) > 1 || rects.some(({ left, right }) => left < box.left - 1 || right > end + 1);
   }
+
+  /** The texts of the pages, without what the archive or a program has written. */
+  function ownTexts() {
+    const walker = document.createTreeWalker(document.body, NodeFilter.SHOW_TEXT);
+    const found = [];
+    for (let text = walker.nextNode(); text; text = walker.nextNode()) {
+      const isOwn = text.parentElement.closest('[lang]').lang !== '' && !text.parentElement.closest('pre, bdi, code, script, style, template, noscript, .languages');
+      if (isOwn) found.push(text);
+    }
+    return found;
+  }
+
+  /** Marks that do not have beside them the space that French has there, at which no line ends. Times have none. */
+  const unspaced = () => ownTexts().map(({ data }) => data)
+    .filter((data) => /(?<![\u00a0\u202f])[:;?!»]|«(?![\u00a0\u202f])/.test(data.replace(/\d:\d/g, '')));
+
+  /** Marks that stand twice, as after an abbreviation at the end of a sentence. */
+  const doubled = () => ownTexts().map(({ data }) => data).filter((data) => /([.,:;?!])\1/.test(data));
+
+  /** Days that go on in the next line. */
+  const parted = () => ownTexts().filter((text) => [...text.data.matchAll(/\d{4}-\d{2}-\d{2}/g)]
+    .some(({ 0: day, index }) => linesOf(rangeOf(text, index, day.length)) > 1)).map(({ data }) => data);
+
+  /** Tables that have to be scrolled sideways. */
+  const scrolled = () => all('.wide').filter((node) => isShown(node) && node.scrollWidth > node.clientWidth).map((node) => node.ariaLabel);
 
   const OWN = '[lang=""], pre, bdi, code, script, style, template, noscript, .languages';
 
@@ -214,5 +243,5 @@
     return rest === text ? text.match(/\p{L}{2,}[^⟦⟧]*/gu) ?? [] : withoutBrackets(rest);
   }
 
-  return { contrast, edges, targets, over, spaced, long, unkeyed, structure, stops, focus, forced, printed, moving };
+  return { contrast, edges, targets, over, spaced, long, unspaced, doubled, parted, scrolled, unkeyed, structure, stops, focus, forced, printed, moving };
 })()

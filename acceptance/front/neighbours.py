@@ -10,18 +10,18 @@ import re
 import sqlite3
 import urllib.parse
 
-from asks import Asks
-from checks import wants
-from files import csv_text, unit
-from office import SIGNED_IN, Office
-from rules import exchange
-from waits import until
-
-import client
+from acceptance import client
+from acceptance.front.asks import Asks
+from acceptance.front.checks import wants
+from acceptance.front.files import csv_text, unit
+from acceptance.front.office import SIGNED_IN, Office
+from acceptance.front.rules import exchange
+from acceptance.front.waits import until
 
 FIRST = 1_234_567  # the number of the first unit
 ZONES = ("America/New_York", "Asia/Tokyo", "Etc/GMT+12", "Pacific/Kiritimati")  # of the last two one has another day than UTC
-WORDS = {"name": "Humber Archives", "address": "7 Dock Street", "hours": "Tuesday to Friday, ten to four", "ordered": "Ask at the desk."}
+WORDS = {"name": "Humber Archives", "address": "7 Dock Street", "hours": "Tuesday to Friday, ten to four",
+         "ordered": "Ask at the desk."}
 PARTS = ("numbers", "sources", "zones", "claimed_address", "own_words", "branch", "new_drafts", "two_who_wait")
 
 
@@ -43,7 +43,8 @@ class Neighbours:
 
     def search(self, args):
         """What the search answers; if this address asks too often, it asks again."""
-        return until(lambda: (got := self.asks.question(f"/public/search?{args}"))[0] != 429 and got, "the search is let through")[1]
+        return until(lambda: (got := self.asks.question(f"/public/search?{args}"))[0] != 429 and got,
+                     "the search is let through")[1]
 
     def numbers(self):
         """Numbers of seven digits lead everywhere."""
@@ -52,7 +53,8 @@ class Neighbours:
         for path, wanted in ((f"/public/units/{series}", "Minutes"), (f"/public/aid/{series}", "Minutes"),
                              (f"/unit/{series}", "Minutes"), (f"/aid/{series}", ""), (f"/aid/{FIRST}/1", None)):
             status, text = self.asks.question(path)
-            self.checks.check(f"{path} is there", (status, wanted) == (302, None) or status == 200 and wanted in text, (status, text[:200]))
+            self.checks.check(f"{path} is there", (status, wanted) == (302, None) or status == 200 and wanted in text,
+                              (status, text[:200]))
         until(lambda: f'"unit": {series}' in self.search("q=minutes"), "the search has read it")
         found = json.loads(self.search(f"q=minutes&in={FIRST}"))
         self.checks.same("found within its archive", [one["unit"] for one in found["units"]], [series])
@@ -124,7 +126,8 @@ class Neighbours:
             self.page.see("1 unit was set to published.")
         else:
             self.asks.command("/desk/status", unit=draft, status="published", branch=False)
-        self.checks.same("what is below stays a draft", [self.asks.question(f"/public/units/{n}")[0] for n in (draft, below)], [200, 404])
+        self.checks.same("what is below stays a draft", [self.asks.question(f"/public/units/{n}")[0] for n in (draft, below)],
+                         [200, 404])
 
     def new_drafts(self):
         """Of new drafts one is published by itself."""
@@ -148,7 +151,9 @@ class Neighbours:
 
     def two_who_wait(self):
         """The first who waits for a box gets it, whoever came after."""
-        box, tickets = 1, [self.asks.command("/desk/register", name=name, until="2030-12-31")["ticket"] for name in ("Ben", "Cy", "Di")]
+        box = 1
+        names = ("Ben", "Cy", "Di")
+        tickets = [self.asks.command("/desk/register", name=name, until="2030-12-31")["ticket"] for name in names]
         for order in self.asks.read("/desk/readers/1")["orders"]:
             self.asks.command("/desk/cancel", order=order["order"])
         for ticket in tickets:
@@ -165,20 +170,21 @@ class Neighbours:
         self.page.open(self.office.staff, "/orders")
         self.page.see("2 orders wait.")
         rows = self.page.js("[...document.querySelectorAll('main tbody tr')].map((row) => row.textContent)")
-        self.checks.check("it is ready for the first alone", [("ready" in row, "for another reader first" in row) for row in rows] ==
-                          [(True, False), (False, True)], rows)
+        told = [("ready" in row, "for another reader first" in row) for row in rows]
+        self.checks.check("it is ready for the first alone", told == [(True, False), (False, True)], rows)
         self.page.open(self.office.staff, f"/counter/{box}")
         self.page.press(f"Issue to ticket {tickets[1]}, the first who waits")
         self.page.see(f"Issued to ticket {tickets[1]}")
         self.checks.same("and is issued to the first", [one["ticket"] for one in self.asks.read("/desk/issued")], [tickets[1]])
         self.page.open(self.office.staff, f"/readers/{tickets[1]}")
-        plain = "[...document.querySelectorAll('main button')].find((button) => button.textContent === 'Give a seat').matches('.plain')"
-        self.page.wait(plain)
+        button = "[...document.querySelectorAll('main button')].find((button) => button.textContent === 'Give a seat')"
+        is_plain = f"{button}.matches('.plain')"
+        self.page.wait(is_plain)
         self.checks.check("who has a seat is offered no other", True)
         self.asks.command("/desk/leave", ticket=tickets[2])
         self.page.open(self.office.staff, f"/readers/{tickets[2]}")
         self.page.see("No seat.")
-        self.checks.same("who has none is", self.page.js(plain), False)
+        self.checks.same("who has none is", self.page.js(is_plain), False)
 
 
 def make_office(program, folder):
@@ -207,5 +213,3 @@ def play(checks, program, folder, browser, only=None):
         office.words = office.folder / "words.json"
         office.serve_readers()
         Neighbours(checks, office, browser and browser.page(SIGNED_IN)).play(only)
-
-

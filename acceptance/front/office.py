@@ -1,4 +1,3 @@
-#!/usr/bin/env python3
 """Starts the program and the front before it in a folder of their own, on free ports of 127.0.0.1, and ends them:
 
     with Office.create(program, folder) as office:
@@ -8,11 +7,12 @@ The configuration is that of front/server, as it stands there: in the copy that 
 ours, the queue has a socket that tells its state, and nothing else is changed. Each port that the files name gets a
 free one (`office.ports["8080"]`).
 
-    office.py [--program PROGRAM] FOLDER [FILE ..]
+    ./run acceptance.front.office [--program PROGRAM] FOLDER [FILE ..]
 
 makes an office to look at, with the descriptions of these files, and runs it until Ctrl-C. FOLDER is made anew.
 """
 
+import argparse
 import base64
 import contextlib
 import hashlib
@@ -30,15 +30,16 @@ import sys
 import threading
 import time
 import urllib.request
+from collections.abc import Iterable, Iterator
+from typing import Any, Self
 
-sys.dont_write_bytecode = True
+from acceptance import client
+from acceptance.front.waits import until
+
 TOP = pathlib.Path(__file__).resolve().parents[2]
-sys.path.append(str(TOP / "acceptance"))
-import client  # noqa: E402
-from waits import until  # noqa: E402
 
 FRONT = pathlib.Path(os.environ.get("FRONT_FILES") or TOP / "front").resolve()  # mutation/front.py names copies of it
-READERS = pathlib.Path(os.environ.get("READERS_SERVICE") or FRONT / "readers")  # mutation/search.py names copies of it
+READERS = FRONT / "readers"
 PYTHON = "/usr/bin/python3"  # Debian's own, which has what the readers' service needs
 QUICK = ("--every", ".2", "--rest", "0", "--orders", "6000")  # rounds and aids without a rest
 # For those who ask for many pages in a row from one address.
@@ -47,6 +48,7 @@ MANY_PAGES = [("record_office_pages burst=60", "record_office_pages burst=6000")
 PASSWORD = ("desk", "quiet-paper")
 SIGNED_IN = {"Authorization": "Basic " + base64.b64encode(":".join(PASSWORD).encode()).decode()}
 SETTINGS = client.SETTINGS | {"seats": "12", "daily": "50", "hands": "2", "run": "20"}
+Changes = Iterable[tuple[str, str]]
 DESK_NAME = "desk.example.org"
 
 # The configuration of a system's nginx around ours, with as many connections as OPERATING tells to allow.
@@ -62,7 +64,7 @@ include office.conf; }}
 PORTS = int(os.environ.get("FRONT_PORTS", 20000))
 
 
-def free_ports(many, first=PORTS, last=PORTS + 899):
+def free_ports(many: int, first: int = PORTS, last: int = PORTS + 899) -> list[int]:
     """Free ports of 127.0.0.1, from a random place on, so that two runs at a time seldom collide. Raises RuntimeError
     if there are too few."""
     found, begin = [], random.randrange(first, last + 1)
@@ -81,7 +83,10 @@ class Office(client.Office):
     again; `first`, `last`: where ports are looked for; `changes`: pairs of texts that are replaced in the configuration
     besides."""
 
-    def __init__(self, program, folder, connections=10000, first=PORTS, last=PORTS + 899, changes=()):
+    def __init__(
+            self, program: client.Program, folder: str | pathlib.Path, connections: int = 10000, first: int = PORTS,
+            last: int = PORTS + 899, changes: Changes = (),
+    ) -> None:
         self.folder = pathlib.Path(folder).resolve()
         (self.folder / "tmp").mkdir(parents=True, exist_ok=True)
         super().__init__(program, self.folder / "office.db")
@@ -89,7 +94,10 @@ class Office(client.Office):
         self.sources = [path for path in sorted((FRONT / "server").iterdir()) if path.is_file()]
         named = sorted(set(port for path in self.sources for port in ports_of(path.read_bytes().decode())))
         self.ports = dict(zip(named, free_ports(len(named), first, last)))
-        self.running, self.starts, self.processes, self.serving, self.service = False, 0, [], None, None
+        self.running, self.starts = False, 0
+        self.processes: list[subprocess.Popen[Any]] = []
+        self.serving: Any = None  # the program's process, once there is one; the same of the readers' service
+        self.service: Any = None
         self.queue, self.listen = self.folder / "readers.sock", self.folder / "pages.sock"
         self.index, self.words = self.folder / "index.db", READERS / "office.json"
         self.waiting, self.beginning = threading.Event(), threading.Lock()
@@ -104,16 +112,16 @@ class Office(client.Office):
         return office
 
     @property
-    def public(self):
+    def public(self) -> str:
         """The address of the readers' site."""
         return f"http://127.0.0.1:{self.ports['8080']}"
 
     @property
-    def staff(self):
+    def staff(self) -> str:
         """The address of the desk's site."""
         return f"http://127.0.0.1:{self.ports['8081']}"
 
-    def begin(self):
+    def begin(self) -> Self:
         """Starts the program and its front; returns the office once it answers."""
         self.configure()
         self.running = True
@@ -129,7 +137,7 @@ class Office(client.Office):
             raise
         return self
 
-    def wait_for(self, url, *processes):
+    def wait_for(self, url: str, *processes: subprocess.Popen[Any]) -> bytes:
         """The answer to this question, once there is one. Raises RuntimeError if one of these processes ends before."""
         def answer():
             """The answer, if there is one."""
@@ -139,18 +147,19 @@ class Office(client.Office):
             return fetch(url)
         return until(answer, f"the front answers {url}; see {self.folder}")[0]
 
-    def wait_for_desk(self):
+    def wait_for_desk(self) -> None:
         """Returns once the desk's nginx takes connections."""
         def is_open():
+            """Whether a connection is taken."""
             with socket.socket() as it:
                 return it.connect_ex(("127.0.0.1", self.ports["8081"])) == 0
         until(is_open, f"the desk takes connections; see {self.folder}")
 
-    def sites(self):
+    def sites(self) -> list[pathlib.Path]:
         """The configurations of the two nginx: readers' and the desk's."""
         return [self.folder / name for name in ("main.conf", "desk-nginx.conf")]
 
-    def queue_state(self, side="office", name="gate"):
+    def queue_state(self, side: str = "office", name: str = "gate") -> dict[str, str]:
         """What HAProxy tells of one of its parts: numbers by their names, such as `qcur`, who waits there."""
         with socket.socket(socket.AF_UNIX) as it:
             it.connect(str(self.folder / "stats.sock"))
@@ -159,15 +168,15 @@ class Office(client.Office):
         names, *rows = [line.split(",") for line in text.decode().strip().splitlines()]
         return dict(zip(names, next(row for row in rows if row[:2] == [side, name])))
 
-    def count_queued(self):
+    def count_queued(self) -> int:
         """How many requests wait in the queue."""
         return sum(int(self.queue_state(name=name)["qcur"]) for name in ("BACKEND", "gate"))
 
-    def count_connections(self):
+    def count_connections(self) -> int:
         """How many connections the queue has made to the gate so far."""
         return int(self.queue_state()["connect"])
 
-    def end(self):
+    def end(self) -> None:
         """Ends all that was started."""
         with self.beginning:
             self.running = False
@@ -185,24 +194,24 @@ class Office(client.Office):
                 process.kill()
                 process.wait()
 
-    def __enter__(self):
+    def __enter__(self) -> Self:
         return self if self.running else self.begin()
 
-    def __exit__(self, *_):
+    def __exit__(self, *_: object) -> None:
         self.end()
 
-    def serve_readers(self, *more, zone=None):
+    def serve_readers(self, *more: str, zone: str | None = None) -> None:
         """Begins the readers' service; more: further words of its command line; zone: where its clock is. Returns once it
         answers."""
         with open(self.folder / "readers.told", "a") as log:
-            words = [PYTHON, "-B", READERS / "service.py", "--queue", self.queue, "--index", self.index, "--listen",
-                     self.listen, "--words", self.words, "--texts", self.folder / "texts", *(more or QUICK)]
+            words = [PYTHON, "-B", "-E", "-s", READERS / "service.py", "--queue", self.queue, "--index", self.index,
+                     "--listen", self.listen, "--words", self.words, "--texts", self.folder / "texts", *(more or QUICK)]
             names = {"MALLOC_ARENA_MAX": "1", **({"TZ": zone} if zone else {})}  # the first as its unit has it
             self.service = subprocess.Popen([str(word) for word in words], stdout=log, stderr=log, env={**os.environ, **names})
         self.wait_for(self.public + "/help", self.service)
 
     @contextlib.contextmanager
-    def without_readers(self, *more):
+    def without_readers(self, *more: str) -> Iterator[None]:
         """A context in which the readers' service is away; more: words of its command line afterwards."""
         self.kill_readers()
         try:
@@ -210,12 +219,12 @@ class Office(client.Office):
         finally:
             self.serve_readers(*more)
 
-    def kill_readers(self):
+    def kill_readers(self) -> None:
         """Kills the readers' service."""
         self.service.kill()
         self.service.wait()
 
-    def await_rounds(self, many=2):
+    def await_rounds(self, many: int = 2) -> None:
         """Waits until so many rounds have ended from now on. With two, one has seen all that was done before. An index that
         is begun anew meanwhile counts from 0."""
         last, ended = self.count_rounds(), 0
@@ -230,7 +239,7 @@ class Office(client.Office):
             return ended >= many
         until(are_over, "the rounds have come by")
 
-    def count_rounds(self):
+    def count_rounds(self) -> int | None:
         """How many rounds the index has seen to their end; None if it cannot be read."""
         try:
             with contextlib.closing(sqlite3.connect(f"file:{self.index}?mode=ro", uri=True)) as db:
@@ -238,7 +247,7 @@ class Office(client.Office):
         except sqlite3.Error:
             return None
 
-    def kill_program(self):
+    def kill_program(self) -> None:
         """kill -9; the program is begun again at once."""
         self.serving.kill()
 
@@ -252,7 +261,7 @@ class Office(client.Office):
         return stopped
 
     @contextlib.contextmanager
-    def change_file(self, name, old, new):
+    def change_file(self, name: str, old: str, new: str) -> Iterator[None]:
         """A context in which nginx has another text in one of its files."""
         path = self.folder / name
         before = path.read_text()
@@ -265,7 +274,7 @@ class Office(client.Office):
             path.write_text(before)
             self.reload()
 
-    def read_anew(self, name):
+    def read_anew(self, name: str) -> None:
         """Makes the servers read a file of front/ that has changed, if they do read it."""
         if name.startswith("readers/") and self.service:
             with self.without_readers():
@@ -273,7 +282,7 @@ class Office(client.Office):
         if name.startswith("server/"):
             self.configure()
             for path in self.sites():
-                subprocess.run([program_path("nginx"), "-t", "-q", "-p", self.folder, "-c", path], check=True)
+                subprocess.run([program_path("nginx") or "nginx", "-t", "-q", "-p", self.folder, "-c", path], check=True)
             if not name.endswith(".conf"):
                 self.haproxy.terminate()
                 self.haproxy.wait(20)
@@ -281,13 +290,17 @@ class Office(client.Office):
             self.reload()
             self.wait_for(self.public + "/public/fonds")
 
-    def reload(self):
+    def reload(self) -> None:
         """Each nginx reads its files anew; ends when no worker takes requests by the old ones any more."""
         for nginx in self.nginx:
             old = self.workers(nginx)
             nginx.send_signal(signal.SIGHUP)
-            until(lambda one=nginx, gone=old: self.workers(one) and not self.workers(one) & gone,
-                  "nginx has read its files anew")
+
+            def is_anew() -> bool:
+                """Whether only new workers take requests."""
+                now = self.workers(nginx)
+                return bool(now) and not now & old
+            until(is_anew, "nginx has read its files anew")
 
     @staticmethod
     def workers(nginx):
@@ -300,7 +313,7 @@ class Office(client.Office):
         return {worker for worker, title in titles.items() if title and "shutting down" not in title}
 
     @contextlib.contextmanager
-    def without_program(self):
+    def without_program(self) -> Iterator[None]:
         """A context in which the program is away and its port is closed."""
         with self.beginning:
             self.waiting.clear()
@@ -312,7 +325,7 @@ class Office(client.Office):
             self.waiting.set()
 
     @contextlib.contextmanager
-    def without_queue(self):
+    def without_queue(self) -> Iterator[None]:
         """A context in which the queue before the program is away."""
         self.haproxy.terminate()
         self.haproxy.wait(20)
@@ -348,7 +361,7 @@ class Office(client.Office):
             self.serving.wait()
             time.sleep(0 if time.time() - began > 0.5 else 0.2)  # a program that ends at once is not begun without end
 
-    def configure(self):
+    def configure(self) -> None:
         """Writes the configuration and the desk's password into the folder."""
         for path in self.sources:
             name = "office.conf" if path.name == "nginx.conf" else path.name
@@ -359,10 +372,16 @@ class Office(client.Office):
         digest = base64.b64encode(hashlib.sha1(password.encode()).digest()).decode()
         (self.folder / "staff").write_text(f"{name}:{{SHA}}{digest}\n")
 
-    def adapt(self, text):
+    def adapt(self, text: str) -> str:
         """Returns a file of the configuration with our ports, names and folders."""
-        text = re.sub(PORT, lambda found: f"{found[1]}{self.ports[found[2]]}", text)
-        text = re.sub(LISTEN, lambda found: f"listen 127.0.0.1:{self.ports[found[1]]}", text)
+        def ours(found: re.Match[str]) -> str:
+            """An address with our port."""
+            return f"{found[1]}{self.ports[found[2]]}"
+
+        def listened(found: re.Match[str]) -> str:
+            """Our place to listen at."""
+            return f"listen 127.0.0.1:{self.ports[found[1]]}"
+        text = re.sub(LISTEN, listened, re.sub(PORT, ours, text))
         text = text.replace(DESK_NAME, "127.0.0.1")
         for theirs, our in (("/usr/share/record-office/front", FRONT), ("/etc/record-office", self.folder),
                             ("/run/record-office-queue", self.folder),
@@ -371,7 +390,8 @@ class Office(client.Office):
                             ("/run/record-office-readers", self.folder),
                             ("/var/cache/record-office", self.folder / "cache"),
                             ("/run/record-office-desk", self.folder / "desk"), ("user www-data;", f"user {user_name()};"),
-                            ("/etc/nginx/mime.types", mime_types()), ("error_log stderr", f"error_log {self.folder}/nginx.log"),
+                            ("/etc/nginx/mime.types", mime_types()),
+                            ("error_log stderr", f"error_log {self.folder}/nginx.log"),
                             ("syslog:server=unix:/dev/log,tag=record_office_desk", self.folder / "access.log"),
                             ("/var/log/nginx", self.folder),
                             (" group record-office-readers", ""), ("listen [::]:", "listen [::1]:"),
@@ -388,17 +408,17 @@ PORT = r"((?:127\.0\.0\.1|localhost|\[::1?\]|\*|" + re.escape(DESK_NAME) + r"):)
 LISTEN = r"\blisten (\d{4,5})\b"
 
 
-def user_name():
+def user_name() -> str:
     """The name of the user who plays."""
     return pwd.getpwuid(os.getuid()).pw_name
 
 
-def program_path(name):
+def program_path(name: str) -> str | None:
     """The path of a server's program."""
     return shutil.which(name, path=os.environ["PATH"] + ":/usr/sbin:/usr/local/sbin")
 
 
-def fetch(url):
+def fetch(url: str) -> list[bytes]:
     """The answer at this address as a list of one, which is empty if there is none."""
     try:
         with urllib.request.urlopen(url, timeout=90) as answer:
@@ -407,12 +427,12 @@ def fetch(url):
         return []
 
 
-def ports_of(text):
+def ports_of(text: str) -> list[str]:
     """The ports that a file of the configuration names."""
     return [found[1] for found in re.findall(PORT, text)] + re.findall(LISTEN, text)
 
 
-def mime_types():
+def mime_types() -> str:
     """The path of nginx's own list of types. Raises RuntimeError if it is not there."""
     for path in ("/etc/nginx/mime.types", "/usr/local/nginx/conf/mime.types"):
         if os.path.exists(path):
@@ -420,20 +440,20 @@ def mime_types():
     raise RuntimeError("nginx's mime.types is not there")
 
 
-def clear(folder):
+def clear(folder: str | pathlib.Path) -> pathlib.Path:
     """Removes a folder with all in it; returns its path."""
     shutil.rmtree(folder, ignore_errors=True)
     return pathlib.Path(folder)
 
 
-def folder_options(text):
+def folder_options(text: str | None) -> argparse.ArgumentParser:
     """The options of a script of this directory: the program, and the folder of its offices."""
     words = client.program_options(text)
     words.add_argument("folder", type=pathlib.Path, metavar="FOLDER", help="made anew, and kept")
     return words
 
 
-def main():
+def main() -> None:
     """Runs an office to look at, until Ctrl-C."""
     words = folder_options(__doc__)
     words.add_argument("files", type=pathlib.Path, nargs="*", metavar="FILE", help="descriptions to import")

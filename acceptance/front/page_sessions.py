@@ -1,7 +1,6 @@
-#!/usr/bin/env python3
 """The readers' pages in random sessions of commands: what a page shows is what the office answers just then.
 
-    page_sessions.py [--program PROGRAM] [--steps N] [--seed N] FOLDER
+    ./run acceptance.front.page_sessions [--program PROGRAM] [--steps N] [--seed N] FOLDER
 
 A step is a command of the desk or a page: of a unit, a finding aid, contents with a filter, a place of a finding aid, a
 search, the list of archives, the sitemap, or the list of what was collected. Each text of the archive on a page, and each
@@ -11,12 +10,11 @@ import re
 import sys
 import urllib.parse
 
-sys.dont_write_bytecode = True
-import searched  # noqa: E402
-from checks import Checks  # noqa: E402
-from office import MANY_PAGES, clear, folder_options  # noqa: E402
-from search_sessions import WORDS, Session  # noqa: E402
-from site_pages import Site, Tree, aid_of, elements_of  # noqa: E402
+from acceptance.front.checks import Checks
+from acceptance.front.office import MANY_PAGES, clear, folder_options
+from acceptance.front.search_sessions import WORDS, Session
+from acceptance.front.searched import Searched
+from acceptance.front.site_pages import Site, Tree, aid_of, elements_of
 
 SHORT = 48  # characters of a title in the way to a unit
 LIMITS = [("record_office_orders burst=11", "record_office_orders burst=99999"),
@@ -137,11 +135,11 @@ def words_of(text):
 
 def play(checks, program, folder, steps, seed):
     """Plays so many random steps over an office of its own."""
-    office = searched.Searched.create(program, clear(folder), more=[*MANY_PAGES, *LIMITS])
+    office = Searched.create(program, clear(folder), more=[*MANY_PAGES, *LIMITS])
     with office:
         office.serve_readers("--every", ".5", "--rest", "0", "--orders", "1000000")
         told = Pages(office, seed).play(steps)
-    print(f"seed {seed}: {told}", flush=True)
+    print(f"seed {seed}: {steps} steps; {told}", flush=True)
     checks.check(f"{steps} random steps over pages", told["unit"] and told["aid"])
 
 

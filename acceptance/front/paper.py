@@ -1,20 +1,18 @@
-#!/usr/bin/env python3
 """What the desk prints, and what stays in view: nine boxes with long names, nine readers with longer ones, a unit with
 sixty below it.
 
-    paper.py [--program PROGRAM] FOLDER
+    ./run acceptance.front.paper [--program PROGRAM] FOLDER
 
 FOLDER is made anew, and gets the pages that were printed. The last line is `N passed, M failed`.
 """
 
 import sys
 
-sys.dont_write_bytecode = True
-from asks import Asks  # noqa: E402
-from browser import Browser  # noqa: E402
-from checks import Checks  # noqa: E402
-from files import csv_text, unit  # noqa: E402
-from office import SIGNED_IN, Office, clear, folder_options  # noqa: E402
+from acceptance.front.asks import Asks
+from acceptance.front.browser import Browser
+from acceptance.front.checks import Checks
+from acceptance.front.files import csv_text, unit
+from acceptance.front.office import SIGNED_IN, Office, clear, folder_options
 
 BOXES, BELOW = 9, 60
 PAPER = 718  # the width of A4 without its margins, in the pixels of a browser
@@ -25,7 +23,8 @@ WIDE = """[...document.querySelectorAll('main, .call-slip, main td, main th, mai
 CODES = """[...document.querySelectorAll('.coded')].filter((one) => {
     const [slip, bars, code] = [one.closest('.call-slip'), one.querySelector('svg'), one.querySelector('figcaption')]
       .map((part) => part.getBoundingClientRect());
-    return code.top < bars.bottom || code.bottom > slip.bottom - 4 || Math.abs(code.left + code.right - bars.left - bars.right) > 2;
+    return code.top < bars.bottom || code.bottom > slip.bottom - 4
+      || Math.abs(code.left + code.right - bars.left - bars.right) > 2;
   }).map((one) => one.innerText)"""
 UNIT_LINKS = """[...document.querySelectorAll('main a')].map((one) => one.getAttribute('href'))
   .filter((one) => one.startsWith('#/units/'))"""

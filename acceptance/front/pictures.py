@@ -1,7 +1,6 @@
-#!/usr/bin/env python3
 """Makes pictures of all pages of both sites in three widths, for somebody who looks at them:
 
-    pictures.py [--program PROGRAM] [--language CODE ..] FOLDER SHOTS [WORD ..]
+    ./run acceptance.front.pictures [--program PROGRAM] [--language CODE ..] FOLDER SHOTS [WORD ..]
 
 FOLDER is made anew. Each picture is SHOTS/LANGUAGE-SITE-PAGE-WIDTH.png. With words, only pages whose name has one of
 them; `empty` names those of an office that has nothing yet."""
@@ -10,12 +9,11 @@ import json
 import pathlib
 import sys
 
-sys.dont_write_bytecode = True
-from catalogue import dock_company  # noqa: E402
-from checks import Checks  # noqa: E402
-from office import FRONT, MANY_PAGES, TOP, Office, clear, folder_options  # noqa: E402
-from run import Browser, pictures  # noqa: E402
-from translations import CODES, STATIC, WORDS, Spoken, Translations  # noqa: E402
+from acceptance.front.catalogue import dock_company
+from acceptance.front.checks import Checks
+from acceptance.front.office import FRONT, MANY_PAGES, TOP, Office, clear, folder_options
+from acceptance.front.run import Browser, pictures
+from acceptance.front.translations import CODES, STATIC, WORDS, Spoken, Translations
 
 WIDTHS = (360, 768, 1280)
 

@@ -9,16 +9,15 @@ import socket
 import stat
 import time
 
-from asks import Asks
-from checks import wants
-from office import FRONT, MANY_PAGES, SIGNED_IN, TOP, Office
-from restarts import UNANSWERED, Sender, count_unread, registration
-from rules import ask_once, check_policy, status
-from stall import Socket
-from stand_in import StandIn, in_place_of_program
-from waits import until
-
-import client
+from acceptance import client
+from acceptance.front.asks import Asks
+from acceptance.front.checks import wants
+from acceptance.front.office import FRONT, MANY_PAGES, SIGNED_IN, TOP, Office
+from acceptance.front.restarts import UNANSWERED, Sender, count_unread, registration
+from acceptance.front.rules import ask_once, check_policy, status
+from acceptance.front.stall import Socket
+from acceptance.front.stand_in import StandIn, in_place_of_program
+from acceptance.front.waits import until
 
 ROUND, AID, CRAWLER, SEARCH, PAGE = ({"Record-Office-For": name} for name in ("round", "aid", "crawler", "search",
                                                                               "page"))
@@ -31,8 +30,8 @@ SEARCHES = ("/search", "/public/search")
 SELDOM = ("--every", "100000", "--rest", "0")
 LARGE = 24_000_000  # more bytes than sockets hold
 IDLE = 9  # seconds after which the program is about to close an idle connection
-PARTS = ("order", "heads", "of_a_reader", "bodies_first", "slow_reader", "one_connection", "idle", "never_twice", "left_behind",
-         "ways_in", "logs", "late")
+PARTS = ("order", "heads", "of_a_reader", "of_the_service", "bodies_first", "slow_reader", "one_connection", "idle",
+         "never_twice", "left_behind", "ways_in", "logs", "late")
 
 
 def play(checks, program, folder, only=None):
@@ -124,6 +123,18 @@ def of_a_reader(checks, office):
     checks.same("what the service is told", told, [
         sorted([*lines, f"get {path} http/1.1", *crawls]) for path in ("/unit/1", "/aid/1", "/search?q=x", "/public/aid/1")
         for crawls in ((), ("record-office-crawler: yes",))])
+
+
+def of_the_service(checks, office):
+    """What the queue is told by the readers' service: who asks for a page, and who reads all pages."""
+    told = []
+    with office.without_queue(), StandIn(office.queue, at_once=8) as queue:
+        for agent in ("Mozilla/5.0", "Examplebot/1.0"):
+            before = len(queue.requests)
+            ask(office, "/unit/1", headers={"User-Agent": agent}).read()
+            told.append({line for head, _ in queue.requests[before:] for line in head.lower().split("\r\n")
+                         if line.startswith("record-office-for")})
+    checks.same("for whom the service asks", told, [{"record-office-for: page"}, {"record-office-for: crawler"}])
 
 
 def bodies_first(checks, office):

@@ -7,13 +7,12 @@ import json
 import re
 import subprocess
 
-import catalogue
-from looks import RULES
-from office import PYTHON, READERS, TOP
+from acceptance.front import catalogue
+from acceptance.front.looks import RULES
+from acceptance.front.office import PYTHON, READERS, TOP
+from acceptance.plain import limits as most
 
-from plain import limits as most
-
-# What the text of each refusal must say, so that no text stands at another's number.
+# What the text of each refusal must say, so that no text stands at another's name.
 TELLING = {1: "no unit", 2: "no ticket", 3: "no container", 4: "expired", 5: "not open", 6: "already",
            7: "all the orders", 8: "Every seat", 9: "has a seat already",
            10: "has no seat", 11: "still has containers", 12: "no order", 13: "no longer waiting",
@@ -59,13 +58,12 @@ class Refusals:
         module = "import('/shared/refusals.js')"
         table = self.page.js(module + ".then((told) => told.DESK)")
         self.checks.same("the program's list has 28", sorted(self.names), list(range(1, 29)))
-        self.checks.same("each has its words", sorted(int(number) for number in table), sorted(self.names))
-        for number, (means, todo) in table.items():
+        self.checks.same("each has its words", sorted(table), sorted(self.names.values()))
+        for name, (means, todo) in table.items():
             whole = all(re.fullmatch(r"[A-Z“].*[.]", text, re.S) for text in (means, todo))
-            self.checks.check(f"{number} {self.names[int(number)]} says what it means and what to do", whole,
-                              (means, todo))
-        self.checks.same("each text stands at its number",
-                         [number for number, words in TELLING.items() if words not in table[str(number)][0]], [])
+            self.checks.check(f"{name} says what it means and what to do", whole, (means, todo))
+        self.checks.same("each text stands at its name",
+                         [number for number, words in TELLING.items() if words not in table[self.names[number]][0]], [])
         self.checks.same("no two say the same", len({means for means, _ in table.values()}), 28)
         self.limits(self.page.js("import('/shared/limits.js').then((told) => ({...told}))"))
         self.checks.same("each cause of a bad file has its words, the seventh for equal rows too", list(RULES["causes"]),
@@ -108,7 +106,7 @@ class Refusals:
     def see(self, code, more="", note=".note.refused"):
         """Waits for a note, and checks that it has the words of this refusal, or `more` in their place."""
         self.page.wait(f"document.querySelector('{note} strong')")
-        means, todo = self.page.js(f"import('/shared/refusals.js').then((told) => told.DESK[{code}])")
+        means, todo = self.page.js(f"import('/shared/refusals.js').then((told) => told.DESK.{self.names[code]})")
         seen = " ".join(self.page.text(note).split())
         if more:
             means, todo = more
@@ -131,7 +129,8 @@ class Refusals:
         self.meet(4, "/counter", "A reader arrives", {"Ticket": "4"}, "Give a seat")
         self.meet(27, "/readers", "Register a reader", {"Name": "   ", "Last day of the ticket": "2030-01-01"},
                   "Register")
-        for hash_, ways in (("/runs/99", ["All runs"]), ("/readers/99", ["Find a reader"]), ("/counter/999", ["Back to the counter"])):
+        for hash_, ways in (("/runs/99", ["All runs"]), ("/readers/99", ["Find a reader"]),
+                            ("/counter/999", ["Back to the counter"])):
             self.page.open(self.site, hash_)
             self.page.see("There is nothing with this number.")
             self.checks.same(f"nothing but a way on: {hash_}", self.page.js(
@@ -170,8 +169,8 @@ class Refusals:
         self.meet(11, "/counter", "A reader leaves", {"Ticket": "1"}, "Free the seat")
         self.meet(19, "/", "Open a new day", {"The new day": "2024-03-05"}, "Open the day")
         self.meet(21, "/units/1", "Closure", {"Closed until": "2030-01-01"}, "Set the closure",
-                   ("A reader has a container in hand that this would close to that reader. It is container 1.",
-                    "Take the container back first"))
+                  ("A reader has a container in hand that this would close to that reader. It is container 1.",
+                   "Take the container back first"))
 
     def catalogue(self):
         """Refusals of units and of files."""
@@ -197,7 +196,7 @@ class Refusals:
             self.asks.command("/desk/permit", ticket=3, unit=unit, until="2030-01-01")
         self.meet(23, "/readers/3", "Give a permit",
                   {"Unit": str(most.MOST_PERMITS + 1), "Last day of the permit": "2030-01-01"}, "Give a permit",
-                   (f"The reader has {most.MOST_PERMITS} permits", "Take a permit away on the reader’s card first."))
+                  (f"The reader has {most.MOST_PERMITS} permits", "Take a permit away on the reader’s card first."))
         self.page.open(self.site, "/readers/3")
         self.asks.command("/desk/revoke", ticket=3, unit=most.MOST_PERMITS)
         self.page.press(f"Take away the permit for unit {most.MOST_PERMITS}")

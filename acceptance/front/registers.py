@@ -7,10 +7,10 @@ import json
 import sqlite3
 import subprocess
 
-from asks import Asks
-from checks import wants
-from files import csv_text, unit
-from office import SIGNED_IN, TOP, Office
+from acceptance.front.asks import Asks
+from acceptance.front.checks import wants
+from acceptance.front.files import csv_text, unit
+from acceptance.front.office import SIGNED_IN, TOP, Office
 
 LISTS = TOP / "packaging/lists"
 BOXES = 4
@@ -98,6 +98,8 @@ def old_orders(checks, program, folder, browser, shot):
         tab.press("Orders that wait long, and boxes that nobody has asked for")
         tab.see("Orders that wait long: 4")
         checks.same("what is old", tab.js(ROWS), [["1", "2", "3", "4"], ["1", "2", "3"]])
+        who = "document.querySelector('.card tbody tr:nth-child(4) a[href^=\"#/readers/\"]').textContent"
+        checks.same("a name is as the reader gave it", tab.js(who), "=Ben, ticket 2")
         shot(tab, "desk-old-orders")
         cancel_some(checks, tab, asks)
         take_back_some(checks, tab, asks)
@@ -106,7 +108,7 @@ def old_orders(checks, program, folder, browser, shot):
 def make_old(office):
     """Three boxes at the desk for readers who do not come, and an order that waits for a fourth; forty days ago."""
     asks = Asks(office)
-    for name in ("Ann", "Ben", "Eva"):
+    for name in ("Ann", "=Ben", "Eva"):  # the list has an apostrophe before what a spreadsheet would calculate
         asks.command("/desk/register", name=name, until="2030-12-31")
     for box in (1, 2, 3):
         asks.command("/public/orders", ticket=1, container=box)

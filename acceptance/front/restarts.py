@@ -6,9 +6,9 @@ import pathlib
 import threading
 import time
 
-from checks import wants
-from office import SIGNED_IN
-from waits import until
+from acceptance.front.checks import wants
+from acceptance.front.office import SIGNED_IN
+from acceptance.front.waits import until
 
 CLIENTS = 8
 MANY = 40

@@ -10,11 +10,10 @@ import threading
 import time
 from http.server import BaseHTTPRequestHandler, ThreadingHTTPServer
 
-from checks import wants
-from office import PASSWORD, SIGNED_IN
-from waits import until
-
-import client
+from acceptance import client
+from acceptance.front.checks import wants
+from acceptance.front.office import PASSWORD, SIGNED_IN
+from acceptance.front.waits import until
 
 # Ways to write the path of a desk route that a careless server might pass on.
 ODD_PATHS = [form.format(way) for way in ("desk/issued", "desk/run", "desk/register") for form in (
@@ -144,9 +143,9 @@ class Rules:
 
     def play(self, only=None):
         """Plays all parts, or one; foreign_page only where there is a browser."""
-        parts = [self.odd_paths, self.readers_limits, self.password, self.staffs_limits, self.other_sites,
-                 self.other_names, self.heads, self.own_answers, self.by_ipv6, self.pages_alone, self.lists, self.questions_of_heads, self.no_page,
-                 self.limit_of_orders, self.orders_from_elsewhere, *([self.foreign_page] if self.page else [])]
+        parts = [self.odd_paths, self.readers_limits, self.password, self.staffs_limits, self.other_sites, self.other_names,
+                 self.heads, self.own_answers, self.by_ipv6, self.pages_alone, self.lists, self.questions_of_heads,
+                 self.no_page, self.limit_of_orders, self.orders_from_elsewhere, *([self.foreign_page] if self.page else [])]
         for part in parts:
             if wants(only, part.__name__):
                 self.checks.part(f"rules: {part.__name__}", part)
@@ -391,8 +390,7 @@ class Rules:
         got = self.ask_as_staff(self.public, "POST", "/unit/1/order", b"ticket=999&container=1")
         self.checks.check("nor is one more taken by a form", status(got) == 429 and b"Too many requests" in got, got[:200])
         self.checks.same("pages are not held up by orders", self.asks.question("/public/fonds")[0], 200)
-        self.checks.same("the desk orders on",
-                         self.asks.try_command("/public/orders", UNKNOWN_ORDER)[0], 409)
+        self.checks.same("the desk orders on", self.asks.try_command("/public/orders", UNKNOWN_ORDER)[0], 409)
 
     def orders_from_elsewhere(self):
         """Orders from listed addresses alone."""

@@ -1,14 +1,14 @@
-#!/usr/bin/env python3
 """Plays all parts in a real browser, or only those that are named:
 
-    run.py [--program PROGRAM] [--first] [--patience SECONDS] [--slower TIMES] [--faults FILE] [--covers FILE]
+    ./run acceptance.front.run [--program PROGRAM] [--first] [--patience SECONDS] [--slower TIMES] [--faults FILE] [--covers
+    FILE]
            FOLDER SHOTS [PART ..]
 
 FOLDER is made anew and kept; SHOTS gets pictures of the pages. PART is one of looks, pages, access, rules, restarts,
-limits, queue, encrypted, stall, search, strangers, neighbours, tries, registers, refusals, journeys, paper, tickets,
-translations, unscripted; or GROUP:PART,..,PART, parts of a group with an office of its own: of visit, day, first_year,
-unscripted, access, rules, restarts, limits, queue, neighbours, refusals, journeys, search, search_pages, tries, registers,
-translations. In refusals and neighbours a part is played after those that it goes on from.
+limits, queue, encrypted, stall, search, strangers, services, neighbours, tries, registers, refusals, journeys, paper,
+tickets, translations, unscripted, words; or GROUP:PART,..,PART, parts of a group with an office of its own: of visit, day,
+first_year, unscripted, access, rules, restarts, limits, queue, neighbours, refusals, journeys, search, search_pages,
+tries, registers, translations. In refusals and neighbours a part is played after those that it goes on from.
 --first ends at the first check that does not hold; --patience is how long anything is waited for (60). With --slower,
 pages run so many times slower, and what they ask for comes later: a check that holds on a fast machine only is found
 there. With --faults, PART is access, visit, rules, queue or restarts, and mutation/front.py tells which faults are to
@@ -25,50 +25,30 @@ import signal
 import sys
 import time
 
-sys.dont_write_bytecode = True
-import access  # noqa: E402
-import encrypted  # noqa: E402
-import foldings  # noqa: E402
-import journeys  # noqa: E402
-import limits  # noqa: E402
-import looks  # noqa: E402
-import neighbours  # noqa: E402
-import page_sessions  # noqa: E402
-import paper  # noqa: E402
-import queue_checks  # noqa: E402
-import refusals  # noqa: E402
-import registers  # noqa: E402
-import restarts  # noqa: E402
-import search_checks  # noqa: E402
-import search_pages  # noqa: E402
-import search_sessions  # noqa: E402
-import sign_out  # noqa: E402
-import stall  # noqa: E402
-import strangers  # noqa: E402
-import tickets  # noqa: E402
-import translations  # noqa: E402
-import tries  # noqa: E402
-import unscripted  # noqa: E402
-import waits  # noqa: E402
-from asks import Asks  # noqa: E402
-from browser import Browser  # noqa: E402
-from catalogue import dock_company  # noqa: E402
-from checks import Checks, Enough  # noqa: E402
-from day import Day  # noqa: E402
-from first_year import FirstYear  # noqa: E402
-from office import FRONT, MANY_PAGES, SIGNED_IN, TOP, Office, clear, folder_options  # noqa: E402
-from rules import Rules  # noqa: E402
-from visit import Visit  # noqa: E402
-from waits import until  # noqa: E402
-
-import client  # noqa: E402
+from acceptance import client
+from acceptance.front import (
+    access, encrypted, foldings, journeys, looks, neighbours, page_sessions, paper, queue_checks, refusals, registers,
+    restarts, search_checks, search_pages, search_sessions, server_limits, services, sign_out, stall, strangers, tickets,
+    translations, tries, unscripted, waits,
+)
+from acceptance.front.asks import Asks
+from acceptance.front.browser import Browser
+from acceptance.front.catalogue import dock_company
+from acceptance.front.checks import Checks, Enough
+from acceptance.front.day import Day
+from acceptance.front.first_year import FirstYear
+from acceptance.front.office import FRONT, MANY_PAGES, SIGNED_IN, TOP, Office, clear, folder_options
+from acceptance.front.rules import Rules
+from acceptance.front.visit import Visit
+from acceptance.front.waits import until
 
 PARTS = ("looks", "pages", "unscripted", "access", "rules", "restarts", "limits", "queue", "encrypted", "stall", "search",
-         "strangers", "neighbours", "tries", "registers", "refusals", "journeys", "paper", "tickets", "translations")
+         "strangers", "services", "neighbours", "tries", "registers", "refusals", "journeys", "paper", "tickets",
+         "translations")
 ARCHIVES = TOP / "examples/archives.csv"
 PATIENT = 60
 WITHOUT_PAGES = {"unscripted", "rules", "restarts", "limits", "queue", "encrypted", "stall", "search", "strangers",
-                 "tries", "registers", "translations:catalogs", "translations:static_pages"}  # need no browser
+                 "services", "tries", "registers", "translations:catalogs", "translations:static_pages"}  # need no browser
 
 
 def pictures(folder):
@@ -174,7 +154,7 @@ class Run:
 
     def limits(self, only=None):
         """Plays the limits of the front, or one of them."""
-        limits.play(self.checks, self.program, self.folder / "limits", only)
+        server_limits.play(self.checks, self.program, self.folder / "limits", only)
 
     def queue(self, only=None):
         """Plays the checks of the queue, or one of them."""
@@ -210,6 +190,17 @@ class Run:
     def strangers(self):
         """Plays strangers who want to shut everybody out, in a network of their own."""
         strangers.play(self.checks, self.program, self.folder / "strangers")
+
+    def services(self):
+        """Reads the units of systemd."""
+        services.play(self.checks)
+
+    def words(self):
+        """Plays the table of words, by the service and by the desk's pages; `pages` has it too."""
+        with Office.create(self.program, clear(self.folder / "words")) as office:
+            page = self.browser.page(SIGNED_IN)
+            page.open(office.staff, "/")
+            self.checks.part("folding of words", foldings.play, self.checks, page)
 
     def neighbours(self, only=None):
         """Plays an office whose neighbours differ, or one part of it, in the browser too if there is one."""

@@ -1,8 +1,7 @@
-#!/usr/bin/env python3
 """The search in all archives where random sessions do not go: pairs of offices, hostile questions, kills, a damaged
 index.
 
-    search_checks.py [--program PROGRAM] FOLDER [PART ..]
+    ./run acceptance.front.search_checks [--program PROGRAM] FOLDER [PART ..]
 
 PART is one of turns, questions, left_out, pairs, bounds, files, hostile, kills, states; without one, all are played."""
 
@@ -18,17 +17,22 @@ import threading
 import time
 from urllib.parse import quote, urlencode
 
-sys.dont_write_bytecode = True
-from checks import Checks  # noqa: E402
-from office import QUICK, TOP, clear, folder_options  # noqa: E402
-from rules import send_at_once  # noqa: E402
-from search_pairs import play as pairs  # noqa: E402
-from searched import Asking, Finder, Query, Searched, Unreached, answers, index, offers, read_typed  # noqa: E402
-from turns import Turns, network_of  # noqa: E402
-from unanswered import left_out  # noqa: E402
-from waits import until  # noqa: E402
+import answers
+import index
+import offers
+from answers import Finder, Query
+from asking import Asking, Unreached
+from folding import read_typed
+from turns import Turns, network_of
 
-import client  # noqa: E402
+from acceptance import client
+from acceptance.front.checks import Checks
+from acceptance.front.office import QUICK, TOP, clear, folder_options
+from acceptance.front.rules import send_at_once
+from acceptance.front.search_pairs import play as pairs
+from acceptance.front.searched import Searched
+from acceptance.front.unanswered import left_out
+from acceptance.front.waits import until
 
 answers.COUNTING = 100  # however slow the machine is, what is counted is the same
 PARTS = ("turns", "questions", "left_out", "pairs", "bounds", "files", "hostile", "kills", "states")
@@ -93,8 +97,7 @@ def bounds_of_an_answer(checks, office):
     dated = sorted(range(1, 420), key=lambda n: (n % 300, n))
     by_date = office.find("letters", by_date=True)
     checks.same("by date", numbers_of(by_date), dated[:20])
-    checks.same("and on", numbers_of(office.find("letters", by_date=True, after=by_date.after)),
-                dated[20:40])
+    checks.same("and on", numbers_of(office.find("letters", by_date=True, after=by_date.after)), dated[20:40])
     checks.same("years", find_numbers(office, "letters", first=1750, last=1752), [50, 51, 52, 350, 351, 352])
 
 
@@ -150,6 +153,18 @@ def files(checks, program, folder):
         checks.same("the new number is found", find_numbers(office, "letters"), [3])
         forgotten(checks, office)
         offered(checks, office)
+        look_like_others(checks, office)
+
+
+def look_like_others(checks, office):
+    """Two values of a unit that look as if they came from above are its own, and it is found by both."""
+    rows = ("legacyId,parentId,identifier,title,levelOfDescription,publicationStatus,archivalHistory,acquisition\n"
+            "1,,K,Keelmen,Fonds,Published,,\n"
+            "2,1,1,Ledgers,File,Published,quarterdeck (from GB 0999 K),forecastle (from GB 0999 K)\n")
+    office.tell("/desk/import/k", rows.encode())
+    office.round()
+    found = [["".join(unit["head"]) for unit in office.find(word).units] for word in ("quarterdeck", "forecastle")]
+    checks.same("found by each of its own values", found, [["GB 0999 K/1 [File] Ledgers"]] * 2)
 
 
 def offered(checks, office):
@@ -160,6 +175,7 @@ def offered(checks, office):
     office.round()
     office.tell("/desk/status", {"unit": 7, "status": "draft", "branch": False})
     for typed, wanted in (("harb", ["h\u00e4rbour", "harbours"]), ("harbuor plans", ["h\u00e4rbour plans"]),
+                          ("hrbour plans", ["h\u00e4rbour plans"]), ("harrbour plans", ["h\u00e4rbour plans"]),
                           ("Plans harbuor 12a", []), ("docks plans", []), ("harbinger", []), ("zzz", []),
                           ('"h\u00e4rbuor plans"', [])):
         with contextlib.closing(index.open_index(str(office.index))) as db:
@@ -206,6 +222,7 @@ def numbers_of(finder):
 def with_sql(*statements):
     """Does these statements to a file."""
     def harmed(path):
+        """Does them to this file."""
         with contextlib.closing(sqlite3.connect(path, isolation_level=None)) as db:
             for statement in statements:
                 db.execute(statement)
@@ -335,8 +352,7 @@ def hostile(checks, office):
     """Whatever is typed, the answer is 200 and JSON, or the front's own refusal of what is too long."""
     for text in HOSTILE:
         status, body = ask_patiently(office, "q=" + quote(text.encode("utf-8", "replace")))
-        checks.check(f"legal: {text[:20]!r}",
-                     status in (200, 414) and (status == 414 or json.loads(body)["state"] == "done"),
+        checks.check(f"legal: {text[:20]!r}", status in (200, 414) and (status == 414 or json.loads(body)["state"] == "done"),
                      (status, body[:200]))
     for raw in RAW:
         status, body = ask_patiently(office, raw)

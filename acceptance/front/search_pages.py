@@ -2,13 +2,13 @@
 
 import urllib.parse
 
-from asks import Asks
-from catalogue import ODD, dock_company, many
-from journeys import SHAPES, Journeys
-from checks import wants
-from office import TOP
-from searched import Searched
-from waits import until
+from acceptance.front.asks import Asks
+from acceptance.front.catalogue import ODD, dock_company, many
+from acceptance.front.checks import wants
+from acceptance.front.journeys import SHAPES, Journeys
+from acceptance.front.office import TOP
+from acceptance.front.searched import Searched
+from acceptance.front.waits import until
 
 MINUTES = "GB 0999 HUL/1 [Series] Minutes"
 TOLD = ".told"

@@ -1,8 +1,7 @@
-#!/usr/bin/env python3
 """Pairs of offices that differ only in what is closed or draft: random questions are answered by both to the same byte,
 and both ask the same for it.
 
-    search_pairs.py [--program PROGRAM] [--questions N] [--seed N] FOLDER
+    ./run acceptance.front.search_pairs [--program PROGRAM] [--questions N] [--seed N] FOLDER
 
 A pair is asked at three times. First nothing that is hidden was ever public. Then more was public, with texts of its own
 in each office, when one index was made, or both; it is hidden by now. Then a round has seen that.
@@ -18,11 +17,14 @@ import random
 import sys
 from typing import NamedTuple
 
-sys.dont_write_bytecode = True
-from checks import Checks  # noqa: E402
-from office import clear, folder_options  # noqa: E402
-from searched import Searched, answers, index, offers  # noqa: E402
-from service import Service  # noqa: E402
+import answers
+import index
+import offers
+from service import Service
+
+from acceptance.front.checks import Checks
+from acceptance.front.office import clear, folder_options
+from acceptance.front.searched import Searched
 
 QUESTIONS, EACH = 1000, 1500  # all questions, unless the command line says more, and about those of one pair
 UNITS, TOPS, FAR = 150, 2, "2999-01-01"
@@ -211,8 +213,8 @@ class Pair:
                 forgotten = [side_forgets(side) for side in self.sides]
             asked, was, now = self.ask(NO_LIMIT)
             self.checks.same(f"late: {asked}", was[0], now[0])
-            self.checks.same(f"late, what the office is asked: {asked}", *(
-                [path for path in paths if path not in hidden] for _, paths in (was, now)))
+            self.checks.same(f"late, what the office is asked: {asked}",
+                             *([path for path in paths if path not in hidden] for _, paths in (was, now)))
             for (answer, paths), out in zip((was, now), forgotten):
                 more = [path for path in paths if path in hidden]
                 self.checks.same(f"late, forgotten: {asked}", set(more) & out, set())
@@ -282,12 +284,13 @@ def without_haste():
 def play(checks, program, folder, questions=QUESTIONS, seed=1):
     """Asks so many questions of pairs of offices."""
     pairs, count = max(2, -(-questions // EACH)), collections.Counter()
+    in_turns = -(-questions // (3 * pairs))
     with without_haste():
         for turn in range(pairs):
             pair = Pair(checks, program, folder, seed + turn)
-            pair.play(-(-questions // (3 * pairs)))
+            pair.play(in_turns)
             count += pair.count
-    print(f"{pairs} pairs from seed {seed}: {dict(count)}", flush=True)
+    print(f"{pairs} pairs, {3 * pairs * in_turns} questions, from seed {seed}: {dict(count)}", flush=True)
     for name in ("found", "more", "more than are counted", "done", "late", "offers", "pages of what was hidden"):
         checks.check(f"there was something of this kind: {name}", count[name])
 

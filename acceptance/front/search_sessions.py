@@ -1,7 +1,6 @@
-#!/usr/bin/env python3
 """Random offices and random sessions of commands, with the index at every degree of staleness:
 
-    search_sessions.py [--program PROGRAM] [--steps N] [--seed N] FOLDER
+    ./run acceptance.front.search_sessions [--program PROGRAM] [--steps N] [--seed N] FOLDER
 
 After each step a random question is asked, and what is found is compared with all public pages, which are read by other
 code than the service's: nothing is found that is not public now, and nothing is missing that a round has seen. It
@@ -13,13 +12,18 @@ import re
 import sys
 import unicodedata
 
-sys.dont_write_bytecode = True
-import searched  # noqa: E402
-from checks import Checks  # noqa: E402
-from office import clear, folder_options  # noqa: E402
+import index
+from answers import Finder, Query
+from asking import Asking, Unreached
+from folding import read_typed
+from rounds import Round
 
-WORDS = ["dock", "Minutes", "minute", "letters", "caf\u00e9", "cafe\u0301", "\u05de\u05db\u05ea\u05d1", "Dock-gates",
-         "x2", "plans", "\u0141\u00f3d\u017a", "O\u2019Brien", "M\u00fcller", "mueller", "\u516c\u6587\u66f8\u9928", "H.M.S. Hull"]
+from acceptance.front.checks import Checks
+from acceptance.front.office import clear, folder_options
+from acceptance.front.searched import FOREVER, Searched
+
+WORDS = ["dock", "Minutes", "minute", "letters", "caf\u00e9", "cafe\u0301", "\u05de\u05db\u05ea\u05d1", "Dock-gates", "x2",
+         "plans", "\u0141\u00f3d\u017a", "O\u2019Brien", "M\u00fcller", "mueller", "\u516c\u6587\u66f8\u9928", "H.M.S. Hull"]
 ODD = ["closed until 2030-01-01", "Unit 1: GB 0999 A [Fonds] dock", "dock (from GB 0999 A)", "plans (from GB 0999)",
        "minute\nGB 0999 A [File] letters",
        "] dock [", "3.1.3 Date(s): 1850", "Container 1: dock", "  Unit 2: plans", "\u202edock\u2028plans",
@@ -97,7 +101,7 @@ class Between:
         if self.kind == "blink" and between:
             self.close(int(path[14:]))
         if self.kind == "cut" and self.left == 0:
-            raise searched.Unreached
+            raise Unreached
         if self.kind == "disturbed" and (self.left == 0 or between and self.left > 0):
             self.left = 0
             self.session.command()
@@ -121,8 +125,8 @@ class Session:
 
     def __init__(self, office, seed):
         self.office, self.random = office, random.Random(seed)
-        self.db, self.asking = searched.index.open_or_make(str(office.index), True), searched.Asking(office.queue)
-        self.reader = searched.Asking(office.queue)
+        self.db, self.asking = index.open_or_make(str(office.index), True), Asking(office.queue)
+        self.reader = Asking(office.queue)
         self.day, self.rows, self.last, self.told = 0, {}, ("s0", b""), {}
         self.fetched, self.snap, self.doubts, self.gone, self.by_parts = {}, {}, set(), set(), set()
 
@@ -213,16 +217,16 @@ class Session:
     def round(self, kind):
         """Makes a round of this kind. `large` is small now and then, so that archives are read by parts; what is below
         a unit that was shut while its page was read for that comes back with the next round."""
-        searched.index.forget_at_once(self.db, self.gone)
+        index.forget_at_once(self.db, self.gone)
         for number in self.doubts | self.gone:
-            searched.index.doubt(self.db, number)
+            index.doubt(self.db, number)
         self.snap = {n: one for n, one in self.snap.items() if n not in self.gone}
         self.doubts, self.gone, was, between = set(), set(), self.now, Between(self, kind)
-        sweep = searched.FOREVER if kind == "all" else self.random.choice([1, 3])
-        made, by_parts = searched.Round(self.db, between.ask, sweep, self.random.choice([1, 3, 2000])), set()
+        sweep = FOREVER if kind == "all" else self.random.choice([1, 3])
+        made, by_parts = Round(self.db, between.ask, sweep, self.random.choice([1, 3, 2000])), set()
         parts = made.parts
         made.parts = lambda number, *rest: by_parts.add(number) or parts(number, *rest)
-        with contextlib.suppress(searched.Unreached):
+        with contextlib.suppress(Unreached):
             made.run()
         self.by_parts |= by_parts
         between.open()
@@ -278,8 +282,8 @@ class Session:
         typed, *bounds, by_date = asked
         found, after, first = [], (0, 0), None
         for _ in range(500):
-            query = searched.Query(searched.read_typed(typed), *bounds, after, by_date)
-            answer = searched.Finder(self.db, self.reader, query, self.random.randint(1, 6)).find()
+            query = Query(read_typed(typed), *bounds, after, by_date)
+            answer = Finder(self.db, self.reader, query, self.random.randint(1, 6)).find()
             self.doubts, self.gone = self.doubts | answer.doubts, self.gone | answer.gone
             numbers = [unit["unit"] for unit in found]
             again = set(numbers) & {unit["unit"] for unit in answer.units}
@@ -349,7 +353,7 @@ class Session:
     def look_at_rows(self, kind):
         """The rows of the index after a round that nothing disturbed."""
         rows = dict(self.db.execute("SELECT n, parent FROM unit"))
-        indexed = {n % searched.index.ARCHIVE for n, in self.db.execute("SELECT rowid FROM words")}
+        indexed = {n % index.ARCHIVE for n, in self.db.execute("SELECT rowid FROM words")}
         lost = self.snap.keys() - rows.keys()
         assert kind not in ("clean", "all") or not lost, ("rows", kind, lost)
         assert kind != "all" or rows == {n: (None, *one.above)[-1]
@@ -359,9 +363,9 @@ class Session:
 
 def play(checks, program, folder, steps, seed):
     """Plays so many random steps over an office of its own."""
-    with searched.Searched.create(program, clear(folder)) as office:
+    with Searched.create(program, clear(folder)) as office:
         told = Session(office, seed).play(steps)
-    print(f"seed {seed}: {told}", flush=True)
+    print(f"seed {seed}: {steps} steps; {told}", flush=True)
     checks.check(f"{steps} random steps", told["hits"])
 
 

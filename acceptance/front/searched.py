@@ -2,22 +2,15 @@
 
 import http.client
 import json
-import sys
 import time
 
-from office import READERS, Office
+import index
+from answers import Finder, Query
+from asking import Asking
+from folding import read_typed
+from rounds import Round
 
-sys.path.insert(0, str(READERS))
-sys.path.append("/usr/lib/python3/dist-packages")  # the stemmers, if this is not Debian's own Python
-
-import answers  # noqa: E402, F401
-import folding  # noqa: E402, F401
-import index  # noqa: E402
-import offers  # noqa: E402, F401
-from answers import Finder, Query  # noqa: E402, F401
-from asking import Asking, Unreached  # noqa: E402, F401
-from folding import read_typed  # noqa: E402
-from rounds import Keeper, Round  # noqa: E402, F401
+from acceptance.front.office import Office
 
 FOREVER = 10**6  # a round with this sweep looks at all pages
 

@@ -3,7 +3,7 @@
 import json
 import os
 
-from office import PASSWORD
+from acceptance.front.office import PASSWORD
 
 
 class SignedIn:

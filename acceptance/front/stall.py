@@ -1,7 +1,7 @@
-#!/usr/bin/env python3
 """No command of the desk waits longer than one finding aid, however slowly the reader of that aid takes it.
 
-    stall.py [--program PROGRAM] [--aids N] [--way socket|tcp|nginx] [--readers N] [--desks N] [--kills N] [--lag MS]
+    ./run acceptance.front.stall [--program PROGRAM] [--aids N] [--way socket|tcp|nginx] [--readers N] [--desks N] [--kills N]
+    [--lag MS]
              FOLDER
 
 Without --aids it plays the steps that CI plays: aids of rising size, each of which its reader leaves alone until a
@@ -23,20 +23,17 @@ import termios
 import threading
 import time
 
-sys.dont_write_bytecode = True
-from checks import Checks  # noqa: E402
-from office import Office, clear, folder_options  # noqa: E402
-from waits import until  # noqa: E402
+from acceptance.front.checks import Checks
+from acceptance.front.office import Office, clear, folder_options
+from acceptance.front.waits import until
 
 HEADER = "legacyId,parentId,identifier,title,levelOfDescription,publicationStatus,scopeAndContent\n"
 # Of the steps' aids. A socket holds some 100 to 213 kB, and the queue 16 kB, so one of the sizes is between the two.
 SIZES = range(256_000, 96_000, -8_000)
 LEFT = 15  # seconds after which the command is done: each of the readers is left after five, one after the other or not
 STALL = 2  # seconds that a command may take longer than usual after the aid before it has ended. A stall is four to six
-NO_LIMITS = [("limit_req zone=record_office_readers burst=200 nodelay;", ""),
-             ("limit_conn record_office_visits 100;", ""),
+NO_LIMITS = [("limit_req zone=record_office_readers burst=200 nodelay;", ""), ("limit_conn record_office_visits 100;", ""),
              ("limit_conn record_office_aids 10;", "")]
-
 
 ROW = "{number},{parent},{number},{title},{level},Published," + "minutes of the dock company " * 16 + "\n"
 
@@ -140,8 +137,7 @@ def step(checks, office, number, size):
     command.join(60)
     late, usual = (command.answered or time.monotonic() + 60) - ended, min(seconds_of_one(office), STALL)
     checks.check(f"a command beside an aid of {size} bytes is done, and does not wait",
-                 command.status == 200 and late < STALL + usual,
-                 (command.status, late, usual))
+                 command.status == 200 and late < STALL + usual, (command.status, late, usual))
     return was_done
 
 

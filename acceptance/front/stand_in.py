@@ -2,14 +2,11 @@
 what came."""
 
 import contextlib
-import pathlib
 import socket
-import sys
 import threading
 import time
 
-sys.path.append(str(pathlib.Path(__file__).resolve().parents[1]))
-import client  # noqa: E402
+from acceptance import client
 
 LINE_END = b"\r\n\r\n"
 

@@ -1,8 +1,7 @@
-#!/usr/bin/env python3
-"""Strangers who want to shut everybody out, in a network of their own: half-sent heads from twenty addresses, with the rules of
-strangers.nft and without.
+"""Strangers who want to shut everybody out, in a network of their own: half-sent heads from twenty addresses, with the rules
+of strangers.nft and without.
 
-    strangers.py [--program PROGRAM] FOLDER
+    ./run acceptance.front.strangers [--program PROGRAM] FOLDER
 
 It begins itself again with `unshare`, which a kernel may forbid; then it says what it leaves out."""
 
@@ -15,12 +14,10 @@ import subprocess
 import sys
 import time
 
-sys.dont_write_bytecode = True
-from checks import Checks  # noqa: E402
-from office import FRONT, SIGNED_IN, TOP, Office, clear, folder_options  # noqa: E402
-from waits import until  # noqa: E402
-
-import client  # noqa: E402
+from acceptance import client
+from acceptance.front.checks import Checks
+from acceptance.front.office import FRONT, SIGNED_IN, TOP, Office, clear, folder_options
+from acceptance.front.waits import until
 
 HALF = client.get("/public/fonds")[:30]  # a head that nobody finishes
 MANY, EACH, ALLOWED = 20, 130, 100  # addresses, connections that each wants, and that it gets
@@ -137,7 +134,8 @@ def networks(checks, office):
 def inside(given):
     """Plays all of it, in a network that nobody else has."""
     resource.setrlimit(resource.RLIMIT_NOFILE, (resource.getrlimit(resource.RLIMIT_NOFILE)[1],) * 2)
-    for words in (["link", "set", "lo", "up"], *(["-6", "addr", "add", f"{one}/64", "dev", "lo", "nodad"] for one in NETWORKS)):
+    addresses = (["-6", "addr", "add", f"{one}/64", "dev", "lo", "nodad"] for one in NETWORKS)
+    for words in (["link", "set", "lo", "up"], *addresses):
         subprocess.run([shutil.which("ip", path="/usr/sbin:/sbin:/usr/bin:/bin"), *words], check=True)
     checks, office = Checks(), Reached.create(given.program, clear(given.folder))
     office.import_file("archives", TOP / "examples/archives.csv").expect_success()
@@ -154,7 +152,7 @@ def play(checks, program, folder):
     if may.returncode:
         print(f"left out strangers: {may.stderr.decode().strip()}", flush=True)
         return
-    words = ["unshare", "-rn", sys.executable, "-B", __file__, "--program", program.path, folder, "inside"]
+    words = ["unshare", "-rn", client.RUN, "acceptance.front.strangers", "--program", program.path, folder, "inside"]
     done = subprocess.run(words, check=False, stdout=subprocess.PIPE, text=True)
     print(done.stdout, end="", flush=True)
     checks.check("strangers shut nobody out", done.returncode == 0, done.stdout[-2000:])

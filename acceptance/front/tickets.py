@@ -1,8 +1,7 @@
-#!/usr/bin/env python3
 """A desk with many readers: what a search by name and the list of what waits ask for, and how long they take in
 Chromium.
 
-    tickets.py [--program PROGRAM] [--tickets N] [--slow-password] FOLDER
+    ./run acceptance.front.tickets [--program PROGRAM] [--tickets N] [--slow-password] FOLDER
 
 FOLDER is made anew. Two thirds of the tickets expire before the newest run. --slow-password keeps the desk's password
 as `openssl passwd -6` does. The last line is `N passed, M failed`.
@@ -12,13 +11,11 @@ import subprocess
 import sys
 import time
 
-sys.dont_write_bytecode = True
-from asks import Asks  # noqa: E402
-from browser import Browser  # noqa: E402
-from checks import Checks  # noqa: E402
-from office import PASSWORD, SIGNED_IN, TOP, Office, clear, folder_options  # noqa: E402
-
-import client  # noqa: E402
+from acceptance import client
+from acceptance.front.asks import Asks
+from acceptance.front.browser import Browser
+from acceptance.front.checks import Checks
+from acceptance.front.office import PASSWORD, SIGNED_IN, TOP, Office, clear, folder_options
 
 MOST_IN_A_SESSION = 9_000
 HOOK = """window.asked = []; if (!window.plain) { window.plain = window.fetch;

@@ -13,16 +13,16 @@ import subprocess
 import urllib.error
 import urllib.request
 
-import office as offices
-from access import DESK, FAR, Access
-from catalogue import dock_company
-from checks import wants
-from office import FRONT, MANY_PAGES, PYTHON, TOP, Office, clear
+from acceptance.front import office as offices
+from acceptance.front.access import DESK, FAR, Access
+from acceptance.front.catalogue import dock_company
+from acceptance.front.checks import wants
+from acceptance.front.office import FRONT, MANY_PAGES, PYTHON, TOP, Office, clear
 
 CODES = sorted(path.stem for path in (FRONT / "readers/po").glob("*.po"))
 BRACKETS = "he"
 CATALOGS = TOP / "acceptance/front/catalogs.py"
-PHONE = (320, 800, 1, True)
+PHONE, TABLET = (320, 800, 1, True), (768, 800, 1, False)
 # What access.py waits for: the text of which it is a part, and which of its forms.
 PARTS = {
     "No container is chosen.": ("No container is chosen. Choose at least one.", None),
@@ -134,21 +134,30 @@ class Translations(Access):
         self.same(f"3.1.1 the language: {at}", page, "[document.documentElement.lang, document.documentElement.dir]",
                   [self.code, "rtl" if self.code == BRACKETS else "ltr"])
         self.same(f"3.1.2 no text of the archive is said to be in a language: {at}", page, OWN, [])
-        page.size(*PHONE)
-        page.wait("innerWidth === 320")
-        self.same(f"1.4.10 nothing runs over at 320: {at}", page,
-                  "document.documentElement.scrollWidth - innerWidth", 0)
+        for size in (TABLET, PHONE):
+            page.size(*size)
+            page.wait(f"innerWidth === {size[0]}")
+            self.measure_width(page, f"at {size[0]}: {at}")
         if self.code == BRACKETS:
             self.find_none("texts without a key", page, "unkeyed", at)
             if site == "desk":
                 title = page.js("document.title")
                 has_key = re.fullmatch("(⟦[^⟦⟧]*⟧|[–0-9 ])*", title)
                 self.checks.check(f"the title has a key: {at}", has_key, title)
-        else:
-            self.find_none("words too long for their places at 320", page, "long", at)
+        self.find_none("marks that stand twice", page, "doubled", at)
+        if self.code == "fr":
+            self.find_none("marks without their space", page, "unspaced", at)
         page.size(*DESK)
         page.answer_with(None, 0, b"")
         page.js("sessionStorage.clear()")
+
+    def measure_width(self, page, at):
+        """Whether everything has room in a window of this width. Brackets make words longer than a language does."""
+        self.same(f"1.4.10 nothing runs over {at}", page, "document.documentElement.scrollWidth - innerWidth", 0)
+        self.find_none("days that go on in the next line", page, "parted", at)
+        if self.code != BRACKETS:
+            self.find_none("tables that scroll sideways", page, "scrolled", at)
+            self.find_none("words too long for their places", page, "long", at)
 
     def way(self, code):
         """A clerk registers a reader, who orders on the readers' pages and gets a seat; a run finds nothing."""
@@ -190,8 +199,8 @@ class Translations(Access):
         self.checks.check(f"several elements were seen: {code}", len(names) > 5, names)
 
     def first_of_month(self, code):
-        """The day on which a closed unit opens, on both sites: the first of a month as it is written in French."""
-        wanted = "1er janvier 2040" if code == "fr" else "2040"
+        """The day on which a closed unit opens, on both sites: the first of a month as it is written in French and English."""
+        wanted = {"en": "1 January 2040", "fr": "1er janvier 2040"}.get(code, "2040")
         self.readers.visit(f"{self.sites['readers']}/unit/{self.closed}")
         self.readers.see(wanted, "h1")
         self.desk.open(self.sites["desk"], f"/units/{self.closed}")

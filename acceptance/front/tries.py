@@ -12,12 +12,11 @@ import shutil
 import subprocess
 import time
 
-from asks import Asks
-from checks import wants
-from files import csv_text, unit
-from office import FRONT, PYTHON, SIGNED_IN, Office
-from waits import until
-
+from acceptance.front.asks import Asks
+from acceptance.front.checks import wants
+from acceptance.front.files import csv_text, unit
+from acceptance.front.office import FRONT, PYTHON, SIGNED_IN, Office
+from acceptance.front.waits import until
 
 SOURCE = "catalogue"
 FONDS = unit("1", title="Docks", identifier="HUL", levelOfDescription="Fonds", culture="en", scopeAndContent="Of the docks.")
@@ -47,6 +46,7 @@ TROUBLES = (
     (503, '{"error":"not reached"}',
      "Nothing was tried: the service for it is not running. The file can be imported all the same."),
     (500, '{"error":"failed"}', "This file could not be tried. Tell whoever runs the office: its journal says why."))
+LOOK_TOO = {**os.environ, "PYTHONPATH": str(FRONT / "look")}  # as the unit of the service has it
 TIME_OF_A_LARGE_FILE = 60  # seconds, for 20,000 rows
 
 
@@ -69,9 +69,9 @@ class Tried(Office):
         socket = self.folder / "tries.sock"
         socket.unlink(missing_ok=True)
         with open(self.folder / "try.told", "a") as log:
-            words = [PYTHON, "-B", FRONT / "try/service.py", "--copies", self.copies, "--files", self.kept, "--listen",
+            words = [PYTHON, "-B", "-s", FRONT / "try/service.py", "--copies", self.copies, "--files", self.kept, "--listen",
                      socket, "--program", self.program.path]
-            self.trying = subprocess.Popen([str(word) for word in words], stdout=log, stderr=log)
+            self.trying = subprocess.Popen([str(word) for word in words], stdout=log, stderr=log, env=LOOK_TOO)
         until(socket.exists, "the service of tries listens")
 
     @contextlib.contextmanager
@@ -168,7 +168,8 @@ def languages(checks, program, folder):
     french = csv_text({**FONDS, "title": "Quais", "culture": "fr", "identifier": "QUA"}, SERIES, PLANS, DRAFT)
     with make_office(program, folder) as office:
         _, told = office.post(f"/try/differences/{SOURCE}", french.encode())
-        checks.same("nobody knows the language of the office", [one for one in told["differences"] if one[0] == "language"], [])
+        checks.same("nobody knows the language of the office", [one for one in told["differences"] if one[0] == "language"],
+                    [])
         checks.same("a file is kept", office.post(f"/try/imported/{SOURCE}", FIRST.encode()), (200, {"kept": SOURCE}))
         checks.same("as it was", (office.kept / f"{SOURCE}.csv").read_bytes(), FIRST.encode())
         _, told = office.post(f"/try/differences/{SOURCE}", french.encode())
@@ -217,7 +218,7 @@ def front_status(office, path, fields=None, port="8081"):
 
 def run_shell(office, *words):
     """record-office-try: its status and what it printed."""
-    command = [FRONT / "try/record_office_try.py", "--source", SOURCE, "--program", office.program.path, *words]
+    command = [FRONT / "try/record-office-try", "--source", SOURCE, "--program", office.program.path, *words]
     done = subprocess.run([str(word) for word in command], capture_output=True, text=True, check=False)
     return done.returncode, done.stdout + done.stderr
 

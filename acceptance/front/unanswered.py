@@ -4,10 +4,14 @@ stand-in for the queue has the texts of two archives, and says of some that it i
 import contextlib
 import io
 
-from searched import Asking, Finder, Keeper, Query, Unreached, index, read_typed
-from stand_in import StandIn
+import index
+from answers import Finder, Query
+from asking import Asking, Unreached
+from folding import read_typed
+from rounds import Keeper
 
-import client
+from acceptance import client
+from acceptance.front.stand_in import StandIn
 
 HEADS = {1: "GB 0999 A [Fonds] Docks", 2: "GB 0999 A/1 [File] Anchors", 3: "GB 0999 A/2 [Series] Barges",
          4: "GB 0999 A/2/1 [File] Cranes", 5: "GB 0999 B [Fonds] Derricks"}

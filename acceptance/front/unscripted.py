@@ -5,15 +5,15 @@ import json
 import re
 import urllib.parse
 
-import catalogue
-from asks import Asks
-from checks import wants
-from office import MANY_PAGES, TOP, Office, clear
-from site_pages import Site, Tree, aid_of, elements_of
-from waits import until
+from acceptance.front import catalogue
+from acceptance.front.asks import Asks
+from acceptance.front.checks import wants
+from acceptance.front.office import MANY_PAGES, TOP, Office, clear
+from acceptance.front.site_pages import Site, Tree, aid_of, elements_of
+from acceptance.front.waits import until
 
 PARTS = ("fonds", "units", "aids", "lines", "languages", "statuses", "found_by_others", "contents", "level", "orders",
-         "collected", "questions", "large", "vanishing")
+         "collected", "questions", "offers", "large", "vanishing")
 UNITS = range(1, 70)
 SELDOM = ("--every", "100000", "--rest", "0", "--orders", "6000")
 LEVELS = 64  # of the deep archive
@@ -112,8 +112,8 @@ class Unscripted:
         self.checks.check("an odd cookie is no language", 'lang="en"' in self.site.page("/", Cookie="lang=../../x"))
         for path, kept in (("/search?q=dock+plans&from=1800", "q=dock+plans&from=1800&"), ("/unit/1?lang=de", "")):
             links = Tree(self.site.page(path)).links(r"\?.*lang=.*")
-            self.checks.same(f"another language, and what was asked for stays: {path}", sorted(address for address, _ in links),
-                             sorted(f"?{kept}lang={code}" for code in NAMES))
+            self.checks.same(f"another language, and what was asked for stays: {path}",
+                             sorted(address for address, _ in links), sorted(f"?{kept}lang={code}" for code in NAMES))
 
     def statuses(self):
         """What is there, what is not, and what leads elsewhere."""
@@ -221,6 +221,13 @@ class Unscripted:
                            (f"/unit/{deep + LEVELS - 1}", 35)):
             asked = self.count_questions(path)
             self.checks.check(f"questions for {path}: at most {most}", asked <= most, asked)
+
+    def offers(self):
+        """What is offered for a word that finds nothing leads to what it finds; the other words stay."""
+        links = Tree(self.site.page("/search?q=harbuor+board")).links(r"/search\?.*q=.*")
+        self.checks.same("what is offered", [text for _, text in links], ["harbour board"])
+        for address, _ in links:
+            self.checks.check("it finds something", "Harbour Board" in self.site.page(address), address)
 
     def large(self):
         """A large fonds is shown without its finding aid, and a unit of it without the page of a parent with thousands

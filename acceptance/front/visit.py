@@ -1,9 +1,9 @@
 """A reader's visit in a browser: every text of the program stands on the pages to the letter, and nothing of it is
 markup."""
 
-from catalogue import ODD
-from checks import wants
-from site_pages import aid_of
+from acceptance.front.catalogue import ODD
+from acceptance.front.checks import wants
+from acceptance.front.site_pages import aid_of
 
 # Each gives back what the page shows as the program would have written it.
 LETTERS = """const text = (node) => { const copy = node.cloneNode(true);
@@ -63,8 +63,8 @@ class Visit:
             self.checks.check(f"odd text stands as it is: {name}", seen.count(text) >= 3, seen)
             self.checks.same(f"odd text is no markup: {name}", page.js(MADE), 0)
             if name == "closed":
-                self.checks.same("a title like that of a closed unit is no day", page.js("!!document.querySelector('h1 time')"),
-                                 False)
+                self.checks.same("a title like that of a closed unit is no day",
+                                 page.js("!!document.querySelector('h1 time')"), False)
             if name == "hebrew":
                 side = page.js(RIGHT_SIDE)
                 self.checks.check("Hebrew begins at the right side", abs(side) < 2, side)
@@ -111,8 +111,7 @@ class Visit:
         self.checks.check("each unit of an aid is a heading", heads)
         self.shot(page, "reader-aid", full=False)
         self.shot(page, "reader-aid-printed", printed=True)
-        self.checks.same("it is there as plain text",
-                         page.js(f"fetch('/public/aid/{top}').then((answer) => answer.text())"),
+        self.checks.same("it is there as plain text", page.js(f"fetch('/public/aid/{top}').then((answer) => answer.text())"),
                          self.asks.text(f"/public/aid/{top}"))
 
     def search(self):

@@ -6,12 +6,16 @@ longest, in seconds. With `settings.hasty` nothing is waited for on a page whose
 
 import time
 import types
+from collections.abc import Callable
+from typing import TypeVar
+
+Given = TypeVar("Given")
 
 settings = types.SimpleNamespace(patience=60, slower=1, longest=0, hasty=False)
 BETWEEN = 0.03  # seconds between two looks
 
 
-def until(holds, what, minutes=1):
+def until(holds: Callable[[], Given], what: str, minutes: float = 1) -> Given:
     """Waits until `holds()` gives something true, and returns that."""
     seconds, began = minutes * settings.patience, time.monotonic()
     while not (given := holds()):

@@ -52,7 +52,7 @@ async function after(view, ...sentence) {
 
 function readerParts(view, { until, seat, orders }) {
   return [
-    el('p', {}, text('Ticket good until {until}.', { until }), ' ', seat === null ? text('No seat.') : text('Seat {seat}.', { seat }), ' ',
+    el('p', {}, phrase('Ticket good until {until}.', { until }), ' ', seat === null ? text('No seat.') : text('Seat {seat}.', { seat }), ' ',
       el('a', { href: `#/readers/${view.ticket}/ticket`, class: 'no-print' }, text('The ticket to print'))),
     orders.length > 0 ? orderTable(view, orders) : el('p', { class: 'quiet' }, text('No order is waiting, and nothing is out.')),
   ];
@@ -109,7 +109,7 @@ const orderForm = (view) => command(view, 'order of', text('Order'), ({ containe
   ({ order }, { container }) => phrase('Order {order} for {container}.', { order, container: boxLink(boxOf(container)) }), { fields: [boxField()] });
 
 const renewForm = (view) => command(view, 'renewal of', text('Renew'), ({ until }) => routes.renew(view.ticket, until),
-  (value, { until }) => [text('Good until {until}.', { until })], {
+  (value, { until }) => phrase('Good until {until}.', { until }), {
     fields: [dayField('until', text('New last day'))], before: ({ until }) => askIfPast(until, text('The ticket then has expired.')) });
 
 const permitForm = (view) => command(view, 'permit of', text('Give a permit'), ({ unit, until }) => routes.permit(view.ticket, numberOf(unit), until),

@@ -49,7 +49,7 @@ function issueForm(ticketRow) {
       return issued(value, ticketOf(ticket), boxOf(container));
     },
     explain: deskWords,
-    help: (answer, { ticket }, again) => (answer.code === 10
+    help: (answer, { ticket }, again) => (answer.refused === 'NotSeated'
       ? seatButton(ticketOf(ticket), again) : readerOf(answer, ticketOf(ticket))),
     look: ({ container }) => lookAtContainer(boxOf(container)),
     focus: focusOfIssue,
@@ -70,11 +70,13 @@ function moveOn(input, next, then) {
   input.addEventListener('change', () => then(ticketOf(input.value)));
 }
 
+const OF_THE_CONTAINER = ['UnknownContainer', 'NotAvailable', 'NotAtDesk', 'NotFirst'];
+
 /** After a refusal the focus is on the field that must be changed. */
 function focusOfIssue(form, answer) {
   const { ticket, container } = form.elements;
-  const button = answer?.code === 10 ? form.querySelector('.note button') : null;
-  const input = [3, 5, 14, 15].includes(answer?.code) ? container : ticket;
+  const button = answer?.refused === 'NotSeated' ? form.querySelector('.note button') : null;
+  const input = OF_THE_CONTAINER.includes(answer?.refused) ? container : ticket;
   if (button) return button.focus();
   input.focus();
   return input.select();
@@ -86,7 +88,7 @@ function issued(value, ticket, container) {
 }
 
 function readerOf(answer, ticket) {
-  return [4, 16].includes(answer.code) ? el('p', {}, phrase('The card: {reader}.', { reader: readerLink(ticket) })) : null;
+  return ['TicketExpired', 'HandsFull'].includes(answer.refused) ? el('p', {}, phrase('The card: {reader}.', { reader: readerLink(ticket) })) : null;
 }
 
 function seatButton(ticket, again) {
@@ -102,7 +104,7 @@ async function seat(ticket, give, place, again) {
   if (give.getAttribute('aria-disabled') === 'true') return;
   give.setAttribute('aria-disabled', 'true');
   const answer = await takeSeat(ticket);
-  if (answer.ok || answer.code === 9) {
+  if (answer.ok || answer.refused === 'AlreadySeated') {
     again();
     return;
   }
@@ -158,7 +160,7 @@ function leaveForm() {
     done: ({ seat: number }, { ticket }) =>
       said(phrase('Seat {seat} is free. {reader} has left.', { seat: number, reader: readerLink(ticketOf(ticket)) })),
     explain: deskWords,
-    help: (answer, { ticket }) => (answer.code === 11
+    help: (answer, { ticket }) => (answer.refused === 'HoldsContainers'
       ? el('p', {}, phrase('What is out: {reader}.', { reader: readerLink(ticketOf(ticket)) })) : null),
     look: ({ ticket }) => lookAtReader(ticketOf(ticket)),
   });

@@ -16,7 +16,7 @@ export function dayOfThisComputer() {
 
 /** When something was read, by the clock of this computer: a time of today, or of another day. */
 export function asOf(moment = new Date()) {
-  const time = moment.toLocaleTimeString(locale, { hour: '2-digit', minute: '2-digit' });
+  const time = moment.toLocaleTimeString(locale, { hour: '2-digit', minute: '2-digit', hourCycle: 'h23' });
   const isToday = moment.toDateString() === new Date().toDateString();
   return isToday ? text('As of {time}.', { time }) : text('As of {day}, {time}.', { day: moment.toLocaleDateString('sv'), time });
 }

@@ -4,7 +4,7 @@
 import { el, printButton, table, words } from '../shared/dom.js';
 import { selectField, textField } from '../shared/fields.js';
 import { note } from '../shared/form.js';
-import { counted, text, written } from '../shared/language.js';
+import { counted, named, phrase, text, written } from '../shared/language.js';
 import { differencesFrom } from './night_copy.js';
 import { unitLink } from './parts.js';
 
@@ -56,7 +56,7 @@ function showAnswer(given, answer, told, list) {
   if (!answer.ok) return told.replaceChildren(problem(...PROBLEMS[answer.kind]));
   const { copy, refused } = answer.value;
   if (refused) return told.replaceChildren(problem(text('The office would refuse this file: {answer}.', { answer: answer.value.answer.said }), ''));
-  told.replaceChildren(el('p', {}, text('As of the copy of {time}.', { time: copy }), ' ', el('strong', {}, sentence(answer.value))));
+  told.replaceChildren(el('p', {}, phrase('As of the copy of {time}.', { time: copy }), ' ', el('strong', {}, sentence(answer.value))));
   return list.replaceChildren(...listParts(answer.value.differences, given.source));
 }
 
@@ -97,7 +97,7 @@ function showRows(view) {
   const rows = chosen(view);
   const parts = Object.entries(KINDS).map(([kind, told]) => [told, rows.slice(0, SHOWN).filter(([one]) => one === kind)])
     .filter(([, some]) => some.length > 0)
-    .map(([told, some]) => table(`${told}: ${written(some.length)}`, HEADS, some.map(cellsOf)));
+    .map(([told, some]) => table(named(told, written(some.length)), HEADS, some.map(cellsOf)));
   const more = rows.length - SHOWN;
   view.shown.replaceChildren(...parts,
     more > 0 ? el('p', {}, counted(more, 'And {number} more, which the CSV file has.', 'And {number} more, which the CSV file has.')) : '',

@@ -1,5 +1,5 @@
 // The number of the newest unit. No question shows drafts, so units are asked for by a command that is always refused and
-// changes nothing: to put a unit below itself. Refusal 20 means that there is such a unit, refusal 1 that there is none.
+// changes nothing: to put a unit below itself. `IntoItself` means that there is such a unit, `UnknownUnit` that there is none.
 
 import { LAST_UNIT } from '../shared/limits.js';
 import { fonds, move } from '../shared/routes.js';
@@ -8,7 +8,7 @@ import { readFonds } from '../shared/texts.js';
 /** true, false, or null if the office does not answer. */
 async function isUnit(number) {
   const answer = await move(number, number);
-  return answer.kind === 'refused' && [1, 20].includes(answer.code) ? answer.code === 20 : null;
+  return ['UnknownUnit', 'IntoItself'].includes(answer.refused) ? answer.refused === 'IntoItself' : null;
 }
 
 let known = 0; // the newest unit when this page last knew it

@@ -4,7 +4,7 @@
 import { el, link, table, words } from '../shared/dom.js';
 import { numberField } from '../shared/fields.js';
 import { commandForm } from '../shared/form.js';
-import { counted, phrase, text, textAs, written } from '../shared/language.js';
+import { counted, named, phrase, text, textAs, written } from '../shared/language.js';
 import { numberOf } from '../shared/numbers.js';
 import { deskWords } from '../shared/refusals.js';
 import { cancel, queue, reshelve } from '../shared/routes.js';
@@ -17,8 +17,8 @@ import { isSure, STAYED } from './sure.js';
 import { forgetWaiting } from './waiting.js';
 
 const DAYS = 30; // how old what is listed is at least, unless somebody wants otherwise
-const NOT_WAITING = 13;
-const NOTHING_TO_MOVE = 24;
+const NOT_WAITING = 'OrderNotWaiting';
+const NOTHING_TO_MOVE = 'NothingToMove';
 
 const PLACES = { 'on its shelf': text('on its shelf'), 'at the desk': text('at the desk'), out: text('out') };
 
@@ -26,7 +26,7 @@ const ORDERS = {
   list: 'long-waiting', key: 'old orders', caption: text('Orders that wait long'), button: text('Cancel what is ticked'),
   heads: [textAs('noun', 'Order'), text('Ordered on'), text('Days'), text('Reader'), text('Container'), text('Where it is')],
   least: text('Waiting for at least so many days'),
-  cells: (row) => [row['Ordered on'], row.Days,
+  cells: (row) => [el('span', { class: 'whole' }, row['Ordered on']), row.Days,
     link(`#/readers/${row.Ticket}`, phrase('{name}, ticket {ticket}', { name: words(row.Reader), ticket: row.Ticket })),
     link(`#/counter/${row.Container}`, phrase('{name}, container {container}', { name: words(row.Name), container: row.Container })),
     PLACES[row.Where] ?? row.Where],
@@ -38,8 +38,8 @@ const BOXES = {
   list: 'idle', key: 'idle boxes', caption: text('Boxes at the desk that nobody has asked for'), button: text('Take back what is ticked'),
   heads: [text('Container'), text('Name'), text('Location'), text('Last ordered on'), text('Days'), text('Orders that wait')],
   least: text('Not asked for in so many days'),
-  cells: (row) => [link(`#/counter/${row.Container}`, words(row.Name)), words(row.Location), row['Last ordered on'], row.Days,
-    row['Orders that wait']],
+  cells: (row) => [link(`#/counter/${row.Container}`, words(row.Name)), words(row.Location), el('span', { class: 'whole' }, row['Last ordered on']),
+    row.Days, row['Orders that wait']],
   number: (row) => row.Container, name: (row) => text('Container {container}', { container: row.Container }),
   many: (number) => counted(number, '{number} box', '{number} boxes'),
   sure: text('The orders that still wait for these boxes are cancelled, and then everything at the desk that nobody is waiting for '
@@ -81,7 +81,7 @@ function showRows(view) {
   const rows = view.all.filter((row) => Number(row.Days) >= least && !view.gone.has(view.kind.number(row)));
   const shown = rows.map((row) => [tickBox(view.kind, view.kind.number(row), view.kind.name(row)), ...view.kind.cells(row)]);
   view.list.replaceChildren(rows.length === 0 ? el('p', {}, text('None.')) : el('div', {}, allButton(view.list),
-    table(`${view.kind.caption}: ${written(rows.length)}`, view.kind.heads, shown)));
+    table(named(view.kind.caption, written(rows.length)), view.kind.heads, shown)));
 }
 
 function tickBox(kind, number, name) {
@@ -102,7 +102,8 @@ async function askFirst(kind, numbers) {
   if (numbers.length === 0) return NOTHING_TICKED;
   const many = kind.many(numbers.length);
   const content = el('p', {}, kind.sure);
-  return await isSure({ title: `${kind.button}: ${many}?`, stay: text('Leave them'), go: text('Yes, {many}', { many }), content }) ? null : STAYED;
+  const title = text('{what}: {many}?', { what: kind.button, many });
+  return await isSure({ title, stay: text('Leave them'), go: text('Yes, {many}', { many }), content }) ? null : STAYED;
 }
 
 /** Cancels these orders one after the other: { ok: true, value: lines }, or the first answer that leaves open what was done. */
@@ -111,8 +112,8 @@ async function cancelEach(orders, view) {
   for (const order of orders) {
     const answer = await cancel(order);
     if (!answer.ok && answer.kind !== 'refused') return answer;
-    if (answer.ok || answer.code === NOT_WAITING) view.gone.add(order);
-    lines.push(answer.ok ? text('Order {order} is cancelled.', { order }) : `${text('Order {order}', { order })}: ${deskWords(answer)[0]}`);
+    if (answer.ok || answer.refused === NOT_WAITING) view.gone.add(order);
+    lines.push(answer.ok ? text('Order {order} is cancelled.', { order }) : named(text('Order {order}', { order }), deskWords(answer)[0]));
   }
   return { ok: true, value: lines };
 }
@@ -128,7 +129,7 @@ async function takeBackEach(boxes, view) {
     else lines.push(answer.value);
   }
   const answer = await reshelve();
-  if (!answer.ok && answer.code !== NOTHING_TO_MOVE) return answer;
+  if (!answer.ok && answer.refused !== NOTHING_TO_MOVE) return answer;
   const back = answer.ok ? answer.value.containers.map((box) => el('li', {}, boxLink(box))) : [el('li', {}, text('Nothing goes back.'))];
   return { ok: true, value: [...lines, el('strong', {}, text('Take these back to their shelves:')), el('ul', {}, back)] };
 }
@@ -145,7 +146,7 @@ async function endOrders(box, newest) {
   }
   for (const { order } of answer.value.waiting) {
     const ended = await cancel(order);
-    if (!ended.ok && ended.code !== NOT_WAITING) return ended;
+    if (!ended.ok && ended.refused !== NOT_WAITING) return ended;
   }
   return { ok: true, value: '' };
 }

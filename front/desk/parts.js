@@ -32,7 +32,7 @@ export function problem(answer) {
 
 /** Below a refusal that names a container: the way to it. */
 export function heldContainer(answer) {
-  return answer.code === 21
+  return answer.refused === 'WithReader'
     ? el('p', {}, phrase('Its page at the counter: {container}.', { container: containerLink(answer.container) })) : null;
 }
 

@@ -34,7 +34,7 @@ export function permitList(unit) {
   const told = el('p', { class: 'told', role: 'status' });
   const list = el('div', {});
   let asked = null;
-  const begin = () => { asked ??= gather(Number(unit), told, list).finally(() => { asked = null; }); };
+  const begin = () => { if (asked === null) asked = gather(Number(unit), told, list).finally(() => { asked = null; }); };
   const ask = el('button', { type: 'button', class: 'plain', click: begin }, text('Who has a permit for it?'));
   newestTicket().then((newest) => newest !== null && newest <= FEW && begin());
   return [el('p', { class: 'buttons' }, ask), told, list];

@@ -40,7 +40,7 @@ function callSlip(line, name, run, day) {
       : [words(location || '-', 'p', { class: 'from-where' }),
         el('p', { class: 'what' }, words(name), el('small', {}, ' ', text('container {number}', { number: line.container })))],
     el('p', {}, phrase('{reader}, ticket {ticket}', { reader: readerWords(line.ticket, 'strong'), ticket: line.ticket })),
-    el('p', { class: 'quiet' }, text('Order {order}, run {run}, {day}', { order: line.order, run, day })),
+    el('p', { class: 'quiet' }, phrase('Order {order}, run {run}, {day}', { order: line.order, run, day })),
     el('div', { class: 'codes-of' }, barcode(boxCode(line.container)), barcode(ticketCode(line.ticket))));
 }
 
@@ -51,7 +51,7 @@ export async function ticketPage(ticket) {
   const { name, until } = answer.value;
   return toPrint(title, text('Print the ticket'), link(`#/readers/${ticket}`, text('Back to the card')), [
     el('p', {}, phrase('Reader’s ticket {ticket}', { ticket: el('strong', {}, ticket) })), words(name, 'p', { class: 'what' }),
-    el('p', { class: 'quiet' }, text('Good until {until}', { until })), barcode(ticketCode(ticket))]);
+    el('p', { class: 'quiet' }, phrase('Good until {until}', { until })), barcode(ticketCode(ticket))]);
 }
 
 export async function labelPage(container) {

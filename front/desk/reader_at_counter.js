@@ -33,7 +33,8 @@ async function summary({ name, seat, until, orders }) {
   ].filter(Boolean);
 }
 
-const listed = (orders) => orders.flatMap(({ container }, place) => [place > 0 ? '; ' : '', boxLink(container)]);
+/** Links to the containers, with what parts them in the language. */
+const listed = (orders) => orders.map(({ container }) => boxLink(container)).reduce((list, last) => phrase('{list}; {last}', { list, last }));
 
 /** The orders whose container is at the desk and whose reader is the first who waits. */
 async function readyFor(orders) {

@@ -2,7 +2,7 @@
 // whether its location and kind are the same, too, somebody has to see.
 
 import { el, words } from '../shared/dom.js';
-import { counted, text } from '../shared/language.js';
+import { counted, phrase, text } from '../shared/language.js';
 import { aid, fonds } from '../shared/routes.js';
 import { namesInAid, readFonds } from '../shared/texts.js';
 
@@ -25,7 +25,7 @@ async function show(units, told, list, ask) {
   ask.removeAttribute('aria-disabled');
   told.textContent = found === null ? text('The office did not answer. Try again in a minute.') : sentence(found);
   list.replaceChildren(...(found ?? []).slice(0, SHOWN).map(([name, heads]) =>
-    el('li', {}, words(name, 'strong'), ': ', words(heads.join('; ')))));
+    el('li', {}, phrase('{name}: {value}', { name: words(name, 'strong'), value: words(heads.join('; ')) }))));
 }
 
 function sentence(found) {

@@ -114,8 +114,8 @@ function focusAfter(form, answer, reader) {
 
 /** The refusal of a file by row and cause: the row of both counts, its unit, the column, and what to do. */
 function refusalOfRow({ seen, rules }, answer) {
-  if (answer.code !== 22 || !rules) return null;
-  const [means] = DESK[answer.code];
+  if (answer.refused !== 'BadFile' || !rules) return null;
+  const [means] = DESK.BadFile;
   const [cause, todo] = rules.causes[answer.cause]?.map((words) => text(words)) ?? [text('cause {number}', { number: answer.cause }), ''];
   const row = seen?.rows?.[answer.row - 1];
   if (!row) return [`${means} ${cause[0].toUpperCase()}${cause.slice(1)}.`, todo];

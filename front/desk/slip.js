@@ -4,7 +4,7 @@
 import { el, link, printButton, table, words } from '../shared/dom.js';
 import { text, textAs } from '../shared/language.js';
 import { slip } from '../shared/routes.js';
-import { locationIn, readSlip } from '../shared/texts.js';
+import { locationIn, readRun } from '../shared/texts.js';
 import { codesOf, findCodes } from './codes.js';
 import { boxLink, containerName, readerLink } from './names.js';
 import { problem } from './parts.js';
@@ -14,13 +14,13 @@ export async function slipPage(run) {
   const answer = await slip(run);
   const title = text('Run {run}', { run });
   if (!answer.ok) return { title, content: [el('h1', {}, title), problem(answer), back()] };
-  const lines = readSlip(answer.value);
+  const { day, lines } = readRun(answer.value);
   for (const line of lines) line.name = await containerName(line.container);
   const print = printButton(text('Print the slip'));
   return { title, focus: print, content: [
-    el('h1', { class: 'no-print' }, title),
+    el('h1', {}, title),
     el('p', { class: 'buttons no-print' }, print, link(`#/runs/${run}/slips`, text('Call slips to cut'))),
-    el('p', { class: 'run-of' }, words(answer.value.split('\n')[0], 'strong')),
+    el('p', { class: 'run-of' }, words(day ?? answer.value.split('\n')[0], 'strong')),
     beside(lines),
     el('details', { class: 'no-print' }, el('summary', {}, text('The slip as the program writes it')),
       el('pre', { class: 'slip', tabindex: 0, role: 'region', 'aria-label': text('The slip') }, answer.value)),

@@ -69,7 +69,7 @@ async function whichDay() {
 function lastDay() {
   const day = localStorage.getItem(KEPT);
   return el('p', { class: 'last-day quiet' },
-    day ? text('The day opened last in this browser is {day}.', { day }) : text('No day has been opened in this browser yet.'));
+    day ? phrase('The day opened last in this browser is {day}.', { day }) : text('No day has been opened in this browser yet.'));
 }
 
 async function stillOut() {

@@ -104,7 +104,7 @@ function closureForm(view) {
     key: 'closure of', button: text('Set the closure'),
     before: ({ until }) => askIfPast(until, text('A unit that is closed until a past day is open.')),
     send: ({ until }) => setClosure(view.number, until),
-    done: (value, { until }) => [text('Closed until {until}.', { until })],
+    done: (value, { until }) => phrase('Closed until {until}.', { until }),
   });
 }
 

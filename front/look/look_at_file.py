@@ -8,7 +8,7 @@ from look_at_units import look_at_units
 from look_at_values import look_at_values
 from wording import count_words
 
-FIRST_BYTES = (
+FIRST_BYTES: tuple[tuple[bytes, str, dict[str, str]], ...] = (
     (b"PK\x03\x04", "workbook", {}),
     (b"\xd0\xcf\x11\xe0", "workbook", {}),
     (b"\xff\xfe", "utf16", {}),

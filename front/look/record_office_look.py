@@ -11,10 +11,9 @@ import os
 import pathlib
 import sys
 
-sys.path.append("/usr/share/record-office/look")
-from convert import convert  # noqa: E402
-from look_at_file import Look  # noqa: E402
-from wording import read_rules, words  # noqa: E402
+from convert import convert
+from look_at_file import Look
+from wording import read_rules, words
 
 LEVELS = {"stop": "refused: ", "ask": "look first: ", "note": "note: "}
 

@@ -32,7 +32,7 @@ for (const aid of all('.aid[data-large]')) {
   const select = document.createElement('select');
   select.setAttribute('aria-label', button.textContent);
   for (let part = 0; part < parts; part += 1) {
-    select.add(new Option(`${part + 1} / ${parts}: ${one('.unit', blocks[part * PART]).textContent}`, part));
+    select.add(new Option(`${part + 1} / ${parts} – ${one('.unit', blocks[part * PART]).textContent}`, part));
   }
   const choose = () => blocks.forEach((block, at) => block.classList.toggle('printed', Math.floor(at / PART) === +select.value));
   select.addEventListener('change', choose);

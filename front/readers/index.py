@@ -199,7 +199,7 @@ def next_with_units(db, after, many):
     return [n
             for n, in db.execute(
                 "SELECT DISTINCT parent FROM unit WHERE parent IS NOT NULL ORDER BY parent <= ?, parent LIMIT ?",
-                                   (after, many))]
+                (after, many))]
 
 
 def below(db, number):

@@ -5,6 +5,7 @@ import gettext
 import io
 import json
 import pathlib
+import re
 from datetime import date
 
 from babel import Locale
@@ -16,10 +17,12 @@ from babel.numbers import format_decimal
 HERE = pathlib.Path(__file__).resolve().parent
 LONG = {"en": "d MMMM y"}  # where the locale's own long form is another country's
 FIRST = {"fr": "d'er' MMMM y"}  # where the first day of a month is written otherwise
+UNBROKEN = {"fr": re.compile("(?<=«) | (?=[:;?!»…])|(?<=[0-9]) (?=[0-9])")}  # the spaces at which no line ends
 
 
 class Language:
-    """code: as in `lang`; name: in itself; direction: of its writing; catalog: its texts as they were read; texts: the same, to be asked."""
+    """code: as in `lang`; name: in itself; direction: of its writing; catalog: its texts as they were read; texts: the same,
+    to be asked."""
 
     def __init__(self, code, catalog):
         self.code, self.catalog, self.texts, self.locale = code, catalog, compiled(catalog), Locale(code)
@@ -64,10 +67,21 @@ def compiled(catalog):
     return gettext.GNUTranslations(file)
 
 
+def read(path):
+    """The catalog of a language. Where a mark has a space beside it, that is one at which no line ends."""
+    catalog = read_po(io.BytesIO(path.read_bytes()), path.stem)
+    spaces = UNBROKEN.get(path.stem)
+    for one in catalog if spaces else ():
+        texts = one.string if one.pluralizable else [one.string]
+        kept = tuple(spaces.sub("\N{NO-BREAK SPACE}", text) for text in texts)
+        one.string = kept if one.pluralizable else kept[0]
+    return catalog
+
+
 def load(folder=HERE / "po"):
     """All languages by their codes, English first."""
     paths = sorted(folder.glob("*.po"), key=lambda path: (path.stem != "en", path.stem))
-    return {path.stem: Language(path.stem, read_po(io.BytesIO(path.read_bytes()), path.stem)) for path in paths}
+    return {path.stem: Language(path.stem, read(path)) for path in paths}
 
 
 def write(languages, folder):

@@ -112,7 +112,7 @@ class Round:
         """Whether the index has this aid, and its unit at this place."""
         return self.db.execute(
             "SELECT 1 FROM part JOIN unit USING (n) WHERE n = ? AND digest = ? AND top = ? AND parent IS ? "
-                               "AND NOT gone", (number, seen, top, parent)).fetchone()
+            "AND NOT gone", (number, seen, top, parent)).fetchone()
 
     def page(self, number):
         """The page of a unit, or None."""

@@ -22,12 +22,13 @@ export function link(hash, ...children) {
   return el('a', { href: hash }, ...children);
 }
 
-/** A table that scrolls by itself if the screen is too narrow for it. */
+/** A table that scrolls by itself if it is too wide; one of many columns becomes a list first, which has their heads in each row. */
 export function table(caption, heads, rows) {
-  return el('div', { class: 'wide', role: 'group', tabindex: 0, 'aria-label': caption }, el('table', {},
+  const cells = (row) => row.map((cell, place) => el('td', { 'data-head': heads[place] }, cell));
+  return el('div', { class: 'wide', role: 'group', tabindex: 0, 'aria-label': caption }, el('table', { class: heads.length > 2 && 'many' },
     el('caption', {}, caption),
     el('thead', {}, el('tr', {}, heads.map((head) => el('th', { scope: 'col' }, head)))),
-    el('tbody', {}, rows.map((row) => el('tr', {}, row.map((cell) => el('td', {}, cell)))))));
+    el('tbody', {}, rows.map((row) => el('tr', {}, cells(row))))));
 }
 
 export function printButton(text) {

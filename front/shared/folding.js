@@ -25,7 +25,7 @@ function foldLetter(letter) {
 
 /** The ways in which a name is read: as it stands, and with umlauts spelled out; both also with words joined, and parted. */
 function readingsOf(name) {
-  const spelled = name.normalize('NFC').toLowerCase().replace(/[^\u0000-\u007f]/gu, (letter) => other[letter] ?? letter);
+  const spelled = name.normalize('NFC').toLowerCase().replace(/\P{ASCII}/gu, (letter) => other[letter] ?? letter);
   const apart = [folded(name), folded(spelled).replace(ARTICLE, '')];
   const joined = apart.map((one) => one.replace(INITIALS, '$1').replace(JOINED, '').replace(/\.(?=\s|$)/g, ''));
   return new Set([...apart, ...joined, ...apart.map((one) => one.replace(JOINED, ' '))]);

@@ -2,6 +2,8 @@
 // readers' service writes the texts of each language when it starts, and nginx has them as files: without such a file the pages
 // are in English.
 
+import { el } from './dom.js';
+
 const KEPT = 'language'; // kept in the browser, for this site
 const SOURCE = { code: 'en', direction: 'ltr', languages: {}, texts: {} };
 
@@ -41,14 +43,23 @@ const plurals = new Intl.PluralRules(code);
 /** For days and numbers: English ones are written as in Britain. */
 export const locale = code === 'en' ? 'en-GB' : code;
 
-/** A text in this language, with its places in braces filled. */
-export const text = (english, values = {}) => phrase(english, values).join('');
+const DAY = /^\d{4}-\d{2}-\d{2}(, \d{2}:\d{2})?$/;
 
-/** The same as a list for `el`, whose values may be elements. */
-export const phrase = (english, values = {}) => fill(texts[english] ?? english, values);
+/** A text in this language, with its places in braces filled. */
+export const text = (english, values = {}) => fill(texts[english] ?? english, values).join('');
+
+/** The same as a list for `el`, whose values may be elements. A day stays on one line, with its time. */
+export const phrase = (english, values = {}) => fill(texts[english] ?? english, values)
+  .map((part) => (DAY.test(part) ? el('span', { class: 'whole' }, part) : part));
+
+/** Words between the language's quotation marks. */
+export const quoted = (words) => text('“{words}”', { words });
 
 /** A word that is another one in other places; `context` says which one is meant. */
 export const textAs = (context, english) => texts[`${context}\u0004${english}`] ?? english;
+
+/** A name and what it names: before the colon between them some languages have a space. */
+export const named = (name, value) => text('{name}: {value}', { name, value });
 
 /** A text by how many there are: `{number}` stands for them. */
 export function counted(number, one, many, values = {}) {

@@ -1,6 +1,6 @@
 // The one module that knows the program's routes. Each call promises an answer, and none throws:
 //   { ok: true, value }                          200
-//   { ok: false, kind: 'refused', code, .. }     409, with the members of the refusal
+//   { ok: false, kind: 'refused', refused, .. }  409, with the members of the refusal
 //   { ok: false, kind: 'missing' }               404: not there, or not shown
 //   { ok: false, kind: 'unread' | 'large' }      the request was not taken (400, 405, 411, 501; 413)
 //   { ok: false, kind: 'barred' | 'often' }      the front server did not pass it on (401, 403, 421; 429)

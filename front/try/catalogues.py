@@ -13,7 +13,7 @@ class Known:
     is_draft: bool
     texts: dict
     boxes: list = field(default_factory=list)
-    above: tuple = None
+    above: tuple | None = None
     below: int = 0
 
 

@@ -39,7 +39,7 @@ class Tried:
     differences."""
 
     answer: dict = field(default_factory=dict)
-    refused: tuple = None
+    refused: tuple | None = None
     differences: list = field(default_factory=list)
 
 

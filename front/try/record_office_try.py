@@ -1,4 +1,3 @@
-#!/usr/bin/python3 -B
 """Shows what the import of a file would change, without touching the office: the program imports the file into a copy of
 the newest backup, and the copy is compared before and after.
 
@@ -12,13 +11,10 @@ import os
 import pathlib
 import sys
 
-HERE = pathlib.Path(__file__).resolve().parent
-sys.path[:0] = [str(HERE), str(HERE.parent / "look")] if HERE.name == "try" else []
-sys.path += ["/usr/share/record-office/try", "/usr/share/record-office/look"]
-from convert import convert  # noqa: E402
-from differences import COLUMNS, KINDS, Trial  # noqa: E402
-from kept_files import is_source, last_file, newest_copy  # noqa: E402
-from wording import read_rules  # noqa: E402
+from convert import convert
+from differences import COLUMNS, KINDS, Trial
+from kept_files import is_source, last_file, newest_copy
+from wording import read_rules
 
 SHOWN = 60  # the most letters of a text that a line has; the CSV file has all
 

@@ -15,12 +15,11 @@ import sys
 import threading
 import time
 
-sys.path.append(str(pathlib.Path(__file__).resolve().parent.parent / "look"))
-import waitress  # noqa: E402
+import waitress
 
-from differences import Trial  # noqa: E402
-from kept_files import is_source, keep_file, last_file, newest_copy  # noqa: E402
-from wording import read_rules  # noqa: E402
+from differences import Trial
+from kept_files import is_source, keep_file, last_file, newest_copy
+from wording import read_rules
 
 LARGEST_FILE = 8 * 1024 * 1024
 PATH = re.compile("/try/(differences|imported)/([^/]+)")

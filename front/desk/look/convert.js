@@ -7,7 +7,7 @@ import { isGarbled } from './values.js';
 const SEP = /^sep=(.)?(\r\n|\n|\r|$)/i;
 const QUOTED = /[",\r\n]/;
 const UNDEFINED = /[\u0081\u008d\u008f\u0090\u009d]/; // not used by Windows-1252
-const FOREIGN = /[^ \t\r\n";,|]*[^\x00-\x7f][^ \t\r\n";,|]*/g;
+const FOREIGN = /[^ \t\r\n";,|]*\P{ASCII}[^ \t\r\n";,|]*/gu;
 const SHOWN = 5;
 
 /** The file as an office reads it: { encoding, separator, values, letters, lost, bytes }; null if it is so already, or if it is not clear what it is. */

@@ -1,6 +1,6 @@
 // Looks at a file before it is sent, by the rules of rules.json. record-office-look gives the same advice at a shell.
 
-import { counted, text, written } from '../../shared/language.js';
+import { counted, quoted, text, written } from '../../shared/language.js';
 import { decode, entries, records, trimmed } from './records.js';
 import { isDraft, keyOf, lookAtUnits } from './units.js';
 import { lookAtValues } from './values.js';
@@ -188,7 +188,7 @@ function sayFault(reader, rules, seen) {
 /** Which unit a row is about: its column if it matters, its legacyId and title. */
 export function aboutRow(reader, row, column) {
   const [legacy, title] = [valueIn(reader, row, 'legacyId'), valueIn(reader, row, 'title')];
-  const parts = [column && text('column {column}', { column }), legacy && `legacyId ${legacy}`, title && `“${firstOf(title, 60)}”`];
+  const parts = [column && text('column {column}', { column }), legacy && `legacyId ${legacy}`, title && quoted(firstOf(title, 60))];
   return parts.filter(Boolean).map((part) => `, ${part}`).join('');
 }
 

@@ -1,11 +1,11 @@
 // What the units of a file look like together: their parents, numbers, codes, languages and containers.
 
-import { text } from '../../shared/language.js';
+import { quoted, text } from '../../shared/language.js';
 
 const ROUNDED = /^[0-9]+([.,][0-9]+)?[Ee]\+[0-9]+$/;
 const DECIMALS = /^([0-9]+)[.,]0+$/;
 const LONGEST_CIRCLE = 200;
-const UNSEEN = '\\u00a0\\u00ad\\u034f\\u061c\\u1680\\u180e\\u2000-\\u200f\\u2028-\\u202f\\u205f-\\u2064\\u3000\\ufeff';
+const UNSEEN = '\\u034f\\u00a0\\u00ad\\u061c\\u1680\\u180e\\u2000-\\u200f\\u2028-\\u202f\\u205f-\\u2064\\u3000\\ufeff';
 const AT_END = new RegExp(`^[${UNSEEN}]+|[${UNSEEN}]+$`, 'g');
 const CULTURE = /^[a-z]{2,3}([_@-][0-9A-Za-z_@-]+)?$/;
 
@@ -20,7 +20,7 @@ export function lookAtUnits(reader, hasStatus, depth, seen) {
   if (hasStatus && all.length > 0 && all.every(isDraft)) seen.say('all_drafts');
   const isOdd = (status) => !['published', 'draft', ''].includes(status.toLowerCase());
   const odd = new Set(all.map((unit) => unit.status).filter(isOdd));
-  if (odd.size > 0) seen.say('odd_status', { words: [...odd].map((one) => `“${one}”`) });
+  if (odd.size > 0) seen.say('odd_status', { words: [...odd].map(quoted) });
   lookAtParents(units, seen);
   lookAtDepths(units, depth, seen);
   lookAtNumbers(units, seen);
@@ -143,7 +143,7 @@ const repeats = (identifier, above) =>
 /** Says which languages are not written as AtoM does, and whether all rows are in another one than English. */
 function lookAtCultures(reader, all, seen) {
   const odd = [...reader.cultures].filter((one) => one !== '' && !CULTURE.test(one));
-  if (odd.length > 0) seen.say('odd_culture', { words: odd.map((one) => `“${one}”`) });
+  if (odd.length > 0) seen.say('odd_culture', { words: odd.map(quoted) });
   const cultures = [...new Set(all.map((unit) => unit.culture))];
   const isOther = cultures.length === 1 && reader.translations === 0 && !['', 'en'].includes(cultures[0].toLowerCase());
   if (isOther) seen.say('one_language', { culture: cultures[0] });
@@ -162,7 +162,7 @@ function lookAtBoxes(units, seen) {
     }
   }
   const groups = groupedBy([...boxes.values()], ({ box }) => keyOf(box.map(withoutCase))).filter((group) => group.length > 1);
-  const named = (group) => group.map(({ box }) => `“${shownBox(box)}”`).join(' / ');
+  const named = (group) => group.map(({ box }) => quoted(shownBox(box))).join(' / ');
   if (groups.length > 0) seen.say('boxes_alike', { boxes: groups.map(named) });
   const shared = [...boxes.values()].filter(({ archives }) => archives.size > 1);
   if (shared.length > 0) seen.say('boxes_shared', { boxes: shared.map(({ box }) => shownBox(box)) });

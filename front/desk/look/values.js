@@ -4,7 +4,7 @@ import { entries } from './records.js';
 import { withoutUnseen } from './units.js';
 
 const GARBLED = /[\u00c2\u00c3][\u0080-\u00bf]|\u00e2\u20ac|\ufffd/;
-const CONTROL = /[\x00-\x08\x0b\x0c\x0e-\x1f\x7f-\x9f]/;
+const CONTROL = /(?![\t\n\r])\p{Cc}/u;
 const MONTH = '(Jan|Feb|Mar|Apr|May|Jun|Jul|Aug|Sep|Oct|Nov|Dec)';
 const RESHAPED = new RegExp(`^([0-9]{1,2}/[0-9]{1,2}/[0-9]{2}|[0-9]{1,2}-${MONTH}(-[0-9]{2})?|${MONTH}-[0-9]{2}`
   + '|[0-9]+([.,][0-9]+)?[Ee]\\+[0-9]+|#(NAME\\?|REF!|VALUE!|N/A|DIV/0!|NUM!)|#{3,})$');

@@ -11,18 +11,16 @@ import socket
 import threading
 import time
 
-from asks import Asks
-from checks import wants
-from office import FRONT, TOP, Office
-from rules import ask_once, exchange
-from stand_in import StandIn, in_place_of_program
-from waits import until
+from acceptance import client
+from acceptance.front.asks import Asks
+from acceptance.front.checks import wants
+from acceptance.front.office import FRONT, TOP, Office
+from acceptance.front.rules import ask_once, exchange
+from acceptance.front.stand_in import StandIn, in_place_of_program
+from acceptance.front.waits import until
 
-import client
-
-PARTS = ("questions_in_a_row", "pages_in_a_row", "aids_in_a_row", "orders_in_a_row", "forms_in_a_row",
-         "searches_in_a_row", "pages_at_once", "questions_at_once", "aids_at_once", "aids_from_all",
-         "searches_at_once", "reading_room", "slow")
+PARTS = ("questions_in_a_row", "pages_in_a_row", "aids_in_a_row", "orders_in_a_row", "forms_in_a_row", "searches_in_a_row",
+         "pages_at_once", "questions_at_once", "aids_at_once", "aids_from_all", "searches_at_once", "reading_room", "slow")
 MANY_AIDS = [("aids_in_a_row burst=9", "aids_in_a_row burst=99")]
 LARGE = 24_000_000  # more bytes than sockets hold
 
@@ -261,7 +259,8 @@ def check_rooms(checks, zones, places):
     for name, wanted in (("visits", "100"), ("aids", "10"), ("reading", "12")):
         found = set(re.findall(rf"limit_conn record_office_{name} (\d+);", places))
         checks.same(f"as many {name} at once at each place", found, {wanted})
-    wanted = {name: "1m" if name.startswith("room_") else "64k" if name in ("reading", "searching") else "2m" for name in sizes}
+    wanted = {name: "1m" if name.startswith("room_") else "64k" if name in ("reading", "searching") else "2m"
+              for name in sizes}
     checks.same("the memory of what counts", sizes, wanted)
 
 
@@ -289,8 +288,7 @@ def numbers(checks):
     checks.check("an import or a removal has two minutes", seconds("timeout server", queue) >= 120)
     checks.check("and so has what waits behind one", seconds("timeout queue", queue) >= 120)
     checks.check("the gate waits longer than the queue",
-                 min(seconds(f"timeout {side}", gate)
-                     for side in ("client", "server")) > seconds("timeout server", queue))
+                 min(seconds(f"timeout {side}", gate) for side in ("client", "server")) > seconds("timeout server", queue))
     tries = int(re.search(r"retries (\d+)", gate)[1])
     checks.check("the gate says that it did not reach the program before the queue gives up",
                  100 <= tries < seconds("timeout server", queue), tries)
@@ -305,3 +303,27 @@ def numbers(checks):
     desk = texts["desk-nginx.conf"]
     checks.check("and so is the desk without TLS",
                  all(one.startswith(("127.0.0.1:", "[::1]:")) for one in re.findall(r"listen (\S+)", desk)), desk)
+    check_files_of_tls(checks, texts)
+    check_defaults(checks, texts["common.conf"])
+
+
+def check_files_of_tls(checks, texts):
+    """The files with TLS are those without, but for addresses, names and certificates; and each listens by IPv6 too."""
+    first, last = "user www-data;", "include /etc/record-office/common.conf;"
+    files = ("desk-tls.conf", "desk-nginx.conf")
+    with_tls, without = (texts[name].partition(first)[2].partition(last)[0] for name in files)
+    checks.same("the desk's nginx, with TLS and without", with_tls, without)
+    checks.check("logs to the journal", "access_log syslog:server=unix:/dev/log,tag=record_office_desk;" in without, without)
+    for name in ("nginx.conf", "tls.conf", "desk-tls.conf"):
+        listens = re.findall(r"listen (?:(\[::\]):)?(\d+)( .*)?;", texts[name])
+        by_version = [[one[1:] for one in listens if bool(one[0]) == is_ipv6] for is_ipv6 in (False, True)]
+        checks.same(f"{name}: by IPv4 and by IPv6", *by_version)
+
+
+def check_defaults(checks, common):
+    """What the units do not say of the readers' service: its rounds, and orders by forms, as nginx has them."""
+    text = (FRONT / "readers/service.py").read_text("utf-8")
+    defaults = dict(re.findall(r'"--(\w+)", type=float, default=(\d+)', text))
+    orders = re.search(r"zone=record_office_orders:2m rate=(\d+)r/m;", common)[1]
+    checks.same("rounds a minute apart, a fifth of the time at most, and orders", defaults,
+                {"every": "60", "rest": "4", "orders": orders})
