@@ -1,5 +1,5 @@
-#!/usr/bin/env python3
-"""With ample memory nothing is out of memory, as far as the limits go: ample.py [--program PROGRAM] [--room DIRECTORY] [NAME ..]
+"""With ample memory nothing is out of memory, as far as the limits go: ./run acceptance.ample [--program PROGRAM] [--room
+DIRECTORY] [NAME ..]
 
 A file of 8,388,608 bytes has 20,000 rows, and each of its units lies in five containers of its own, 100,000 in all. The
 finding aid of its top is computed here from the rules.
@@ -11,12 +11,13 @@ finding aid of its top is computed here from the rules.
 
 No contract names a cause of `Memory` or 503, so a program that gives up at some size would keep them all. The script
 prints what it compared, and ends with 1 if something is wrong."""
+
 import sys
 from functools import cache
 
-import client
-from client import Ended, Office
-from plain.limits import LAST_ROW, LONGEST_BODY, MOST_CONTAINERS
+from acceptance import client
+from acceptance.client import Ended, Office
+from acceptance.plain.limits import LAST_ROW, LONGEST_BODY, MOST_CONTAINERS
 
 SECONDS = 300
 UNITS, IN_EACH = LAST_ROW - 1, 5

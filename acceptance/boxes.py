@@ -1,7 +1,6 @@
-#!/usr/bin/env python3
 """Compares random sessions about boxes that many units name with a plain office:
 
-    boxes.py [--program PROGRAM] [--first SEED] [--count COUNT]
+    ./run acceptance.boxes [--program PROGRAM] [--first SEED] [--count COUNT]
 
 These are sessions as in sessions.py, with other catalogues and other choices. A session begins with twenty to sixty
 units that share a few boxes: side by side, in turns or anyhow, below one fonds, in series or in a deep tree. In one of
@@ -16,15 +15,16 @@ The script prints how many sessions were equal, how often each command was accep
 boxes that an order, a run, an issue or the gate judged. It ends with 1 and the first different answer if a session
 differs, and also if, in a hundred sessions or more, something came less often than LEAST says. The sessions of KEPT
 come too: each finds a wrong way to read a box in one pass."""
+
 import functools
 import itertools
 import json
 import sys
+from collections.abc import Callable
+from typing import Any
 
-import client
-import plain
-import sessions
-from sessions import count
+from acceptance import client, plain, sessions
+from acceptance.sessions import count
 
 LEAST = 10
 KEPT = {
@@ -252,7 +252,7 @@ class BoxSession(sessions.Session):
         ticket, unit = self.random.choice(granted) if granted and self.happens(0.9) else (self.ticket(), self.unit())
         return "revoke", {"ticket": ticket, "unit": unit}
 
-    OFTEN = {
+    OFTEN: dict[Callable[..., Any], int] = {
         sessions.Session.import_file: 7,
         sessions.Session.register: 1,
         sessions.Session.renew: 1,

@@ -6,6 +6,7 @@ options.
         ended = office.talk(client.get("/public/fonds"), client.post("/desk/run"))
         [fonds, run] = client.replies(ended.output)
 """
+
 import argparse
 import contextlib
 import io
@@ -16,12 +17,14 @@ import re
 import socket
 import subprocess
 import tempfile
+from collections.abc import Callable, Iterable, Iterator, Mapping
 from pathlib import Path
-from typing import NamedTuple
+from typing import IO, Any, NamedTuple, Self, TypeVar
 
-from plain.limits import HIGHEST
+from acceptance.plain.limits import HIGHEST
 
 TOP = Path(__file__).resolve().parents[1]
+RUN = TOP / "run"  # starts a module
 BUILT = TOP / "crates" / "record_office" / "out" / "record_office"
 MEMORY = Path("/dev/shm")
 SETTINGS = {"country": "GB", "repo": "0999", "seats": "2", "daily": "3", "hands": "1", "run": "2", "day": "2024-03-01"}
@@ -31,6 +34,11 @@ PATIENCE = 60
 # ports that the system does not give to those who connect
 PORTS = itertools.count(20_000 + os.getpid() % 10_000)
 
+Body = bytes | str | dict[str, Any]  # JSON, if it is a dict
+Fields = Mapping[str, str] | Iterable[tuple[str, str]]
+Settings = Mapping[str, object]
+Known = TypeVar("Known")
+
 # ---- requests and replies
 
 TEXT, JSON = "text/plain; charset=utf-8", "application/json"
@@ -38,7 +46,7 @@ PHRASES = {200: "OK", 400: "Bad Request", 404: "Not Found", 409: "Conflict", 502
            503: "Service Unavailable"}
 
 
-def request(method, path, body=None, host="x", fields=()):
+def request(method: str, path: str, body: Body | None = None, host: str = "x", fields: Fields = ()) -> bytes:
     """The bytes of a request. Its body is bytes, a text, or members that are sent as JSON; without one it has no
     length. `fields` are names with values."""
     if isinstance(body, dict):
@@ -52,22 +60,22 @@ def request(method, path, body=None, host="x", fields=()):
     return "".join(f"{line}\r\n" for line in [*lines, ""]).encode() + (body or b"")
 
 
-def get(path):
+def get(path: str) -> bytes:
     """A question."""
     return request("GET", path)
 
 
-def post(path, body=b""):
+def post(path: str, body: Body = b"") -> bytes:
     """A command. Its body is that of `request`."""
     return request("POST", path, body)
 
 
-def path_of(word):
+def path_of(word: str) -> str:
     """The path of a command; readers give their orders themselves."""
     return "/public/orders" if word == "orders" else f"/desk/{word}"
 
 
-def reply(status, body, kind=JSON, *fields):
+def reply(status: int, body: bytes, kind: str = JSON, *fields: str) -> bytes:
     """The bytes of a reply, with these fields after its length."""
     lines = [f"HTTP/1.1 {status} {PHRASES[status]}", f"Content-Type: {kind}", f"Content-Length: {len(body)}", *fields]
     return "".join(f"{line}\r\n" for line in [*lines, ""]).encode() + body
@@ -83,12 +91,12 @@ class Reply(NamedTuple):
     line: bytes
     body: bytes
 
-    def json(self):
+    def json(self) -> Any:
         """What the body tells as JSON."""
         return json.loads(self.body)
 
 
-def read_reply(stream):
+def read_reply(stream: IO[bytes]) -> Reply:
     """The next reply of a binary stream, as far as it is there; the status is 0 if its first line is no such line."""
     line, length = stream.readline(), 0
     status = re.fullmatch(rb"HTTP/1\.1 (\d{3}) .+\r\n", line)
@@ -100,7 +108,7 @@ def read_reply(stream):
     return Reply(int(status[1]) if status else 0, line.rstrip(b"\r\n"), stream.read(length))
 
 
-def replies(output):
+def replies(output: bytes) -> list[Reply]:
     """All replies of an output."""
     stream, found = io.BytesIO(output), []
     while stream.tell() < len(output):
@@ -108,7 +116,7 @@ def replies(output):
     return found
 
 
-def ask(port, sent, patience=PATIENCE):
+def ask(port: int, sent: bytes, patience: float = PATIENCE) -> Reply:
     """Sends a request to a port of this machine, over a connection of its own; returns its reply."""
     with socket.create_connection((HOST, port), patience) as connection, connection.makefile("rb") as answers:
         connection.sendall(sent)
@@ -125,10 +133,10 @@ class Ended(NamedTuple):
     output: bytes
     message: bytes
 
-    def expect_success(self):
+    def expect_success(self) -> bytes:
         """Returns the output. Raises RuntimeError if the exit status is not 0."""
         if self.status:
-            raise RuntimeError(f"exit status {self.status}: {self.message}")
+            raise RuntimeError(f"exit status {self.status}: {self.message!r}")
         return self.output
 
 
@@ -136,7 +144,7 @@ SOUND = Ended(0, b"sound\n", b"")
 NO_MEMORY = Ended(3, b"", b"no memory\n")
 
 
-def lacked_memory(ended):
+def lacked_memory(ended: Ended) -> bool:
     """Whether a command or a session told that there was no memory: by its message, or by an answer 503."""
     return ended.message == NO_MEMORY.message or b"HTTP/1.1 503 " in ended.output
 
@@ -144,23 +152,26 @@ def lacked_memory(ended):
 class Program:
     """The built program; each call runs one of its commands to the end."""
 
-    def __init__(self, path):
+    def __init__(self, path: str | Path) -> None:
         self.path = Path(path).resolve()
 
-    def run(self, *words, said=b"", timeout=PATIENCE, room=None, **environment):
+    def run(
+            self, *words: str | Path, said: bytes | int = b"", timeout: float = PATIENCE, room: Path | None = None,
+            **environment: str,
+    ) -> Ended:
         """Runs a command that reads `said`, in the directory `room`, with these variables in its environment. If `said`
         is a descriptor, that is its standard input."""
-        given = {"stdin": said} if isinstance(said, int) else {"input": said}
-        how = {"capture_output": True, "timeout": timeout, "cwd": room, "env": os.environ | environment}
+        given: dict[str, Any] = {"stdin": said} if isinstance(said, int) else {"input": said}
+        how: dict[str, Any] = {"capture_output": True, "timeout": timeout, "cwd": room, "env": os.environ | environment}
         done = subprocess.run([self.path, *words], **given, **how)
         return Ended(done.returncode, done.stdout, done.stderr)
 
-    def trial(self, said, settings=None, timeout=PATIENCE):
+    def trial(self, said: bytes | int, settings: Settings | None = None, timeout: float = PATIENCE) -> Ended:
         """A session with a new office that is kept nowhere."""
         return self.run("trial", *option_words(settings or SETTINGS), said=said, timeout=timeout)
 
 
-def option_words(settings):
+def option_words(settings: Settings) -> list[str]:
     """The words of the command line for these settings."""
     return [word for name, value in settings.items() for word in (f"--{name}", str(value))]
 
@@ -168,11 +179,11 @@ def option_words(settings):
 class Office:
     """An office that the program keeps in a file."""
 
-    def __init__(self, program, store):
+    def __init__(self, program: Program, store: str | Path) -> None:
         self.program, self.store = program, Path(store)
 
     @classmethod
-    def create(cls, program, store, settings=None, **how):
+    def create(cls, program: Program, store: str | Path, settings: Settings | None = None, **how: Any) -> Self:
         """A new office, which must not fail."""
         office = cls(program, store)
         ended = office.init(settings, **how)
@@ -180,31 +191,31 @@ class Office:
             raise RuntimeError(f"init of {store}: {ended}")
         return office
 
-    def perform(self, command, *words, **how):
+    def perform(self, command: str, *words: str | Path, **how: Any) -> Ended:
         """Runs a command on the file to its end."""
         return self.program.run(command, "--store", str(self.store), *words, **how)
 
-    def init(self, settings=None, **how):
+    def init(self, settings: Settings | None = None, **how: Any) -> Ended:
         """Makes the office, with the usual settings if none are given."""
         return self.perform("init", *option_words(settings or SETTINGS), **how)
 
-    def check(self, **how):
+    def check(self, **how: Any) -> Ended:
         """Asks whether the file holds a sound office."""
         return self.perform("check", **how)
 
-    def import_file(self, source, file, **how):
+    def import_file(self, source: str, file: str | Path, **how: Any) -> Ended:
         """Takes in a file of this source."""
         return self.perform("import", "--source", source, str(file), **how)
 
-    def talk(self, *requests, **how):
+    def talk(self, *requests: bytes, **how: Any) -> Ended:
         """A session of these requests, one right after the other."""
         return self.perform("talk", said=b"".join(requests), **how)
 
-    def session(self):
+    def session(self) -> "Session":
         """A running session."""
         return Session(self)
 
-    def serve(self, connections, port=None, **environment):
+    def serve(self, connections: int, port: int | None = None, **environment: str) -> "Server":
         """A running server for so many connections."""
         return Server(self, connections, port or next(PORTS), environment)
 
@@ -212,17 +223,17 @@ class Office:
 class Running:
     """A command of the program while it runs. It is killed at the end of `with`, if it has not ended."""
 
-    def __init__(self, office, *words, environment=None, **streams):
-        command = [office.program.path, words[0], "--store", office.store, *words[1:]]
-        self.process = subprocess.Popen(command, env=os.environ | (environment or {}), **streams)
+    def __init__(self, office: Office, *words: str, environment: Mapping[str, str] | None = None, **streams: Any) -> None:
+        command = [str(office.program.path), words[0], "--store", str(office.store), *words[1:]]
+        self.process: subprocess.Popen[bytes] = subprocess.Popen(command, env=os.environ | (environment or {}), **streams)
 
-    def __enter__(self):
+    def __enter__(self) -> Self:
         return self
 
-    def __exit__(self, *_):
+    def __exit__(self, *_: object) -> None:
         self.stop()
 
-    def stop(self):
+    def stop(self) -> None:
         """Kills the program, as `kill -9` does."""
         self.process.kill()
         self.process.communicate()
@@ -231,11 +242,12 @@ class Running:
 class Session(Running):
     """A running session: each request is sent when the one before is answered."""
 
-    def __init__(self, office):
+    def __init__(self, office: Office) -> None:
         super().__init__(office, "talk", stdin=subprocess.PIPE, stdout=subprocess.PIPE)
 
-    def ask(self, request):
+    def ask(self, request: bytes) -> Reply:
         """Sends a request; returns its reply."""
+        assert self.process.stdin and self.process.stdout
         self.process.stdin.write(request)
         self.process.stdin.flush()
         return read_reply(self.process.stdout)
@@ -244,18 +256,19 @@ class Session(Running):
 class Server(Running):
     """A running server. `said` is its first line, which tells that it listens, or nothing."""
 
-    def __init__(self, office, connections, port, environment):
+    def __init__(self, office: Office, connections: int, port: int, environment: Mapping[str, str]) -> None:
         words = ["serve", "--port", str(port), "--connections", str(connections)]
         streams = {"stdin": subprocess.DEVNULL, "stdout": subprocess.PIPE, "stderr": subprocess.PIPE}
         # without a buffer, so that `wait_for_end` finds all that comes after the first line
         super().__init__(office, *words, environment=environment, bufsize=0, **streams)
+        assert self.process.stdout
         self.port, self.said = port, self.process.stdout.readline()
 
-    def connect(self, patience=PATIENCE):
+    def connect(self, patience: float = PATIENCE) -> socket.socket:
         """A connection to the server."""
         return socket.create_connection((HOST, self.port), patience)
 
-    def wait_for_end(self, timeout=PATIENCE):
+    def wait_for_end(self, timeout: float = PATIENCE) -> Ended:
         """Waits until the server ends by itself. Its output is what it wrote after its first line."""
         output, message = self.process.communicate(timeout=timeout)
         return Ended(self.process.returncode, output, message)
@@ -267,10 +280,10 @@ class Server(Running):
 class Checks:
     """Results that were compared. Each wrong one is printed."""
 
-    def __init__(self):
+    def __init__(self) -> None:
         self.passed = self.failed = 0
 
-    def check(self, what, holds, seen=""):
+    def check(self, what: str, holds: object, seen: object = "") -> bool:
         """Counts a condition; if it does not hold, prints what was seen. Says whether it holds."""
         if holds:
             self.passed += 1
@@ -278,46 +291,46 @@ class Checks:
             self.fail(what, f"WRONG {what}: {seen}")
         return bool(holds)
 
-    def fail(self, what, told):
+    def fail(self, what: str, told: str) -> None:
         """Counts and prints something wrong; `what` is its name."""
         self.failed += 1
         print(told, flush=True)
 
-    def same(self, what, found, wanted):
+    def same(self, what: str, found: object, wanted: object) -> bool:
         """Compares a result; says whether it is right."""
         return self.check(what, found == wanted, f"{found!r}, wanted {wanted!r}")
 
-    def finish(self):
+    def finish(self) -> int:
         """Prints how many results were right; returns the exit status. Without a check nothing was shown."""
         print(f"{self.passed} passed, {self.failed} failed")
         return 1 if self.failed or not self.passed else 0
 
 
-def first_difference(found, wanted):
+def first_difference(found: Ended, wanted: Ended) -> str:
     """Two ends of a command from some bytes before the first difference of their outputs."""
     pairs = enumerate(zip(found.output, wanted.output))
     place = next((n for n, (a, b) in pairs if a != b), min(len(found.output), len(wanted.output)))
     near = slice(max(0, place - 200), place + 200)
-    shown = [f"{it.status}, {it.output[near]}, {it.message}" for it in (found, wanted)]
+    shown = [f"{it.status}, {it.output[near]!r}, {it.message!r}" for it in (found, wanted)]
     return ", wanted ".join(shown)
 
 
 # ---- options and rooms
 
 
-def program_options(text):
+def program_options(text: str | None) -> argparse.ArgumentParser:
     """The option of every script, which names the program; `text` is what the script says about itself."""
     words = argparse.ArgumentParser(description=text, formatter_class=argparse.RawDescriptionHelpFormatter)
     words.add_argument("--program", type=Program, default=str(BUILT), help="the built program; else that of `rt ci`")
     return words
 
 
-def usual_room(in_memory=True):
+def usual_room(in_memory: bool = True) -> Path:
     """Where stores are made: in memory, where no sync waits for a disk, or where temporary files are."""
     return MEMORY if in_memory and os.access(MEMORY, os.W_OK) else Path(tempfile.gettempdir())
 
 
-def options(text, in_memory=True):
+def options(text: str | None, in_memory: bool = True) -> argparse.ArgumentParser:
     """The same for a script that makes stores."""
     words, room = program_options(text), usual_room(in_memory)
     told = f"where stores are made; else {room}"
@@ -325,7 +338,7 @@ def options(text, in_memory=True):
     return words
 
 
-def seeded_options(text, count):
+def seeded_options(text: str | None, count: int) -> argparse.ArgumentParser:
     """The same for a script of random sessions or inputs, each made from a seed."""
     words = options(text)
     words.add_argument("--first", type=int, default=0, metavar="SEED", help="the first seed; else 0")
@@ -333,11 +346,12 @@ def seeded_options(text, count):
     return words
 
 
-def one_of(known):
+def one_of(known: Iterable[Known]) -> Callable[[str], Known]:
     """The type of a word that is one of these names or numbers."""
     by_word = {str(it): it for it in known}
 
-    def parse(word):
+    def parse(word: str) -> Known:
+        """The one with this name. Raises ArgumentTypeError if there is none."""
         if word not in by_word:
             raise argparse.ArgumentTypeError(f"{word} is none of {', '.join(by_word)}")
         return by_word[word]
@@ -346,7 +360,7 @@ def one_of(known):
 
 
 @contextlib.contextmanager
-def temporary(room):
+def temporary(room: Path) -> Iterator[Path]:
     """A new directory in a room; it is removed afterwards."""
     with tempfile.TemporaryDirectory(dir=room) as directory:
         yield Path(directory)

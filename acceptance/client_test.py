@@ -1,15 +1,15 @@
-#!/usr/bin/env python3
 """Tests of client.py that need no program: client_test.py
 
 All scripts of acceptance compare what the program answers by client.py, so its own faults could hide theirs."""
+
 import contextlib
 import io
 import socket
 import threading
 import unittest
 
-import client
-from client import BUSY, Ended, Reply
+from acceptance import client
+from acceptance.client import BUSY, Ended, Reply
 
 ISSUED = b"HTTP/1.1 200 OK\r\nContent-Type: application/json\r\nContent-Length: 2\r\n\r\n[]"
 
@@ -34,6 +34,7 @@ class Messages(unittest.TestCase):
     def test_a_request_over_a_connection(self):
         with socket.create_server((client.HOST, 0)) as listener:
             def answer():
+                """Answers the first request, if it is the one that was sent."""
                 with listener.accept()[0] as connection:
                     connection.sendall(connection.recv(99) == client.get("/desk/issued") and ISSUED)
 

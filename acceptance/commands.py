@@ -1,11 +1,12 @@
-#!/usr/bin/env python3
-"""The commands of the program as their users call them: commands.py [--program PROGRAM] [--room DIRECTORY] [TEST ..]
+"""The commands of the program as their users call them: ./run acceptance.commands [--program PROGRAM] [--room DIRECTORY] [TEST
+..]
 
-It tests the words of the command line, each exit status with its message, wrong settings, which of two faults is
-reported, previews of files, `serve` with curl and with connections that break, a restart on the same port, a backup of a
-server that was stopped, a store that sqlite3 reads, the verdict of `check` after each statement of changed.txt, and the
-kept file of version 1. TEST is one of the tests, like Commands.test_served. The script prints how many results it compared, and ends with 1 if one is wrong. Where curl
-or sqlite3 is not installed, the tests that need it are skipped."""
+It tests the words of the command line, each exit status with its message, wrong settings, which of two faults is reported,
+previews of files, `serve` with curl and with connections that break, a restart on the same port, a backup of a server that was
+stopped, a store that sqlite3 reads, the verdict of `check` after each statement of changed.txt, and the kept file of version
+1. TEST is one of the tests, like Commands.test_served. The script prints how many results it compared, and ends with 1 if one
+is wrong. Where curl or sqlite3 is not installed, the tests that need it are skipped."""
+
 import os
 import shutil
 import signal
@@ -16,10 +17,9 @@ import sys
 import unittest
 from pathlib import Path
 
-import client
-import days
-from client import HOST, Office
-from plain.limits import HIGHEST
+from acceptance import client, days
+from acceptance.client import HOST, Office
+from acceptance.plain.limits import HIGHEST
 
 HERE = Path(__file__).resolve().parent
 FONDS = (

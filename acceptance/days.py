@@ -1,5 +1,4 @@
-#!/usr/bin/env python3
-"""Plays days of an office with the program: days.py [--program PROGRAM] [--room DIRECTORY] [DAY STORE]
+"""Plays days of an office with the program: ./run acceptance.days [--program PROGRAM] [--room DIRECTORY] [DAY STORE]
 
 Each file days/*.day is given to `trial`, in one piece and byte by byte, and to `talk` on a new store. Each must print
 the answers of the file, and the store must be sound afterwards. With DAY and STORE only this day is played, on that
@@ -19,6 +18,7 @@ third of the days have other settings than the usual ones. A day has these lines
                         and <| by nothing; after >% each %HH is a byte, and nothing is added
     ends STATUS TEXT    the exit status, if it is not 0, and the line on standard error
 """
+
 import contextlib
 import re
 import socket
@@ -26,11 +26,13 @@ import sqlite3
 import subprocess
 import sys
 import threading
+from collections.abc import Iterable, Mapping
 from pathlib import Path
+from typing import Any
 from urllib.parse import unquote_to_bytes
 
-import client
-from client import Ended, Office
+from acceptance import client
+from acceptance.client import Ended, Office
 
 HERE = Path(__file__).parent
 ENDED = {"end": (0, b""), "closed": (0, b""), "cut": (3, b"cut\n")}
@@ -43,20 +45,22 @@ class Day:
 
     If no line is raw, `asked` has each request with its answer: method, path, body, status and text."""
 
-    def __init__(self, name, folder, text):
+    def __init__(self, name: str, folder: Path | None, text: str) -> None:
         self.name, self.folder, self.settings = name, folder, dict(client.SETTINGS)
         self.said = self.answered = self.told = b""
-        self.status, self.kept, self.asked, self.is_raw = 0, [], [], False
-        self.filled, self.weight = None, 0
+        self.status, self.is_raw, self.weight = 0, False, 0
+        self.kept: list[tuple[str, str]] = []
+        self.asked: list[list[Any]] = []
+        self.filled: Any = None
         for lines in re.findall(r"^(?!#).+\n(?:\|.*\n)*", text, re.M):
             self.read(*lines.splitlines())
 
     @classmethod
-    def of(cls, file):
+    def of(cls, file: Path) -> "Day":
         """The day that a file describes."""
         return cls(file.stem, file.parent, file.read_text())
 
-    def read(self, line, *text):
+    def read(self, line: str, *text: str) -> None:
         """Reads a line, with the lines of the text that follows it."""
         word, _, rest = line.partition(" ")
         lines = "".join(f"{it[2:]}\n" for it in text)
@@ -72,20 +76,22 @@ class Day:
         else:
             self.take(word, rest or lines, client.JSON if rest else client.TEXT)
 
-    def ask(self, method, rest, lines):
+    def ask(self, method: str, rest: str, lines: str) -> None:
         """Adds a request; a body `@FILE` is read from the folder of the day."""
         path, _, body = rest.partition(" ")
-        said = (self.folder / body[1:]).read_bytes() if body[:1] == "@" else (body or lines).encode()
+        said = (body or lines).encode()
+        if self.folder and body.startswith("@"):
+            said = (self.folder / body[1:]).read_bytes()
         self.said += client.get(path) if method == "GET" else client.post(path, said)
         self.asked.append([method, path, said])
 
-    def take(self, status, text, kind):
+    def take(self, status: str, text: str, kind: str) -> None:
         """Adds the answer to the last request, with its text as the body."""
         self.answered += client.reply(int(status), text.encode(), kind)
         if self.asked:
             self.asked[-1] += [int(status), text]
 
-    def read_raw(self, word, rest):
+    def read_raw(self, word: str, rest: str) -> None:
         """Reads a line of raw bytes that are sent or answered, or the line that says how the program ends."""
         self.is_raw = True
         if word == "ends":
@@ -98,15 +104,15 @@ class Day:
         else:
             self.answered += rest.encode() + ENDS[word[1:]]
 
-    def wanted_end(self):
+    def wanted_end(self) -> Ended:
         """How a session with the program must end."""
         return Ended(self.status, self.answered, self.told)
 
-    def has_other_settings(self):
+    def has_other_settings(self) -> bool:
         """Whether the day has other seats, orders a day, boxes in hands or boxes in a run than the usual settings."""
         return any(self.settings[it] != client.SETTINGS[it] for it in ("seats", "daily", "hands", "run"))
 
-    def is_kept(self, store):
+    def is_kept(self, store: Path) -> bool:
         """Whether the tables of a store have what the day says."""
         with contextlib.closing(sqlite3.connect(store)) as connection:
             for query, wanted in self.kept:
@@ -118,12 +124,12 @@ class Day:
         return True
 
 
-def read_days():
+def read_days() -> list[Day]:
     """The days in the files of days/."""
     return [Day.of(it) for it in sorted((HERE / "days").glob("*.day"))]
 
 
-def of_table(table, prefix=""):
+def of_table(table: Mapping[str, Iterable[str]], prefix: str = "") -> list[Day]:
     """Days that a script makes: the name of each with its lines."""
     return [Day(f"{prefix}{name}", None, "".join(f"{it}\n" for it in lines)) for name, lines in table.items()]
 
@@ -131,7 +137,7 @@ def of_table(table, prefix=""):
 # ---- days with the program
 
 
-def is_answered(day, ended, how):
+def is_answered(day: Day, ended: Ended, how: str) -> bool:
     """Whether the program answered as the day says, and nothing by 503, since there is ample memory; prints what is
     wrong."""
     if client.lacked_memory(ended):
@@ -142,30 +148,31 @@ def is_answered(day, ended, how):
     return ended == day.wanted_end()
 
 
-def ends_well(day, ended, command, output=b""):
+def ends_well(day: Day, ended: Ended, command: str, output: bytes = b"") -> bool:
     """Whether a command ended well."""
     if ended != Ended(0, output, b""):
         print(f"WRONG {day.name}, {command}: {ended}")
     return ended == Ended(0, output, b"")
 
 
-def is_answered_by_trial(program, day):
+def is_answered_by_trial(program: client.Program, day: Day) -> bool:
     """Whether `trial` answers the whole input."""
     return is_answered(day, program.trial(day.said, day.settings, LONGEST), "trial")
 
 
-def is_read_by_bytes(program, day):
+def is_read_by_bytes(program: client.Program, day: Day) -> bool:
     """The same, but each read gets one byte, a packet of a socket."""
     ours, theirs = socket.socketpair(socket.AF_UNIX, socket.SOCK_SEQPACKET)
 
-    def feed():
+    def feed() -> None:
+        """Sends the bytes one after the other."""
         with ours, contextlib.suppress(BrokenPipeError, ConnectionResetError):
             for byte in day.said:
                 ours.send(bytes([byte]))
 
     with theirs:
-        words = [program.path, "trial", *client.option_words(day.settings)]
-        running = subprocess.Popen(words, stdin=theirs, stdout=subprocess.PIPE, stderr=subprocess.PIPE)
+        words = [str(program.path), "trial", *client.option_words(day.settings)]
+        running = subprocess.Popen(words, stdin=theirs.fileno(), stdout=subprocess.PIPE, stderr=subprocess.PIPE)
     feeding = threading.Thread(target=feed)
     feeding.start()
     printed, told = running.communicate(timeout=client.PATIENCE)
@@ -173,24 +180,24 @@ def is_read_by_bytes(program, day):
     return is_answered(day, Ended(running.returncode, printed, told), "trial, byte by byte")
 
 
-def is_answered_by_talk(day, office):
+def is_answered_by_talk(day: Day, office: Office) -> bool:
     """Whether `talk` on this office answers."""
     return is_answered(day, office.talk(day.said, timeout=LONGEST), "talk")
 
 
-def is_sound(day, office):
+def is_sound(day: Day, office: Office) -> bool:
     """Whether `check` says that the store is sound; prints what is wrong."""
     return ends_well(day, office.check(timeout=LONGEST), "check", b"sound\n")
 
 
-def is_kept(program, day, room):
+def is_kept(program: client.Program, day: Day, room: Path) -> bool:
     """Whether the day goes as written on a new store, which then is sound and has what the day says."""
     office = Office(program, room / f"{day.name}.db")
     made = ends_well(day, office.init(day.settings), "init") and is_answered_by_talk(day, office)
     return made and is_sound(day, office) and day.is_kept(office.store)
 
 
-def play(text, made, what, is_by_bytes=False):
+def play(text: str | None, made: list[Day], what: str, is_by_bytes: bool = False) -> bool:
     """Plays the days that a script makes; prints how many were held in every way, and returns the exit status."""
     given, held = client.options(text).parse_args(), 0
     with client.temporary(given.room) as room:
@@ -203,7 +210,7 @@ def play(text, made, what, is_by_bytes=False):
     return not made or held != len(made)
 
 
-def play_written(program, room):
+def play_written(program: client.Program, room: Path) -> bool:
     """Plays the days of the files, and returns the exit status."""
     days = read_days()
     tried = sum(is_answered_by_trial(program, day) for day in days)
@@ -215,7 +222,7 @@ def play_written(program, room):
     return not days or {tried, read, kept} != {len(days)} or 3 * other < len(days)
 
 
-def main():
+def main() -> bool:
     """Plays the day that is named on its store, or all days; returns whether a result is wrong."""
     words = client.options(__doc__)
     words.add_argument("on_store", nargs="*", type=Path, metavar="DAY STORE")

@@ -1,17 +1,16 @@
-#!/usr/bin/env python3
 """Writes the days with the usual settings as one text into office_tests, which plays them over links:
 
-    days_over_links.py [--check]
+    ./run acceptance.days_over_links [--check]
 
 The program itself opens no office over links. With --check nothing is written: the script prints the days that the text
 lacks, or has otherwise, and ends with 1 if there is one, or if the text has others."""
+
 import argparse
 import re
 import sys
 from pathlib import Path
 
-import client
-import days
+from acceptance import client, days
 
 HERE = Path(__file__).resolve().parent
 TEXTS = HERE.parent / "crates" / "office_tests" / "src" / "day_texts.rt"

@@ -1,7 +1,6 @@
-#!/usr/bin/env python3
 """Makes the disk fail while the program goes on:
 
-    failing.py [--program PROGRAM] [--room DIRECTORY] [HOW:KEPT ..]
+    ./run acceptance.failing [--program PROGRAM] [--room DIRECTORY] [HOW:KEPT ..]
 
 It runs a new office, an import, a session of every command, a migration, a server with three connections, and a check
 and a session on a store whose long log is written into the file. Each is run with a disk that fails at the first,
@@ -13,6 +12,7 @@ same answers as an undisturbed session gives. Then `check` and `talk` open the s
 sound, and show the office after all commands that were answered as done, and after at most the one more that was
 reported as failed. An `init` that failed leaves no file, and succeeds when it is called again. The script prints a line
 for each of them, and ends with 1 if a result is wrong."""
+
 import contextlib
 import itertools
 import os
@@ -21,10 +21,9 @@ import socket
 import sys
 from concurrent.futures import ThreadPoolExecutor
 
-import client
-import stopped
-from client import BUSY, Ended, Office, get, post
-from stopped import LONGEST, Command, copy_office
+from acceptance import client, stopped
+from acceptance.client import BUSY, Ended, Office, get, post
+from acceptance.stopped import LONGEST, Command, copy_office
 
 PAIRS = [f"{how}:{kept}" for how in ("broken", "once", "late", "full") for kept in stopped.KEPT] + ["unread:all"]
 FAULT = Ended(3, b"", b"store fault\n")

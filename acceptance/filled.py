@@ -1,5 +1,4 @@
-#!/usr/bin/env python3
-"""Days of offices that are nearly full: filled.py [--program PROGRAM] [--room DIRECTORY] [NAME ..]
+"""Days of offices that are nearly full: ./run acceptance.filled [--program PROGRAM] [--room DIRECTORY] [NAME ..]
 
 Requests would take too long to reach the limits on units, their numbers, containers, tickets, runs and orders. So
 `init` makes a store, SQLite fills a table up to some rows below its limit, and `check` must find it sound. Then `talk`
@@ -10,14 +9,14 @@ wrong.
 There may be ten million orders, so their day is played only if it is named: a slow build of the program took more than
 a minute to open 300,000. mutation/rules.py plays all these days with the office of acceptance/plain, in which the rows
 that SQLite would write are only counted."""
+
 import contextlib
 import sqlite3
 import sys
 import time
 
-import client
-import days
-from plain.limits import HIGHEST, LAST_UNIT, MOST_CONTAINERS, MOST_ORDERS, MOST_RUNS, MOST_TICKETS, MOST_UNITS
+from acceptance import client, days
+from acceptance.plain.limits import HIGHEST, LAST_UNIT, MOST_CONTAINERS, MOST_ORDERS, MOST_RUNS, MOST_TICKETS, MOST_UNITS
 
 AT_MOST = " ".join(f"{name} {most}" for name, most in HIGHEST.items())
 UNTIL = 'until":"2024-12-31"}'
@@ -32,14 +31,14 @@ def one(row):
     return f"POST /desk/import/a\n| legacyId,title,publicationStatus,physicalObjectName\n| {row}\n"
 
 
-LENT = f"""POST /public/orders {{"ticket":1,"container":1}}
-200 {{"order":1}}
+LENT = """POST /public/orders {"ticket":1,"container":1}
+200 {"order":1}
 POST /desk/run
-200 {{"run":1,"taken":1}}
-POST /desk/seat {{"ticket":1}}
-200 {{"seat":1}}
-POST /desk/issue {{"container":1,"ticket":1}}
-200 {{"order":1}}
+200 {"run":1,"taken":1}
+POST /desk/seat {"ticket":1}
+200 {"seat":1}
+POST /desk/issue {"container":1,"ticket":1}
+200 {"order":1}
 """
 BAD = 'POST /desk/register {"name":" ","' + UNTIL + '\n409 {"code":27,"refused":"BadName"}\n'
 DAYS = {

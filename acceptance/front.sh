@@ -11,22 +11,7 @@ here=$(cd "$(dirname "$0")" && pwd)
 program=$(realpath "${1:-$here/../crates/record_office/out/record_office}")
 export PATH=$PATH:/usr/sbin:/usr/local/sbin
 
-# install PACKAGE..: tries to install packages of Debian
-install() {
-    if [ "$(id -u)" = 0 ] && command -v apt-get >/dev/null; then
-        timeout 120 apt-get update -q >/dev/null 2>&1 || true
-        DEBIAN_FRONTEND=noninteractive timeout 300 \
-            apt-get install -y -q --no-install-recommends "$@" >/dev/null 2>&1 || true
-    fi
-}
-
-# has NAME [PACKAGE..]: whether there is such a program, or it can be installed
-has() {
-    command -v "$1" >/dev/null && return
-    local packages=("${@:2}")
-    install "${packages[@]:-$1}"
-    command -v "$1" >/dev/null
-}
+. "$here/../tools/has.sh"
 
 # Debian's own Python runs the readers' service.
 has_readers() { /usr/bin/python3 -c 'import babel, jinja2, snowballstemmer, waitress' 2>/dev/null; }
@@ -42,11 +27,15 @@ if [ ${#missing[@]} -gt 0 ]; then
     echo "0 passed, ${#missing[@]} failed"
     exit 1
 fi
-parts=(looks pages unscripted access rules restarts limits queue encrypted stall search strangers neighbours tries registers
+parts=(looks pages unscripted access rules restarts limits queue encrypted stall search strangers services neighbours tries registers
     refusals journeys paper tickets translations)
 if ! has chromium chromium fonts-liberation; then
     echo "left out the pages, their refusals and the page of another site: chromium is not here and cannot be installed"
-    parts=(looks unscripted rules restarts limits queue encrypted stall search strangers tries registers)
+    parts=(looks unscripted rules restarts limits queue encrypted stall search strangers services tries registers)
+fi
+if ! has systemd-analyze systemd; then
+    echo "left out the units of systemd: systemd-analyze is not here and cannot be installed"
+    mapfile -t parts < <(printf '%s\n' "${parts[@]}" | grep -vx services)
 fi
 if [ -n "${CI:-}" ] && [[ ! " ${parts[*]} " =~ \ pages\ .*\ search\  ]]; then
     echo "0 passed, 1 failed"
@@ -56,4 +45,4 @@ has zbarimg zbar-tools || echo "left out that zbarimg reads the barcodes: it is 
 has nft nftables && has ip iproute2 || echo "left out the limits of connections: nftables or iproute2 is not here and cannot be installed"
 room=$(mktemp -d)
 trap 'rm -rf "$room"' EXIT
-python3 "$here/front/run.py" --program "$program" "$room/offices" "$here/front/out" "${parts[@]}"
+"$here/../run" acceptance.front.run --program "$program" "$room/offices" "$here/front/out" "${parts[@]}"

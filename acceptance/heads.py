@@ -1,15 +1,14 @@
-#!/usr/bin/env python3
-"""Heads of requests, each answered by its rule: heads.py [--program PROGRAM] [--room DIRECTORY]
+"""Heads of requests, each answered by its rule: ./run acceptance.heads [--program PROGRAM] [--room DIRECTORY]
 
 Most of these heads end the connection, so each would need a day of its own; they are made here from tables, in the form
 that days.py describes. After each head comes a question, which is answered if the connection stays open and not if it
 is closed. Each day is given to `trial`, in one piece and byte by byte, and to `talk` on a new store. The script prints
 how many days it played, and ends with 1 if a result is wrong."""
+
 import sys
 
-import days
-from plain.limits import LONGEST_BODY as LARGEST
-from plain.limits import LONGEST_HEAD as HEAD
+from acceptance import days
+from acceptance.plain.limits import LONGEST_BODY as LARGEST, LONGEST_HEAD as HEAD
 
 ASKED = "GET /desk/issued HTTP/1.1"
 HOST = "Host: x"

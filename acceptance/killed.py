@@ -1,18 +1,18 @@
-#!/usr/bin/env python3
-"""Kills the program in the middle of imports and of requests: killed.py [--program PROGRAM] [--room DIRECTORY] [--times
-TIMES]
+"""Kills the program in the middle of imports and of requests: ./run acceptance.killed [--program PROGRAM] [--room DIRECTORY]
+[--times TIMES]
 
 Each of the two is killed TIMES times (50), at a random moment of the time that it takes undisturbed. After each kill
 the store must open and be sound, an import must be there whole or not at all, and all that was answered must be there.
 The script prints how many kills came before the end. It ends with 1 if a result is wrong, or if too few came before the
 end."""
+
 import random
 import re
 import subprocess
 import sys
 import time
 
-import client
+from acceptance import client
 
 ROWS = 300
 REQUESTS = 300

@@ -1,5 +1,4 @@
-#!/usr/bin/env python3
-"""Plays a day around a box of 4,000 items: large_box.py [--program PROGRAM] [--room DIRECTORY]
+"""Plays a day around a box of 4,000 items: ./run acceptance.large_box [--program PROGRAM] [--room DIRECTORY]
 
 Each row of the file names its box. Box 2 holds 4,000 items that lie side by side in a series, and six more behind a
 series of 2,500 items without a box; every hundredth of its items lies in box 3 too. Box 1 is that of a series whose
@@ -8,13 +7,12 @@ closes, withdraws, moves, removes and imports units in them, above them and besi
 
 The program plays the day by `talk` on a new store. Each answer must be that of acceptance/plain to the byte, the store
 must be sound afterwards, and all must be done within a minute. The script ends with 1 if not."""
+
 import subprocess
 import sys
 import time
 
-import client
-import plain
-import sessions
+from acceptance import client, plain, sessions
 
 SECONDS = 60
 SETTINGS = client.SETTINGS | {"seats": "3", "daily": "20", "hands": "3", "run": "3"}

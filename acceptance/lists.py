@@ -1,8 +1,7 @@
-#!/usr/bin/env python3
 """The lists for the staff, over offices that the program made (listed.py), with titles and names that try to be markup
 or formulas. Each list must be to the letter as in lists.txt, and what is not there has no rows:
 
-    lists.py [--program PROGRAM] [--room DIRECTORY] [--folder FOLDER]
+    ./run acceptance.lists [--program PROGRAM] [--room DIRECTORY] [--folder FOLDER]
 
 The lists of the first office stay in FOLDER, if one is given. Which orders no run can fetch is compared with what runs
 of the program leave. The last line is `N passed, M failed`."""
@@ -18,8 +17,7 @@ import shutil
 import subprocess
 import sys
 
-import client
-import listed
+from acceptance import client, listed
 
 LISTS = client.TOP / "packaging" / "lists"
 TEXTS = pathlib.Path(__file__).with_name("lists.txt")
@@ -170,9 +168,10 @@ def check_index(checks, folder):
                 ["boxes-without-row-a", "units-without-row-a"])
     told = (LISTS / "lists.sql").read_text(encoding="utf-8")
     for name, title, about in re.findall(r"^-- list: (.*)\n-- title: (.*)\n-- about: (.*)", told, re.M):
-        [path] = [*folder.glob(f"{name}.html"), *folder.glob(f"{name}-a.html")]
+        [path] = list(folder.glob(f"{name}.html")) + list(folder.glob(f"{name}-a.html"))
         text = path.read_text(encoding="utf-8")
-        checks.same(f"the words of {name}", (f"<h1>{html.escape(title)}</h1>" in text, html.escape(about) in text), (True, True))
+        checks.same(f"the words of {name}", (f"<h1>{html.escape(title)}</h1>" in text, html.escape(about) in text),
+                    (True, True))
 
 
 def check_sentences(checks, store, room):
@@ -194,8 +193,8 @@ def check_sentences(checks, store, room):
     for copy, source, file, sentence in cases:
         ended = run_lists(copy, room, "--source", source, "--file", room / file)
         lines = ended.stderr.decode().splitlines()
-        checks.same(f"what is said of {copy.name} and {file}, {source}", (ended.returncode, len(lines), lines[0][:len(sentence)]),
-                    (1, 1, sentence))
+        checks.same(f"what is said of {copy.name} and {file}, {source}",
+                    (ended.returncode, len(lines), lines[0][:len(sentence)]), (1, 1, sentence))
     reads, writes = os.pipe()
     os.close(reads)
     checks.same("what is said to a closed pipe", run_lists(store, room, stdout=writes).stderr, b"")

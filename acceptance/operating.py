@@ -1,7 +1,6 @@
-#!/usr/bin/env python3
 """Runs the lines of docs/OPERATING.md and of README.md again and compares their answers, so that they cannot go stale:
 
-    acceptance/operating.py [PROGRAM] [--place PLACE] [--shell COMMAND]
+    ./run acceptance.operating [PROGRAM] [--place PLACE] [--shell COMMAND]
 
 In a block of a document, a line that begins with `$ ` (or `# `, for root) is a command. It goes on while its quotes or
 its braces are open. The lines up to the next command are its answer, with standard error. `...` stands for any lines. A

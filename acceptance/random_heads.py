@@ -1,7 +1,6 @@
-#!/usr/bin/env python3
 """Compares random heads of requests with a plain office:
 
-    random_heads.py [--program PROGRAM] [--first SEED] [--count COUNT]
+    ./run acceptance.random_heads [--program PROGRAM] [--first SEED] [--count COUNT]
 
 Each of COUNT inputs (100) has its own seed, from SEED (0) on. An input is up to forty requests: methods, targets,
 versions, lengths, fields and bodies are drawn from pools in which most are right. In every other input some requests
@@ -9,15 +8,14 @@ end the connection: by their version, hosts, length or fields, or by a byte that
 `trial` must write the bytes that acceptance/plain writes, and end as it ends. The script prints how often each status
 and each end came. It ends with 1 if an input differs, or if, in a hundred inputs or more, a status or an end did not
 come."""
+
 import collections
 import random
 import re
 import sys
 
-import client
-import days
-import plain
-from plain.limits import LONGEST_BODY, LONGEST_HEAD
+from acceptance import client, days, plain
+from acceptance.plain.limits import LONGEST_BODY, LONGEST_HEAD
 
 MOST = 40
 METHODS = ["GET", "POST", "HEAD", "PUT", "OPTIONS", "get", "G!T"]
@@ -37,7 +35,7 @@ OPTIONS = ["keep-alive", "keep-alive, closed", "", "x,y", "clos"]
 CLOSING = ["close", "keep-alive, Close", "close ,x", "x,\tclose\t"]
 OTHERS = ["Accept: */*", "X:", "Y: a:b", "TE: chunked", "X-Host: x", "Content-Encoding: gzip", "z:\t\x80\xff"]
 BYTES = b"\0\t\r\n :,;?#/%\x7f\x80\xffaZ09"
-count = collections.Counter()
+count: collections.Counter[object] = collections.Counter()
 
 
 class Input:

@@ -1,7 +1,6 @@
-#!/usr/bin/env python3
 """Refuses memory to the program:
 
-    refused.py [--program PROGRAM] [--room DIRECTORY] [--each N] [--offset K] [NAME ..]
+    ./run acceptance.refused [--program PROGRAM] [--room DIRECTORY] [--each N] [--offset K] [NAME ..]
 
 NAME is a command or a kind of session; without one, all are tried. Each is performed again and again on copies of the
 same files. First its request for memory with the number K + 1 is refused, then each N-th from there; each is refused
@@ -18,6 +17,7 @@ but its log, if even the memory for the log's name is refused.
 
 The script prints how the runs ended. It ends with 1 if one is wrong, or if no run of a command or a session was told of
 a refusal."""
+
 import contextlib
 import os
 import random
@@ -30,12 +30,9 @@ from collections import Counter
 from concurrent.futures import ThreadPoolExecutor
 from pathlib import Path
 
-import client
-import days
-import failing
-import rounds
-from client import BUSY, NO_MEMORY, Ended, Office
-from stopped import copy_office
+from acceptance import client, days, failing, rounds
+from acceptance.client import BUSY, NO_MEMORY, Ended, Office
+from acceptance.stopped import copy_office
 
 HERE = Path(__file__).resolve().parent
 SHIM = client.TOP / "mutation" / "faults" / "shim.c"
@@ -43,7 +40,8 @@ DAYS = {"issues": "first_come", "runs": "runs", "moves": "moves"}
 NAMES = ["preview", "file", "init", "check", "import", "migrate", "trial", "talk", "refusals", "serve", *DAYS]
 EACH = 20
 UNTOLD, TOLD, LOG_LEFT = "as if none was refused", "no memory", "no memory, and the log is left"
-ALONE, LASTING = {}, {"LASTS": "1"}
+ALONE: dict[str, str] = {}
+LASTING = {"LASTS": "1"}
 # how many wrong ends of one kind are shown, and how many characters of each
 MOST, LONGEST = 5, 1000
 FONDS = """legacyId,parentId,identifier,title,levelOfDescription,publicationStatus,physicalObjectName

@@ -1,18 +1,18 @@
-#!/usr/bin/env python3
-"""Offices that SQLite's own tool has written again: rewritten.py [--program PROGRAM] [--room DIRECTORY]
+"""Offices that SQLite's own tool has written again: ./run acceptance.rewritten [--program PROGRAM] [--room DIRECTORY]
 
 A new office and a migrated one go through VACUUM, VACUUM INTO, .dump into a new file, .backup and REINDEX. After each,
 `check` says `sound`, the file has the same schema and rows, a session is answered as by the untouched office, a file is
 imported, and `check` says `sound` again. VACUUM follows after all of that. ANALYZE adds the table sqlite_stat1, which
 no office has: that is a `store fault` until it is dropped. The kept file of version 1 is migrated after each of them.
 The script needs sqlite3. It prints how many results were right, and ends with 1 if one is wrong."""
+
 import shutil
 import subprocess
 import sys
 from pathlib import Path
 
-import client
-from client import SOUND, Ended, Office, get, post
+from acceptance import client
+from acceptance.client import SOUND, Ended, Office, get, post
 
 VERSION_1 = Path(__file__).resolve().parent / "version1.db"
 MIGRATED, OLD = Ended(0, b"migrated\n", b""), Ended(1, b"old version\n", b"")
@@ -45,6 +45,7 @@ def copy_and(statement):
     """A way to write a file again: a statement on a copy of it."""
 
     def way(old, new):
+        """Copies the file, and does the statement to the copy."""
         shutil.copyfile(old, new)
         sqlite3(new, statement)
 

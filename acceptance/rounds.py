@@ -1,13 +1,13 @@
-#!/usr/bin/env python3
-"""Fifty rounds of every command and every question as one session: rounds.py [--program PROGRAM]
+"""Fifty rounds of every command and every question as one session: ./run acceptance.rounds [--program PROGRAM]
 
 Each round imports a file, has a reader order, sit, be served and leave, and asks for all that it made. Every answer is
 computed here from the rules. The script ends with 1 if an answer differs or is missing."""
+
 import json
 import sys
 
-import client
-from client import get, post
+from acceptance import client
+from acceptance.client import get, post
 
 ROUNDS, LONGEST = 50, 300
 EVER = "9999-12-31"

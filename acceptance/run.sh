@@ -21,60 +21,60 @@ ends() {
     fi
 }
 
-# has NAME [PACKAGE]: whether there is such a program, or it can be installed
-has() {
-    command -v "$1" >/dev/null && return
-    timeout 120 apt-get update -q >/dev/null 2>&1 || true
-    timeout 120 apt-get install -y -q "${2:-$1}" >/dev/null 2>&1 && return
+. "$here/../tools/has.sh"
+
+# needs NAME [PACKAGE]: whether there is such a program, or it can be installed; counts it if not, where that is wrong
+needs() {
+    has "$@" && return
     echo "skipped: $1 is not installed"
     if [ -n "${CI:-}" ]; then failed=$((failed + 1)); fi
     return 1
 }
 
-# tries SECONDS NAME WORDS..: calls a script of this directory with the program
+# tries SECONDS NAME WORDS..: runs a module of this folder with the program
 tries() {
     local seconds=$1 name=$2 status=0
     shift 2
-    timeout "$seconds" python3 "$here/$name" --program "$program" "$@" || status=$?
+    timeout "$seconds" "$here/../run" "acceptance.$name" --program "$program" "$@" || status=$?
     ends "$name" "$status"
 }
 
 # The rules of the plain office, each of which a day must notice; only the counts are printed.
 turned_rules() {
     local status=0 told
-    told=$(timeout 900 python3 "$here/../mutation/rules.py") || status=$?
+    told=$(timeout 900 "$here/../run" mutation.rules) || status=$?
     grep -v '^refused by\|^same ' <<<"$told" || true
-    ends mutation/rules.py "$status"
+    ends mutation.rules "$status"
 }
 
 sqlite3=no cc=no
-has curl || true
-if has sqlite3; then sqlite3=yes; fi
-if has cc gcc; then cc=yes; fi
+needs curl || true
+if needs sqlite3; then sqlite3=yes; fi
+if needs cc gcc libc6-dev; then cc=yes; fi
 status=0
-python3 "$here/client_test.py" || status=$?
-ends client_test.py "$status"
-tries 300 commands.py
-tries 600 days.py
-tries 300 limits.py
-tries 600 heads.py
-tries 600 filled.py
-tries 120 rounds.py
-tries 600 lists.py
-tries 300 sessions.py --count 100
-tries 300 random_heads.py
-tries 300 boxes.py --count 40
-tries 120 large_box.py
-tries 600 ample.py
+"$here/../run" unittest acceptance.client_test || status=$?
+ends client_test "$status"
+tries 300 commands
+tries 600 days
+tries 300 at_limits
+tries 600 heads
+tries 600 filled
+tries 120 rounds
+tries 600 lists
+tries 300 sessions --count 100
+tries 300 random_heads
+tries 300 boxes --count 40
+tries 120 large_box
+tries 600 ample
 turned_rules
-if [ $cc = yes ]; then tries 1800 refused.py; fi
-if [ $sqlite3 = yes ]; then tries 300 rewritten.py; fi
+if [ $cc = yes ]; then tries 1800 refused; fi
+if [ $sqlite3 = yes ]; then tries 300 rewritten; fi
 if [ $sqlite3 = yes ] && [ $cc = yes ]; then
-    tries 300 migrating.py --room "$fast" 2000
-    tries 900 stopped.py all none
-    tries 600 failing.py broken:all once:none full:odd
+    tries 300 migrating --room "$fast" 2000
+    tries 900 stopped all none
+    tries 600 failing broken:all once:none full:odd
 fi
-tries 600 killed.py
-tries 300 sockets.py
+tries 600 killed
+tries 300 sockets
 echo "$((passed + failed)) scripts: $passed passed, $failed failed"
 [ "$failed" = 0 ]

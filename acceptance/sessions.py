@@ -1,7 +1,6 @@
-#!/usr/bin/env python3
 """Compares random sessions of the program with a plain office:
 
-    sessions.py [--program PROGRAM] [--first SEED] [--count COUNT]
+    ./run acceptance.sessions [--program PROGRAM] [--first SEED] [--count COUNT]
 
 Each of COUNT sessions (200) has its own seed, from SEED (0) on. The sessions of the seeds in seeds.txt come too. A seed
 chooses the settings, what rows may say, and how often each command comes. A session has seventy commands, chosen so
@@ -12,15 +11,15 @@ acceptance/plain does.
 The script prints how many sessions were equal, how often each command was accepted or refused, and how often each
 refusal, cause, remark, state of a container and kind of permit came. It ends with 1 and the first different answer if a
 session differs, and also if, in a hundred sessions or more, something came less often than LEAST says."""
+
 import collections
 import json
 import random
 import sys
 from pathlib import Path
 
-import client
-import plain
-from plain.limits import DEEPEST, HIGHEST, MOST_PERMITS
+from acceptance import client, plain
+from acceptance.plain.limits import DEEPEST, HIGHEST, MOST_PERMITS
 
 DAYS = ["2024-02-28", "2024-02-29", "2024-03-01", "2024-03-02", "2024-03-03", "2024-03-04", "2024-03-05", "2030-01-01"]
 LATE = ["2030-01-01"] * 6 + DAYS[2:]
@@ -57,7 +56,7 @@ PERMITS = ["new", "longer", "as it was", "expired", "revoked", "gone with its un
 PERMITS += ["opens a closure", "below a closure"]
 CAUSES = [1, 2, 3, 4, 5, 6, 7, 8, 11, 12]
 LEAST, ENOUGH = 5, 100
-count = collections.Counter()
+count: collections.Counter[object] = collections.Counter()
 
 
 class Session:

@@ -1,5 +1,4 @@
-#!/usr/bin/env python3
-"""Asks a server over its sockets: sockets.py [--program PROGRAM] [--room DIRECTORY] [--port PORT] [NAME ..]
+"""Asks a server over its sockets: ./run acceptance.sockets [--program PROGRAM] [--room DIRECTORY] [--port PORT] [NAME ..]
 
 It tests:
 
@@ -13,6 +12,7 @@ It tests:
 
 With NAME only the tests of these names are made. All take some 90 seconds, nearly all of them waiting. The script
 prints how many results were right, and ends with 1 if one is wrong."""
+
 import contextlib
 import re
 import shutil
@@ -23,9 +23,9 @@ import sys
 import threading
 import time
 
-import client
-from client import HOST, Reply
-from plain.limits import LONGEST_BODY
+from acceptance import client
+from acceptance.client import HOST, Reply
+from acceptance.plain.limits import LONGEST_BODY
 
 PATIENCE = 10
 LATE = 5

@@ -1,7 +1,6 @@
-#!/usr/bin/env python3
 """Stops the program after each call by which it changes its files:
 
-    stopped.py [--program PROGRAM] [--room DIRECTORY] [KEPT ..]
+    ./run acceptance.stopped [--program PROGRAM] [--room DIRECTORY] [KEPT ..]
 
 A new office, an import, a closure, a move, an order, a run, an issue, a return and a migration are each stopped after
 their first, second, .. such call, until a run ends by itself. stop.c, loaded before the C library, stops them and
@@ -9,6 +8,7 @@ leaves the files as KEPT says: whole, as when the program is killed, or without 
 power fails. Then `check` opens the store. Its tables must be those before the command or those after it; if the command
 was answered, those after it. What a stopped `init` leaves may also be no office, which `check` reports as a store
 fault. The script prints a line for each command, and ends with 1 if a result is wrong."""
+
 import itertools
 import os
 import shutil
@@ -20,8 +20,8 @@ from concurrent.futures import ThreadPoolExecutor
 from pathlib import Path
 from typing import NamedTuple
 
-import client
-from client import Office, post
+from acceptance import client
+from acceptance.client import Office, post
 
 HERE = Path(__file__).resolve().parent
 SETTINGS = client.option_words(client.SETTINGS)

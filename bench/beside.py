@@ -1,8 +1,7 @@
-#!/usr/bin/env python3
 """Runs the same load on the built program and on another program with the same command line, each by `talk` on a file
 of its own, and prints tables of markdown with the ratios of their times:
 
-    bench/beside.py [--program PROGRAM] [--room FOLDER] [--cpu N] OTHER [UNITS ..]
+    ./run bench.beside [--program PROGRAM] [--room FOLDER] [--cpu N] OTHER [UNITS ..]
 
 UNITS is 2000, 20000, 60000 or 200000; by default the last three. Offices are made as real ones are: from files of
 20,000 rows that come by POST, parents first, so that numbers do not rise along the walk, and then some branches are
@@ -12,12 +11,13 @@ which says most on a busy machine; the last column has the ratio by the clock. -
 processor. With several sizes, a last table says how many times as long an answer takes in the largest office as in the
 smallest.
 """
+
 import datetime
 import os
 import time
 
-import measure
-from measure import Archive, Program, Session, client, get, post
+from bench import measure
+from bench.measure import Archive, Program, Session, client, get, post
 
 SIZES = [2000, 20000, 60000, 200000]
 EACH_DAY = 50
@@ -126,7 +126,7 @@ def questions(bench, archive):
     count = archive.requests
     bench.stage("a page", 2, [get(f"/public/units/{archive.unit(n, count)}") for n in range(count)])
     aids = [get(f"/public/aid/{archive.unit_with_nine_below(n, count)}") for n in range(count)]
-    bench.stage("an aid of 10 units", 2, aids)
+    bench.stage("an aid of 10 units", 2.5, aids)
     bench.stage(f"the list of {archive.tops * archive.files} fonds", 2, [get("/public/fonds")] * (count // 10))
 
 
@@ -184,7 +184,7 @@ def compare(ours, other, room, units):
         measure.say("What", "Ours", "Other", "Ratio", "Wanted", *by_clock)
         measure.say(*["---"] * 8)
         take_in(bench, archive, folder)
-        bench.measure_opening(None)
+        bench.measure_opening(0.5)
         questions(bench, archive)
         desk(bench, archive)
         placings(bench, archive)

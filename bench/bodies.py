@@ -1,7 +1,6 @@
-#!/usr/bin/env python3
 """Measures what large bodies take in memory, and how long:
 
-    bench/bodies.py [--program PROGRAM] [--room DIRECTORY] [--bytes N] [NAME ..]
+    ./run bench.bodies [--program PROGRAM] [--room DIRECTORY] [--bytes N] [NAME ..]
 
 Each body has 8 MiB, or N bytes. It is sent by `talk` to an office without units: JSON to a command, CSV as an import. A
 row of the table has the maximum memory of the program, how many bytes each byte of the body took on top of what the
@@ -9,10 +8,12 @@ program had before, and the seconds of the processor. The rows are sorted, the w
 whose names have one of them are sent. Every answer must be 200 (nothing but blank lines), 400, 409, or 503 (a lack of
 memory).
 """
+
+import functools
 import os
 import time
 
-from measure import Program, Session, client, fail, say
+from bench.measure import Program, Session, client, fail, say
 
 MIB_8 = 8 * 1024 * 1024
 DEEPEST = 124
@@ -63,7 +64,7 @@ VALUES = {
 }
 
 BODIES = {
-    **{f"JSON, an array of {name}": (COMMAND, lambda size, it=it: array_of(it, size)) for name, it in VALUES.items()},
+    **{f"JSON, an array of {name}": (COMMAND, functools.partial(array_of, it)) for name, it in VALUES.items()},
     'JSON, `{"x":[0,0,..]}`': (COMMAND, lambda size: fill(b'{"x":[0', b",0", b"]}", size)),
     'JSON, `{"0":0,"1":0,..}`': (COMMAND, numbered_object),
     "JSON, one text": (COMMAND, lambda size: fill(b'{"name":"', b"a", b'"}', size)),

@@ -1,8 +1,7 @@
-#!/usr/bin/env python3
 """Measures the built program beside another one where a catalogue names its box in every row, and prints tables of
 markdown:
 
-    bench/boxes.py [--program PROGRAM] [--room FOLDER] [--cpu N] [--rounds N] OTHER [SHAPE ..]
+    ./run bench.boxes [--program PROGRAM] [--room FOLDER] [--cpu N] [--rounds N] OTHER [SHAPE ..]
 
 SHAPE is one of the offices below; by default all of them. Each is imported from one file. Then come rounds, by default
 five. In a round the boxes are ordered, fetched and issued, and what they slow down is asked: with nothing out, and with
@@ -31,15 +30,15 @@ boxes out and with none, and the third says how many times as long an answer tak
 1,000. The fourth table is of full offices: a change may take twice as long as the opening there, and the fifth has runs.
 What misses its goal is in bold and listed at the end; then the script ends with 1.
 """
+
 import datetime
 import os
 import sys
 import time
 
-import crowds
-import measure
-from crowds import IN_A_RUN, IN_HANDS, Compared
-from measure import REFUSED, client, get, post, say
+from bench import crowds, measure
+from bench.crowds import IN_A_RUN, IN_HANDS, Compared
+from bench.measure import REFUSED, client, get, post, say
 
 FIRST_DAY = datetime.date(2024, 3, 1)
 MOST = 8

@@ -1,6 +1,6 @@
 """Compares the previews of random small files with those of the plain program.
 
-compare_preview.py FILES SEED PLAIN PROGRAM [WORD ..]
+./run bench.compare_preview FILES SEED PLAIN PROGRAM [WORD ..]
 
 PLAIN is the plain program as rustc built it. PROGRAM and its words read a file from standard input and
 write its finding aids, as `record_office preview --country GB --repo 0999` does. For a file with a fault,
@@ -23,9 +23,8 @@ accruals arrangement accessConditions reproductionConditions language script phy
 findingAids locationOfOriginals locationOfCopies relatedUnitsOfDescription publicationNote generalNote
 archivistNote rules revisionHistory""".split()
 UNREAD = ["accessionNumber", "repository", "LegacyId", "title2", "", "digitalObjectURI"]
-TEXTS = ["", "", "a", "Minutes", " Maps ", "a b", 'say "x"', "one\ntwo", "one\r\ntwo", "x\ry", "a,b",
-         "|", "a|b", "NULL", "a|NULL|b", " NULL ", "null", "a||b", "\t", "é", "日本", "\u00a0", '"', "-",
-         "a\n\nb", "\ufeff", "\\N", "'", "a|a"]
+TEXTS = ["", "", "a", "Minutes", " Maps ", "a b", 'say "x"', "one\ntwo", "one\r\ntwo", "x\ry", "a,b", "|", "a|b", "NULL",
+         "a|NULL|b", " NULL ", "null", "a||b", "\t", "é", "日本", "\u00a0", '"', "-", "a\n\nb", "\ufeff", "\\N", "'", "a|a"]
 
 
 def field(text, wild=0):

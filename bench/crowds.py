@@ -1,8 +1,9 @@
 """Offices in which thousands of boxes are out or waited for, and what changes, openings and runs take then on two
 programs. boxes.py prints it."""
-import measure
-from beside import Side
-from measure import FILE_ROWS, OK, REFUSED, client, post
+
+from bench import measure
+from bench.beside import Side
+from bench.measure import FILE_ROWS, OK, REFUSED, client, post
 
 IN_HANDS = IN_A_RUN = 10
 SETTINGS = client.option_words(client.LARGE | {"run": str(IN_A_RUN)})

@@ -1,7 +1,6 @@
-#!/usr/bin/env python3
 """Measures the built program behind the front of front/server, and prints rows of markdown:
 
-    bench/front.py [--program PROGRAM] [--room DIRECTORY] [--port FIRST] [--store STORE] [UNITS]
+    ./run bench.front [--program PROGRAM] [--room DIRECTORY] [--port FIRST] [--store STORE] [UNITS]
 
 UNITS is 2000, 20000 (the default) or 200000. STORE is an existing store of this many units, which is copied. Eight
 clients with kept connections ask for pages of units one after the other: undisturbed, while the program ends after
@@ -21,11 +20,9 @@ import sys
 import threading
 import time
 
-sys.dont_write_bytecode = True
-from front_servers import PASSWORD, Office  # noqa: E402
-from measure import Archive  # noqa: E402
-
-import client  # noqa: E402
+from acceptance import client
+from bench.front_servers import PASSWORD, Office
+from bench.measure import Archive
 
 CLIENTS = 8
 AUTH = {"Authorization": "Basic " + base64.b64encode(":".join(PASSWORD).encode()).decode()}

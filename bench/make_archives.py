@@ -1,4 +1,4 @@
-"""Writes an archival description CSV of so many rows with all 26 elements: make_archives.py ROWS FILE
+"""Writes an archival description CSV of so many rows with all 26 elements: ./run bench.make_archives ROWS FILE
 
 Each fonds has 500 units down to items, some of them draft. The same numbers give the same file.
 """

@@ -1,9 +1,10 @@
-#!/usr/bin/env python3
 """Measures the built program over an office in a file, and prints tables of markdown, the goals beside the figures:
 
-    bench/measure.py [--program PROGRAM] [--room DIRECTORY] [UNITS ..]
+    ./run bench.measure [--program PROGRAM] [--room DIRECTORY] [UNITS ..]
 
 UNITS is 200 (only to try this script), 2000 (with a hundred of each request instead of a thousand), 20000 or 200000; by
+
+
 default the last two. The store is made in a new folder of DIRECTORY, by default that of temporary files. On a real disk
 each command waits for the disk, in /dev/shm none does. Files have 340 bytes a row, five elements, a box for two units,
 and nine units below each unit that has any.
@@ -14,6 +15,7 @@ all at once, after one small question. Seconds are counted from its answer to th
 opening nor the end of the session. Memory is the maximum of the process, with the opening. Every answer must be a 200,
 and every import must report the right number of new or same units; otherwise the script ends with 1.
 """
+
 import json
 import os
 import re
@@ -21,11 +23,9 @@ import subprocess
 import sys
 import threading
 import time
-from pathlib import Path
 
-sys.path.append(str(Path(__file__).resolve().parents[1] / "acceptance"))
-import client  # noqa: E402
-from client import get  # noqa: E402
+from acceptance import client
+from acceptance.client import get
 
 SETTINGS = client.option_words(client.LARGE | {"run": "1"})
 HEADER = (
@@ -370,7 +370,8 @@ def measure(built, room, units):
         print_requests(program, archive)
         program.check()
         size = os.path.getsize(program.store) / 1e6
-        print(f"\nThe store has {size:.0f} MB and is sound; {time.strftime('%H:%M')}, load {os.getloadavg()[0]:.1f}.")
+        say("the store", "", "", "", f"{size:.0f} MB", "")
+        print(f"\nThe store is sound; {time.strftime('%H:%M')}, load {os.getloadavg()[0]:.1f}.")
 
 
 def options(text, sizes):

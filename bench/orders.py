@@ -1,7 +1,6 @@
-#!/usr/bin/env python3
 """Measures an office with many past orders:
 
-    bench/orders.py [--program PROGRAM] [--room DIRECTORY] [ORDERS ..]
+    ./run bench.orders [--program PROGRAM] [--room DIRECTORY] [ORDERS ..]
 
 First, `reader` for a ticket with one order that waits and 1, 10, 100 or 1,000 earlier ones, all cancelled: the mean of
 9,000 questions in one session. Next to it is the mean of 9,000 questions for what is out, which find nothing here. The
@@ -12,13 +11,14 @@ many orders of 100,000 tickets for 10,000 boxes, each fetched by a line of a run
 writes the rows. Processor seconds and the maximum memory of the process are printed next to those of the same office
 without orders.
 """
+
 import datetime
 import glob
 import os
 import sqlite3
 
-import measure
-from measure import Program, client, get, post, say
+from bench import measure
+from bench.measure import Program, client, get, post, say
 
 SETTINGS = client.option_words(client.LARGE)
 UNITS, TICKETS, IN_A_RUN = 20000, 100000, 100

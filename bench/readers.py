@@ -1,7 +1,6 @@
-#!/usr/bin/env python3
 """Measures what many readers of the pages cost, over an office of 20,000 files in one fonds, and prints it:
 
-    bench/readers.py [--program PROGRAM] [--room DIRECTORY]
+    ./run bench.readers [--program PROGRAM] [--room DIRECTORY]
 
 What a desk command waits beside 200 readers without a pause, each from an address of its own; and, while ten readers ask
 for the finding aid of the fonds (30 MB) at once, how much memory the readers' service takes at most, and what another
@@ -13,19 +12,13 @@ import json
 import multiprocessing
 import pathlib
 import random
-import sys
 import threading
 import time
 
-sys.dont_write_bytecode = True
-ACCEPTANCE = pathlib.Path(__file__).resolve().parent.parent / "acceptance"
-sys.path[:0] = [str(ACCEPTANCE / "front"), str(ACCEPTANCE)]
-
-import measure  # noqa: E402
-from office import MANY_PAGES, Office  # noqa: E402
-from waits import until  # noqa: E402
-
-import client  # noqa: E402
+from acceptance import client
+from acceptance.front.office import MANY_PAGES, Office
+from acceptance.front.waits import until
+from bench import measure
 
 FILES = 20_000
 A_FILE = 4_000  # rows of a CSV file
@@ -69,7 +62,7 @@ def pages(seed):
 def spread(waits):
     """p50, p99 and the most, in milliseconds."""
     waits = sorted(waits)
-    return " / ".join(f"{wait * 1000:.0f}" for wait in (waits[len(waits) // 2], waits[int(len(waits) * .99)], waits[-1]))
+    return [f"{wait * 1000:.0f}" for wait in (waits[len(waits) // 2], waits[int(len(waits) * .99)], waits[-1])]
 
 
 def read_pages(port, first, seconds, told):
@@ -98,8 +91,8 @@ def commands(port, seconds):
 
 
 def beside_readers(office, seconds=15):
-    """Prints what a desk command waits alone, and beside the readers."""
-    print(f"a desk command waits, ms (p50 / p99 / most): {commands(office.ports['8092'], 5)}", flush=True)
+    """Prints what a desk command waits alone, and beside the readers, as rows of a table."""
+    measure.say("a desk command", *commands(office.ports["8092"], 5), "")
     told = multiprocessing.Queue()
     each = [multiprocessing.Process(target=read_pages, args=(office.ports["8080"], nth * READERS // PROCESSES, seconds, told))
             for nth in range(PROCESSES)]
@@ -108,7 +101,7 @@ def beside_readers(office, seconds=15):
     time.sleep(2)
     waits = commands(office.ports["8092"], seconds - 3)
     answers, wrong = zip(*(told.get() for _ in each))
-    print(f"beside {READERS} readers, who got {sum(answers)} pages ({sum(wrong, [])} not): {waits}", flush=True)
+    measure.say(f"a desk command beside {READERS} readers", *waits, f"{sum(answers)} pages, {sum(wrong, [])} not")
 
 
 def memory(process):
@@ -129,8 +122,10 @@ def many_aids(office):
             most = max(most, memory(office.service))
         time.sleep(.2)
     took = time.perf_counter() - began
-    print(f"{AIDS} finding aids of {readers[0].bytes / 1e6:.0f} MB: {took:.0f} s, at most {most:.0f} MB in memory; "
-          f"{sum((reader.wrong for reader in readers), [])} not; other pages wait, ms: {spread(other.waits)}", flush=True)
+    wrong = sum((reader.wrong for reader in readers), [])
+    measure.say(f"a page beside {AIDS} finding aids", *spread(other.waits), f"{wrong} not")
+    size = readers[0].bytes / 1e6
+    print(f"\n{AIDS} finding aids of {size:.0f} MB in {took:.0f} s, with {most:.0f} MB in memory", flush=True)
 
 
 def write(name, first):
@@ -138,7 +133,8 @@ def write(name, first):
     with open(name, "w", encoding="utf-8") as it:
         it.write(measure.HEADER)
         for unit in range(first, first + A_FILE):
-            head = f'{unit},,{unit},"Hull Dock Company",Fonds' if unit == 1 else f'{unit},1,{unit},"Letters, bundle {unit}",File'
+            top, file = f'{unit},,{unit},"Hull Dock Company",Fonds', f'{unit},1,{unit},"Letters, bundle {unit}",File'
+            head = top if unit == 1 else file
             it.write(f'{head},Published,1774-1893,1 volume,"{LONG}",Box {unit // 9},Strongroom\n')
 
 
@@ -156,6 +152,8 @@ def main():
             until(office.count_rounds, "a round has ended", minutes=10)
             office.kill_readers()
             office.serve_readers("--every", "60")
+            measure.say("What waits, ms", "p50", "p99", "Most", "Meanwhile")
+            measure.say(*["---"] * 5)
             beside_readers(office)
             many_aids(office)
 

@@ -1,7 +1,6 @@
-#!/usr/bin/env python3
 """Measures the search in all archives over a large office:
 
-    bench/search.py [--program PROGRAM] [--room DIRECTORY] [--units N] [--fonds N] [--rest TIMES]
+    ./run bench.search [--program PROGRAM] [--room DIRECTORY] [--units N] [--fonds N] [--rest TIMES]
 
 The office has N units in fonds of so many. It prints rows of markdown: how long a first round, a round without changes
 and one after a change take, what a desk command and a reader's page wait beside them, how large index and memory are,
@@ -13,21 +12,22 @@ import contextlib
 import http.client
 import json
 import multiprocessing
-import pathlib
 import random
 import resource
-import sys
 import threading
 import time
 
-sys.dont_write_bytecode = True
-ACCEPTANCE = pathlib.Path(__file__).resolve().parent.parent / "acceptance"
-sys.path[:0] = [str(ACCEPTANCE / "front"), str(ACCEPTANCE)]
+import index
+import offers
+from answers import Finder, Query
+from asking import Asking
+from folding import read_typed
+from rounds import Round
+from turns import Late, Turns, is_costly
 
-import client  # noqa: E402
-import searched  # noqa: E402
-from office import clear  # noqa: E402
-from turns import Late, Turns, is_costly  # noqa: E402
+from acceptance import client
+from acceptance.front.office import clear
+from acceptance.front.searched import Searched
 
 SYLLABLES = (("har", "doc", "min", "let", "sto", "bri"), ("a", "e", "o", "u"),
              ("ter", "kin", "ham", "ley", "mond", "sby", "wick", "ton"))
@@ -50,6 +50,7 @@ def rows(units, fonds):
     chance = random.Random(1)
 
     def text(many):
+        """So many words, of which the first are the most frequent."""
         return " ".join(WORDS[min(int(chance.paretovariate(0.6)) - 1, len(WORDS) - 1)] for _ in range(many))
 
     series = file = 0
@@ -67,7 +68,7 @@ def rows(units, fonds):
         yield (
             f"{number},{parent},{place},{text(4)} "
             f"n{number},{level},Published,{1600 + number % 350}-{1620 + number % 350},"
-               f"{creator},{text(25)} {rare(number)},Box {number // 9}\n")
+            f"{creator},{text(25)} {rare(number)},Box {number // 9}\n")
 
 
 def probe(port, path, body, stop, out):
@@ -129,25 +130,25 @@ def rounds(office, ask, db, units):
         "| | s | requests | s in the office | a desk command waits, ms: p50 / p99 / most | a page waits, ms "
         "|\n|---|---|---|---|---|---|")
     row("nothing, for five seconds", lambda: time.sleep(5))
-    row("first round", lambda: searched.Round(db, ask).run())
-    row("second round", lambda: searched.Round(db, ask).run())
-    row("round without changes", lambda: searched.Round(db, ask).run())
+    row("first round", lambda: Round(db, ask).run())
+    row("second round", lambda: Round(db, ask).run())
+    row("round without changes", lambda: Round(db, ask).run())
     office.tell("/desk/closure", {"unit": units - 1, "until": "2090-01-01"})
-    row("round after one change", lambda: searched.Round(db, ask).run())
+    row("round after one change", lambda: Round(db, ask).run())
     size = sum(path.stat().st_size for path in office.folder.glob("index.db*"))
     print(
-        f"\nindex {size / 1e6:.0f} MB; memory of the rounds "
-        f"{resource.getrusage(resource.RUSAGE_SELF).ru_maxrss / 1024:.0f} MB\n", flush=True)
+        f"\n{size / 1e6:.0f} MB in the index, "
+        f"{resource.getrusage(resource.RUSAGE_SELF).ru_maxrss / 1024:.0f} MB in memory\n", flush=True)
 
 
 def questions(office, db, units):
     """Prints a row for each kind of question, with what is offered where nothing was found."""
-    chance, ask = random.Random(2), searched.Asking(office.queue)
-    kinds = {"rare word": lambda: rare(chance.randrange(units)), "rare letter and number": lambda: f"n{chance.randrange(units)}",
-             "word of nearly all units": lambda: WORDS[0],
+    chance, ask = random.Random(2), Asking(office.queue)
+    kinds = {"rare word": lambda: rare(chance.randrange(units)),
+             "rare letter and number": lambda: f"n{chance.randrange(units)}", "word of nearly all units": lambda: WORDS[0],
              "two common words": lambda: " ".join(chance.sample(WORDS[:40], 2)),
-             "begin*": lambda: WORDS[chance.randrange(99)][:3] + "*",
-             "b*": lambda: "b*", "28 letters, the worst": lambda: WORST, "nothing found": lambda: "zzz",
+             "begin*": lambda: WORDS[chance.randrange(99)][:3] + "*", "b*": lambda: "b*",
+             "28 letters, the worst": lambda: WORST, "nothing found": lambda: "zzz",
              "nothing found, with offers": lambda: "hartermont",
              "two words, and the first is nowhere": lambda: f"hartermont {WORDS[0]}"}
     print("| a question, ms: p50 / p99 / most | | requests of each |\n|---|---|---|")
@@ -156,18 +157,18 @@ def questions(office, db, units):
         for _ in range(QUESTIONS):
             began = time.perf_counter()
             word = typed()
-            answer = searched.Finder(db, ask, searched.Query(searched.read_typed(word, LANGUAGE))).find()
+            answer = Finder(db, ask, Query(read_typed(word, LANGUAGE))).find()
             if answer.state == "done" and not answer.units:
-                searched.offers.offers(answer, word, LANGUAGE)
+                offers.offers(answer, word, LANGUAGE)
             times.append(time.perf_counter() - began)
         print(f"| {name} | {spread(times)} | {ask.asked / QUESTIONS:.0f} |", flush=True)
 
 
 def search(office, turns, address, typed):
     """How long a search takes, from the moment at which it is asked for."""
-    began, query = time.perf_counter(), searched.Query(searched.read_typed(typed, LANGUAGE))
-    with turns.turn(address, costly=is_costly(query.phrases)), contextlib.closing(searched.index.open_index(office.index)) as db:
-        searched.Finder(db, searched.Asking(office.queue), query).find()
+    began, query = time.perf_counter(), Query(read_typed(typed, LANGUAGE))
+    with turns.turn(address, costly=is_costly(query.phrases)), contextlib.closing(index.open_index(office.index)) as db:
+        Finder(db, Asking(office.queue), query).find()
     return time.perf_counter() - began
 
 
@@ -201,8 +202,8 @@ def measure(given, office):
         office.import_file("a", office.folder / "part.csv", timeout=600).expect_success()
     with office:
         office.tell("/desk/register", {"name": "A reader", "until": "2099-12-31"})
-        ask, db = searched.Asking(office.queue, given.rest), searched.index.open_or_make(str(office.index), True)
-        print(f"{given.units} units in fonds of {given.fonds}; one aid: {aid(searched.Asking(office.queue), 1)}")
+        ask, db = Asking(office.queue, given.rest), index.open_or_make(str(office.index), True)
+        print(f"{given.units} units in fonds of {given.fonds}; one aid: {aid(Asking(office.queue), 1)}")
         rounds(office, ask, db, given.units)
         questions(office, db, given.units)
         crowd(office, given.units)
@@ -216,7 +217,7 @@ def main():
     words.add_argument("--rest", type=float, default=0, metavar="TIMES")
     given = words.parse_args()
     with client.temporary(given.room) as room:
-        measure(given, searched.Searched.create(given.program, clear(room / "office")))
+        measure(given, Searched.create(given.program, clear(room / "office")))
 
 
 if __name__ == "__main__":

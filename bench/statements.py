@@ -1,17 +1,17 @@
-#!/usr/bin/env python3
 """Counts the statements of a page, an aid of ten units and a list, in the offices that beside.py makes, and prints a
 table:
 
-    bench/statements.py [UNITS ..]
+    ./run bench.statements [UNITS ..]
 
 It repeats the calls of `nested_sets` and `catalogue_store` on numbers in memory, so it must be changed when they are.
 It reads from `neighbours.rt` how far each round of a search goes. It leaves out the three statements of each question
 for its transaction and the row of the office, and the moves of branches.
 """
+
 import argparse
 import re
 
-from measure import BELOW, Archive, client
+from bench.measure import BELOW, Archive, client
 
 NEIGHBOURS = client.TOP / "crates" / "nested_sets" / "src" / "neighbours.rt"
 CONSTANTS = dict(re.findall(r"^const (\w+): u32 = (\d+);$", NEIGHBOURS.read_text(encoding="utf-8"), re.M))
@@ -94,16 +94,19 @@ def count(units):
     tops = len(places.below[None])
 
     def say(what, asked, more):
+        """Prints a row of means."""
         paths = [places.path(unit) for unit in asked]
         whole = mean([path[0] + more(unit, path[2]) for unit, path in zip(asked, paths)])
         of_path, over = (mean([path[nth] for path in paths]) for nth in (0, 1))
         print(f"| {what} | {whole:.0f} | {of_path:.0f} | {over:.0f} |")
 
     def page(unit, depth):
+        """The statements of a page."""
         children = len(places.below[unit])
         return HEAD * depth + VALUES * depth + 2 + children + HEAD * children
 
     def aid(_unit, depth):
+        """The statements of a finding aid of ten units."""
         return HEAD * depth + 2 + 10 * MARK + 10 * VALUES
 
     requests = range(archive.requests)

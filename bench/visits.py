@@ -1,23 +1,16 @@
-#!/usr/bin/env python3
 """Measures first visits to pages of readers' sites in Chromium, and prints a row of markdown for each page and site:
 
-    bench/visits.py [--rounds N] SITE [SITE ..] --paths PATH [PATH ..]
+    ./run bench.visits [--rounds N] SITE [SITE ..] --paths PATH [PATH ..]
 
 A site is an address that something serves, as acceptance/front/office.py does. A round visits each page of each site
 once, the sites in turns, each time in a new browser context, which has nothing from before. A cell has the median of
 the rounds (five). The heading is painted when the first frame is shown after the page has its h1."""
 
 import argparse
-import pathlib
 import statistics
-import sys
 import tempfile
 
-sys.dont_write_bytecode = True
-ACCEPTANCE = pathlib.Path(__file__).resolve().parent.parent / "acceptance"
-sys.path[:0] = [str(ACCEPTANCE / "front"), str(ACCEPTANCE)]
-
-from browser import Browser, Page  # noqa: E402
+from acceptance.front.browser import Browser, Page
 
 # When the heading is painted, in milliseconds from the beginning of the visit.
 WATCH = """

@@ -1,17 +1,17 @@
-#!/usr/bin/env python3
 """Measures pages of units with many siblings, with the built program on an office in a file:
 
-    bench/wide.py [--program PROGRAM] [--room DIRECTORY] [EACH]
+    ./run bench.wide [--program PROGRAM] [--room DIRECTORY] [EACH]
 
 One fonds has five series, and each of these has EACH files right below it (3998, which makes 19,996 units in one
 import). For some places among the files the script prints the milliseconds that a page takes by the clock and of the
 processor: the mean of fifty requests of one session, without the opening. Every answer must be a 200.
 """
+
 import os
 import time
 
-import measure
-from measure import client
+from bench import measure
+from bench.measure import client
 
 SERIES = 5
 REQUESTS = 50
@@ -56,11 +56,13 @@ def main():
         program = measure.Program(given.program.path, folder)
         program.begin()
         program.import_file(office, 0, "new")
-        print(f"{office.rows:,} units, {time.strftime('%Y-%m-%d %H:%M')}, load {os.getloadavg()[0]:.1f}")
+        print(f"{office.rows:,} units, {time.strftime('%Y-%m-%d %H:%M')}, load {os.getloadavg()[0]:.1f}\n")
+        measure.say("File", "Wall", "Processor")
+        measure.say(*["---"] * 3)
         for place in (it for it in PLACES if it + REQUESTS // SERIES <= office.each):
             spent = program.ask(office.pages(place))
             wall, processor = (it * 1000 / REQUESTS for it in (spent.wall, spent.processor))
-            print(f"file {place:,} of {office.each:,}: {wall:.2f} {processor:.2f}")
+            measure.say(f"{place:,}", f"{wall:.2f} ms", f"{processor:.2f} ms")
 
 
 if __name__ == "__main__":

@@ -1,13 +1,12 @@
-#!/usr/bin/env python3
 """Plays a year of a reading room by the program, and tells how the office grows:
 
-    bench/year.py [--program PROGRAM] [--room DIRECTORY] [--units N] [--days N] [--tidy] [--seed N]
+    ./run bench.year [--program PROGRAM] [--room DIRECTORY] [--units N] [--days N] [--tidy] [--seed N]
 
 An office of N units (by default 19,000: a file has at most 20,000 rows) is open for so many days (by default 250). On each,
-some thirty readers come, some for the first time; they order, runs fetch, what is asked for at the counter is issued and
-comes back, seats are left, and what nobody waits for is reshelved. One order in eight is never collected. Each seventh day a
-file is imported: new units, changed texts, and boxes that have moved. With --tidy, what has waited for thirty days is cancelled
-on each twentieth day, as the desk's page of old orders does.
+some thirty readers come, some for the first time; they order, runs fetch, what is asked for at the counter is issued and comes
+back, seats are left, and what nobody waits for is reshelved. One order in eight is never collected. Each seventh day a file is
+imported: new units, changed texts, and boxes that have moved. With --tidy, what has waited for thirty days is cancelled on
+each twentieth day, as the desk's page of old orders does.
 
 Every twentieth day prints a row: what there is, how large the file, its log and a copy are, and how long a copy, a check, the
 lists and the import took. The same numbers play the same year. The last line counts the refusals that nobody foresaw."""
@@ -23,8 +22,8 @@ import tempfile
 import time
 from contextlib import closing
 
-import make_archives
-from measure import client
+from bench import make_archives
+from bench.measure import client
 
 SETTINGS = client.SETTINGS | {"seats": "40", "daily": "10", "hands": "3", "run": "40"}
 FIRST = datetime.date(2024, 3, 1)
@@ -140,7 +139,8 @@ class Year:
             counts = office.execute("""
                 SELECT (SELECT count(*) FROM unit), (SELECT count(*) FROM container), (SELECT count(*) FROM container
                     WHERE NOT EXISTS (SELECT 1 FROM housing WHERE housing.container = container.id)),
-                    (SELECT count(*) FROM reader), (SELECT count(*) FROM orders), (SELECT count(*) FROM orders WHERE state = 1),
+                    (SELECT count(*) FROM reader), (SELECT count(*) FROM orders),
+                    (SELECT count(*) FROM orders WHERE state = 1),
                     (SELECT count(*) FROM holding WHERE place = 1)""").fetchone()
         megabytes = (f"{many / 1e6:.2f} MB" for many in (size, of_log, copy.stat().st_size))
         return number, *(f"{many:,}" for many in counts), *megabytes, *(f"{took:.2f} s" for took in (

@@ -1,17 +1,16 @@
-#!/usr/bin/env python3
 """Tries edits that the prover must refuse; one check of a copy of the crate tries many, each in another function.
 
-  edits.py [--gate] [--over] [--jobs N] [--said FOLDER] [CRATE | CRATE/EDIT ..]
-  edits.py --dry
+  ./run mutation.edits [--gate] [--over] [--jobs N] [--said FOLDER] [CRATE | CRATE/EDIT ..]
+  ./run mutation.edits --dry
 
-An edit is a file of mutation/edits/CRATE (with --gate: of crates/CRATE/must-fail), written as `rt ci` reads it: lines
-`file: PATH`, `old: TEXT`, `new: TEXT`. It counts as refused if the check does not prove the edited function for a goal
-of its own; of a caller it only says that it calls such a function. A round takes one edit for each function, and none
-whose text another edit of the round changes. What a round did not refuse is tried again by itself, so no edit hides
-another. An edit outside any function (a constant, a definition) is always tried by itself, and is refused if any
-function or lemma of the crate is.
+An edit is a file of mutation/edits/CRATE (with --gate: of crates/CRATE/must-fail), written as `rt ci` reads it and records.py
+too: lines `file: PATH`, `old: TEXT`, `new: TEXT`. It counts as refused if the check does not prove the edited function for a
+goal of its own; of a caller it only says that it calls such a function. A round takes one edit for each function, and none
+whose text another edit of the round changes. What a round did not refuse is tried again by itself, so no edit hides another.
+An edit outside any function (a constant, a definition) is always tried by itself, and is refused if any function or lemma of
+the crate is.
 
-The copy uses the work that `rt check` kept in out/, so check the crate first. With --over, mutation/check.sh checks
+The copy uses the work that `rt check` kept in out/, so check the crate first. With --over, tools/check.sh checks
 over the libraries that are there and does not test whether they are current; that saves minutes in the upper crates.
 Verdicts: `refused`, `PROVED` (the contracts let the wrong body through), `unreadable` (its text is gone, or the result
 does not compile). The last line has the counts; the exit status is 1 if one is proved or unreadable, or if none was
@@ -29,6 +28,8 @@ import subprocess
 import sys
 import tempfile
 from pathlib import Path
+
+from mutation import records, trials
 
 TOP = os.path.dirname(os.path.dirname(os.path.abspath(__file__)))
 FN = re.compile(r"^( *)(?:pub(?:\([a-z]+\))? )?(?:const )?(?:unsafe )?fn (\w+)", re.M)
@@ -64,36 +65,25 @@ class Edit:
     """The changes of an edit, the functions in which they are, and its verdict."""
 
     def __init__(self, file, crate, folder):
-        self.name, self.why, self.verdict = os.path.basename(file)[: -len(".edit")], "", ""
-        self.changes, self.functions = [], []
-        path, old, texts = "", None, {}
-        for line in Path(file).read_text(encoding="utf-8").split("\n"):
-            if line.startswith("file: "):
-                path = line[len("file: ") :].strip()
-                if not read_into(texts, folder, path):
-                    return self.reject(f"there is no file {path}")
-            elif line.startswith("old: "):
-                old = line[len("old: ") :]
-            elif line.startswith("new:") and path and old:
-                count = texts[path].count(old)
-                if count != 1:
-                    return self.reject(f"an old text stands {count} times in {path}, and not once: {old}")
-                new = line[len("new: ") :]
-                self.note_place(crate, path, texts[path], texts[path].index(old), old)
-                texts[path] = texts[path].replace(old, new)
-                self.changes.append((path, old, new))
-                old = None
-        if not self.changes:
-            self.reject("it has no old and new text")
+        record = records.of_edit(Path(file))
+        self.name, self.why, self.verdict = record.name, "", ""
+        self.changes, self.functions, texts = record.changes, [], {}
+        if why := record.why_not(Path(folder)):
+            return self.reject(why)
+        for change in self.changes:
+            text = texts.get(change.file) or Path(folder, change.file).read_text(encoding="utf-8")
+            self.note_place(crate, change, text)
+            texts[change.file] = change.made_in(text)
 
     def reject(self, why):
         """Makes the edit unreadable, and keeps the reason."""
         self.verdict, self.why = "unreadable", why
 
-    def note_place(self, crate, path, text, start, old):
+    def note_place(self, crate, change, text):
         """Notes the function in which an old text stands, or None if it stands outside any."""
-        end = start + len(old)
-        found = [Function(crate, path, text, at) for at in FN.finditer(text)] if path.startswith("src/") else []
+        start = text.index(change.old)
+        end, is_code = start + len(change.old), change.file.startswith("src/")
+        found = [Function(crate, change.file, text, at) for at in FN.finditer(text)] if is_code else []
         inside = [it for it in found if it.start <= start and end <= it.end]
         self.functions.append(inside[-1] if inside else None)
 
@@ -111,22 +101,15 @@ class Edit:
         return not {it.key for it in self.functions} & {it.key for it in other.functions}
 
 
-def read_into(texts, folder, path):
-    """Reads a file of a crate into `texts`, unless it is there; returns whether there is such a file."""
-    if path not in texts and os.path.isfile(f"{folder}/{path}"):
-        texts[path] = Path(folder, path).read_text(encoding="utf-8")
-    return path in texts
-
-
 def apply_edits(edits, folder):
     """The texts with all of these edits, by path; or none if the text of an edit no longer occurs once."""
     texts = {}
-    for path, old, new in [change for edit in edits for change in edit.changes]:
-        if path not in texts:
-            texts[path] = Path(folder, path).read_text(encoding="utf-8")
-        if texts[path].count(old) != 1:
+    for change in [change for edit in edits for change in edit.changes]:
+        if change.file not in texts:
+            texts[change.file] = Path(folder, change.file).read_text(encoding="utf-8")
+        if change.why_not(texts[change.file]):
             return None
-        texts[path] = texts[path].replace(old, new)
+        texts[change.file] = change.made_in(texts[change.file])
     return texts
 
 
@@ -161,8 +144,8 @@ class Bench:
             shutil.copytree(f"{TOP}/crates/{name}", f"{room}/crates/{name}", ignore=leave)
         with open(f"{room}/crates.txt", "w", encoding="utf-8") as out:
             out.writelines(it for it in lines if re.match(r"\w+", it)[0] in wanted)
-        os.mkdir(f"{room}/mutation")
-        shutil.copy(f"{TOP}/mutation/check.sh", f"{room}/mutation")
+        os.mkdir(f"{room}/tools")
+        shutil.copy(f"{TOP}/tools/check.sh", f"{room}/tools")
         if os.path.isfile(f"{TOP}/HANDLES"):
             shutil.copy(f"{TOP}/HANDLES", room)
 
@@ -202,13 +185,13 @@ def only_names(edit, said):
     """Whether the edited functions fail only because a proof file names what the edit took away: that shows little."""
     places = "|".join(it.name for it in edit.functions if it)
     told = re.findall(rf"^.*proofs/\S*\b(?:{places})\b\S*: error.*$", said, re.M)
-    goals = any(re.search(rf"^note: {path}:", said, re.M) for path, _, _ in edit.changes)
+    goals = any(re.search(rf"^note: {change.file}:", said, re.M) for change in edit.changes)
     return bool(told) and not goals and all(re.search(NAMES, it) for it in told)
 
 
 def judge(edit, said):
     """Sets the verdict of an edit from the output of a check."""
-    if not TOLD.search(said) or any(path in [it[0] for it in edit.changes] for path, _ in UNREAD.findall(said)):
+    if not TOLD.search(said) or any(path in [it.file for it in edit.changes] for path, _ in UNREAD.findall(said)):
         why = UNREAD.search(said)
         return edit.reject(why[0] if why else said.strip().split("\n")[-1])
     failed = own_failures(said)
@@ -244,18 +227,18 @@ def files_of(folder):
 
 def dry_run():
     """Prints the edits that cannot be applied; 1 if there is one."""
-    folders = [(f"crates/{it}/must-fail", it) for it in sorted(os.listdir(f"{TOP}/crates"))]
-    folders += [(f"mutation/edits/{it}", it) for it in sorted(os.listdir(f"{TOP}/mutation/edits"))]
-    number = faults = 0
-    for folder, crate in folders:
-        for name in files_of(f"{TOP}/{folder}") if os.path.isdir(f"{TOP}/{folder}") else []:
-            edit = Edit(f"{TOP}/{folder}/{name}", crate, f"{TOP}/crates/{crate}")
-            number += 1
-            faults += bool(edit.verdict)
-            if edit.verdict:
-                print(f"{folder}/{name}: {edit.why}")
-    print(f"{number} edits, {faults} not applied")
-    return 1 if faults or not number else 0
+    folders = [Path(TOP, "crates", it, "must-fail") for it in sorted(os.listdir(f"{TOP}/crates"))]
+    folders += [Path(TOP, "mutation/edits", it) for it in sorted(os.listdir(f"{TOP}/mutation/edits"))]
+    files = [(folder / name, crate_of(folder)) for folder in folders if folder.is_dir() for name in files_of(folder)]
+    faults = trials.cannot_be_tried(
+        files, lambda it: records.of_edit(it[0]).why_not(Path(TOP, "crates", it[1])), lambda it: str(it[0].relative_to(TOP)))
+    print(f"{len(files)} edits, {faults} not applied")
+    return 1 if faults or not files else 0
+
+
+def crate_of(folder):
+    """The crate that the edits of a folder change."""
+    return folder.parent.name if folder.name == "must-fail" else folder.name
 
 
 def main():
@@ -270,11 +253,11 @@ def main():
     given = words.parse_args()
     if given.dry:
         return dry_run()
-    check = ["{room}/mutation/check.sh", "{crate}"] if given.over else ["rt", "check", "--jobs", str(given.jobs)]
+    check = ["{room}/tools/check.sh", "{crate}"] if given.over else ["rt", "check", "--jobs", str(given.jobs)]
     of = (lambda it: f"{TOP}/crates/{it}/must-fail") if given.gate else (lambda it: f"{TOP}/mutation/edits/{it}")
     crates = [it for it in sorted(os.listdir(f"{TOP}/crates")) if os.path.isdir(of(it))]
     names = dict.fromkeys(it.split("/")[0] for it in given.names) or crates
-    counts = {"refused": 0, "PROVED": 0, "unreadable": 0}
+    verdicts = trials.Verdicts("refused")
     for crate in names:
         only = [it.split("/")[1] + ".edit" for it in given.names if it.startswith(f"{crate}/")]
         files = only or files_of(of(crate))
@@ -283,10 +266,9 @@ def main():
         with tempfile.TemporaryDirectory(prefix="edits-") as room:
             try_edits(Bench(crate, room, check, given.said), edits)
         for edit in edits:
-            counts[edit.verdict] += 1
-            print(f"{edit.verdict:10} {crate}/{edit.name}: {edit.why[:200]}", flush=True)
-    print(", ".join(f"{number} {verdict}" for verdict, number in counts.items()))
-    return 1 if counts["PROVED"] or counts["unreadable"] or not counts["refused"] else 0
+            print(f"{verdicts.add(edit.verdict):10} {crate}/{edit.name}: {edit.why[:200]}", flush=True)
+    print(verdicts.line())
+    return verdicts.status()
 
 
 if __name__ == "__main__":

@@ -1,7 +1,6 @@
-#!/usr/bin/env python3
 """Shows by runs that three wrong bodies have false goals:
 
-    false_goals.py [--program PROGRAM] [--room DIRECTORY] [--right] [EDIT ..]
+    ./run mutation.false_goals [--program PROGRAM] [--room DIRECTORY] [--right] [EDIT ..]
 
 The prover refuses these bodies since the search of a tactic gives up. That could also happen with a goal that is true.
 So the wrong bodies are put into a copy of the sources, `rt try` compiles its program without proof, and a run for each
@@ -10,6 +9,7 @@ is put in. The right program must keep the clause in the same run: PROGRAM, or e
 is compiled in the same way from the sources as they are. With --right no wrong body is put in, and the script must
 fail. It prints what each program did, and ends with 1 if the right one breaks a clause or the wrong one does not. It
 takes some ten minutes, and stops after thirty."""
+
 import contextlib
 import itertools
 import os
@@ -22,13 +22,11 @@ from concurrent.futures import ThreadPoolExecutor
 from pathlib import Path
 from typing import NamedTuple
 
+from acceptance import client, failing, stopped
+from acceptance.client import BUSY, Ended, Office, Program, Reply
+from mutation import edits
+
 TOP = Path(__file__).resolve().parents[1]
-sys.path.append(str(TOP / "acceptance"))
-import client  # noqa: E402
-import edits  # noqa: E402
-import failing  # noqa: E402
-import stopped  # noqa: E402
-from client import BUSY, Ended, Office, Program, Reply  # noqa: E402
 
 LIMIT = 30 * 60
 PREVIEW = ["preview", "--country", "GB", "--repo", "0999"]

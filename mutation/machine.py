@@ -1,10 +1,9 @@
-#!/usr/bin/env python3
 """Plays the faults of front/ that a machine makes (mutation/made.py): one at a time in a copy of front/, with the parts of
 acceptance/front that concern its file, until a check fails.
 
-    mutation/machine.py [--program PROGRAM] [--seed N] [--sample N] [--only PART_OF_NAME] [--which WHICH] [--jobs N]
+    ./run mutation.machine [--program PROGRAM] [--seed N] [--sample N] [--only PART_OF_NAME] [--which WHICH] [--jobs N]
                         [--minutes N] [--keep] [--covered FILE]
-    mutation/machine.py --list | --dry | --cover FILE [--program PROGRAM] [--jobs N]
+    ./run mutation.machine --list | --dry | --cover FILE [--program PROGRAM] [--jobs N]
 
 --sample 0 plays all. --which new are those that were not played yet, unnoticed those that nothing noticed, noticed those
 that something did, and should again. After --minutes no more is begun, and what is not over is ended; the last line says
@@ -19,24 +18,16 @@ are, and which names in the two files are none any more.
 The exit status is 1 if a fault was not noticed, or, with --dry, if survivors.txt has a name that is no fault."""
 
 import collections
-import concurrent.futures
 import itertools
 import json
 import pathlib
-import queue
 import re
-import subprocess
 import sys
 import tempfile
 import time
 
-sys.dont_write_bytecode = True
-sys.path.append(str(pathlib.Path(__file__).resolve().parent))
-import front  # noqa: E402
-import made  # noqa: E402
-import search  # noqa: E402
-
-import client  # noqa: E402
+from acceptance import client
+from mutation import front, made, trials
 
 TOP = front.TOP
 PLAYED, READ = (TOP / "mutation/front" / name for name in ("played.txt", "survivors.txt"))
@@ -50,12 +41,13 @@ GROUPS = {group: [f"{group}:{name}" for name in names.split()] for group, names 
              "lists questions_of_heads no_page limit_of_orders orders_from_elsewhere foreign_page signing_out",
     "limits": "numbers questions_in_a_row pages_in_a_row searches_in_a_row forms_in_a_row pages_at_once questions_at_once "
               "aids_at_once aids_from_all searches_at_once reading_room aids_in_a_row orders_in_a_row slow",
-    "queue": "order heads of_a_reader bodies_first slow_reader one_connection idle never_twice left_behind ways_in logs late",
+    "queue": "order heads of_a_reader of_the_service bodies_first slow_reader one_connection idle never_twice left_behind "
+             "ways_in logs late",
     "looks": "shell",
     "restarts": "killed_program away command_cut_off question_cut_off",
     "search": "turns questions hostile states bounds pairs files kills",
-    "unscripted": "fonds units aids lines languages statuses found_by_others contents level orders collected questions large "
-                  "vanishing",
+    "unscripted": "fonds units aids lines languages statuses found_by_others contents level orders collected questions offers "
+                  "large vanishing",
     "neighbours": "numbers sources zones claimed_address own_words branch new_drafts two_who_wait",
     "tries": "differences languages service shell large page",
     "registers": "who_was_here old_orders",
@@ -72,25 +64,27 @@ GROUPS = {group: [f"{group}:{name}" for name in names.split()] for group, names 
     "access": "archives fonds order text_from_right_to_left closed finding_aid file changed help not_found list_of_orders "
               "found nothing_found today counter container label readers card ticket orders runs slip call_slips out units "
               "unit question held wrong_scan old_orders import differences signed_out"}.items()}
-ALONE = ["looks", "encrypted", "stall", "paper", "tickets", "strangers"]
+ALONE = ["looks", "encrypted", "stall", "paper", "tickets", "strangers", "services", "words"]
 WITHOUT_PAGES = {"looks", "unscripted", "rules", "restarts", "limits", "queue", "encrypted", "stall", "search", "strangers",
-                 "tries", "registers", "translations:catalogs"}
+                 "services", "tries", "registers", "translations:catalogs"}
 TOGETHER = {"visit", "day", "first_year", "journeys", "search_pages", "access", "translations", "unscripted"}
 WITH_PAGES = {"rules:foreign_page", "rules:signing_out", "tries:page", "registers:old_orders"}
-SCRIPTS = {"sessions", "folding"}  # as in mutation/search.py
+SCRIPTS = front.SCRIPTS.keys()
 # What is played for a file, in this order: the first that fits. A script's parts come by what runs in them.
 FOR_FILES = [(begin, names.split()) for begin, names in (
-    ("server/strangers", "strangers"),
+    ("units/", "services"), ("server/strangers", "strangers"),
     ("server/haproxy", "limits:numbers queue restarts rules encrypted stall"),
     ("server/tls", "encrypted"), ("server/desk-tls", "encrypted"),
     ("server/", "limits:numbers rules encrypted queue limits restarts neighbours:claimed_address tries:service registers "
                 "strangers stall"),
+    ("shared/folding", "words day:find_readers search_pages"),
     ("readers/folding", "folding search:hostile search_pages"), ("readers/turns", "search:turns search:questions"),
     ("readers/offers", "search:files search_pages"), ("readers/answers", "search search_pages sessions"),
     ("readers/index", "search folding search_pages sessions"), ("readers/rounds", "search sessions"),
-    ("readers/asking", "search:questions search unscripted sessions"),
-    ("readers/", "translations:catalogs unscripted neighbours search_pages visit journeys search access:readers "
-                 "translations:choice translations:words translations:alone translations:both_ways translations:way_de"),
+    ("readers/asking", "search:questions queue:of_the_service search unscripted sessions"),
+    ("readers/", "translations:catalogs unscripted queue:of_the_service neighbours search_pages visit journeys search "
+                 "access:readers rules:heads translations:choice translations:words translations:alone "
+                 "translations:way_de"),
     ("try/", "tries"), ("look/", "looks:shell tries"), ("desk/look/", "looks first_year refusals:rest"),
     ("desk/desk.css", "access:desk paper tickets translations:phone_de"),
     ("public/public.css", "access:readers visit:hostile journeys"),
@@ -103,6 +97,7 @@ ENGLISH = (TOP / "front/readers/po/en.po").read_text("utf-8")
 
 
 # What is kept
+
 
 def read_played():
     """By the names of faults: what noticed them. The file has file, code and fault, each further to the right."""
@@ -195,7 +190,7 @@ def is_told(fault):
 
 
 def kind_of(part):
-    """How a part is played: by mutation/search.py, or by run.py without a browser or with one."""
+    """How a part is played: without the servers, or by run.py without a browser or with one."""
     if part in SCRIPTS:
         return part
     return "plain" if {part, part.split(":")[0]} & WITHOUT_PAGES and part not in WITH_PAGES else "pages"
@@ -203,19 +198,21 @@ def kind_of(part):
 
 # Playing
 
-class Late(Exception):
-    """It took too long, and nothing is known."""
-
-
-class NotBegun(Late):
+class NotBegun(trials.Late):
     """There was no time for it."""
 
 
 def play(program, order, fault, ports, end):
-    """Which part noticed a fault, and the check that failed; or NOTHING. Raises Late if that is not known at the end."""
+    """Which part noticed a fault, and the check that failed; or NOTHING. Raises trials.Late if that is not known at the
+    end."""
     for kind, parts in itertools.groupby(together(order.parts(fault)), kind_of):
         parts = list(parts)
-        noticed = play_script(program, fault, kind) if kind in SCRIPTS else play_parts(program, order, fault, parts, ports, end)
+        if kind not in SCRIPTS:
+            noticed = play_parts(program, order, fault, parts, ports, end)
+        elif failed := front.play_script(program, kind, ports, fault):
+            noticed = kind, failed
+        else:
+            noticed = None
         if noticed:
             return noticed
     return NOTHING, ""
@@ -227,13 +224,13 @@ def play_parts(program, order, fault, parts, ports, end):
     longest = max(0, min(longest, end - time.monotonic()))
     status, told = front.run_parts(program, parts, ports, fault, patience, longest)
     if status is None:
-        raise Late(f"{parts}: {told[-300:]}")
+        raise trials.Late(f"{parts}: {told[-300:]}")
     if not status:
         return None
     part, failed = part_in(told) or parts[0], [*front.wrong_in(told), told[-150:]][0][:150]
     no_start = failed.startswith("offices broke off") and part not in order.covered or not front.wrong_in(told)
     if (no_start or "not within" in failed) and front.run_parts(program, [part], ports, None, patience, longest)[0]:
-        raise Late(f"{part} does not pass without the fault either: {failed}")
+        raise trials.Late(f"{part} does not pass without the fault either: {failed}")
     return part, failed
 
 
@@ -244,38 +241,6 @@ def part_in(told):
         if (part := f"{group}:{inner.split(',_')[-1]}") in EVERY:
             return part
     return [None, *re.findall("^plays (.*)$", told, re.M)][-1]
-
-
-def play_script(program, fault, part):
-    """The same of what mutation/search.py plays without the servers."""
-    with tempfile.TemporaryDirectory() as room:
-        service = search.plant(pathlib.Path(room) / "readers", fault.file.removeprefix("readers/"), None, None)
-        path = TOP / "front" / fault.file
-        (service / path.name).write_bytes(fault.plant(path.read_bytes().decode()).encode())
-        return (part, "") if search.is_noticed(service, part, program, pathlib.Path(room)) else None
-
-
-class Jobs:
-    """Does something with several things, a few at a time, each with ports of its own."""
-
-    def __init__(self, many):
-        self.pool, self.ports = concurrent.futures.ThreadPoolExecutor(many), queue.Queue()
-        for job in range(many):
-            self.ports.put(front.PORTS + 1000 * job)
-
-    def outcomes(self, what, things):
-        """Yields each thing, and what came of it: a value, or what was raised."""
-        def do(thing):
-            """Does it with ports that nobody else has."""
-            ports = self.ports.get()
-            try:
-                return thing, what(thing, ports)
-            except (OSError, subprocess.SubprocessError, Late) as broken:
-                return thing, broken
-            finally:
-                self.ports.put(ports)
-        for task in concurrent.futures.as_completed([self.pool.submit(do, thing) for thing in things]):
-            yield task.result()
 
 
 def play_all(given, faults, chosen):
@@ -290,7 +255,7 @@ def play_all(given, faults, chosen):
         if begun > end:
             raise NotBegun
         return *play(given.program, order, fault, ports, end), time.monotonic() - begun
-    for fault, came in Jobs(given.jobs).outcomes(one, chosen):
+    for fault, came in trials.Jobs(given.jobs, front.PORTS).outcomes(one, chosen):
         if isinstance(came, Exception):
             if not isinstance(came, NotBegun):
                 print(f"{fault.fault}: NOT PLAYED: {came}", flush=True)
@@ -301,7 +266,7 @@ def play_all(given, faults, chosen):
         words = "NOTHING NOTICED IT" if by == NOTHING else f"noticed by {by}: {told}"
         print(f"{fault.fault}: {words} ({seconds:.0f} s)", flush=True)
         if given.keep:
-            keep(played, faults)
+            keep({**read_played(), fault.fault: by}, faults)
     return many, survived
 
 
@@ -317,7 +282,7 @@ def cover(given):
             words = ["--covers", ran.name] if kind_of(part) == "pages" else []
             status, told = front.run_parts(given.program, [part, *words], ports, None, front.PATIENCE)
             return status, told, time.monotonic() - begun, json.loads(ran.read() or b"{}")
-    for part, came in Jobs(given.jobs).outcomes(one, parts):
+    for part, came in trials.Jobs(given.jobs, front.PORTS).outcomes(one, parts):
         status, told, seconds, ran = came
         if status:
             print(f"{part}: DOES NOT PASS: {told[-500:]}", flush=True)
@@ -355,8 +320,8 @@ def choose(given, faults):
     return found[:given.sample or None]
 
 
-def options():
-    """What the command line says."""
+def words_of_line():
+    """What a command line may say."""
     words = client.program_options(__doc__)
     words.add_argument("--seed", type=int, default=1, metavar="N", help="of the sample; else 1")
     words.add_argument("--sample", type=int, default=40, metavar="N", help="how many; else 40; 0: all")
@@ -369,12 +334,12 @@ def options():
     words.add_argument("--cover", type=pathlib.Path, metavar="FILE", help="play the parts without a fault")
     words.add_argument("--list", action="store_true", help="only print them")
     words.add_argument("--dry", action="store_true", help="only say how many there are")
-    return words.parse_args()
+    return words
 
 
 def main():
     """Does what the command line says; returns the exit status."""
-    given, faults = options(), made.all_faults()
+    given, faults = words_of_line().parse_args(), made.all_faults()
     if given.cover:
         return cover(given)
     if given.dry:
@@ -384,7 +349,8 @@ def main():
         print(*(fault.fault for fault in chosen), f"{len(chosen)} faults", sep="\n")
         return 0
     many, survived = play_all(given, faults, chosen)
-    print(f"seed {given.seed}: {many} of {len(chosen)} faults were played, {many - len(survived)} noticed, {len(survived)} not")
+    noticed = many - len(survived)
+    print(f"seed {given.seed}: {many} of {len(chosen)} faults were played, {noticed} noticed, {len(survived)} not")
     return 1 if survived else 0
 
 

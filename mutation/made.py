@@ -1,6 +1,6 @@
-"""The faults of front/ that a machine makes, by the kind of the file:
+"""The faults of front/ and of the units of systemd that a machine makes, by the kind of the file:
 
-- of nginx, HAProxy and nftables: each directive left out, and its numbers ten times and a tenth;
+- of nginx, HAProxy, nftables and systemd: each directive left out, and its numbers ten times and a tenth;
 - of CSS: each rule left out;
 - of JavaScript and Python: each comparison and condition turned, each argument exchanged with its neighbour, each text
   lost, each number ten times and a tenth;
@@ -12,8 +12,10 @@ import dataclasses
 import hashlib
 import pathlib
 import re
+from collections.abc import Iterator
 
-FRONT = pathlib.Path(__file__).resolve().parent.parent / "front"
+TOP = pathlib.Path(__file__).resolve().parent.parent
+FRONT, UNITS = TOP / "front", TOP / "packaging"
 TURNED = {ast.Eq: "!=", ast.NotEq: "==", ast.Lt: ">=", ast.GtE: "<", ast.Gt: "<=", ast.LtE: ">", ast.Is: "is not",
           ast.IsNot: "is", ast.In: "not in", ast.NotIn: "in"}
 TURNED_IN_SCRIPTS = {"===": "!==", "!==": "===", "&&": "||", "||": "&&", " < ": " >= ", " > ": " <= ", " <= ": " > ",
@@ -28,8 +30,8 @@ LONGEST_NAME = 80  # letters of a line, and of what is left out
 
 @dataclasses.dataclass
 class Made:
-    """A fault that a machine made: in a file of front/, in place of what stands from begin to end. Its name is file,
-    line of code and `what`: it stays if other lines come or go."""
+    """A fault that a machine made: in a file of front/, or a unit as if it were in front/units, in place of what stands from
+    begin to end. Its name is file, line of code and `what`: it stays if other lines come or go."""
 
     file: str
     code: str
@@ -39,32 +41,35 @@ class Made:
     new: str
 
     @property
-    def name(self):
+    def name(self) -> tuple[str, str, str]:
         """Its name in three parts."""
         return self.file, self.code, self.what
 
     @property
-    def fault(self):
+    def fault(self) -> str:
         """Its name in words."""
         return " | ".join(self.name)
 
-    def plant(self, text):
+    def plant(self, text: str) -> str:
         """The text of its file with the fault in it."""
         return text[:self.begin] + self.new + text[self.end:]
 
-    def place(self, seed):
+    def place(self, seed: int) -> bytes:
         """Its place in a sample: one that others who come or go do not change."""
         return hashlib.sha256(f"{seed} {self.fault}".encode()).digest()
 
 
-def all_faults():
+def all_faults() -> list[Made]:
     """All faults, file by file."""
-    return [fault for path in sorted(FRONT.rglob("*")) if path.is_file() for fault in faults_of(path)]
+    files = [(path, str(path.relative_to(FRONT))) for path in sorted(FRONT.rglob("*")) if path.is_file()]
+    units = [(path, f"units/{path.name}") for path in sorted(UNITS.iterdir()) if path.suffix in (".service", ".timer")]
+    return [fault for path, file in [*files, *units] for fault in faults_of(path, file)]
 
 
-def faults_of(path):
-    """The faults of a file."""
-    file, text, names = str(path.relative_to(FRONT)), path.read_bytes().decode(), collections.Counter()
+def faults_of(path: pathlib.Path, file: str) -> Iterator[Made]:
+    """The faults of a file, by this name."""
+    text = path.read_bytes().decode()
+    names: collections.Counter[tuple[str, str]] = collections.Counter()
     for kind, begin, end, new in MAKERS.get(path.suffix, lambda _: ())(text):
         gone = text[begin:end].strip()
         at = text.index(gone, begin)
@@ -75,7 +80,7 @@ def faults_of(path):
             yield Made(file, name[0], name[1] + (f" ({names[name]})" if names[name] > 1 else ""), begin, end, new)
 
 
-def short(text):
+def short(text: str) -> str:
     """A text on one line, of which much is cut."""
     text = " ".join(text.split())
     return text if len(text) <= LONGEST_NAME else text[:LONGEST_NAME - 2] + " …"
@@ -106,6 +111,13 @@ def of_lines(text):
     for found in re.finditer(r"^[ \t]+[^#\n].*[^{}\n]$", text, re.M):
         yield "left out", found.start(), found.end(), ""
         yield from of_numbers(text, found.start(), found.end())
+
+
+def of_units(text):
+    """Each directive left out, and its numbers changed."""
+    for found in re.finditer(r"^[A-Za-z]+=.*$", text, re.M):
+        yield "left out", found.start(), found.end(), ""
+        yield from of_numbers(text, text.index("=", found.start()), found.end())
 
 
 def of_rules(text):
@@ -180,5 +192,6 @@ def of_node(text, node, span):
         yield "a tenth of", begin, end, f"({text[begin:end]} // 10)"
 
 
-MAKERS = {".conf": of_directives, ".cfg": of_directives, ".nft": of_lines, ".py": of_python, ".js": of_script,
-          ".css": of_rules, ".html": of_templates, ".txt": of_templates, ".xml": of_templates}
+MAKERS = {".conf": of_directives, ".cfg": of_directives, ".nft": of_lines, ".service": of_units, ".timer": of_units,
+          ".py": of_python, ".js": of_script, ".css": of_rules, ".html": of_templates, ".txt": of_templates,
+          ".xml": of_templates}

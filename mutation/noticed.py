@@ -1,7 +1,6 @@
-#!/usr/bin/env python3
 """Tries wrong bodies that no contract refuses: each must be noticed by the test that it names.
 
-    noticed.py [--minutes N] [--together] [--dry] [NAME ..]
+    ./run mutation.noticed [--minutes N] [--together] [--dry] [NAME ..]
 
 An edit is a file of mutation/noticed/CRATE, written as those of mutation/edits, with one line more, which says what
 notices it:
@@ -22,29 +21,25 @@ import tempfile
 import time
 from pathlib import Path
 
-TOP = Path(__file__).resolve().parents[1]
-sys.path.append(str(TOP / "acceptance"))
-import edits  # noqa: E402
-import false_goals  # noqa: E402
+from acceptance import client
+from mutation import false_goals, records, trials
 
-COMPILER = "the compiler"
+TOP = Path(__file__).resolve().parents[1]
+
+COMPILER, NOTICED = "the compiler", "noticed"
 
 
 class Edit:
     """A wrong body, and what notices it."""
 
     def __init__(self, file):
-        self.file, self.crate, self.name = file, file.parent.name, file.stem
-        [self.by] = [
-            line.partition(": ")[2] for line in file.read_text(encoding="utf-8").splitlines()
-            if line.startswith("noticed by: ")
-        ]
+        self.file, self.crate, self.record = file, file.parent.name, records.of_edit(file)
+        self.name, self.by = self.record.name, self.record.noticed_by
 
     def fault(self):
         """Why the edit cannot be tried, or an empty text."""
-        applied = edits.Edit(self.file, self.crate, TOP / "crates" / self.crate)
-        if applied.verdict:
-            return applied.why
+        if why := self.record.why_not(TOP / "crates" / self.crate):
+            return why
         return "" if self.by == COMPILER or self.has_test() else f"there is no test {self.by}"
 
     def has_test(self):
@@ -75,7 +70,7 @@ def noticed_by_script(tree, edit, script, test, seconds):
 
 def is_failed_by(program, script, test, seconds):
     """Whether a program fails a test of a script, and what was said."""
-    words = [TOP / "acceptance" / script, "--program", program.path, test]
+    words = [client.RUN, f"acceptance.{Path(script).stem}", "--program", program.path, test]
     ran = subprocess.run(words, capture_output=True, text=True, timeout=seconds)
     told = ran.stdout + ran.stderr
     return ran.returncode != 0 and f"{test.split('.')[-1]} " in told, told
@@ -87,8 +82,7 @@ def noticed_by_compiler(tree, edit, seconds):
     words = ["rt", "try", "--test"]
     ran = subprocess.run(words, cwd=tree / "crates" / "model_tests", capture_output=True, text=True, timeout=seconds)
     told = ran.stdout + ran.stderr
-    path = edits.Edit(edit.file, edit.crate, TOP / "crates" / edit.crate).changes[0][0]
-    return any(f"{path}:" in line and " error" in line for line in told.splitlines()), told
+    return any(f"{edit.record.file}:" in line and " error" in line for line in told.splitlines()), told
 
 
 def is_noticed(edit, seconds):
@@ -117,7 +111,7 @@ def try_edit(edit, seconds):
 
 def tell(edit, noticed, told):
     """Prints what came of an edit."""
-    print(f"{'noticed' if noticed else 'NOT NOTICED'}    {edit.crate}/{edit.name}: {edit.by}", flush=True)
+    print(f"{NOTICED if noticed else 'NOT NOTICED'}    {edit.crate}/{edit.name}: {edit.by}", flush=True)
     shown = [it for it in told.splitlines() if it.startswith(("WRONG", "AssertionError"))] if noticed else told.splitlines()
     print("".join(f"    {it[:200]}\n" for it in shown[-20:]), end="", flush=True)
     return noticed
@@ -133,14 +127,14 @@ def main():
     given = words.parse_args()
     found = [Edit(it) for it in sorted((TOP / "mutation" / "noticed").rglob("*.edit"))]
     found = [it for it in found if not given.names or any(name in it.name for name in given.names)]
-    faults = [f"{it.crate}/{it.name}: {it.fault()}" for it in found if it.fault()]
-    print("".join(f"{it}\n" for it in faults) + f"{len(found)} wrong bodies, {len(faults)} that cannot be tried")
+    faults = trials.cannot_be_tried(found, Edit.fault, lambda it: f"{it.crate}/{it.name}")
+    print(f"{len(found)} wrong bodies, {faults} that cannot be tried")
     if faults or not found or given.dry:
         return 1 if faults or not found else 0
     seconds = given.minutes * 60
     tried = try_together(found, seconds) if given.together else [try_edit(it, seconds) for it in found]
     print(f"{sum(tried)} of {len(tried)} noticed")
-    return 0 if all(tried) else 1
+    return 0 if tried and all(tried) else 1
 
 
 if __name__ == "__main__":

@@ -1,5 +1,4 @@
-#!/usr/bin/env python3
-"""Looks for the random sessions about boxes that find a wrong reading of boxes: mutation/one_pass.py [FIRST [COUNT]]
+"""Looks for the random sessions about boxes that find a wrong reading of boxes: ./run mutation.one_pass [FIRST [COUNT]]
 
 Makes the sessions of acceptance/boxes.py for COUNT seeds (100) from FIRST (0) on, by the plain office, and replays each
 with an office that is quicker. It reads the units that name a box in walk order, and keeps of the path of each what
@@ -8,16 +7,12 @@ must answer all sessions and the day of acceptance/large_box.py, and with each o
 day wrongly. The script prints how many seeds find each fault, and the first of them. It ends with 1 if a fault is not
 found. After a change of what a seed makes, look again for the seeds that boxes.py keeps. CI does not run this script:
 it takes a quarter of an hour."""
+
 import argparse
 import sys
-from pathlib import Path
 
-ROOT = Path(__file__).resolve().parents[1]
-sys.path[:0] = [str(ROOT / "acceptance")]
-import boxes  # noqa: E402
-import large_box  # noqa: E402
-import plain  # noqa: E402
-from plain.refusals import refuse  # noqa: E402
+from acceptance import boxes, large_box, plain
+from acceptance.plain.refusals import refuse
 
 KEEPS = "a unit that no longer lies above is kept"
 LATE = "what begins right after the unit before is left out"

@@ -1,11 +1,10 @@
-#!/usr/bin/env python3
 """Changes the rules of the plain office, one at a time: a fixed day must refuse each change.
 
-    mutation/rules.py [WORD ..]
+    ./run mutation.rules [WORD ..]
 
 The rules are the modules of acceptance/plain, except tables.py and __init__.py. A *turn* is a wrong rule: turning.py
 makes them at each place of the modules; rules/MODULE.rules have more, as records.py reads them. All fixed days of the
-rules are replayed: those of acceptance/days, limits.py and heads.py, and those of filled.py, on an office that is
+rules are replayed: those of acceptance/days, at_limits.py and heads.py, and those of filled.py, on an office that is
 nearly full. Each is read from its first byte to its last, so that the rules of heads and of how a connection ends are
 turned too. First the unchanged rules must answer each day as it is written.
 
@@ -13,6 +12,7 @@ A day fails if an answer differs or is missing. Of the days that call the change
 and the first that fails is named. Turns that mean the same are listed in rules_same.py, with the reason: they must
 pass. A turn that leaves a table unreadable does not count. With words, only turns whose names have one of them are
 tried. Two run at a time. The last line is `N passed, M failed`; the script ends with 1 if one failed."""
+
 import argparse
 import ast
 import importlib.util
@@ -24,15 +24,10 @@ import sys
 import time
 from pathlib import Path
 
+from acceptance import at_limits, days, filled, heads
+from mutation import records, rules_same, turning
+
 ROOT = Path(__file__).resolve().parents[1]
-sys.path[:0] = [str(ROOT / "acceptance"), str(ROOT / "mutation")]
-import days  # noqa: E402
-import filled  # noqa: E402
-import heads  # noqa: E402
-import limits  # noqa: E402
-import records  # noqa: E402
-import rules_same  # noqa: E402
-import turning  # noqa: E402
 
 PLAIN = ROOT / "acceptance" / "plain"
 TURNED = "answers catalogue desk elements files heads limits refusals requests session shown".split()
@@ -143,6 +138,7 @@ def calls_of(day):
     called = set()
 
     def note_call(frame, event, _):
+        """Notes a function of the plain office that is called."""
         code = frame.f_code
         if event == "call" and code.co_filename.startswith("<plain "):
             called.add(code.co_filename[7:-1] + "." + code.co_qualname.partition(".<locals>")[0])
@@ -165,7 +161,7 @@ def read_rules():
     modules = {"init": "__init__"}
     for path in sorted((ROOT / "mutation" / "rules").glob("*.rules")):
         module = modules.get(path.stem, path.stem)
-        for it in records.of_file(path, path.parent):
+        for it in records.of_file(path, "plain", f"{module}.py"):
             yield it.name, module, it.old, it.new
 
 
@@ -189,6 +185,7 @@ def refuser(module, tree, tried):
     """The name of the first day that fails by a turned module, or none."""
 
     def give_up(*_):
+        """Ends what takes too long."""
         raise TimeoutError
 
     signal.signal(signal.SIGALRM, give_up)
@@ -275,7 +272,7 @@ class Trial:
 
 def all_days():
     """All fixed days of the rules."""
-    return days.read_days() + limits.make_days() + heads.make_days() + filled.make_days()
+    return days.read_days() + at_limits.make_days() + heads.make_days() + filled.make_days()
 
 
 def is_reached(function, called):

@@ -1,6 +1,6 @@
 """Turns of rules that mean the same, by their names, with the reason."""
 
-from plain.limits import HIGHEST
+from acceptance.plain.limits import HIGHEST
 
 ALL_FULL = "all three are told as 23"
 SEATED = "who has a box has a seat: nobody leaves with one, and no day ends"

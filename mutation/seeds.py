@@ -1,16 +1,16 @@
-#!/usr/bin/env python3
-"""Looks for random sessions that find wrong rules: mutation/seeds.py [FIRST [COUNT]]
+"""Looks for random sessions that find wrong rules: ./run mutation.seeds [FIRST [COUNT]]
 
 Makes the sessions of acceptance/sessions.py for COUNT seeds (200) from FIRST (0) on, by the right rules, and replays
 each with each wrong rule of rules/catalogue.rules, desk.rules, init.rules and shown.rules. For each rule it prints the
 first two seeds whose sessions are answered differently. If few seeds find a rule, add one to acceptance/seeds.txt,
 which sessions.py always uses. After a change of what a seed makes, look for seeds again. CI does not run this script:
 it takes some minutes."""
+
 import argparse
 import itertools
 
-import rules
-import sessions
+from acceptance import sessions
+from mutation import rules
 
 MODULES = {"catalogue", "desk", "__init__", "shown"}
 

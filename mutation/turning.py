@@ -228,6 +228,7 @@ def places(tree):
     """Each node with the name of its function and its statement, except those of docstrings."""
 
     def below(node, function, statement):
+        """Yields each node below this one, with its place."""
         for field, value in ast.iter_fields(node):
             for n, child in enumerate(value if isinstance(value, list) else [value]):
                 if isinstance(child, ast.AST) and not is_docstring(child):

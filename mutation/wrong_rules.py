@@ -1,9 +1,8 @@
-#!/usr/bin/env python3
 """Changes the rules of the model, one definition at a time: a worked row or a law must refuse each change.
 
-  wrong_rules.py [--jobs N] [--cases N] [--over CHECKOUT] [--log FILE] [--keep FOLDER] [WORD ..]
-  wrong_rules.py --dry [WORD ..]
-  wrong_rules.py --covered [CRATE ..]
+  ./run mutation.wrong_rules [--jobs N] [--cases N] [--over CHECKOUT] [--log FILE] [--keep FOLDER] [WORD ..]
+  ./run mutation.wrong_rules --dry [WORD ..]
+  ./run mutation.wrong_rules --covered [CRATE ..]
 
 The changes are the records of wrong_rules/CRATE/SUBJECT.rules (records.py says how they are written), and those that
 wrong_rules_made.py makes; with WORD, those whose name has one of the words. Each with `refused by` is made in copies of
@@ -21,6 +20,8 @@ ends with 1 if a rule was not refused.
 
 With --dry it only looks for the old texts, also of the records with `seen in`, which the prover does not try, and for
 the row, the law or the day that is named there, and counts them. With --covered it counts for each crate how many
+
+
 definitions some rule changes; with CRATE it lists those of the crate that none changes."""
 
 import argparse
@@ -35,10 +36,9 @@ from collections import Counter
 from concurrent.futures import ThreadPoolExecutor
 from pathlib import Path
 
-import records
-import row_lemmas
-import side_by_side
-import wrong_rules_made
+from acceptance import at_limits, days, heads
+from mutation import records, trials, wrong_rules_made
+from tools import row_lemmas, side_by_side
 
 TOP = os.path.dirname(os.path.dirname(os.path.abspath(__file__)))
 ROWS = "Replies Desk Catalogue Shown Checks Settings Imports Texts Answers".split()
@@ -65,10 +65,7 @@ def path_of(record):
 
 def why_not_applied(record):
     """Why a rule cannot be made, or nothing."""
-    times = Path(TOP, path_of(record)).read_text(encoding="utf-8").count(record.old)
-    if times != 1 or record.old == record.new:
-        return f"the old text stands {times} times in {path_of(record)}"
-    return ""
+    return record.why_not(Path(TOP, "crates", record.folder))
 
 
 def key_of(record):
@@ -260,12 +257,7 @@ def not_refused_before(rules, log):
 
 def days_of_acceptance():
     """The names of all fixed days."""
-    sys.path[:0] = [f"{TOP}/acceptance"]
-    import days
-    import heads
-    import limits
-
-    return {day.name for day in days.read_days() + heads.make_days() + limits.make_days()}
+    return {day.name for day in days.read_days() + heads.make_days() + at_limits.make_days()}
 
 
 def is_there(record, named_days):
@@ -282,17 +274,15 @@ def is_there(record, named_days):
 
 def look_for(rules):
     """Prints the rules that do not apply, or whose row, law or day is not there; says whether all do."""
-    named_days, wrong = days_of_acceptance(), []
-    for it in rules:
-        why = why_not_applied(it)
-        if not why and not is_there(it, named_days):
-            why = f"there is no {it.refused_by or it.seen_in}"
-        if why:
-            wrong.append(f"not applied | {it.name} | {why}")
-    print("".join(f"{it}\n" for it in wrong), end="")
+    named_days = days_of_acceptance()
+
+    def why_not(record):
+        """Why a rule cannot be tried, or nothing."""
+        return why_not_applied(record) or ("" if is_there(record, named_days) else f"no {record.refused_by or record.seen_in}")
+    wrong = trials.cannot_be_tried(rules, why_not, lambda record: record.name)
     kinds = Counter("days" if it.seen_in else "rows" if "::worked" in it.refused_by else "laws" for it in rules)
     print(f"for the prover: {kinds['rows']} name rows, {kinds['laws']} a law; {kinds['days']} are seen in a day alone")
-    print(f"{len(rules)} rules, {len(wrong)} not applied")
+    print(f"{len(rules)} rules, {wrong} not applied")
     return not wrong and bool(rules)
 
 
@@ -379,10 +369,11 @@ def main():
     modules = side_by_side.Modules(TOP)
     rules = [Rule(modules, it) for it in not_refused_before(of_prover, given.log)]
     try_rules(given, modules, rules)
-    before, counts = len(of_prover) - len(rules), Counter(it.verdict for it in rules)
-    said = ", ".join(f"{number} {verdict}" for verdict, number in counts.items())
-    print(f"{len(rules)} tried: {said or 'none'}" + (f"; {before} were refused before" if before else ""))
-    return 1 if set(counts) - {"refused"} or not (rules or before) else 0
+    before, verdicts = len(of_prover) - len(rules), trials.Verdicts("refused")
+    for it in rules:
+        verdicts.add(it.verdict)
+    print(f"{len(rules)} tried: {verdicts.line()}" + (f"; {before} were refused before" if before else ""))
+    return verdicts.status() if rules or not before else 0
 
 
 if __name__ == "__main__":

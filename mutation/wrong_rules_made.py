@@ -4,7 +4,7 @@ body by another name."""
 import re
 from pathlib import Path
 
-from records import Record
+from mutation.records import Change, Record
 
 TOP = Path(__file__).resolve().parents[1]
 LIMITS = [
@@ -46,7 +46,7 @@ def of_limits():
         for what, wrong in (("more", number + 1), ("fewer", number - 1)):
             texts = f"{name} = {name.upper()}\n", f"{name} = {wrong}\n"
             law = "office_core::laws_of_rules::limits_are_these"
-            made.append(Record(f"{name}: one {what}", crate, file, *texts, refused_by=law, seen_in=""))
+            made.append(Record(f"{name}: one {what}", crate, (Change(file, *texts),), refused_by=law))
     return made
 
 
@@ -55,12 +55,12 @@ def of_members():
     crate, file = "http_messages", "specs/Members.antt"
     text, made = text_of(crate, file), []
     for form, (row, keys) in MEMBERS.items():
-        begin = text.index(f"command_of form.{form} v =")
-        line = text[begin:].split("\ncommand_of ")[0].split("\n\n")[0]
+        begin = text.index(f"command_of_form form.{form} v =")
+        line = text[begin:].split("\ncommand_of_form ")[0].split("\n\n")[0]
         for key in keys.split():
             wrong = line.replace(f'(codes "{key}")', f'(codes "{key}s")')
             refuser = f"model_tests::worked::worked_bodies {row}"
-            made.append(Record(f"{form} has no {key}", crate, file, line, wrong, refused_by=refuser, seen_in=""))
+            made.append(Record(f"{form} has no {key}", crate, (Change(file, line, wrong),), refused_by=refuser))
     return made
 
 

@@ -11,7 +11,10 @@ set -euo pipefail
 umask 022
 export LC_ALL=C.UTF-8 TZ=UTC
 top=$(cd "$(dirname "$0")/.." && pwd)
-[ $# -ge 1 ] && [ -x "$1" ] || { echo "usage: packaging/deb.sh PROGRAM [OUT]" >&2; exit 2; }
+if [ $# -lt 1 ] || [ ! -x "$1" ]; then
+    echo "usage: packaging/deb.sh PROGRAM [OUT]" >&2
+    exit 2
+fi
 program=$1
 out=${2:-$top/packaging/out}
 maintainer="${DEBFULLNAME:-Record Office} <${DEBEMAIL:-office@record-office.invalid}>"
@@ -40,6 +43,12 @@ place() {
 # own FILE ..: files that the operator edits. postinst copies each to /etc/record-office once; no upgrade asks about them.
 own() { place 644 usr/share/record-office/own "$@"; }
 
+# link_to PATH FILE: a command that is a link to a program beside its modules, where Python then finds them
+link_to() {
+    install -d -m 755 "$root/$(dirname "$1")"
+    ln -s "../share/record-office/$2" "$root/$1"
+}
+
 # The version of the C library that the program needs: the highest that its symbols name.
 needed_libc() {
     objdump -T "$1" | grep -o 'GLIBC_[0-9.]*' | cut -d_ -f2 | sort -Vu | tail -1
@@ -48,10 +57,9 @@ needed_libc() {
 place 755 usr/bin "$program"
 [ "$(basename "$program")" = record_office ] || mv "$root/usr/bin/$(basename "$program")" "$root/usr/bin/record_office"
 strip --strip-unneeded --remove-section=.comment "$root/usr/bin/record_office"
-place 755 usr/bin "$top/front/look/record_office_look.py" && mv "$root"/usr/bin/{record_office_look.py,record-office-look}
-find "$top/front/look" -name '*.py' ! -name record_office_look.py | while read -r file; do
-    place 644 usr/share/record-office/look "$file"
-done
+place 644 usr/share/record-office/look "$top"/front/look/*.py
+chmod 755 "$root/usr/share/record-office/look/record_office_look.py"
+link_to usr/bin/record-office-look look/record_office_look.py
 for part in public desk shared; do
     (cd "$top/front" && find "$part" -type f ! -name '.*') | while read -r file; do
         place 644 "usr/share/record-office/front/$(dirname "$file")" "$top/front/$file"
@@ -60,8 +68,9 @@ done
 (cd "$top/front" && find readers -type f \( -name '*.py' -o -name '*.po' -o -path 'readers/templates/*' \)) | while read -r file; do
     place 644 "usr/share/record-office/$(dirname "$file")" "$top/front/$file"
 done
-place 755 usr/bin "$top/front/try/record_office_try.py" && mv "$root"/usr/bin/{record_office_try.py,record-office-try}
-place 644 usr/share/record-office/try "$top"/front/try/{catalogues,differences,kept_files,service}.py
+place 644 usr/share/record-office/try "$top"/front/try/*.py
+place 755 usr/share/record-office/try "$top/front/try/record-office-try"
+link_to usr/bin/record-office-try try/record-office-try
 for file in "$top"/front/server/*; do
     case ${file##*/} in
     nginx.conf) place 644 usr/share/record-office "$file" && mv "$root"/usr/share/record-office/{nginx.conf,site} ;;
@@ -75,8 +84,9 @@ for file in "$top"/front/server/*; do
 done
 place 644 lib/systemd/system "$top"/packaging/*.service "$top"/packaging/*.timer
 for unit in "$root"/lib/systemd/system/*[!@].*; do sed -f "$top/packaging/template.sed" "$unit" >"${unit%.*}@.${unit##*.}"; done
-place 755 usr/sbin "$top"/packaging/tools/record-office-*
 place 644 usr/share/record-office/tools "$top"/packaging/tools/*.py
+place 755 usr/share/record-office/tools "$top"/packaging/tools/record-office-*
+for file in "$top"/packaging/tools/record-office-*; do link_to "usr/sbin/${file##*/}" "tools/${file##*/}"; done
 place 755 usr/bin "$top"/packaging/lists/record-office-{lists,register}
 place 644 usr/share/record-office/lists "$top/packaging/lists/lists.sql"
 own "$top"/packaging/{backup,alarm}.conf "$top/front/readers/office.json"

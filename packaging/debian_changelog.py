@@ -17,12 +17,15 @@ def entries(text):
 
 
 def entry(version, when, body, maintainer):
+    """A version as Debian writes it."""
     lines = [line[2:].replace("`", "") for line in body.splitlines() if line.startswith("- ")]
     told = "\n".join(textwrap.fill(line, 78, initial_indent="  * ", subsequent_indent="    ") for line in lines)
-    return f"record-office ({version}-1) unstable; urgency=medium\n\n{told}\n\n -- {maintainer}  {email.utils.format_datetime(when)}\n"
+    signed = f" -- {maintainer}  {email.utils.format_datetime(when)}"
+    return f"record-office ({version}-1) unstable; urgency=medium\n\n{told}\n\n{signed}\n"
 
 
 def main(file, maintainer, version, seconds):
+    """Prints all versions, first the newest."""
     with open(file, encoding="utf-8") as it:
         unreleased, released = entries(it.read())
     if version not in [one for one, _, _ in released]:

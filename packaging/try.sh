@@ -42,10 +42,10 @@ is() {
 }
 
 deb=$("$here/deb.sh" "$program" "$room")
-lintian --fail-on error,warning "$deb" >"$room/lintian" 2>&1 && is "lintian finds no error and no warning" 0 || {
-    cat "$room/lintian"
-    is "lintian finds no error and no warning" 1
-}
+how=0
+lintian --fail-on error,warning "$deb" >"$room/lintian" 2>&1 || how=1
+[ "$how" = 0 ] || cat "$room/lintian"
+is "lintian finds no error and no warning" "$how"
 
 git clone -q --no-checkout "$here/.." "$room/copy"
 git -C "$room/copy" remote remove origin
@@ -88,14 +88,14 @@ install() {
         mount --bind '$root' '$root'; mount -t proc proc '$root/proc'; mount --rbind /dev '$root/dev'; mount -t tmpfs none '$root/run'
         chroot '$root' sh -c 'export DEBIAN_FRONTEND=noninteractive; apt-get update -qq && apt-get install -qq -y /root/record-office.deb'"
 }
-install >"$room/install" 2>&1 && is "apt installs the package, with nginx and HAProxy, on a clean root" 0 || {
-    tail -20 "$room/install"
-    is "apt installs the package, with nginx and HAProxy, on a clean root" 1
-}
+how=0
+install >"$room/install" 2>&1 || how=1
+[ "$how" = 0 ] || tail -20 "$room/install"
+is "apt installs the package, with nginx and HAProxy, on a clean root" "$how"
 
 # systemd as the first process of its own namespaces, in a control group of its own. Its network is loopback and a bridge to
-# nowhere, which shows what has no network. This machine
-# may run other such systems: `booted` is the child of the process that was begun here, and it has the root that was made here.
+# nowhere, which shows what has no network. This machine may run other such systems: `booted` is the child of the process that
+# was begun here, and it has the root that was made here.
 boot() {
     mkdir "$group"
     setsid bash -c "echo \$\$ >'$group/cgroup.procs'; exec unshare -mpfCn --kill-child bash -c '
@@ -106,7 +106,7 @@ boot() {
     local began=$!
     for _ in $(seq 30); do
         sleep 1
-        booted=$(cat "/proc/$began/task/$began/children" 2>/dev/null | xargs)
+        booted=$(xargs 2>/dev/null <"/proc/$began/task/$began/children" || true)
         [ -z "$booted" ] || [ "$(cat "/proc/$booted/comm")" != systemd ] || [ ! "/proc/$booted/root/root" -ef "$root/root" ] || return 0
     done
     return 1
@@ -123,7 +123,7 @@ inside() {
 # operating PLACE FOLDER: runs the lines of OPERATING that are meant for this place
 operating() {
     local how=0
-    "$here/../acceptance/operating.py" --place "$1" --shell "nsenter -t $booted -m -p -n -C bash -c 'cd $2 && exec bash'" >"$room/lines" || how=$?
+    "$here/../run" acceptance.operating --place "$1" --shell "nsenter -t $booted -m -p -n -C bash -c 'cd $2 && exec bash'" >"$room/lines" || how=$?
     grep -v '^left out' "$room/lines" || true
     is "the lines of OPERATING, place '$1': $(tail -1 "$room/lines")" "$how"
 }

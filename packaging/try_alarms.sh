@@ -174,7 +174,8 @@ lines() {
     local copied size missing
     same 'ten lines' "$(record-office-status | wc -l)" 10
     is 'nothing is red' record-office-status
-    size=$(stat -c %s $office) missing=$((23 - $(ls $copies/office-*.db | wc -l)))
+    size=$(stat -c %s $office) kept=("$copies"/office-*.db)
+    missing=$((23 - ${#kept[@]}))
     same 'the room that copies and replaced offices will need' "$(line disk | sed 's/.*; \([0-9]*\) will be needed/\1/')" \
         "$(awk "BEGIN { printf \"%.0f\", ($size * (3 + $missing)) / 1048576 + 100 }")"
     copied=$(stat -c %y "$copy")

@@ -49,7 +49,8 @@ undone() {
     systemctl start record-office-readers
     is 'says which numbers come again' grep "tickets $((before + 1)) to $((before + 3)), orders $order to $order, runs $run to $run" /tmp/said
     same 'the three are gone' "$(readers)" "$before"
-    aside=$(ls -d ${office%/*}/replaced-* | tail -1)
+    asides=("${office%/*}"/replaced-*)
+    aside=${asides[-1]}
     is 'their rows are in the log' test "$(stat -c %s "$aside/office.db-wal")" -gt 4096
     cp -r "$aside" /root/aside
     is 'the list has the copy and what was replaced' sh -c "record-office-restore >/tmp/list; grep -q 'office-$today.db .*with a SHA' /tmp/list && grep -q '$aside.*kept until' /tmp/list"
@@ -104,11 +105,11 @@ ages() {
     install -d -o record-office "$old" "$folder/replaced-$(date -d '20 days ago' +%F)-120000"
     touch "$copies"/office-{2031-01-01,2031-01-02,2031-01-03,2031-01-04,2031-01-05,2031-01-06,2031-01-07,2031-01-08}.db
     is 'a backup with a clock that is far back' systemctl start record-office-backup
-    same 'leaves each copy' "$(ls "$copies" | grep -c '^office-\(2031.*\|'"$today"'\)\.db$')" 9
+    same 'leaves each copy' "$(find "$copies" -name 'office-2031*.db' -o -name "office-$today.db" | wc -l)" 9
     is 'and says why' sh -c 'journalctl --no-pager -o cat -u record-office-backup -n 20 | grep "the clock is behind"'
     rm "$copies"/office-2031*
     is 'an office that was replaced long ago is removed' test ! -e "$old"
-    same 'one of late stays' "$(ls -d "$folder"/replaced-* | wc -l)" 1
+    same 'one of late stays' "$(find "$folder" -maxdepth 1 -name 'replaced-*' | wc -l)" 1
     rm -r "$folder"/replaced-*
 
     systemctl stop record-office

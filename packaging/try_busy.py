@@ -19,6 +19,7 @@ CLIENTS = 4
 
 
 def status_of(request):
+    """The status of the answer to a request."""
     try:
         with urllib.request.urlopen(request, timeout=200) as answer:
             answer.read()
@@ -30,15 +31,18 @@ def status_of(request):
 
 
 def question():
+    """A question."""
     return urllib.request.Request(f"{READERS}/public/units/1")
 
 
 def registration():
+    """A command."""
     body = json.dumps({"name": "Busy", "until": "2030-12-31"}).encode()
     return urllib.request.Request(f"{DESK}/desk/register", body, SIGNED_IN)
 
 
 def ask_until(end, make, statuses, waits):
+    """Asks again and again until the end."""
     while time.monotonic() < end:
         began = time.monotonic()
         statuses[status_of(make())] += 1
@@ -47,9 +51,11 @@ def ask_until(end, make, statuses, waits):
 
 
 def main(seconds):
+    """Asks for so many seconds, and prints what came of it."""
     end, waits = time.monotonic() + seconds, []
     counts = {"questions": (question, collections.Counter()), "registrations": (registration, collections.Counter())}
-    clients = [threading.Thread(target=ask_until, args=(end, *count, waits)) for count in counts.values() for _ in range(CLIENTS)]
+    clients = [threading.Thread(target=ask_until, args=(end, *count, waits))
+               for count in counts.values() for _ in range(CLIENTS)]
     for client in clients:
         client.start()
     for client in clients:

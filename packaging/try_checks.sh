@@ -1,3 +1,4 @@
+# shellcheck shell=bash
 # What the parts of try.sh that run inside the clean Debian share. They source this file.
 
 # is WHAT COMMAND ..: checks that the command ends with 0

@@ -8,11 +8,11 @@ copies=/var/backups/record-office
 today=$(date +%F)
 readers=http://127.0.0.1:8080
 desk=http://127.0.0.1:8081
-units='record-office record-office-queue record-office-readers record-office-desk record-office-try'
-timers='record-office-backup.timer record-office-probe.timer record-office-status.timer'
+units=(record-office record-office-queue record-office-readers record-office-desk record-office-try)
+timers=(record-office-backup.timer record-office-probe.timer record-office-status.timer)
 harbour=http://127.0.0.1:8180
-harbour_units='record-office@harbour record-office-queue@harbour record-office-readers@harbour record-office-desk@harbour record-office-try@harbour'
-harbour_timers='record-office-backup@harbour.timer record-office-probe@harbour.timer record-office-status@harbour.timer'
+harbour_units=(record-office@harbour record-office-queue@harbour record-office-readers@harbour record-office-desk@harbour record-office-try@harbour)
+harbour_timers=(record-office-backup@harbour.timer record-office-probe@harbour.timer record-office-status@harbour.timer)
 
 . "$(dirname "$0")/try_checks.sh"
 
@@ -28,8 +28,9 @@ before() {
         systemctl is-system-running 2>/dev/null | grep -q 'running\|degraded' && break
         sleep 1
     done
-    same 'without an office no unit runs' "$(systemctl is-active $units | sort | uniq -c | xargs)" '5 inactive'
-    same 'all are enabled' "$(systemctl is-enabled $units $timers | sort | uniq -c | xargs)" '8 enabled'
+    same 'without an office no unit runs' "$(systemctl is-active "${units[@]}" | sort | uniq -c | xargs)" '5 inactive'
+    same 'all are enabled' "$(systemctl is-enabled "${units[@]}" "${timers[@]}" | sort | uniq -c | xargs)" '8 enabled'
+    # shellcheck disable=SC2016  # the shell that is called expands it
     is 'systemd finds nothing wrong with the units' sh -c \
         'test -z "$(cd /lib/systemd/system && systemd-analyze verify --man=no record-office*[!@].service record-office*[!@].timer record-office-alarm@x.service 2>&1 | tee /dev/stderr)"'
     is 'the manual page is there' test -s /usr/share/man/man1/record_office.1.gz -o -e /etc/dpkg/dpkg.cfg.d/excludes
@@ -74,7 +75,8 @@ sites() {
 # The second office, which the lines of OPERATING added.
 second() {
     local before settings=/etc/record-office/harbour second_copies=/var/backups/record-office-harbour
-    same 'the units of the second office run' "$(systemctl is-active $harbour_units $harbour_timers | sort | uniq -c | xargs)" '8 active'
+    same 'the units of the second office run' "$(systemctl is-active "${harbour_units[@]}" "${harbour_timers[@]}" | sort | uniq -c | xargs)" '8 active'
+    # shellcheck disable=SC2016  # the shell that is called expands it
     is 'systemd finds nothing wrong with them' sh -c 'test -z "$(systemd-analyze verify --man=no record-office@harbour.service \
         record-office-queue@harbour.service record-office-readers@harbour.service record-office-backup@harbour.timer record-office-probe@harbour.timer \
         record-office-status@harbour.timer 2>&1 | tee /dev/stderr)"'
@@ -117,8 +119,8 @@ fails() {
 backups() {
     local before pid timer=/run/systemd/system/record-office-backup.timer.d/soon.conf
     same 'the timer is enabled and runs' "$(systemctl is-enabled record-office-backup.timer) $(systemctl is-active record-office-backup.timer)" 'enabled active'
-    (cd $copies 2>/dev/null || { install -d -o record-office -g record-office -m 700 $copies && cd $copies; }
-        for day in $(seq 0 365); do date -d "2020-01-01 $day days" +office-%F.db; done | xargs touch)
+    [ -d $copies ] || install -d -o record-office -g record-office -m 700 $copies
+    for day in $(seq 0 365); do date -d "2020-01-01 $day days" "+$copies/office-%F.db"; done | xargs touch
     before=$(curl -s -u desk:quiet-paper $desk/desk/readers/1 | grep -c ticket)
     python3 /root/try_busy.py 20 >/tmp/busy &
     pid=$!
@@ -131,10 +133,11 @@ backups() {
     is 'the timer made a backup' test -s "$copies/office-$today.db"
     is 'beside it each question and each command was answered' sh -c '! grep -v "^[a-z]* [0-9]* of 200$" /tmp/busy | grep -v ^longest'
     rm -r "${timer%/*}" && systemctl daemon-reload && systemctl restart record-office-backup.timer
-    same 'what is kept of a year' "$(cd $copies && ls office-*.db | grep -v "$today" | sed 's/office-2020-//; s/.db//' | xargs)" \
+    same 'what is kept of a year' "$(find $copies -name 'office-*.db' ! -name "*$today*" -printf '%f\n' | sort | sed 's/office-2020-//; s/.db//' | xargs)" \
         '02-29 03-31 04-30 05-31 06-30 07-31 08-31 09-30 10-31 11-30 12-20 12-26 12-27 12-28 12-29 12-30 12-31'
 
     mkdir /srv/other
+    # shellcheck disable=SC2016  # the backup expands it
     printf 'COPY_FOLDER=/srv/other\nCOPY_COMMAND='"'"'cp "$1" /srv/by-command.db'"'\n" >/etc/record-office/backup.conf
     is 'a backup to another folder and by a command' systemctl start record-office-backup
     same 'each reader who got a ticket is in it' "$(query 'SELECT count(*) FROM reader')" $((before + $(sed -n 's/registrations \([0-9]*\) .*/\1/p' /tmp/busy)))
@@ -183,8 +186,9 @@ backups() {
 
 # An upgrade whose files have all changed, after the operator has edited the files that are the operator's; removed, and installed again.
 upgrades() {
-    local tag file edited="/etc/nginx/sites-available/record-office /etc/nginx/sites-available/record-office-tls /etc/record-office/backup.conf"
-    for file in $edited; do echo '# our own' >>$file; done
+    local tag file
+    local edited=(/etc/nginx/sites-available/{record-office,record-office-tls} /etc/record-office/backup.conf)
+    for file in "${edited[@]}"; do echo '# our own' >>"$file"; done
     sed 's/rate=50r/rate=40r/' /etc/record-office/common.conf >/etc/record-office/our-common.conf
     sed -i 's/common.conf/our-common.conf/' /etc/nginx/sites-available/record-office
     is 'a limit of our own' nginx -t -q
@@ -193,7 +197,7 @@ upgrades() {
     is 'an upgrade by apt asks nothing' sh -c 'apt-get install -qq -y /root/next.deb </dev/null'
     is 'a page that has changed, but not its size, has another ETag' test "$tag" != "$(etag)"
     same 'what was stopped stays stopped' "$(systemctl is-active record-office record-office-queue record-office-backup.timer | xargs)" 'inactive active active'
-    is 'what was edited stays' grep -c '^# our own' $edited
+    is 'what was edited stays' grep -c '^# our own' "${edited[@]}"
     is 'the rest is new' grep '^# of the next version' /etc/record-office/readers.conf /usr/share/record-office/site
     is 'also for the second office' grep '^# of the next version' /etc/record-office/harbour/readers.conf
     is 'whose own files stay' grep 'Harbour office' /etc/record-office/harbour/office.json
@@ -203,7 +207,7 @@ upgrades() {
     same 'after that too' "$(status $readers/public/fonds)" 200
 
     is 'removal' dpkg --remove record-office
-    same 'nothing runs any more' "$(systemctl is-active $units $timers $harbour_units $harbour_timers | sort | uniq -c | xargs)" '16 inactive'
+    same 'nothing runs any more' "$(systemctl is-active "${units[@]}" "${timers[@]}" "${harbour_units[@]}" "${harbour_timers[@]}" | sort | uniq -c | xargs)" '16 inactive'
     is 'nginx goes on' nginx -t -q
     same 'nothing answers readers' "$(status $readers/public/fonds) $(status $harbour/public/fonds)" '000 000'
     is 'installed again' sh -c 'dpkg -i /root/next.deb </dev/null'
@@ -238,7 +242,7 @@ after() {
     same 'a reader who asks while the program is begun again' "$(status $readers/public/fonds)" 200
     is 'it was begun again' test "$(systemctl show -p NRestarts --value record-office)" -gt "$restarts"
     same 'no process may get new rights' "$(grep -h NoNewPrivs "/proc/$(systemctl show -p MainPID --value record-office)/status" | cut -f2)" 1
-    systemd-analyze security --no-pager $units 2>/dev/null | grep -i overall || true
+    systemd-analyze security --no-pager "${units[@]}" 2>/dev/null | grep -i overall || true
 
     same 'each end of the program was asked for' "$(journalctl --no-pager -o cat -u record-office | grep -c '^the program ended: killed KILL')" \
         "$(journalctl --no-pager -o cat -u record-office | grep -c '^the program ended: ')"
@@ -281,7 +285,7 @@ purges() {
     is 'purge' dpkg --purge record-office
     is 'the office and its copies stay' sh -c "test -s $office && ls $copies/office-$today.db"
     same 'nothing else stays' "$(find / -xdev -name '*record-office*' ! -path '/proc/*' ! -path '/root/*' ! -path '/var/lib/record-office*' \
-        ! -path '/var/backups/*' ! -path '/var/log/*' ! -path '/tmp/*' | xargs)" ''
+        ! -path '/var/backups/*' ! -path '/var/log/*' ! -path '/tmp/*')" ''
     is 'nginx still goes on' nginx -t -q
     rm -rf /var/lib/record-office* /var/backups/record-office*
 }
@@ -294,7 +298,7 @@ moves() {
     is 'the office is restored there' record-office-restore "/root/moved/office-$today.db"
     ln -s ../sites-available/record-office /etc/nginx/sites-enabled/
     nginx -t -q && systemctl reload-or-restart nginx
-    systemctl enable --quiet --now $units $timers
+    systemctl enable --quiet --now "${units[@]}" "${timers[@]}"
     same 'it answers' "$(status -m 60 $readers/public/fonds)" 200
     same 'as it did on the first' "$(answers)" "$(cat /root/moved/answers)"
     systemctl start record-office-backup

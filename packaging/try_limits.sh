@@ -52,7 +52,7 @@ memory() {
 }
 
 for office in $unit $unit@harbour; do
-    same "what $office may take" "$(systemctl show -p LimitAS,MemoryMax,LimitFSIZE $office | sort | xargs)" \
+    same "what $office may take" "$(systemctl show -p LimitAS,MemoryMax,LimitFSIZE "$office" | sort | xargs)" \
         "LimitAS=$((2 << 30)) LimitFSIZE=infinity MemoryMax=$((2200 << 20))"
 done
 memory

@@ -76,6 +76,7 @@ tried("queue", lambda: socket.socket(socket.AF_UNIX).connect("/run/record-office
 print("interfaces", *(line.split(":")[0].strip() for line in open("/proc/self/net/dev").readlines()[2:]))
 PROBE
     mkdir -p $drop_in
+    # shellcheck disable=SC2016  # systemd expands it
     printf '[Service]\nExecStartPre=/bin/sh -c "/usr/bin/python3 /usr/local/lib/try_readers_probe.py >${CACHE_DIRECTORY}/probe"\n' >$drop_in/probe.conf
     systemctl daemon-reload
     systemctl restart $unit

@@ -95,6 +95,7 @@ boxes() {
     for wrong in 'name,place\nx,y\n' 'name,location,newName\n\377\n' ''; do
         # shellcheck disable=SC2059
         printf "$wrong" >/root/wrong.csv
+        # shellcheck disable=SC2016  # the shell that is called expands it
         is 'a file of another kind is refused in a sentence' sh -c '! record-office-relocate /root/wrong.csv && test "$(wc -l </tmp/out)" = 1'
     done
     same 'nothing was changed' "$(query 'SELECT location FROM container WHERE id = 3')" 'Strongroom 8'

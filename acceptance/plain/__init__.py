@@ -7,6 +7,7 @@ memory that runs out."""
 import collections
 import csv
 import pickle
+from typing import Any
 
 from .answers import answer, as_json
 from .catalogue import Catalogue
@@ -31,17 +32,17 @@ class Office(Catalogue, Desk, Shown):
         self.readers, self.seated, self.places = {}, {}, {}
         self.orders, self.waiting, self.placed, self.runs = {}, [], collections.Counter(), {}
 
-    def get(self, path):
+    def get(self, path: str) -> tuple[int, Any]:
         """The status and the answer to a question: a text, or what is told as JSON."""
         it = answer(self, "GET", path, None, b"")
         return it.status, it.told
 
-    def post(self, path, body):
+    def post(self, path: str, body: bytes) -> tuple[int, Any]:
         """The status and the answer to a command."""
         it = answer(self, "POST", path, len(body), body)
         return it.status, it.told
 
-    def carry_out(self, name, /, *words, **members):
+    def carry_out(self, name: str, /, *words: Any, **members: Any) -> Any:
         """What a command tells; one that is refused is taken back whole."""
         kept = pickle.dumps(vars(self))
         try:

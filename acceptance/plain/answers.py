@@ -1,6 +1,7 @@
 """What is answered to a request and its body, and the bytes of an answer."""
 import dataclasses
 import json
+from typing import Optional
 
 from .refusals import Refused
 from .requests import Bad, members_of, route_of
@@ -33,7 +34,7 @@ class Answer:
 
     status: int
     told: object
-    allow: str = None
+    allow: Optional[str] = None
 
 
 def error(status, allow=None):

@@ -2,6 +2,7 @@
 import dataclasses
 import json
 import re
+from typing import Optional
 
 DAYS_OF_MONTHS = [31, 28, 31, 30, 31, 30, 31, 31, 30, 31, 30, 31]
 FIRST_YEAR = 1900
@@ -133,7 +134,7 @@ class Route:
     method: str
     name: str
     words: list
-    wanted: dict = None
+    wanted: Optional[dict] = None
     is_import: bool = False
 
 

@@ -24,8 +24,8 @@ def exchange(office, said, number, output):
         return None, no_head(said, output)
     try:
         request = accept(block)
-    except Refused as it:
-        output.append(encode(error(it.status), True, it.is_head))
+    except Refused as refused:
+        output.append(encode(error(refused.status), True, refused.is_head))
         return None, CLOSED
     if request.waits:
         output.append(CONTINUE)

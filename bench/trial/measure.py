@@ -1,22 +1,21 @@
-#!/usr/bin/env python3
 """Measures sessions of `trial` beside the same over a file, and prints a table of markdown:
 
-    bench/trial/measure.py [--program PROGRAM] [--room FOLDER] [--runs N] [WHAT N ..]
+    ./run bench.trial.measure [--program PROGRAM] [--room FOLDER] [--runs N] [WHAT N ..]
 
-The sessions are those of requests.py, by default those of docs/FIGURES.md. Each is given to `trial` and, over a new
+The sessions are those of requests.py, by default some of each kind. Each is given to `trial` and, over a new
 office in FOLDER, to `talk`, in turn. Of N runs the script prints the least processor time, the ratio of trial to file,
 the greatest memory of the process, and how many answers had which status. It ends with 1 if a session broke off, or if
 trial and file gave different answers.
 """
+
 import collections
 import re
 import subprocess
 import sys
 from pathlib import Path
 
-import requests  # it finds the client
-
-import client
+from acceptance import client
+from bench.trial import requests
 
 SETTINGS = client.option_words(client.LARGE)
 SESSIONS = "import 1000 import 20000 moves 20000 boxes 3000 pages 1000 orders 1000 small 9000 body 8388608".split()

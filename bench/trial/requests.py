@@ -1,5 +1,4 @@
-#!/usr/bin/env python3
-"""Writes the requests of a session on standard output: bench/trial/requests.py WHAT N
+"""Writes the requests of a session on standard output: ./run bench.trial.requests WHAT N
 
 import N   a file of N units, some 280 bytes each, in one fonds of up to 100 series
 twice N    the same file twice
@@ -14,12 +13,11 @@ orders N   a file of N units, each in a box of its own, a ticket for each 50, th
 small N    N questions for what is out
 body N     a command whose body has N bytes, which are not looked at
 """
+
 import argparse
 import sys
-from pathlib import Path
 
-sys.path.append(str(Path(__file__).resolve().parents[2] / "acceptance"))
-from client import get, post  # noqa: E402
+from acceptance.client import get, post
 
 TEXT = (
     "Papers of the dock company on the building and the upkeep and the use of the locks and basins and quays; "

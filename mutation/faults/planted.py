@@ -1,9 +1,9 @@
-#!/usr/bin/env python3
-"""Plants faults that acceptance/refused.py must notice: planted.py [--program PROGRAM] [--room DIRECTORY]
+"""Plants faults that acceptance/refused.py must notice: ./run mutation.faults.planted [--program PROGRAM] [--room DIRECTORY]
 
 A fault changes what a run without a request for memory told, or what it left in its files. Each is planted in some
 commands and sessions, of which some twenty runs are then judged. Those without a fault must be right. The script prints
 how often each fault was noticed, and ends with 1 if one was not."""
+
 import contextlib
 import io
 import shutil
@@ -12,10 +12,8 @@ import sys
 from pathlib import Path
 from typing import NamedTuple
 
-sys.path.append(str(Path(__file__).resolve().parents[2] / "acceptance"))
-import client  # noqa: E402
-import refused  # noqa: E402
-from client import BUSY, NO_MEMORY, Ended, Office  # noqa: E402
+from acceptance import client, refused
+from acceptance.client import BUSY, NO_MEMORY, Ended, Office
 
 RUNS = 12
 
@@ -46,6 +44,7 @@ class Run(NamedTuple):
 
 
 def change(office, statement):
+    """Does a statement to the file of an office."""
     with contextlib.closing(sqlite3.connect(office.store)) as tables:
         tables.execute(statement)
         tables.commit()
@@ -70,6 +69,7 @@ def row_left(run):
 
 
 def unsound(run):
+    """The office is not sound."""
     change(run.office, "UPDATE office SET seats = 0")
     return run.ended
 
@@ -81,6 +81,7 @@ def file_left(run):
 
 
 def log_left(run):
+    """There is a log where none should be."""
     Path(f"{run.office.store}-wal").touch()
     return run.ended
 
@@ -89,10 +90,12 @@ def log_left(run):
 
 
 def other_status(run):
+    """Another exit status."""
     return run.ended._replace(status=0 if run.ended.status else 3)
 
 
 def other_message(run):
+    """Another message."""
     return run.ended._replace(message=b"store fault\n" if run.ended == NO_MEMORY else b"no memory\n")
 
 
@@ -102,6 +105,7 @@ def printed(run):
 
 
 def killed(run):
+    """It was killed."""
     return run.ended._replace(status=-11)
 
 
@@ -150,6 +154,7 @@ def with_fault(it, fault):
     perform, (whole, _) = it.perform, it.run_on_copy(it.perform)
 
     def faulty(office, **memory):
+        """Performs it, and puts in the fault if memory is refused."""
         ended = perform(office, **memory)
         return fault(Run(ended, office, it.before, whole, perform, memory)) if "FA" in memory else ended
 
@@ -164,6 +169,7 @@ def is_wrong(it, shim):
 
 
 def main():
+    """Plants each fault; returns the exit status."""
     given = client.options(__doc__).parse_args()
     checks = client.Checks()
     with client.temporary(given.room) as room:

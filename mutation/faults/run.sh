@@ -15,9 +15,10 @@ wrong=0
 
 # ending HOW INPUT WORD ..: how the program ends when the shim disturbs it like this
 ending() {
-    local how=$1 input=$2 status=0
+    local variables input=$2 status=0
+    read -r -a variables <<<"$1"
     shift 2
-    env $how LD_PRELOAD="$room/shim.so" "$program" "$@" <"$input" >"$room/out" 2>"$room/err" || status=$?
+    env "${variables[@]}" LD_PRELOAD="$room/shim.so" "$program" "$@" <"$input" >"$room/out" 2>"$room/err" || status=$?
     echo "status $status, out $(cksum <"$room/out"), err $(tr '\n' '~' <"$room/err")"
 }
 

@@ -11,8 +11,9 @@ room=$(mktemp -d)
 trap 'rm -r "$room"' EXIT
 cc -shared -fPIC -O2 -o "$room/shim.so" "$top/mutation/faults/shim.c" -ldl
 
-[ $# -gt 0 ] || set -- $("$tests" --list | sed -n 's/: test$//p')
-for name; do
+names=("$@")
+[ $# -gt 0 ] || mapfile -t names < <("$tests" --list | sed -n 's/: test$//p')
+for name in "${names[@]}"; do
     echo "$name, every ${every}th of its allocations refused:"
     EACH=$every SHOW=1 LD_PRELOAD="$room/shim.so" "$tests" "$name" 2>&1 || true
 done

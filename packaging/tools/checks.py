@@ -31,17 +31,20 @@ class Line(NamedTuple):
     text: str
 
     def severity(self):
+        """How grave it is: the greater, the graver."""
         return (OK, UNKNOWN, WARNING, CRITICAL).index(self.level)
 
 
 def unit_is_up(unit):
     """The level of a unit that should run, and its state."""
-    shown = subprocess.run(["systemctl", "show", "-p", "ActiveState", "-p", "SubState", "--value", unit], text=True, capture_output=True)
+    shown = subprocess.run(["systemctl", "show", "-p", "ActiveState", "-p", "SubState", "--value", unit], text=True,
+                           capture_output=True)
     state = " ".join(shown.stdout.split())
     return OK if state == "active running" else CRITICAL, f"{unit} is {state}"
 
 
 def program(office):
+    """Whether the program runs, and is not stopped."""
     level, text = unit_is_up(office.unit)
     if level == OK:
         words = re.search(r"^State:\s*(\w)", pathlib.Path(f"/proc/{office.process()}/status").read_text(), re.M)
@@ -51,6 +54,7 @@ def program(office):
 
 
 def queue(office):
+    """Whether the queue runs."""
     return unit_is_up(office.unit_of("queue"))
 
 
@@ -89,6 +93,7 @@ def answers(office, url, expected):
 
 
 def page(office):
+    """Whether the readers' page is answered."""
     site = conf_of(office, "READERS_URL") or f"http://127.0.0.1:{office.port}"
     return answers(office, f"{site}/", 200)
 
@@ -119,7 +124,8 @@ def copy(office):
 
 
 def disk(office):
-    """Room for what a backup, a restore and the log may need at once, and for the copies and replaced offices that are still to come."""
+    """Room for what a backup, a restore and the log may need at once, and for the copies and replaced offices that are still
+    to come."""
     size = office.store.stat().st_size if office.store.exists() else 0
     at_once = 3 * size + SPARE
     to_come = at_once + max(MOST_COPIES - len(copies_in(office.copies)), 0) * size

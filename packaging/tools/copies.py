@@ -44,6 +44,7 @@ def sum_of(copy):
 
 
 def digest(path):
+    """The checksum of a file."""
     with path.open("rb") as file:
         return hashlib.file_digest(file, "sha256").hexdigest()
 
@@ -98,7 +99,8 @@ def give(office, path, new):
 def settings_of(office, path):
     """The settings of an office by name, read without a lock; None if the file cannot be read."""
     with contextlib.suppress(Trouble, ValueError):
-        said = office.as_owner("sqlite3", f"{path.resolve().as_uri()}?immutable=1", f"SELECT {', '.join(SETTINGS)} FROM office")
+        said = office.as_owner("sqlite3", f"{path.resolve().as_uri()}?immutable=1",
+                               f"SELECT {', '.join(SETTINGS)} FROM office")
         return dict(zip(SETTINGS, said.split("|"), strict=True))
     return None
 

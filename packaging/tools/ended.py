@@ -1,8 +1,9 @@
-"""Says in words how the program of an office ended, and ends its unit once the program has failed to start three times: ended.py UNIT
+"""Says in words how the program of an office ended, and ends its unit once the program has failed to start three times:
+ended.py UNIT
 
-The unit runs it after each end (ExecStopPost). It ends with 1, and the unit is then failed, only after the third start in a row
-that has failed and that `check` explains, or that failed for another reason than the store. While another process has the store
-open, as an import at a shell, more starts may fail.
+The unit runs it after each end (ExecStopPost). It ends with 1, and the unit is then failed, only after the third start in a
+row that has failed and that `check` explains, or that failed for another reason than the store. While another process has the
+store open, as an import at a shell, more starts may fail.
 """
 
 import contextlib

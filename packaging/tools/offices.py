@@ -54,7 +54,8 @@ class Office:
 
     def make_folder(self, path):
         """Makes a folder that only the user of the office can read."""
-        subprocess.run(["install", "-d", "-o", self.owner.pw_name, "-g", str(self.owner.pw_gid), "-m", "700", path], check=True)
+        subprocess.run(["install", "-d", "-o", self.owner.pw_name, "-g", str(self.owner.pw_gid), "-m", "700", path],
+                       check=True)
 
     def unit_of(self, part):
         """The unit of another part of the office, such as `queue`."""
@@ -93,9 +94,12 @@ class Office:
         return int(self.shown("MainPID") or 0)
 
     def shown(self, what):
-        return subprocess.run(["systemctl", "show", "-p", what, "--value", self.unit], text=True, capture_output=True).stdout.strip()
+        """What systemd shows of the unit."""
+        words = ["systemctl", "show", "-p", what, "--value", self.unit]
+        return subprocess.run(words, text=True, capture_output=True).stdout.strip()
 
     def tell_systemd(self, verb):
+        """Does something with the unit. Raises Trouble if that fails."""
         if subprocess.run(["systemctl", verb, self.unit]).returncode:
             raise Trouble(f"systemctl {verb} {self.unit} failed")
 

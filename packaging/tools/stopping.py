@@ -31,8 +31,8 @@ def sent(port, request):
 def queue_held(office, port):
     """A context in which the program answers nobody, and may be stopped.
 
-    It waits for half a request of ours, and all other requests wait in the queue. A question of ours waits at the gate, so that
-    nobody else's request reaches the program in the moment in which it ends.
+    It waits for half a request of ours, and all other requests wait in the queue. A question of ours waits at the gate, so
+    that nobody else's request reaches the program in the moment in which it ends.
     """
     try:
         half = sent(port - PROGRAM + TO_DESK, HALF) if office.state() == "active" else None
@@ -50,7 +50,8 @@ def queue_held(office, port):
 
 
 def wait_until_idle(process, seconds=60):
-    """Waits until a process has slept for half a second: then it has our request. After a minute it is stopped all the same."""
+    """Waits until a process has slept for half a second: then it has our request. After a minute it is stopped all the
+    same."""
     end = time.monotonic() + seconds
     with contextlib.suppress(OSError):
         same, before = 0, None

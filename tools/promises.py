@@ -1,7 +1,6 @@
-#!/usr/bin/env python3
 """Looks whether the documents agree with the code: names and lines of PROMISES, excerpts, and all links.
 
-    mutation/promises.py [--write] [--list CRATE] [TREE]
+    ./run tools.promises [--write] [--list CRATE] [TREE]
 
 What PROMISES has between `<!-- laws: CRATE .. -->` and `<!-- end -->` must be what the comments of the code give
 (code_rows.py); `--write` writes it. The excerpts of WALK and HEADLINE must be lines of their files, and each link of a
@@ -14,6 +13,7 @@ there, each clause must be one of the functions before it, and each of these mus
 else a name in code marks must be a file, a name that the crates have, or a word of SQL in capitals. The script prints
 each problem with its line, and ends with 1 if there is one.
 """
+
 import argparse
 import collections
 import os
@@ -21,9 +21,8 @@ import pathlib
 import re
 import sys
 
-import code_rows
-import document_links
-from clauses import Source
+from tools import code_rows, document_links
+from tools.clauses import Source
 
 TOP = os.path.dirname(os.path.dirname(os.path.abspath(__file__)))
 PROMISES = "docs/PROMISES.md"

@@ -1,7 +1,6 @@
-#!/usr/bin/env python3
 """Compares what two trees promise: every public clause and every definition of the old tree must be in the new one.
 
-    mutation/clauses.py OLD_TREE NEW_TREE [--names FILE] [--new] [--why]
+    ./run tools.clauses OLD_TREE NEW_TREE [--names FILE] [--new] [--why]
 
 Public clauses are the ensures and requires of public functions (in a library: not those of a private module that it
 does not pass on), of the methods of traits and of the impls of traits, the ghost members of traits and impls, and the
@@ -12,7 +11,7 @@ comments and the module within a crate make no difference; the crate, the owner 
 function do. A parameter (`@NAME` in what is printed) may have another name if it has the same place. A name that an
 import gives (`use .. as ..`) is written out.
 
-FILE (without it: mutation/names.txt beside this script) has the names that changed, one a line, or on more lines of
+FILE has the names that changed, one a line, or on more lines of
 which all but the first begin with a space:
 
     crate OLD NEW             a crate's new name, or the crate that it went to
@@ -38,6 +37,7 @@ The script prints what is lost without a reason, how much is lost with one, and 
 (with --new: which; with --why: what is lost with a reason, and the reason). It ends with 1 if something is lost without
 a reason, or if a reason explains nothing.
 """
+
 import argparse
 import collections
 import os
@@ -45,7 +45,6 @@ import re
 import sys
 from pathlib import Path
 
-HERE = os.path.dirname(os.path.abspath(__file__))
 TOKEN = re.compile(
     r"""//[^\n]*|/\*.*?\*/|"(?:[^"\\]|\\.)*"|b?'(?:[^'\\\n]|\\[^\n]+?)'|'\w+|[A-Za-z_]\w*|\d\w*|\s+|.""", re.S
 )
@@ -103,7 +102,8 @@ class Names:
 
     def path(self, found, word):
         """The path of a definition in the new tree, from a match of GHOST."""
-        old, first, *rest = found[1], *found[2].split(".")
+        old, parts = found[1], found[2].split(".")
+        first, rest = parts[0], parts[1:]
         if first == "declared" and rest:
             rest[0] = self.modules.get((old, rest[0]), rest[0])
             return ".".join(["Rattle", self.crate(old), "specs", first, rest[0], *map(word, rest[1:])])
@@ -113,9 +113,11 @@ class Names:
     def text(self, text, crate):
         """The text as the new tree would have it."""
         def word(old):
+            """The new name of a word."""
             return self.words.get((crate, old)) or self.words.get(("", old)) or old
 
         def of_match(found):
+            """The new name of what was found."""
             return word(found[1])
 
         parts, at = [], 0
@@ -187,6 +189,7 @@ def write_out_names(text, given):
     paths, members = given
 
     def meaning_of(found):
+        """What a name stands for."""
         path = paths.get(found[1]) if found[2] else None
         return (path or members.get(found[1]) or found[1]) + found[2]
 
@@ -496,7 +499,7 @@ def main():
     words = argparse.ArgumentParser(description=__doc__.split("\n")[0])
     words.add_argument("old")
     words.add_argument("new")
-    words.add_argument("--names", default=f"{HERE}/names.txt")
+    words.add_argument("--names", metavar="FILE")
     words.add_argument("--new", dest="show", action="store_true", help="print what is new, too")
     words.add_argument("--why", action="store_true", help="print what is lost with a reason, too")
     given = words.parse_args()

@@ -147,6 +147,7 @@ class Bench:
     def rename(self, text, case, copies):
         """A text that names the copies of a case in place of the modules that were copied."""
         def new(at):
+            """The name of a module in the copies."""
             module = self.modules.longest(at[0])
             if module not in copies:
                 return at[0]

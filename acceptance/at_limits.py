@@ -1,4 +1,3 @@
-#!/usr/bin/env python3
 """What an office, a file and a connection take at most, and one more:
 
     limits.py [--program PROGRAM] [--room DIRECTORY]
@@ -7,16 +6,14 @@ The limits are those on permits of a ticket, settings, rows of a file, bytes of 
 messages of a connection. Such days are too long to be written down, so they are made here from the rules, in the form
 that days.py describes. Each is given to `trial`, and to `talk` on a new store. The script prints how many days it
 played, and ends with 1 if a result is wrong."""
+
 import sys
 
-import days
-from plain.limits import HIGHEST
-from plain.limits import LAST_ROW as ROWS
-from plain.limits import LONGEST_HEAD as HEAD
-from plain.limits import MOST_ANSWERS as MESSAGES
-from plain.limits import MOST_BYTES as BYTES
-from plain.limits import MOST_FIELDS as FIELDS
-from plain.limits import MOST_PERMITS as PERMITS
+from acceptance import days
+from acceptance.plain.limits import (
+    HIGHEST, LAST_ROW as ROWS, LONGEST_HEAD as HEAD, MOST_ANSWERS as MESSAGES, MOST_BYTES as BYTES, MOST_FIELDS as FIELDS,
+    MOST_PERMITS as PERMITS,
+)
 
 SEATS, DAILY, RUN = HIGHEST["seats"], HIGHEST["daily"], HIGHEST["run"]
 LIMIT = '409 {"code":7,"refused":"DailyLimit"}'
@@ -60,6 +57,7 @@ def permits():
     lines += [f'POST /desk/register {{"name":"Ann","until":"{EVER}"}}', '200 {"ticket":1}']
 
     def permit(unit, until, answer=None):
+        """Adds a permit, and its answer."""
         lines.append(f'POST /desk/permit {{"ticket":1,"unit":{unit},"until":"{until}"}}')
         lines.append(answer or f'200 {{"ticket":1,"unit":{unit},"until":"{until}"}}')
 
@@ -123,6 +121,7 @@ def a_run():
     lines, past = [f"with seats 1 daily {DAILY} hands 1 run {RUN}", *boxes(RUN + 1)], RUN + 2
 
     def ticket(number):
+        """The ticket that gives an order."""
         return (number + DAILY - 1) // DAILY
 
     for number in range(1, RUN + 2):

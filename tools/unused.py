@@ -1,7 +1,6 @@
-#!/usr/bin/env python3
 """Lists what nothing names: lemmas and definitions, exact copies of items, and imports that their file does not use.
 
-  mutation/unused.py [--fix] [--fix-imports]
+  ./run tools.unused [--fix] [--fix-imports]
 
 Run it anywhere in the repository. It prints three lists, each entry with file and line, and ends with 1 if an entry
 is left for which the table EXPLAINED has no reason, or if an entry of that table explains nothing any more.
@@ -18,12 +17,13 @@ is left for which the table EXPLAINED has no reason, or if an entry of that tabl
 --fix deletes the items of list 1 from specs/ and proofs/ with the comment above each, the imports of list 3, and
 files that are empty then, with their `mod` lines; it repeats that until nothing changes. --fix-imports deletes the
 imports alone. Code in src/ loses imports, and no function. Afterwards: rt fmt and rt check in each crate."""
+
 import argparse
 import os
 import re
 import sys
 
-import unused_read as reader
+from tools import unused_read as reader
 
 # What stays although nothing names it, or although it is elsewhere too: a path, or a path and a name, with the reason.
 EXPLAINED = {
@@ -385,12 +385,12 @@ def fix_code(found):
         if isinstance(it, str):
             m = RUST_USE.match(it)
             names = [n.strip() for n in (m[2] or m[3]).split(',') if n.strip()]
-            kept = [n for n in names if n not in [l[0] for l in left]]
+            kept = [n for n in names if n not in [line[0] for line in left]]
             is_bare = len(kept) == 1 and kept[0] != 'self'
             text = f'use {m[1]}' + (kept[0] if is_bare else '{' + ', '.join(kept) + '}') + ';'
         else:
             kept = [n for n in it.names if n not in left]
-            line = ' '.join(l.strip() for l in code.lines[first:last])
+            line = ' '.join(one.strip() for one in code.lines[first:last])
             m = reader.IMPORT.match(line.replace('{ ', '{').replace(', }', '}'))
             text = it.line('ghost use ', ';', kept)
         if kept:

@@ -2,6 +2,7 @@
 
 An item is a declaration with the comment lines above it; a section (`module _ (..) where`) and a `mutual` block hold
 items further in. A name is any run of characters other than blanks and ( ) { } . ; , @ " and guillemets."""
+
 import glob
 import re
 
@@ -142,7 +143,7 @@ class File:
             body = next((i for i in range(at, last) if re.search(r'\bwhere\s*$', self.lines[i])), None)
             if body is None:
                 raise SystemExit(f'{self.path}:{at + 1}: no section that is known')
-            inner = next(indent_of(l) for l in self.lines[body + 1:last] if l.strip())
+            inner = next(indent_of(line) for line in self.lines[body + 1:last] if line.strip())
             header = ' '.join(' '.join(self.lines[at:body + 1]).split())
             self.others[-1] = Item([], at, body + 1, self.lines, False)
             self.fill(body + 1, last, inner, around + ' ' + header)
@@ -228,7 +229,7 @@ class Code:
         last = at + 1
         while last < len(self.lines) and ';' not in self.lines[last - 1]:
             last += 1
-        whole = ' '.join(l.strip() for l in self.lines[at:last])
+        whole = ' '.join(line.strip() for line in self.lines[at:last])
         whole = re.sub(r'\{ ', '{', re.sub(r',? \}', '}', whole))
         m = IMPORT.match(whole)
         if 'ghost use ' not in whole:
@@ -253,7 +254,7 @@ class Repository:
         places += glob.glob('bench/**/*.rattle', recursive=True) + glob.glob('bench/**/*.antt', recursive=True)
         places += glob.glob('bench/**/*.proof', recursive=True)
         self.codes = [Code(path) for path in sorted(places)]
-        self.crates = [l.split(':')[0].split()[0] for l in read('crates.txt').split('\n') if re.match(r'\w', l)]
+        self.crates = [line.split(':')[0].split()[0] for line in read('crates.txt').split('\n') if re.match(r'\w', line)]
 
     def file_of(self, path, seen=()):
         """The file that a module's path leads to, over what Lib.antt passes on."""

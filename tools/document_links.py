@@ -4,6 +4,7 @@ An excerpt is an indented block right below the mark `<!-- excerpt: FILE -->`. I
 order, and without others between them except where the excerpt has a line `...`. How deep they are indented makes no
 difference.
 """
+
 import difflib
 import pathlib
 import re
@@ -24,7 +25,7 @@ def differences(name, text, wanted):
     """Where a page differs from what a script would write."""
     if text != wanted:
         lines = difflib.unified_diff(text.splitlines(), wanted.splitlines(), "the page", "the code", n=0, lineterm="")
-        yield "\n".join([f"{name}: the code gives other lines (mutation/promises.py --write)", *lines])
+        yield "\n".join([f"{name}: the code gives other lines (./run tools.promises --write)", *lines])
 
 
 def anchors(text):

@@ -2,7 +2,7 @@
 # Checks a crate over the libraries that are there, without a walk over what each was made from: some seconds to a
 # minute, where `rt check` takes one to three more. Whoever calls it knows that the libraries below are built of what
 # stands there.
-#   mutation/check.sh CRATE [--build] [--only F] [--start F --allow-holes] [--test]
+#   tools/check.sh CRATE [--build] [--only F] [--start F --allow-holes] [--test]
 # --build also leaves the crate's library in its out/. What is there of a run of rt ci (crates/*/out/rlib, until it ends)
 # serves. It is no verdict: rt ci is.
 set -euo pipefail
@@ -32,7 +32,7 @@ done
 while [ ${#waiting[@]} -gt 0 ]; do
     it=${waiting[0]}
     waiting=("${waiting[@]:1}")
-    [ -z "${below[$it]:-}" ] && [ -d "$top/crates/$it" ] || continue
+    if [ -n "${below[$it]:-}" ] || [ ! -d "$top/crates/$it" ]; then continue; fi
     below[$it]=yes
     words+=(-L "dependency=$top/crates/$it/out/rlib")
     read -r -a more <<<"$(needs "$it")"

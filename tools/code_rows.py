@@ -4,6 +4,7 @@ laws.
 A public function is one that other crates can call and that promises something (an ensures). Those named worked_.. are
 left out: they are examples.
 """
+
 import pathlib
 import re
 import sys
@@ -129,6 +130,7 @@ def with_laws(top, text):
     """The text of a page, with the lines between each mark and its end as the code gives them. A mark names crates."""
 
     def block(found):
+        """The rows of the crates that a mark names."""
         lines = [line for crate in found[2].split() for line in (f"`{crate}`", "", *laws(top, crate), "")]
         return "\n".join([found[1], "", *lines, found[3]])
 

@@ -1,15 +1,20 @@
-#!/usr/bin/env python3
-"""Keeps the names that a crate's proofs import in one place, its proofs/Common.antt.
+"""Keeps the imports of specs, proofs and contracts in order.
 
-    mutation/imports.py [--check] [CRATE ..]
+    ./run tools.imports [--check] [CRATE ..]
 
-A proof cites names of many modules. Common passes on those of each module, of other crates or of the crate's own specs,
-that at least three files of proofs cite, so that a file has one line for them. A crate with fewer than five such modules
-has no Common. The script reads the `use` lines of all files, writes Common anew, and puts the lines of each file in
-order. With --check it writes nothing, lists what would change, and ends with 1 if something would.
+A proof cites names of many modules. proofs/Common.antt passes on those of each module, of other crates or of the crate's
+own specs, that at least three files of proofs cite. A crate with fewer than five such modules has no Common. Common does
+not pass on a name that comes from two modules, one that a file renames, and one that a file unfolds.
 
-Common does not pass on a name that comes from two modules, one that a file renames, and one that a file unfolds.
+In Common and in each proof, the lines stand in the order of where the names come from: the libraries, then the crates as
+in crates.txt, within a crate by module; and in a proof below these Common and the crate's own proofs. No line is longer
+than 120 columns: where a module's names take more, it has several lines. So it is in specs/, whose order stays, and at
+the `ghost use` of src/.
+
+The script reads the `use` lines of all files, and writes what changes. With --check it writes nothing, lists what would
+change, and ends with 1 if something would.
 """
+
 import argparse
 import collections
 import pathlib
@@ -20,20 +25,50 @@ TOP = pathlib.Path(__file__).resolve().parent.parent
 STD = "Rattle.std.proofs.Common"
 USE = re.compile(r"use (?P<module>[^{}]+?)\.\{(?P<names>.*)\}")
 UNFOLDS = re.compile(r"^\s*unfolding (.*)|\bunfold (.*?) in\b", re.M)
-LEAST, FEW = 3, 5
+LEAST, FEW, WIDTH = 3, 5, 120
 HEAD = "-- The names that several proofs of this crate cite, passed on from one place. Declares nothing.\n"
 LOWEST = ["mathlib", "native", "Prim", "Rattle.logic", "Rattle.core", "Rattle.std", "Rattle.sqlite"]
+ANY_USE = re.compile(r"(?P<start> *(?:pub )?(?:ghost )?)use (?P<module>[^{}]+?)\.\{(?P<names>.*)\}(?P<end>;?)")
+
+
+def crates_in_order():
+    """The crates of the repository, lowest first."""
+    lines = (TOP / "crates.txt").read_text(encoding="utf-8").split("\n")
+    return [it.split(":")[0].split()[0] for it in lines if it and not it.startswith("#")]
+
+
+ORDER = {name: at for at, name in enumerate(crates_in_order())}
 
 
 def rank(module):
-    """Its place in Common: the libraries first, then by name."""
-    lies_in = (at for at, it in enumerate(LOWEST) if module == it or module.startswith((f"{it}.", f"{it}_")))
-    return next(lies_in, len(LOWEST)), module
+    """Its place among imports: the libraries first, then the crates from the lowest on, within one by name."""
+    path = module.removeprefix("use ")
+    crate = ORDER.get((path.split(".") + [""])[1])
+    lies_in = (at for at, it in enumerate(LOWEST) if path == it or path.startswith((f"{it}.", f"{it}_")))
+    return (1, crate, path) if crate is not None else (0, next(lies_in, len(LOWEST)), path)
 
 
-def use_line(module, names):
-    """The line that brings in these names of a module; a module of a line of its own has none."""
-    return f"use {module}.{{{', '.join(names)}}}" if names else module
+def use_lines(module, names, start="", end=""):
+    """The lines that bring in these names of a module, each within the width; a module of a line of its own has none."""
+    if not names:
+        return [module]
+    head, lines = f"{start}use {module}.{{", []
+    for name in names:
+        if lines and len(f"{head}{lines[-1]}, {name}}}{end}") <= WIDTH:
+            lines[-1] += f", {name}"
+        else:
+            lines.append(name)
+    return [f"{head}{it}}}{end}" for it in lines]
+
+
+def within_width(text):
+    """A text of specs/ or src/ whose lines with imports are within the width."""
+    lines = []
+    for line in text.split("\n"):
+        found = ANY_USE.fullmatch(line) if len(line) > WIDTH else None
+        parts = (found["module"], found["names"].split(", "), found["start"], found["end"]) if found else (line, [])
+        lines += use_lines(*parts)
+    return "\n".join(lines)
 
 
 class Proof:
@@ -72,8 +107,9 @@ class Proof:
                 place = proofs if module.removeprefix("use ").startswith(own) else others
                 place.setdefault(module, []).extend([name] if name else [])
         shared = {module: sorted(names) for module, names in shared.items()}
-        lines = [use_line(*item) for part in (others, shared, proofs) for item in part.items()]
-        return "\n".join([*self.comments, *lines, self.text])
+        others = {module: others[module] for module in sorted(others, key=rank)}
+        lines = [it for part in (others, shared, proofs) for item in part.items() for it in use_lines(*item)]
+        return within_width("\n".join([*self.comments, *lines, self.text]))
 
 
 class Crate:
@@ -117,7 +153,8 @@ class Crate:
         names = collections.defaultdict(list)
         for name, module in sorted(chosen.items()):
             names[module].append(name)
-        lines = [f"pub {use_line(module, names[module])}\n" for module in sorted(names, key=rank)]
+        passed = [use_lines(module, names[module], "pub ") for module in sorted(names, key=rank)]
+        lines = [f"{it}\n" for of_module in passed for it in of_module]
         path, lib = self.proofs / "Common.antt", self.proofs / "Lib.antt"
         if lines or path.exists():
             text = lib.read_text(encoding="utf-8") if lib.exists() else ""
@@ -125,6 +162,14 @@ class Crate:
             found[path] = HEAD + "".join(lines) if lines else ""
             found[lib] = "\n".join(["pub mod Common", *others] if lines else others)
         return found
+
+
+def changes_of(folder):
+    """What each file of a crate should have, if the file may have something else today."""
+    if (folder / "proofs").exists():
+        yield from Crate(folder).texts().items()
+    for path in [*sorted((folder / "specs").rglob("*.antt")), *sorted((folder / "src").rglob("*.rt"))]:
+        yield path, within_width(path.read_text(encoding="utf-8"))
 
 
 def is_as(path, text):
@@ -147,10 +192,10 @@ def main():
     parser.add_argument("crates", nargs="*", metavar="CRATE", help="only these")
     options = parser.parse_args()
     changed = 0
-    for folder in sorted(it.parent for it in (TOP / "crates").glob("*/proofs")):
+    for folder in sorted(it.parent for it in (TOP / "crates").glob("*/src")):
         if options.crates and folder.name not in options.crates:
             continue
-        for path, text in Crate(folder).texts().items():
+        for path, text in changes_of(folder):
             if not is_as(path, text):
                 changed += 1
                 print(path.relative_to(TOP))

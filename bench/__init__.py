@@ -1,0 +1,1 @@
+"""What measures the program and the front."""

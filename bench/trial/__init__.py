@@ -1,0 +1,1 @@
+"""Sessions without a store, measured."""

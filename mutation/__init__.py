@@ -1,0 +1,1 @@
+"""Mistakes that must be noticed, and what tries them."""

@@ -1,0 +1,1 @@
+"""Faults of memory and disks."""

@@ -1,0 +1,1 @@
+"""Tools of the repository: what looks at its code, proofs and documents."""
