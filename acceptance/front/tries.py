@@ -294,6 +294,7 @@ def page(checks, program, folder, browser, shot):
         tab.see("The first row is in another language than the office has: 1", ".differences")
         shot(tab, "desk-differences")
         checks.same("all are listed", rows_shown(tab), len(WANTED))
+        check_file(checks, tab)
         tab.js("(() => { const one = document.querySelector('.differences select'); one.value = 'status';"
                " one.dispatchEvent(new Event('input')); })()")
         checks.same("the filter by kind", rows_shown(tab), 1)
@@ -307,6 +308,17 @@ def page(checks, program, folder, browser, shot):
         tab.press("Import the file")
         tab.see("second.csv was imported from the source catalogue.")
         checks.same("the imported file is kept as the last", (office.kept / f"{SOURCE}.csv").read_bytes(), SECOND.encode())
+
+
+def check_file(checks, tab):
+    """The file that the page saves has the columns of its table, and what differs in them; and no formula."""
+    tab.js("URL.createObjectURL = (blob) => { window.saved = blob.text(); return '#'; }; 0")
+    tab.press("Keep as CSV")
+    head, *rows = csv.reader(io.StringIO(tab.js("window.saved").removeprefix("\ufeff"), newline=""))
+    checks.same("the columns", head, ["Kind", "Row", "legacyId", "Unit", "Title", "What", "In the office", "In the file"])
+    found = [(row[1], row[2], row[6], row[7]) for row in rows]
+    checks.same("what differs", sorted(found), sorted(
+        (str(row), legacy, old, f"'{new}" if new.startswith("=") else new) for _, row, legacy, _, old, new in WANTED))
 
 
 def rows_shown(tab):
