@@ -141,6 +141,7 @@ class Alone:
         for name, module in list(sys.modules.items()):
             if name in AGAIN or (getattr(module, "__file__", None) or "").startswith(str(FRONT)):
                 del sys.modules[name]
+        clear(self.folder / "offices")
         if parts == ["folding"]:
             importlib.import_module("acceptance.front.foldings").play(checks)
         else:
