@@ -19,7 +19,7 @@ from acceptance import client
 from acceptance.client import Ended, Office
 from acceptance.plain.limits import LAST_ROW, LONGEST_BODY, MOST_CONTAINERS
 
-SECONDS = 300
+SECONDS = 1200  # that a program without proof may take
 UNITS, IN_EACH = LAST_ROW - 1, 5
 PREVIEW = ["preview", "--country", client.SETTINGS["country"], "--repo", client.SETTINGS["repo"]]
 
