@@ -30,8 +30,8 @@ EXPLAINED = {
     ('crates/catalogue_core/proofs/DistinctLists.antt', 'all_so'):
         'atom_csv has it for itself: no crate below it has lemmas on lists',
     # Short lemmas that a lower crate has for its own proofs. To be shared, they would have to become public there.
-    ('crates/refinement/proofs/BranchesApart.antt', 'housed_more'):
-        'of catalogue_core, by recursion on the units above',
+    ('crates/catalogue_core/proofs/OpenLemmas.antt', 'housed_more'):
+        'access has it for itself, by recursion on the units above',
     ('crates/refinement/proofs/HoldingRows.antt', 'greater'): 'of office_tables, on numbers in cells',
     ('crates/nested_sets/proofs/SpanTests.antt', 'not_before'): 'of catalogue_statements, on numbers in cells',
     ('crates/nested_sets/proofs/SpanQueries.antt', 'all_first'):

@@ -6,7 +6,7 @@ use Rattle.sqlite_trees.specs.declared.store.Store as store
 use Rattle.office_tables.specs.Calls.{Answers}
 use Rattle.refinement.proofs.Tellings.{looked_crash}
 use Rattle.refinement.specs.AccessConditions.{CanBeJudged, RepresentsWhole}
-use Rattle.refinement.specs.DayRules.{breaks_day_rules}
+use Rattle.access.specs.DayRules.{breaks_day_rules}
 use Rattle.adoption.proofs.Common.{AreGoodTables, BlamesDisk, Forest, GoodTablesRepresentTheirState, HasCleanDisk, Held}
 use Rattle.adoption.proofs.Common.{IfOk, Judges, OwnRow, StoreFault, Trees, Version, day_is_broken, described_state}
 use Rattle.adoption.proofs.Common.{own_row_of, rows_in, state, ⊤}

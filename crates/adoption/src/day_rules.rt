@@ -25,5 +25,5 @@ pub(crate) fn breaks_day_rules<P: CheckedPlaces, S: Alter>(
         tells λ s broken. own_row_of P.version s.now.trees ≡ Some own.now → AreGoodTables P.version s.now
         → broken ≡ day_is_broken (rows_in P.version s.now.trees) }
 {
-    refinement::breaks_day_rules(alloc, tables, own.limits.hands, own.today)
+    access::breaks_day_rules(alloc, tables, own.limits.hands, own.today)
 }

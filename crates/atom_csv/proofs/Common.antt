@@ -27,9 +27,9 @@ pub use Rattle.isad_core.specs.declared.values.BoxKey.{BoxKey}
 pub use Rattle.atom_csv.specs.Causes.{cause_number}
 pub use Rattle.atom_csv.specs.Columns.{column_name, columns_of, is_split}
 pub use Rattle.atom_csv.specs.Entries.{entries, entries_joined, nonblank_entries, parts_of, trimmed_entry, with_entry}
-pub use Rattle.atom_csv.specs.Fields.{Fields, borrowed_fields, column_index, column_indices, field_in, field_under}
-pub use Rattle.atom_csv.specs.Fields.{fields_in, has_no_bytes, is_blank, is_column_name, trim_end, trim_start, trimmed}
-pub use Rattle.atom_csv.specs.Fields.{value}
+pub use Rattle.atom_csv.specs.Fields.{Fields, borrowed_fields, column_index, column_indices, field_at_place}
+pub use Rattle.atom_csv.specs.Fields.{field_under, has_no_bytes, is_blank, is_column_name, trim_end, trim_start}
+pub use Rattle.atom_csv.specs.Fields.{trimmed, trimmed_fields, value}
 pub use Rattle.atom_csv.specs.FileContents.{Fault, FileLine, cause_if, causes, culture, file_below, file_of}
 pub use Rattle.atom_csv.specs.FileContents.{first_culture, has_column, has_column_twice, has_other_width}
 pub use Rattle.atom_csv.specs.FileContents.{has_slug_alone, header_causes, is_counted, is_late, is_long, is_told_again}
@@ -37,7 +37,7 @@ pub use Rattle.atom_csv.specs.FileContents.{is_translation, legacy, line_fault, 
 pub use Rattle.atom_csv.specs.FileContents.{of_records, or_fault, records_of, row_causes, row_of, row_told, rows}
 pub use Rattle.atom_csv.specs.FileContents.{stood_above, translations, under}
 pub use Rattle.atom_csv.specs.KnownContainers.{HoldsContainers, box_with, has_box}
-pub use Rattle.atom_csv.specs.ReadProgress.{IsBad, Knows, TellsRows}
+pub use Rattle.atom_csv.specs.ReadProgress.{IfBad, Knows, TellsRows}
 pub use Rattle.atom_csv.specs.Source.{IsReading, Source, rows_left, unread_bytes}
 pub use Rattle.atom_csv.specs.Values.{boxes_of, entry_at, is_named_box, nonblank, text_in_columns, told_by, triple}
 pub use Rattle.atom_csv.specs.Values.{triples, values_of}

@@ -7,7 +7,7 @@ use Rattle.std.specs.Prelude.{fold, nat_lt}
 use Rattle.csv.specs.Records.{field_at}
 use Rattle.atom_csv.specs.Columns.{columns}
 use Rattle.atom_csv.proofs.Common.{Bytes, Column, Fields, borrowed_fields, column_index, column_indices, column_name}
-use Rattle.atom_csv.proofs.Common.{count_by, field_in, field_under, has_column_twice, has_no_bytes, if◌then◌else◌}
+use Rattle.atom_csv.proofs.Common.{count_by, field_at_place, field_under, has_column_twice, has_no_bytes, if◌then◌else◌}
 use Rattle.atom_csv.proofs.Common.{is_blank, is_column_name, list_any, map-append, position, position_from, slice_get}
 use Rattle.atom_csv.proofs.Common.{tag_of, the_type, trimmed, unwrap_or, value, ◌&&◌, ◌||◌}
 use Rattle.atom_csv.proofs.ColumnLemmas.{at_place}
@@ -43,33 +43,33 @@ places_seen xs = places_from columns xs
 
 -- the field in a column's place is the one under its name
 value_from : (name : Bytes) (header fields : Fields)
-    → field_in (position_from (is_column_name name) 0 header) fields ≡ field_under name header fields
+    → field_at_place (position_from (is_column_name name) 0 header) fields ≡ field_under name header fields
 value_from name [] fields = refl
 value_from name (h ∷ hs) [] = go (position_from (is_column_name name) 0 (h ∷ hs))
   where
-    go : (o : Option ℕ) → field_in o [] ≡ []
+    go : (o : Option ℕ) → field_at_place o [] ≡ []
     go None = refl
     go (Some k) = refl
 value_from name (h ∷ hs) (f ∷ fs) = go (is_column_name name h) ∙ ap (λ v. if is_column_name name h then f else v) (value_from name hs fs)
   where
-    next : (o : Option ℕ) → field_in (option_map (λ k. k + 1) o) (f ∷ fs) ≡ field_in o fs
+    next : (o : Option ℕ) → field_at_place (option_map (λ k. k + 1) o) (f ∷ fs) ≡ field_at_place o fs
     next None = refl
     next (Some k) =
         let e : k + 1 ≡ suc k = omega arith in
         ap (λ n. unwrap_or (slice_get (f ∷ fs) n) []) e
 
     go : (b : Bool)
-        → field_in (cond b (Some 0) (position_from (is_column_name name) 1 hs)) (f ∷ fs) ≡ (if b then f else field_in (position_from (is_column_name name) 0 hs) fs)
+        → field_at_place (cond b (Some 0) (position_from (is_column_name name) 1 hs)) (f ∷ fs) ≡ (if b then f else field_at_place (position_from (is_column_name name) 0 hs) fs)
     go true = refl
-    go false = ap (λ o. field_in o (f ∷ fs)) (shift (is_column_name name) 0 hs) ∙ next (position_from (is_column_name name) 0 hs)
+    go false = ap (λ o. field_at_place o (f ∷ fs)) (shift (is_column_name name) 0 hs) ∙ next (position_from (is_column_name name) 0 hs)
 
 pub value_in : (name : Bytes) (header fields : Fields)
-    → field_in (column_index name header) fields ≡ field_under name header fields
+    → field_at_place (column_index name header) fields ≡ field_under name header fields
 value_in name header fields =
-    ap (λ o. field_in o fields) (position_from-zero (is_column_name name) header) ∙ value_from name header fields
+    ap (λ o. field_at_place o fields) (position_from-zero (is_column_name name) header) ∙ value_from name header fields
 
 -- the field of a record at a place, without the white space at its ends
-pub trimmed_at : (fs : List Bytes) (i : ℕ) → field_in (Some i) (map trimmed fs) ≡ trimmed (unwrap_or (field_at fs i) [])
+pub trimmed_at : (fs : List Bytes) (i : ℕ) → field_at_place (Some i) (map trimmed fs) ≡ trimmed (unwrap_or (field_at fs i) [])
 unfolding field_at
 trimmed_at [] i = refl
 trimmed_at (f ∷ fs) zero = refl
@@ -96,9 +96,9 @@ take_fields (x ∷ xs) (suc i) e = ap (λ ys. x ∷ ys) (take_fields xs i e)
 -- what a record has in a column
 pub value_at : (k : Column) (header fields : Fields) (places : List (Option ℕ)) (d : Option ℕ)
     → places ≡ column_indices header
-    → field_in (get_or places (tag_of the_type k) d) fields ≡ value k header fields
+    → field_at_place (get_or places (tag_of the_type k) d) fields ≡ value k header fields
 value_at k header fields places d is =
-    ap (λ ps. field_in (get_or ps (tag_of the_type k) d) fields) is ∙ (ap (λ o. field_in o fields) (at_place (λ k. column_index (column_name k) header) k d) ∙ value_in (column_name k) header fields)
+    ap (λ ps. field_at_place (get_or ps (tag_of the_type k) d) fields) is ∙ (ap (λ o. field_at_place o fields) (at_place (λ k. column_index (column_name k) header) k d) ∙ value_in (column_name k) header fields)
 
 -- a field that is not blank is one of a record that is not
 pub blank_not : (fs : List Bytes) (i : ℕ) (f : Bytes) → field_at fs i ≡ Some f → has_no_bytes (trimmed f) ≡ false

@@ -60,14 +60,14 @@ abbrev pub column_indices : Fields → List (Option ℕ)
 column_indices header = map (λ column. column_index (column_name column) header) columns
 
 -- the field at an index
-abbrev pub field_in : Option ℕ → Fields → Bytes
-field_in None fields = []
-field_in (Some i) fields = unwrap_or (slice_get fields i) []
+abbrev pub field_at_place : Option ℕ → Fields → Bytes
+field_at_place None fields = []
+field_at_place (Some i) fields = unwrap_or (slice_get fields i) []
 
 -- the fields that the code holds by reference
 abbrev pub borrowed_fields : List (Bor Bytes) → Fields
 borrowed_fields = map (λ field. field.now)
 
 -- the fields of a record of the reader, without white space at their ends
-abbrev pub fields_in : Row → Fields
-fields_in row = map trimmed (fields_of row)
+abbrev pub trimmed_fields : Row → Fields
+trimmed_fields row = map trimmed (fields_of row)

@@ -9,9 +9,9 @@ use Rattle.atom_csv.specs.declared.file.FileFault.TheVariants.{Memory, Bad}
 use Rattle.atom_csv.specs.declared.rows.Rows.{Rows}
 
 -- if the fault is that of a row, `told` holds of its row and its cause
-abbrev pub IsBad : FileFault → (ℕ → ℕ → Type 0) → Type 0
-IsBad Memory told = Unit {0}
-IsBad (Bad row cause) told = told row cause
+abbrev pub IfBad : FileFault → (ℕ → ℕ → Type 0) → Type 0
+IfBad Memory told = Unit {0}
+IfBad (Bad row cause) told = told row cause
 
 -- for each legacyId that is not blank, `get` returns the culture of the first of these records with it
 abbrev pub Knows : Fields → List Fields → (Bytes → Option Bytes) → Type 0

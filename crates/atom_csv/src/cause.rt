@@ -25,10 +25,14 @@ pub enum Cause {
     TooManyRows,
     /// A field that is read is too long.
     TooLong,
+    /// Its parent exists neither in the office nor in a row above it. `read_file` does not ask this.
+    NoParent,
+    /// It would lie too deep. `read_file` does not ask this.
+    TooDeep,
 }
 
 impl Cause {
-    /// Its number, from 1 to 10.
+    /// Its number, from 1 to 12.
     pub fn number(self) -> u8
         ensures { result ≡ cause_number self }
     {
@@ -43,6 +47,8 @@ impl Cause {
             Cause::Slug => 8,
             Cause::TooManyRows => 9,
             Cause::TooLong => 10,
+            Cause::NoParent => 11,
+            Cause::TooDeep => 12,
         }
     }
 }

@@ -1,6 +1,6 @@
 //! What is found in a record, and the cause that follows from it.
 ghost use Rattle.std.specs.Prelude.{◌≡◌, IfNone, false, option_map};
-ghost use Rattle.atom_csv.specs.Fields.{fields_in};
+ghost use Rattle.atom_csv.specs.Fields.{trimmed_fields};
 ghost use Rattle.atom_csv.specs.FileContents.{lowest};
 ghost use Rattle.atom_csv.specs.Fields as fields;
 ghost use Rattle.atom_csv.specs.FileContents as spec;
@@ -32,7 +32,7 @@ pub struct Findings {
 
 // Whether each field is blank.
 fn is_blank(row: &StringRecord) -> bool
-    ensures { result ≡ fields.is_blank (fields_in row.now) }
+    ensures { result ≡ fields.is_blank (trimmed_fields row.now) }
 {
     for field in row.iter() {
         if !trim(field).is_empty() {
@@ -45,7 +45,7 @@ fn is_blank(row: &StringRecord) -> bool
 // Whether a record is a translation. `stood` is the culture of the first row with its legacyId, if
 // there is one.
 fn is_translation(header: &Header, row: &StringRecord, stood: Option<&Text>) -> bool
-    ensures { result ≡ spec.is_translation header.now (fields_in row.now) (option_map (λ t. t.now) stood.entry) }
+    ensures { result ≡ spec.is_translation header.now (trimmed_fields row.now) (option_map (λ t. t.now) stood.entry) }
 {
     match stood {
         Some(first) => {
@@ -58,14 +58,14 @@ fn is_translation(header: &Header, row: &StringRecord, stood: Option<&Text>) -> 
 }
 
 fn has_other_width(header: &Header, row: &StringRecord) -> bool
-    ensures { result ≡ spec.has_other_width header.now (fields_in row.now) }
+    ensures { result ≡ spec.has_other_width header.now (trimmed_fields row.now) }
 {
     row.len() != header.width()
 }
 
 // Whether a record names its parent only by a slug.
 fn has_slug_alone(header: &Header, row: &StringRecord) -> bool
-    ensures { result ≡ spec.has_slug_alone header.now (fields_in row.now) }
+    ensures { result ≡ spec.has_slug_alone header.now (trimmed_fields row.now) }
 {
     !header.value(Column::QubitParentSlug, row).is_empty()
         && header.value(Column::ParentId, row).is_empty()
@@ -73,7 +73,7 @@ fn has_slug_alone(header: &Header, row: &StringRecord) -> bool
 
 // Whether a field that is read is too long.
 fn is_long(header: &Header, row: &StringRecord) -> bool
-    ensures { result ≡ spec.is_long header.now (fields_in row.now) }
+    ensures { result ≡ spec.is_long header.now (trimmed_fields row.now) }
 {
     Column::all()
         .iter()
@@ -84,7 +84,7 @@ impl Findings {
     /// What is found in the record of this row. `stood` is the culture of the first row with its
     /// legacyId, if there is one.
     pub fn of(header: &Header, row: &StringRecord, stood: Option<&Text>, number: u32) -> Findings
-        ensures { result ≡ findings header.now (fields_in row.now) (option_map (λ t. t.now) stood.entry) number }
+        ensures { result ≡ findings header.now (trimmed_fields row.now) (option_map (λ t. t.now) stood.entry) number }
     {
         Findings {
             is_blank: is_blank(row),

@@ -2,7 +2,7 @@
 ghost use Rattle.std.specs.Prelude.{◌≡◌, ◌==◌, IfOk, count_by, map, nat_lt, length, position};
 ghost use Rattle.std.specs.List.{list_any};
 ghost use Rattle.atom_csv.specs.Columns.{columns, column_name};
-ghost use Rattle.atom_csv.specs.Fields.{field_in, fields_in, is_column_name, borrowed_fields};
+ghost use Rattle.atom_csv.specs.Fields.{field_at_place, trimmed_fields, is_column_name, borrowed_fields};
 ghost use Rattle.atom_csv.specs.Fields as spec;
 ghost use Rattle.atom_csv.specs.FileContents.{header_causes, lowest};
 
@@ -15,7 +15,7 @@ use std::marker::Model;
 
 // The fields of a record, without white space at their ends.
 fn names(alloc: Global, row: &StringRecord) -> Result<Vec<&str>, AllocError>
-    ensures { IfOk result (λ v. borrowed_fields v.items ≡ fields_in row.now) }
+    ensures { IfOk result (λ v. borrowed_fields v.items ≡ trimmed_fields row.now) }
 {
     let mut names = Vec::new(alloc);
     for field in row.iter() {
@@ -68,7 +68,7 @@ fn places(alloc: Global, header: &[&str]) -> Result<Vec<Option<usize>>, AllocErr
 
 // The field of a record at an index, without white space at its ends; empty if there is none.
 fn field_at<'r>(row: &'r StringRecord, place: Option<usize>) -> &'r str
-    ensures { result.now ≡ field_in place (fields_in row.now) }
+    ensures { result.now ≡ field_at_place place (trimmed_fields row.now) }
 {
     match place {
         Some(i) => trim(row.get(i).unwrap_or("")),
@@ -98,7 +98,7 @@ impl<'a> Model for Header<'a> {
 impl<'a> Header<'a> {
     /// The header in a record.
     pub fn of(alloc: Global, row: &'a StringRecord) -> Result<Header<'a>, AllocError>
-        ensures { IfOk result (λ h. h ≡ fields_in row.now) }
+        ensures { IfOk result (λ h. h ≡ trimmed_fields row.now) }
     {
         let names = names(alloc, row)?;
         let places = places(alloc, names.as_slice())?;
@@ -121,7 +121,7 @@ impl<'a> Header<'a> {
 
     /// The field of a record in a column, without white space at its ends; empty if there is none.
     pub fn value<'r>(&self, column: Column, row: &'r StringRecord) -> &'r str
-        ensures { result.now ≡ spec.value column self.now (fields_in row.now) }
+        ensures { result.now ≡ spec.value column self.now (trimmed_fields row.now) }
     {
         field_at(row, self.places[column as usize])
     }

@@ -2,7 +2,7 @@
 ghost use Rattle.std.specs.Prelude.{◌≡◌, IfOk, OnOk, fold};
 ghost use Rattle.std.specs.String.{string_bytes};
 ghost use Rattle.atom_csv.specs.Entries.{entries, with_entry};
-ghost use Rattle.atom_csv.specs.Fields.{fields_in};
+ghost use Rattle.atom_csv.specs.Fields.{trimmed_fields};
 ghost use Rattle.atom_csv.specs.Values.{text_in_columns, told_by};
 
 use crate::column::{Column, columns};
@@ -55,7 +55,7 @@ pub fn join_entries(
     row: &StringRecord,
     element: Element,
 ) -> Result<String, AllocError>
-    ensures { IfOk result (λ t. string_bytes t ≡ text_in_columns header.now (fields_in row.now) element) }
+    ensures { IfOk result (λ t. string_bytes t ≡ text_in_columns header.now (trimmed_fields row.now) element) }
 {
     let mut text = String::new(alloc);
     for column in columns(element) {

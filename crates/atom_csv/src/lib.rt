@@ -16,5 +16,6 @@ mod rows;
 mod trim;
 mod values;
 
+pub use cause::Cause;
 pub use file::{File, FileFault, Row};
 pub use read::read_file;

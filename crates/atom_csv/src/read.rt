@@ -3,7 +3,7 @@ ghost use Rattle.std.specs.Prelude.{◌≡◌, Err, IfErr, IfOk, Ok, map};
 ghost use Rattle.atom_csv.specs.Fields.{trimmed};
 ghost use Rattle.atom_csv.specs.FileContents.{file_of};
 ghost use Rattle.atom_csv.specs.FileContents as spec;
-ghost use Rattle.atom_csv.specs.ReadProgress.{IsBad};
+ghost use Rattle.atom_csv.specs.ReadProgress.{IfBad};
 ghost use Rattle.atom_csv.specs.Source.{IsReading, rows_left};
 
 use crate::cause::Cause;
@@ -18,7 +18,7 @@ use std::alloc::Global;
 fn below(alloc: Global, header: &Header, reader: &mut Reader<&[u8]>) -> Result<File, FileFault>
     requires { IsReading reader.old }
     ensures rows { IfOk result (λ f. spec.file_below header.now (map (map trimmed) (rows_left reader.old)) ≡ Ok f) }
-    ensures bad { IfErr result (λ e. IsBad e (λ at cause.
+    ensures bad { IfErr result (λ e. IfBad e (λ at cause.
         spec.file_below header.now (map (map trimmed) (rows_left reader.old)) ≡ Err (at, cause))) }
 {
     let mut rows = Rows::new(alloc);
@@ -37,7 +37,7 @@ fn below(alloc: Global, header: &Header, reader: &mut Reader<&[u8]>) -> Result<F
 // Reads the records of a text.
 fn of_text(alloc: Global, text: &str) -> Result<File, FileFault>
     ensures rows { IfOk result (λ f. spec.of_records (spec.records_of text.now) ≡ Ok f) }
-    ensures bad { IfErr result (λ e. IsBad e (λ at cause.
+    ensures bad { IfErr result (λ e. IfBad e (λ at cause.
         spec.of_records (spec.records_of text.now) ≡ Err (at, cause))) }
 {
     let mut reader = reader(alloc, text);
@@ -61,7 +61,7 @@ pub fn read_file(alloc: Global, bytes: &[u8]) -> Result<File, FileFault>
     // If it returns a file, it is the one that the bytes encode.
     ensures rows { IfOk result (λ f. file_of bytes.now ≡ Ok f) }
     // A fault has the first row with a cause, and its lowest cause.
-    ensures bad { IfErr result (λ e. IsBad e (λ row cause. file_of bytes.now ≡ Err (row, cause))) }
+    ensures bad { IfErr result (λ e. IfBad e (λ row cause. file_of bytes.now ≡ Err (row, cause))) }
 {
     match str::from_utf8(bytes) {
         Ok(text) => of_text(alloc, text),

@@ -4,7 +4,7 @@ ghost use Rattle.std.specs.Prelude.{IfOk, OnOk, None, Some};
 ghost use Rattle.std.specs.BTreeMap.{get_by_text};
 ghost use Rattle.std.specs.Str.{bytes_eq, str_eq_ignore_ascii_case};
 ghost use Rattle.isad_core.specs.Texts.{Bytes};
-ghost use Rattle.atom_csv.specs.Fields.{fields_in, has_no_bytes};
+ghost use Rattle.atom_csv.specs.Fields.{trimmed_fields, has_no_bytes};
 ghost use Rattle.atom_csv.specs.Values.{nonblank};
 ghost use Rattle.atom_csv.specs.FileContents as spec;
 
@@ -41,7 +41,7 @@ fn row_of(
     row: &StringRecord,
     number: u32,
 ) -> Result<Row, AllocError>
-    ensures { IfOk result (λ r. r ≡ spec.row_of header.now (fields_in row.now) number) }
+    ensures { IfOk result (λ r. r ≡ spec.row_of header.now (trimmed_fields row.now) number) }
 {
     Ok(Row {
         row: number,
@@ -94,9 +94,9 @@ impl Rows {
     ghost use Rattle.std.specs.Prelude.{OnOk, IfErr, Err, length};
     ghost use Rattle.std.specs.Prelude as std_list;
     ghost use Rattle.isad_core.specs.Limits.{most_rows};
-    ghost use Rattle.atom_csv.specs.Fields.{Fields, fields_in};
+    ghost use Rattle.atom_csv.specs.Fields.{Fields, trimmed_fields};
     ghost use Rattle.atom_csv.specs.FileContents.{file_below};
-    ghost use Rattle.atom_csv.specs.ReadProgress.{IsBad, TellsRows};
+    ghost use Rattle.atom_csv.specs.ReadProgress.{IfBad, TellsRows};
 
     /// The state before the first record below the header.
     pub fn new(alloc: Global) -> Rows
@@ -123,10 +123,10 @@ impl Rows {
         ensures fits { OnOk result (self.new.translations ≤ number) }
         ensures early { OnOk result (number ≤ most_rows + 1) }
         ensures told { OnOk result ((above : std_list.List Fields) → number ≡ length above + 2
-            → TellsRows header.now above self.old → TellsRows header.now (above ++ fields_in row.now ∷ []) self.new) }
-        ensures bad { IfErr result (λ e. IsBad e (λ at cause. (above later : std_list.List Fields)
+            → TellsRows header.now above self.old → TellsRows header.now (above ++ trimmed_fields row.now ∷ []) self.new) }
+        ensures bad { IfErr result (λ e. IfBad e (λ at cause. (above later : std_list.List Fields)
             → number ≡ length above + 2 → TellsRows header.now above self.old
-            → file_below header.now (above ++ fields_in row.now ∷ later) ≡ Err (at, cause))) }
+            → file_below header.now (above ++ trimmed_fields row.now ∷ later) ≡ Err (at, cause))) }
     {
         let id = header.value(Column::LegacyId, row);
         let found = Findings::of(header, row, culture_of(&self.cultures, id), number);

@@ -1,6 +1,6 @@
 //! The values of the description in a record.
 ghost use Rattle.std.specs.Prelude.{◌≡◌, IfOk, map};
-ghost use Rattle.atom_csv.specs.Fields.{fields_in};
+ghost use Rattle.atom_csv.specs.Fields.{trimmed_fields};
 ghost use Rattle.atom_csv.specs.Values.{nonblank, text_in_columns, values_of};
 ghost use Rattle.atom_csv.specs.Values as spec;
 
@@ -20,7 +20,7 @@ fn optional(
     row: &StringRecord,
     element: Element,
 ) -> Result<Option<Text>, AllocError>
-    ensures { IfOk result (λ t. t ≡ nonblank (text_in_columns header.now (fields_in row.now) element)) }
+    ensures { IfOk result (λ t. t ≡ nonblank (text_in_columns header.now (trimmed_fields row.now) element)) }
 {
     let text = join_entries(alloc, header, row, element)?;
     if text.is_empty() {
@@ -36,7 +36,7 @@ fn texts(
     row: &StringRecord,
 ) -> Result<[Option<Text>; 25], AllocError>
     ensures { IfOk result (λ texts. texts
-        ≡ map (λ e. nonblank (text_in_columns header.now (fields_in row.now) e)) spec.text_elements) }
+        ≡ map (λ e. nonblank (text_in_columns header.now (trimmed_fields row.now) e)) spec.text_elements) }
 {
     let mut texts = array::from_fn(|_| None);
     texts[0] = optional(alloc, header, row, Element::ReferenceCode)?;
@@ -49,7 +49,7 @@ fn texts(
 
 /// The values of the description in a record.
 pub fn values(alloc: Global, header: &Header, row: &StringRecord) -> Result<Values, AllocError>
-    ensures { IfOk result (λ v. v ≡ values_of header.now (fields_in row.now)) }
+    ensures { IfOk result (λ v. v ≡ values_of header.now (trimmed_fields row.now)) }
 {
     let names = header.value(Column::PhysicalObjectName, row);
     let locations = header.value(Column::PhysicalObjectLocation, row);

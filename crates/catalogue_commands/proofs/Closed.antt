@@ -8,7 +8,7 @@ use Rattle.catalogue_core.specs.Statuses.{with_closure}
 use Rattle.office_tables.specs.Schema as tables
 use Rattle.office_core.specs.declared.command.Command.TheVariants as command
 use Rattle.office_core.specs.declared.done.Done.TheVariants as done
-use Rattle.refinement.proofs.OpenedUnits.{OnlyOpens, passes}
+use Rattle.access.proofs.OpenedUnits.{OnlyOpens, passes}
 use Rattle.catalogue_commands.proofs.Common.{CanBeJudged, Catalogue, Forest, HasCleanDisk, IsChange, IsLegibleCatalogue}
 use Rattle.catalogue_commands.proofs.Common.{IsSomeDay, IsSoundOffice, OfficeRow, OnlyTouches, OthersAreOpen}
 use Rattle.catalogue_commands.proofs.Common.{Represents, State, Trees, Unit, Version, after, all_so, cut, distinct_ids}

@@ -33,10 +33,10 @@ pub use Rattle.refinement.proofs.Changed.{shown_with}
 pub use Rattle.refinement.proofs.Doings.{catalogue_passed, does_pass, does_refuse, does_then, is_refused, office_passed}
 pub use Rattle.refinement.proofs.Doings.{refuses}
 pub use Rattle.refinement.proofs.Judged.{distinct_ids, judged_with}
-pub use Rattle.refinement.proofs.OpenElsewhere.{none_left, others_open, stays_changed, stays_moved, stays_permitted}
-pub use Rattle.refinement.proofs.OpenElsewhere.{still_open}
-pub use Rattle.refinement.proofs.Passing.{IsChange, passed_freely, passed_where}
 pub use Rattle.refinement.specs.AccessConditions.{CanBeJudged}
-pub use Rattle.refinement.specs.Gate.{AreAsked, AreEnough, OthersAreOpen}
 pub use Rattle.refinement.specs.Representation.{office_of}
+pub use Rattle.access.proofs.OpenElsewhere.{none_left, others_open, stays_changed, stays_moved, stays_permitted}
+pub use Rattle.access.proofs.OpenElsewhere.{still_open}
+pub use Rattle.access.proofs.Passing.{IsChange, passed_freely, passed_where}
+pub use Rattle.access.specs.Gate.{AreAsked, AreEnough, OthersAreOpen}
 pub use Rattle.catalogue_commands.specs.UnitMove.{stands_within}

@@ -13,9 +13,9 @@ use Rattle.desk_store.specs.declared.container_orders.ContainerOrder.{ContainerO
 use Rattle.office_core.specs.declared.command.Command.TheVariants as command
 use Rattle.office_core.specs.declared.done.Done.TheVariants as done
 use Rattle.state_encoding.proofs.LegibleRows.{desk_legible}
-use Rattle.refinement.proofs.Gates.{enough_of}
-use Rattle.refinement.proofs.OpenByPermits.{IsAlike, permitted_left}
 use Rattle.refinement.proofs.PermitFrames.{desk_with_permits}
+use Rattle.access.proofs.Gates.{enough_of}
+use Rattle.access.proofs.OpenByPermits.{IsAlike, permitted_left}
 use Rattle.catalogue_commands.proofs.Common.{AllByRecursion, AreAsked, AreEnough, CanBeJudged, Catalogue, Forest}
 use Rattle.catalogue_commands.proofs.Common.{HasCleanDisk, HasLegibleTexts, IsChange, IsLegibleCatalogue, IsSomeDay}
 use Rattle.catalogue_commands.proofs.Common.{IsSoundOffice, OfficeRow, Permit, Represents, State, Trees, Unit, Version}

@@ -12,7 +12,7 @@ use Rattle.catalogue_core.specs.Statuses.{chosen, chosen_units, is_chosen, with_
 use Rattle.office_tables.specs.Schema as tables
 use Rattle.office_core.specs.declared.command.Command.TheVariants as command
 use Rattle.office_core.specs.declared.done.Done.TheVariants as done
-use Rattle.refinement.proofs.OpenedUnits.{OnlyOpens, passes}
+use Rattle.access.proofs.OpenedUnits.{OnlyOpens, passes}
 use Rattle.catalogue_commands.proofs.Common.{AllByRecursion, CanBeJudged, Catalogue, Forest, HasCleanDisk}
 use Rattle.catalogue_commands.proofs.Common.{HasDistinctIds, IsChange, IsLegibleCatalogue, IsSomeDay, IsSoundOffice}
 use Rattle.catalogue_commands.proofs.Common.{OfficeRow, OnlyTouches, OthersAreOpen, Represents, State, Trees, Unit}

@@ -7,11 +7,11 @@ ghost use Rattle.catalogue_core.specs.GoodCatalogues.{IsSomeDay};
 ghost use Rattle.office_core.specs.declared.command.Command.TheVariants as command;
 ghost use Rattle.refinement.specs.CommandSteps.{PerformsKnowing};
 
+use access::pass_gate_near;
 use catalogue_store::{Places, find_unit, set_closure};
 use isad_core::Day;
 use office_core::{Done, Refusal};
 use office_tables::{Number, StoreFault, Tables};
-use refinement::pass_near;
 use sqlite::Alter;
 use std::alloc::Global;
 
@@ -47,7 +47,7 @@ fn close_known<P: Places, S: Alter>(
     if !is_in_force {
         return Ok(Ok(done));
     }
-    pass_near(alloc, tables, today, unit, done)
+    pass_gate_near(alloc, tables, today, unit, done)
 }
 
 /// Closes a unit until a day, or ends its closure, and tells the unit. Refuses if there is no such unit, or if this

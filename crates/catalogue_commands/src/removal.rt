@@ -6,14 +6,14 @@ ghost use Rattle.desk_store.specs.Holdings.{issued_of};
 ghost use Rattle.office_core.specs.declared.command.Command.TheVariants as command;
 ghost use Rattle.state_encoding.specs.OfficeRows.{tables as tables_of};
 ghost use Rattle.refinement.specs.CommandSteps.{PerformsKnowing};
-ghost use Rattle.refinement.specs.Gate.{AreAsked};
+ghost use Rattle.access.specs.Gate.{AreAsked};
 
+use access::{loans_near, pass_gate_with};
 use catalogue_store::{Places, find_unit, remove_branch};
 use desk_store::ContainerOrder;
 use isad_core::Day;
 use office_core::{Done, Refusal};
 use office_tables::{Number, StoreFault, Tables};
-use refinement::{loans_near, pass_of};
 use sqlite::Alter;
 use std::alloc::Global;
 
@@ -32,7 +32,7 @@ fn remove_beside<P: Places, S: Alter>(
         tables.old tables.new result }
 {
     let units = remove_branch(alloc, tables, unit)?;
-    pass_of(alloc, tables, today, loans, Done::Remove { units })
+    pass_gate_with(alloc, tables, today, loans, Done::Remove { units })
 }
 
 /// Removes a unit that exists and all below it, or refuses if this would close a container to the

@@ -5,11 +5,11 @@ ghost use Rattle.catalogue_core.specs.UnitLookup.{has_unit};
 ghost use Rattle.office_core.specs.declared.command.Command.TheVariants as command;
 ghost use Rattle.refinement.specs.CommandSteps.{PerformsKnowing};
 
+use access::pass_gate_near;
 use catalogue_store::{Places, find_unit, set_status};
 use isad_core::Day;
 use office_core::{Done, Refusal};
 use office_tables::{Number, StoreFault, Tables};
-use refinement::pass_near;
 use sqlite::Alter;
 use std::alloc::Global;
 
@@ -32,7 +32,7 @@ fn set_known<P: Places, S: Alter>(
     if !draft {
         return Ok(Ok(done));
     }
-    pass_near(alloc, tables, today, unit, done)
+    pass_gate_near(alloc, tables, today, unit, done)
 }
 
 /// Makes a unit a draft, or publishes it, alone or with all below it. Tells how many units these are, also those that

@@ -29,7 +29,7 @@ pub use Rattle.tree_core.proofs.EachLemmas.{has-each, join-each, nodes-each, pat
 pub use Rattle.tree_core.proofs.Lists.{any_agree, apart_append, eqb_comm, list_any-map}
 pub use Rattle.tree_core.specs.Forest.{Empty, Forest, HasDistinctIds, Node, add, branch, cut, each, has, has_place}
 pub use Rattle.tree_core.specs.Forest.{join, move_last, nodes, path, put_below, put_last, size, tree}
-pub use Rattle.tree_core.specs.Visibility.{public, sharing_paths}
+pub use Rattle.visibility.specs.Visibility.{public, sharing_paths}
 pub use Rattle.atom_csv.specs.FileContents.{FileLine, cause_if, causes, culture, file_of, first_culture}
 pub use Rattle.atom_csv.specs.FileContents.{has_other_width, has_slug_alone, header_causes, is_late, is_long}
 pub use Rattle.atom_csv.specs.FileContents.{is_told_again, legacy, line_fault, line_faults, lines_below, of_records}

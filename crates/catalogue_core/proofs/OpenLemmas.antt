@@ -2,10 +2,10 @@
 use Rattle.std.proofs.Common.{◌≡◌, inl, inr, ℕ, ◌+◌, ◌*◌, ℤ, Bool, true, false, cond, not, ◌&&◌, ◌||◌, List, [], ◌∷◌}
 use Rattle.std.proofs.Common.{◌++◌, map, filter, Some, None, nat_eq, refl, sym, ap, ap₂, subst, ◌∙◌, append_assoc}
 use Rattle.tree_core.proofs.LinkPaths.{parts, other_id}
-use Rattle.tree_core.proofs.MarkWalks.{list_all-append}
-use Rattle.tree_core.proofs.Sharing.{open_by_paths}
-use Rattle.tree_core.specs.Marks.{is_closed as is_mark_closed, withholds, contents_paths, IsNumbered}
-use Rattle.tree_core.specs.declared.marks.Mark.{Mark}
+use Rattle.visibility.proofs.MarkWalks.{list_all-append}
+use Rattle.visibility.proofs.Sharing.{open_by_paths}
+use Rattle.visibility.specs.Marks.{is_closed as is_mark_closed, withholds, contents_paths, IsNumbered}
+use Rattle.visibility.specs.declared.marks.Mark.{Mark}
 use Rattle.catalogue_core.specs.ContainerContents.{is_open}
 use Rattle.catalogue_core.specs.OpenMarks.{with_permit, mark_for, is_opened_above, is_clean_by_marks, OpenByMarks}
 use Rattle.catalogue_core.specs.OpenMarks.{NumbersTellNothing, MarksSayClean}

@@ -8,6 +8,8 @@ use Rattle.isad_core.specs.Limits.{most_deep}
 use Rattle.isad_core.specs.Texts.{Bytes}
 use Rattle.isad_core.specs.declared.values.BoxKey.{BoxKey}
 use Rattle.isad_core.specs.Boxes.{distinct, is_same_box}
+use Rattle.atom_csv.specs.Causes.{cause_number}
+use Rattle.atom_csv.specs.declared.cause.Cause.TheVariants.{NoParent, TooDeep}
 use Rattle.atom_csv.specs.declared.file.Row.{Row}
 use Rattle.tree_core.specs.Forest.{Forest, Empty, Node, nodes, has, path, each, join}
 use Rattle.catalogue_core.specs.Units.{Unit, is_from}
@@ -44,10 +46,10 @@ depth_under f source (Some parent) (row ∷ above) =
     if has_legacy parent row then option_map suc (depth_under f source row.parent above)
     else depth_under f source (Some parent) above
 
--- 11: no such parent; 12: too deep
+-- why it cannot be placed, by the cause's number
 abbrev pub cause_at : Option ℕ → Option ℕ
-cause_at None = Some 11
-cause_at (Some depth) = if nat_lt most_deep depth then Some 12 else None
+cause_at None = Some (cause_number NoParent)
+cause_at (Some depth) = if nat_lt most_deep depth then Some (cause_number TooDeep) else None
 
 -- the new rows that have a cause, each by its number in the file, with that cause
 abbrev pub faults_below : Forest Unit → Bytes → List Row → List Row → List (ℕ × ℕ)

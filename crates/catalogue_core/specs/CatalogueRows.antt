@@ -6,7 +6,7 @@ use Rattle.isad_core.specs.Texts.{Bytes}
 use Rattle.isad_core.specs.declared.values.BoxKey.{BoxKey}
 use Rattle.tree_core.specs.Forest.{Forest, Empty, Node}
 use Rattle.tree_core.specs.Links.{siblings}
-use Rattle.tree_core.specs.Spans.{number_from}
+use Rattle.tree_core.specs.Spans.{spans_from}
 use Rattle.tree_core.specs.Steps.{is_at}
 use Rattle.tree_core.specs.declared.rows.Link.{Link}
 use Rattle.tree_core.specs.declared.rows.Span.{Span}
@@ -83,7 +83,7 @@ pub data PlaceRows : Type 0 where
 
 abbrev pub place_rows : TreeEncoding → Forest ℕ → PlaceRows
 place_rows Links f = LinkRows (siblings f)
-place_rows Spans f = SpanRows (number_from 1 f)
+place_rows Spans f = SpanRows (spans_from 1 f)
 
 -- ---- all of them but the office's own
 

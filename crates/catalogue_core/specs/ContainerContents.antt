@@ -3,7 +3,7 @@ use Rattle.std.specs.Prelude.{ℕ, ℤ, Bool, true, false, not, ◌&&◌, List, 
 use Rattle.std.specs.List.{list_any, list_all}
 use Rattle.isad_core.specs.declared.values.BoxKey.{BoxKey}
 use Rattle.tree_core.specs.Forest.{Forest, Empty, Node}
-use Rattle.tree_core.specs.Visibility.{is_withheld}
+use Rattle.visibility.specs.Visibility.{is_withheld}
 use Rattle.catalogue_core.specs.Units.{Unit, is_unit_closed}
 use Rattle.isad_core.specs.Boxes.{is_same_box}
 

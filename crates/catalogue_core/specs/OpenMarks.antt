@@ -4,8 +4,8 @@ use Rattle.std.specs.List.{list_any, list_all}
 use Rattle.isad_core.specs.declared.values.BoxKey.{BoxKey}
 use Rattle.isad_core.specs.Boxes.{is_same_box}
 use Rattle.tree_core.specs.Forest.{Forest, Empty, Node, nodes, each, has, path, tree, HasDistinctIds}
-use Rattle.tree_core.specs.Marks.{IsNumbered, withholds, contents_paths}
-use Rattle.tree_core.specs.declared.marks.Mark.{Mark}
+use Rattle.visibility.specs.Marks.{IsNumbered, withholds, contents_paths}
+use Rattle.visibility.specs.declared.marks.Mark.{Mark}
 use Rattle.catalogue_core.specs.ContainerContents.{is_some_there, is_open}
 use Rattle.catalogue_core.specs.UnitMarks.{mark_of, without_number, AreMarks, AreWalkMarks}
 use Rattle.catalogue_core.specs.Pages.{before_last}

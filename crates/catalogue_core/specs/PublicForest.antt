@@ -4,7 +4,7 @@ use Rattle.isad_core.specs.Texts.{Bytes}
 use Rattle.isad_core.specs.Values.{identifier}
 use Rattle.isad_core.specs.declared.values.Values.{Values}
 use Rattle.tree_core.specs.Forest.{Forest, each}
-use Rattle.tree_core.specs.Visibility.{public}
+use Rattle.visibility.specs.Visibility.{public}
 use Rattle.catalogue_core.specs.Units.{Unit, is_unit_closed}
 
 -- A unit as the public knows it: its description or, if it is closed, only its identifier, its level, and the day on

@@ -3,8 +3,8 @@ use Rattle.std.specs.Prelude.{◌≡◌, ℕ, nat_eq, Bool, false, List, map, Op
 use Rattle.std.specs.List.{list_any}
 use Rattle.isad_core.specs.declared.values.BoxKey.{BoxKey}
 use Rattle.tree_core.specs.Forest.{Forest, nodes, each, tree}
-use Rattle.tree_core.specs.Marks.{IsNumbered}
-use Rattle.tree_core.specs.declared.marks.Mark.{Mark}
+use Rattle.visibility.specs.Marks.{IsNumbered}
+use Rattle.visibility.specs.declared.marks.Mark.{Mark}
 use Rattle.catalogue_core.specs.ContainerContents.{is_some_there}
 use Rattle.catalogue_core.specs.CatalogueMerge.{box_number}
 use Rattle.catalogue_core.specs.Units.{Unit}

@@ -15,7 +15,7 @@ use Rattle.refinement.proofs.Frames.{desk_kept}
 use Rattle.refinement.proofs.Tellings.{looked_crash}
 use Rattle.refinement.specs.AccessConditions.{RepresentsWhole}
 use Rattle.refinement.specs.CommandSteps.{CarriesOut, CarriesOutStep}
-use Rattle.refinement.specs.Gate.{gate_reply, unless_refused}
+use Rattle.access.specs.Gate.{gate_reply, unless_refused}
 use Rattle.csv_import.specs.PendingImport.{ReadsCatalogue}
 use Rattle.csv_import.specs.declared.row_entry.Outcome.{Outcome}
 use Rattle.csv_import.specs.declared.row_plan.Planned.{Planned}

@@ -83,8 +83,8 @@ pub use Rattle.office_core.specs.declared.done.Remark.{Remark}
 pub use Rattle.office_core.specs.declared.done.Remark.TheVariants.{LacksEssential, LevelTooHigh}
 pub use Rattle.refinement.proofs.Doings.{accepted, catalogue_passed, does_pass, does_then, is_refused, makes_passed}
 pub use Rattle.refinement.proofs.Doings.{makes_passed_later, refused, tells_full, tells_passed, tells_passed_later}
-pub use Rattle.refinement.proofs.Passing.{if_ok_then, if_ok_with}
 pub use Rattle.refinement.specs.Representation.{RepresentsState, office_of}
+pub use Rattle.access.proofs.Passing.{if_ok_then, if_ok_with}
 pub use Rattle.csv_import.specs.AncestorPaths.{ComeTo, IsWay, above_way, numbers_of, path_at}
 pub use Rattle.csv_import.specs.Arrivals.{BringUnits, IsReady, KnowsNumbers, arrival_at, arrival_of, arrivals_from}
 pub use Rattle.csv_import.specs.Arrivals.{arrivals_of}

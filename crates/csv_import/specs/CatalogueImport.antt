@@ -14,7 +14,7 @@ use Rattle.office_core.specs.SoundOffice.{HasLegibleSettings}
 use Rattle.office_core.specs.State.{State}
 use Rattle.office_core.specs.declared.done.Done.{Done}
 use Rattle.office_core.specs.declared.done.Done.TheVariants as done
-use Rattle.refinement.specs.Gate.{gate_reply}
+use Rattle.access.specs.Gate.{gate_reply}
 use Rattle.refinement.specs.AccessConditions.{CanBeJudged}
 use Rattle.csv_import.specs.RowPlan.{new_of}
 use Rattle.csv_import.specs.Remarks.{HasEntered}

@@ -3,6 +3,8 @@ use Rattle.std.specs.Prelude.{◌≡◌, ℕ, suc, if◌then◌else◌, nat_lt, 
 use Rattle.std.specs.Prelude.{Ok, Err}
 use Rattle.isad_core.specs.Limits.{most_deep}
 use Rattle.isad_core.specs.Texts.{Bytes}
+use Rattle.atom_csv.specs.Causes.{cause_number}
+use Rattle.atom_csv.specs.declared.cause.Cause.TheVariants.{NoParent, TooDeep}
 use Rattle.atom_csv.specs.declared.file.Row.{Row}
 use Rattle.tree_core.specs.Forest.{Forest}
 use Rattle.catalogue_core.specs.Intake.{is_new}
@@ -29,10 +31,10 @@ plan_of f source rows = as_plan (or_first (faults_below f source [] (new_of f so
 
 -- ---- one row
 
--- 11: its parent does not exist; 12: it would lie too deep
+-- how a new row at this depth is placed, or why it cannot be
 abbrev pub at_depth : Option ℕ → Placing
-at_depth None = placing.Faulty 11
-at_depth (Some depth) = if nat_lt most_deep depth then placing.Faulty 12 else placing.Fits (suc depth)
+at_depth None = placing.Faulty (cause_number NoParent)
+at_depth (Some depth) = if nat_lt most_deep depth then placing.Faulty (cause_number TooDeep) else placing.Fits (suc depth)
 
 -- how a row is placed: `above` has the new rows above it in the file, the nearest first
 abbrev pub placing_of : Forest Unit → Bytes → List Row → Row → Placing

@@ -20,6 +20,7 @@ use crate::pending_import::Import;
 use crate::remarks::remarks;
 use crate::row_entry::{Outcome, enter_rows};
 use crate::row_plan::{Planned, plan};
+use access::pass_gate;
 use atom_csv::{File, FileFault, read_file};
 use catalogue_statements::office::{count_containers, count_units};
 use catalogue_store::{Places, settings};
@@ -27,7 +28,6 @@ use isad_core::limits::{MOST_CONTAINERS, MOST_UNIT_NUMBERS, MOST_UNITS};
 use isad_core::{Day, Text};
 use office_core::{Done, Refusal};
 use office_tables::{StoreFault, Tables};
-use refinement::pass;
 use sqlite::Alter;
 use std::alloc::Global;
 
@@ -98,7 +98,7 @@ fn judge<P: Places, S: Alter>(
         same: counts.same,
         translations: u64::from(file.translations),
     };
-    pass(alloc, tables, today, done)
+    pass_gate(alloc, tables, today, done)
 }
 
 /// Imports a file that was read, or refuses it if one of its rows cannot be placed or there is no room for the new

@@ -17,18 +17,12 @@ ghost use Rattle.csv_import.specs.RowPlan.{KnowsDepths, at_depth, placing_of, pl
 use crate::ancestor_depths::depths_below_many;
 use crate::legacy::{DepthsBelow, UnitNumbers, kept_number, remember};
 use crate::paths::path_of;
-use atom_csv::Row;
+use atom_csv::{Cause, Row};
 use catalogue_store::Places;
 use isad_core::limits::MOST_DEEP;
 use office_tables::{StoreFault, Tables};
 use sqlite::Alter;
 use std::alloc::Global;
-
-/// Why a row cannot be placed: its parent does not exist.
-const NO_PARENT: u8 = 11;
-
-/// Why a row cannot be placed: it would lie too deep.
-const TOO_DEEP: u8 = 12;
 
 /// What is known about the rows of a file before any is entered.
 #[derive(Clone, Copy)]
@@ -87,8 +81,12 @@ fn placing_at(depth: Option<u64>) -> Placing
     ensures { result ≡ at_depth depth }
 {
     match depth {
-        None => Placing::Faulty { cause: NO_PARENT },
-        Some(depth) if depth > MOST_DEEP => Placing::Faulty { cause: TOO_DEEP },
+        None => Placing::Faulty {
+            cause: Cause::NoParent.number(),
+        },
+        Some(depth) if depth > MOST_DEEP => Placing::Faulty {
+            cause: Cause::TooDeep.number(),
+        },
         Some(depth) => Placing::Fits { below: depth + 1 },
     }
 }

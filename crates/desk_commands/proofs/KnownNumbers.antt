@@ -4,7 +4,7 @@ use Rattle.std.proofs.Common.{refl, sym, ap, subst, ◌∙◌, arith}
 use Rattle.tree_core.proofs.EachLemmas.{nodes-each}
 use Rattle.office_core.proofs.Places.{out_known}
 use Rattle.office_core.specs.declared.command.Command.TheVariants as command
-use Rattle.refinement.proofs.OpenByRows.{opens_none}
+use Rattle.access.proofs.OpenByRows.{opens_none}
 use Rattle.desk_commands.proofs.Common.{AllByRecursion, IsNumber, IsSoundOffice, Order, Out, State, Unit, cases_Bool}
 use Rattle.desk_commands.proofs.Common.{checks, eqb-true, false≢true, has_id, has_unit, is_container, is_some}
 use Rattle.desk_commands.proofs.Common.{is_ticket, judged_now, list_any, ltb-false, ltb-true, nat_lt, nodes, nth}

@@ -7,10 +7,10 @@ use Rattle.catalogue_core.proofs.DistinctLists.{all_so}
 use Rattle.office_tables.specs.Schema as schema
 use Rattle.office_core.specs.AccessRestrictions.{MayRevoke}
 use Rattle.office_core.specs.declared.command.Command.TheVariants as command
-use Rattle.refinement.proofs.OpenByPermits.{IsAlike, permitted_left}
-use Rattle.refinement.proofs.OpenElsewhere.{none_left, stays_permitted, still_open}
 use Rattle.refinement.proofs.PermitsShown.{revoked_rows}
-use Rattle.refinement.specs.Gate.{OthersAreOpen}
+use Rattle.access.proofs.OpenByPermits.{IsAlike, permitted_left}
+use Rattle.access.proofs.OpenElsewhere.{none_left, stays_permitted, still_open}
+use Rattle.access.specs.Gate.{OthersAreOpen}
 use Rattle.desk_commands.proofs.Common.{AllByRecursion, AreTexts, CanBeJudged, Database, Forest, IsLegible}
 use Rattle.desk_commands.proofs.Common.{IsSoundOffice, NoPermit, OnlyTouches, Permit, PermitRow, RepresentsDesk}
 use Rattle.desk_commands.proofs.Common.{RepresentsState, State, Trees, Unit, UnknownTicket, UnknownUnit, Version, after}

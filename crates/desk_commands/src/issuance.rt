@@ -14,13 +14,13 @@ ghost use Rattle.refinement.specs.CommandSteps.{PerformsKnowing};
 ghost use Rattle.desk_commands.specs.Issuance.{IsQueuedFor, asked_for};
 
 use crate::container_moves::hand_over;
+use access::is_open_to;
 use catalogue_store::Places;
 use desk_core::{AtDesk, Limits, Place, Reader, known_container, may_issue};
 use desk_store::{OrderState, QueueHead, WaitingOrder, queue_head, ticket_holder};
 use isad_core::Day;
 use office_core::{Done, Refusal};
 use office_tables::{StoreFault, Tables, known_number};
-use refinement::is_open_to;
 use sqlite::Alter;
 use std::alloc::Global;
 

@@ -9,13 +9,13 @@ ghost use Rattle.refinement.specs.ReadingRoomLimits.{limits_of};
 ghost use Rattle.refinement.specs.CommandSteps.{PerformsKnowing};
 ghost use Rattle.desk_commands.specs.OrderPlacement.{IsCardOf, MayPlaceOrder, ask_of};
 
+use access::is_open_to;
 use catalogue_store::Places;
 use desk_core::{Ask, Limits, may_order};
 use desk_store::{LiveOrder, ReaderCard, append_order, reader};
 use isad_core::Day;
 use office_core::{Done, Refusal};
 use office_tables::{StoreFault, Tables, known_number};
-use refinement::is_open_to;
 use sqlite::Alter;
 use std::alloc::Global;
 

@@ -8,12 +8,12 @@ ghost use Rattle.refinement.specs.CommandSteps.{PerformsKnowing};
 ghost use Rattle.office_core.specs.AccessRestrictions.{MayRevoke};
 
 use crate::permits::last_day;
+use access::pass_gate_near;
 use catalogue_store::{Places, is_unit};
 use desk_store::{is_registered, permits, revoke};
 use isad_core::Day;
 use office_core::{Done, Refusal};
 use office_tables::{StoreFault, Tables, known_number};
-use refinement::pass_near;
 use sqlite::Alter;
 use std::alloc::Global;
 
@@ -31,7 +31,7 @@ fn take_back<P: Places, S: Alter>(
     let reader = known_number(ticket)?;
     let read = known_number(unit)?;
     revoke(tables, reader, read)?;
-    pass_near(alloc, tables, today, read, Done::Revoke { unit })
+    pass_gate_near(alloc, tables, today, read, Done::Revoke { unit })
 }
 
 /// Revokes a permit that may or may not exist. The ticket and the unit exist.

@@ -10,7 +10,7 @@ ghost use Rattle.office_core.specs.declared.command.Command.TheVariants as comma
 ghost use Rattle.office_tables.specs.Calls.{Answers};
 ghost use Rattle.office_tables.specs.Premises.{◌within◌gives◌};
 ghost use Rattle.state_encoding.specs.OfficeRows.{tables as rows_of};
-ghost use Rattle.refinement.specs.KnownUnits.{AreTold, open_ones};
+ghost use Rattle.access.specs.KnownUnits.{AreTold, open_ones};
 ghost use Rattle.refinement.specs.ReadingRoomLimits.{limits_of};
 ghost use Rattle.refinement.specs.CommandSteps.{PerformsKnowing};
 ghost use Rattle.refinement.specs.AccessConditions.{CanBeJudged, RepresentsWhole};
@@ -18,13 +18,13 @@ ghost use Rattle.desk_commands.specs.RunCreation.{open_orders, taken_by};
 
 use crate::container_moves::move_all;
 use crate::emptiness::are_none;
+use access::{OpenOrders, open_among};
 use catalogue_store::Places;
 use desk_core::{Limits, Place};
 use desk_store::{ContainerOrder, first_orders, on_shelf, record_run};
 use isad_core::Day;
 use office_core::{Done, Refusal};
 use office_tables::{StoreFault, Tables};
-use refinement::{OpenOrders, open_among};
 use sqlite::Alter;
 use std::alloc::{AllocError, Global};
 use std::collections::BTreeMap;

@@ -2,7 +2,7 @@
 use Rattle.std.proofs.Common.{◌≡◌, ℕ, List, [], ◌∷◌, ◌++◌, None, Ok, Err, refl, sym, ap, ◌∙◌}
 use Rattle.std.proofs.Math.Path.{fun_ext}
 use Rattle.isad_core.specs.Boxes.{distinct}
-use Rattle.atom_csv.specs.ReadProgress.{IsBad}
+use Rattle.atom_csv.specs.ReadProgress.{IfBad}
 use Rattle.atom_csv.specs.declared.file.FileFault.{FileFault}
 use Rattle.atom_csv.specs.declared.file.FileFault.TheVariants.{Bad, Memory}
 use Rattle.finding_aids.specs.Preview.{after_merging}
@@ -51,8 +51,8 @@ preview_refused at rows row cause h =
     ap (after_merging at) (merge-rows rows ∙ ap (λ (fs : List (ℕ × ℕ)). or_first fs (merged empty_catalogue [] rows (numbered_from Empty [] 1 [] rows))) h.1)
 
 -- a fault that tells a row and its cause tells what follows from them
-pub bad_after : (P Q : ℕ → ℕ → Type 0) → ((row cause : ℕ) → P row cause → Q row cause) → (e : FileFault) → IsBad e P
-    → IsBad e Q
+pub bad_after : (P Q : ℕ → ℕ → Type 0) → ((row cause : ℕ) → P row cause → Q row cause) → (e : FileFault) → IfBad e P
+    → IfBad e Q
 bad_after P Q f Memory h = tt
 bad_after P Q f (Bad row cause) h = f row cause h
 

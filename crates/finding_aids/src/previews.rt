@@ -1,6 +1,6 @@
 //! What a file would show if it were published.
 ghost use Rattle.std.specs.Prelude.{◌≡◌, [], IfErr, IfOk, Ok, Err};
-ghost use Rattle.atom_csv.specs.ReadProgress.{IsBad};
+ghost use Rattle.atom_csv.specs.ReadProgress.{IfBad};
 ghost use Rattle.catalogue_core.specs.CatalogueMerge.{empty_catalogue, merge};
 ghost use Rattle.finding_aids.specs.Preview.{after_merging, preview_of};
 
@@ -24,7 +24,7 @@ pub fn preview(alloc: Global, file: &[u8], country: &str, repo: &str) -> Result<
         preview_of (record { country = country.now; repo = repo.now }) file.now ≡ Ok text.items) }
 
     // The first row with a cause, and its lowest cause: of the file or, if it has none, of its merge.
-    ensures bad { IfErr result (λ e. IsBad e (λ row cause.
+    ensures bad { IfErr result (λ e. IfBad e (λ row cause.
         preview_of (record { country = country.now; repo = repo.now }) file.now ≡ Err (row, cause))) }
 {
     let file = read_file(alloc, file)?;
@@ -41,7 +41,7 @@ fn preview_rows(
     ensures text { IfOk result (λ text.
         after_merging (record { country = country.now; repo = repo.now }) (merge empty_catalogue [] rows.now)
         ≡ Ok text.items) }
-    ensures bad { IfErr result (λ e. IsBad e (λ row cause.
+    ensures bad { IfErr result (λ e. IfBad e (λ row cause.
         after_merging (record { country = country.now; repo = repo.now }) (merge empty_catalogue [] rows.now)
         ≡ Err (row, cause))) }
 {

@@ -1,7 +1,7 @@
 -- What is withheld from a reader and what the public sees of a small forest, worked out by hand.
 use Rattle.std.specs.Prelude.{◌≡◌, ℕ, Bool, true, false, List, [], ◌∷◌, nat_eq}
 use Rattle.tree_core.specs.Forest.{Empty, Node}
-use Rattle.tree_core.specs.Visibility.{is_withheld, public}
+use Rattle.visibility.specs.Visibility.{is_withheld, public}
 use Rattle.tree_core.specs.WorkedExamples.{leaf}
 
 -- 1 is a draft and 2 is closed; the reader has a permit for 3

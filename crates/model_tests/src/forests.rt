@@ -5,9 +5,9 @@ ghost use Rattle.std.specs.Prelude.{◌<◌, ◌^◌, vec_len};
 use std::alloc::AllocError;
 use std::test::Fail;
 use tree_core::{
-    Kept, Link, LinkFault, Mark, Span, SpanFault, check_links, check_spans, clean_contents,
-    clean_path, links, prune, spans, spans_of_links,
+    Link, LinkFault, Span, SpanFault, check_links, check_spans, links, spans, spans_of_links,
 };
+use visibility::{Kept, Mark, clean_contents, clean_path, prune};
 
 const fn link(id: u64, parent: Option<u64>, ord: u32) -> Link {
     Link { id, parent, ord }

@@ -63,11 +63,11 @@ pub use Rattle.tree_core.specs.Forest.{move_last, nodes, path, size, tree}
 pub use Rattle.tree_core.specs.Lifts.{lifted_row}
 pub use Rattle.tree_core.specs.Shifts.{end_of, inside, is_inside, lowered, narrowed, outside, raised, rebased, room}
 pub use Rattle.tree_core.specs.Shifts.{spread, start_of, widened}
-pub use Rattle.tree_core.specs.Spans.{RepresentsSpans, number_from}
+pub use Rattle.tree_core.specs.Spans.{RepresentsSpans, spans_from}
 pub use Rattle.tree_core.specs.Tops.{below_first, last_but_one, part_below, right_above, tops}
 pub use Rattle.tree_core.specs.declared.arrivals.Arrival.{Arrival}
-pub use Rattle.tree_core.specs.declared.marks.Mark.{Mark}
 pub use Rattle.tree_core.specs.declared.rows.Span.{Span}
+pub use Rattle.visibility.specs.declared.marks.Mark.{Mark}
 pub use Rattle.catalogue_core.specs.Bounds.{IsBounded, IsKept, IsLegibleUnit}
 pub use Rattle.catalogue_core.specs.CatalogueMerge.{Catalogue, box_number}
 pub use Rattle.catalogue_core.specs.MarkLookup.{mark_at, marks_at}
@@ -132,7 +132,7 @@ pub use Rattle.nested_sets.specs.Ranges.{shifted_first, shifted_last, shifted_sp
 pub use Rattle.nested_sets.specs.Representation.{HoldsSpans, NumbersPart, RepresentsSpanRows, same_span_rows}
 pub use Rattle.nested_sets.specs.Rows.{IsLow, answer_cells, by_first, span_row}
 pub use Rattle.nested_sets.specs.SurroundingRows.{BeginBefore, IsAbove, IsAboveFrom, IsBeside, IsReached, IsSought}
-pub use Rattle.nested_sets.specs.SurroundingRows.{SeeksFrom, StandsAt, reaches_over, surrounds}
+pub use Rattle.nested_sets.specs.SurroundingRows.{SeeksFrom, StandsAt, lies_around, reaches_over}
 pub use Rattle.nested_sets.specs.declared.attached_rows.NumberedStatus.{NumberedStatus}
 pub use Rattle.nested_sets.specs.declared.joined_rows.PlacedStatus.{PlacedStatus}
 pub use Rattle.nested_sets.specs.declared.row_types.ToldSpan.{ToldSpan}

@@ -18,10 +18,10 @@ use Rattle.adoption.specs.declared.verdict.Verdict.TheVariants as verdict
 use Rattle.office.proofs.Common.{BlamesDisk, ConfirmsOpen, Database, Executes, Forest, HasAdoptCause, HasCleanDisk}
 use Rattle.office.proofs.Common.{HasOuterCause, Held, Inspects, IsAdopted, IsAsBefore, IsIn, IsLive, IsNotRun}
 use Rattle.office.proofs.Common.{IsSoundOffice, IsVerdict, RepresentsState, Shows, StoreFault, Survives, Trees, Version}
-use Rattle.office.proofs.Common.{early, encoding, open_fault_of, refusal_of, state, state_in, survives_then}
+use Rattle.office.proofs.Common.{early, encoding, fault_for_verdict, open_fault_of, state, state_in, survives_then}
 
 -- no fault is told of a sound office's tables alone
-pub none_refused : (v : Verdict) → refusal_of v ≡ None → v ≡ verdict.Sound
+pub none_refused : (v : Verdict) → fault_for_verdict v ≡ None → v ≡ verdict.Sound
 none_refused verdict.Sound none = refl
 none_refused verdict.NoOffice none = absurd cc
 none_refused verdict.OldVersion none = absurd cc
@@ -37,7 +37,7 @@ sound_shown places version shows db sound =
     sound_state places version db sound (catalogue_shown version db (sound_are_good version db sound) places shows)
 
 -- they were looked over, and no fault is told of them
-module _ {S : Type 0} {g : trees.Ghosts S} {before after : Held S} {version : Version} {told : Verdict} (looked : Inspects g before after version (Ok told)) (none : refusal_of told ≡ None) where
+module _ {S : Type 0} {g : trees.Ghosts S} {before after : Held S} {version : Version} {told : Verdict} (looked : Inspects g before after version (Ok told)) (none : fault_for_verdict told ≡ None) where
   are_sound : HasCleanDisk (state g after) → IsVerdict version (state g before).now verdict.Sound
   are_sound clean = subst (IsVerdict version (state g before).now) (none_refused told none) (looked.answers clean)
 

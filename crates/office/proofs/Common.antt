@@ -20,7 +20,7 @@ pub use Rattle.office_core.specs.declared.command.Command.{Command}
 pub use Rattle.office_core.specs.declared.machine.Reply.{Reply}
 pub use Rattle.refinement.specs.Representation.{RepresentsState, office_of}
 pub use Rattle.adoption.specs.Verdicts.{IsVerdict}
-pub use Rattle.office.specs.Adoption.{HasAdoptCause, IsAdopted, refusal_of, state_in}
+pub use Rattle.office.specs.Adoption.{HasAdoptCause, IsAdopted, fault_for_verdict, state_in}
 pub use Rattle.office.specs.IdleOffice.{IsAsBefore, IsAtRest, IsIn, IsOffice, has_clean_disk, is_shown, is_still_open}
 pub use Rattle.office.specs.Inspection.{ConfirmsOpen, Inspects}
 pub use Rattle.office.specs.NewOffice.{MakesTables, RepresentsNew, new_desk, open_fault_of}

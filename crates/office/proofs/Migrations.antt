@@ -14,12 +14,12 @@ use Rattle.office.specs.Migration.{IsMigrated}
 use Rattle.office.specs.declared.faults.OpenFault.{OpenFault}
 use Rattle.office.specs.declared.faults.OpenFault.TheVariants as fault
 use Rattle.office.proofs.Common.{BlamesDisk, Database, First, HasAdoptCause, HasOuterCause, IsDatabase, IsVerdict}
-use Rattle.office.proofs.Common.{OnlyTouches, RepresentsLinkRows, RepresentsState, Second, StoreFault, open_fault_of}
-use Rattle.office.proofs.Common.{refusal_of, state_in}
+use Rattle.office.proofs.Common.{OnlyTouches, RepresentsLinkRows, RepresentsState, Second, StoreFault}
+use Rattle.office.proofs.Common.{fault_for_verdict, open_fault_of, state_in}
 use Rattle.office.proofs.Adoptions.{none_refused, sound_shown}
 
 -- tables that are judged to be a sound office's
-module _ (db : Database) (told : Verdict) (none : refusal_of told ≡ None) (is : IsVerdict First db told) where
+module _ (db : Database) (told : Verdict) (none : fault_for_verdict told ≡ None) (is : IsVerdict First db told) where
   pub judged_sound : IsVerdict First db verdict.Sound
   judged_sound = subst (IsVerdict First db) (none_refused told none) is
 

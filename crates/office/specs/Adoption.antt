@@ -16,13 +16,13 @@ use Rattle.office.specs.declared.faults.OpenFault.{OpenFault}
 use Rattle.office.specs.declared.faults.OpenFault.TheVariants as fault
 
 -- the fault for tables with this verdict, or none if they are a sound office's
-abbrev pub refusal_of : Verdict → Option OpenFault
-refusal_of verdict.Sound = None
-refusal_of verdict.NoOffice = Some fault.NoOffice
-refusal_of verdict.OldVersion = Some fault.OldVersion
-refusal_of verdict.NewVersion = Some fault.NewVersion
-refusal_of verdict.OtherTables = Some fault.Schema
-refusal_of (verdict.Unsound n) = Some (fault.Unsound n)
+abbrev pub fault_for_verdict : Verdict → Option OpenFault
+fault_for_verdict verdict.Sound = None
+fault_for_verdict verdict.NoOffice = Some fault.NoOffice
+fault_for_verdict verdict.OldVersion = Some fault.OldVersion
+fault_for_verdict verdict.NewVersion = Some fault.NewVersion
+fault_for_verdict verdict.OtherTables = Some fault.Schema
+fault_for_verdict (verdict.Unsound n) = Some (fault.Unsound n)
 
 -- The tables are as the fault says; or there was not enough memory, which may happen at any time; or the disk failed,
 -- or was shut before. If the rows of the tables do not stand in order, the cause of `Schema` is left open.

@@ -1,7 +1,7 @@
 //! Why an office is not opened, and why it is busy.
 
 ghost use Rattle.std.specs.Prelude.{◌≡◌};
-ghost use Rattle.office.specs.Adoption.{refusal_of};
+ghost use Rattle.office.specs.Adoption.{fault_for_verdict};
 ghost use Rattle.office.specs.OfficeCall.{busy_for};
 
 use adoption::Verdict;
@@ -44,8 +44,8 @@ impl From<StoreFault> for OpenFault {
 }
 
 /// Why an office is not opened over tables with this verdict, or none if they are a sound office's.
-pub(crate) fn refusal(verdict: Verdict) -> Option<OpenFault>
-    ensures { result ≡ refusal_of verdict }
+pub(crate) fn fault_for(verdict: Verdict) -> Option<OpenFault>
+    ensures { result ≡ fault_for_verdict verdict }
 {
     match verdict {
         Verdict::Sound => None,

@@ -20,7 +20,7 @@ ghost use Rattle.office.specs.Runs.{IsCall, question_call, command_call};
 ghost use Rattle.refinement.specs.Representation.{RepresentsState};
 
 use crate::commands::apply_to;
-use crate::faults::{OpenFault, busy, refusal};
+use crate::faults::{OpenFault, busy, fault_for};
 use crate::inspection::look_over;
 use crate::names::names_days_and_texts;
 use crate::new_office::found;
@@ -199,7 +199,7 @@ impl<P: CheckedPlaces, S: Alter> Office<P, S> {
             Ok(verdict) => verdict,
             Err(fault) => return Err((OpenFault::from(fault), conn)),
         };
-        match refusal(verdict) {
+        match fault_for(verdict) {
             Some(fault) => Err((fault, conn)),
             None => Ok(Office {
                 closed: Closed::of(conn),

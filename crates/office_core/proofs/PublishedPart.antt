@@ -1,6 +1,6 @@
 -- An office that keeps nothing but what is published answers the public alike.
 use Rattle.std.proofs.Common.{◌≡◌, ℤ, Bool, true, false, cond, Option, Some, None, refl, sym, ap, ap₂, ◌∙◌}
-use Rattle.tree_core.specs.Visibility.{public}
+use Rattle.visibility.specs.Visibility.{public}
 use Rattle.catalogue_core.proofs.PublicPaths.{drafts, known_of, known_where}
 use Rattle.office_core.proofs.Common.{AnswersAlike, BoxKey, Empty, Forest, Node, State, Unit, all_true, box_number}
 use Rattle.office_core.proofs.Common.{boxes_told, each, false≢true, flat_map, is_later, is_unit_closed, nodes}

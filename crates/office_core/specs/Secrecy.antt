@@ -9,7 +9,7 @@ use Rattle.isad_core.specs.declared.display.Page.{Page}
 use Rattle.isad_core.specs.declared.display.Shown.{Shown}
 use Rattle.isad_core.specs.declared.values.Values.{Values}
 use Rattle.tree_core.specs.Forest.{Forest, nodes, each, has, path}
-use Rattle.tree_core.specs.Visibility.{public}
+use Rattle.visibility.specs.Visibility.{public}
 use Rattle.catalogue_core.specs.Units.{Unit, is_unit_closed}
 use Rattle.catalogue_core.specs.CatalogueMerge.{box_number}
 use Rattle.catalogue_core.specs.ContainerContents.{paths}

@@ -2,7 +2,7 @@
 use Rattle.std.specs.Prelude.{◌≡◌, ◌+◌, ◌-◌, ℕ, List, true, false, [], ◌∷◌, Some, None, Ok, codes, replicate}
 use Rattle.isad_core.specs.Limits.{most_deep, most_permits}
 use Rattle.tree_core.specs.Forest.{Forest, each}
-use Rattle.tree_core.specs.Spans.{number_from}
+use Rattle.tree_core.specs.Spans.{spans_from}
 use Rattle.tree_core.specs.Links.{siblings}
 use Rattle.tree_core.specs.WorkedExamples.{span_of, link_of}
 use Rattle.desk_core.specs.declared.refusal.Refusal.TheVariants.{UnknownUnit, UnknownTicket, UnknownContainer}
@@ -232,10 +232,10 @@ numbers_after asked = each (λ (unit : Unit). unit.id) (state_after new_office a
 
 -- the rows of the places: moves renumber, and what is removed leaves no gap
 pub record Placed : Type 0 where
-  pub first : number_from 1 (numbers_after (import docks ∷ [])) ≡ span_of 1 1 4 ∷ span_of 2 2 3 ∷ []
-  pub moved : number_from 1 (numbers_after (import docks ∷ Move 2 None ∷ [])) ≡ span_of 1 1 2 ∷ span_of 2 3 4 ∷ []
+  pub first : spans_from 1 (numbers_after (import docks ∷ [])) ≡ span_of 1 1 4 ∷ span_of 2 2 3 ∷ []
+  pub moved : spans_from 1 (numbers_after (import docks ∷ Move 2 None ∷ [])) ≡ span_of 1 1 2 ∷ span_of 2 3 4 ∷ []
   pub moved_back : siblings (numbers_after (import docks ∷ Move 2 None ∷ Move 2 (Some 1) ∷ []))
       ≡ link_of 1 None 1 ∷ link_of 2 (Some 1) 1 ∷ []
-  pub removed : number_from 1 (numbers_after (import docks ∷ Remove 1 ∷ [])) ≡ []
-  pub again : number_from 1 (numbers_after (import docks ∷ Remove 1 ∷ import docks ∷ [])) ≡ span_of 3 1 4 ∷ span_of 4 2 3 ∷ []
+  pub removed : spans_from 1 (numbers_after (import docks ∷ Remove 1 ∷ [])) ≡ []
+  pub again : spans_from 1 (numbers_after (import docks ∷ Remove 1 ∷ import docks ∷ [])) ≡ span_of 3 1 4 ∷ span_of 4 2 3 ∷ []
   pub refused : (state_after new_office (import parent_later ∷ [])).catalogue.next ≡ 1

@@ -3,7 +3,7 @@ use Rattle.std.proofs.Common.{◌≡◌, ◌∙◌, List, Result, Ok, Err, Optio
 use Rattle.std.proofs.Common.{refl, subst, sym}
 use Rattle.clap.specs.Simple.{subcommand_of}
 use Rattle.clap.specs.Takes.{takes}
-use Rattle.atom_csv.specs.ReadProgress.{IsBad}
+use Rattle.atom_csv.specs.ReadProgress.{IfBad}
 use Rattle.atom_csv.specs.declared.file.FileFault as csv
 use Rattle.atom_csv.specs.declared.file.FileFault.TheVariants as files
 use Rattle.office_core.specs.Rules.{Reply}
@@ -43,7 +43,7 @@ broken_off country repo path reader reader_after out out_after (Err fault) is wh
 -- a file that gives no finding aids ends a preview, and nothing was printed
 pub refused_fails : (country repo : Text) (path : Option Text) (reader reader_after out : Stream) (file : List ℕ) (why : csv.FileFault) (fault : Fault)
     → RefusesFile why fault → ReadsInput path reader reader_after file
-    → IsBad why (λ row cause. preview_result country repo file ≡ Err (row, cause)) → ReadsPart path reader reader_after
+    → IfBad why (λ row cause. preview_result country repo file ≡ Err (row, cause)) → ReadsPart path reader reader_after
     → PreviewFails country repo path reader reader_after out out fault
 refused_fails country repo path reader reader_after out file (files.Bad row cause) (Refused line) told read refused part =
     (file, row, cause, read, refused, told, refl)

@@ -3,7 +3,7 @@ use Rattle.std.proofs.Common.{Result, Ok, Err, OnErr, OnOk, subst, sym}
 use Rattle.sqlite.specs.State.{State}
 use Rattle.sqlite_trees.specs.declared.store.Store as store
 use Rattle.office_tables.specs.Calls.{Answers}
-use Rattle.refinement.proofs.Passing.{if_ok_then}
+use Rattle.access.proofs.Passing.{if_ok_then}
 use Rattle.public_queries.proofs.Common.{Database, HasCleanDisk, Held, IsAborted, LeavesUnchanged, StoreFault, Survives}
 use Rattle.public_queries.proofs.Common.{cut_then, early, excused_then, looks_then, on_err_then, on_ok_then, state}
 

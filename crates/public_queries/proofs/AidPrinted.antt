@@ -2,10 +2,10 @@
 use Rattle.std.proofs.Common.{◌≡◌, ℕ, zero, suc, ◌+◌, ◌<◌, ◌≤◌, Bool, true, false, cond, List, [], ◌∷◌, ◌++◌, length}
 use Rattle.std.proofs.Common.{take, drop, get_or, Option, Some, None, refl, sym, ap, ap₂, ◌∙◌, append_assoc, append-nil}
 use Rattle.std.proofs.Common.{arith, map}
-use Rattle.tree_core.specs.Marks.{public_walk}
-use Rattle.tree_core.specs.Marks as marks
-use Rattle.tree_core.specs.Visibility.{public}
-use Rattle.tree_core.specs.declared.marks.Mark.{Mark}
+use Rattle.visibility.specs.Marks.{public_walk}
+use Rattle.visibility.specs.Marks as marks
+use Rattle.visibility.specs.Visibility.{public}
+use Rattle.visibility.specs.declared.marks.Mark.{Mark}
 use Rattle.catalogue_core.specs.UnitMarks.{mark_of, without_number}
 use Rattle.public_queries.specs.declared.visible_unit.Seen.{Seen}
 use Rattle.public_queries.proofs.Common.{AllByRecursion, BoxKey, Bytes, Catalogue, Empty, Forest, IsOf, KeepsUnits}

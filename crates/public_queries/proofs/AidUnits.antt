@@ -4,7 +4,7 @@ use Rattle.std.proofs.Common.{refl, sym, ap, subst, ◌∙◌, arith, map}
 use Rattle.std.specs.List.{IsDistinct}
 use Rattle.std.specs.Prelude.{find, nat_eq}
 use Rattle.isad_core.specs.Limits.{most_units}
-use Rattle.tree_core.specs.declared.marks.Mark.{Mark}
+use Rattle.visibility.specs.declared.marks.Mark.{Mark}
 use Rattle.catalogue_core.proofs.DistinctLists.{all_so}
 use Rattle.catalogue_core.proofs.EachAfter.{all_tree}
 use Rattle.catalogue_core.proofs.NodeLemmas.{length-nodes}

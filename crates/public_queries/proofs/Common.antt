@@ -18,7 +18,7 @@ pub use Rattle.isad_core.specs.declared.values.BoxKey.{BoxKey}
 pub use Rattle.tree_core.proofs.EachLemmas.{has-each, nodes-each, size-each}
 pub use Rattle.tree_core.specs.Forest.{Empty, Forest, HasDistinctIds, Node, each, has, nodes, path, size, tree, walk}
 pub use Rattle.tree_core.specs.Tops.{below_first, part_below, tops}
-pub use Rattle.tree_core.specs.declared.marks.Kept.{Kept}
+pub use Rattle.visibility.specs.declared.marks.Kept.{Kept}
 pub use Rattle.desk_core.specs.declared.refusal.Refusal.TheVariants.{UnknownUnit}
 pub use Rattle.catalogue_core.proofs.EachOf.{all_append, all_split, some_found}
 pub use Rattle.catalogue_core.proofs.PublicPaths.{known_of, number_known}

@@ -4,7 +4,7 @@ use Rattle.std.proofs.Common.{subst, ◌∙◌, nat_eq}
 use Rattle.std.proofs.lemmas.List.Folds.{list_any-append}
 use Rattle.std.specs.Prelude.{map}
 use Rattle.tree_core.proofs.LinkPaths.{Parts, parts}
-use Rattle.tree_core.specs.Visibility.{public}
+use Rattle.visibility.specs.Visibility.{public}
 use Rattle.public_queries.proofs.Common.{Empty, Forest, HasDistinctIds, Node, PublicUnit, Unit, each, eqb-true}
 use Rattle.public_queries.proofs.Common.{false≢true, has, has-each, has_id, has_public_number, head_of, is_open_on}
 use Rattle.public_queries.proofs.Common.{is_unit_closed, known_of, list_any, nodes, number_known, path, public_of}

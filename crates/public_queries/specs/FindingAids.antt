@@ -8,8 +8,8 @@ use Rattle.isad_core.specs.declared.display.Body.TheVariants.{Full, Closed}
 use Rattle.isad_core.specs.declared.display.Shown.{Shown}
 use Rattle.isad_core.specs.declared.values.BoxKey.{BoxKey}
 use Rattle.tree_core.specs.Forest.{Forest, nodes}
-use Rattle.tree_core.specs.Visibility.{public}
-use Rattle.tree_core.specs.declared.marks.Kept.{Kept}
+use Rattle.visibility.specs.Visibility.{public}
+use Rattle.visibility.specs.declared.marks.Kept.{Kept}
 use Rattle.catalogue_core.specs.Aids.{Repository, numbered_boxes, shown_unit}
 use Rattle.catalogue_core.specs.CatalogueMerge.{Catalogue, box_number}
 use Rattle.catalogue_core.specs.PublicForest.{PublicUnit, Told, Stub, public_unit}

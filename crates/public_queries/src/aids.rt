@@ -26,7 +26,7 @@ use office_core::{Answer, Refusal};
 use office_tables::{Number, StoreFault, Tables};
 use sqlite::Alter;
 use std::alloc::{AllocError, Global};
-use tree_core::{Kept, prune};
+use visibility::{Kept, prune};
 
 /// No office has more units than this: their marks could not be numbered.
 const MOST_MARKS: usize = 1 << 30;

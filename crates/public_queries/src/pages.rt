@@ -21,11 +21,11 @@ use crate::own_rows::is_published;
 use crate::page_lines::{print_closed, print_told};
 use crate::path_heads::{identifiers, shows_last};
 use crate::path_values::with_codes;
+use access::is_closed;
 use catalogue_store::{Head, OfficeRow, Places, UnitValues, heads_below, path_heads, values};
 use isad_core::{List, Shown, Text};
 use office_core::{Answer, Refusal};
 use office_tables::{Number, StoreFault, Tables};
-use refinement::is_closed;
 use sqlite::Alter;
 use std::alloc::{AllocError, Global};
 

@@ -4,9 +4,9 @@ ghost use Rattle.std.specs.Prelude.{◌≡◌, IfOk};
 ghost use Rattle.catalogue_core.specs.Pages.{before_last};
 ghost use Rattle.public_queries.specs.HeadLines.{are_open as all_open, head_identifiers, shows_last as represents};
 
+use access::is_closed;
 use catalogue_store::Head;
 use isad_core::{Day, Text};
-use refinement::is_closed;
 use std::alloc::{AllocError, Global};
 
 /// Whether none of these units is a draft or closed.

@@ -18,7 +18,7 @@ use isad_core::{Body, BoxKey, Day, Element, List, Text};
 use office_tables::{Number, StoreFault, Tables, known_number};
 use sqlite::Alter;
 use std::alloc::{AllocError, Global};
-use tree_core::Kept;
+use visibility::Kept;
 
 /// What the public sees of a unit, except its place.
 #[derive(Drop)]

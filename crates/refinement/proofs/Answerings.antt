@@ -5,14 +5,15 @@ use Rattle.desk_core.specs.DeskRows.{Desk}
 use Rattle.desk_core.specs.LegibleDesks.{IsLegible}
 use Rattle.office_tables.proofs.Causes.{still_unlimited}
 use Rattle.office_tables.proofs.LaterCauses.{next_cause}
+use Rattle.office_tables.specs.Faults.{HasCause, IsUnlimited}
 use Rattle.office_core.specs.Queries.{answer}
 use Rattle.office_core.specs.State.{State}
 use Rattle.office_core.specs.declared.query.Answer.{Answer}
 use Rattle.office_core.specs.declared.query.Query.{Query}
 use Rattle.refinement.specs.QueryAnswers.{AnswersQuery}
-use Rattle.refinement.proofs.Common.{Database, Forest, HasCause, HasCleanDisk, IsAborted, IsErr, IsErrAnd}
-use Rattle.refinement.proofs.Common.{IsSoundOffice, IsUnlimited, LeavesUnchanged, RepresentsDeskAlone, RepresentsState}
-use Rattle.refinement.proofs.Common.{StoreFault, Trees, Version, cut_then, desk_legible, same_fault, tables, ⊤}
+use Rattle.refinement.proofs.Common.{Database, Forest, HasCleanDisk, IsAborted, IsErr, IsErrAnd, IsSoundOffice}
+use Rattle.refinement.proofs.Common.{LeavesUnchanged, RepresentsDeskAlone, RepresentsState, StoreFault, Trees, Version}
+use Rattle.refinement.proofs.Common.{cut_then, desk_legible, same_fault, tables, ⊤}
 
 module _ (places : Trees → Forest ℕ → Type 0) (version : Version) where
   -- what was shown is still shown after a look

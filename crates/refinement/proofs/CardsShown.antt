@@ -1,5 +1,6 @@
 -- What a reader's card tells of an office: his seat, what he holds, and how much he ordered.
 use Rattle.std.proofs.Common.{◌≡◌, ℕ, ℤ, nat_eq, ◌&&◌, length, Option, Some, None, refl, ap, ◌∙◌}
+use Rattle.std.specs.Ordering.{int_eq}
 use Rattle.desk_core.specs.declared.reader.Reader.{Reader as Sitter}
 use Rattle.desk_store.specs.Readers as store
 use Rattle.desk_store.specs.declared.reader_summary.ReaderCard.{ReaderCard}
@@ -7,7 +8,7 @@ use Rattle.office_core.specs.State.{State}
 use Rattle.state_encoding.proofs.OrdersPass.{count_rows}
 use Rattle.refinement.specs.Sitters.{sitter, sitter_of}
 use Rattle.refinement.proofs.Common.{IsSoundOffice, OrderRow, Reader, ReaderRow, Version, card_of, flipped, held_with}
-use Rattle.refinement.proofs.Common.{int_eq, is_some, is_some-map, is_ticket, length-rows, nth, option_map, order_row}
+use Rattle.refinement.proofs.Common.{is_some, is_some-map, is_ticket, length-rows, nth, option_map, order_row}
 use Rattle.refinement.proofs.Common.{orders_not_ended, orders_placed, placed_on, reader_row, reader_with, tables}
 use Rattle.refinement.proofs.Common.{ticket_holder}
 use Rattle.refinement.proofs.HeldShown.{held_shown}

@@ -1,14 +1,17 @@
 -- A command that is refused, and one of the desk that is accepted.
 use Rattle.std.proofs.Common.{◌≡◌, ℕ, true, List, [], ◌∷◌, Some, None, Ok, Err, sym, ap, subst, ◌∙◌}
 use Rattle.desk_core.specs.DeskRows.{Desk}
+use Rattle.desk_core.specs.declared.refusal.Refusal.{Refusal}
 use Rattle.office_tables.specs.Schema as schema
 use Rattle.office_core.proofs.Texts.{always_texts}
+use Rattle.office_core.specs.Rules.{Reply, after, refusal, result_of}
 use Rattle.office_core.specs.State.{State}
+use Rattle.office_core.specs.declared.command.Command.{Command}
 use Rattle.office_core.specs.declared.done.Done.{Done}
 use Rattle.state_encoding.specs.OfficeRows as rows
-use Rattle.refinement.proofs.Common.{AreTexts, CarriesOutStep, Command, Database, Forest, NamesTexts, OnlyTouches}
-use Rattle.refinement.proofs.Common.{Refusal, Reply, RepresentsDesk, RepresentsState, Trees, Version, after}
-use Rattle.refinement.proofs.Common.{catalogue_trees, office_of, refusal, result_of}
+use Rattle.refinement.specs.CommandSteps.{CarriesOutStep}
+use Rattle.refinement.proofs.Common.{AreTexts, Database, Forest, NamesTexts, OnlyTouches, RepresentsDesk}
+use Rattle.refinement.proofs.Common.{RepresentsState, Trees, Version, catalogue_trees, office_of}
 use Rattle.refinement.proofs.DeskSteps.{desk_step}
 use Rattle.refinement.proofs.Doings.{accepted, refused}
 use Rattle.refinement.proofs.Frames.{are_apart}

@@ -1,22 +1,29 @@
 -- How carrying out a command ends, and how a call ends that passes the fault of a step on.
 use Rattle.std.proofs.Common.{◌≡◌, ℕ, List, Option, Some, None, Ok, Err, Result, ap, sym, subst}
+use Rattle.sqlite.specs.Held.{Held, state}
 use Rattle.sqlite.specs.State as store
 use Rattle.sqlite_trees.specs.declared.store.Store as trees
 use Rattle.desk_core.specs.DeskRows.{Desk}
 use Rattle.desk_core.specs.LegibleDesks.{IsLegible}
+use Rattle.desk_core.specs.declared.refusal.Refusal.{Refusal}
+use Rattle.catalogue_core.specs.Bounds.{IsKept}
 use Rattle.office_tables.proofs.CallEnds as ends
 use Rattle.office_tables.proofs.Causes.{still_unlimited}
 use Rattle.office_tables.proofs.LaterCauses.{next_cause}
+use Rattle.office_tables.specs.Calls.{Answers, Updates}
+use Rattle.office_tables.specs.Faults.{HasCause, IsUnlimited}
 use Rattle.office_tables.specs.declared.fault.StoreFault.TheVariants as fault
 use Rattle.office_core.proofs.KeptOffices.{office_kept}
+use Rattle.office_core.specs.Rules.{Reply, after, decide, refusal, result_of, step}
 use Rattle.office_core.specs.State.{State}
-use Rattle.refinement.proofs.Common.{Answers, CanBeJudged, CarriesOut, CarriesOutStep, Catalogue, Command, Continues}
-use Rattle.refinement.proofs.Common.{Database, Forest, Goes, HasCause, HasCleanDisk, Held, IsAborted, IsErr, IsErrAnd}
-use Rattle.refinement.proofs.Common.{IsKept, IsSoundOffice, IsUnlimited, LeavesUnchanged, OfficeRow, Refusal, Reply}
-use Rattle.refinement.proofs.Common.{Represents, RepresentsDeskAlone, RepresentsState, StoreFault, Trees, Updates}
-use Rattle.refinement.proofs.Common.{Version, after, cut_after, cut_then, decide, desk_legible, early, excused_then}
-use Rattle.refinement.proofs.Common.{goes_then, office_of, on_err_then, on_ok_then, refusal, result_of, same_fault}
-use Rattle.refinement.proofs.Common.{state, step, tables, ⊤}
+use Rattle.office_core.specs.declared.command.Command.{Command}
+use Rattle.refinement.specs.AccessConditions.{CanBeJudged}
+use Rattle.refinement.specs.CommandSteps.{CarriesOut, CarriesOutStep}
+use Rattle.refinement.proofs.Common.{Catalogue, Continues, Database, Forest, Goes, HasCleanDisk, IsAborted, IsErr}
+use Rattle.refinement.proofs.Common.{IsErrAnd, IsSoundOffice, LeavesUnchanged, OfficeRow, Represents}
+use Rattle.refinement.proofs.Common.{RepresentsDeskAlone, RepresentsState, StoreFault, Trees, Version, cut_after}
+use Rattle.refinement.proofs.Common.{cut_then, desk_legible, early, excused_then, goes_then, office_of, on_err_then}
+use Rattle.refinement.proofs.Common.{on_ok_then, same_fault, tables, ⊤}
 use Rattle.refinement.proofs.Crashes.{went}
 use Rattle.refinement.proofs.Judged.{judged_now}
 

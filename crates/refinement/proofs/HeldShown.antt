@@ -1,8 +1,8 @@
 -- How many containers are out with a ticket: its orders that are out, in the rows.
 use Rattle.std.proofs.Common.{◌≡◌, ℕ, zero, suc, ◌+◌, ◌<◌, ◌≤◌, Bool, true, false, cond, ◌&&◌, nat_eq, List, [], ◌∷◌}
 use Rattle.std.proofs.Common.{length, Option, Some, None, inl, inr, refl, sym, ap, subst, ◌∙◌, arith}
+use Rattle.std.proofs.Math.Bool.{and-false}
 use Rattle.std.proofs.lemmas.List.Sums.{sum_by-cons, sum_by_push}
-use Rattle.std.specs.Prelude.{count_by}
 use Rattle.desk_core.specs.declared.reader.Place.TheVariants.{Desk}
 use Rattle.office_core.proofs.Counts.{numbered_from_one}
 use Rattle.office_core.proofs.Filed.{out_with}
@@ -11,8 +11,8 @@ use Rattle.office_core.proofs.Orders.{out_is}
 use Rattle.office_core.proofs.Places.{out_known}
 use Rattle.office_core.specs.State.{Done, State}
 use Rattle.refinement.proofs.Common.{Cancelled, Ended, IsSoundOffice, Order, OrderRow, Out, Place, Shelf, Standing}
-use Rattle.refinement.proofs.Common.{Version, Waiting, WithItsReader, and-false, cases_Bool, cases_eq, container_of}
-use Rattle.refinement.proofs.Common.{containers, false≢true, flipped, held_count, held_with, is_by, is_container}
+use Rattle.refinement.proofs.Common.{Version, Waiting, WithItsReader, cases_Bool, cases_eq, container_of, containers}
+use Rattle.refinement.proofs.Common.{count_by, false≢true, flipped, held_count, held_with, is_by, is_container}
 use Rattle.refinement.proofs.Common.{is_out_for, is_out_with, is_some, nth, numbered_within, numbers_from, numbers_to}
 use Rattle.refinement.proofs.Common.{order_out, order_row, other_number, rows_from, same_number, slice_get, some_and}
 use Rattle.refinement.proofs.Common.{standing, stands, state_number, sum_by, tables, to_from}

@@ -1,15 +1,15 @@
 -- Where the rows say that containers are, also after one of them went to another place.
 use Rattle.std.proofs.Common.{◌≡◌, ℕ, zero, suc, ◌+◌, ◌<◌, ◌≤◌, pos, true, false, not, nat_eq, List, [], ◌∷◌, length}
 use Rattle.std.proofs.Common.{filter, Some, None, Equal, Greater, inl, inr, refl, sym, ap, ◌∙◌, arith}
-use Rattle.std.specs.Prelude.{filter_map, nat_lt}
+use Rattle.std.specs.Ordering.{int_cmp}
 use Rattle.desk_core.specs.declared.reader.Place.TheVariants.{Desk}
 use Rattle.office_tables.proofs.numbered.Counted.{below_less}
+use Rattle.desk_store.specs.Holdings.{placed_at, put_down}
 use Rattle.office_core.proofs.Counts.{numbered_from_one}
 use Rattle.office_core.specs.State.{State}
-use Rattle.refinement.proofs.Common.{AllByRecursion, HoldingRow, Out, Place, Shelf, cases_eq, cons_option, holding_row}
-use Rattle.refinement.proofs.Common.{holding_rows, int_cmp, is_container, nat_tests, numbered_within, numbers_from}
-use Rattle.refinement.proofs.Common.{numbers_to, placed_at, put_down, put_here, put_there, same_number, to_from}
-use Rattle.refinement.proofs.Common.{update_at}
+use Rattle.refinement.proofs.Common.{AllByRecursion, HoldingRow, Out, Place, Shelf, cases_eq, cons_option, filter_map}
+use Rattle.refinement.proofs.Common.{holding_row, holding_rows, is_container, nat_lt, nat_tests, numbered_within}
+use Rattle.refinement.proofs.Common.{numbers_from, numbers_to, put_here, put_there, same_number, to_from, update_at}
 
 -- the rows of these containers
 abbrev pub rows_of : (ℕ → Place) → List ℕ → List HoldingRow

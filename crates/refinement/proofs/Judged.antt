@@ -1,14 +1,15 @@
 -- A sound office can be judged, and so can one of whose units some were changed.
 use Rattle.std.proofs.Common.{◌≡◌, ℕ, true, false, Option, Some, None, refl, sym, ap, subst, ◌∙◌, nat_eq}
+use Rattle.tree_core.proofs.EachLemmas.{nodes-each}
 use Rattle.catalogue_core.proofs.KeptCatalogues.{kept, knows}
 use Rattle.catalogue_core.proofs.KeptUnits.{same_containers}
 use Rattle.catalogue_core.specs.GoodCatalogues.{AreGoodUnits, IsSomeDay}
 use Rattle.catalogue_core.specs.LegibleCatalogues.{IsLegibleCatalogue}
 use Rattle.office_core.specs.State.{State}
-use Rattle.refinement.proofs.Common.{AllByRecursion, AreFiled, CanBeJudged, Catalogue, Forest, HasDistinctIds}
-use Rattle.refinement.proofs.Common.{IsDistinct, IsFiled, IsSoundOffice, Order, Unit, container_of, desk_legible, each}
-use Rattle.refinement.proofs.Common.{false≢true, is_out_for, is_some, nodes, nodes-each, nth, option_map, order_out}
-use Rattle.refinement.proofs.Common.{same_number, stands}
+use Rattle.refinement.specs.AccessConditions.{CanBeJudged}
+use Rattle.refinement.proofs.Common.{AllByRecursion, AreFiled, Catalogue, Forest, HasDistinctIds, IsDistinct, IsFiled}
+use Rattle.refinement.proofs.Common.{IsSoundOffice, Order, Unit, container_of, desk_legible, each, false≢true}
+use Rattle.refinement.proofs.Common.{is_out_for, is_some, nodes, nth, option_map, order_out, same_number, stands}
 
 -- what is out is so by an order that is there
 pub orders_there : (s : State) → AreFiled s → (c o : ℕ) → order_out (s.place c) ≡ Some o

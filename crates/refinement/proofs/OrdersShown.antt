@@ -2,7 +2,7 @@
 use Rattle.std.proofs.Common.{◌≡◌, ℕ, Bool, true, false, cond, ◌&&◌, ◌||◌, nat_eq, List, [], ◌∷◌, filter, Option, Some}
 use Rattle.std.proofs.Common.{None, inl, inr, refl, sym, ap, subst, ◌∙◌}
 use Rattle.std.specs.Cmp.{both_ways}
-use Rattle.std.specs.Prelude.{nat_lt}
+use Rattle.tree_core.proofs.Lists.{list_any-map}
 use Rattle.desk_store.specs.declared.reader_summary.LiveOrder.{LiveOrder}
 use Rattle.office_core.proofs.Filed.{out_with, waiting}
 use Rattle.office_core.proofs.OrderLaws.{stands_out, stands_waiting}
@@ -12,10 +12,9 @@ use Rattle.state_encoding.proofs.Grouped.{any_filter}
 use Rattle.refinement.proofs.Common.{Cancelled, End, Ended, ExactlyOne, IsFiled, IsSoundOffice, Order, OrderRow}
 use Rattle.refinement.proofs.Common.{Version, Waiting, WithItsReader, and_from, and_parts, any_of_in, container_of}
 use Rattle.refinement.proofs.Common.{eqb-true, false≢true, flipped, has_not_ended, has_ordered, in_rows, is_by}
-use Rattle.refinement.proofs.Common.{is_out_for, is_out_with, is_some, list_any, list_any-map, nth, option_map}
-use Rattle.refinement.proofs.Common.{or_cases, order_out, order_row, order_rows, order_there, orders_not_ended}
-use Rattle.refinement.proofs.Common.{same_number, some_and, some_in, some_is, standing, stands, stands_as, state_number}
-use Rattle.refinement.proofs.Common.{tables}
+use Rattle.refinement.proofs.Common.{is_out_for, is_out_with, is_some, list_any, nat_lt, nth, option_map, or_cases}
+use Rattle.refinement.proofs.Common.{order_out, order_row, order_rows, order_there, orders_not_ended, same_number}
+use Rattle.refinement.proofs.Common.{some_and, some_in, some_is, standing, stands, stands_as, state_number, tables}
 
 -- an order of that ticket for that container, which waits or is out
 abbrev is_theirs : ℕ → ℕ → OrderRow → Bool

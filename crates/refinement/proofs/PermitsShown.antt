@@ -1,24 +1,26 @@
 -- The rows of permits: those of a ticket, one that is granted, and one that is taken back.
 use Rattle.std.proofs.Common.{◌≡◌, ◌≢◌, ℕ, ℤ, zero, suc, ◌<◌, ◌≤◌, Bool, true, false, not, cond, nat_eq, List, [], ◌∷◌}
 use Rattle.std.proofs.Common.{◌++◌, length, map, filter, inl, inr, refl, sym, ap, subst, ◌∙◌, arith, pos}
-use Rattle.std.proofs.lemmas.List.{append_assoc}
+use Rattle.std.proofs.lemmas.List.{append_assoc, append-nil}
 use Rattle.std.proofs.lemmas.List.Concat.{flat_map-cons, flat_map-append}
+use Rattle.std.proofs.lemmas.List.Elements.{filter-append}
+use Rattle.std.proofs.lemmas.List.Sorted.{IsPermutation-append_comm, IsPermutation-append_left}
+use Rattle.std.proofs.lemmas.List.Sorted.{IsPermutation-append_right, IsPermutation-cons, IsPermutation-map}
+use Rattle.std.proofs.lemmas.List.Sorted.{IsPermutation-refl, IsPermutation-swap, IsPermutation-sym}
+use Rattle.std.proofs.lemmas.List.Sorted.{IsPermutation-trans}
 use Rattle.std.specs.Cmp.{IsTotalOrder, int_cmp_total, on_total}
 use Rattle.std.specs.List.Sorted.{IsPermutation}
-use Rattle.std.specs.Prelude.{nat_lt}
 use Rattle.desk_core.specs.DeskRows.{Desk}
 use Rattle.office_tables.proofs.Reading.{all_found}
+use Rattle.desk_store.specs.Permits.{by_permitted_unit, is_permit, permits_of, without_permit}
 use Rattle.desk_store.specs.declared.reader_permits.Permit.{Permit as Told}
-use Rattle.office_core.specs.State.{Permit, State}
+use Rattle.office_core.specs.State.{State}
 use Rattle.state_encoding.proofs.ReadBack.{permits_back}
-use Rattle.refinement.proofs.Common.{AllByRecursion, AreGoodPermits, ByUnit, IsNumberOf, IsPermutation-append_comm}
-use Rattle.refinement.proofs.Common.{IsPermutation-append_left, IsPermutation-append_right, IsPermutation-cons}
-use Rattle.refinement.proofs.Common.{IsPermutation-map, IsPermutation-refl, IsPermutation-swap, IsPermutation-sym}
-use Rattle.refinement.proofs.Common.{IsPermutation-trans, PermitRow, RepresentsDesk, Trees, Version, append-nil}
-use Rattle.refinement.proofs.Common.{by_permitted_unit, cases_Bool, cases_eq, eqb-true, filter-append, flat_map}
-use Rattle.refinement.proofs.Common.{flipped, granted, granted_until, int_lt, is_permit, ltb-true, nat_tests}
-use Rattle.refinement.proofs.Common.{numbers_to, other_number, permit_row, permit_rows, permits_of, put_here, put_there}
-use Rattle.refinement.proofs.Common.{revoked, same_number, tables, update_at, without_permit}
+use Rattle.refinement.proofs.Common.{AllByRecursion, AreGoodPermits, ByUnit, IsNumberOf, Permit, PermitRow}
+use Rattle.refinement.proofs.Common.{RepresentsDesk, Trees, Version, cases_Bool, cases_eq, eqb-true, flat_map, flipped}
+use Rattle.refinement.proofs.Common.{granted, granted_until, int_lt, ltb-true, nat_lt, nat_tests, numbers_to}
+use Rattle.refinement.proofs.Common.{other_number, permit_row, permit_rows, put_here, put_there, revoked, same_number}
+use Rattle.refinement.proofs.Common.{tables, update_at}
 
 -- ---- the permits of a ticket
 

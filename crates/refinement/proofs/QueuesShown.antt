@@ -1,16 +1,16 @@
 -- Where a container is and who waits for it, as the rows of the desk tell.
 use Rattle.std.proofs.Common.{◌≡◌, ℕ, Bool, true, false, cond, ◌&&◌, nat_eq, List, [], ◌∷◌, map, filter, Some, refl}
 use Rattle.std.proofs.Common.{sym, ap, subst, ◌∙◌, inl, inr}
-use Rattle.std.specs.Prelude.{filter_map}
+use Rattle.std.proofs.Math.Bool.{and_comm}
 use Rattle.desk_core.specs.declared.reader.Place.TheVariants.{Desk}
 use Rattle.catalogue_core.specs.Members.{StandsIn}
 use Rattle.office_tables.proofs.Rows.{same_test}
 use Rattle.desk_store.specs.Orders.{IsAt}
 use Rattle.office_core.specs.State.{State}
 use Rattle.state_encoding.proofs.TableLaws.{reads_back}
-use Rattle.refinement.proofs.Common.{HoldingRow, IsSoundDesk, Order, OrderRow, Out, Place, Shelf, and_comm, cons_option}
-use Rattle.refinement.proofs.Common.{find, flipped, holding_rows, in_filter, in_rows, nth, option_map, order_from}
-use Rattle.refinement.proofs.Common.{order_row, order_rows, place_from, place_in}
+use Rattle.refinement.proofs.Common.{HoldingRow, IsSoundDesk, Order, OrderRow, Out, Place, Shelf, cons_option}
+use Rattle.refinement.proofs.Common.{filter_map, find, flipped, holding_rows, in_filter, in_rows, nth, option_map}
+use Rattle.refinement.proofs.Common.{order_from, order_row, order_rows, place_from, place_in}
 
 -- ---- where a container is
 

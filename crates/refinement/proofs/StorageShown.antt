@@ -1,11 +1,13 @@
 -- The desk of a state beside its containers, as the tables show them.
 use Rattle.std.proofs.Common.{◌≡◌, ℕ, suc, ◌+◌, nat_eq, List, [], ◌∷◌, length, refl, sym, ap, subst, ◌∙◌, arith}
 use Rattle.isad_core.specs.LegibleValues.{IsLegibleBox}
+use Rattle.isad_core.specs.declared.values.BoxKey.{BoxKey}
+use Rattle.catalogue_statements.specs.Rows.{counted_from}
 use Rattle.desk_store.specs.Storage.{IsLegibleStorage, RepresentsQueues, Storage, container_with}
 use Rattle.office_core.specs.State.{State}
-use Rattle.refinement.proofs.Common.{AllByRecursion, AreCountedFrom, BoxKey, Database, Forest, IsSoundOffice}
-use Rattle.refinement.proofs.Common.{RepresentsState, Trees, Version, counted_from, desk_legible, find, is_container}
-use Rattle.refinement.proofs.Common.{is_some, is_some-map, length-rows, nth, option_map, rows_from, tables}
+use Rattle.refinement.proofs.Common.{AllByRecursion, AreCountedFrom, Database, Forest, IsSoundOffice, RepresentsState}
+use Rattle.refinement.proofs.Common.{Trees, Version, desk_legible, find, is_container, is_some, is_some-map}
+use Rattle.refinement.proofs.Common.{length-rows, nth, option_map, rows_from, tables}
 use Rattle.refinement.proofs.RowsOfLists.{found_row}
 
 abbrev pub storage_of : Version → State → Storage

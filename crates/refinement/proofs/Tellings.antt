@@ -1,11 +1,13 @@
 -- A call that reads, and hands on what a later call tells.
 use Rattle.std.proofs.Common.{Result, Ok, Err, OnOk, OnErr}
 use Rattle.std.proofs.lemmas.Result.{IfOk-weaker}
+use Rattle.sqlite.specs.Held.{Held, state}
 use Rattle.sqlite.specs.State.{State}
 use Rattle.sqlite_trees.specs.declared.store.Store as store
-use Rattle.refinement.proofs.Common.{Answers, Database, HasCleanDisk, Held, IsAborted, LeavesUnchanged, StoreFault}
-use Rattle.refinement.proofs.Common.{Survives, cut_then, early, excused_then, looks_then, on_err_then, on_ok_then}
-use Rattle.refinement.proofs.Common.{shown_on, state, ⊤}
+use Rattle.office_tables.specs.Calls.{Answers}
+use Rattle.desk_store.proofs.ToldCalls.{shown_on}
+use Rattle.refinement.proofs.Common.{Database, HasCleanDisk, IsAborted, LeavesUnchanged, StoreFault, Survives, cut_then}
+use Rattle.refinement.proofs.Common.{early, excused_then, looks_then, on_err_then, on_ok_then, ⊤}
 
 pub looked_crash : {X E : Type 0} (r : Result X E) (a b : State) → OnOk r (LeavesUnchanged a b)
     → OnErr r (IsAborted a b) → Survives a b (λ _. ⊥)

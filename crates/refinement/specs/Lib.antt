@@ -4,7 +4,3 @@ pub mod QueryAnswers
 pub mod ReadingRoomLimits
 pub mod Sitters
 pub mod AccessConditions
-pub mod Openness
-pub mod Gate
-pub mod DayRules
-pub mod KnownUnits

@@ -40,7 +40,7 @@ pub use Rattle.tree_core.proofs.Reading.{faultless, fills, no_fault, shown_witho
 pub use Rattle.tree_core.specs.Encodings.{Links, Spans, TreeEncoding}
 pub use Rattle.tree_core.specs.Forest.{Empty, Forest, Node, each, nodes, size}
 pub use Rattle.tree_core.specs.Links.{HoldsLinks, rows_below, siblings}
-pub use Rattle.tree_core.specs.Spans.{RepresentsSpans, number_from}
+pub use Rattle.tree_core.specs.Spans.{RepresentsSpans, spans_from}
 pub use Rattle.tree_core.specs.declared.rows.Link.{Link}
 pub use Rattle.tree_core.specs.declared.rows.Span.{Span}
 pub use Rattle.desk_core.specs.Decisions.{is_desk, order_out}

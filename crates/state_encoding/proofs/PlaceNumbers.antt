@@ -3,7 +3,7 @@
 use Rattle.std.proofs.Common.{◌≡◌, ℕ, ◌+◌, ◌*◌, ◌≤◌, ◌^◌, true, Option, Some, refl, ◌∙◌, inl, inr, arith}
 use Rattle.state_encoding.proofs.Common.{Empty, Forest, In, In-append_left, In-append_right, Node, and_from}
 use Rattle.state_encoding.proofs.Common.{is_good_link, is_good_span, is_place_number, is_unit_number, list_all}
-use Rattle.state_encoding.proofs.Common.{list_all-append, lt-ltb, nodes, number_from, option_map_or, rows_below, size}
+use Rattle.state_encoding.proofs.Common.{list_all-append, lt-ltb, nodes, option_map_or, rows_below, size, spans_from}
 
 abbrev AreUnitNumbers : Forest ℕ → Type 0
 AreUnitNumbers f = (u : ℕ) → In u (nodes f) → is_unit_number u ≡ true
@@ -24,7 +24,7 @@ links_numbered parent k (Node u c o) p n few =
     ∙ and_from (list_all is_good_link (rows_below (Some u) 1 c)) _ below beside)
 
 pub spans_numbered : (k : ℕ) (f : Forest ℕ) → AreUnitNumbers f → k + 2 * size f ≤ 2 ^ 32
-    → list_all is_good_span (number_from k f) ≡ true
+    → list_all is_good_span (spans_from k f) ≡ true
 spans_numbered k Empty n few = refl
 spans_numbered k (Node u c o) n few =
     let here = n u (inl refl) in
@@ -33,5 +33,5 @@ spans_numbered k (Node u c o) n few =
     and_from (is_good_span (record { id = u; lft = k; rgt = k + 2 * size c + 1 })) _
     (and_from (is_unit_number u) _ here
     (and_from (is_place_number k) _ (fits k (2 * size (Node u c o)) few (omega arith)) (fits (k + 2 * size c + 1) (1 + 2 * size o) (omega (arith, few)) (omega arith))))
-    (list_all-append is_good_span (number_from (k + 1) c) (number_from (k + 2 * size c + 2) o)
-    ∙ and_from (list_all is_good_span (number_from (k + 1) c)) _ below beside)
+    (list_all-append is_good_span (spans_from (k + 1) c) (spans_from (k + 2 * size c + 2) o)
+    ∙ and_from (list_all is_good_span (spans_from (k + 1) c)) _ below beside)

@@ -20,8 +20,8 @@ use Rattle.state_encoding.proofs.Common.{is_some_day, is_source, is_unit_number,
 use Rattle.state_encoding.proofs.Common.{link_faultless, list_all, list_all-map, lt-ltb, most_bytes, most_daily}
 use Rattle.state_encoding.proofs.Common.{most_deep, most_hands, most_run_size, most_seats, most_unit_numbers}
 use Rattle.state_encoding.proofs.Common.{most_units, nat_le, no_fault, no_link_fault, nodes, nodes-each, not_from_false}
-use Rattle.state_encoding.proofs.Common.{number_from, place_numbers, place_rows, places_said, same_number, siblings}
-use Rattle.state_encoding.proofs.Common.{size, tables, unit_from_rows, unit_number, unit_numbers, unit_row}
+use Rattle.state_encoding.proofs.Common.{place_numbers, place_rows, places_said, same_number, siblings, size}
+use Rattle.state_encoding.proofs.Common.{spans_from, tables, unit_from_rows, unit_number, unit_numbers, unit_row}
 use Rattle.state_encoding.proofs.Common.{version_number}
 use Rattle.state_encoding.proofs.UnitRows.{units_back}
 use Rattle.state_encoding.proofs.RowsByNumber.{in_all, each_in, in_map}
@@ -59,8 +59,8 @@ places_shown Links f d n few =
     and_from (list_all is_good_link (siblings f)) _ (links_numbered None 1 f refl n (omega (arith, few, enough)))
     (ap (λ fault. not (is_some fault)) (no_link_fault (siblings f) (link_faultless f (siblings f) (record { distinct = d; rows = IsPermutation-refl (siblings f) }))))
 places_shown Spans f d n few =
-    and_from (list_all is_good_span (number_from 1 f)) _ (spans_numbered 1 f n (omega (arith, few, enough)))
-    (ap (λ fault. not (is_some fault)) (no_fault (number_from 1 f) (faultless f (number_from 1 f) (record { distinct = d; rows = refl }))))
+    and_from (list_all is_good_span (spans_from 1 f)) _ (spans_numbered 1 f n (omega (arith, few, enough)))
+    (ap (λ fault. not (is_some fault)) (no_fault (spans_from 1 f) (faultless f (spans_from 1 f) (record { distinct = d; rows = refl }))))
 
 numbers_placed : (way : TreeEncoding) (f : Forest ℕ) → place_numbers (place_rows way f) ≡ nodes f
 numbers_placed Links f = ids-rows_below None 1 f

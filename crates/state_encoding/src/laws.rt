@@ -5,7 +5,7 @@ ghost use Rattle.office_core.specs.State.{State};
 ghost use Rattle.office_core.specs.SoundDesk.{IsSoundDesk};
 ghost use Rattle.state_encoding.specs.DeskEncoding.{OneRowChanges};
 ghost use Rattle.tree_core.specs.Forest.{Forest};
-ghost use Rattle.tree_core.specs.Spans.{number_from};
+ghost use Rattle.tree_core.specs.Spans.{spans_from};
 ghost use Rattle.tree_core.specs.Links.{HoldsLinks};
 ghost use Rattle.tree_core.specs.declared.rows.Link.{Link};
 ghost use Rattle.office_tables.specs.Versions.{Version};
@@ -29,7 +29,7 @@ pub fn one_row_changes()
 
 /// The span rows of a forest of unit numbers describe that forest.
 pub fn spans_describe_the_forest()
-    ensures { (f : Forest ℕ) → places_said (SpanRows (number_from 1 f)) ≡ f }
+    ensures { (f : Forest ℕ) → places_said (SpanRows (spans_from 1 f)) ≡ f }
 {}
 
 /// The link rows of a forest of unit numbers describe that forest, in any order, if no number is repeated.

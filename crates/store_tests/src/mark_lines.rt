@@ -1,7 +1,7 @@
 //! Marks as lines of text, which tests compare.
 
 use catalogue_store::StoreFault;
-use tree_core::Mark;
+use visibility::Mark;
 
 /// A line of marks: of each unit the number, whether it names containers, whether it is a draft, and its closure.
 pub(crate) fn show_marks(text: &mut String, marks: &[Mark]) -> Result<(), StoreFault> {

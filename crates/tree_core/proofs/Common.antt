@@ -1,12 +1,11 @@
 -- The names that several proofs of this crate cite, passed on from one place. Declares nothing.
-pub use Rattle.std.proofs.Math.Bool.{and-false, and-true, and_assoc, or-false, or-true}
+pub use Rattle.std.proofs.Math.Bool.{and-false, or-false, or-true}
 pub use Rattle.std.proofs.lemmas.Bool.{MatchBool-at_false, MatchBool-at_true, and_from, and_left, and_parts, and_right}
-pub use Rattle.std.proofs.lemmas.Bool.{cases_Bool, cases_eq, cases_lt, cases_order, cond-false, eq-eqb, eqb-false}
-pub use Rattle.std.proofs.lemmas.Bool.{eqb-true, false≢true, le-leb, le-ltb, leb-false, lt-leb, lt-ltb, ltb-false}
-pub use Rattle.std.proofs.lemmas.Bool.{ltb-true, ne_eqb, not-false, or_cases, or_from, or_parts, or_right}
+pub use Rattle.std.proofs.lemmas.Bool.{cases_Bool, cases_eq, cases_lt, cases_order, eq-eqb, eqb-false, eqb-true}
+pub use Rattle.std.proofs.lemmas.Bool.{false≢true, le-leb, le-ltb, leb-false, lt-leb, lt-ltb, ltb-false, ltb-true}
+pub use Rattle.std.proofs.lemmas.Bool.{ne_eqb, not-false, or_cases, or_from, or_parts, or_right}
 pub use Rattle.std.proofs.lemmas.Bool.Decides.{nat_tests}
 pub use Rattle.std.proofs.lemmas.Grind.{common_steps, flat_map-append}
-pub use Rattle.std.proofs.lemmas.Int.{to_z-of_z}
 pub use Rattle.std.proofs.lemmas.List.{drop_all, get_or-map, get_or_append_left, get_or_default, get_or_push}
 pub use Rattle.std.proofs.lemmas.List.{length-map, length-reverse, map-append, map-id, reverse-append, take_all}
 pub use Rattle.std.proofs.lemmas.List.{take_more}
@@ -25,8 +24,8 @@ pub use Rattle.std.proofs.lemmas.List.Sorted.{list_any-IsPermutation, ranks_by, 
 pub use Rattle.std.proofs.lemmas.List.Sorted.{sum_by-IsPermutation}
 pub use Rattle.std.proofs.lemmas.List.Sums.{count_by-le-length, length-filter, sum_by-append, sum_by-cons}
 pub use Rattle.std.proofs.lemmas.Map.Keys.{IsDistinct-IsPermutation, IsDistinct-push}
-pub use Rattle.std.specs.List.{All, AllByRecursion, AllWithin, Contains, count_by, find, flat_map, insert, list_all}
-pub use Rattle.std.specs.List.{list_any, prefix_len, sum_by}
+pub use Rattle.std.specs.List.{All, AllByRecursion, AllWithin, Contains, count_by, find, flat_map, insert, list_any}
+pub use Rattle.std.specs.List.{prefix_len, sum_by}
 pub use Rattle.std.specs.List.Sorted.{IsNonDecreasing, IsNonDecreasingBy, IsPartitionPoint, IsPartitionedBy}
 pub use Rattle.std.specs.Option.{option_cmp, option_eq, option_map_or}
 pub use Rattle.std.specs.Ordering.{is_eq, is_lt, ordering_reverse, ordering_then}
@@ -34,7 +33,7 @@ pub use Rattle.tree_core.specs.ArrivalParents.{AreParents, IsForestRow, MayGrow,
 pub use Rattle.tree_core.specs.ArrivalParents.{puts_below}
 pub use Rattle.tree_core.specs.Arrivals.{CanJoin, added}
 pub use Rattle.tree_core.specs.Forest.{Empty, Forest, HasDistinctIds, Node, add, branch, cut, each, has, has_place}
-pub use Rattle.tree_core.specs.Forest.{join, move_last, nodes, path, put_below, put_last, size, tree, trees, walk}
+pub use Rattle.tree_core.specs.Forest.{join, move_last, nodes, path, put_below, put_last, size, tree, trees}
 pub use Rattle.tree_core.specs.ForestGrowth.{grown_by, with_all}
 pub use Rattle.tree_core.specs.Gains.{AreRising, gain, news, puts, with_gain}
 pub use Rattle.tree_core.specs.Lifts.{AreApart, end_before, lifted, lifted_row, lifts_from, shifted, shifted_by}
@@ -47,10 +46,9 @@ pub use Rattle.tree_core.specs.Shifts.{AreSmall, end_of, inside, is_inside, lowe
 pub use Rattle.tree_core.specs.Shifts.{room, spread, start_of, widened}
 pub use Rattle.tree_core.specs.SpanFaults.{breaks_order, count_from, crosses, lacks_number, numbers, repeats}
 pub use Rattle.tree_core.specs.SpanFaults.{some_cross, span_fault}
-pub use Rattle.tree_core.specs.Spans.{RepresentsSpans, number_from}
-pub use Rattle.tree_core.specs.Steps.{AllEnd, EachEnds, Ends, Falls, Fits, IsByPlace, clean_below, closed_up, is_at}
-pub use Rattle.tree_core.specs.Steps.{is_before, is_clean, links_left, moved, moved_row, place_cmp, with_second_number}
+pub use Rattle.tree_core.specs.Spans.{RepresentsSpans, spans_from}
+pub use Rattle.tree_core.specs.Steps.{AllEnd, EachEnds, Ends, Falls, Fits, IsByPlace, closed_up, is_at, is_before}
+pub use Rattle.tree_core.specs.Steps.{links_left, moved, moved_row, place_cmp, with_second_number}
 pub use Rattle.tree_core.specs.declared.arrivals.Arrival.{Arrival}
-pub use Rattle.tree_core.specs.declared.marks.Mark.{Mark}
 pub use Rattle.tree_core.specs.declared.rows.Link.{Link}
 pub use Rattle.tree_core.specs.declared.rows.Span.{Span}

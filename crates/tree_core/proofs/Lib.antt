@@ -14,7 +14,6 @@ pub mod LastPlaces
 pub mod MovedRows
 pub mod Pieces
 pub mod SpanBelow
-pub mod MarkWalks
 pub mod PlaceOrder
 pub mod Repeats
 pub mod SeenNumbers
@@ -25,7 +24,6 @@ pub mod Linking
 pub mod Adjacent
 pub mod Climbing
 pub mod Orders
-pub mod Sharing
 pub mod TopsLemmas
 pub mod Joined
 pub mod GrownRows

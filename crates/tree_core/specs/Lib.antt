@@ -5,8 +5,6 @@ pub mod Links
 pub mod LastPlace
 pub mod Spans
 pub mod Shifts
-pub mod Visibility
-pub mod Marks
 pub mod SpanFaults
 pub mod LinkFaults
 pub mod Steps

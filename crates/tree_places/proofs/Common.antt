@@ -32,11 +32,11 @@ pub use Rattle.tree_core.proofs.NumberingWalk.{closed-set, closed_after, closed_
 pub use Rattle.tree_core.specs.Forest.{Empty, Forest, HasDistinctIds, Node, add, branch, cut, each, has, has_place}
 pub use Rattle.tree_core.specs.Forest.{move_last, nodes, path, size, tree}
 pub use Rattle.tree_core.specs.Links.{RepresentsLinks, rows_below, siblings}
-pub use Rattle.tree_core.specs.Spans.{number_from}
+pub use Rattle.tree_core.specs.Spans.{spans_from}
 pub use Rattle.tree_core.specs.Tops.{below_first, last_but_one, part_below, right_above, tops}
-pub use Rattle.tree_core.specs.declared.marks.Mark.{Mark}
 pub use Rattle.tree_core.specs.declared.rows.Link.{Link}
 pub use Rattle.tree_core.specs.declared.rows.Span.{Span}
+pub use Rattle.visibility.specs.declared.marks.Mark.{Mark}
 pub use Rattle.catalogue_core.specs.Bounds.{IsBounded, IsKept, IsLegibleUnit}
 pub use Rattle.catalogue_core.specs.CatalogueMerge.{Catalogue, box_number}
 pub use Rattle.catalogue_core.specs.MarkLookup.{mark_at, marks_at}

@@ -6,11 +6,12 @@ ghost use Rattle.std.specs.List.{All};
 ghost use Rattle.std.specs.Str.{bytes_eq};
 ghost use Rattle.isad_core.specs.Limits.{most_deep};
 ghost use Rattle.isad_core.specs.Texts.{Bytes};
-ghost use Rattle.atom_csv.specs.ReadProgress.{IsBad};
+ghost use Rattle.atom_csv.specs.Causes.{cause_number};
+ghost use Rattle.atom_csv.specs.ReadProgress.{IfBad};
 ghost use Rattle.finding_aids.specs.Places.{ArePlaced, faults};
 ghost use Rattle.finding_aids.specs.Places as spec;
 
-use atom_csv::{FileFault, Row};
+use atom_csv::{Cause, FileFault, Row};
 use isad_core::{Text, limits};
 use std::alloc::{AllocError, Global};
 use std::collections::BTreeMap;
@@ -37,17 +38,17 @@ pub fn place_rows(alloc: Global, rows: &[Row]) -> Result<Vec<RowPosition>, FileF
     ensures none_bad { IfOk result (λ places. faults rows.now ≡ []) }
     ensures places { IfOk result (λ places. ArePlaced rows.now places.items) }
     ensures shallow { IfOk result (λ places. All (λ place. place.depth ≤ most_deep) places.items) }
-    ensures bad { IfErr result (λ e. IsBad e (λ row cause.
+    ensures bad { IfErr result (λ e. IfBad e (λ row cause.
         (later : _) × (faults rows.now ≡ (row, cause) ∷ later))) }
 {
     let mut known: Known = BTreeMap::new(alloc);
     let mut places = Vec::new(alloc);
     for (index, row) in rows.iter().enumerate() {
         let Some(place) = place_of(&known, places.as_slice(), row.parent.as_ref()) else {
-            return Err(bad(row, 11));
+            return Err(bad(row, Cause::NoParent));
         };
         if place.depth > MAX_DEPTH {
-            return Err(bad(row, 12));
+            return Err(bad(row, Cause::TooDeep));
         }
         places.push(place)?;
         remember(&mut known, alloc, &row.legacy, index)?;
@@ -56,12 +57,12 @@ pub fn place_rows(alloc: Global, rows: &[Row]) -> Result<Vec<RowPosition>, FileF
 }
 
 /// The fault of a row.
-fn bad(row: &Row, cause: u8) -> FileFault
-    ensures { result ≡ FileFault.Bad row.now.row cause }
+fn bad(row: &Row, cause: Cause) -> FileFault
+    ensures { result ≡ FileFault.Bad row.now.row (cause_number cause) }
 {
     FileFault::Bad {
         row: row.row,
-        cause,
+        cause: cause.number(),
     }
 }
 

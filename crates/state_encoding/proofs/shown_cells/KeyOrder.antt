@@ -7,7 +7,7 @@ use Rattle.desk_core.specs.Orders.{in_order}
 use Rattle.row_decoding.specs.TableRows.{by, then_by}
 use Rattle.state_encoding.proofs.Common.{AreInOrder, Empty, Forest, In, In-append, In-append_left, In-append_right}
 use Rattle.state_encoding.proofs.Common.{In-permutation, IsDistinct-IsPermutation, IsPermutation, IsPermutation-sym}
-use Rattle.state_encoding.proofs.Common.{Node, Span, false≢true, lt-ltb, number_from, put_in_order, size}
+use Rattle.state_encoding.proofs.Common.{Node, Span, false≢true, lt-ltb, put_in_order, size, spans_from}
 use Rattle.state_encoding.proofs.Members.{all_in, all_of_in}
 use Rattle.state_encoding.proofs.Grouped.{order_weaker}
 
@@ -138,11 +138,11 @@ then_by_again {X} key second rows xs h same =
 abbrev IsFirst : Span → Span → Type 0
 IsFirst a b = a.lft < b.lft
 
-within : (k : ℕ) (f : Forest ℕ) (span : Span) → In span (number_from k f) → (k ≤ span.lft) × (span.lft < k + 2 * size f)
+within : (k : ℕ) (f : Forest ℕ) (span : Span) → In span (spans_from k f) → (k ≤ span.lft) × (span.lft < k + 2 * size f)
 within k Empty span i = absurd i
 within k (Node u c o) span (inl e) =
     (omega (arith, ap (λ (s : Span). s.lft) e), omega (arith, ap (λ (s : Span). s.lft) e))
-within k (Node u c o) span (inr i) = elim (In-append (number_from (k + 1) c) (number_from (k + 2 * size c + 2) o) span i) [
+within k (Node u c o) span (inr i) = elim (In-append (spans_from (k + 1) c) (spans_from (k + 2 * size c + 2) o) span i) [
   | inl j ↦ let w = within (k + 1) c span j in (omega (arith, w), omega (arith, w))
   | inr j ↦ let w = within (k + 2 * size c + 2) o span j in (omega (arith, w), omega (arith, w))
 ]
@@ -155,13 +155,13 @@ order-append (x ∷ xs) ys h k f = (
   order-append xs ys h.1 k (λ a b i j. f a b (inr i) j),
 )
 
-pub spans_in_order : (k : ℕ) (f : Forest ℕ) → AreInOrder (λ (a b : Span). a.lft < b.lft) (number_from k f)
+pub spans_in_order : (k : ℕ) (f : Forest ℕ) → AreInOrder (λ (a b : Span). a.lft < b.lft) (spans_from k f)
 spans_in_order k Empty = tt
 spans_in_order k (Node u c o) = (
-  all_of_in (IsFirst (record { id = u; lft = k; rgt = k + 2 * size c + 1 })) (number_from (k + 1) c ++ number_from (k + 2 * size c + 2) o) (λ z i. elim (In-append (number_from (k + 1) c) (number_from (k + 2 * size c + 2) o) z i) [
+  all_of_in (IsFirst (record { id = u; lft = k; rgt = k + 2 * size c + 1 })) (spans_from (k + 1) c ++ spans_from (k + 2 * size c + 2) o) (λ z i. elim (In-append (spans_from (k + 1) c) (spans_from (k + 2 * size c + 2) o) z i) [
     | inl j ↦ let w = within (k + 1) c z j in omega (arith, w)
     | inr j ↦ let w = within (k + 2 * size c + 2) o z j in omega (arith, w)
   ]),
-  order-append (number_from (k + 1) c) (number_from (k + 2 * size c + 2) o) (spans_in_order (k + 1) c) (spans_in_order (k + 2 * size c + 2) o)
+  order-append (spans_from (k + 1) c) (spans_from (k + 2 * size c + 2) o) (spans_in_order (k + 1) c) (spans_in_order (k + 2 * size c + 2) o)
       (λ a b i j. let v = within (k + 1) c a i in let w = within (k + 2 * size c + 2) o b j in omega (arith, v, w)),
 )

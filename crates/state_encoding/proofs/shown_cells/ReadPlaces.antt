@@ -10,8 +10,8 @@ use Rattle.state_encoding.proofs.Common.{ArePlacesOf, Forest, HasPlaces, HoldsLi
 use Rattle.state_encoding.proofs.Common.{IsPermutation-refl, IsPermutation-trans, Link, LinkRows, Links, PlaceRows}
 use Rattle.state_encoding.proofs.Common.{Span, SpanRows, Spans, TreeEncoding, Trees, and_from, and_parts}
 use Rattle.state_encoding.proofs.Common.{are_good_places, is_good_link, is_some, link_cells, link_faultless, list_all}
-use Rattle.state_encoding.proofs.Common.{no_link_fault, nodes, number_from, place_numbers, place_rows, places_said}
-use Rattle.state_encoding.proofs.Common.{read_link, read_span, siblings, span_cells, ⊤}
+use Rattle.state_encoding.proofs.Common.{no_link_fault, nodes, place_numbers, place_rows, places_said, read_link}
+use Rattle.state_encoding.proofs.Common.{read_span, siblings, span_cells, spans_from, ⊤}
 use Rattle.state_encoding.proofs.Grouped.{order_weaker}
 use Rattle.state_encoding.proofs.Linked.{links_say}
 use Rattle.state_encoding.proofs.shown_cells.KeyOrder.{then_by_again, spans_in_order}
@@ -37,11 +37,11 @@ links_too f links d same =
       said = links_say f links held ∙ sym (links_say f (siblings f) (record { distinct = d; rows = IsPermutation-refl (siblings f) }));
     }
 
-spans_too : (f : Forest ℕ) (spans : List Span) → spans ≡ number_from 1 f
-    → AreSamePlaces Spans (SpanRows (number_from 1 f)) (SpanRows spans)
+spans_too : (f : Forest ℕ) (spans : List Span) → spans ≡ spans_from 1 f
+    → AreSamePlaces Spans (SpanRows (spans_from 1 f)) (SpanRows spans)
 spans_too f spans e =
-    subst (λ l. AreSamePlaces Spans (SpanRows (number_from 1 f)) (SpanRows l)) (sym e)
-    (record { rows = IsPermutation-refl (number_from 1 f); good = λ g. g; numbers = IsPermutation-refl (place_numbers (SpanRows (number_from 1 f))); said = refl })
+    subst (λ l. AreSamePlaces Spans (SpanRows (spans_from 1 f)) (SpanRows l)) (sym e)
+    (record { rows = IsPermutation-refl (spans_from 1 f); good = λ g. g; numbers = IsPermutation-refl (place_numbers (SpanRows (spans_from 1 f))); said = refl })
 
 pub record ArePlacesRead (way : TreeEncoding) (db : Trees) (f : Forest ℕ) : Type 0 where
   pub all : places_are_unread way db ≡ false
@@ -59,11 +59,11 @@ places_read Links db f d has =
           (IsPermutation-trans (siblings f) rows (in_order (by (λ (row : Link). row.id)) rows) it.same (in_order-permutation (by (λ (row : Link). row.id)) rows));
     }
 places_read Spans db f d has =
-    let it : AreRead read_span (db tables.span.tree) (number_from 1 f) =
-    keyed_read read_span span_cells (λ _. ⊤) (λ row h. span_back row) (db tables.span.tree) (number_from 1 f) has (λ row i. tt) in
+    let it : AreRead read_span (db tables.span.tree) (spans_from 1 f) =
+    keyed_read read_span span_cells (λ _. ⊤) (λ row h. span_back row) (db tables.span.tree) (spans_from 1 f) has (λ row i. tt) in
     record {
       all = it.all;
       same = spans_too f (in_order (then_by (λ (row : Span). row.lft) (λ (row : Span). row.id)) (filter_map read_span (db tables.span.tree)))
-          (then_by_again (λ (row : Span). row.lft) (λ (row : Span). row.id) (number_from 1 f) (filter_map read_span (db tables.span.tree))
-          (order_weaker (λ (a b : Span). a.lft < b.lft) (λ (a b : Span). (a.lft < b.lft) ⊎ ((a.lft ≡ b.lft) × (a.id < b.id))) (number_from 1 f) (λ a b l. inl l) (spans_in_order 1 f)) it.same);
+          (then_by_again (λ (row : Span). row.lft) (λ (row : Span). row.id) (spans_from 1 f) (filter_map read_span (db tables.span.tree))
+          (order_weaker (λ (a b : Span). a.lft < b.lft) (λ (a b : Span). (a.lft < b.lft) ⊎ ((a.lft ≡ b.lft) × (a.id < b.id))) (spans_from 1 f) (λ a b l. inl l) (spans_in_order 1 f)) it.same);
     }

@@ -9,8 +9,8 @@ use Rattle.state_encoding.proofs.Common.{ArePlacesOf, Forest, HoldsLinks, In, In
 use Rattle.state_encoding.proofs.Common.{IsPermutation-map, IsPermutation-refl, IsPermutation-sym, Link, LinkRows}
 use Rattle.state_encoding.proofs.Common.{Links, PlaceRows, RepresentsSpans, Span, SpanRows, Spans, TreeEncoding}
 use Rattle.state_encoding.proofs.Common.{and_parts, are_good_places, false≢true, held_without_fault, is_good_link}
-use Rattle.state_encoding.proofs.Common.{is_good_span, is_unit_number, list_all, nodes, number_from, place_numbers}
-use Rattle.state_encoding.proofs.Common.{place_rows, places_said, shown_without_fault, siblings}
+use Rattle.state_encoding.proofs.Common.{is_good_span, is_unit_number, list_all, nodes, place_numbers, place_rows}
+use Rattle.state_encoding.proofs.Common.{places_said, shown_without_fault, siblings, spans_from}
 use Rattle.state_encoding.proofs.Judging.{nothing_there}
 use Rattle.state_encoding.proofs.RowsByNumber.{in_map, all_in}
 use Rattle.state_encoding.proofs.Nested.{spans_say}
@@ -51,7 +51,7 @@ spans_placed spans e =
       apart = h.distinct;
       numbered = λ u i. subst (In u) (sym same) i;
       placed = λ u i. subst (In u) same i;
-      rows = subst (IsPermutation (number_from 1 f)) (sym h.rows) (IsPermutation-refl (number_from 1 f));
+      rows = subst (IsPermutation (spans_from 1 f)) (sym h.rows) (IsPermutation-refl (spans_from 1 f));
     } in
     subst (ArePlaced Spans (SpanRows spans)) (sym (ap (λ rows. places_said (SpanRows rows)) h.rows ∙ spans_say f)) placed
 

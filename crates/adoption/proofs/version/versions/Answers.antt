@@ -1,5 +1,5 @@
 use Rattle.std.proofs.Common.{sym, subst, ◌∙◌}
-use Rattle.refinement.proofs.DiskBlames.{blames_caused}
+use Rattle.access.proofs.DiskBlames.{blames_caused}
 use Rattle.adoption.proofs.Common.{HasCause, HasCleanDisk, state}
 use Rattle.adoption.proofs.JudgmentEnds.{judged}
 use Rattle.adoption.proofs.VersionLemmas.{shown_versions, versions_refused, versions_cause, looks_unchanged, cut_by}

@@ -2,8 +2,8 @@ use Rattle.std.proofs.Common.{◌≡◌, ◌∙◌, ◌+◌, ◌<◌, ◌++◌, 
 use Rattle.std.proofs.Common.{length}
 use Rattle.std.proofs.lemmas.Grind.{flat_map-append}
 use Rattle.std.proofs.lemmas.List.{append-nil}
-use Rattle.atom_csv.proofs.Common.{Bytes, Column, Fields, columns_of, fields_in, flat_map, fold-append, take-length}
-use Rattle.atom_csv.proofs.Common.{take-suc, told_by, value, with_entry}
+use Rattle.atom_csv.proofs.Common.{Bytes, Column, Fields, columns_of, flat_map, fold-append, take-length, take-suc}
+use Rattle.atom_csv.proofs.Common.{told_by, trimmed_fields, value, with_entry}
 use Rattle.atom_csv.proofs.EntryLemmas.{fold_joined}
 use Rattle.atom_csv.proofs.joined.join_entries.Goals as goal
 
@@ -27,12 +27,12 @@ step header fields ks i d text after held lt so_far is added =
 
 pub loop-column-preserved : goal.loop-column-preserved
 loop-column-preserved c =
-    step c.args.header.now (fields_in c.args.row.now) c.columns-column-items.result.now c.loop-column.column-index _ _ _ _
+    step c.args.header.now (trimmed_fields c.args.row.now) c.columns-column-items.result.now c.loop-column.column-index _ _ _ _
     c.loop-column-test.true c.loop-column.invariant c.value.ensures c.in_ok-add_told.ensures
 
 pub returns : goal.returns
 returns c =
-    let told : Column → List Bytes = λ k. told_by k (value k c.args.header.now (fields_in c.args.row.now)) in
+    let told : Column → List Bytes = λ k. told_by k (value k c.args.header.now (trimmed_fields c.args.row.now)) in
     let ks = c.columns-column-items.result.now in
     let full : c.loop-column.column-index ≡ length ks = omega arith in
     c.loop-column.invariant

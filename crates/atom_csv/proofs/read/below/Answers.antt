@@ -1,5 +1,5 @@
 use Rattle.std.proofs.Common.{◌∙◌, ◌++◌, ◌∷◌, [], List, Bool, sym, ap, refl, arith, map, append_assoc, length-append}
-use Rattle.atom_csv.proofs.Common.{Bytes, fields_in, fields_of, if◌then◌else◌, rows_left, trimmed}
+use Rattle.atom_csv.proofs.Common.{Bytes, fields_of, if◌then◌else◌, rows_left, trimmed, trimmed_fields}
 use Rattle.atom_csv.proofs.read.below.Goals as goal
 
 pub loop-row-init : goal.loop-row-init
@@ -15,7 +15,7 @@ loop-row-init c =
 pub loop-row-preserved : goal.loop-row-preserved
 loop-row-preserved c =
     let (above, at, answers, split) = c.loop-row.invariant.told in
-    let x = fields_in c.take_record.new.row in
+    let x = trimmed_fields c.take_record.new.row in
     let long = length-append above (x ∷ []) in
     let early = c.in_ok-add.ensures.early in
     let fits = c.in_ok-add.ensures.fits in

@@ -4,7 +4,7 @@ use Rattle.std.specs.Prelude.{Err}
 use Rattle.std.specs.Str.{IsUtf8, is_utf8}
 use Rattle.atom_csv.specs.declared.file.FileFault.{FileFault}
 use Rattle.atom_csv.specs.declared.file.FileFault.TheVariants.{Memory, Bad}
-use Rattle.atom_csv.proofs.Common.{Bytes, IsBad, IsUtf8-from_is_utf8, file_of, if◌then◌else◌, is_utf8-from_IsUtf8}
+use Rattle.atom_csv.proofs.Common.{Bytes, IfBad, IsUtf8-from_is_utf8, file_of, if◌then◌else◌, is_utf8-from_IsUtf8}
 use Rattle.atom_csv.proofs.Common.{of_records, records_of}
 use Rattle.atom_csv.proofs.read.read_file.Goals as goal
 
@@ -17,7 +17,7 @@ not_true : (b : Bool) → (b ≡ true → ⊥) → b ≡ false
 not_true true h = absurd (h refl)
 not_true false h = refl
 
-bad_weaker : (e : FileFault) (P Q : ℕ → ℕ → Type 0) → ((row cause : ℕ) → P row cause → Q row cause) → IsBad e P → IsBad e Q
+bad_weaker : (e : FileFault) (P Q : ℕ → ℕ → Type 0) → ((row cause : ℕ) → P row cause → Q row cause) → IfBad e P → IfBad e Q
 bad_weaker Memory P Q f h = tt
 bad_weaker (Bad row cause) P Q f h = f row cause h
 

@@ -4,7 +4,7 @@ use Rattle.std.proofs.lemmas.Grind.{take-set_at}
 use Rattle.isad_core.specs.Values.{line_elements}
 use Rattle.isad_core.specs.declared.element.Element.TheVariants as element
 use Rattle.atom_csv.specs.Values.{text_elements}
-use Rattle.atom_csv.proofs.Common.{fields_in, map-append, nonblank, take-suc, take_all, text_in_columns}
+use Rattle.atom_csv.proofs.Common.{map-append, nonblank, take-suc, take_all, text_in_columns, trimmed_fields}
 use Rattle.atom_csv.proofs.values.texts.Goals as goal
 
 -- what is told of one more
@@ -19,10 +19,10 @@ loop-i-preserved c =
     let long = c.loop-i.invariant.long in
     let low = c.loop-i-test.true in
     let set = take-set_at c.loop-i.texts (i + 2) (i + 1 + 2) c.in_ok-texts-3.field-0 (omega arith) (omega (arith, long, low)) in
-    let next = one_more {X = element.the_data} (λ e. nonblank (text_in_columns c.args.header.now (fields_in c.args.row.now) e)) line_elements i element.ReferenceCode c.in_ok-texts-3.field-0 low (search rules) in
+    let next = one_more {X = element.the_data} (λ e. nonblank (text_in_columns c.args.header.now (trimmed_fields c.args.row.now) e)) line_elements i element.ReferenceCode c.in_ok-texts-3.field-0 low (search rules) in
     record {
       long = search rules;
-      done = set ∙ (ap (λ ts. ts ++ c.in_ok-texts-3.field-0 ∷ []) c.loop-i.invariant.done ∙ ap (λ ts. nonblank (text_in_columns c.args.header.now (fields_in c.args.row.now) element.ReferenceCode) ∷ nonblank (text_in_columns c.args.header.now (fields_in c.args.row.now) element.Title) ∷ ts) next);
+      done = set ∙ (ap (λ ts. ts ++ c.in_ok-texts-3.field-0 ∷ []) c.loop-i.invariant.done ∙ ap (λ ts. nonblank (text_in_columns c.args.header.now (trimmed_fields c.args.row.now) element.ReferenceCode) ∷ nonblank (text_in_columns c.args.header.now (trimmed_fields c.args.row.now) element.Title) ∷ ts) next);
     }
 
 pub returns : goal.returns
@@ -33,4 +33,4 @@ returns c =
     let last = c.loop-i-test.false in
     let end : i ≡ 23 = (let high = c.loop-i.auto.i-end in omega (arith, last, high)) in
     sym (take_all (i + 2) c.loop-i.texts (omega (arith, long, last)))
-    ∙ (c.loop-i.invariant.done ∙ ap (λ (n : ℕ). map (λ e. nonblank (text_in_columns c.args.header.now (fields_in c.args.row.now) e)) (element.ReferenceCode ∷ element.Title ∷ take n line_elements)) end)
+    ∙ (c.loop-i.invariant.done ∙ ap (λ (n : ℕ). map (λ e. nonblank (text_in_columns c.args.header.now (trimmed_fields c.args.row.now) e)) (element.ReferenceCode ∷ element.Title ∷ take n line_elements)) end)

@@ -26,7 +26,7 @@ returns g c =
     let b = state g.S.Store c.set_closure.new.tables in
     let u = c.args.unit in
     let made = c.in_ok-set_closure.ensures.updates in
-    let passed = rw c.get.ensures.same at c.pass_near.ensures.answers in
-    passed_where g.S.Store g.P.Places.represents g.P.Versioned.version (λ s. (c.args.today ≡ s.day) × (has_unit s.catalogue.forest u ≡ true)) (command.SetClosure u c.args.until) c.args.today (done.SetClosure u) a c.set_closure.new.tables c.pass_near.new.tables c.pass_near.result (OthersAreOpen u)
+    let passed = rw c.get.ensures.same at c.pass_gate_near.ensures.answers in
+    passed_where g.S.Store g.P.Places.represents g.P.Versioned.version (λ s. (c.args.today ≡ s.day) × (has_unit s.catalogue.forest u ≡ true)) (command.SetClosure u c.args.until) c.args.today (done.SetClosure u) a c.set_closure.new.tables c.pass_gate_near.new.tables c.pass_gate_near.result (OthersAreOpen u)
     (closes u c.args.until g.P.Places.represents g.P.Versioned.version a b c.args.today c.requires.calendar made.represents_updated made.only)
     (λ s sound so. closes_near u c.args.until s sound c.requires.calendar) made.goes passed

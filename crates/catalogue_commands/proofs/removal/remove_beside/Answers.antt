@@ -18,6 +18,6 @@ returns g c =
     let u = c.args.unit in
     let v = g.P.Versioned.version in
     let loans = c.args.loans.now in
-    passed_where g.S.Store g.P.Places.represents v (λ s. (c.args.today ≡ s.day) × (has_unit s.catalogue.forest u ≡ true) × AreAsked u s (issued_of (tables v s).desk) loans) (command.Remove u) c.args.today (done.Remove c.in_ok-units.units) a c.remove_branch.new.tables c.pass_of.new.tables c.pass_of.result (AreEnough loans)
+    passed_where g.S.Store g.P.Places.represents v (λ s. (c.args.today ≡ s.day) × (has_unit s.catalogue.forest u ≡ true) × AreAsked u s (issued_of (tables v s).desk) loans) (command.Remove u) c.args.today (done.Remove c.in_ok-units.units) a c.remove_branch.new.tables c.pass_gate_with.new.tables c.pass_gate_with.result (AreEnough loans)
     (removes u v loans g.P.Places.represents a b c.args.today c.in_ok-units.units c.in_ok-units.ensures.removes c.in_ok-units.ensures.count)
-    (λ s sound so. removes_near u v loans s sound so.1 so.2) c.in_ok-units.ensures.writes.leaves.goes c.pass_of.ensures.answers
+    (λ s sound so. removes_near u v loans s sound so.1 so.2) c.in_ok-units.ensures.writes.leaves.goes c.pass_gate_with.ensures.answers

@@ -25,6 +25,6 @@ returns g c =
     let b = state g.S.Store c.set_status.new.tables in
     let u = c.args.unit in
     let made = c.in_ok-units.ensures.updates in
-    passed_where g.S.Store g.P.Places.represents g.P.Versioned.version (λ s. (c.args.today ≡ s.day) × (has_unit s.catalogue.forest u ≡ true)) (command.SetStatus u c.args.draft c.args.whole) c.args.today (done.SetStatus c.in_ok-units.units) a c.set_status.new.tables c.pass_near.new.tables c.pass_near.result (OthersAreOpen u)
+    passed_where g.S.Store g.P.Places.represents g.P.Versioned.version (λ s. (c.args.today ≡ s.day) × (has_unit s.catalogue.forest u ≡ true)) (command.SetStatus u c.args.draft c.args.whole) c.args.today (done.SetStatus c.in_ok-units.units) a c.set_status.new.tables c.pass_gate_near.new.tables c.pass_gate_near.result (OthersAreOpen u)
     (sets u c.args.draft c.args.whole g.P.Places.represents g.P.Versioned.version a b c.args.today c.in_ok-units.units made.represents_updated made.only c.in_ok-units.ensures.count)
-    (λ s sound so. sets_near u c.args.draft c.args.whole s sound so.1) made.goes c.pass_near.ensures.answers
+    (λ s sound so. sets_near u c.args.draft c.args.whole s sound so.1) made.goes c.pass_gate_near.ensures.answers

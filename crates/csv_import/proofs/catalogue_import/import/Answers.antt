@@ -1,5 +1,5 @@
 use Rattle.std.proofs.Common.{◌≡◌, Err, subst}
-use Rattle.atom_csv.specs.ReadProgress.{IsBad}
+use Rattle.atom_csv.specs.ReadProgress.{IfBad}
 use Rattle.atom_csv.specs.declared.file.FileFault.{FileFault}
 use Rattle.csv_import.proofs.Common.{file_of, is_refused, looks_nowhere, state}
 use Rattle.csv_import.proofs.FileBounds.{file_bounded}
@@ -12,7 +12,7 @@ returns-in-Bad g c =
     let a = state g.S.Store c.args.tables.now in
     let source = c.args.source.now in
     let bytes = c.args.file.now in
-    let is : file_of bytes ≡ Err (c.in-Bad.row, c.in-Bad.cause) = subst (λ (e : FileFault). IsBad e (λ row cause. file_of c.args.file.now ≡ Err (row, cause))) c.in-Bad.is c.in-Err.ensures.bad in
+    let is : file_of bytes ≡ Err (c.in-Bad.row, c.in-Bad.cause) = subst (λ (e : FileFault). IfBad e (λ row cause. file_of c.args.file.now ≡ Err (row, cause))) c.in-Bad.is c.in-Err.ensures.bad in
     is_refused (looks_nowhere a) (λ clean s sound so it. bad s source bytes c.in-Bad.row c.in-Bad.cause so.1 is)
 
 pub import_read-requires : goal.import_read-requires

@@ -2,7 +2,7 @@ use Rattle.std.proofs.Common.{◌≡◌, Bool, true, List, [], cond, length, Err
 use Rattle.office_core.specs.ImportReply as reply
 use Rattle.office_core.specs.State.{State}
 use Rattle.office_core.specs.declared.done.Done.TheVariants as done
-use Rattle.refinement.specs.Gate.{gate_reply}
+use Rattle.access.specs.Gate.{gate_reply}
 use Rattle.csv_import.proofs.Common.{Database, Full, HasCleanDisk, Remark, Represents, RepresentsState, early}
 use Rattle.csv_import.proofs.Common.{import_outcome, looks_then, most_containers, nat_lt, office_of, state}
 use Rattle.csv_import.proofs.Common.{tells_passed}
@@ -50,7 +50,7 @@ returns g c =
       answers = λ source.
           let told = c.in_ok-remarks.ensures.answers source in
           let within = λ (clean : HasCleanDisk d) (s : State) (it : Represents g.P.Places.represents v (state g.S.Store c.args.tables.now).now (office_of s) s.catalogue). few_containers s (counted.answers (early b d _ told.looks.goes.on.crash clean) s.catalogue (office_of s) it) c.if-branch.false in
-          told_last (λ beside s. beside) (λ beside s. s) c.pass.ensures.answers looks
+          told_last (λ beside s. beside) (λ beside s. s) c.pass_gate.ensures.answers looks
           (record {
             shown = λ clean beside s it. subst (λ (db : Database). RepresentsState g.P.Places.represents v db s) (sym (looks.same clean)) it;
             allowed = λ clean beside s it may has. (tt, has.imported.judged (within clean s it.catalogue));

@@ -1,8 +1,8 @@
 use Rattle.std.proofs.Common.{refl, arith}
 use Rattle.office_core.specs.declared.command.Command.TheVariants as command
 use Rattle.office_core.specs.declared.done.Done.TheVariants as done
-use Rattle.refinement.proofs.Passing.{passed_where}
-use Rattle.refinement.specs.Gate.{OthersAreOpen}
+use Rattle.access.proofs.Passing.{passed_where}
+use Rattle.access.specs.Gate.{OthersAreOpen}
 use Rattle.desk_commands.proofs.Common.{cut_after, desk_passed, does_pass, looks_nowhere, state, tables}
 use Rattle.desk_commands.proofs.KnownNumbers.{kept_ticket, kept_unit}
 use Rattle.desk_commands.proofs.Revoked.{gate_is_left, judged, revokes_near, represents}
@@ -30,7 +30,7 @@ returns g c =
     let a = state g.S.Store c.args.tables.now in
     let b = state g.S.Store c.revoke.new.tables in
     let made = rw (c.in_ok-reader.ensures.same, c.in_ok-read.ensures.same) at c.in_ok-revoke.ensures.updates in
-    passed_where g.S.Store g.P.Places.represents g.P.Versioned.version _ (command.Revoke c.args.ticket c.args.unit) c.args.today (done.Revoke c.args.unit) a c.revoke.new.tables c.pass_near.new.tables c.pass_near.result (OthersAreOpen c.args.unit)
+    passed_where g.S.Store g.P.Places.represents g.P.Versioned.version _ (command.Revoke c.args.ticket c.args.unit) c.args.today (done.Revoke c.args.unit) a c.revoke.new.tables c.pass_gate_near.new.tables c.pass_gate_near.result (OthersAreOpen c.args.unit)
     (record {
       represents = λ clean s sound so it. represents s sound c.args.ticket c.args.unit g.P.Places.represents g.met.P.Places.shows_same g.P.Versioned.version a.now b.now it (made.goes.schema clean) (made.only clean)
           (made.represents_updated clean tt (tables g.P.Versioned.version s).desk it.desk tt);
@@ -39,4 +39,4 @@ returns g c =
       last = λ s so. gate_is_left s c.args.ticket c.args.unit so.1;
       answers = λ clean s so it. refl;
     })
-    (λ s sound so. revokes_near s sound c.args.ticket c.args.unit) made.goes (rw c.in_ok-read.ensures.same at c.pass_near.ensures.answers)
+    (λ s sound so. revokes_near s sound c.args.ticket c.args.unit) made.goes (rw c.in_ok-read.ensures.same at c.pass_gate_near.ensures.answers)

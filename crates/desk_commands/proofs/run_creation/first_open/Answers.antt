@@ -1,6 +1,6 @@
 use Rattle.std.proofs.Common.{◌≡◌, ◌++◌, length, filter, take, sym, ap, ap₂, ◌∙◌, arith}
 use Rattle.desk_store.proofs.ToldCalls.{ends_well, shown_on}
-use Rattle.refinement.proofs.TellingUnits.{nothing_told}
+use Rattle.access.proofs.TellingUnits.{nothing_told}
 use Rattle.desk_commands.proofs.Common.{CanBeJudged, ContainerOrder, RepresentsWhole, early, is_on_shelf, looks_nowhere}
 use Rattle.desk_commands.proofs.Common.{looks_then, on_shelf, opens, state, tables, take_rest, tells_passed_later, ⊤}
 use Rattle.desk_commands.proofs.Fetched.{head_and_rest, head_enough}

@@ -1,7 +1,7 @@
 use Rattle.std.proofs.Common.{◌≤◌, ◌++◌, append-nil, append_assoc, length, take, ap, ap₂, sym, ◌∙◌, arith}
 use Rattle.std.proofs.lemmas.Grind.{common_steps}
 use Rattle.desk_store.proofs.ToldCalls.{ends_well, shown_on}
-use Rattle.refinement.specs.KnownUnits.{open_ones}
+use Rattle.access.specs.KnownUnits.{open_ones}
 use Rattle.desk_commands.proofs.Common.{CanBeJudged, ContainerOrder, RepresentsWhole, early, looks_nowhere, looks_then}
 use Rattle.desk_commands.proofs.Common.{opens, state, take_all, tells_full, tells_passed_later, ⊤}
 use Rattle.desk_commands.proofs.Fetched.{enough_with, part_more}

@@ -42,7 +42,7 @@ returns-in_err-to_spans g c =
       aborts = cut_then old mid new reads.looks.goes.on failed.aborts;
       cause = λ clean opened.
           let clean_mid = early mid new _ failed.aborts.crash clean in
-          let its_state = shows_its_state old.now c.in_ok-verdict.verdict (sym c.refusal.ensures ∙ c.in_default.is) (c.in_ok-verdict.ensures.answers clean_mid) (c.schema.ensures.live opened).0 in
+          let its_state = shows_its_state old.now c.in_ok-verdict.verdict (sym c.fault_for.ensures ∙ c.in_default.is) (c.in_ok-verdict.ensures.answers clean_mid) (c.schema.ensures.live opened).0 in
           cause_of_call old mid new e (failed.disk clean)
           (λ ordered.
           let shown = subst (λ (db : Database). RepresentsState RepresentsLinkRows First db (state_in First old.now.trees)) (sym (reads.looks.same clean_mid)) (its_state ordered).represents in
@@ -62,7 +62,7 @@ returns g c =
       same = λ clean opened.
           let clean_mid = early mid new _ made.goes.crash clean in
           let same = reads.looks.same clean_mid in
-          migrated old.now c.in_ok-verdict.verdict (sym c.refusal.ensures ∙ c.in_default.is) (c.in_ok-verdict.ensures.answers clean_mid) (c.schema.ensures.live opened).0 new.now
+          migrated old.now c.in_ok-verdict.verdict (sym c.fault_for.ensures ∙ c.in_default.is) (c.in_ok-verdict.ensures.answers clean_mid) (c.schema.ensures.live opened).0 new.now
           (λ s shown. made.represents clean s (subst (λ (db : Database). RepresentsState RepresentsLinkRows First db s) (sym same) shown))
           (subst (λ (db : Database). OnlyTouches (tables.office.tree ∷ tables.link.tree ∷ []) db new.now) same (made.only clean));
       inside = made.inside;

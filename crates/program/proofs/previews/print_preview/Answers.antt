@@ -1,6 +1,6 @@
 use Rattle.std.proofs.Common.{◌≡◌, List, ℕ, Ok, Err, subst, sym}
 use Rattle.std.specs.Option.{option_copied}
-use Rattle.atom_csv.specs.ReadProgress.{IsBad}
+use Rattle.atom_csv.specs.ReadProgress.{IfBad}
 use Rattle.program.proofs.Common.{ReadsInput, preview_result}
 use Rattle.program.proofs.PerformedLemmas.{broken_off, refused_fails}
 use Rattle.program.proofs.previews.print_preview.Goals as goal
@@ -18,7 +18,7 @@ returns-in_err-write_whole-in-Ok-clause-fault g c =
 
 pub returns-clause-fault : goal.returns-clause-fault
 returns-clause-fault g c =
-    let of_country = subst (λ (t : List ℕ). IsBad c.in-Err.fault (λ row cause. preview_result t c.as_str-2.result.now c.as_slice.result.now ≡ Err (row, cause))) c.as_str.ensures c.in-Err.ensures.bad in
-    let bad = subst (λ (t : List ℕ). IsBad c.in-Err.fault (λ row cause. preview_result c.args.country.now t c.as_slice.result.now ≡ Err (row, cause))) c.as_str-2.ensures of_country in
+    let of_country = subst (λ (t : List ℕ). IfBad c.in-Err.fault (λ row cause. preview_result t c.as_str-2.result.now c.as_slice.result.now ≡ Err (row, cause))) c.as_str.ensures c.in-Err.ensures.bad in
+    let bad = subst (λ (t : List ℕ). IfBad c.in-Err.fault (λ row cause. preview_result c.args.country.now t c.as_slice.result.now ≡ Err (row, cause))) c.as_str-2.ensures of_country in
     refused_fails c.args.country.now c.args.repo.now (option_copied c.args.path) _ _ _ c.as_slice.result.now c.in-Err.fault c.refused_file.result
     c.refused_file.ensures (subst (ReadsInput (option_copied c.args.path) _ _) (sym c.as_slice.ensures.value) c.in_ok-file.ensures.reads) bad c.read_file.ensures.front

@@ -1,6 +1,6 @@
 use Rattle.std.proofs.Common.{rules, ◌≡◌, of_z, to_z, w32, FitsSigned, ap, ◌∙◌, arith}
 use Rattle.std.proofs.lemmas.Int.{to_z-of_z}
-use Rattle.tree_core.specs.Marks.{public_walk as kept_on}
+use Rattle.visibility.specs.Marks.{public_walk as kept_on}
 use Rattle.public_queries.proofs.Common.{cut_after, has_id, state, tree}
 use Rattle.public_queries.proofs.AidPrinted.{kept_units}
 use Rattle.public_queries.proofs.AidUnits.{few_marks}

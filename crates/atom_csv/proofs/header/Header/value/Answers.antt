@@ -1,6 +1,6 @@
 use Rattle.std.proofs.Common.{◌≡◌, ◌∙◌, ◌<◌, sym, ap, subst, length, arith, Option, ℕ, List}
-use Rattle.atom_csv.proofs.Common.{Column, Fields, borrowed_fields, column_index, column_indices, column_name, field_in}
-use Rattle.atom_csv.proofs.Common.{fields_in, tag_of, the_type, value}
+use Rattle.atom_csv.proofs.Common.{Column, Fields, borrowed_fields, column_index, column_indices, column_name}
+use Rattle.atom_csv.proofs.Common.{field_at_place, tag_of, the_type, trimmed_fields, value}
 use Rattle.atom_csv.proofs.ColumnLemmas.{place_within}
 use Rattle.atom_csv.proofs.FieldLemmas.{value_at}
 use Rattle.atom_csv.proofs.header.Header.value.Goals as goal
@@ -15,7 +15,7 @@ index-requires c =
 pub returns : goal.returns
 returns c =
     let header = borrowed_fields c.self.inside.names.items in
-    let fields = fields_in c.args.row.now in
+    let fields = trimmed_fields c.args.row.now in
     let is : c.self.inside.places.items ≡ column_indices header = c.self.invariant in
-    c.field_at.ensures ∙ (ap (λ (o : Option ℕ). field_in o fields) c.index.ensures
+    c.field_at.ensures ∙ (ap (λ (o : Option ℕ). field_at_place o fields) c.index.ensures
     ∙ (value_at c.args.column header fields c.self.inside.places.items _ is ∙ ap (λ (h : Fields). value c.args.column h fields) c.self.view_is))

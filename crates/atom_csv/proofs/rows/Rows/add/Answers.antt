@@ -4,8 +4,8 @@ use Rattle.std.specs.BTreeMap.{get_by_text}
 use Rattle.std.specs.Prelude.{Err, not}
 use Rattle.atom_csv.specs.Findings.{causes_of, findings}
 use Rattle.atom_csv.specs.declared.file.Row.{Row}
-use Rattle.atom_csv.proofs.Common.{Bytes, bytes_eq, fields_in, if◌then◌else◌, is_blank, is_some, is_told_again}
-use Rattle.atom_csv.proofs.Common.{is_translation, lowest, rows, stood_above, ◌&&◌, ◌||◌}
+use Rattle.atom_csv.proofs.Common.{Bytes, bytes_eq, if◌then◌else◌, is_blank, is_some, is_told_again, is_translation}
+use Rattle.atom_csv.proofs.Common.{lowest, rows, stood_above, trimmed_fields, ◌&&◌, ◌||◌}
 use Rattle.atom_csv.proofs.LineLemmas.{fault_step, knows_blank, knows_new, knows_stood, line_at, none_step, rows_kept}
 use Rattle.atom_csv.proofs.LineLemmas.{rows_passed, told, told_is, translation_stood, translations_step}
 use Rattle.atom_csv.proofs.rows.Rows.add.Goals as goal
@@ -13,7 +13,7 @@ use Rattle.atom_csv.proofs.rows.Rows.add.Goals as goal
 pub returns-in-Some-clause-bad : goal.returns-in-Some-clause-bad
 returns-in-Some-clause-bad c = λ above later at h.
     let header = c.args.header.now in
-    let x = fields_in c.args.row.now in
+    let x = trimmed_fields c.args.row.now in
     let stood = option_map (λ t. t.now) c.culture_of.result in
     let stood_is : stood ≡ stood_above header (line_at above x) = c.culture_of.ensures ∙ (ap (told (get_by_text c.args.self.now.cultures)) c.value-id.ensures ∙ told_is header above x _ h.known) in
     let is = c.in-Some.ensures.lowest ∙ ap (λ f. lowest (causes_of f)) c.of-found.ensures in
@@ -22,7 +22,7 @@ returns-in-Some-clause-bad c = λ above later at h.
 pub returns-then-found-clause-told : goal.returns-then-found-clause-told
 returns-then-found-clause-told c = λ above at h.
     let header = c.args.header.now in
-    let x = fields_in c.args.row.now in
+    let x = trimmed_fields c.args.row.now in
     let n = c.args.number in
     let get = get_by_text c.args.self.now.cultures in
     let stood = option_map (λ t. t.now) c.culture_of.result in
@@ -40,7 +40,7 @@ returns-then-found-clause-told c = λ above at h.
 pub returns-then-found-2-clause-told : goal.returns-then-found-2-clause-told
 returns-then-found-2-clause-told c = λ above at h.
     let header = c.args.header.now in
-    let x = fields_in c.args.row.now in
+    let x = trimmed_fields c.args.row.now in
     let n = c.args.number in
     let get = get_by_text c.args.self.now.cultures in
     let stood = option_map (λ t. t.now) c.culture_of.result in
@@ -60,7 +60,7 @@ returns-then-found-2-clause-told c = λ above at h.
 pub returns-clause-told : goal.returns-clause-told
 returns-clause-told c = λ above at h.
     let header = c.args.header.now in
-    let x = fields_in c.args.row.now in
+    let x = trimmed_fields c.args.row.now in
     let n = c.args.number in
     let get = get_by_text c.args.self.now.cultures in
     let stood = option_map (λ t. t.now) c.culture_of.result in

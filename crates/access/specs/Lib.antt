@@ -1,0 +1,4 @@
+pub mod Openness
+pub mod Gate
+pub mod DayRules
+pub mod KnownUnits

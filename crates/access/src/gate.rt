@@ -1,0 +1,73 @@
+//! The gate: after a change, nothing that is out may be withheld from the reader who has it.
+
+ghost use Rattle.std.specs.Prelude.{◌≡◌, IfErr};
+ghost use Rattle.sqlite.specs.Held.{state};
+ghost use Rattle.sqlite.specs.State.{HasCleanDisk};
+ghost use Rattle.office_core.specs.Rules.{lowest_withheld as lowest_withheld_of};
+ghost use Rattle.office_tables.specs.Calls.{Answers};
+ghost use Rattle.office_tables.specs.Faults.{BlamesDisk};
+ghost use Rattle.office_tables.specs.Premises.{◌within◌gives◌};
+ghost use Rattle.access.specs.Gate.{first_closed as first_closed_of, gate_reply};
+ghost use Rattle.refinement.specs.AccessConditions.{CanBeJudged, RepresentsWhole};
+
+use crate::joint_walk::{is_open_at, walk_orders};
+use catalogue_store::Places;
+use desk_store::{ContainerOrder, issued};
+use isad_core::Day;
+use office_core::{Done, Refusal};
+use office_tables::{StoreFault, Tables};
+use sqlite::Alter;
+use std::alloc::Global;
+use std::collections::BTreeMap;
+
+/// The first of these containers that is not open on this day to the reader who has it. Their units are read in one
+/// walk.
+pub(crate) fn first_closed<P: Places, S: Alter>(
+    alloc: Global,
+    tables: &mut Tables<P, S>,
+    loans: &[ContainerOrder],
+    today: Day,
+) -> Result<Option<u64>, StoreFault>
+    ensures answers { Answers S.Store (RepresentsWhole P.represents P.version) tables.old tables.new result
+        within CanBeJudged gives λ _ s found. CanBeJudged s → today ≡ s.day → found ≡ first_closed_of s loans.now }
+    ensures disk { HasCleanDisk (state S.Store tables.new)
+        → IfErr result (BlamesDisk (state S.Store tables.old) (state S.Store tables.new)) }
+{
+    let walked = walk_orders(alloc, tables, loans, BTreeMap::new(alloc), today)?;
+    for place in 0..loans.len() {
+        if !is_open_at(alloc, tables, &walked, loans, place, today)? {
+            return Ok(Some(loans[place].container.get()));
+        }
+    }
+    Ok(None)
+}
+
+/// The lowest container that is out and not open on this day to the reader who has it.
+pub fn lowest_withheld<P: Places, S: Alter>(
+    alloc: Global,
+    tables: &mut Tables<P, S>,
+    today: Day,
+) -> Result<Option<u64>, StoreFault>
+    ensures answers { Answers S.Store (RepresentsWhole P.represents P.version) tables.old tables.new result
+        within CanBeJudged gives λ _ s found. CanBeJudged s → today ≡ s.day → found ≡ lowest_withheld_of s }
+{
+    let loans = issued(alloc, tables)?;
+    first_closed(alloc, tables, &loans, today)
+}
+
+/// The outcome of a change that the tables already show: what was done, or a refusal if it would close a container to
+/// the reader who has it.
+pub fn pass_gate<P: Places, S: Alter>(
+    alloc: Global,
+    tables: &mut Tables<P, S>,
+    today: Day,
+    done: Done,
+) -> Result<Result<Done, Refusal>, StoreFault>
+    ensures answers { Answers S.Store (RepresentsWhole P.represents P.version) tables.old tables.new result
+        within CanBeJudged gives λ _ s reply. CanBeJudged s → today ≡ s.day → reply ≡ gate_reply s done }
+{
+    match lowest_withheld(alloc, tables, today)? {
+        Some(container) => Ok(Err(Refusal::WithReader { container })),
+        None => Ok(Ok(done)),
+    }
+}

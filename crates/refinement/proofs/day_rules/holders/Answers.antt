@@ -1,5 +1,0 @@
-use Rattle.refinement.proofs.Common.{IsNonDecreasingBy-from_sort}
-use Rattle.refinement.proofs.day_rules.holders.Goals as goal
-
-pub returns-clause-rise : goal.returns-clause-rise
-returns-clause-rise c = IsNonDecreasingBy-from_sort (λ x. x) c.sort_unstable.new.self.items c.sort_unstable.ensures.sorted

@@ -1,0 +1,2 @@
+pub mod MarkWalks
+pub mod Sharing

@@ -1,0 +1,4 @@
+pub mod Visibility
+pub mod Marks
+pub mod MarkSteps
+pub mod WorkedMarks
