@@ -6,7 +6,7 @@ from dataclasses import dataclass
 from csv_records import BLANK, lost_quote, records
 from look_at_values import GARBLED
 
-SEP = re.compile("sep=(.)?(\r\n|\n|\r|$)", re.I)
+SEP = re.compile("sep=([^\r\n])?(\r\n|\n|\r|$)", re.I)
 QUOTED = re.compile('[",\r\n]')
 UNDEFINED = re.compile("[\u0081\u008d\u008f\u0090\u009d]")  # not used by Windows-1252
 FOREIGN = re.compile("[^ \t\r\n\";,|]*[^\x00-\x7f][^ \t\r\n\";,|]*")

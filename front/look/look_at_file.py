@@ -26,7 +26,6 @@ class Unit:
     legacy: str
     parent: str
     identifier: str
-    title: str
     culture: str
     status: str
     boxes: list
@@ -270,7 +269,7 @@ class Reader:
             self.units[legacy] = Unit(
                 row,
                 legacy,
-                *(self.value(row, name) for name in ("parentId", "identifier", "title", "culture")),
+                *(self.value(row, name) for name in ("parentId", "identifier", "culture")),
                 self.value(row, "publicationStatus"),
                 self.boxes(row),
             )

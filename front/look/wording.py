@@ -18,13 +18,13 @@ def read_rules():
 def words(rules, name, values):
     """An advice as its level, what it says, and what to do."""
     level, says, todo = rules["advice"][name]
-    most = rules["limits"]["shown"] if name not in WHOLE else len(rules["elements"]) + 1000
+    most = None if name in WHOLE else rules["limits"]["shown"]
 
     def fill(found):
         """The value that a place in braces stands for."""
         value = values[found[1]]
         if isinstance(value, list):
-            more = f" and {len(value) - most:,} more" if len(value) > most else ""
+            more = f" and {len(value) - most:,} more" if most and len(value) > most else ""
             return ", ".join(value[:most]) + more
         if found[1] in ("rows", "lines"):
             return count_words(value, found[1][:-1])

@@ -12,7 +12,8 @@ from asking import Busy, Slow, Unreached
 from texts import Page, name_of, own_digest, read_fonds, value_of, years_of
 
 SHOWN, COUNTED = 20, 300  # of one answer: units shown, units counted
-LOOKS, SECONDS, COUNTING = 2000, 5, 1  # candidates looked at, time, time after which no more are counted
+LOOKS, SECONDS = 2000, 5  # candidates looked at, time
+COUNTING, HURRIED = 1, .15  # seconds after which no more are counted; the same while other readers wait for their turn
 LINES, WIDTH, BEFORE = 2, 240, 60  # of one unit: lines shown, characters of a line, of these before the first mark
 START = (0, 0)  # the place before all others
 
@@ -48,10 +49,11 @@ class Finder:
     verified, or None; exact: whether these are all. after: how to ask for more. doubts: units that the index has
     otherwise than the office; gone: those of them that are shown no more. These are for the next round, not for the
     reader. fonds: the list of fonds, if it was read for the same reader just now; counts: whether what is not shown is
-    counted."""
+    counted; is_awaited() says whether other readers wait."""
 
-    def __init__(self, db, ask, query, shown=SHOWN, fonds=(), counts=True):
+    def __init__(self, db, ask, query, shown=SHOWN, fonds=(), counts=True, is_awaited=lambda: False):
         self.db, self.ask, self.query, self.shown, self.fonds, self.counts = db, ask, query, shown, fonds, counts
+        self.is_awaited = is_awaited
         self.state, self.units, self.more, self.after, self.count, self.exact = "done", [], False, query.after, 0, True
         self.doubts, self.gone, self.pages, self.tops, self.looked = set(), set(), {}, set(), 0
         self.unanswered = set()
@@ -59,7 +61,7 @@ class Finder:
     def find(self, seconds=SECONDS):
         """Answers, within so many seconds; returns itself."""
         began = time.monotonic()
-        self.ask.until, self.counting = began + seconds, began + COUNTING
+        self.ask.until, self.began = began + seconds, began
         self.db.set_progress_handler(lambda: time.monotonic() > self.ask.until, 10_000)
         self.db.execute("BEGIN")  # the index stays as it is for this answer
         try:
@@ -100,7 +102,11 @@ class Finder:
         """Whether no more are looked at: whoever goes on is told no number, and nobody waits long for one. Whether there is
         another candidate, which may be one that was closed, is not asked."""
         return self.more and (not self.counts or self.query.after != START or self.count > max(COUNTED, self.shown)
-                              or time.monotonic() > self.counting)
+                              or self._took() > COUNTING or self._took() > HURRIED and self.is_awaited())
+
+    def _took(self):
+        """Seconds since it began."""
+        return time.monotonic() - self.began
 
     def _hit(self, place, number, shown):
         """The unit as it is shown, or only that it is one; None if its page, as it is now, has not what was asked

@@ -190,8 +190,7 @@ def count_below(db, number, most):
 
 def branch_numbers(db, number, most):
     """The numbers of a unit and of what is below it, up to so many."""
-    return [n for n, in db.execute(BELOW.replace("SELECT ?", "SELECT n FROM unit WHERE n = ?") + "SELECT n FROM below LIMIT ?",
-                                   (number, most))]
+    return [n for n, in db.execute(BELOW + "SELECT n FROM below LIMIT ?", (number, most))]
 
 
 def next_with_units(db, after, many):

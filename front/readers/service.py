@@ -132,19 +132,19 @@ class Service:
         if unread:
             return {**NOTHING, "state": "unread", "unread": unread}, []
         try:
-            with self.turns.turn(address, isinstance(address, Room), is_costly(query.phrases)):
-                return self.found(values, language, query)
+            with self.turns.turn(address, isinstance(address, Room), is_costly(query.phrases)) as is_awaited:
+                return self.found(values, language, query, is_awaited)
         except Late:
             return {**NOTHING, "state": "late", "after": "{}-{}".format(*query.after)}, []
 
-    def found(self, values, language, query):
+    def found(self, values, language, query, is_awaited):
         """What was found, and the list of fonds. While the first round goes on, the answer says how far it is."""
         if not hasattr(self.mine, "ask"):
             self.mine.ask = Asking(self.queue, kind="search")
         try:
             with contextlib.closing(index.open_index(self.path)) as db:
                 finished, done, tops = db.execute("SELECT finished, done, tops FROM round").fetchone()
-                found = Finder(db, self.mine.ask, query).find()
+                found = Finder(db, self.mine.ask, query, is_awaited=is_awaited).find()
                 told = self.told(found, values)
                 if found.state == "done" and query.phrases and not found.units and query.after == START:
                     told["offers"] = offers(found, values["q"], language)

@@ -13,6 +13,7 @@ PLACES, OWN, PATIENCE = 4, 2, 5  # searches at a time, those of one address, sec
 LATELY, KEPT = 20, 10_000  # seconds after which half of the time is forgotten; addresses that are kept
 ROOM = 8  # so many readers count as one address in a reading room
 SHORT = 2  # letters: words that only begin so are costly
+LITTLE = 1  # seconds lately that are not much
 
 
 class Late(Exception):
@@ -28,7 +29,8 @@ class Turns:
 
     @contextlib.contextmanager
     def turn(self, address, room=False, costly=False):
-        """A context that begins when it is this one's turn. Raises Late."""
+        """A context that begins when it is this one's turn; it gives a function that says whether it keeps others
+        waiting. Raises Late."""
         who, share = network_of(address), ROOM if room else 1
         me = (costly, next(self.numbers), who, OWN if share == 1 else PLACES)
         with self.changed:
@@ -42,7 +44,7 @@ class Turns:
             self.changed.notify_all()
         began = time.monotonic()
         try:
-            yield
+            yield lambda: self._is_awaited(who)
         finally:
             with self.changed:
                 self.running[who] -= 1
@@ -54,6 +56,11 @@ class Turns:
         ready = [one for one in self.waiting if self.running[one[2]] < one[3]]
         return (me in ready and self.running.total() < PLACES
                 and me == min(ready, key=lambda one: (round(self._spent(one[2]), 1), one[:2])))
+
+    def _is_awaited(self, who):
+        """Whether somebody waits who has not taken much more of the time than this one."""
+        with self.changed:
+            return any(self._spent(one[2]) <= 2 * self._spent(who) + LITTLE for one in self.waiting)
 
     def _spent(self, who):
         """The seconds that an address has taken lately."""

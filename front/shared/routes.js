@@ -4,7 +4,6 @@
 //   { ok: false, kind: 'missing' }               404: not there, or not shown
 //   { ok: false, kind: 'unread' | 'large' }      the request was not taken (400, 405, 411, 501; 413)
 //   { ok: false, kind: 'barred' | 'often' }      the front server did not pass it on (401, 403, 421; 429)
-//   { ok: false, kind: 'elsewhere' }             the front server takes no orders from this address (403)
 //   { ok: false, kind: 'unsent' }                the front server could not give it to the program
 //   { ok: false, kind: 'silent' }                a question that was not answered
 //   { ok: false, kind: 'uncertain' }             a command, and nobody here knows whether it was done
@@ -61,7 +60,6 @@ async function call(path, options, read, lost) {
 function judge(status, body, read, lost) {
   if (status === 200) return { ok: true, value: read(body) };
   if (status === 409) return { ...JSON.parse(body), ok: false, kind: 'refused' };
-  if (status === 403 && body.includes('"not from here"')) return { ok: false, kind: 'elsewhere' };
   if (status === 503) return { ok: false, kind: isUnsent(body) ? 'unsent' : lost };
   return { ok: false, kind: KINDS[status] ?? lost };
 }

@@ -3,11 +3,15 @@
 import re
 
 
+class NoCopy(FileNotFoundError):
+    """The backup has made no copy yet."""
+
+
 def newest_copy(folder):
-    """The newest copy that the backup has made; raises FileNotFoundError if there is none."""
+    """The newest copy that the backup has made; raises NoCopy if there is none."""
     copies = sorted(folder.glob("office-*.db"))
     if not copies:
-        raise FileNotFoundError(2, "there is no copy of the office", str(folder))
+        raise NoCopy(2, "there is no copy of the office", str(folder))
     return copies[-1]
 
 

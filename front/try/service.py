@@ -18,7 +18,7 @@ import time
 import waitress
 
 from differences import Trial
-from kept_files import is_source, keep_file, last_file, newest_copy
+from kept_files import NoCopy, is_source, keep_file, last_file, newest_copy
 from wording import read_rules
 
 LARGEST_FILE = 8 * 1024 * 1024
@@ -52,7 +52,7 @@ class Service:
         try:
             with self.one:
                 return "200 OK", self.tried(found[2], data) if found[1] == "differences" else self.kept(found[2], data)
-        except FileNotFoundError as missing:
+        except NoCopy as missing:
             print(f"{missing.filename}: {missing.strerror}", flush=True)
             return "409 Conflict", {"error": "no copy"}
         except (OSError, subprocess.SubprocessError, ValueError) as wrong:
