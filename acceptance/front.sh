@@ -27,11 +27,12 @@ if [ ${#missing[@]} -gt 0 ]; then
     echo "0 passed, ${#missing[@]} failed"
     exit 1
 fi
-parts=(looks pages unscripted access rules restarts limits queue encrypted stall search strangers services neighbours tries registers
-    refusals journeys paper tickets translations)
+parts=(looks pages approved desk unscripted access rules restarts limits queue encrypted stall search strangers services servers
+    neighbours tries registers refusals journeys paper tickets translations)
 if ! has chromium chromium fonts-liberation; then
     echo "left out the pages, their refusals and the page of another site: chromium is not here and cannot be installed"
-    parts=(looks unscripted rules restarts limits queue encrypted stall search strangers services tries registers)
+    parts=(looks approved unscripted rules restarts limits queue encrypted stall search strangers services servers tries
+        registers)
 fi
 if ! has systemd-analyze systemd; then
     echo "left out the units of systemd: systemd-analyze is not here and cannot be installed"

@@ -6,23 +6,28 @@ FRONT_FILES names the copy of front/ in which faults are planted, FRONT_PORTS th
 JSON, [kind, fault or null, parts], and writes a line for each: [part, what failed], or null if nothing did."""
 
 import contextlib
+import functools
+import gc
 import importlib
 import io
 import json
 import os
 import pathlib
+import resource
 import shutil
+import signal
 import socket
 import subprocess
 import sys
 import time
 
 from acceptance import client
-from acceptance.front import catalogs, looks, run, server_limits, services, unscripted, waits
+from acceptance.front import (
+    answers_of_front, approved_desk, catalogs, look_texts, run, server_limits, services, try_texts, unscripted, waits,
+)
 from acceptance.front.asks import Asks
 from acceptance.front.browser import Browser, Page
 from acceptance.front.checks import Checks, Enough
-from acceptance.front.files import FILES
 from acceptance.front.office import FRONT, SIGNED_IN, Office, clear
 from acceptance.front.rules import Rules
 from acceptance.front.waits import until
@@ -33,6 +38,7 @@ RATES = [(f"zone=record_office_{zone}:2m rate={rate}", f"zone=record_office_{zon
     ("readers", "50r/s"), ("orders", "6r/m"), ("aids_in_a_row", "10r/m"), ("pages", "15r/s"), ("searches", "2r/s"))]
 CHANGES = [*unscripted.CHANGES, *RATES]
 CHANGING = {"orders", "collected", "vanishing"}  # parts of unscripted after which the office is another one
+STUCK, ENDLESS = 200, 40  # seconds, and of these of a processor, after which a part that has no servers is broken off
 PATIENCE, BEGINNING = 60, 240  # seconds that anything is waited for with a fault, and where an office begins
 
 
@@ -115,17 +121,35 @@ def kept_texts(kind, file, *values, **more):
     return TEXTS[kind, data]
 
 
+def forget(name):
+    """Forgets a module, also as a part of its package: else `from package import name` would find the old one."""
+    package, _, last = name.rpartition(".")
+    del sys.modules[name]
+    if package in sys.modules:
+        vars(sys.modules[package]).pop(last, None)
+
+
 class Alone:
     """Parts that read modules of front/ into their own process: each time a new one."""
 
     def __init__(self, program, folder):
-        self.program, self.folder = program, folder
+        self.program, self.folder, self.fault = program, folder, None
+        folder.mkdir(parents=True, exist_ok=True)
+        for name in KEPT:
+            importlib.import_module(name)
+        languages = sys.modules["languages"]
+        languages.load = functools.cache(languages.load)
+        languages.load()
 
-    def play(self, _, parts):
+    def play(self, fault, parts):
         """Plays the parts in a copy of this process; what is no JSON then has broken off."""
+        self.fault = fault
         read, write = os.pipe()
         child = os.fork()
         if not child:
+            gc.disable()
+            signal.alarm(STUCK)
+            resource.setrlimit(resource.RLIMIT_CPU, (ENDLESS, ENDLESS))
             try:
                 os.write(write, json.dumps(failure(lambda checks: self.compare(checks, parts), parts[0])).encode())
             finally:
@@ -138,25 +162,42 @@ class Alone:
 
     def compare(self, checks, parts):
         """Reads the modules anew, and plays the parts."""
+        slow = {name for name, files in KEPT.items() if not self.fault or self.fault["file"] not in files}
         for name, module in list(sys.modules.items()):
-            if name in AGAIN or (getattr(module, "__file__", None) or "").startswith(str(FRONT)):
-                del sys.modules[name]
+            if name in AGAIN or (getattr(module, "__file__", None) or "").startswith(str(FRONT)) and name not in slow:
+                forget(name)
         clear(self.folder / "offices")
-        if parts == ["folding"]:
+        for part in parts:
+            self.part(checks, part)
+
+    def part(self, checks, part):
+        """Plays one part."""
+        group, _, name = part.partition(":")
+        if group == "approved":
+            played = importlib.import_module(f"acceptance.front.approved_{name}")
+            file = self.fault["file"] if self.fault else ""
+            checks.part(f"approved: {name}", played.play, checks, self.folder / "offices", file)
+        elif part == "folding":
             importlib.import_module("acceptance.front.foldings").play(checks)
+        elif part == "looks:approved":
+            importlib.import_module("acceptance.front.look_texts").play(checks)
+        elif part == "tries:approved":
+            try_texts.play(checks, self.program, self.folder / "offices", self.folder / "memory")
         else:
             run_anew = importlib.import_module("acceptance.front.run")
-            played = run_anew.Run(checks, None, self.program, self.folder / "offices", self.folder)
-            played.play(parts)
+            run_anew.Run(checks, None, self.program, self.folder / "offices", self.folder).play([part])
 
     def end(self):
         """Nothing goes on."""
 
 
+# Modules of front/ that take long to read, with the files that they read.
+KEPT = {"folding": ("readers/folding.py", "shared/words.json"), "languages": ("readers/languages.py",)}
 # Modules of acceptance/front that read some of front/.
 AGAIN = {f"acceptance.front.{name}" for name in (
-    "run", "looks", "searched", "search_checks", "search_sessions", "page_sessions", "foldings", "unanswered",
-    "search_pairs", "search_pages")}
+    "stage", "approved_readers", "approved_tables", "approved_inside",
+    "run", "looks", "look_texts", "odd_files", "searched", "search_checks", "search_sessions", "page_sessions", "foldings",
+    "unanswered", "search_pairs", "search_pages")}
 
 
 class Pages:
@@ -179,13 +220,40 @@ class Pages:
         self.browser.end()
 
 
+class Approved:
+    """The desk's pages over answers that were kept."""
+
+    def __init__(self, program, folder):
+        self.desk = approved_desk.Desk(program, folder)
+
+    def prepare(self, parts):
+        """Asks without a fault for what parts have not asked for, and sees that all is as approved then."""
+        for part in parts:
+            name = part.split(":")[1]
+            if name not in self.desk.tables and (failed := self.play(None, [part])):
+                del self.desk.tables[name]
+                raise Unsure(f"without a fault: {failed}")
+
+    def play(self, _, parts):
+        """Compares what parts show with what was approved."""
+        return next(filter(None, (failure(functools.partial(self.compare, part.split(":")[1]), part) for part in parts)), None)
+
+    def compare(self, part, checks):
+        """Compares what one part shows."""
+        approved_desk.compare(checks, self.desk, part, True)
+
+    def end(self):
+        """Ends the browser."""
+        self.desk.end()
+
+
 class Looks:
     """The modules of the import page that look at a file, beside record-office-look."""
 
     def __init__(self, program, folder):
         self.browser, self.office = Anew(folder / "profile"), Office.create(program, clear(folder / "office"))
         self.office.begin()
-        self.wanted = {file.name: looks.look_by_shell(file.data) for file in FILES}
+        self.wanted = look_texts.told_by_shell()
 
     def play(self, _, parts):
         """Looks at each file."""
@@ -194,11 +262,7 @@ class Looks:
 
     def compare(self, checks):
         """Checks that the page says of each file what record-office-look does."""
-        page = self.browser.page(SIGNED_IN)
-        page.open(self.office.staff, "/import")
-        for file in FILES:
-            checks.same(f"the page gives the same advice: {file.name}", looks.look_by_page(page, file.data),
-                        self.wanted[file.name])
+        look_texts.play_in_page(checks, self.browser.page(SIGNED_IN), self.office.staff, self.wanted)
 
     def end(self):
         """Ends the browser and the office."""
@@ -304,6 +368,25 @@ class Servers:
         self.office.end()
 
 
+class Fronts:
+    """The front without an office, begun for each fault."""
+
+    def __init__(self, _, folder):
+        self.folder = folder
+
+    def play(self, _, parts):
+        """Asks all that is approved; or, before that, compares the numbers of the configuration."""
+        found = failure(server_limits.numbers, "limits:numbers")
+        return found or ("servers:approved" in parts and failure(self.compare, "servers:approved")) or None
+
+    def compare(self, checks):
+        """Asks all that is approved."""
+        answers_of_front.play(checks, clear(self.folder / "front"), self.folder / "certificate")
+
+    def end(self):
+        """Nothing goes on."""
+
+
 class Units:
     """The units of systemd, of which each text is assessed once."""
 
@@ -325,21 +408,24 @@ class Units:
         """Nothing was started."""
 
 
-KINDS = {"services": Units, "texts": Texts, "alone": Alone, "pages": Pages, "looks": Looks, "readers": Readers,
-         "servers": Servers}
+KINDS = {"services": Units, "texts": Texts, "approved": Approved, "alone": Alone, "pages": Pages, "looks": Looks,
+         "readers": Readers, "servers": Servers, "fronts": Fronts}
+
+BESIDES = {"texts", "approved"}
 
 
 class Worker:
-    """Plays faults by kinds. What a kind has started goes on until another kind is asked for; but texts start nothing."""
+    """Plays faults by kinds. What a kind has started goes on until another kind is asked for, and of BESIDES to the end."""
 
     def __init__(self, program, folder):
-        self.program, self.folder, self.kind, self.player, self.texts = program, folder, None, None, None
+        self.program, self.folder, self.kind, self.player, self.others = program, folder, None, None, {}
 
     def player_of(self, kind):
         """What plays this kind."""
-        if kind == "texts":
-            self.texts = self.texts or Texts()
-            return self.texts
+        if kind in BESIDES:
+            if kind not in self.others:
+                self.others[kind] = KINDS[kind](self.program, self.folder / kind)
+            return self.others[kind]
         if kind != self.kind:
             self.stop()
             folder = clear(self.folder / kind)
@@ -355,10 +441,18 @@ class Worker:
             self.player.end()
         self.kind, self.player = None, None
 
+    def end(self):
+        """Ends all."""
+        self.stop()
+        for player in self.others.values():
+            player.end()
+
     def play(self, kind, fault, parts):
         """Plants a fault, and plays parts. What failed after a wait, or before anything was compared, is played again
         without the fault: raises Unsure if that fails too."""
         player = self.player_of(kind)
+        if kind == "approved":
+            player.prepare(parts)
         found = self.planted(player, fault, parts)
         if fault and found and kind != "texts" and ("not within" in found[1] or "broke off" in found[1]):
             again = [found[0]] if found[0] in machine.EVERY else parts
@@ -401,7 +495,7 @@ def main():
                 answer = ["unsure", str(unsure)]
             told.write(json.dumps([answer, round(time.monotonic() - begun, 1)]) + "\n")
     finally:
-        worker.stop()
+        worker.end()
 
 
 if __name__ == "__main__":

@@ -39,17 +39,19 @@ SINGLY = 2  # parts that have an office for themselves; the others share one wit
 GROUPS = {group: [f"{group}:{name}" for name in names.split()] for group, names in {
     "rules": "odd_paths readers_limits password staffs_limits other_sites other_names heads own_answers by_ipv6 pages_alone "
              "lists questions_of_heads no_page limit_of_orders orders_from_elsewhere foreign_page signing_out",
+    "servers": "approved",
     "limits": "numbers questions_in_a_row pages_in_a_row searches_in_a_row forms_in_a_row pages_at_once questions_at_once "
               "aids_at_once aids_from_all searches_at_once reading_room aids_in_a_row orders_in_a_row slow",
     "queue": "order heads of_a_reader of_the_service bodies_first slow_reader one_connection idle never_twice left_behind "
              "ways_in logs late",
-    "looks": "shell",
+    "looks": "approved shell",
     "restarts": "killed_program away command_cut_off question_cut_off",
     "search": "turns questions hostile states bounds pairs files kills",
     "unscripted": "fonds units aids lines languages statuses found_by_others contents level orders collected questions offers "
                   "large vanishing",
+    "approved": "readers tables inside",
     "neighbours": "numbers sources zones claimed_address own_words branch new_drafts two_who_wait",
-    "tries": "differences languages service shell large page",
+    "tries": "approved differences languages service shell large page",
     "registers": "who_was_here old_orders",
     "visit": "fonds hostile way aids search missing addresses links keyboard no_scripts",
     "day": "imports register_readers find_readers reader_orders desk_orders fetch counter waiting out take_back permits units "
@@ -61,31 +63,36 @@ GROUPS = {group: [f"{group}:{name}" for name in names.split()] for group, names 
                 "long_aid",
     "search_pages": "box results more filters odd_texts phone ordering away",
     "translations": "catalogs choice words alone both_ways without_scripts unkeyed way_de",
+    "desk": "today counter container readers card orders runs out units import differences old shell languages "
+                "many",
     "access": "archives fonds order text_from_right_to_left closed finding_aid file changed help not_found list_of_orders "
               "found nothing_found today counter container label readers card ticket orders runs slip call_slips out units "
               "unit question held wrong_scan old_orders import differences signed_out"}.items()}
 ALONE = ["looks", "encrypted", "stall", "paper", "tickets", "strangers", "services", "words"]
-WITHOUT_PAGES = {"looks", "unscripted", "rules", "restarts", "limits", "queue", "encrypted", "stall", "search", "strangers",
-                 "services", "tries", "registers", "translations:catalogs"}
+WITHOUT_PAGES = {"servers", "looks", "unscripted", "approved", "rules", "restarts", "limits", "queue", "encrypted", "stall",
+                 "search", "strangers", "services", "tries", "registers", "translations:catalogs"}
 TOGETHER = {"visit", "day", "first_year", "journeys", "search_pages", "access", "translations", "unscripted"}
 WITH_PAGES = {"rules:foreign_page", "rules:signing_out", "tries:page", "registers:old_orders"}
 SCRIPTS = front.SCRIPTS.keys()
 # What is played for a file, in this order: the first that fits. A script's parts come by what runs in them.
 FOR_FILES = [(begin, names.split()) for begin, names in (
     ("units/", "services"), ("server/strangers", "strangers"),
-    ("server/haproxy", "limits:numbers queue restarts rules encrypted stall"),
-    ("server/tls", "encrypted"), ("server/desk-tls", "encrypted"),
-    ("server/", "limits:numbers rules encrypted queue limits restarts neighbours:claimed_address tries:service registers "
-                "strangers stall"),
+    ("server/haproxy", "limits:numbers servers:approved queue restarts rules encrypted stall"),
+    ("server/tls", "servers:approved encrypted"), ("server/desk-tls", "servers:approved encrypted"),
+    ("server/", "limits:numbers servers:approved rules encrypted queue limits restarts neighbours:claimed_address "
+                "tries:service registers strangers stall"),
     ("shared/folding", "words day:find_readers search_pages"),
-    ("readers/folding", "folding search:hostile search_pages"), ("readers/turns", "search:turns search:questions"),
-    ("readers/offers", "search:files search_pages"), ("readers/answers", "search search_pages sessions"),
-    ("readers/index", "search folding search_pages sessions"), ("readers/rounds", "search sessions"),
-    ("readers/asking", "search:questions queue:of_the_service search unscripted sessions"),
-    ("readers/", "translations:catalogs unscripted queue:of_the_service neighbours search_pages visit journeys search "
-                 "access:readers rules:heads translations:choice translations:words translations:alone "
+    ("readers/folding", "approved:tables folding search:hostile search_pages"),
+    ("readers/turns", "approved:inside search:turns search:questions"),
+    ("readers/offers", "approved:tables search:files search_pages"),
+    ("readers/answers", "approved:tables search search_pages sessions"),
+    ("readers/index", "approved:tables search folding search_pages sessions"),
+    ("readers/rounds", "approved:tables approved:inside search sessions"),
+    ("readers/asking", "approved:inside search:questions queue:of_the_service search unscripted sessions"),
+    ("readers/", "translations:catalogs approved unscripted queue:of_the_service neighbours search_pages visit journeys "
+                 "search access:readers rules:heads translations:choice translations:words translations:alone "
                  "translations:way_de"),
-    ("try/", "tries"), ("look/", "looks:shell tries"), ("desk/look/", "looks first_year refusals:rest"),
+    ("try/", "tries"), ("look/", "looks:approved looks:shell tries"), ("desk/look/", "looks first_year refusals:rest"),
     ("desk/desk.css", "access:desk paper tickets translations:phone_de"),
     ("public/public.css", "access:readers visit:hostile journeys"),
     ("shared/base.css", "access paper visit:hostile journeys"),

@@ -14,6 +14,7 @@ import json
 import os
 import pathlib
 import queue
+import re
 import select
 import shutil
 import signal
@@ -24,7 +25,8 @@ import threading
 import time
 
 from acceptance import client
-from mutation import front, machine, made
+from acceptance.front.office import PORTS
+from mutation import front, machine, made, trials
 
 LONGEST = 900  # seconds that a fault may take
 BETWEEN = 8  # noticed faults from one trial of an office without a fault to the next
@@ -34,20 +36,75 @@ RULES = [f"rules:{name}" for name in ("heads readers_limits own_answers staffs_l
 UNSCRIPTED = [f"unscripted:{name}" for name in ("units fonds aids lines languages statuses found_by_others contents level "
                                                 "orders collected questions large vanishing").split()]
 GOING_ON = {"looks", "readers", "servers"}  # kinds whose office is tried without a fault
-KINDS = ("services", "servers", "readers", "alone", "looks", "pages", "")  # in the order in which they are played
+CERTAIN = {machine.NOTHING, "translations", "approved", "desk"}  # what these say of a fault needs no such trial
+TRANSLATED = re.compile(r"readers/.*[.](py|html)$|(desk|shared)/.*[.](js|html)$")  # files with texts of the catalogs
+KINDS = ("services", "fronts", "servers", "readers", "alone", "looks", "pages", "")  # in the order in which they are played
 # For a file how it is played: the first that fits. Of other files nothing is quick.
 HOW = [(begin, kind, parts) for begin, kind, parts in (
-    ("units/", "services", ["services"]), ("look/", "alone", ["looks:shell"]), ("desk/look/", "looks", ["looks"]),
-    ("try/", "pages", ["tries:differences", "tries:languages", "tries:service", "tries:shell"]),
-    ("readers/folding", "alone", ["folding"]), ("readers/turns", "alone", ["search:turns"]),
-    ("readers/asking", "alone", ["search:questions"]), ("readers/offers", "alone", ["search:files"]),
-    ("readers/answers", "alone", ["search:bounds", "search:hostile"]),
-    ("readers/index", "alone", ["search:files", "search:bounds"]),
-    ("readers/rounds", "alone", ["search:files", "search:bounds", "search:left_out"]),
-    ("readers/", "readers", UNSCRIPTED), ("server/strangers", "", []), ("server/tls", "alone", ["encrypted"]),
-    ("server/desk-tls", "alone", ["encrypted"]), ("server/", "servers", RULES))]
+    ("units/", "services", ["services"]), ("look/", "alone", ["looks:approved"]), ("desk/look/", "looks", ["looks"]),
+    ("try/", "alone", ["tries:approved"]),
+    *(("readers/" + name, "alone", [f"approved:{part}" for part in parts.split()]) for name, parts in (
+        ("folding", "tables readers"), ("turns", "inside"), ("asking", "inside readers"), ("rounds", "inside tables"),
+        ("offers", "tables readers"), ("answers", "tables readers"), ("index", "tables readers"),
+        ("service", "inside tables readers"),
+        ("texts", "inside readers tables"), ("orders", "inside readers"), ("aids", "inside readers"),
+        ("languages", "inside readers"), ("", "readers"))),
+    ("server/strangers", "fronts", ["limits:numbers"]), ("server/", "fronts", ["servers:approved"]))]
 
 
+# Of scripts: the parts of approved_desk.py that are played first.
+APPROVED = {file: [f"desk:{part}" for part in parts.split(",")] for file, parts in (line.split() for line in """\
+desk/barcode.js container,runs
+desk/card.js card
+desk/codes.js runs,many
+desk/container.js container
+desk/counter.js counter,many
+desk/days.js today,card,orders,old,many
+desk/differences.js differences
+desk/drafts.js import,many
+desk/import.js import,many
+desk/newest_unit.js import,many
+desk/night_copy.js import,differences
+desk/night_lists.js old
+desk/old.js old
+desk/same_boxes.js import,many
+desk/seen.js import
+desk/kept.js orders,shell,many
+desk/looks.js counter,container,card,today,readers,runs,units,orders,import,old,many
+desk/main.js shell,languages,today,runs
+desk/names.js readers,card,container,orders,many
+desk/orders.js orders
+desk/out.js out
+desk/pace.js orders,units,readers,many
+desk/parts.js card,counter,runs,units,import
+desk/permits.js units,many
+desk/prints.js runs,container,card
+desk/reader_at_counter.js counter
+desk/readers.js readers,many
+desk/red.js today
+desk/removal.js units,many
+desk/runs.js runs,many
+desk/scans.js counter,container
+desk/slip.js runs
+desk/sure.js today,units,old
+desk/today.js today
+desk/units.js units
+desk/waiting.js orders,many,runs
+shared/asking.js readers,orders,runs,units,many
+shared/dom.js container,today,units,runs,import
+shared/fields.js today,readers,units,counter,import,old
+shared/folding.js readers
+shared/form.js counter,shell,today,container
+shared/heads.js units
+shared/held.js today,shell
+shared/language.js languages,today,units,differences
+shared/limits.js readers,import
+shared/numbers.js readers,counter
+shared/refusals.js counter,shell,card,runs,import,readers
+shared/router.js shell,today
+shared/routes.js counter,card,readers,units,runs,shell,out,today,import
+shared/texts.js runs,units
+""".splitlines())}
 # Of scripts whose places nobody has looked for (--covered): the parts that use a file most.
 PARTS_OF_SCRIPTS = {file: parts for file, *parts in map(str.split, """\
 desk/barcode.js first_year:slips paper
@@ -122,7 +179,7 @@ class Worker:
                                         text=True, bufsize=1, start_new_session=True)
 
     def play(self, kind, fault, parts):
-        """What noticed a fault (None: no fault), and what failed; or None. Raises machine.Late if that is not known."""
+        """What noticed a fault (None: no fault), and what failed; or None. Raises trials.Late if that is not known."""
         if not self.process:
             self.begin()
         given = {"file": fault.file, "begin": fault.begin, "end": fault.end, "new": fault.new} if fault else None
@@ -135,9 +192,9 @@ class Worker:
         if answer is None:
             told = f"more than {LONGEST} s, or the worker ended: {self.last_words()}"
             self.end()
-            raise machine.Late(told)
+            raise trials.Late(told)
         if answer[0] and answer[0][0] == "unsure":
-            raise machine.Late(answer[0][1])
+            raise trials.Late(answer[0][1])
         return answer[0]
 
     def last_words(self):
@@ -170,13 +227,15 @@ def how(fault, order):
         return "pages", PARTS_OF_SCRIPTS[fault.file]
     kind, parts = next(((kind, parts) for begin, kind, parts in HOW if fault.file.startswith(begin)), ("", []))
     near = [by for _, by in sorted(order.noticed[fault.file], key=lambda one: abs(one[0] - fault.begin)) if by in parts]
-    return kind, list(dict.fromkeys([*near[:3], *parts]))
+    first = [part for part in parts if part.endswith(":approved")]
+    return kind, list(dict.fromkeys([*first, *near[:3], *parts]))
 
 
 class Playing:
     """Plays faults by several workers. `end`: when no more is begun; `told`: gets what came of each."""
 
     def __init__(self, given, order, end, told):
+        os.environ.setdefault("APPROVED_TABLES", tempfile.mkdtemp(dir=client.usual_room()))
         self.given, self.order, self.end, self.told = given, order, end, told
         self.waiting, self.many, self.noticed = queue.Queue(), 0, 0
 
@@ -192,15 +251,16 @@ class Playing:
 
     def work(self, job):
         """Plays one fault after the other, and tells what came of them."""
-        worker, unsure, last = Worker(self.given.program, front.PORTS + 3000 + 1000 * job), [], ""
+        worker, unsure, last = Worker(self.given.program, PORTS + 3000 + 1000 * job), [], ""
         with contextlib.suppress(queue.Empty):
             while time.monotonic() < self.end:
                 fault = self.waiting.get_nowait()
                 kind, parts = how(fault, self.order)
+                parts = [] if self.given.first else parts
                 if unsure and (kind != last or len(unsure) >= BETWEEN):
                     unsure = self.sure(worker, last, unsure)
                 came, last = self.one(worker, fault, kind, parts), kind
-                if came and kind in GOING_ON and came[1] not in (machine.NOTHING, "translations:catalogs"):
+                if came and kind in GOING_ON and came[1].split(":")[0] not in CERTAIN:
                     unsure.append((came, parts))
                 elif came:
                     self.tell(came)
@@ -211,9 +271,10 @@ class Playing:
         """What came of a fault: its name, what noticed it, what failed, and the seconds. None if nothing is known."""
         begun = time.monotonic()
         try:
-            found = worker.play("texts", fault, []) if fault.file.endswith((".js", ".py", ".html")) else None
+            found = worker.play("texts", fault, []) if TRANSLATED.match(fault.file) else None
+            found = found or (worker.play("approved", fault, APPROVED[fault.file]) if fault.file in APPROVED else None)
             found = found or (worker.play(kind, fault, parts) if parts else None)
-        except machine.Late as late:
+        except trials.Late as late:
             print(f"{fault.fault}: NOT PLAYED: {late}", flush=True)
             return None
         by, what = found or (machine.NOTHING, "")
@@ -226,7 +287,7 @@ class Playing:
         parts = [part for part in parts if part in (unsure[0][1] if unsure else ())]
         try:
             failed = parts and worker.play(kind, None, parts)
-        except machine.Late as late:
+        except trials.Late as late:
             failed = str(late)
         if failed:
             print(f"{len(unsure)} ARE NOT KNOWN: without a fault {kind} has {failed}", flush=True)
@@ -250,6 +311,7 @@ def main():
     words = machine.words_of_line()
     words.description = __doc__
     words.add_argument("--names", type=pathlib.Path, metavar="FILE", help="the names of the only faults that are played")
+    words.add_argument("--first", action="store_true", help="by texts and approved pages alone")
     words.add_argument("--told", type=pathlib.Path, metavar="FILE", help="gets what came of each")
     given, faults, lock = words.parse_args(), made.all_faults(), threading.Lock()
     chosen = machine.choose(given, faults)

@@ -35,7 +35,7 @@ class Browser:
 
     def __init__(self, profile: str | pathlib.Path, binary: str = "chromium", covers: bool = False) -> None:
         out, self.write = os.pipe()
-        self.read, into = os.pipe()
+        self.source, into = os.pipe()
         shell = f'exec "$0" "$@" 3<&{out} 4>&{into}'
         self.process = subprocess.Popen(["bash", "-c", shell, binary, *FLAGS, f"--user-data-dir={profile}", "about:blank"],
                                         pass_fds=(out, into), stdout=subprocess.DEVNULL, stderr=subprocess.DEVNULL)
@@ -66,6 +66,12 @@ class Browser:
             if "method" in got:
                 self._event(got)
 
+    def read(self, patience: float) -> None:
+        """Waits for the next event, and takes it. Raises RuntimeError if none comes within so many seconds."""
+        got = self._message(patience)
+        if "method" in got:
+            self._event(got)
+
     def _event(self, got: dict[str, Any]) -> None:
         """Keeps an event, and answers a request that is paused."""
         self.events.append(got)
@@ -79,11 +85,11 @@ class Browser:
             os.write(self.write, json.dumps({"id": self.last, "method": "Fetch.fulfillRequest", "params": params,
                                              "sessionId": got["sessionId"]}).encode() + b"\0")
 
-    def _message(self) -> dict[str, Any]:
+    def _message(self, patience: float | None = None) -> dict[str, Any]:
         """The next message. Raises RuntimeError if none comes."""
         while b"\0" not in self.rest:
-            ready = select.select([self.read], [], [], 2 * settings.patience)[0]
-            piece = os.read(self.read, 1 << 20) if ready else b""
+            ready = select.select([self.source], [], [], patience or 2 * settings.patience)[0]
+            piece = os.read(self.source, 1 << 20) if ready else b""
             if not piece:
                 raise RuntimeError("the browser is gone, or says nothing")
             self.rest += piece

@@ -19,9 +19,12 @@ class Encrypted(Office):
     def __init__(self, program, folder):
         super().__init__(program, folder)
         self.ports.update(zip(("80", "443"), free_ports(2, PORTS + 900, PORTS + 999)))
+        self.make_certificate(self.folder)
+
+    def make_certificate(self, folder):
+        """Makes a certificate with its key in this folder."""
         words = ["openssl", "req", "-x509", "-newkey", "ec", "-pkeyopt", "ec_paramgen_curve:prime256v1", "-nodes",
-                 "-days", "2", "-subj", f"/CN={READERS}", "-keyout", self.folder / "key.pem",
-                 "-out", self.folder / "certificate.pem"]
+                 "-days", "2", "-subj", f"/CN={READERS}", "-keyout", folder / "key.pem", "-out", folder / "certificate.pem"]
         subprocess.run(words, check=True, capture_output=True)
 
     def adapt(self, text):

@@ -1,7 +1,6 @@
-"""Every file of files.py, looked at by record-office-look, by the import page's modules, and by the program itself: what
-it becomes, and whether an import does what was foretold."""
+"""Every file of files.py, looked at by record-office-look and by the program itself: what it becomes, and whether an import
+does what was foretold."""
 
-import base64
 import contextlib
 import io
 import json
@@ -19,14 +18,6 @@ from acceptance.front.files import FILES
 from acceptance.front.office import TOP
 
 RULES = read_rules()
-LOOK = """Promise.all([import('/look/look.js'), import('/look/convert.js')]).then(
-async ([{ look, readRules, adviceWords }, { convert }]) => {
-  const [rules, bytes] = [await readRules(), Uint8Array.from(atob(%s), (letter) => letter.charCodeAt(0))];
-  const [seen, found] = [look(bytes, rules), convert(bytes, rules)];
-  const told = seen.advice.map((one) => adviceWords(rules, one))
-    .map(({ name, level, says, todo }) => [name, level, says, todo]);
-  return [told, seen.counts, found && { ...found, bytes: Array.from(found.bytes) }];
-})"""
 # Advice that foretells that an office that knows none of the units refuses the file, for its row's parent or depth.
 BY_THE_PAGE = {"converted"}  # advice that is given with a file that was converted
 REFUSED_IF_NEW = {name for name in RULES["advice"] if name.startswith("parents_")} | {"deep"}
@@ -39,11 +30,6 @@ def look_by_shell(data):
     if converted:
         del converted["data"]
     return [[[name, *words(RULES, name, values)] for name, values in seen.advice], seen.counts or None, converted]
-
-
-def look_by_page(page, data):
-    """The same by the modules of the import page."""
-    return page.js(LOOK % json.dumps(base64.b64encode(data).decode()))
 
 
 def preview(program, data):
@@ -87,14 +73,12 @@ def fits(advice, wanted):
     return set(told) == set(wanted) and all(part in told[name] for name, part in wanted.items())
 
 
-def play(checks, program, page=None):
-    """Looks at each file by the shell and by the program; with a page, also by the page's modules."""
+def play(checks, program):
+    """Looks at each file by the shell and by the program."""
     seen = {file.name: look_by_shell(file.data) for file in FILES}
     for file in FILES:
         told = seen[file.name]
         checks.check(f"the advice fits: {file.name}", fits(told[0], file.advice), told)
-        if page:
-            checks.same(f"the page gives the same advice: {file.name}", look_by_page(page, file.data), told)
     for file in FILES:
         told = seen[file.name]
         checks.same(f"the program's answer: {file.name}", preview(program, file.data), file.refused)

@@ -161,12 +161,15 @@ class Office(client.Office):
 
     def queue_state(self, side: str = "office", name: str = "gate") -> dict[str, str]:
         """What HAProxy tells of one of its parts: numbers by their names, such as `qcur`, who waits there."""
+        names, *rows = [line.split(",") for line in self.tell_queue("show stat").strip().splitlines()]
+        return dict(zip(names, next(row for row in rows if row[:2] == [side, name])))
+
+    def tell_queue(self, words: str) -> str:
+        """What HAProxy answers to a command."""
         with socket.socket(socket.AF_UNIX) as it:
             it.connect(str(self.folder / "stats.sock"))
-            it.sendall(b"show stat\n")
-            text = b"".join(iter(lambda: it.recv(65536), b""))
-        names, *rows = [line.split(",") for line in text.decode().strip().splitlines()]
-        return dict(zip(names, next(row for row in rows if row[:2] == [side, name])))
+            it.sendall(f"{words}\n".encode())
+            return b"".join(iter(lambda: it.recv(65536), b"")).decode()
 
     def count_queued(self) -> int:
         """How many requests wait in the queue."""

@@ -5,10 +5,11 @@
            FOLDER SHOTS [PART ..]
 
 FOLDER is made anew and kept; SHOTS gets pictures of the pages. PART is one of looks, pages, access, rules, restarts,
-limits, queue, encrypted, stall, search, strangers, services, neighbours, tries, registers, refusals, journeys, paper,
-tickets, translations, unscripted, words; or GROUP:PART,..,PART, parts of a group with an office of its own: of visit, day,
-first_year, unscripted, access, rules, restarts, limits, queue, neighbours, refusals, journeys, search, search_pages,
-tries, registers, translations. In refusals and neighbours a part is played after those that it goes on from.
+limits, queue, encrypted, stall, search, strangers, services, servers, neighbours, tries, registers, refusals, journeys,
+paper, tickets, translations, approved, desk, unscripted, words; or GROUP:PART,..,PART, parts of a group with an office of
+its own: of visit, day, first_year, approved, desk, unscripted, access, rules, restarts, limits, queue, neighbours,
+refusals, journeys, search, search_pages, tries, registers, translations. In refusals and neighbours a part is played
+after those that it goes on from.
 --first ends at the first check that does not hold; --patience is how long anything is waited for (60). With --slower,
 pages run so many times slower, and what they ask for comes later: a check that holds on a fast machine only is found
 there. With --faults, PART is access, visit, rules, queue or restarts, and mutation/front.py tells which faults are to
@@ -27,9 +28,10 @@ import time
 
 from acceptance import client
 from acceptance.front import (
-    access, encrypted, foldings, journeys, looks, neighbours, page_sessions, paper, queue_checks, refusals, registers,
-    restarts, search_checks, search_pages, search_sessions, server_limits, services, sign_out, stall, strangers, tickets,
-    translations, tries, unscripted, waits,
+    access, answers_of_front, approved_desk, approved_inside, approved_readers, approved_tables, encrypted, foldings, journeys,
+    look_texts, looks, neighbours, page_sessions, paper, queue_checks, refusals, registers, restarts, search_checks,
+    search_pages, search_sessions, server_limits, services, sign_out, stage, stall, strangers, tickets, translations, tries,
+    try_texts, unscripted, waits,
 )
 from acceptance.front.asks import Asks
 from acceptance.front.browser import Browser
@@ -42,13 +44,14 @@ from acceptance.front.rules import Rules
 from acceptance.front.visit import Visit
 from acceptance.front.waits import until
 
-PARTS = ("looks", "pages", "unscripted", "access", "rules", "restarts", "limits", "queue", "encrypted", "stall", "search",
-         "strangers", "services", "neighbours", "tries", "registers", "refusals", "journeys", "paper", "tickets",
-         "translations")
+PARTS = ("looks", "pages", "approved", "desk", "unscripted", "access", "rules", "restarts", "limits", "queue", "encrypted",
+         "stall", "search", "strangers", "services", "servers", "neighbours", "tries", "registers", "refusals", "journeys",
+         "paper", "tickets", "translations")
 ARCHIVES = TOP / "examples/archives.csv"
 PATIENT = 60
-WITHOUT_PAGES = {"unscripted", "rules", "restarts", "limits", "queue", "encrypted", "stall", "search", "strangers",
-                 "services", "tries", "registers", "translations:catalogs", "translations:static_pages"}  # need no browser
+WITHOUT_PAGES = {"approved", "unscripted", "servers", "rules", "restarts", "limits", "queue", "encrypted", "stall", "search",
+                 "strangers", "services", "tries", "registers", "translations:catalogs",
+                 "translations:static_pages"}  # need no browser
 
 
 def pictures(folder):
@@ -108,11 +111,11 @@ class Run:
                 restarts.play(self.checks, Asks(office))
 
     def looks(self, office):
-        """Looks at the files of files.py, in the browser too if there is one."""
-        page = self.browser and self.browser.page(SIGNED_IN)
-        if page:
-            page.open(office.staff, "/import")
-        looks.play(self.checks, office.program, page)
+        """Looks at the files of files.py and odd_files.py, in the browser too if there is one."""
+        look_texts.play(self.checks)
+        if self.browser:
+            look_texts.play_in_page(self.checks, self.browser.page(SIGNED_IN), office.staff)
+        looks.play(self.checks, office.program)
 
     def pages(self, office):
         """Plays the days of readers and desk through the pages, in an office without descriptions."""
@@ -152,6 +155,14 @@ class Run:
         """Plays the readers' pages without scripts, or one part of them."""
         unscripted.play(self.checks, self.program, self.folder / "unscripted", only)
 
+    def approved(self, only=None):
+        """Compares the readers' pages and what has none with what was approved, or one part of it."""
+        for name, play in (("readers", approved_readers.play), ("tables", approved_tables.play),
+                           ("inside", approved_inside.play)):
+            if only in (None, name):
+                with stage.modules_as_before():
+                    self.checks.part(f"approved: {name}", play, self.checks, self.folder / "approved")
+
     def limits(self, only=None):
         """Plays the limits of the front, or one of them."""
         server_limits.play(self.checks, self.program, self.folder / "limits", only)
@@ -181,7 +192,10 @@ class Run:
 
     def tries(self, only=None):
         """Tries imports on a copy, in the browser too if there is one; or one part of it."""
-        tries.play(self.checks, self.program, clear(self.folder / "tries"), self.browser, self.shot, only)
+        folder = clear(self.folder / "tries")
+        if only is None:
+            self.checks.part("tries: approved", try_texts.play, self.checks, self.program, folder / "approved")
+        tries.play(self.checks, self.program, folder, self.browser, self.shot, only)
 
     def registers(self, only=None):
         """Plays old orders and who was here, or one of them."""
@@ -194,6 +208,10 @@ class Run:
     def services(self):
         """Reads the units of systemd."""
         services.play(self.checks)
+
+    def desk(self, only=None):
+        """Compares what the desk's pages show with what was approved, all parts or those of a page."""
+        approved_desk.play(self.checks, self.program, clear(self.folder / "approved"), only)
 
     def words(self):
         """Plays the table of words, by the service and by the desk's pages; `pages` has it too."""
@@ -281,9 +299,27 @@ class Run:
             FirstYear(self.checks, Asks(office), day, self.shot, self.folder).play(name)
             self.complaints(desk)
 
-    def only_looks(self, _):
-        """Looks at the files by the shell alone (looks:shell), without an office."""
-        self.checks.part("looks", looks.play, self.checks, self.program)
+    def only_looks(self, name):
+        """Looks at the files by the shell alone, without an office: what is approved, or what the program does with them."""
+        if name == "approved":
+            self.checks.part("looks: approved", look_texts.play, self.checks)
+        else:
+            self.checks.part("looks", looks.play, self.checks, self.program)
+
+    def servers(self):
+        """Asks all that is approved of the front's answers."""
+        self.checks.part("servers: approved", answers_of_front.play, self.checks, clear(self.folder / "servers"))
+
+    def only_servers(self, _):
+        """The same, as a part."""
+        self.servers()
+
+    def only_tries(self, name):
+        """Plays one part of the trials; what is approved needs no front."""
+        if name == "approved":
+            self.checks.part("tries: approved", try_texts.play, self.checks, self.program, clear(self.folder / "tries"))
+        else:
+            self.tries(name)
 
     def only_rules(self, name):
         """Plays one part of the front's rules."""
@@ -347,8 +383,8 @@ class Run:
 
     only_visit, only_day, only_first_year, only_search_pages = visit, day, first_year, search_pages
     only_access, only_limits, only_queue, only_refusals, only_journeys = access, limits, queue, refusals, journeys
-    only_translations, only_unscripted = translations, unscripted
-    only_tries, only_registers, only_neighbours = tries, registers, neighbours
+    only_translations, only_unscripted, only_approved, only_desk = translations, unscripted, approved, desk
+    only_registers, only_neighbours = registers, neighbours
 
 
 moments = itertools.count(int(time.time()))  # browsers know a file by its second and its size

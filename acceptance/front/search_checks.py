@@ -91,6 +91,11 @@ def bounds_of_an_answer(checks, office):
     checks.same("twenty are shown, by number", numbers_of(found), list(range(1, 21)))
     checks.same("and more than so many are counted", (found.count, found.exact), (300, False))
     checks.same("and there are more", (found.more, found.after), (True, (0, row(20))))
+    answers.HURRIED, kept = 0, answers.HURRIED
+    with contextlib.closing(index.open_index(office.index)) as db:
+        counted = Finder(db, Asking(office.queue), Query(read_typed("letters")), is_awaited=lambda: True).find()
+    answers.HURRIED = kept
+    checks.same("while others wait no more are counted than are shown", (counted.count, counted.exact), (20, False))
     checks.same("they go on", find_numbers(office, "letters", after=found.after), list(range(21, 41)))
     last = office.find("letters", after=(0, row(410)))
     checks.same("to the end", (numbers_of(last), last.more), (list(range(411, 421)), False))
@@ -292,16 +297,19 @@ def turns(checks, folder):
         thread.join()
     checks.check("eight readers beside it wait for one search at most", max(waited) < .5, waited)
     checks.check("two of its own at a time", sorted(stranger)[2] > .15 and sorted(stranger)[-1] > .9, stranger)
-    order = []
-    with it.turn("198.51.100.1"), it.turn("198.51.100.2"), it.turn("198.51.100.3"), it.turn("198.51.100.4"):
+    order, hurried = [], []
+    with (it.turn("198.51.100.1") as is_awaited, it.turn("198.51.100.2"), it.turn("198.51.100.3"),
+          it.turn("198.51.100.4")):
         threads = [threading.Thread(target=taken, args=(it, who, costly, order))
                    for who, costly in (("192.0.2.1", False), ("203.0.113.1", True), ("203.0.113.2", False))]
         for thread in threads:
             thread.start()
-        until(lambda: len(it.waiting) == 3, "three wait")
+            until(lambda: len(it.waiting) == len(hurried) + 1, "it waits")
+            hurried.append(is_awaited())
     for thread in threads:
         thread.join()
     checks.same("the cheap one first, whoever has taken most last", order, ["203.0.113.2", "203.0.113.1", "192.0.2.1"])
+    checks.same("whoever has taken much hurries nobody", hurried, [False, True, True])
     networks = network_of("2001:db8::1") == network_of("2001:db8::ffff") != network_of("2001:db8:0:1::1")
     checks.check("a network of IPv6 is one", networks and network_of("192.0.2.1") != network_of("192.0.2.2"))
 

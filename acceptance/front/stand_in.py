@@ -58,14 +58,18 @@ class StandIn:
             while LINE_END in came:
                 head, rest = came.split(LINE_END, 1)
                 size = size_of(head)
-                while len(rest) < size:
-                    rest += connection.recv(65536)
+                if len(rest) < size:
+                    rest = whole(connection, bytearray(rest), size)
                 came = rest[size:]
                 self.requests.append((head.decode("latin-1"), rest[:size]))
                 if self.drops(head.decode("latin-1")):
                     return
                 if not self.silent:
-                    connection.sendall(self.answers.get(self.paths[-1]) or client.reply(200, self.body, client.TEXT))
+                    connection.sendall(self.reply_to(*self.requests[-1]))
+
+    def reply_to(self, head, _):
+        """The bytes of the answer to a request, whose head and body these are."""
+        return self.answers.get(head.split(" ", 2)[1]) or client.reply(200, self.body, client.TEXT)
 
     def end(self):
         """Closes all connections."""
@@ -84,6 +88,16 @@ class StandIn:
 
     def __exit__(self, *_):
         self.end()
+
+
+def whole(connection, rest, size):
+    """So many bytes, of which these have come; what is closed before is told by an error."""
+    while len(rest) < size:
+        piece = connection.recv(65536)
+        if not piece:
+            raise ConnectionError("closed within a body")
+        rest += piece
+    return bytes(rest)
 
 
 def size_of(head):
