@@ -167,8 +167,9 @@ def questions(office, db, units):
 def search(office, turns, address, typed):
     """How long a search takes, from the moment at which it is asked for."""
     began, query = time.perf_counter(), Query(read_typed(typed, LANGUAGE))
-    with turns.turn(address, costly=is_costly(query.phrases)), contextlib.closing(index.open_index(office.index)) as db:
-        Finder(db, Asking(office.queue), query).find()
+    with (turns.turn(address, costly=is_costly(query.phrases)) as is_awaited,
+          contextlib.closing(index.open_index(office.index)) as db):
+        Finder(db, Asking(office.queue), query, is_awaited=is_awaited).find()
     return time.perf_counter() - began
 
 
