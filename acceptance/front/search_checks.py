@@ -286,7 +286,7 @@ def turns(checks, folder):
     """Who searches much keeps only itself waiting."""
     it, begin = Turns(), time.monotonic()
     threads, stranger = turns_taken((it, "192.0.2.1"), 12, begin)
-    until(lambda: len(stranger) == 2, "the first two search")
+    until(lambda: len(stranger) >= 2, "the first two search")
     waited = []
     for n in range(8):
         asked = time.monotonic() - begin
