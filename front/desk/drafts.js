@@ -53,11 +53,12 @@ function checkedRows(rows) {
   return rows.filter((_, place) => place % step === 0 || place === rows.length - 1);
 }
 
+/** How the head line of a unit ends: with its title on one line. */
+export const endOfHead = (unit) => `] ${unit.title.replace(/\r\n|\r|\n/g, ' ') || '-'}`;
+
 /** A draft must not be seen, and the page of a published unit, if there is one, must have its title. */
 function agrees({ unit }, page) {
-  if (page === null) return true;
-  const title = unit.title.replace(/\r\n|\r|\n/g, ' ') || '-';
-  return !isDraft(unit) && page.split('\n')[0].endsWith(`] ${title}`);
+  return page === null || (!isDraft(unit) && page.split('\n')[0].endsWith(endOfHead(unit)));
 }
 
 function draftTable(drafts) {

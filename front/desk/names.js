@@ -47,7 +47,7 @@ function named(hash, number, promised) {
 }
 
 /** A reader's name as soon as it is known. */
-export function readerWords(ticket, tag = 'span') {
+export function readerWords(ticket, tag) {
   const name = el(tag, {});
   readerName(Number(ticket)).then((found) => found !== null && name.replaceChildren(words(found)));
   return name;

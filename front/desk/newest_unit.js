@@ -31,7 +31,7 @@ export async function newestUnit() {
 /** The last of the units that follow a number without a gap. */
 async function endOfRow(number) {
   let low = number;
-  let high = number + 1;
+  let high;
   for (let step = 1; ; step *= 2) {
     high = low + step;
     const there = await isUnit(high);

@@ -9,11 +9,8 @@ export async function differencesFrom(source, file) {
   return response.ok ? { ok: true, value: await response.json() } : { ok: false, kind: 'failed' };
 }
 
-/** Whether the service has kept a file that was imported as the last one of its source. */
-export async function keepLastFile(source, file) {
-  const response = await post('imported', source, file);
-  return response !== null && response.ok;
-}
+/** Gives the service a file that was imported, which it keeps as the last one of its source. */
+export const keepLastFile = (source, file) => post('imported', source, file);
 
 async function post(what, source, file) {
   try {

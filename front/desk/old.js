@@ -96,7 +96,7 @@ function allButton(list) {
 
 const ticked = (values) => Object.keys(values).filter((name) => name.startsWith('tick-')).map((name) => name.slice(5));
 
-const NOTHING_TICKED = { ok: false, kind: 'nothing ticked' };
+const NOTHING_TICKED = { ok: false };
 
 async function askFirst(kind, numbers) {
   if (numbers.length === 0) return NOTHING_TICKED;

@@ -5,6 +5,7 @@ import { el, words } from '../shared/dom.js';
 import { counted, phrase, text } from '../shared/language.js';
 import { aid, fonds } from '../shared/routes.js';
 import { namesInAid, readFonds } from '../shared/texts.js';
+import { endOfHead } from './drafts.js';
 
 const SHOWN = 20; // the most names that are listed
 
@@ -37,7 +38,7 @@ function sentence(found) {
 /** The names of the file's containers that archives not in this file have too, with the archives' head lines. */
 async function otherArchives(units) {
   const names = new Set(units.flatMap((unit) => unit.boxes.map(([name]) => name)));
-  const own = units.filter((unit) => unit.parent === '').map((unit) => `] ${unit.title || '-'}`);
+  const own = units.filter((unit) => unit.parent === '').map(endOfHead);
   const answer = await fonds();
   if (!answer.ok) return null;
   const found = new Map();

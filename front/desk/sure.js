@@ -4,7 +4,7 @@ import { el } from '../shared/dom.js';
 import { stopSecondClick } from '../shared/form.js';
 
 /** The form's own answer if somebody decides not to go on. */
-export const STAYED = { ok: false, kind: 'stayed' };
+export const STAYED = { ok: false };
 
 export function isSure({ title, content, stay, go, kind = '' }) {
   const keep = el('button', { value: 'stay', class: 'plain', autofocus: true }, stay);

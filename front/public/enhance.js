@@ -27,13 +27,13 @@ window.addEventListener('beforeprint', () => {
 
 for (const aid of all('.aid[data-large]')) {
   const blocks = all('.block', aid);
-  const parts = Math.ceil(blocks.length / PART);
+  const firsts = blocks.filter((block, at) => at % PART === 0);
   const button = one('[data-print]');
   const select = document.createElement('select');
   select.setAttribute('aria-label', button.textContent);
-  for (let part = 0; part < parts; part += 1) {
-    select.add(new Option(`${part + 1} / ${parts} – ${one('.unit', blocks[part * PART]).textContent}`, part));
-  }
+  firsts.forEach((block, part) => {
+    select.add(new Option(`${part + 1} / ${firsts.length} – ${one('.unit', block).textContent}`, part));
+  });
   const choose = () => blocks.forEach((block, at) => block.classList.toggle('printed', Math.floor(at / PART) === +select.value));
   select.addEventListener('change', choose);
   choose();
@@ -51,24 +51,38 @@ if (location.hash === '#contents' && contents) contents.open = true;
 window.addEventListener('hashchange', () => { if (location.hash === '#contents' && contents) contents.open = true; });
 
 /** The page that the form leads to, as a document; a later key gives up what an earlier one asked for. */
-function ask(address, show) {
+function ask(address, show, fail) {
   const asked = new XMLHttpRequest();
   asked.open('GET', address);
   asked.responseType = 'document';
-  asked.onload = () => { if (asked.status === 200 && asked.response) show(asked.response); };
+  asked.onload = () => (asked.status === 200 && asked.response ? show(asked.response) : fail());
+  asked.onerror = fail;
   asked.send();
   return asked;
+}
+
+/** Shows what was found. The line that says how much stays where it is: only then is it read out. */
+function showFound(page) {
+  const [told, ...before] = one('[data-shown]').children;
+  const [now, ...found] = one('[data-shown]', page).children;
+  told.textContent = now.textContent;
+  for (const shown of before) shown.remove();
+  told.after(...found);
 }
 
 for (const form of all('[data-filter]')) {
   const input = one('input', form);
   let wait = 0;
   let asked = null;
+  const fail = () => {
+    one('[data-shown] > .told').textContent = form.dataset.away;
+    form.action = location.pathname; // to a place of this same address it would load nothing
+  };
   const filter = () => {
     const query = new URLSearchParams(input.value.trim() ? { has: input.value } : {});
     history.replaceState(history.state, '', `${location.pathname}${query.size ? `?${query}` : ''}`);
     query.set('only', 'contents');
-    asked = ask(`${location.pathname}?${query}`, (page) => one('[data-shown]').replaceChildren(...one('[data-shown]', page).childNodes));
+    asked = ask(`${location.pathname}?${query}`, showFound, fail);
   };
   input.addEventListener('input', () => {
     clearTimeout(wait);
@@ -84,83 +98,122 @@ for (const form of all('form[method=post]')) {
     if (form.dataset.sent) event.preventDefault();
     form.dataset.sent = 'yes';
   });
-  window.addEventListener('pageshow', () => delete form.dataset.sent);
+  const forget = () => delete form.dataset.sent;
+  window.addEventListener('pageshow', forget); // as it was left
+  window.navigation?.addEventListener('navigateerror', forget); // the reader has stopped the browser
 }
 for (const box of all('details.order')) {
   box.addEventListener('toggle', () => { if (box.open && !one('.outcome')) one('input:not([type=hidden])', box).focus(); });
 }
 
-// The list: a container of a unit each, with its order once there is one. It is begun only if the reader wants it.
+// The list: a container of a unit each, with its order once there is one. It is begun only if the reader wants it, and never where
+// the browser refuses to keep anything.
 
-const kept = () => JSON.parse(sessionStorage.getItem(KEY) ?? '[]');
+function storeOfTab() {
+  try {
+    return sessionStorage;
+  } catch {
+    return null;
+  }
+}
+const store = storeOfTab();
+const shows = []; // what is done when the list has changed: on this page, or on another one before this is shown again as it was left
+const refresh = () => shows.forEach((show) => show());
+window.addEventListener('pageshow', ({ persisted }) => { if (persisted) refresh(); });
+
+const keyOf = ({ unit, box }) => `${unit}-${box}`;
+const kept = () => JSON.parse(store?.getItem(KEY) ?? '[]');
+
+/** Keeps the list; one for which there is no room stays as it was. */
 function keep(list) {
-  if (list.length) sessionStorage.setItem(KEY, JSON.stringify(list));
-  else sessionStorage.removeItem(KEY);
+  try {
+    if (list.length) store.setItem(KEY, JSON.stringify(list));
+    else store?.removeItem(KEY);
+  } catch (full) {
+    console.warn(full);
+  }
+  refresh();
+}
+
+function add(entries) {
+  const keys = entries.map(keyOf);
+  keep([...kept().filter((old) => !keys.includes(keyOf(old))), ...entries]);
+}
+
+function showWays() {
+  const list = kept();
   for (const link of all('[data-listed]')) {
     link.hidden = !list.length;
     one('span', link).textContent = list.length ? `(${list.length})` : '';
   }
 }
-const isSame = (entry, other) => entry.unit === other.unit && entry.box === other.box;
-const add = (entries) => keep([...kept().filter((old) => !entries.some((entry) => isSame(old, entry))), ...entries]);
-keep(kept());
+shows.push(showWays);
 
-for (const offer of all('[data-collect]')) {
-  const [button, link] = [one('button', offer), one('a', offer)];
+/** Offers to put entries on the list: by a button, and where they are on it there is a way to it. */
+function offer(place, entries) {
+  const [button, link] = [one('button', place), one('a', place)];
+  shows.push(() => {
+    const keys = kept().map(keyOf);
+    button.hidden = entries.every((entry) => keys.includes(keyOf(entry)));
+    link.hidden = !button.hidden;
+  });
+  button.addEventListener('click', () => { add(entries); link.focus(); });
+  place.hidden = false;
+}
+
+for (const place of store ? all('[data-collect]') : []) {
   const orders = new Map(all('[data-of]').map(({ dataset }) => [dataset.of, dataset.order]));
   const entries = all('[data-box]').map((line) => ({
-    unit: offer.dataset.collect, head: offer.dataset.head, box: line.dataset.box, name: one('.words', line).textContent,
+    unit: place.dataset.collect, head: place.dataset.head, box: line.dataset.box, name: one('.words', line).textContent,
     cite: one('.citation').textContent, order: orders.get(line.dataset.box) ?? '',
   }));
-  const show = () => {
-    const isListed = entries.every((entry) => kept().some((old) => isSame(old, entry)));
-    button.hidden = !(link.hidden = !isListed);
-  };
-  button.addEventListener('click', () => { add(entries); show(); });
-  offer.hidden = false;
-  show();
   const ordered = entries.filter((entry) => entry.order);
-  for (const more of all('[data-keep]')) {
-    const shown = () => { one('button', more).hidden = !(one('a', more).hidden = false); };
-    more.hidden = false;
-    one('button', more).addEventListener('click', () => { add(ordered); shown(); });
-    if (kept().length && ordered.length) { add(ordered); shown(); }
-  }
+  if (kept().length) add(ordered);
+  offer(place, entries);
+  for (const more of all('[data-keep]')) offer(more, ordered);
 }
 
 for (const form of all('[data-list]')) {
   const texts = JSON.parse(form.dataset.texts);
-  const told = new Map(all('[data-row]', form).map((row) => [`${row.dataset.unit}-${row.dataset.box}`, {
+  if (!store) one('[data-none]', form).textContent = texts.refused;
+  const told = new Map(all('[data-row]', form).map((row) => [keyOf(row.dataset), {
     order: row.dataset.order, told: one('[data-told]', row).textContent,
   }]));
-  keep(kept().map((entry) => ({ ...entry, ...told.get(`${entry.unit}-${entry.box}`) })));
-  const rows = kept().map((entry) => {
+  keep(kept().map((entry) => ({ ...entry, ...told.get(keyOf(entry)) })));
+  const rowOf = (entry) => {
     const row = one('template', form).content.firstElementChild.cloneNode(true);
     one('[data-head]', row).href = `/unit/${entry.unit}`;
     one('[data-head]', row).textContent = entry.head;
     one('[data-name]', row).textContent = entry.name;
-    one('[data-told]', row).textContent = entry.order ? texts.order.replace('#', entry.order) : entry.told ?? '';
+    one('[data-told]', row).textContent = entry.order ? texts.order.replace('#', entry.order) : entry.told;
     one('[data-cite]', row).textContent = entry.cite;
     one('.unseen', row).append(entry.name);
     if (entry.order) one('input', row).remove();
-    else one('input', row).value = `${entry.unit}-${entry.box}`;
+    else one('input', row).value = keyOf(entry);
     one('[data-drop]', row).hidden = false;
-    one('[data-drop]', row).addEventListener('click', () => { keep(kept().filter((old) => !isSame(old, entry))); location.assign('/ordered'); });
+    one('[data-drop]', row).addEventListener('click', () => {
+      keep(kept().filter((old) => keyOf(old) !== keyOf(entry)));
+      location.assign('/ordered');
+    });
     return row;
+  };
+  shows.push(() => {
+    const rows = kept().map(rowOf);
+    if (rows.length || !told.size) one('ul', form).replaceChildren(...rows);
+    one('[data-none]', form).hidden = Boolean(one('li', form));
+    one('[data-open]', form).hidden = !one('ul input', form);
+    for (const tools of all('[data-tools]')) tools.hidden = !rows.length;
   });
-  if (rows.length || !told.size) one('ul', form).replaceChildren(...rows);
-  one('[data-none]', form).hidden = rows.length > 0 || told.size > 0;
-  one('[data-open]', form).hidden = !one('ul input', form);
-  for (const tools of all('[data-tools]')) tools.hidden = !rows.length;
   one('[data-forget]').addEventListener('click', () => { keep([]); location.assign('/ordered'); });
   one('[data-csv]').addEventListener('click', () => save([texts.csv, ...kept().map(cells)]));
 }
+refresh();
 
 one('.outcome:focus')?.scrollIntoView({ block: 'nearest' }); // it may have grown since it got the focus
 
 /** A row of the list as it is saved. */
 function cells({ unit, head, name, order, cite }) {
-  return [cite, head, name, order ?? '', `${location.origin}/unit/${unit}`];
+  return [cite, head, name, order, `${location.origin}/unit/${unit}`];
 }
 
 /** Saves rows as CSV, in which no cell is a formula. */

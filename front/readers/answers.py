@@ -13,7 +13,7 @@ from texts import Page, name_of, own_digest, read_fonds, value_of, years_of
 
 SHOWN, COUNTED = 20, 300  # of one answer: units shown, units counted
 LOOKS, SECONDS = 2000, 5  # candidates looked at, time
-COUNTING, HURRIED = 1, .15  # seconds after which no more are counted; the same while other readers wait for their turn
+COUNTING, HURRIED = .7, .15  # seconds after which no more are counted; the same while other readers wait for their turn
 LINES, WIDTH, BEFORE = 2, 240, 60  # of one unit: lines shown, characters of a line, of these before the first mark
 START = (0, 0)  # the place before all others
 
@@ -109,8 +109,7 @@ class Finder:
         return time.monotonic() - self.began
 
     def _hit(self, place, number, shown):
-        """The unit as it is shown, or only that it is one; None if its page, as it is now, has not what was asked
-        for."""
+        """The unit as it is shown, or only True; None if its page, as it is now, has not what was asked for."""
         if self.looked == LOOKS:
             raise Slow(number)
         self.looked += 1
@@ -127,7 +126,7 @@ class Finder:
                 *(step["unit"] for step in way), number]):
             return None
         if not shown:
-            return {"unit": number}
+            return True
         return {"unit": number, "way": way, "head": mark(page.head, folding.places_of(self.query.phrases, page.head)),
                 "lines": excerpt(self.query.phrases, page.head, lines)}
 

@@ -147,6 +147,7 @@ class Pages:
         wanted = request.args.get("has", "")
         phrases, first = folding.read_typed(wanted), whole(request.args.get("from", ""), 1)
         found = [(place, *unit) for place, unit in enumerate(page.units) if has_all(phrases, unit[1])]
+        first = first if first <= len(found) else 1  # there were more, or the address is odd
         nodes = self.nodes(request, number, page) if small and page.units else None
         units = [(n, read_head(text), nodes[place] if nodes else None, [place + 1])
                  for place, n, text in found[first - 1:first - 1 + SHOWN]]
@@ -179,7 +180,7 @@ class Pages:
         """The units beside this one: up to a hundred around it, and those right before and after it."""
         place = next((place for place, (n, _) in enumerate(way.beside) if n == number), None)
         if place is None:
-            return {"level": [], "level_first": 1, "turn": {}}
+            return {"level": [], "turn": {}}
         first = max(0, min(place - SHOWN // 2, len(way.beside) - SHOWN))
         turn = {name: heads(way.beside[at:at + 1])[0] for name, at in (("prev", place - 1), ("next", place + 1))
                 if 0 <= at < len(way.beside)}
@@ -284,7 +285,7 @@ class Pages:
         kept = {name: value for name, value in request.args.items() if name in ("q", "in", "from", "to", "order")}
         offers = [(text, urlencode({**kept, "q": text})) for text in told.get("offers", ())]
         return self.render(request, "search.html", told=told, units=units, scopes=scopes, within=within, offers=offers,
-                           more=urlencode({**kept, "after": told.get("after", "0-0")}),
+                           more=urlencode({**kept, "after": told.get("after")}),
                            typed=bool(folding.read_typed(request.args.get("q", ""))))
 
     def help(self, request):

@@ -35,7 +35,7 @@ from pages import Pages
 from turns import Late, Turns, is_costly
 
 LARGEST = 2**63 - 1  # of SQLite's numbers
-NOTHING = {"state": "done", "units": [], "more": False}
+NOTHING = {"units": [], "more": False}
 THREADS = 40  # most wait for the office: nginx lets 12 finding aids and 16 searches in
 LONGEST = 65_536  # bytes of a form
 
@@ -110,8 +110,8 @@ class Service:
         """A page, and what its head says besides."""
         form = []
         if method == "POST":
-            sent = environ["wsgi.input"].read(min(int(environ.get("CONTENT_LENGTH") or 0), LONGEST))
-            form = fields(sent.decode("utf-8", "replace"))
+            size = int(environ.get("CONTENT_LENGTH") or 0)  # of a longer form nothing is read: a part may name another box
+            form = fields(environ["wsgi.input"].read(size).decode("utf-8", "replace")) if size <= LONGEST else []
         language = self.pages.choose(args, environ.get("HTTP_ACCEPT_LANGUAGE", ""))
         answer = self.pages.answer(Request(
             method, path, args, language, f"{environ['wsgi.url_scheme']}://{environ.get('HTTP_HOST', 'localhost')}",
@@ -130,17 +130,17 @@ class Service:
         """What was found, and the list of fonds, once it is this reader's turn."""
         query, unread = query_of(values, language)
         if unread:
-            return {**NOTHING, "state": "unread", "unread": unread}, []
+            return {"state": "unread", **NOTHING, "unread": unread}, []
         try:
             with self.turns.turn(address, isinstance(address, Room), is_costly(query.phrases)) as is_awaited:
                 return self.found(values, language, query, is_awaited)
         except Late:
-            return {**NOTHING, "state": "late", "after": "{}-{}".format(*query.after)}, []
+            return {"state": "late", **NOTHING, "after": "{}-{}".format(*query.after)}, []
 
     def found(self, values, language, query, is_awaited):
         """What was found, and the list of fonds. While the first round goes on, the answer says how far it is."""
         if not hasattr(self.mine, "ask"):
-            self.mine.ask = Asking(self.queue, kind="search")
+            self.mine.ask = Asking(self.queue)
         try:
             with contextlib.closing(index.open_index(self.path)) as db:
                 finished, done, tops = db.execute("SELECT finished, done, tops FROM round").fetchone()
@@ -151,7 +151,7 @@ class Service:
         except (sqlite3.Error, AttributeError, TypeError, ValueError) as broken:  # not there yet, or damaged
             print(f"answer: {type(broken).__name__} {broken}", flush=True)
             self.say(0)
-            return {**NOTHING, "state": "begins", "done": 0, "tops": 0}, []
+            return {"state": "begins", **NOTHING, "done": 0, "tops": 0}, []
         if not finished and found.state == "done":
             told |= {"state": "begins", "done": done, "tops": tops}
         return told, found.fonds
@@ -160,8 +160,7 @@ class Service:
         """What an answer says. What it has found late goes to the rounds."""
         for number in (*found.doubts, *(-number for number in found.gone)):
             self.say(number)
-        told = {**NOTHING, "state": found.state, "units": found.units, "more": found.more,
-                "cut": is_cut(values.get("q", ""))}
+        told = {"state": found.state, "units": found.units, "more": found.more, "cut": is_cut(values.get("q", ""))}
         if found.more or found.state != "done":
             told["after"] = "{}-{}".format(*found.after)
         if found.state == "done" and found.query.after == START:

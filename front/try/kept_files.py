@@ -1,5 +1,6 @@
 """The files that a try starts from: the newest copy of the office, and the file that was imported last from a source."""
 
+import errno
 import re
 
 
@@ -11,7 +12,7 @@ def newest_copy(folder):
     """The newest copy that the backup has made; raises NoCopy if there is none."""
     copies = sorted(folder.glob("office-*.db"))
     if not copies:
-        raise NoCopy(2, "there is no copy of the office", str(folder))
+        raise NoCopy(errno.ENOENT, "there is no copy of the office", str(folder))
     return copies[-1]
 
 

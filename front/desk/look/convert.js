@@ -29,7 +29,7 @@ export function convert(bytes, rules) {
 function decode(bytes) {
   const [one, two] = bytes;
   const hasMark = (one === 0xff && two === 0xfe) || (one === 0xfe && two === 0xff);
-  if (hasMark || (bytes.length > 1 && (one === 0) !== (two === 0))) {
+  if (hasMark || (one === 0) !== (two === 0)) {
     const isLittle = hasMark ? one === 0xff : two === 0;
     return decodedAs(bytes, isLittle ? 'utf-16le' : 'utf-16be', 'UTF-16');
   }

@@ -91,13 +91,13 @@ function isText(bytes, end, mayGoOn) {
 /** Where the first character that is wrong begins. */
 function firstWrong(bytes) {
   let good = 0;
-  let bad = bytes.length + 1; // the whole may end within a character
+  let bad = bytes.length; // so many bytes are no text
   while (bad - good > 1) {
     const middle = Math.floor((good + bad) / 2);
     if (isText(bytes, middle, true)) good = middle;
     else bad = middle;
   }
-  for (let start = Math.min(bad - 1, bytes.length); ; start -= 1) if (isText(bytes, start, false)) return start;
+  for (let start = bad; ; start -= 1) if (isText(bytes, start, false)) return start;
 }
 
 function placeOf(bytes, start) {
@@ -107,7 +107,7 @@ function placeOf(bytes, start) {
   for (let place = 0; place < start; place += 1) {
     if (!isEndOf(bytes[place])) continue;
     begin = place + 1;
-    if (bytes[place] === 10 || bytes[place + 1] !== 10 || place + 1 >= start) line += 1;
+    if (bytes[place] === 10 || bytes[place + 1] !== 10) line += 1;
   }
   let end = start;
   while (end < Math.min(start + 20, bytes.length) && !isEndOf(bytes[end])) end += 1;
