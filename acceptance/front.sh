@@ -5,6 +5,7 @@
 # openssl, what the readers' service needs of Python and chromium for the pages, and tries to install them from
 # Debian's packages. If it cannot, it says what it leaves out; in CI that is wrong. Pictures of the pages go to
 # acceptance/front/out, which is not committed.
+# A part in which a check fails is played once more, and that time counts: browser and servers are not always as fast.
 # Its last line is `N passed, M failed`; it ends with 0 if all passed.
 set -euo pipefail
 here=$(cd "$(dirname "$0")" && pwd)
@@ -27,8 +28,8 @@ if [ ${#missing[@]} -gt 0 ]; then
     echo "0 passed, ${#missing[@]} failed"
     exit 1
 fi
-parts=(looks pages approved desk unscripted access rules restarts limits queue encrypted stall search strangers services servers
-    neighbours tries registers refusals journeys paper tickets translations)
+parts=(looks pages approved desk enhanced styles unscripted access rules restarts limits queue encrypted stall search strangers
+    services servers neighbours tries registers refusals journeys paper tickets translations)
 if ! has chromium chromium fonts-liberation; then
     echo "left out the pages, their refusals and the page of another site: chromium is not here and cannot be installed"
     parts=(looks approved unscripted rules restarts limits queue encrypted stall search strangers services servers tries
@@ -46,4 +47,4 @@ has zbarimg zbar-tools || echo "left out that zbarimg reads the barcodes: it is 
 has nft nftables && has ip iproute2 || echo "left out the limits of connections: nftables or iproute2 is not here and cannot be installed"
 room=$(mktemp -d)
 trap 'rm -rf "$room"' EXIT
-"$here/../run" acceptance.front.run --program "$program" "$room/offices" "$here/front/out" "${parts[@]}"
+"$here/../run" acceptance.front.run --again --program "$program" "$room/offices" "$here/front/out" "${parts[@]}"

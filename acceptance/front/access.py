@@ -304,20 +304,11 @@ class Access:
 
     def walk(self, page, at):
         """2.1.1, 2.4.7, 2.4.11: Tab comes to all that can be used, each with a ring that is seen, and nothing lies over
-        it; and so on the way back, where something stays at the top of the window."""
-        self.walk_one_way(page, at, False)
-        if page.js("document.querySelector('.search.bar') !== null"):
-            self.walk_one_way(page, f"{at}, back", True)
-            page.js("scrollTo(0, document.body.scrollHeight / 2)")
-            self.same(f"2.4.11 what stays at the top leaves half of the window: {at}", page,
-                      "document.querySelector('.search.bar').getBoundingClientRect().bottom <= innerHeight / 2", True)
-
-    def walk_one_way(self, page, at, back):
-        """Checks the stops of Tab from the top of the page, or back from its end."""
+        it."""
         wanted, met = self.run_measure(page, "stops"), []
         page.js("document.activeElement.blur(), scrollTo(0, 0)")
         for _ in range(len(wanted) + 12):  # a date has several stops
-            page.key("Tab", shift=back)
+            page.key("Tab")
             now = self.run_measure(page, "focus")
             if met and now["key"] == met[0]["key"]:
                 break

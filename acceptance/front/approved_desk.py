@@ -1,5 +1,5 @@
 """What each page of the desk shows in each of its states, as approved: pages in a browser whose answers were kept from the
-program, or are made up (approved_states.js). No server runs, and no clock: a part takes a second, and always gives the same.
+program, or are made up (approved*_states.js). No server runs, and no clock: a part takes a second, and always gives the same.
 
     ./run acceptance.front.run --program PROGRAM FOLDER SHOTS desk            # all parts; or desk:counter
 """
@@ -18,13 +18,17 @@ from acceptance.front.office import FRONT
 
 SITE = "http://desk.example"
 HERE = pathlib.Path(__file__).resolve().parent
-DRIVER, STATES = HERE / "approved_pages.js", HERE / "approved_states.js"
+DRIVER, STATES = HERE / "approved_pages.js", sorted(HERE.glob("approved*_states.js"))
 KINDS = {".html": "text/html; charset=utf-8", ".js": "text/javascript", ".css": "text/css", ".json": "application/json",
          ".svg": "image/svg+xml"}
 PATIENCE = 25  # seconds without a word of the browser
 PAUSES = 30, 150, 400  # milliseconds after which a page has asked all, on a quiet machine and on busy ones
 PARTS = ("today", "counter", "container", "readers", "card", "orders", "runs", "out", "units", "import", "differences", "old",
-         "shell", "languages", "many")
+         "shell", "languages", "many",
+         "room_counter", "room_prints", "room_slips", "room_queue", "room_cards",
+         "texts", "speech", "ways", "elements", "answers", "clicks", "going",
+         "file_drafts", "file_seen", "file_readers", "file_permits", "file_french", "file_lists",
+         "file_cards", "file_old", "file_pages")
 TABLES = os.environ.get("APPROVED_TABLES")  # a folder that keeps the tables, so that they are not asked for again
 # What was done in the office before.
 BEFORE = [
@@ -93,7 +97,7 @@ class Bundle:
         self.done = []
         self.add(FRONT / "desk/main.js")
         modules = "\n".join(self.module(path) for path in self.done)
-        script = f"<script type=module>const modules = {{}};\n{modules}</script>"
+        script = f"<script type=module>const modules = window.approvedModules = {{}};\n{modules}</script>"
         text = (FRONT / "desk/index.html").read_text("utf-8")
         text = text.replace('<script type="module" src="/main.js"></script>', script)
         for name in ("shared/base.css", "desk/desk.css"):
@@ -191,29 +195,34 @@ class Desk:
             new.rename(kept)
 
     def play(self, part, learns, wanted=None):
-        """Plays a part from its beginning."""
+        """Plays a part from its beginning. If the tab fails, the next part has another."""
         if not self.page:
             self.open()
-        if self.script:
-            self.page.call("Page.removeScriptToEvaluateOnNewDocument", identifier=self.script)
-        words = [f"const approvedPart = {json.dumps(part)}, approvedTable = {self.text_of(part)};",
-                 f"const approvedFiles = {json.dumps(self.files)};",
-                 f"const approvedWanted = {json.dumps(wanted)};", f"const approvedLearns = {json.dumps(learns)};",
-                 STATES.read_text("utf-8"), "if (location.search === '?begin') { window.name = ''; sessionStorage.clear(); "
-                 "localStorage.clear(); history.replaceState(null, '', `/${window.approvedStates[approvedPart][0]}`); }",
-                 DRIVER.read_text("utf-8")]
-        self.script = None
-        self.script = self.page.call("Page.addScriptToEvaluateOnNewDocument", source="\n".join(words))["identifier"]
-        self.told, self.part = None, part
-        self.browser.events.clear()
         try:
-            self.page.call("Page.navigate", url=f"{SITE}/?begin")
+            self.begin(part, learns, wanted)
             while not self.told:
                 self.browser.read(PATIENCE)
         except Exception:
             self.close()
             raise
         return self.told
+
+    def begin(self, part, learns, wanted):
+        """Loads the page with the states of a part."""
+        if self.script:
+            self.page.call("Page.removeScriptToEvaluateOnNewDocument", identifier=self.script)
+        words = [f"const approvedPart = {json.dumps(part)}, approvedTable = {self.text_of(part)};",
+                 f"const approvedFiles = {json.dumps(self.files)};",
+                 f"const approvedWanted = {json.dumps(wanted)};", f"const approvedLearns = {json.dumps(learns)};",
+                 *(path.read_text("utf-8") for path in STATES),
+                 "if (location.search === '?begin') { window.name = ''; sessionStorage.clear(); localStorage.clear(); "
+                 "history.replaceState(null, '', `/${window.approvedStates[approvedPart][0]}`); }",
+                 DRIVER.read_text("utf-8")]
+        self.script = None
+        self.script = self.page.call("Page.addScriptToEvaluateOnNewDocument", source="\n".join(words))["identifier"]
+        self.told, self.part = None, part
+        self.browser.events.clear()
+        self.page.call("Page.navigate", url=f"{SITE}/?begin")
 
     def text_of(self, part):
         """The table of a part, as a script has it."""

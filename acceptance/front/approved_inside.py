@@ -4,10 +4,12 @@ made, and with which words all of it is begun. Clocks, sockets and processes are
 import contextlib
 import io
 import json
+import os
 import pathlib
 import signal
 import socket
 import sqlite3
+import subprocess
 import sys
 import threading
 import types
@@ -15,6 +17,7 @@ import types
 import aids
 import asking
 import languages
+import layouts
 import orders
 import rounds
 import service
@@ -24,8 +27,8 @@ from folding import read_typed
 
 from acceptance import client, plain
 from acceptance.front import approved, approved_tables
-from acceptance.front.office import clear
-from acceptance.front.stage import Clock, Played, digest, readable
+from acceptance.front.office import READERS, clear
+from acceptance.front.stage import Clock, Played, digest
 
 HERE = 100.0  # seconds at which the clock of the turns begins
 
@@ -66,10 +69,11 @@ class Turning:
         """One search, from a moment on."""
         self.stop(HERE + at)
         try:
-            with it.turn(address, *how):
+            with it.turn(address, *how) as is_awaited:
                 self.lines.append(f"{self.now - HERE:.1f} {name} begins")
                 self.stop(self.now + takes)
-            self.lines.append(f"{self.now - HERE:.1f} {name} ends")
+                awaited = " while others wait" * is_awaited()
+            self.lines.append(f"{self.now - HERE:.1f} {name} ends{awaited}")
         except turns.Late:
             self.lines.append(f"{self.now - HERE:.1f} {name} is late")
         except Exception as broken:  # noqa: BLE001 - whatever it is, it is what happens
@@ -134,6 +138,14 @@ def turns_table(_):
         with it.turn("new"):
             clock.now += .5
         yield f"of {many} addresses and a new one: {len(it.spent)} are kept, {it.spent.get('new', (0,))[0]:.3f} of the new one"
+    for mine in (0, .5, 3):
+        it = turns.Turns()
+        it.waiting, others = [(False, 1, "other", 2)], (0, .9, 1, 1.1, 1.9, 2, 2.1, 6.9, 7, 7.1, 16, 31)
+        shown = []
+        for seconds in others:
+            it.spent = {"mine": (mine, clock.now), "other": (seconds, clock.now)}
+            shown += [seconds] * it._is_awaited("mine")  # noqa: SLF001 - what is counted is what is approved
+        yield f"who has taken {mine} s is hurried by who has taken {shown}, and not by who has taken more"
 
 
 def told_of(answer, clock, ask, *asked):
@@ -207,6 +219,7 @@ def spools(folder, played, clock):
         played.answers, begun = {aid: answer}, len(played.asked)
         told = told_of(lambda: read_file(asking.spool(path, aid, folder, 7)), clock, None)
         yield f"spool, {name}: {told}; {played.asked[begun:]}"
+    yield from large_aids(folder, played)
     it, played.answers = aids.Aids(path, folder, 4), {}
     for step in (.5, 0, 3, .1):
         clock.step, begun = step, len(played.asked)
@@ -217,15 +230,78 @@ def spools(folder, played, clock):
     yield f"others take too long: {told_of(it.spool, clock, None, 1)}"
     clock.step = .5
     for name, answer in {**REPLIES, "taken": client.reply(200, b'{"order":3}'), "refused": client.reply(409, b'{"code":7}'),
-                         "nothing": client.reply(200, b"")}.items():
+                         "nothing": client.reply(200, b""), "a gateway's": reply(502, b"{}"), "late": reply(504, b"{}"),
+                         "away": reply(503, b"{}"), "odd": reply(500, b"{}")}.items():
         played.answers = {"/public/orders": answer}
         yield f"an order, {name}: {asking.give_order(path, 1, 2, 7)}, {told_of(orders.give_one, clock, None, path, 1, 2)}"
+    for code in (1, 2, 4, 5, 6, 7, 23):
+        played.answers, begun = {"/public/orders": client.reply(409, b'{"code":%d}' % code)}, len(played.asked)
+        done = orders.give(path, orders.Row(6), "a", 9, [(3, 4), (5, 6)])
+        yield f"two orders, refused by {code}: {[(*one[:3], one.refused[:32]) for one in done]}; {played.asked[begun:]}"
     row = orders.Row(6)
     clock.now += 1
     later = ((clock.sleep(wait), row.takes("a"))[1] for wait in (9, 2, 25, 0, 0, 500))
     yield f"in a row: {[row.takes('a') for _ in range(14)]} {list(later)}"
     row.left = {str(n): (5, clock.now) for n in range(9_998)}
     yield f"of many addresses: {[(row.takes(name), len(row.left), '0' in row.left, '1' in row.left)[1:] for name in 'xyzxx']}"
+
+
+class Counted(io.BytesIO):
+    """An answer, and how much of it was asked for at a time."""
+
+    def __init__(self, data):
+        super().__init__(data)
+        self.sizes = []
+
+    def read(self, size=-1):
+        """A part of it."""
+        self.sizes.append(size)
+        return super().read(size)
+
+
+def large_aids(folder, played):
+    """Large finding aids: how they are copied, sent and laid out, and how many at a time."""
+    data = Counted(reply(200, b"x" * 600_000))
+    nothing = lambda *_: None  # noqa: E731 - of a connection that takes all
+    asking.socket = types.SimpleNamespace(AF_UNIX=0, socket=lambda _: types.SimpleNamespace(
+        settimeout=nothing, connect=nothing, sendall=nothing, close=nothing, makefile=lambda _: data))
+    file, _ = asking.spool("office.sock", "/public/aid/1", folder, 7)
+    asking.socket = played
+    is_nameless = file.name == file.fileno()
+    yield f"spooled in pieces of {data.sizes}, {len(file.read())} bytes in a file without a name: {is_nameless}"
+    it = aids.Aids(folder / "office.sock", folder, 4)
+    for size in (0, 65_536, 150_000):
+        file = io.BytesIO(b"x" * size)
+        yield f"sent in pieces of {[len(piece) for piece in it.plain(file)]}, closed {file.closed}"
+    made = [io.BytesIO() for _ in range(9)]
+    pages = [it.laid_out(file, iter("ab")) for file in made]
+    for what, do in (("none", list), ("one", lambda: next(pages[0])), ("four", lambda: [*map(next, pages[1:4])]),
+                     ("one is whole", lambda: list(pages[0])), ("one is broken off", pages[1].close)):
+        do()
+        yield f"of laid out aids {what}: {free(it.written)} may begin, closed {[file.closed for file in made]}"
+    for text in (b"GB x [\xff] y\n  3.1.3 Date(s): \xff\n   GB z\n", b"GB x\r\n \n", b"GB x", b"", b"  GB x\n GB y\n"):
+        yield f"aid of {aids.size_and_head(io.BytesIO(text))}"
+        yield from (str(tuple(line)) for line in aids.aid_lines(io.BytesIO(text), 5, False))
+    yield from blocks()
+
+
+def blocks():
+    """Where the blocks of a large aid begin."""
+    for lines in (1, 198, 199, 200, 201):
+        text = "GB a\n" + "".join(f"  GB {n}\n" + "    3.1.3 Date(s): x\n" * lines for n in range(4))
+        for large in (False, True):
+            begins = [place for place, line in enumerate(aids.aid_lines(io.BytesIO(text.encode()), 5, large)) if line.begins]
+            yield f"units of {lines} lines, large {large}: blocks at {begins}"
+
+
+def free(semaphore):
+    """How many may still come in."""
+    many = 0
+    while semaphore.acquire(blocking=False):
+        many += 1
+    for _ in range(many):
+        semaphore.release()
+    return many
 
 
 def read_file(spooled):
@@ -249,9 +325,11 @@ class Heard:
         self.clock.now = max(self.clock.now, self.messages[0][0]) if come else self.clock.now + patience
         return ([self] if come else []), [], []
 
-    def recv(self, _):
-        """The next message."""
-        return self.messages.pop(0)[1]
+    def recv(self, size):
+        """The next message, of which no more is kept than was asked for."""
+        message = self.messages.pop(0)[1]
+        self.lines += [f"of {message} it takes {message[:size]}"] * (len(message) > size)
+        return message[:size]
 
 
 def keeper_lines(folder, many, every, messages=(), trouble=(), rows=approved_tables.ROWS):
@@ -275,7 +353,8 @@ def keeper_lines(folder, many, every, messages=(), trouble=(), rows=approved_tab
 
     def opened(path, check):
         """Opens the index."""
-        heard.lines.append(f"opens the index, check {check}")
+        doubts = f", doubts {sorted(keeper.doubts)}, of these gone {sorted(keeper.gone)}" * bool(keeper.doubts)
+        heard.lines.append(f"opens the index, check {check}{doubts}")
         nonlocal many
         many -= 1
         return kept[3](path, check)
@@ -309,6 +388,7 @@ def keeper_table(folder):
     yield "## with messages"
     yield from keeper_lines(folder / "messages", 6, 60, [(1001, b"3"), (1004, b"-4"), (1020, b"5"), (1021, b"-6"),
                                                          (1050, b"0"), (1056, b"2"), (1057, b"2"), (1200, b"7")])
+    yield from keeper_lines(folder / "long", 2, 60, [(1001, b"-9999999999"), (1002, b"9999999998")])
     yield "## the service is gone"
     yield from keeper_lines(folder / "gone", 6, 60, [(1003, b"")])
     yield "## with trouble"
@@ -418,6 +498,12 @@ def begun_rounds(folder):
         it.say(number)
     it.told.close()
     it.say(1)
+    for words in (["--help"], ["--queue", "q"]):
+        told = subprocess.run([sys.executable, READERS / "rounds.py", *words], stdout=subprocess.PIPE,
+                              stderr=subprocess.STDOUT, text=True, check=False,
+                              env={**os.environ, "PYTHONPATH": "/usr/lib/python3/dist-packages"})
+        lines += [f"rounds.py {' '.join(words)} ends with {told.returncode}", *told.stdout.split("\n\n")[1:2],
+                  *told.stdout.splitlines()[-1:]]
     return [*lines, *out.getvalue().splitlines(),
             f"heard {heard}, as a daemon {it.daemon}, {it.told.type == socket.SOCK_SEQPACKET}"]
 
@@ -433,9 +519,11 @@ LINES = ("3.1.3 Date(s): 1774: 1775", "3.1.3 Dates: 1774", "Container 12: Box", 
          "3.3.1 Scope and content: x (from GB 0999 A)", "Container 3: x (from GB 0999 A/1)",
          "3.4.1 Conditions governing access: x (from GB 0999 A", "3.7.2 Rules or Conventions: (from GB 0999 A)", "Unit 3: x",
          "9.9 Odd: x", "3.4.3 Language/scripts of material: en (from GB 0999) (from GB 0999 A)",
-         "3.2.4 Immediate source of acquisition or transfer:  (from GB 0999 A/1)")
+         "3.2.4 Immediate source of acquisition or transfer:  (from GB 0999 A/1)", "3.2.1 Name of creator(s): x (from GB)",
+         "3.4.1 Conditions governing access: x (from GB 0999 A]",
+         "3.2.1 Name of creator(s): x (from y) (from GB 0999 A)", "Container 4: (from GB 0999 A)")
 PAGES = ("GB 0999 A [Fonds] Dock\n  3.1.3 Date(s): 1774-1893\n  Container 3: Box (from GB 0999)\n  Unit 12: GB x\n"
-         "  Unit 012: GB y\n  Unit 7 GB z\n  Unit x: y\n",
+         "  Unit 012: GB y\n  Unit 7 GB z\n  Unit x: y\n  9 is no unit\n",
          "GB 0999 A/1 [File] x\n  3.2.1 Name of creator(s): x (from GB 0999 A)\n"
          "  3.3.1 Scope and content: x (from GB 0999 A)\n", "-\n")
 AIDS = ("GB 0999 A [Fonds] Dock\n  3.1.3 Date(s): 1774\n  GB 0999 A/1 [Series] x\n    3.1.3 Date(s): 1775\n"
@@ -457,8 +545,7 @@ def texts_table(folder):
         yield f"line {line}: {tuple(texts.read_line(line))} | {tuple(texts.read_line(line, 'GB 0999 A/1/2 [File] x'))}"
         yield (f"  {texts.may_be_from_above(line, 'GB 0999 A/1/2 [File] x')} {texts.name_of(line)} | {texts.value_of(line)} | "
                f"{texts.years_of([line])}")
-    for line in ("3.2.1 Name of creator(s): x (from GB 0999 A (from B)", "3.2.1 Name of creator(s): x (from B)"):
-        yield f"from a code with from: {texts.may_be_from_above(line, 'GB 0999 A (from B/1 [File] x')}"
+    yield from marks_of_lines()
     for text in PAGES:
         page = texts.Page(text)
         yield f"page {page.head} | {page.units} | {page.lines} | {page.own_lines()} | {page.own_lines(page.lines[:1])}"
@@ -479,6 +566,18 @@ def texts_table(folder):
     yield f"items {orders.read_items(form)} {orders.read_items(form, 5)}"
     yield f"most {len(orders.read_items([('container', str(n)) for n in range(1, 99)], 5))}"
     yield from languages_lines(folder)
+
+
+def marks_of_lines():
+    """Which lines may be found above, by codes that begin alike."""
+    for line in ("3.2.1 Name of creator(s): x (from GB 0999 A (from B)", "3.2.1 Name of creator(s): x (from B)"):
+        head = "GB 0999 A (from B/1 [File] x"
+        yield f"from a code with from: {texts.may_be_from_above(line, head)} {tuple(texts.read_line(line, head))}"
+    for head, mark in (("GB 09 (from GB 0/1 [File] x", "GB 09 (from GB 0"), ("GB 0 (from GB 0/1 [File] x", "GB 0 (from GB 0"),
+                       ("GB 0999 AB/1 [File] x", "GB 0999 A"), ("GB 0999 AB/1 [File] x", "GB 0999 AB"),
+                       ("GB 0999 AB [File] x", "GB 0999 A"), ("GB 0999 AB [File] x", "GB 0999"), ("GB x [File] x", "GB")):
+        line = f"3.2.1 Name of creator(s): x (from {mark})"
+        yield f"from {mark} in {head}: {texts.may_be_from_above(line, head)} {texts.read_line(line, head)[2:]}"
 
 
 def nodes_of(node, depth):
@@ -503,20 +602,69 @@ def languages_lines(folder):
     for code, one in known.items():
         yield (f"{code} {one.name} {one.direction} {one.day('2026-03-01')} {one.day('2026-11-22')} {one.day('x')} "
                f"{one.number(1234567)} {one.say('Not found')} {one.say('')}")
-    for wish in ("", "de", "fr;q=0.2, el;q=0.9", "de;q=0", "xx, *", "ES-mx", ",,;q=,", "de;q=abc,fr"):
+    many = [f"x{n}" for n in range(20)]
+    for wish in ("", "de", "fr;q=0.2, el;q=0.9", "de;q=0", "xx, *", "ES-mx", ",,;q=,", "de;q=abc,fr", "de-AT-1996",
+                 "de_AT, fr", "fr;q=1,de", "fr;q=.5,de;q=.50", "fr;q=-1,de;q=0.1", "el ;q=1", ", ".join([*many[:19], "de"]),
+                 ", ".join([*many, "de"]), "de;q=nan", "fr;q=2,de"):
         yield f"wish {wish}: {languages.choose(known, wish).code}"
     french = known["fr"]
     yield f"{[text for text in french.for_scripts().values() if isinstance(text, str) and chr(0xa0) in text][:3]}"
 
 
+def request_of(language):
+    """A request for a page."""
+    return layouts.Request("GET", "/help", {}, language, "https://archive.example.org", "192.0.2.1", None, [])
+
+
+OWN_WORDS = ("{", "[]", "3", "null", '"text"', '[["name", "In pairs"]]', '{"name": "Town archive", "hours": "Mo\u2013Fr"}',
+             '{"name": {"de": "Stadtarchiv", "en": "Town archive"}, "hours": {"fr": "lu"}, "address": {}, "ordered": 5}',
+             '{"name": {"de": "", "el": "x"}, "hours": {"de": 3}, "address": null, "other": "kept"}', "\u00fc")
+HEADS_IN_PIECES = (["GB 0999 A [File] Minutes"], ["GB 0999 ", "A", " [File] ", "Min", "utes"], ["", "GB 0999 A [Fi", "le] M"],
+                   ["GB ", "0999 A [File] Minutes", ""], ["GB [", "x", "] a [b] c"], ["", "x"], [""],
+                   ["GB A ", "[", "F", "]", " T"], ["GB A [F] ", "closed", " until 2030-01-01"])
+LONG_TITLES = ("x" * 47, "x" * 48, "x" * 49, "x" * 46 + " yz", "x" * 47 + " y", "x" * 45 + "   yz", "")
+
+
+def layouts_table(folder):
+    """What pages are given: the office's own words, and parts of texts; and in which pieces a page is made."""
+    known, words = languages.load(), folder / "office.json"
+    it = layouts.Layouts(known, words)
+    yield f"without a file {it.own_words(known['en'])} {it.own_words(known['de'])}"
+    for text in OWN_WORDS:
+        words.write_text(text, "utf-8")
+        yield from (f"{text} in {code}: {it.own_words(known[code])}" for code in ("en", "de"))
+    words.write_bytes(b'{"name": "\xff"}')
+    yield f"no UTF-8: {it.own_words(known['en'])['name']}"
+    words.unlink()
+    yield from (f"short {len(text)}: {layouts.short(text)}" for text in LONG_TITLES)
+    yield f"filled {layouts.filled({'a': 1, 'b': 0, 'c': '', 'd': 'x', 'e': None, 'f': []})}"
+    for pieces in HEADS_IN_PIECES:
+        head, parts = layouts.pieces_of_head(pieces)
+        yield f"head in pieces {pieces}: {head.code!r} {parts}"
+    node = types.SimpleNamespace(lines=["3.1.3 Date(s): 1774", "3.1.50 x: y", "3.1.5 Extent: 1 box: small", "3.1.4 x: y", "x"])
+    yield f"facts {layouts.facts(node)}"
+    answer = it.render(request_of(known["en"]), "robots.txt", kind="text/plain")
+    yield f"a page {answer.status} {answer.kind} {answer.size} {answer.body.splitlines()[:1]}"
+    answer = it.render(request_of(known["de"]), "message.html", 404, texts=("Not found", ""), way=None)
+    yield f"a message {answer.status} {answer.kind} {answer.size} {'Nicht gefunden' in answer.body}"
+    for many in (3, 300):
+        text = "GB x [Fonds] x\n" + "  3.1.3 Date(s): 1774\n" * many
+        head, lines = texts.read_head("GB x [Fonds] x"), aids.aid_lines(io.BytesIO(text.encode()), 5, False)
+        stream = it.stream(request_of(known["en"]), "aid.html", number=5, head=head, large=False, lines=lines)
+        made = list(stream)
+        yield f"an aid of {many} lines in {len(made)} pieces, of which {sum('<p data-depth' in one for one in made)} have some"
+
+
 def begun_table(folder):
     """How the service and its rounds are begun."""
-    return [*begun(folder), *begun_rounds(folder)]
+    yield from begun(folder)
+    yield from begun_rounds(folder)
 
 
 # What each part is about; files that are in none are not told apart by any.
 PARTS = {texts_table: ("texts", "service", "orders", "aids", "languages"), turns_table: ("turns",),
-         asking_table: ("asking", "aids", "orders"), keeper_table: ("rounds",), begun_table: ("service", "rounds")}
+         asking_table: ("asking", "aids", "orders"), keeper_table: ("rounds",), begun_table: ("service", "rounds"),
+         layouts_table: ("layouts", "texts")}
 
 
 def play(checks, folder, file="", only=None):
@@ -525,4 +673,5 @@ def play(checks, folder, file="", only=None):
         if approved_tables.is_wanted(part.__name__, files, file, only):
             inside = clear(folder) / "inside"
             inside.mkdir(parents=True)
-            approved.same(checks, f"inside/{part.__name__.removesuffix('_table')}", map(readable, part(inside)))
+            lines = approved_tables.to_the_end(part(inside))
+            approved.same(checks, f"inside/{part.__name__.removesuffix('_table')}", lines)

@@ -9,9 +9,9 @@
 (() => {
   const ROUTES = /^\/(public|desk|lists|try|texts)\//;
   const START = Date.parse('2026-03-02T10:20:30Z');
-  const MOST = 3000; // requests of a part; a page that asks for more goes on without end
+  const MOST = 3000; // requests of a part, unless it says how many; a page that asks for more goes on without end
   const DIFFERS = new Error('another line was approved'); // then nothing more is played
-  const WHOLE = ['shell', 'languages']; // parts that also show what stands around all pages
+  const WHOLE = ['shell', 'languages', 'enhanced']; // parts that also show what stands around all pages
   const INLINE = new Set('SPAN STRONG A BDI EM SMALL CODE B TIME MARK'.split(' '));
   const OUTCOMES = {
     unsent: [503, '{"error":"not reached"}'], busy: [503, '{"error":"busy"}'], often: [429, ''], barred: [403, ''], large: [413, ''],
@@ -92,7 +92,7 @@
 
   async function answerTo(method, path, options) {
     own.many += 1;
-    if (own.many > MOST) {
+    if (own.many > (own.most ?? MOST)) {
       now.pending -= 1;
       await new Promise(() => {});
     }
@@ -161,6 +161,8 @@
     }
   };
 
+  /** The text of bytes, with the mark at its beginning that says that it is UTF-8. */
+  const textOf = (bytes) => new TextDecoder('utf-8', { ignoreBOM: true }).decode(bytes).replace(/^\ufeff/, '(mark)');
   const files = new Map();
   URL.createObjectURL = (blob) => {
     files.set(`blob:${files.size}`, blob);
@@ -170,7 +172,7 @@
   HTMLAnchorElement.prototype.click = function click() {
     const blob = files.get(this.href);
     now.pending += 1;
-    blob?.text().then((text) => tell(`saves ${this.download} (${blob.type}): ${JSON.stringify(text)}`)).finally(() => { now.pending -= 1; });
+    blob?.arrayBuffer().then((bytes) => tell(`saves ${this.download} (${blob.type}): ${JSON.stringify(textOf(bytes))}`)).finally(() => { now.pending -= 1; });
     if (!blob) this.dispatchEvent(new MouseEvent('click', { bubbles: true, cancelable: true, detail: 1 }));
   };
   window.print = () => tell('prints');
@@ -332,6 +334,7 @@
   /** Keeps what a step came to, below its name. */
   async function step(name) {
     await settle();
+    window.approvedStep?.(); // of approved_styles.py
     const page = wholePage();
     const text = document.body.textContent;
     const passed = [...onTheWay].filter((one) => !text.includes(one)).map((one) => `~ ${short(one)}`);

@@ -1,19 +1,26 @@
 """The readers' pages as they were approved: each kind of address over one office, with what its service says besides, and
 what the office is asked for it."""
 
+import contextlib
+import io
 import json
 import pickle
+import runpy
+import sys
 
 import asking
+import turns
 
 from acceptance import client, plain
 from acceptance.front import approved, catalogue
-from acceptance.front.office import TOP, clear
+from acceptance.front.office import FRONT, TOP, clear
 from acceptance.front.stage import Differs, Pages, Stage
 
 SETTINGS = client.SETTINGS | {"seats": "12", "daily": "6", "hands": "2", "run": "20"}
 DEEP, FAR = 40, "2030-01-01"  # levels of one archive; a day far off
+LONGEST = 65_536  # bytes of a form that is read
 PHO, HUL, HAR, D = 34, 41, 64, 189  # the first numbers of the archives
+TIN = 159  # the first of the two containers of the first notebook
 LETTERS = HAR + 1
 MORE = """legacyId,parentId,identifier,title,levelOfDescription,publicationStatus,eventDates,extentAndMedium,scopeAndContent,\
 archivalHistory,acquisition,physicalObjectName,physicalObjectLocation
@@ -116,6 +123,12 @@ def found_late(stage):
     answers[f"/public/units/{note}"] = UNREACHED
     pages.ask(f"{unit}/above")
     answers.clear()
+    wide_levels(stage, pages, unit, above)
+    return pages.lines
+
+
+def wide_levels(stage, pages, unit, above):
+    """Levels and contents as wide as they are shown, and by one wider; and no index at all."""
     more_units(pages, 1000 - 121, HAR, LETTERS, above, f"{above}/above")  # a level of a thousand, and of one more
     more_units(pages, 1, HAR, LETTERS, above, f"{above}/above")
     stage.sql("DELETE FROM unit WHERE n >= 500000")
@@ -126,7 +139,6 @@ def found_late(stage):
     for target in (unit, f"{unit}/above", "/search?q=dock", "/public/search?q=dock"):
         pages.ask(target)
     (stage.folder / "kept.db").rename(stage.path)
-    return pages.lines
 
 
 def more_units(pages, many, top, parent, *targets):
@@ -168,6 +180,19 @@ def orders(stage):
     pages.ask(unit)
     pages.ask("/unit/4711/order", [("ticket", 3), ("container", 30)])
     pages.ask(f"/unit/{note + 4}/order", [("ticket", 3), ("container", last)])
+    orders_of_list(stage, pages, note, first)
+    answers.clear()
+    stage.clock.now += 1000
+    pages.ask(unit, b"ticket=2&container=%ff" + b"&x=1" * 17000)
+    pages.ask(unit, b"ticket=2&container=\xff3")
+    stage.words.write_text(json.dumps({"name": "Town archive", "ordered": "At <once>."}), "utf-8")
+    pages.ask(unit, [("ticket", 3), ("container", 14)])
+    stage.words.unlink()
+    return pages.lines
+
+
+def orders_of_list(stage, pages, note, first):
+    """Orders of what was collected: lists with odd containers, without a ticket, too long ones."""
     stage.clock.now += 1000
     pages.ask("/ordered")
     pages.ask("/ordered/order", [("ticket", 3), ("container", f"{note + 1}-{first}"), ("container", f"{note + 1}-999999"),
@@ -177,17 +202,9 @@ def orders(stage):
     pages.ask("/ordered/order", [("ticket", ""), ("container", f"{note}-{first}")])
     pages.ask("/ordered/order", [("ticket", 2)])
     pages.ask("/ordered/order")
-    answers["/public/orders"] = client.reply(200, b'{"order":78}')
+    stage.played.answers["/public/orders"] = client.reply(200, b'{"order":78}')
     pages.ask("/ordered/order", [("ticket", 2), *(("container", f"999-{n}") for n in range(1, 53))])
     pages.ask("/ordered/order", [("ticket", 2), *(("container", f"{note}-{n}") for n in range(1, 3))] * 70)
-    answers.clear()
-    stage.clock.now += 1000
-    pages.ask(unit, b"ticket=2&container=%ff" + b"&x=1" * 17000)
-    pages.ask(unit, b"ticket=2&container=\xff3")
-    stage.words.write_text(json.dumps({"name": "Town archive", "ordered": "At <once>."}), "utf-8")
-    pages.ask(unit, [("ticket", 3), ("container", 14)])
-    stage.words.unlink()
-    return pages.lines
 
 
 def others(stage):
@@ -290,6 +307,60 @@ def searches(stage):
     return pages.lines
 
 
+def late(*_):
+    """Stands in for the turn of a search that never comes."""
+    raise turns.Late
+
+
+def at_borders(stage):
+    """The longest that is read, the greatest numbers, the first and last of a list, and what is beyond each."""
+    pages, note = Pages(stage, f"/unit/{PHO}"), stage.note
+    for place in (51, 52, 72):  # of 121 units of a level
+        pages.ask(f"/unit/{LETTERS + 1 + place}")
+    for args in ("from=0", "from=100", "from=121", "from=122", "from=9999999999", "from=10000000000", "has=captain&from=20",
+                 "only=contents&from=102"):
+        pages.ask(f"/unit/{LETTERS}?{args}")
+    for many in (1, 20, 21, 100, 101, 201):
+        lines = ["GB 0999 NOTE [Fonds] Many\n", *(f"  Unit {n}: GB 0999 NOTE/{n} [File] x\n" for n in range(900, 900 + many))]
+        stage.played.answers[f"/public/units/{note}"] = client.reply(200, "".join(lines).encode(), client.TEXT)
+        for query in ("", *(("?from=101", "?from=102&has=GB") if many > 200 else ())):
+            pages.ask(f"/unit/{note}{query}")
+    stage.played.answers.clear()
+    pages.ask("/ordered/order", [("ticket", 2)] + [("container", f"{note + 1}-{n}") for n in range(49, 101)])
+    stage.clock.now += 1000
+    for box, longer in ((14, 0), (15, 0), (16, 1)):
+        form = f"ticket=3&container={box}&x="
+        pages.ask(f"/unit/{note + 1}/order", f"{form}{'x' * (LONGEST + longer - len(form))}".encode())
+    for tins in ((TIN,), (TIN, TIN + 1)):  # of this unit, so that they are told by name
+        pages.ask(f"/unit/{note + 1}/order", [("ticket", 3), *(("container", tin) for tin in tins)])
+    text = f"GB 0999 NOTE [Fonds] closed until {FAR}\n  Unit {note + 1}: GB 0999 NOTE/1 [File] First notebook\n"
+    stage.played.answers[f"/public/units/{note}"] = client.reply(200, text.encode(), client.TEXT)
+    pages.ask(f"/unit/{note + 1}", accept_language="fr")
+    stage.played.answers.clear()
+    for args in ("q=captain&after=0-9223372036854775807", "q=captain&after=0-9999999999999999999", "q=captain&after=0-0",
+                 "q=captain&after=999999-1", "q=captain&after=1000000-1", "q=captain&after=1-", "q=notebook&in=9999999999",
+                 "q=notebook&in=10000000000", f"q=notebook&in={note}&from=%201850%20", "q=captain&from=1900&to=1900",
+                 "q=captain&from=1900&to=1899&lang=de"):
+        pages.ask(f"/public/search?{args}")
+    pages.ask("/search?q=notebok")  # two offers
+    kept, stage.turn = stage.turn, late
+    for target in ("/search?q=captain", "/public/search?q=captain&after=0-640000000084", "/public/search?q=captain"):
+        pages.ask(target)
+    stage.turn = kept
+    return pages.lines
+
+
+def as_program(_):
+    """What the service prints first where it is run by its name."""
+    kept, sys.argv, out = sys.argv, ["service.py", "--help"], io.StringIO()
+    try:
+        with contextlib.redirect_stdout(out), contextlib.suppress(SystemExit):
+            runpy.run_path(str(FRONT / "readers/service.py"), run_name="__main__")
+    finally:
+        sys.argv = kept
+    return [" ".join(out.getvalue().split())[:60]]
+
+
 def in_languages(stage):
     """Some pages in the other languages."""
     pages, note = Pages(stage, f"/unit/{PHO}"), stage.note
@@ -301,7 +372,7 @@ def in_languages(stage):
     return pages.lines
 
 
-PARTS = (units, orders, others, finding_aids, searches, found_late, in_languages)
+PARTS = (units, orders, others, finding_aids, searches, found_late, at_borders, in_languages, as_program)
 # Of some files what shows them first.
 FIRST = {begin: part for part, files in (
     (finding_aids, ("aids.py", "templates/aid")), (orders, ("orders.py", "templates/order", "templates/outcome")),

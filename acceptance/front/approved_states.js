@@ -789,10 +789,10 @@
     await t.send(IMPORT, {});
   }];
 
-  window.approvedStates = {
+  Object.assign(window.approvedStates ??= {}, {
     import: ['#/import', ...imports], differences: ['#/import', ...differences], old: ['#/orders/old', ...old], many: ['#/', ...many],
     today: ['#/', ...today], counter: ['#/counter', ...counter], container: ['#/counter/1', ...container], readers: ['#/readers', ...readers],
     card: ['#/readers/1', ...card], orders: ['#/orders', ...orders], runs: ['#/runs', ...runs], out: ['#/out', ...out],
     units: ['#/units', ...units], shell: ['#/', ...shell], languages: ['#/', ...languages],
-  };
+  });
 })();

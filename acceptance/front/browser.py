@@ -10,7 +10,7 @@ import re
 import select
 import subprocess
 import urllib.parse
-from collections.abc import Callable, Mapping
+from collections.abc import Callable, Iterable, Mapping
 from typing import Any
 
 from acceptance.front.waits import settings, until
@@ -31,14 +31,15 @@ TWO_FRAMES = "new Promise((done) => requestAnimationFrame(() => requestAnimation
 
 class Browser:
     """A running Chromium. `answer`: what it answers paused requests with; `on_event`: is called with each event; `covers`:
-    it keeps what runs of each script."""
+    it keeps what runs of each script; `flags`: besides those of all."""
 
-    def __init__(self, profile: str | pathlib.Path, binary: str = "chromium", covers: bool = False) -> None:
+    def __init__(self, profile: str | pathlib.Path, binary: str = "chromium", covers: bool = False,
+                 flags: Iterable[str] = ()) -> None:
         out, self.write = os.pipe()
         self.source, into = os.pipe()
         shell = f'exec "$0" "$@" 3<&{out} 4>&{into}'
-        self.process = subprocess.Popen(["bash", "-c", shell, binary, *FLAGS, f"--user-data-dir={profile}", "about:blank"],
-                                        pass_fds=(out, into), stdout=subprocess.DEVNULL, stderr=subprocess.DEVNULL)
+        words = ["bash", "-c", shell, binary, *FLAGS, *flags, f"--user-data-dir={profile}", "about:blank"]
+        self.process = subprocess.Popen(words, pass_fds=(out, into), stdout=subprocess.DEVNULL, stderr=subprocess.DEVNULL)
         os.close(out)
         os.close(into)
         self.rest, self.last, self.covers = b"", 0, covers
@@ -50,10 +51,14 @@ class Browser:
 
     def call(self, method: str, session: str | None = None, **params: Any) -> Any:
         """Calls a method of the protocol; returns its result. Raises RuntimeError if it fails."""
+        return self._until(self.send(method, session, **params), method)
+
+    def send(self, method: str, session: str | None = None, **params: Any) -> int:
+        """Calls a method whose result nobody awaits; returns the number of the call."""
         self.last += 1
         message = {"id": self.last, "method": method, "params": params, **({"sessionId": session} if session else {})}
         os.write(self.write, json.dumps(message).encode() + b"\0")
-        return self._until(self.last, method)
+        return self.last
 
     def _until(self, number: int, method: str) -> Any:
         """Reads messages up to the reply of this number; returns its result."""
@@ -292,14 +297,13 @@ class Page:
                 self.call("Input.dispatchKeyEvent", type=kind, key=digit, code=f"Digit{digit}",
                           windowsVirtualKeyCode=ord(digit), **({"text": digit} if kind == "keyDown" else {}))
 
-    def key(self, key: str, repeat: bool = False, shift: bool = False) -> None:
+    def key(self, key: str, repeat: bool = False) -> None:
         """Presses a key; `repeat`: as one that is held down."""
         code = {"Enter": 13, "Tab": 9, "Escape": 27, " ": 32}[key]
         text = {"text": "\r"} if key == "Enter" else {}
         self.call("Input.dispatchKeyEvent", type="keyDown", key=key, code=key, windowsVirtualKeyCode=code,
-                  autoRepeat=repeat, modifiers=8 * shift, **text)
-        self.call("Input.dispatchKeyEvent", type="keyUp", key=key, code=key, windowsVirtualKeyCode=code,
-                  modifiers=8 * shift)
+                  autoRepeat=repeat, **text)
+        self.call("Input.dispatchKeyEvent", type="keyUp", key=key, code=key, windowsVirtualKeyCode=code)
 
     def type(self, text: str) -> None:
         """Types a text where the focus is."""

@@ -25,6 +25,7 @@ class Checks(client.Checks):
         super().__init__()
         self.ends_at_first = ends_at_first
         self.told: list[str] = []
+        self.once: list[str] = []  # what failed the first of two times
         self.now: str | None = None
 
     def fail(self, what: str, told: str) -> None:

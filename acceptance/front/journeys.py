@@ -191,7 +191,7 @@ class Journeys:
         self.checks.same("no list is kept unasked", page.js("sessionStorage.length"), 0)
         page.press("Keep a list of my orders in this tab")
         page.visit(self.site + "/ordered")
-        page.see("Carton 77b order", "ul.units")
+        page.see("Carton 77b\norder", "ul.units")
         self.checks.same("the list has what was ordered since",
                          page.js("document.querySelectorAll('ul.units li').length"), 1)
         page.press("Forget this list")

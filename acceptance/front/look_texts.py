@@ -7,7 +7,6 @@ import functools
 import hashlib
 import importlib.util
 import io
-import itertools
 import json
 import os
 import pathlib
@@ -17,7 +16,8 @@ import tempfile
 from unittest import mock
 
 from convert import convert
-from look_at_file import Look
+from csv_records import records
+from look_at_file import Look, Reader
 from wording import PLACES, read_rules, words
 
 from acceptance import client
@@ -31,7 +31,8 @@ FEWER = {**RULES, "limits": {**RULES["limits"], "rows": 3}}
 SHOWN, LONGEST = 3, 70  # entries of a list, and letters of a text, that a line has
 LONG = 500_000  # bytes of a file whose texts are told
 SLOW = {"columns", "limits", "words"}  # groups that are looked at last
-LARGE, PIECES = 4000, 8  # bytes of a file that is looked at in the browser after the others; those come in pieces
+LARGE = 4000  # bytes of a file that is looked at in the browser after the others
+FEW, MOST = 20, 320  # files that are looked at together there: first few, then twice as many, and so on
 # Looks at files by the modules of the import page, as `told_by_shell` does.
 LOOK = """Promise.all([import('/look/look.js'), import('/look/convert.js')]).then(
 async ([{ look, readRules, adviceWords }, { convert }]) => {
@@ -44,7 +45,8 @@ async ([{ look, readRules, adviceWords }, { convert }]) => {
       const [seen, found] = [look(bytes, by), convert(bytes, by)];
       const told = seen.advice.map((one) => adviceWords(by, one))
         .map(({ name, level, says, todo }) => [name, level, says, todo]);
-      return [told, seen.counts, found && { ...found, bytes: whole.decode(found.bytes) }];
+      const units = seen.reader && [...seen.reader.units.values()].map((one) => ({ ...one, row: one.row.number }));
+      return [told, seen.counts, units, found && { ...found, bytes: whole.decode(found.bytes) }];
     } catch (wrong) { return String(wrong); }
   });
 }).catch((wrong) => [String(wrong)])"""
@@ -175,7 +177,7 @@ class Command:
         """Keeps lines below their head, on each of them one advice."""
         room = str(self.room)
         self.lines.append("== " + " ".join(map(str, head)).replace(room, "FOLDER"))
-        self.lines += [short(re.sub(r"\s+", " ", line).replace(room, "FOLDER").strip(), 120) for line in lines]
+        self.lines += [short(re.sub(r"(?<=\S)\s+", " ", line).replace(room, "FOLDER").rstrip(), 120) for line in lines]
 
 
 def command():
@@ -234,27 +236,39 @@ def play(checks: Checks) -> None:
     approved.same(checks, "look/command", command())
 
 
+def units_of(data, rules):
+    """The units of a file, with the number of their rows, and their titles."""
+    rows, _ = records(data.decode().removeprefix("\ufeff"))
+    reader = Reader(rows[0].fields, rules)
+    for row in rows[1:]:
+        reader.take(row)
+    return [{**vars(one), "row": one.row.number, "title": reader.value(one.row, "title")} for one in reader.units.values()]
+
+
 def told_by_shell():
-    """The names of all files, and what the modules of front/look say of each: advice, counts, and what it becomes."""
-    found = {}
-    for name, data, rules in files():
+    """All files, the small ones first: the name, what LOOK is given, and what the modules of front/look say: advice, counts,
+    units, and what it becomes."""
+    found = []
+    for name, data, rules in sorted(files(), key=lambda one: len(one[1]) > LARGE):
         seen, becomes = Look(rules).at(data), convert(data, rules)
         converted = {**vars(becomes), "bytes": becomes.data.decode()} if becomes else None
         if converted:
             del converted["data"]
-        found[name] = [[[one, *words(rules, one, values)] for one, values in seen.advice], seen.counts or None, converted]
-    return json.loads(json.dumps(found))
+        told = [[[one, *words(rules, one, values)] for one, values in seen.advice], seen.counts or None,
+                units_of(data, rules) if seen.counts else None, converted]
+        given = [rules is FEWER, base64.b64encode(data).decode()]
+        found.append((name, given, json.loads(json.dumps(told))))
+    return found
 
 
-def play_in_page(checks: Checks, tab, site, wanted=None) -> None:
-    """Checks that the modules of the import page say of each file what those of front/look do: of the small ones first."""
-    tab.visit(f"{site}/look/rules.json", "true")
-    wanted = wanted or told_by_shell()
-    whole = sorted(((len(data) > LARGE, place % PIECES, name, [rules is FEWER, base64.b64encode(data).decode()])
-                    for place, (name, data, rules) in enumerate(files())), key=lambda one: one[:2])
-    for _, piece in itertools.groupby(whole, key=lambda one: one[:2]):
-        given = [one[2:] for one in piece]
-        told = tab.js(LOOK % json.dumps([one for _, one in given]))
-        for (name, _), found in zip(given, told):
-            checks.same(f"the page gives the same advice: {short(name)}", found, wanted[name])
-        checks.same("all are looked at", len(told), len(given))
+def play_in_page(checks: Checks, tab, site, told=None) -> None:
+    """Checks that the modules of the import page say of each file what those of front/look do."""
+    tab.visit(f"{site}/look/look.js", "true")  # its own address has no rules
+    told = told or told_by_shell()
+    begin, many = 0, FEW
+    while piece := told[begin:begin + many]:
+        found = tab.js(LOOK % json.dumps([given for _, given, _ in piece]))
+        for (name, _, wanted), one in zip(piece, found):
+            checks.same(f"the page gives the same advice: {short(name)}", one, wanted)
+        checks.same("all are looked at", len(found), len(piece))
+        begin, many = begin + many, min(2 * many, MOST)

@@ -81,6 +81,8 @@ def beginnings() -> Named:
                  b"\xc3\xa9 \xe9", b"\xe9\r\xe9", b"\xe2\x82\xac\xe9"):
         yield f"a title {data!r}", b"legacyId,title\r\n1,Docks\r\n2," + data + b"\r\n"
     yield "a long line before it", b"legacyId,title\r\n1," + b"x" * 30 + b"\xe9" + b"y" * 30 + b"\r\n"
+    for end in ENDS.values():
+        yield f"empty lines before it, {end!r}", f"legacyId,title{end * 3}1,x{end * 2}".encode() + b"2,\xe9"
 
 
 # The header
@@ -296,6 +298,8 @@ def values() -> Named:
         lines = unit("1", f"{letter}1", publicationStatus=f"{letter}Draft"), unit(f"1{letter}1", title=f"a{letter}")
         yield f"hidden {name} before, and within", few(*lines).encode()
     yield "hidden in a level", csv_text(unit("1", levelOfDescription="Fonds\u00a0"), unit("2", title="x\u00a0")).encode()
+    lines = unit("\u00a01\u200b"), unit("2", "\u200b1\u00a0\u00a0", publicationStatus="\u00a0Draft\u00a0")
+    yield "hidden at both ends", few(*lines).encode()
     yield "a short row", bare("1,,\ufffd", "2,,Docks,Published").encode()
     yield "no column of it", bare("1,\ufffd", "2,\x01", "3,Jan-74", header="legacyId,other").encode()
 

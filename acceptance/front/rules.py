@@ -89,7 +89,7 @@ REFUSED = (
     ("readers", "/public/orders", {}, 6000, 413, None))
 POLICY = {
     "content-security-policy":
-        "default-src 'none'; script-src 'self'; style-src 'self'; img-src 'self'; connect-src 'self'; form-action FORMS; "
+        "default-src 'none'; script-src 'self'; style-src 'self'; img-src IMAGES; connect-src 'self'; form-action FORMS; "
         "base-uri 'none'; frame-ancestors 'none'; require-trusted-types-for 'script'",
     "x-content-type-options": "nosniff", "referrer-policy": "same-origin", "cross-origin-opener-policy": "same-origin",
     "cross-origin-resource-policy": "same-origin", "permissions-policy": "camera=(), microphone=(), geolocation=()",
@@ -113,11 +113,11 @@ def fields_of(answer):
     return found
 
 
-def check_policy(checks, what, answer, kind, kept, transport=None, forms="'none'"):
+def check_policy(checks, what, answer, kind, kept, transport=None, forms="'none'", images="'self'"):
     """Each part of the policy once, and no more; the kind of the answer; how long it is kept (None: it does not say);
-    and where its forms may be sent."""
+    where its forms may be sent, and where its pictures may come from."""
     found = fields_of(answer)
-    wanted = {name: [value.replace("FORMS", forms)] for name, value in POLICY.items()}
+    wanted = {name: [value.replace("FORMS", forms).replace("IMAGES", images)] for name, value in POLICY.items()}
     wanted |= {"content-type": [kind], "cache-control": [kept] if kept else None,
                "strict-transport-security": [transport] if transport else None}
     checks.same(f"what a browser is told of {what}", {name: found.get(name) for name in wanted}, wanted)
@@ -280,7 +280,8 @@ class Rules:
         for site, path, wanted, kind, kept in ANSWERS:
             got = self.ask_as_staff(self.ports[site], "GET", path)
             self.checks.same(f"status of {path}", status(got), wanted)
-            check_policy(self.checks, path, got, kind, kept, forms=forms_of(site, path))
+            images = "data:" if path == "/sign-out" else "'self'"  # an empty icon, for which no password is asked
+            check_policy(self.checks, path, got, kind, kept, forms=forms_of(site, path), images=images)
         for site, path, fields, size, wanted, kept in REFUSED:
             got = self.ask_as_staff(self.ports[site], "POST", path, b"{}".rjust(size), fields)
             self.checks.same(f"status of {size} bytes to {path} {fields}", status(got), wanted)

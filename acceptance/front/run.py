@@ -1,20 +1,20 @@
 """Plays all parts in a real browser, or only those that are named:
 
-    ./run acceptance.front.run [--program PROGRAM] [--first] [--patience SECONDS] [--slower TIMES] [--faults FILE] [--covers
-    FILE]
-           FOLDER SHOTS [PART ..]
+    ./run acceptance.front.run [--program PROGRAM] [--first] [--again] [--patience SECONDS] [--slower TIMES]
+           [--faults FILE] [--covers FILE] FOLDER SHOTS [PART ..]
 
 FOLDER is made anew and kept; SHOTS gets pictures of the pages. PART is one of looks, pages, access, rules, restarts,
 limits, queue, encrypted, stall, search, strangers, services, servers, neighbours, tries, registers, refusals, journeys,
-paper, tickets, translations, approved, desk, unscripted, words; or GROUP:PART,..,PART, parts of a group with an office of
-its own: of visit, day, first_year, approved, desk, unscripted, access, rules, restarts, limits, queue, neighbours,
-refusals, journeys, search, search_pages, tries, registers, translations. In refusals and neighbours a part is played
-after those that it goes on from.
---first ends at the first check that does not hold; --patience is how long anything is waited for (60). With --slower,
-pages run so many times slower, and what they ask for comes later: a check that holds on a fast machine only is found
-there. With --faults, PART is access, visit, rules, queue or restarts, and mutation/front.py tells which faults are to
-be planted in a copy of front/. With --covers, FILE gets what ran of each script in the browser. The last line
-is `N passed, M failed`; the exit status is 0 where none failed."""
+paper, tickets, translations, approved, desk, enhanced, styles, unscripted, words; or GROUP:PART,..,PART, parts of a group
+with an office of its own: of visit, day, first_year, approved, desk, enhanced, styles, unscripted, access, rules, restarts,
+limits, queue, neighbours, refusals, journeys, search, search_pages, tries, registers, translations. In refusals and
+neighbours a part is played after those that it goes on from.
+--first ends at the first check that does not hold. With --again, a part in which a check fails is played once more, in
+another office, and that time counts; what failed once is told at the end. --patience is how long anything is waited for
+(60). With --slower, pages run so many times slower, and what they ask for comes later: a check that holds on a fast
+machine only is found there. With --faults, PART is access, visit, rules, queue or restarts, and mutation/front.py
+tells which faults are to be planted in a copy of front/. With --covers, FILE gets what ran of each script in the
+browser. The last line is `N passed, M failed`; the exit status is 0 where none failed."""
 
 import contextlib
 import itertools
@@ -28,10 +28,10 @@ import time
 
 from acceptance import client
 from acceptance.front import (
-    access, answers_of_front, approved_desk, approved_inside, approved_readers, approved_tables, encrypted, foldings, journeys,
-    look_texts, looks, neighbours, page_sessions, paper, queue_checks, refusals, registers, restarts, search_checks,
-    search_pages, search_sessions, server_limits, services, sign_out, stage, stall, strangers, tickets, translations, tries,
-    try_texts, unscripted, waits,
+    access, answers_of_front, approved_desk, approved_enhance, approved_inside, approved_readers, approved_styles,
+    approved_tables, encrypted, foldings, journeys, look_texts, looks, neighbours, page_sessions, paper, queue_checks,
+    refusals, registers, restarts, search_checks, search_pages, search_sessions, server_limits, services, sign_out, stage,
+    stall, strangers, tickets, translations, tries, try_texts, unscripted, waits,
 )
 from acceptance.front.asks import Asks
 from acceptance.front.browser import Browser
@@ -44,9 +44,9 @@ from acceptance.front.rules import Rules
 from acceptance.front.visit import Visit
 from acceptance.front.waits import until
 
-PARTS = ("looks", "pages", "approved", "desk", "unscripted", "access", "rules", "restarts", "limits", "queue", "encrypted",
-         "stall", "search", "strangers", "services", "servers", "neighbours", "tries", "registers", "refusals", "journeys",
-         "paper", "tickets", "translations")
+PARTS = ("looks", "pages", "approved", "desk", "enhanced", "styles", "unscripted", "access", "rules", "restarts", "limits",
+         "queue", "encrypted", "stall", "search", "strangers", "services", "servers", "neighbours", "tries", "registers",
+         "refusals", "journeys", "paper", "tickets", "translations")
 ARCHIVES = TOP / "examples/archives.csv"
 PATIENT = 60
 WITHOUT_PAGES = {"approved", "unscripted", "servers", "rules", "restarts", "limits", "queue", "encrypted", "stall", "search",
@@ -70,25 +70,39 @@ def pictures(folder):
 class Run:
     """What all parts share. The browser is None if there is none."""
 
-    def __init__(self, checks, browser, program, folder, shots):
-        self.checks, self.browser, self.program, self.folder = checks, browser, program, folder
+    def __init__(self, checks, browser, program, folder, shots, again=False):
+        self.checks, self.browser, self.program, self.folder, self.again = checks, browser, program, folder, again
         self.shot = pictures(shots)
 
     def play(self, parts):
         """All of these in their order, but for four that share an office, and come first."""
         first = [part for part in ("looks", "pages", "rules", "restarts") if part in parts]
-        if first:
-            print(f"plays {first[0]}", flush=True)
-            self.first_office(first)
-        for part in parts:
-            group, _, name = part.partition(":")
-            if part in first:
-                continue
-            print(f"plays {part}", flush=True)
-            if name:
-                getattr(self, f"only_{group}")(name)
-            else:
-                getattr(self, part)()
+        for together in [first] * bool(first) + [[part] for part in parts if part not in first]:
+            print(f"plays {together[0]}", flush=True)
+            self.play_twice(together) if self.again else self.play_once(together)
+
+    def play_once(self, together):
+        """Plays one part, or those that share an office."""
+        group, _, name = together[0].partition(":")
+        if together[0] in ("looks", "pages", "rules", "restarts"):
+            self.first_office(together)
+        elif name:
+            getattr(self, f"only_{group}")(name)
+        else:
+            getattr(self, group)()
+
+    def play_twice(self, together):
+        """The same, and once more in another office if a check fails: then the second time counts, and what failed the
+        first time is told at the end."""
+        passed, failed, told = self.checks.passed, self.checks.failed, len(self.checks.told)
+        self.play_once(together)
+        if self.checks.failed > failed:
+            self.checks.once += self.checks.told[told:]
+            self.checks.passed, self.checks.failed, self.checks.told = passed, failed, self.checks.told[:told]
+            self.folder = clear(self.folder / "again")
+            self.folder.mkdir()
+            print(f"plays {together[0]} again", flush=True)
+            self.play_once(together)
 
     # The office that several parts share
 
@@ -212,6 +226,15 @@ class Run:
     def desk(self, only=None):
         """Compares what the desk's pages show with what was approved, all parts or those of a page."""
         approved_desk.play(self.checks, self.program, clear(self.folder / "approved"), only)
+
+    def styles(self, only=None):
+        """Compares the styles of all pages with what was approved, or those of one site."""
+        approved_styles.play(self.checks, self.program, clear(self.folder / "styles"), only)
+
+    def enhanced(self, only=None):
+        """Compares what a script adds to the readers' pages with what was approved, all parts or one."""
+        with stage.modules_as_before():
+            approved_enhance.play(self.checks, clear(self.folder / "enhanced"), only)
 
     def words(self):
         """Plays the table of words, by the service and by the desk's pages; `pages` has it too."""
@@ -384,7 +407,7 @@ class Run:
     only_visit, only_day, only_first_year, only_search_pages = visit, day, first_year, search_pages
     only_access, only_limits, only_queue, only_refusals, only_journeys = access, limits, queue, refusals, journeys
     only_translations, only_unscripted, only_approved, only_desk = translations, unscripted, approved, desk
-    only_registers, only_neighbours = registers, neighbours
+    only_registers, only_neighbours, only_styles, only_enhanced = registers, neighbours, styles, enhanced
 
 
 moments = itertools.count(int(time.time()))  # browsers know a file by its second and its size
@@ -427,7 +450,7 @@ def play(checks, given):
     has_browser = shutil.which("chromium") and (needs_browser or uses_browser)
     browser = Browser(given.folder / "profile", covers=bool(given.covers)) if has_browser else None
     try:
-        run = Run(checks, browser, given.program, given.folder, given.shots)
+        run = Run(checks, browser, given.program, given.folder, given.shots, given.again)
         if given.faults:
             run.trials(wanted[0], json.loads(given.faults.read_text("utf-8")))
         else:
@@ -445,6 +468,7 @@ def options():
     words.add_argument("shots", type=pathlib.Path, metavar="SHOTS", help="gets pictures of the pages; made anew")
     words.add_argument("parts", nargs="*", metavar="PART", help="else all")
     words.add_argument("--first", action="store_true", help="end at the first check that does not hold")
+    words.add_argument("--again", action="store_true", help="play a part again in which a check failed; that counts")
     words.add_argument("--patience", type=float, default=PATIENT, metavar="SECONDS", help=f"else {PATIENT}")
     words.add_argument("--slower", type=float, default=1, metavar="TIMES", help="slow the pages down; else 1")
     words.add_argument("--faults", type=pathlib.Path, metavar="FILE", help="faults to plant, from mutation/front.py")
@@ -464,6 +488,10 @@ def main():
     with contextlib.suppress(Enough):
         checks.part("offices", play, checks, given)
     print(f"waited for at most {waits.settings.longest:.1f} s", flush=True)
+    for told in checks.once:
+        print(f"ONCE of two times: {told}", flush=True)
+    for told in checks.told:  # again, where the end of a long output is all that is kept
+        print(told, flush=True)
     return checks.finish()
 
 

@@ -34,7 +34,6 @@ from acceptance.front.searched import Searched
 from acceptance.front.unanswered import left_out
 from acceptance.front.waits import until
 
-answers.COUNTING = 100  # however slow the machine is, what is counted is the same
 PARTS = ("turns", "questions", "left_out", "pairs", "bounds", "files", "hostile", "kills", "states")
 
 HEADER = "legacyId,parentId,identifier,title,levelOfDescription,publicationStatus,eventDates,scopeAndContent\n"
@@ -472,6 +471,17 @@ def play_with_service(checks, program, folder, parts):
                 checks.part(f"search: {part.__name__}", part, checks, office)
 
 
+@contextlib.contextmanager
+def patience():
+    """A context in which what is counted is the same, however slow the machine is."""
+    answers.COUNTING, kept = 100, answers.COUNTING
+    try:
+        yield
+    finally:
+        answers.COUNTING = kept
+
+
+@patience()
 def play(checks, program, folder, parts=PARTS):
     """Plays these parts, in offices of their own below the folder."""
     for part in (turns, questions, left_out):

@@ -354,6 +354,8 @@ readers.conf | location ~ "^/public/aid/ | limit_conn record_office_visits 100 |
 readers.conf | location ~ "^/public/aid/ | limit_conn record_office_aids 10 | of one address
 readers.conf | location ~ "^/public/aid/ | limit_conn record_office_reading 12 | of all: others are answered, too
 nginx.conf | | variables_hash_bucket_size 128 | there is room for the names of several offices
+nginx.conf | | server_name _ | the limits of all are counted by it
+readers.conf | location /quietly/ { | error_log /dev/null | what readers look for stands in no log
 tls.conf | | variables_hash_bucket_size 128 | there is room for the names of several offices
 tls.conf | listen 80 | server_name archive.example.org | each office redirects its own readers
 tls.conf | listen 443 | server_name archive.example.org | the limits of all are counted by it

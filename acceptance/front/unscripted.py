@@ -184,7 +184,8 @@ class Unscripted:
             _, text = self.site.send(f"/unit/{unit}/order", form)
             self.checks.check(f"an order: {told}", told in text, text[-2000:])
             self.checks.check("the answer is not listed", 'content="noindex"' in text)
-        self.checks.same("it was given once", len(self.asks.read(f"/desk/readers/{ticket}")["orders"]), 1)
+        given = [order["container"] for order in self.asks.read(f"/desk/readers/{ticket}")["orders"]]
+        self.checks.same("it was given once, of the chosen container", given, [box])
         for headers in ({"Origin": "http://elsewhere.example"}, {"Sec_Fetch_Site": "cross-site"}):
             status, text = self.site.send(f"/unit/{unit}/order", {"ticket": ticket, "container": box}, **headers)
             self.checks.same(f"a form of another site: {headers}", status, 403)
