@@ -59,7 +59,8 @@ module _ {X Y : Type 0} (told : X → Y) (asked p : X → Bool) where
 
 -- ---- the lowest container that is closed
 
-module _ (version : Version) (s : State) (judged : CanBeJudged s) (u : ℕ) (others : OthersAreOpen u s) (it : HousedUnit) (housed : IsHoused u s it) (loans before : List ContainerOrder) (place : ℕ)
+module _ (version : Version) {s : State} (judged : CanBeJudged s) {u : ℕ} (others : OthersAreOpen u s) {it : HousedUnit} (housed : IsHoused u s it)
+    {loans before : List ContainerOrder} (place : ℕ)
     (are : loans ≡ issued_of (tables version s).desk) (near : AreAsked u s (take place loans) before) where
   abbrev test : ContainerOrder → Bool
   test loan = near.test loan.container

@@ -1,16 +1,23 @@
 -- The gate as it is read from tables, and as the rules have it.
 use Rattle.std.proofs.Common.{◌≡◌, ℕ, zero, suc, ◌+◌, ◌<◌, Bool, true, false, not, cond, List, [], ◌∷◌, length, take}
-use Rattle.std.proofs.Common.{Option, Some, None, refl, sym, ap, subst, ◌∙◌, arith}
+use Rattle.std.proofs.Common.{get_or, Option, Some, None, refl, sym, ap, subst, ◌∙◌, arith}
 use Rattle.std.specs.Prelude.{◌||◌, filter, filter_map}
 use Rattle.desk_core.specs.declared.reader.Place.{Place}
 use Rattle.desk_core.specs.declared.reader.Place.TheVariants.{Desk, Out, Shelf}
+use Rattle.desk_core.specs.declared.refusal.Refusal.TheVariants.{WithReader}
 use Rattle.office_core.specs.State.{State}
+use Rattle.office_core.specs.declared.done.Done.{Done}
 use Rattle.refinement.proofs.RowsOfLists.{found_row}
-use Rattle.access.proofs.Common.{AreEnough, CanBeJudged, ContainerOrder, HoldingRow, Order, OrderRow, Version}
-use Rattle.access.proofs.Common.{cons_option, containers, first_closed, first_that, holding_row, is_closed_to}
-use Rattle.access.proofs.Common.{is_kept_from_holder, is_some, issued_by, issued_of, list_any, lowest_withheld, nth}
-use Rattle.access.proofs.Common.{opens, option_map, order_out, order_row, order_rows, slice_index_or, some_and, tables}
-use Rattle.access.proofs.Common.{ticket_of}
+use Rattle.access.proofs.Common.{AreEnough, CanBeJudged, ContainerOrder, HoldingRow, IfSome, Order, OrderRow, Version}
+use Rattle.access.proofs.Common.{cons_option, containers, first_closed, first_that, gate_reply, holding_row}
+use Rattle.access.proofs.Common.{is_closed_to, is_kept_from_holder, is_some, issued_by, issued_of, list_any}
+use Rattle.access.proofs.Common.{lowest_withheld, nth, opens, option_map, order_out, order_row, order_rows, slice_get}
+use Rattle.access.proofs.Common.{slice_get-get_or, slice_index_or, some_and, tables, ticket_of, unless_refused}
+
+-- what is told of the one at a place
+pub told_at : {X : Type 0} (P : X → Type 0) (xs : List X) (i : ℕ) (d : X) → i < length xs → IfSome (slice_get xs i) P
+    → P (get_or xs i d)
+told_at P xs i d low told = subst (λ (o : Option _). IfSome o P) (slice_get-get_or xs i d low) told
 
 -- ---- the first that passes, found one by one
 
@@ -37,6 +44,28 @@ none_more p (x ∷ xs) (suc i) d none low so = let e : suc (i + 1) ≡ suc i + 1
         → cond b (Some x) (first_that p (take (i + 1) xs)) ≡ None
     at true none later = absurd (cc)
     at false none later = later none (omega (arith, low)) so
+
+-- ---- loans, of which the one at a place is asked
+
+module _ (s : State) (loans : List ContainerOrder) (i : ℕ) (d : ContainerOrder) (low : i < length loans) (yes : Bool)
+    (told : IfSome (slice_get loans i) (λ (loan : ContainerOrder). yes ≡ opens s loan.ticket loan.container))
+    (none : first_that (is_closed_to s) (take i loans) ≡ None) where
+  shut_is : is_closed_to s (get_or loans i d) ≡ not yes
+  shut_is = ap not (sym (told_at (λ (loan : ContainerOrder). yes ≡ opens s loan.ticket loan.container) loans i d low told))
+
+  -- it is the first that is closed
+  pub closed_here : yes ≡ false → Some (get_or loans i d).container ≡ first_closed s loans
+  closed_here is =
+      sym (ap (option_map (λ (l : ContainerOrder). l.container)) (first_here (is_closed_to s) loans i d none low (shut_is ∙ ap not is)))
+
+  -- it is open, as those before it are
+  pub none_closed : yes ≡ true → first_that (is_closed_to s) (take (i + 1) loans) ≡ None
+  none_closed is = none_more (is_closed_to s) loans i d none low (shut_is ∙ ap not is)
+
+-- the reply, by the lowest container that is closed
+pub reply_is : (s : State) (done : Done) {found : Option ℕ} → found ≡ lowest_withheld s
+    → unless_refused (option_map WithReader found) done ≡ gate_reply s done
+reply_is s done is = ap (λ (why : Option ℕ). unless_refused (option_map WithReader why) done) is
 
 -- one of these is closed to its reader
 pub some_closed : (s : State) (loans : List ContainerOrder)

@@ -101,16 +101,16 @@ module _ (tells : Catalogue → Mark → Type 0) (c : Catalogue) where
       (each_in_order Stands rows sorted same all.0, each_in_order IsThere rows sorted same all.1)
 
   -- all rows in walk order
-  pub walk_theirs : (orders : List ContainerOrder) (found : List (Vec Mark Global)) (all sorted walk : List Mark)
+  pub walk_theirs : (orders : List ContainerOrder) (found : List (Vec Mark Global)) {all sorted walk : List Mark}
       → AreRowsOfEach tells c orders found → all ≡ all_rows found → IsPermutation all sorted
       → walk ≡ dedup is_same_row sorted → AreTheirs tells c walk
-  walk_theirs orders found all sorted walk rows joined same is =
+  walk_theirs orders found {all} {sorted} {walk} rows joined same is =
       subst (AreTheirs tells c) (sym is) (theirs_in_order all sorted same (subst (AreTheirs tells c) (sym joined) (theirs_of_each orders found rows)))
 
-pub walk_known : (known : BTreeMap ℕ (Option Attached)) (found : List (Vec Mark Global)) (all sorted walk : List Mark)
+pub walk_known : (known : BTreeMap ℕ (Option Attached)) (found : List (Vec Mark Global)) {all sorted walk : List Mark}
     → all ≡ all_rows found → IsPermutation all sorted → walk ≡ dedup is_same_row sorted
     → are_known known walk ≡ true → AreUnitsKnown known found
-walk_known known found all sorted walk joined same is so =
+walk_known known found {all} {sorted} {walk} joined same is so =
     known_of_each known found
     (ap (are_known known) (sym joined) ∙ sym (known_in_order known all sorted same) ∙ ap (are_known known) (sym is) ∙ so)
 

@@ -17,6 +17,7 @@ pub mod BranchMembers
 pub mod NamedApart
 pub mod EarlyRefusals
 pub mod JointWalks
+pub mod Learned
 pub mod UnnumberedMarks
 pub mod MorePermits
 pub mod TellingUnits

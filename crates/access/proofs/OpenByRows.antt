@@ -1,6 +1,6 @@
 -- Who may see a container, by what is read from the tables.
-use Rattle.std.proofs.Common.{◌≡◌, ℕ, ℤ, ◌<◌, ◌≤◌, ◌^◌, zero, suc, Bool, true, false, not, ◌&&◌, List, [], ◌∷◌, length}
-use Rattle.std.proofs.Common.{map, Option, Some, None, refl, sym, ap, ap₂, subst, ◌∙◌, nat_eq, arith}
+use Rattle.std.proofs.Common.{◌≡◌, ℕ, ℤ, Bool, true, false, not, ◌&&◌, List, [], ◌∷◌, length, map, Option, Some, None}
+use Rattle.std.proofs.Common.{refl, sym, ap, ap₂, subst, ◌∙◌, nat_eq, arith}
 use Rattle.std.specs.Prelude.{◌||◌, filter, IsPermutation}
 use Rattle.desk_core.specs.DeskRows.{Desk}
 use Rattle.catalogue_core.proofs.OpenLemmas.{open_by_marks}
@@ -16,7 +16,7 @@ use Rattle.access.proofs.Common.{BoxKey, CanBeJudged, Catalogue, Forest, IsPermu
 use Rattle.access.proofs.Common.{all_filtered, allows, are_clean_for, eqb_comm, false≢true, fun_ext, has_unit, int_le}
 use Rattle.access.proofs.Common.{is_clean_for, is_permitted, is_some_there, list_all, list_all-map, list_any}
 use Rattle.access.proofs.Common.{list_any-IsPermutation, list_any-map, names_container, naming, nodes, nth, opens}
-use Rattle.access.proofs.Common.{permit_rows, recursion_from_All, slice_get, some_and}
+use Rattle.access.proofs.Common.{permit_rows, recursion_from_All, some_and}
 use Rattle.access.proofs.NamedContainers.{named, names_it}
 
 -- ---- lists
@@ -77,19 +77,6 @@ module _ (s : State) (judged : CanBeJudged s) (t n : ℕ) where
   opens_by units same =
       by_container units (nth s.catalogue.containers n)
       (subst (λ l. IsPermutation l units) (named s.catalogue.containers judged.containers.apart n (nodes forest) judged.containers.known) same)
-
-  -- a number past the last container's is open to nobody
-  pub opens_none : 2 ^ 63 ≤ n → false ≡ opens s t n
-  opens_none high = sym (ap (some_and (λ box. is_open forest box permitted s.day)) (past_last s.catalogue.containers n (let few = judged.catalogue.few_boxes in omega (arith, few, high))))
-    where
-      past : (xs : List BoxKey) (k : ℕ) → length xs ≤ k → slice_get xs k ≡ None
-      past [] k low = refl
-      past (x ∷ xs) zero low = absurd (omega (arith, low))
-      past (x ∷ xs) (suc k) low = past xs k (omega (arith, low))
-
-      past_last : (xs : List BoxKey) (k : ℕ) → length xs < k → nth xs k ≡ None
-      past_last xs zero low = absurd (omega (arith, low))
-      past_last xs (suc k) low = past xs k (omega (arith, low))
 
 -- ---- by the permits that are read
 

@@ -2,12 +2,13 @@
 use Rattle.std.proofs.Common.{◌≡◌, ℕ, ℤ, Bool, true, false, cond, not, List, [], ◌∷◌, ◌++◌, filter, map, Some, None}
 use Rattle.std.proofs.Common.{refl, sym, ap, ap₂, ◌∙◌}
 use Rattle.std.specs.Prelude.{◌&&◌, ◌||◌}
+use Rattle.desk_core.specs.declared.refusal.Refusal.TheVariants.{WithReader}
 use Rattle.catalogue_core.specs.ContainerContents.{is_open}
 use Rattle.office_core.specs.State.{State}
-use Rattle.access.proofs.Common.{BoxKey, Empty, Forest, IsSoundOffice, Node, Unit, WithReader, and_parts, any_agree}
-use Rattle.access.proofs.Common.{containers, each, false≢true, first_that, gate, housed_below, is_kept_from_holder}
-use Rattle.access.proofs.Common.{is_permitted, is_some_there, is_unit_closed, is_withheld_from, list_all, list_any}
-use Rattle.access.proofs.Common.{list_any-map, map-append, option_map, own_or, paths_below}
+use Rattle.access.proofs.Common.{BoxKey, Empty, Forest, IsSoundOffice, Node, Unit, and_parts, any_agree, containers}
+use Rattle.access.proofs.Common.{each, false≢true, first_that, gate, housed_below, is_kept_from_holder, is_permitted}
+use Rattle.access.proofs.Common.{is_some_there, is_unit_closed, is_withheld_from, list_all, list_any, list_any-map}
+use Rattle.access.proofs.Common.{map-append, option_map, own_or, paths_below}
 use Rattle.access.proofs.BranchesApart.{in_it, lies, lying, neither}
 use Rattle.access.proofs.OpenElsewhere.{still_open}
 

@@ -1,6 +1,7 @@
 -- A change that the gate has the last word on.
 use Rattle.std.proofs.Common.{◌≡◌, ℕ, ℤ, Option, Some, None, Result, Ok, Err, OnOk, refl, sym, ap, subst, ◌∙◌, []}
 use Rattle.std.specs.Prelude.{◌∷◌}
+use Rattle.sqlite.specs.Effect.{Database}
 use Rattle.sqlite.specs.State as store
 use Rattle.sqlite_trees.specs.declared.store.Store as kept_in
 use Rattle.desk_core.specs.Refusals.{first_that_holds}
@@ -9,12 +10,13 @@ use Rattle.office_tables.specs.Calls.{Answers}
 use Rattle.office_core.specs.State.{State}
 use Rattle.office_core.specs.declared.command.Command.{Command}
 use Rattle.office_core.specs.declared.done.Done.{Done}
+use Rattle.refinement.proofs.Tellings.{looked_crash}
 use Rattle.refinement.specs.CommandSteps.{CarriesOut, CarriesOutStep}
-use Rattle.access.proofs.Common.{CanBeJudged, Database, Forest, Goes, HasCleanDisk, Held, IfOk, IsAborted, IsOk}
-use Rattle.access.proofs.Common.{IsSoundOffice, LeavesUnchanged, Reply, RepresentsState, RepresentsWhole, StoreFault}
-use Rattle.access.proofs.Common.{Trees, Version, after, cut_then, decide, early, excused_then, gate, gate_reply}
-use Rattle.access.proofs.Common.{goes_then, looked_crash, on_err_then, on_ok_then, refusal, result_of, state, step}
-use Rattle.access.proofs.Common.{unless_refused, ⊤}
+use Rattle.refinement.specs.Representation.{RepresentsState}
+use Rattle.access.proofs.Common.{CanBeJudged, Forest, Goes, HasCleanDisk, Held, IfOk, IsAborted, IsOk, IsSoundOffice}
+use Rattle.access.proofs.Common.{LeavesUnchanged, Reply, RepresentsWhole, StoreFault, Trees, Version, after, cut_then}
+use Rattle.access.proofs.Common.{decide, early, excused_then, gate, gate_reply, goes_then, on_err_then, on_ok_then}
+use Rattle.access.proofs.Common.{refusal, result_of, state, step, unless_refused, ⊤}
 
 -- the step of a command whose other checks do not hold
 gated_step : (places : Trees → Forest ℕ → Type 0) (version : Version) (s : State) (asked : Command) (db : Database)
@@ -67,7 +69,7 @@ module _ {S : Type 0} (g : kept_in.Ghosts S) (places : Trees → Forest ℕ → 
       → Answers g (RepresentsWhole places version) mid after_it r (λ _. ⊤) CanBeJudged (λ _ s reply. CanBeJudged s → today ≡ s.day → OthersStay s → reply ≡ gate_reply s done)
       → CarriesOut places version known asked before c r
   passed_where OthersStay change others goes told =
-      let still = λ (clean : HasCleanDisk c). early b c _ (looked_crash r b c told.looks told.aborts) clean in
+      let still = λ (clean : HasCleanDisk c). early (looked_crash r b c told.looks told.aborts) clean in
       record {
         steps = λ clean s sound so it.
             let at_b = still clean in
@@ -79,9 +81,9 @@ module _ {S : Type 0} (g : kept_in.Ghosts S) (places : Trees → Forest ℕ → 
             (is judged (change.day s so) (others s sound so) ∙ ap (gate_reply (after s asked)) (change.answers at_b s so it))
             (subst (λ (db : Database). RepresentsState places version db (after s asked)) (sym (looked.same clean)) shown))
             told.looks answers;
-        goes = on_ok_then r (LeavesUnchanged b c) (Goes before c) (λ looked. goes_then before b c goes looked.goes) told.looks;
-        aborts = on_err_then r (IsAborted b c) (IsAborted before c) (λ cut. cut_then before b c goes.on cut) told.aborts;
-        faults = λ s sound so it. excused_then before b c goes.on r told.aborts (λ at_b. told.faults tt (after s asked) (change.represents at_b s sound so it) tt (change.judged s sound so));
+        goes = on_ok_then r (LeavesUnchanged b c) (Goes before c) (λ looked. goes_then goes looked.goes) told.looks;
+        aborts = on_err_then r (IsAborted b c) (IsAborted before c) (λ cut. cut_then goes.on cut) told.aborts;
+        faults = λ s sound so it. excused_then _ goes.on r told.aborts (λ at_b. told.faults tt (after s asked) (change.represents at_b s sound so it) tt (change.judged s sound so));
       }
 
 -- the same of a change that can withhold nothing

@@ -105,7 +105,7 @@ is_withheld_in s it loan =
     is_one_of loan.container it.containers.items
     && withholds s.day false (map (with_permit (is_permitted s.day (s.permits loan.ticket))) it.path.items)
 
--- then this container is closed to the reader who has it
+-- if the unit is withheld from the reader who has a container in which it lies, that container is closed to the reader
 abbrev pub Withholds : State → HousedUnit → Type 0
 Withholds s it = (loan : ContainerOrder) → is_withheld_in s it loan ≡ true → is_closed_to s loan ≡ true
 

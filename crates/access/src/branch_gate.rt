@@ -99,8 +99,9 @@ fn loans_to_ask<P: Places, S: Alter>(
     loans_in_branch(alloc, tables, unit, housed, &loans)
 }
 
-/// The loans of all containers that a change near the unit may withhold, by number of the container. Other loans may be
-/// among them.
+/// The loans that must be checked after a change near the unit, by number of the container. A loan is a container that
+/// is out, with its order. All loans of containers in which the unit or one below it lies are among them, and perhaps
+/// others.
 pub fn loans_near<P: Places, S: Alter>(
     alloc: Global,
     tables: &mut Tables<P, S>,
@@ -114,8 +115,10 @@ pub fn loans_near<P: Places, S: Alter>(
     loans_to_ask(alloc, tables, unit, &housed, loans)
 }
 
-/// The outcome of a change that the tables already show and that affects only these loans: what was done, or a refusal
-/// if it would close a container to the reader who has it.
+/// The outcome of a change that the tables already show: `done`, or the refusal `WithReader` with the container of the
+/// first of these loans that is not open today to the reader who has it. `today` must be the office's day. The loans
+/// must be enough: the lowest container of all that is out and not open to its reader must be the first such among
+/// them.
 pub fn pass_gate_with<P: Places, S: Alter>(
     alloc: Global,
     tables: &mut Tables<P, S>,
@@ -178,9 +181,11 @@ fn lowest_closed<P: Places, S: Alter>(
     }
 }
 
-/// The outcome of a change that the tables already show and that affects only a unit and those below it: what was done,
-/// or a refusal if it would close a container to the reader who has it. If the unit itself is withheld from a reader
-/// who has a container in which it lies, the change is refused, and only lower containers are checked.
+/// The outcome of a change that the tables already show: `done`, or the refusal `WithReader` with the lowest container
+/// that is out and not open today to the reader who has it. `today` must be the office's day. The change must affect
+/// only the unit and those below it: each container that is out and in which none of these lies must be open to its
+/// reader. If the unit itself is withheld from a reader who has a container in which it lies, the change is refused,
+/// and only containers with lower numbers are checked.
 pub fn pass_gate_near<P: Places, S: Alter>(
     alloc: Global,
     tables: &mut Tables<P, S>,

@@ -64,9 +64,9 @@ fn lies_apart<P: Places, S: Alter>(
     Ok(Some(!is_near))
 }
 
-/// Those of the containers of these loans in which nothing of the unit's branch lies. They are not told, by `None`, if
-/// there are many loans or many units name one of the containers. The unit is in its containers as `housed` describes
-/// it.
+/// Those of the containers of these loans in which neither the unit nor one below it lies. None if there are more than
+/// 8 loans, or if more than 8 units name one of the containers in which the unit itself does not lie: then this is not
+/// found out. The unit is in its containers as `housed` describes it.
 pub(crate) fn containers_apart<P: Places, S: Alter>(
     alloc: Global,
     tables: &mut Tables<P, S>,

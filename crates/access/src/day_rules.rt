@@ -112,7 +112,8 @@ fn are_against_rules<P: Places, S: Alter>(
     Ok(closed.is_some())
 }
 
-/// Whether some container is out against a rule of the day.
+/// Whether some container is out with a reader who has no seat, who has more than `hands` containers, or to whom it is
+/// not open today. `hands` and `today` must be the office's.
 pub fn breaks_day_rules<P: Places, S: Alter>(
     alloc: Global,
     tables: &mut Tables<P, S>,

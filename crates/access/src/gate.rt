@@ -20,8 +20,8 @@ use sqlite::Alter;
 use std::alloc::Global;
 use std::collections::BTreeMap;
 
-/// The first of these containers that is not open on this day to the reader who has it. Their units are read in one
-/// walk.
+/// The container of the first of these loans that is not open today to the reader who has it; none if all are open.
+/// `today` must be the office's day. The units of all of them are read in one walk.
 pub(crate) fn first_closed<P: Places, S: Alter>(
     alloc: Global,
     tables: &mut Tables<P, S>,
@@ -42,7 +42,8 @@ pub(crate) fn first_closed<P: Places, S: Alter>(
     Ok(None)
 }
 
-/// The lowest container that is out and not open on this day to the reader who has it.
+/// The lowest container that is out and not open today to the reader who has it; none if there is none. `today` must be
+/// the office's day.
 pub fn lowest_withheld<P: Places, S: Alter>(
     alloc: Global,
     tables: &mut Tables<P, S>,
@@ -55,8 +56,8 @@ pub fn lowest_withheld<P: Places, S: Alter>(
     first_closed(alloc, tables, &loans, today)
 }
 
-/// The outcome of a change that the tables already show: what was done, or a refusal if it would close a container to
-/// the reader who has it.
+/// The outcome of a change that the tables already show: `done`, or the refusal `WithReader` with the lowest container
+/// that is out and not open today to the reader who has it. `today` must be the office's day.
 pub fn pass_gate<P: Places, S: Alter>(
     alloc: Global,
     tables: &mut Tables<P, S>,

@@ -79,7 +79,8 @@ fn in_walk_order(rows: Vec<Mark>) -> Vec<Mark>
     rows
 }
 
-/// The rows of the units that name each container of these orders, and what is known of these units.
+/// For each of these orders, in turn, the rows of the units that name its container; and what is known of these units
+/// on this day. `known` must be right for the day: its units are not read again.
 pub(crate) fn walk_orders<P: Places, S: Alter>(
     alloc: Global,
     tables: &mut Tables<P, S>,
@@ -98,7 +99,8 @@ pub(crate) fn walk_orders<P: Places, S: Alter>(
     Ok(WalkedOrders { rows, known })
 }
 
-/// Whether the container of the order at this place is open on this day to its reader.
+/// Whether the container of the order at this place, counted from 0, is open today to its reader. `walked` must be what
+/// `walk_orders` found for these orders today, and `today` the office's day.
 pub(crate) fn is_open_at<P: Places, S: Alter>(
     alloc: Global,
     tables: &mut Tables<P, S>,
@@ -116,7 +118,7 @@ pub(crate) fn is_open_at<P: Places, S: Alter>(
     ensures disk { HasCleanDisk (state S.Store tables.new)
         → IfErr result (BlamesDisk (state S.Store tables.old) (state S.Store tables.new)) }
 {
-    let ticket = orders[place].ticket.get();
+    let ticket = orders[place].ticket;
     is_open_by(
         alloc,
         tables,
@@ -127,8 +129,8 @@ pub(crate) fn is_open_at<P: Places, S: Alter>(
     )
 }
 
-/// Those of these orders whose containers are open on this day to their readers. What is known of units is not read
-/// again.
+/// Those of these orders whose containers are open today to their readers, in the same order, and what is known of
+/// units afterwards. `today` must be the office's day, and `known` right for it: its units are not read again.
 pub fn open_among<P: Places, S: Alter>(
     alloc: Global,
     tables: &mut Tables<P, S>,

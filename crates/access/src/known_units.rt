@@ -26,7 +26,7 @@ use crate::openness::is_clean;
 use catalogue_store::{Attached, Places};
 use desk_store::{Permit, permits};
 use isad_core::Day;
-use office_tables::{StoreFault, Tables};
+use office_tables::{Number, StoreFault, Tables};
 use sqlite::Alter;
 use std::alloc::{AllocError, Global};
 use std::collections::BTreeMap;
@@ -47,8 +47,9 @@ fn told_of(alloc: Global, marks: Attached, today: Day) -> Result<Option<Attached
     Ok(Some(marks))
 }
 
-/// Adds what is to be known of the units of these rows. Units that are known are not read again, and of each path only
-/// what the one before lacks is read.
+/// Adds what is to be known of the units of these rows on this day. They must be rows of units of the catalogue, and
+/// `known` must be right for the day. Units that are known are not read again, and of each path only what the one
+/// before lacks is read.
 pub(crate) fn know_rows<P: Places, S: Alter>(
     alloc: Global,
     tables: &mut Tables<P, S>,
@@ -151,15 +152,15 @@ fn valid_permits(alloc: Global, permits: &[Permit], today: Day) -> Result<Vec<Pe
     Ok(valid)
 }
 
-/// Whether a container is open on this day to the reader with this ticket. The rows are those of the units that name
-/// it, and these are known. The reader's permits are read only if one of them is withheld from a reader without
-/// permits.
+/// Whether a container is open today to the reader with this ticket; never if no unit names it. `rows` must be those of
+/// all units that name it, `known` must have these units and be right, and `today` must be the office's day. The
+/// reader's permits are read only if one of the units is withheld from a reader without permits.
 pub(crate) fn is_open_by<P: Places, S: Alter>(
     alloc: Global,
     tables: &mut Tables<P, S>,
     known: &KnownUnits,
     rows: &[Mark],
-    ticket: u64,
+    ticket: Number,
     today: Day,
 ) -> Result<bool, StoreFault>
     ensures answers { Answers S.Store (RepresentsWhole P.represents P.version) tables.old tables.new result

@@ -23,7 +23,8 @@ use sqlite::Alter;
 use std::alloc::{AllocError, Global};
 use visibility::{Mark, clean_contents, clean_path, has_permit};
 
-/// Whether a closure lasts beyond this day.
+/// Whether a closure until this day is in force today. It ends on that day: the unit is then open. `None` is no
+/// closure.
 pub fn is_closed(until: Option<Day>, today: Day) -> bool
     ensures { result ≡ is_later today until }
 {
@@ -67,7 +68,8 @@ fn is_permitted_above(path: &[Mark]) -> bool
     }
 }
 
-/// Whether nothing withholds the unit with these marks, nor the units that take their containers from it.
+/// Whether nothing withholds the unit with these marks, nor a unit that takes its containers from it, on this day from
+/// a reader with these permits. The marks must be those of the unit's whole path, and of the unit with all below it.
 pub(crate) fn is_clean(
     alloc: Global,
     attached: &Attached,
@@ -108,12 +110,13 @@ fn are_clean<P: Places, S: Alter>(
     Ok(true)
 }
 
-/// Whether a container is open on this day to the reader with this ticket.
-fn is_open<P: Places, S: Alter>(
+/// Whether a container is open today to the reader with this ticket: a unit lies in it, and none that does is withheld
+/// from the reader. A ticket that was not given stands for the public. `today` must be the office's day.
+pub fn is_open_to<P: Places, S: Alter>(
     alloc: Global,
     tables: &mut Tables<P, S>,
     container: Number,
-    ticket: u64,
+    ticket: Number,
     today: Day,
 ) -> Result<bool, StoreFault>
     ensures answers { Answers S.Store (RepresentsWhole P.represents P.version) tables.old tables.new result
@@ -128,24 +131,4 @@ fn is_open<P: Places, S: Alter>(
     let permits = permits(alloc, tables, ticket)?;
     let is_open = are_clean(alloc, tables, &rows, &permits, today)?;
     Ok(is_open)
-}
-
-/// Whether a container is open on this day to the reader with this ticket. A ticket that was not given stands for the
-/// public. A number that no container can have is open to nobody.
-pub fn is_open_to<P: Places, S: Alter>(
-    alloc: Global,
-    tables: &mut Tables<P, S>,
-    container: u64,
-    ticket: u64,
-    today: Day,
-) -> Result<bool, StoreFault>
-    ensures answers { Answers S.Store (RepresentsWhole P.represents P.version) tables.old tables.new result
-        within CanBeJudged gives λ _ s yes. CanBeJudged s → today ≡ s.day → yes ≡ opens s ticket container }
-    ensures disk { HasCleanDisk (state S.Store tables.new)
-        → IfErr result (BlamesDisk (state S.Store tables.old) (state S.Store tables.new)) }
-{
-    let Some(number) = Number::of(container) else {
-        return Ok(false);
-    };
-    is_open(alloc, tables, number, ticket, today)
 }

@@ -30,14 +30,14 @@ module _ {S X : Type 0} {g : store.Ghosts S} {before after : Held S} {kept : Sta
       → (kept (state g before) → HasCleanDisk (state g after) → IsUnlimited (state g before) → HasCause (state g before) (state g after) e)
       → Judges g before after r kept answer
   passes_of {r} e handed cut blames why =
-      subst (λ (r : Result X StoreFault). Judges g before after r kept answer) (sym (same_fault r e handed.0 handed.1))
+      subst (λ (r : Result X StoreFault). Judges g before after r kept answer) (sym (same_fault handed))
       (record { reads = record { crash = cut.crash; looks = tt; aborts = cut }; answers = λ clean. tt; disk = blames; faults = why })
 
   -- there was no memory for what was read
   pub is_full : {r : Result X StoreFault} {e : StoreFault} → Hands r e → e ≡ fault.Memory
       → LeavesUnchanged (state g before) (state g after) → Judges g before after r kept answer
   is_full {e = e} handed memory looked =
-      passes_of e handed (cut_after (state g before) (state g after) looked.goes.on) (λ clean. subst (BlamesDisk (state g before) (state g after)) (sym memory) tt)
+      passes_of e handed (cut_after looked.goes.on) (λ clean. subst (BlamesDisk (state g before) (state g after)) (sym memory) tt)
       (λ known clean free. subst (HasCause (state g before) (state g after)) (sym memory) tt)
 
   -- it passes on the fault of its first call
@@ -54,7 +54,7 @@ module _ {S X : Type 0} {g : store.Ghosts S} {before after : Held S} {kept : Sta
       let a = state g before in
       let b = state g mid in
       let c = state g after in
-      passes_of e handed (cut_then a b c looked.goes.on it.reads.aborts) (λ clean. disk_then a b c looked.goes.on (early b c _ it.reads.crash clean) e (it.disk clean))
+      passes_of e handed (cut_then looked.goes.on it.reads.aborts) (λ clean. disk_then a b c looked.goes.on (early it.reads.crash clean) e (it.disk clean))
       (λ known clean free. next_cause a b c looked.goes.on it.reads.aborts clean e (λ at_b. it.faults (learns at_b known) clean (still_unlimited a b looked.goes.on free)))
 
 blamed : {X : Type 0} (old new : State) (r : Result X StoreFault) → IfErr r (Spares IsSame old new)
@@ -75,9 +75,9 @@ module _ {S X : Type 0} {g : store.Ghosts S} {mid after : Held S} {r : Result X 
       let c = state g after in
       record {
         reads = looked_then a b c r looked it.reads;
-        answers = λ clean. on_ok r (is (early b c _ it.reads.crash clean)) (it.answers clean);
+        answers = λ clean. on_ok r (is (early it.reads.crash clean)) (it.answers clean);
         disk = λ clean. last_disk a b c looked.goes.on r it.reads.aborts clean (it.disk clean);
-        faults = λ known. excused_then a b c looked.goes.on r it.reads.aborts (λ at_b. it.faults (learns at_b known));
+        faults = λ known. excused_then _ looked.goes.on r it.reads.aborts (λ at_b. it.faults (learns at_b known));
       }
     where
       on_ok : (r : Result X StoreFault) → ((x : X) → other (state g mid) x → answer (state g before) x)

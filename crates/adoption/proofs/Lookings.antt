@@ -9,5 +9,5 @@ looked_well a b x one = record { crash = one.goes.on.crash; looks = one; aborts 
 
 pub looked_then : {X : Type 0} (a b c : State) (r : Result X StoreFault) → LeavesUnchanged a b → Looks b c r
     → Looks a c r
-looked_then a b c (Ok x) one two = looked_well a c x (looks_then a b c one two.looks)
-looked_then a b c (Err e) one two = let cut = cut_then a b c one.goes.on two.aborts in record { crash = cut.crash; looks = tt; aborts = cut }
+looked_then a b c (Ok x) one two = looked_well a c x (looks_then one two.looks)
+looked_then a b c (Err e) one two = let cut = cut_then one.goes.on two.aborts in record { crash = cut.crash; looks = tt; aborts = cut }

@@ -90,7 +90,7 @@ module _ (old new : State) where
     pub looks_unchanged : (HasCleanDisk new → IsUnchanged old new) → LeavesUnchanged old new
     looks_unchanged same = record {
       goes = record {
-        on = record { crash = versions_crash; within = λ clean. unchanged_on old new (inside (early old new _ versions_crash clean)) (same clean) };
+        on = record { crash = versions_crash; within = λ clean. unchanged_on old new (inside (early versions_crash clean)) (same clean) };
         schema = λ clean. ap (λ (d : Database). d.schema) (same clean).0.now_is;
       };
       same = λ clean. (same clean).0.now_is;
@@ -99,7 +99,7 @@ module _ (old new : State) where
     pub cut_by : (e : Error) → (HasCleanDisk new → FailsToQuery version_text [] old new e) → IsAborted old new
     cut_by e failed = record {
       crash = versions_crash;
-      aborts = λ clean. stopped old new (inside (early old new _ versions_crash clean)) (fails version_text [] old new e (failed clean));
+      aborts = λ clean. stopped old new (inside (early versions_crash clean)) (fails version_text [] old new e (failed clean));
     }
 
 -- ---- what the version makes of the tables

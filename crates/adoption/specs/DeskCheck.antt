@@ -9,7 +9,7 @@ use Rattle.state_encoding.specs.Causes.{catalogue_tests, first_held}
 use Rattle.state_encoding.specs.CellCauses.{rows_in, unread, either_of, cell_cause}
 use Rattle.integrity_checks.specs.DeskChecks.{cause_of, desk_defect}
 
--- the limits and the day are those of the office's row
+-- the day and the limits are those of the office's row, except for the hands, which the check does not use
 pub record AreOfOffice (row : OfficeRow) (limits : Limits) (today : ℤ) : Type 0 where
   pub seats : limits.seats ≡ row.seats
   pub daily : limits.daily ≡ row.daily

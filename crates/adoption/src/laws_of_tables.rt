@@ -18,12 +18,14 @@ pub fn catalogue_rows_represent_the_catalogue<P: CheckedPlaces>()
     ensures { (db : Database) → RowsRepresentTheCatalogue P.represents P.version db }
 {}
 
-/// Such tables also represent the desk of their rows, which have their keys.
+/// Tables of a live connection that stand in order and have none of the causes 1 to 9 also represent the desk of their
+/// rows. These rows have their keys.
 pub fn desk_rows_represent_the_desk()
     ensures { (version : Version) (db : Database) → RowsRepresentTheDesk version db }
 {}
 
-/// Such tables represent the state that their rows describe, which is sound except for the rules of the day.
+/// Tables of a live connection that stand in order and have none of the causes 1 to 9 represent the state that their
+/// rows describe, which is sound except for the rules of the day, for each way to store the places.
 pub fn good_tables_represent_their_state<P: CheckedPlaces>()
     ensures { (db : Database) → GoodTablesRepresentTheirState P.represents P.version db }
 {}

@@ -186,8 +186,9 @@ impl Gathering for OwnRows {
     }
 }
 
-/// Reads the office's own row. Returns none if no office of this version has such a row. If it was read, the tables
-/// keep the rules of their version.
+/// Reads the office's own row. If the rows of the tables stand in order, returns none exactly if that row cannot be
+/// read or no office of this version has such a row. If the call succeeds, even with none, the tables have the
+/// definitions of this version and keep its rules.
 pub(crate) fn own_row<P: Places, S: Alter>(
     tables: &mut Tables<P, S>,
 ) -> Result<Option<OwnRow>, StoreFault>

@@ -42,7 +42,8 @@ fn new_tables<P: Places>(alloc: Global) -> Result<Connection<MemStore>, StoreFau
     Ok(model)
 }
 
-/// Whether the tables have the same definitions as those of a new office.
+/// Whether the tables have the same definitions as those of a new office of this version. No row is looked at. Fails
+/// only for want of memory.
 pub(crate) fn are_ours<P: Places, S: Alter>(
     alloc: Global,
     conn: &Connection<S>,

@@ -76,8 +76,9 @@ fn cause_inside<P: CheckedPlaces, S: Alter>(
     (tables.into_connection(), cause)
 }
 
-/// Judges what the tables are, inside a transaction. Reads all of them, unless the verdict is found before, and changes
-/// nothing.
+/// Judges what the tables are, inside a transaction, as those of an office of this version. Reads all of them, unless
+/// the verdict is found before, and changes nothing. If their rows do not stand in order, with ascending whole numbers,
+/// `Sound` and `Unsound` say only that the tables are this product's.
 pub fn judge<P: CheckedPlaces, S: Alter>(
     alloc: Global,
     conn: &mut Connection<S>,

@@ -9,7 +9,7 @@ ghost use Rattle.atom_csv.specs.FileProperties.{HasProperRows, HasLegibleRows};
 ghost use Rattle.atom_csv.specs.Values.{boxes_of};
 ghost use Rattle.atom_csv.specs.declared.file.File.{File};
 
-/// A file without a record has no header.
+/// A file that is one line feed has no header, and says so for its first line.
 pub fn an_empty_file_has_no_header()
     ensures { file_of (codes "\n") ≡ Err (1, 2) }
 {}

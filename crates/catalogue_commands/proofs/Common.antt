@@ -2,7 +2,7 @@
 pub use Rattle.std.proofs.lemmas.Bool.{cases_Bool, eqb-true, false≢true, le-ltb, lt-ltb}
 pub use Rattle.std.proofs.lemmas.List.{length-append, length-map}
 pub use Rattle.std.specs.List.{AllByRecursion, flat_map, list_any}
-pub use Rattle.std.specs.Prelude.{IfSome, filter, is_some, max, nat_lt, ⊤, ◌||◌}
+pub use Rattle.std.specs.Prelude.{filter, max, nat_lt, ⊤, ◌||◌}
 pub use Rattle.sqlite.specs.Held.{state}
 pub use Rattle.sqlite.specs.State.{HasCleanDisk}
 pub use Rattle.sqlite.specs.Tree.{Trees}
@@ -23,7 +23,6 @@ pub use Rattle.office_tables.specs.Versions.{Version}
 pub use Rattle.catalogue_statements.specs.Representation.{Represents}
 pub use Rattle.catalogue_statements.specs.declared.office.OfficeRow.{OfficeRow}
 pub use Rattle.desk_store.specs.Holdings.{issued_of}
-pub use Rattle.office_core.proofs.KeptOffices.{office_kept}
 pub use Rattle.office_core.specs.Rules.{after, gate, removed}
 pub use Rattle.office_core.specs.SoundOffice.{IsSoundOffice}
 pub use Rattle.office_core.specs.State.{Permit, State, is_permitted}

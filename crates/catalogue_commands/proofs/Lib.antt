@@ -1,6 +1,5 @@
 pub mod Common
 pub mod Closed
-pub mod KnownUnits
 pub mod MarkHeights
 pub mod CutMoved
 pub mod Moved

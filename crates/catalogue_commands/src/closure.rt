@@ -8,7 +8,7 @@ ghost use Rattle.office_core.specs.declared.command.Command.TheVariants as comma
 ghost use Rattle.refinement.specs.CommandSteps.{PerformsKnowing};
 
 use access::pass_gate_near;
-use catalogue_store::{Places, find_unit, set_closure};
+use catalogue_store::{Places, is_unit, set_closure};
 use isad_core::Day;
 use office_core::{Done, Refusal};
 use office_tables::{Number, StoreFault, Tables};
@@ -57,15 +57,16 @@ pub fn change_closure<P: Places, S: Alter>(
     alloc: Global,
     tables: &mut Tables<P, S>,
     today: Day,
-    unit: u64,
+    unit: Number,
     until: Option<Day>,
 ) -> Result<Result<Done, Refusal>, StoreFault>
     ensures { PerformsKnowing P.represents P.version S.Store (λ s. today ≡ s.day) (command.SetClosure unit until)
         tables.old tables.new result }
 {
-    let Some(number) = find_unit(alloc, tables, unit)? else {
+    let known = is_unit(alloc, tables, unit)?;
+    if !known {
         return Ok(Err(Refusal::UnknownUnit));
-    };
+    }
     let is_in_force = lasts_beyond(&until, today);
-    close_known(alloc, tables, today, number, until, is_in_force)
+    close_known(alloc, tables, today, unit, until, is_in_force)
 }

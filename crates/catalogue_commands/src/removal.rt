@@ -9,7 +9,7 @@ ghost use Rattle.refinement.specs.CommandSteps.{PerformsKnowing};
 ghost use Rattle.access.specs.Gate.{AreAsked};
 
 use access::{loans_near, pass_gate_with};
-use catalogue_store::{Places, find_unit, remove_branch};
+use catalogue_store::{Places, is_unit, remove_branch};
 use desk_store::ContainerOrder;
 use isad_core::Day;
 use office_core::{Done, Refusal};
@@ -60,13 +60,14 @@ pub fn remove_unit<P: Places, S: Alter>(
     alloc: Global,
     tables: &mut Tables<P, S>,
     today: Day,
-    unit: u64,
+    unit: Number,
 ) -> Result<Result<Done, Refusal>, StoreFault>
     ensures { PerformsKnowing P.represents P.version S.Store (λ s. today ≡ s.day) (command.Remove unit)
         tables.old tables.new result }
 {
-    let Some(number) = find_unit(alloc, tables, unit)? else {
+    let known = is_unit(alloc, tables, unit)?;
+    if !known {
         return Ok(Err(Refusal::UnknownUnit));
-    };
-    remove_known(alloc, tables, today, number)
+    }
+    remove_known(alloc, tables, today, unit)
 }

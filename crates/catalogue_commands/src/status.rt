@@ -6,7 +6,7 @@ ghost use Rattle.office_core.specs.declared.command.Command.TheVariants as comma
 ghost use Rattle.refinement.specs.CommandSteps.{PerformsKnowing};
 
 use access::pass_gate_near;
-use catalogue_store::{Places, find_unit, set_status};
+use catalogue_store::{Places, is_unit, set_status};
 use isad_core::Day;
 use office_core::{Done, Refusal};
 use office_tables::{Number, StoreFault, Tables};
@@ -42,15 +42,16 @@ pub fn change_status<P: Places, S: Alter>(
     alloc: Global,
     tables: &mut Tables<P, S>,
     today: Day,
-    unit: u64,
+    unit: Number,
     draft: bool,
     whole: bool,
 ) -> Result<Result<Done, Refusal>, StoreFault>
     ensures { PerformsKnowing P.represents P.version S.Store (λ s. today ≡ s.day) (command.SetStatus unit draft whole)
         tables.old tables.new result }
 {
-    let Some(number) = find_unit(alloc, tables, unit)? else {
+    let known = is_unit(alloc, tables, unit)?;
+    if !known {
         return Ok(Err(Refusal::UnknownUnit));
-    };
-    set_known(alloc, tables, today, number, draft, whole)
+    }
+    set_known(alloc, tables, today, unit, draft, whole)
 }

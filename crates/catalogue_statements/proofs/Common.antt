@@ -90,6 +90,7 @@ pub use Rattle.office_tables.proofs.StatementEnds.{looks_up_in, puts_in, puts_nu
 pub use Rattle.office_tables.proofs.StatementEnds.{thins_numbered}
 pub use Rattle.office_tables.proofs.Steps.{Deleted, DeletedWith, Inserted, Updated, deleted, deleted_with, inserted}
 pub use Rattle.office_tables.proofs.Steps.{is_referred_to, updated, wrote}
+pub use Rattle.office_tables.proofs.StoreCalls.{makes_cut, makes_last, makes_part, makes_well}
 pub use Rattle.office_tables.proofs.Tests.{both, by_one_int, by_two_ints, either_first, is_maybes, only, same_bytes}
 pub use Rattle.office_tables.proofs.Tests.{same_nat, same_number}
 pub use Rattle.office_tables.proofs.Touching.{nothing_touched, touched, touched_again, touched_then, touched_wider}
@@ -109,12 +110,13 @@ pub use Rattle.office_tables.specs.Order.{IsOrdered, Rises}
 pub use Rattle.office_tables.specs.OrderedInsertion.{put_by}
 pub use Rattle.office_tables.specs.Permits.{permit_cells}
 pub use Rattle.office_tables.specs.Query.{Finds, FindsFirst, FoundInside, Misses}
-pub use Rattle.office_tables.specs.RowCounts.{cap}
 pub use Rattle.office_tables.specs.RowNumbers.{HasNumbered, HoldsNumbered}
 pub use Rattle.office_tables.specs.Schema.{container, element, housing, link, office, permit, place_table, schema}
 pub use Rattle.office_tables.specs.Schema.{to_unit, unit}
 pub use Rattle.office_tables.specs.StatementMeaning.{Means}
-pub use Rattle.office_tables.specs.Step.{Goes, HasRows, Holds, IsAborted, LeavesUnchanged, OnlyTouches, PutsRow, Spares}
+pub use Rattle.office_tables.specs.Step.{Goes, HasRows, Holds, IsAborted, IsSame, LeavesUnchanged, OnlyTouches, PutsRow}
+pub use Rattle.office_tables.specs.Step.{Spares}
+pub use Rattle.office_tables.specs.TableStatements.{Changes, LooksUp}
 pub use Rattle.office_tables.specs.Versions.{First, Second, Version, encoding, version_number}
 pub use Rattle.office_tables.specs.declared.fault.StoreFault.{StoreFault}
 pub use Rattle.catalogue_statements.specs.DescriptionRows.{AddsHousings, AddsTexts, AreElements, AreHoused, HasUnit}

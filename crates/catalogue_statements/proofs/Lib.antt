@@ -9,6 +9,7 @@ pub mod ElementStatements
 pub mod ContainerStatements
 pub mod HousingStatements
 pub mod OfficeStatements
+pub mod CountCalls
 pub mod UnitQueries
 pub mod Inserts
 pub mod LinkWrites

@@ -6,14 +6,15 @@ use Rattle.std.specs.Bool.{⊤}
 use Rattle.sqlite.specs.Listing.{understood}
 use Rattle.sqlite_tied.specs.Compute.{everything}
 use Rattle.office_tables.proofs.Counts.{summary_query, count_rows, counts}
+use Rattle.office_tables.specs.RowCounts.{cap}
 use Rattle.catalogue_statements.specs.Settings.{AreLegibleSettings}
 use Rattle.catalogue_statements.proofs.Common.{Binary, Command, Compare, Eq, Finds, FoundInside, HasCause, HasRows}
 use Rattle.catalogue_statements.proofs.Common.{IfOk-weaker, Int, IsLive, IsUnlimited, Key, Means, Misses, Null}
 use Rattle.catalogue_statements.proofs.Common.{OfficeRow, OnlyTouches, Program, Ran, Row, Select, Shown, State}
 use Rattle.catalogue_statements.proofs.Common.{StoreFault, Table, Term, Update, Version, accepts_program, all_caused}
-use Rattle.catalogue_statements.proofs.Common.{ascending, asking, by_one_int, cap, cast_int, cast_null, cast_row}
-use Rattle.catalogue_statements.proofs.Common.{caused, choosing, col, container, counts_always, end, found_in, inner}
-use Rattle.catalogue_statements.proofs.Common.{kept_all, le_refl, lit, none_refuse, office, office_kept, office_row}
+use Rattle.catalogue_statements.proofs.Common.{ascending, asking, by_one_int, cast_int, cast_null, cast_row, caused}
+use Rattle.catalogue_statements.proofs.Common.{choosing, col, container, counts_always, end, found_in, inner, kept_all}
+use Rattle.catalogue_statements.proofs.Common.{le_refl, lit, none_refuse, office, office_kept, office_row}
 use Rattle.catalogue_statements.proofs.Common.{one_permutation, only, op2, read_cause, reads_as, same_number, schema}
 use Rattle.catalogue_statements.proofs.Common.{select_faults, select_finds, settings_of_row, unit, update_faults}
 use Rattle.catalogue_statements.proofs.Common.{update_leaves, update_only, version_number}
@@ -117,10 +118,10 @@ module _ (old new : State) (v : Version) (has : old.now.schema ≡ schema v) (ve
 
 -- ---- how many there are
 
-abbrev counting : Table → Program
+abbrev pub counting : Table → Program
 counting table = record { lets = []; body = summary_query (inner table.tree end) [] count_rows }
 
-abbrev number_cells : ℕ → Row
+abbrev pub number_cells : ℕ → Row
 number_cells n = Int (pos n) ∷ []
 
 module _ (old new : State) (v : Version) {A : Type 0} (table : Table) (row : A → Row) (xs : List A) (stored : old.now.trees table.tree ≡ map row xs)

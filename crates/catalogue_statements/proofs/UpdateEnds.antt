@@ -1,15 +1,12 @@
 -- How a call ends that changes what the tables represent, by how its steps ended.
 use Rattle.std.proofs.Common.{inl, ℕ, List, Ok, Err, Result, OnOk, OnErr, IfErr, refl}
 use Rattle.sqlite_trees.specs.declared.store.Store as store
-use Rattle.office_tables.proofs.Outcomes.{on_ok_by}
-use Rattle.office_tables.proofs.StoreCalls.{makes_cut, makes_part}
 use Rattle.office_tables.specs.Calls.{StoreUpdates}
-use Rattle.office_tables.specs.TableStatements.{LooksUp}
 use Rattle.office_tables.specs.declared.fault.StoreFault.TheVariants as fault
-use Rattle.catalogue_statements.proofs.Common.{Database, FaultsHaveCause, Goes, Hands, HasCause, HasCleanDisk, Held}
-use Rattle.catalogue_statements.proofs.Common.{IsAborted, IsUnlimited, LeavesOr, LeavesUnchanged, OnlyTouches, Spares}
-use Rattle.catalogue_statements.proofs.Common.{State, StoreFault, cut_after, early, excused_then, leaves_last}
-use Rattle.catalogue_statements.proofs.Common.{on_ok_both, same_fault, same_untouched, state, touched_again, untouched}
+use Rattle.catalogue_statements.proofs.Common.{Database, Goes, Hands, HasCause, HasCleanDisk, Held, IsAborted}
+use Rattle.catalogue_statements.proofs.Common.{IsUnlimited, LeavesOr, LeavesUnchanged, LooksUp, OnlyTouches, Spares}
+use Rattle.catalogue_statements.proofs.Common.{State, StoreFault, cut_after, makes_cut, makes_part, same_fault}
+use Rattle.catalogue_statements.proofs.Common.{same_untouched, state, untouched}
 
 -- tables that were only looked at
 pub looked_only : (touched : List ℕ) (a b : State) → LeavesUnchanged a b → HasCleanDisk b
@@ -24,20 +21,13 @@ leaves_so touched a b (Ok x) went cut spares = record { crash = went.on.crash; g
 leaves_so touched a b (Err e) went cut spares = record { crash = cut.crash; goes = tt; aborts = cut; spares = spares }
 
 module _ {S X Stays Model : Type 0} {g : store.Ghosts S} {represents : Database → Stays → Model → Type 0} {kept may : Model → Type 0} {before after : Held S} {made : Model → Model} {touched : List ℕ} where
-  -- all its steps went well
-  pub makes_well : {x : X} → Goes (state g before) (state g after)
-      → (HasCleanDisk (state g after) → OnlyTouches touched (state g before).now (state g after).now)
-      → (HasCleanDisk (state g after) → (s : Stays) (m : Model) → represents (state g before).now s m → may m → represents (state g after).now s (made m))
-      → StoreUpdates g touched represents before after (Ok x) may kept made
-  makes_well went only done = record { call = record { represents_updated = done; only = only; goes = went; aborts = tt; faults = λ s m shown allowed within clean free. tt }; spares = λ clean. tt }
-
   -- its first step fails
   pub makes_first : {r : Result X StoreFault} {e : StoreFault} → Hands r e → IsAborted (state g before) (state g after)
       → (HasCleanDisk (state g after) → Spares (OnlyTouches touched) (state g before) (state g after) e)
       → ((s : Stays) (m : Model) → represents (state g before).now s m → may m → kept m → HasCleanDisk (state g after) → IsUnlimited (state g before) → HasCause (state g before) (state g after) e)
       → StoreUpdates g touched represents before after r may kept made
   makes_first {r} {e} handed cut spares why =
-      makes_part g represents kept may before after r made touched e (same_fault r e handed.0 handed.1) cut spares why
+      makes_part (same_fault handed) cut spares why
 
   -- its first step fails, a look-up
   pub makes_passed : {Y N : Type 0} {r : Result X StoreFault} {e : StoreFault} {holds : State → N → Type 0} {sorted low : N → Type 0} {found : N → Y → Type 0}
@@ -55,7 +45,7 @@ module _ {S X Stays Model : Type 0} {g : store.Ghosts S} {represents : Database 
       → ((s : Stays) (m : Model) → represents (state g before).now s m → may m → kept m → HasCleanDisk (state g mid) → HasCleanDisk (state g after) → IsUnlimited (state g mid) → HasCause (state g mid) (state g after) e)
       → StoreUpdates g touched represents before after r may kept made
   makes_later {r} {e} mid handed went only cut spares why =
-      makes_cut g represents kept may before mid after r made touched e (same_fault r e handed.0 handed.1) went.on only cut spares why
+      makes_cut (same_fault handed) went.on only cut spares why
 
   -- it finds that the tables are not ours, and says so; which cannot be if they represent what is kept
   pub makes_ill : Goes (state g before) (state g after)
@@ -63,28 +53,4 @@ module _ {S X Stays Model : Type 0} {g : store.Ghosts S} {represents : Database 
       → (HasCleanDisk (state g after) → (s : Stays) (m : Model) → represents (state g before).now s m → may m → kept m → ⊥)
       → StoreUpdates {X = X} g touched represents before after (Err fault.Schema) may kept made
   makes_ill went only never =
-      makes_part g represents kept may before after (Err fault.Schema) made touched fault.Schema refl (cut_after (state g before) (state g after) went.on) (λ clean. record { disk = tt; rows = inl (only clean) })
-      (λ s m shown allowed within clean free. absurd (never clean s m shown allowed within))
-
-  -- the result of its last step is its own
-  pub makes_last : {r : Result X StoreFault} {b : State} → Goes (state g before) b
-      → (HasCleanDisk b → OnlyTouches touched (state g before).now b.now)
-      → LeavesOr (OnlyTouches touched) b (state g after) r
-      → (HasCleanDisk (state g after) → OnOk r (OnlyTouches touched b.now (state g after).now))
-      → (HasCleanDisk b → HasCleanDisk (state g after) → (s : Stays) (m : Model) → represents (state g before).now s m → may m → OnOk r (represents (state g after).now s (made m)))
-      → (HasCleanDisk b → (s : Stays) (m : Model) → represents (state g before).now s m → may m → kept m → FaultsHaveCause b (state g after) r)
-      → StoreUpdates g touched represents before after r may kept made
-  makes_last {r} {b} went first last only done why =
-      let a = state g before in
-      let c = state g after in
-      let all = leaves_last touched a b c r went first last in
-      record {
-        call = record {
-          represents_updated = λ clean s m shown allowed. on_ok_by r (Goes b c) (represents c.now s (made m)) (λ further. done (early b c _ further.on.crash clean) clean s m shown allowed) last.goes;
-          only = λ clean. on_ok_both r (Goes b c) (OnlyTouches touched b.now c.now) (OnlyTouches touched a.now c.now) (λ further rest. touched_again touched a.now b.now c.now (first (early b c _ further.on.crash clean)) rest) last.goes (only clean);
-          goes = all.goes;
-          aborts = all.aborts;
-          faults = λ s m shown allowed within. excused_then a b c went.on r last.aborts (λ at_b. why at_b s m shown allowed within);
-        };
-        spares = all.spares;
-      }
+      makes_part refl (cut_after went.on) (λ clean. record { disk = tt; rows = inl (only clean) }) (λ s m shown allowed within clean free. absurd (never clean s m shown allowed within))

@@ -32,11 +32,11 @@ only_wider few many a b r all only =
 leaves_looked : {X : Type 0} (Left : Database → Database → Type 0) (a b c : State) (r : Result X StoreFault)
     → LeavesUnchanged a b → LeavesOr Left b c r → LeavesOr Left a c r
 leaves_looked Left a b c (Ok x) looked last =
-    let went = goes_then a b c looked.goes last.goes in
+    let went = goes_then looked.goes last.goes in
     record { crash = went.on.crash; goes = went; aborts = tt; spares = λ clean. tt }
 leaves_looked Left a b c (Err e) looked last =
-    let cut = cut_then a b c looked.goes.on last.aborts in
-    record { crash = cut.crash; goes = tt; aborts = cut; spares = λ clean. looked_spares a b c looked (early b c _ last.aborts.crash clean) e (last.spares clean) }
+    let cut = cut_then looked.goes.on last.aborts in
+    record { crash = cut.crash; goes = tt; aborts = cut; spares = λ clean. looked_spares looked (early last.aborts.crash clean) e (last.spares clean) }
 
 -- ---- a call of which no more is said than which tables it touches
 
@@ -52,7 +52,7 @@ module _ {S X : Type 0} {g : store.Ghosts S} {touched : List ℕ} {before after 
       → (HasCleanDisk (state g after) → Spares (OnlyTouches touched) (state g before) (state g after) e)
       → WritesOnly g touched before after r
   only_not {r} e handed cut spares =
-      subst (λ (q : Result X StoreFault). WritesOnly g touched before after q) (sym (same_fault r e handed.0 handed.1))
+      subst (λ (q : Result X StoreFault). WritesOnly g touched before after q) (sym (same_fault handed))
       (record { leaves = record { crash = cut.crash; goes = tt; aborts = cut; spares = spares }; only = λ clean. tt })
 
   -- a step fails after others that went well
@@ -61,8 +61,8 @@ module _ {S X : Type 0} {g : store.Ghosts S} {touched : List ℕ} {before after 
       → (HasCleanDisk (state g after) → Spares (OnlyTouches touched) b (state g after) e)
       → WritesOnly g touched before after r
   only_cut {r} {b} e handed went only cut spares =
-      only_not e handed (cut_then (state g before) b (state g after) went.on cut)
-      (λ clean. let at_b = early b (state g after) _ cut.crash clean in touched_spares touched (state g before) b (state g after) went.on at_b (only at_b) e (spares clean))
+      only_not e handed (cut_then went.on cut)
+      (λ clean. let at_b = early cut.crash clean in touched_spares touched (state g before) b (state g after) went.on at_b (only at_b) e (spares clean))
 
 -- ---- a call of which it is said what it makes of the rows
 
@@ -82,7 +82,7 @@ module _ {S M X : Type 0} {g : store.Ghosts S} {touched : List ℕ} {holds : Tre
       → ((m : M) → holds (state g before).now.trees m → room (state g before).now.trees m → HasCleanDisk (state g after) → IsUnlimited (state g before) → HasCause (state g before) (state g after) e)
       → WritesOr g touched Left holds before after r room made
   writes_not {Left} {r} e handed cut spares why =
-      let is : r ≡ Err e = same_fault r e handed.0 handed.1 in
+      let is : r ≡ Err e = same_fault handed in
       subst (λ (q : Result X StoreFault). WritesOr g touched Left holds before after q room made) (sym is)
       (record { leaves = record { crash = cut.crash; goes = tt; aborts = cut; spares = spares }; only = λ clean. tt; makes = λ clean m held. tt; faults = why })
 
@@ -93,8 +93,8 @@ module _ {S M X : Type 0} {g : store.Ghosts S} {touched : List ℕ} {holds : Tre
       → (HasCleanDisk b → (m : M) → holds (state g before).now.trees m → room (state g before).now.trees m → HasCleanDisk (state g after) → IsUnlimited b → HasCause b (state g after) e)
       → Writes g touched holds before after r room made
   writes_cut {r} {b} e handed went only cut spares why =
-      writes_not e handed (cut_then (state g before) b (state g after) went.on cut)
-      (λ clean. let at_b = early b (state g after) _ cut.crash clean in touched_spares touched (state g before) b (state g after) went.on at_b (only at_b) e (spares clean))
+      writes_not e handed (cut_then went.on cut)
+      (λ clean. let at_b = early cut.crash clean in touched_spares touched (state g before) b (state g after) went.on at_b (only at_b) e (spares clean))
       (λ m held roomy clean free. next_cause (state g before) b (state g after) went.on cut clean e (λ at_b. why at_b m held roomy clean (still_unlimited (state g before) b went.on free)))
 
   -- its first step that writes fails, after a look
@@ -104,7 +104,7 @@ module _ {S M X : Type 0} {g : store.Ghosts S} {touched : List ℕ} {holds : Tre
       → (HasCleanDisk b → (m : M) → holds (state g before).now.trees m → room (state g before).now.trees m → HasCleanDisk (state g after) → IsUnlimited b → HasCause b (state g after) e)
       → WritesOr g touched Left holds before after r room made
   writes_cut_looked {Left} {r} {b} e handed looked cut spares why =
-      writes_not e handed (cut_then (state g before) b (state g after) looked.goes.on cut) (λ clean. looked_spares (state g before) b (state g after) looked (early b (state g after) _ cut.crash clean) e (spares clean))
+      writes_not e handed (cut_then looked.goes.on cut) (λ clean. looked_spares looked (early cut.crash clean) e (spares clean))
       (λ m held roomy clean free. next_cause (state g before) b (state g after) looked.goes.on cut clean e (λ at_b. why at_b m held roomy clean (still_unlimited (state g before) b looked.goes.on free)))
 
   -- it finds that the rows are not ours, which cannot be if there is room, after steps that went well
@@ -114,7 +114,7 @@ module _ {S M X : Type 0} {g : store.Ghosts S} {touched : List ℕ} {holds : Tre
       → WritesOr g touched Left holds before after (Err fault.Schema) room made
   writes_known went left never =
       let own : Hands {X = X} (Err fault.Schema) fault.Schema = (refl, refl) in
-      writes_not fault.Schema own (cut_after (state g before) (state g after) went.on) (λ clean. record { disk = tt; rows = inl (left clean) }) (λ m held roomy clean free. absurd (never clean m held roomy))
+      writes_not fault.Schema own (cut_after went.on) (λ clean. record { disk = tt; rows = inl (left clean) }) (λ m held roomy clean free. absurd (never clean m held roomy))
 
   -- the same, where a step says so
   pub writes_unknown : {Left : Database → Database → Type 0} {r : Result X StoreFault} (e : StoreFault) → Hands r e
@@ -123,7 +123,7 @@ module _ {S M X : Type 0} {g : store.Ghosts S} {touched : List ℕ} {holds : Tre
       → (HasCleanDisk (state g after) → (m : M) → holds (state g before).now.trees m → room (state g before).now.trees m → ⊥)
       → WritesOr g touched Left holds before after r room made
   writes_unknown {Left} {r} e handed is went left never =
-      subst (λ (q : Result X StoreFault). WritesOr g touched Left holds before after q room made) (sym (same_fault r e handed.0 handed.1 ∙ ap Err is)) (writes_known went left never)
+      subst (λ (q : Result X StoreFault). WritesOr g touched Left holds before after q room made) (sym (same_fault handed ∙ ap Err is)) (writes_known went left never)
 
   -- the result of its last step is its own
   pub writes_last : {r : Result X StoreFault} {b : State} → Goes (state g before) b
@@ -138,9 +138,9 @@ module _ {S M X : Type 0} {g : store.Ghosts S} {touched : List ℕ} {holds : Tre
       let c = state g after in
       record {
         leaves = leaves_last touched a b c r went first last;
-        only = λ clean. on_ok_both r (Goes b c) (OnlyTouches touched b.now c.now) (OnlyTouches touched a.now c.now) (λ further rest. touched_again touched a.now b.now c.now (first (early b c _ further.on.crash clean)) rest) last.goes (only clean);
-        makes = λ clean m held. if_ok_by r (Goes b c) (λ x. made m x c.now.trees) (λ further. makes (early b c _ further.on.crash clean) clean m held) last.goes;
-        faults = λ m held roomy. excused_then a b c went.on r last.aborts (λ at_b. why at_b m held roomy);
+        only = λ clean. on_ok_both r (Goes b c) (OnlyTouches touched b.now c.now) (OnlyTouches touched a.now c.now) (λ further rest. touched_again touched a.now b.now c.now (first (early further.on.crash clean)) rest) last.goes (only clean);
+        makes = λ clean m held. if_ok_by r (Goes b c) (λ x. made m x c.now.trees) (λ further. makes (early further.on.crash clean) clean m held) last.goes;
+        faults = λ m held roomy. excused_then _ went.on r last.aborts (λ at_b. why at_b m held roomy);
       }
 
   -- the same after a look
@@ -155,7 +155,7 @@ module _ {S M X : Type 0} {g : store.Ghosts S} {touched : List ℕ} {holds : Tre
       let c = state g after in
       record {
         leaves = leaves_looked Left a b c r looked last;
-        only = λ clean. on_ok_both r (Goes b c) (OnlyTouches touched b.now c.now) (OnlyTouches touched a.now c.now) (λ further rest. touched_again touched a.now b.now c.now (same_untouched touched a.now b.now (looked.same (early b c _ further.on.crash clean))) rest) last.goes (only clean);
-        makes = λ clean m held. if_ok_by r (Goes b c) (λ x. made m x c.now.trees) (λ further. makes (early b c _ further.on.crash clean) clean m held) last.goes;
-        faults = λ m held roomy. excused_then a b c looked.goes.on r last.aborts (λ at_b. why at_b m held roomy);
+        only = λ clean. on_ok_both r (Goes b c) (OnlyTouches touched b.now c.now) (OnlyTouches touched a.now c.now) (λ further rest. touched_again touched a.now b.now c.now (same_untouched touched a.now b.now (looked.same (early further.on.crash clean))) rest) last.goes (only clean);
+        makes = λ clean m held. if_ok_by r (Goes b c) (λ x. made m x c.now.trees) (λ further. makes (early further.on.crash clean) clean m held) last.goes;
+        faults = λ m held roomy. excused_then _ looked.goes.on r last.aborts (λ at_b. why at_b m held roomy);
       }

@@ -1,16 +1,12 @@
 -- A call that reads or writes once it has read that it may.
-use Rattle.std.proofs.Common.{◌≡◌, ◌&&◌, ◌∙◌, inl, refl, ℕ, Bool, true, false, List, Ok, Err, Result, sym, subst, IfOk}
+use Rattle.std.proofs.Common.{◌≡◌, ◌&&◌, ◌∙◌, inl, refl, ℕ, Bool, true, false, List, Ok, Err, Result, sym, subst}
 use Rattle.sqlite_trees.specs.declared.store.Store as store
 use Rattle.office_tables.proofs.LaterCauses.{next_cause}
 use Rattle.office_tables.specs.declared.fault.StoreFault.TheVariants as fault
 use Rattle.catalogue_store.proofs.Common.{Database, HasCleanDisk, Held, LeavesUnchanged, OnlyTouches, State}
 use Rattle.catalogue_store.proofs.Common.{StoreAnswers, StoreFault, StoreUpdates, cut_after, cut_then, early}
-use Rattle.catalogue_store.proofs.Common.{false≢true, goes_then, looked_spares, looks_then, same_untouched, state}
-use Rattle.catalogue_store.proofs.Common.{still_unlimited, ⊤}
-
-pub if_ok_as : {X E : Type 0} (r : Result X E) (P Q : X → Type 0) → ((x : X) → P x → Q x) → IfOk r P → IfOk r Q
-if_ok_as (Ok x) P Q f p = f x p
-if_ok_as (Err e) P Q f p = tt
+use Rattle.catalogue_store.proofs.Common.{false≢true, goes_then, looked_spares, looks_then, makes_well, same_untouched}
+use Rattle.catalogue_store.proofs.Common.{state, still_unlimited, tells_well, ⊤}
 
 pub both_true : (x y : Bool) → (x && y) ≡ true → (x ≡ true) × (y ≡ true)
 both_true true y h = (refl, h)
@@ -29,16 +25,9 @@ module _ {S Stays Model : Type 0} (g : store.Ghosts S) (represents : Database �
       let a = state g before in
       let b = state g mid in
       let c = state g after in
-      let back = early b c _ it.looks.goes.on.crash in
-      record {
-        call = record {
-          answers = λ clean s m shown. turn (back clean) s m shown x (it.answers clean s m (subst (λ (db : Database). represents db s m) (sym (looked.same (back clean))) shown));
-          looks = looks_then a b c looked it.looks;
-          aborts = tt;
-          faults = λ s m shown allowed within clean free. tt;
-        };
-        spares = λ clean. tt;
-      }
+      let back = early it.looks.goes.on.crash in
+      tells_well (looks_then looked it.looks)
+      (λ clean s m shown. turn (back clean) s m shown x (it.answers clean s m (subst (λ (db : Database). represents db s m) (sym (looked.same (back clean))) shown)))
   tells_after after (Err e) told answer turn it =
       let a = state g before in
       let b = state g mid in
@@ -47,11 +36,11 @@ module _ {S Stays Model : Type 0} (g : store.Ghosts S) (represents : Database �
         call = record {
           answers = λ clean s m shown. tt;
           looks = tt;
-          aborts = cut_then a b c looked.goes.on it.aborts;
+          aborts = cut_then looked.goes.on it.aborts;
           faults = λ s m shown allowed within clean free.
               next_cause a b c looked.goes.on it.aborts clean e (λ cleaner. it.faults s m (subst (λ (db : Database). represents db s m) (sym (looked.same cleaner)) shown) tt within clean (still_unlimited a b looked.goes.on free));
         };
-        spares = λ clean. looked_spares a b c looked (early b c _ it.aborts.crash clean) e (it.spares clean);
+        spares = λ clean. looked_spares looked (early it.aborts.crash clean) e (it.spares clean);
       }
 
 -- a call that writes
@@ -71,30 +60,23 @@ module _ {S Stays Model : Type 0} (g : store.Ghosts S) (represents : Database �
       → StoreUpdates g touched represents before after r may kept made
   makes_after after (Ok x) it =
       let c = state g after in
-      let back = early b c _ it.goes.on.crash in
-      record {
-        call = record {
-          represents_updated = λ clean s m shown allowed. it.represents_updated clean s m (still_shown (back clean) s m shown) allowed;
-          only = λ clean. subst (λ (db : Database). OnlyTouches touched db c.now) (looked.same (back clean)) (it.only clean);
-          goes = goes_then a b c looked.goes it.goes;
-          aborts = tt;
-          faults = λ s m shown allowed within clean free. tt;
-        };
-        spares = λ clean. tt;
-      }
+      let back = early it.goes.on.crash in
+      makes_well (goes_then looked.goes it.goes)
+      (λ clean. subst (λ (db : Database). OnlyTouches touched db c.now) (looked.same (back clean)) (it.only clean))
+      (λ clean s m shown allowed. it.represents_updated clean s m (still_shown (back clean) s m shown) allowed)
   makes_after after (Err e) it =
       let c = state g after in
-      let back = early b c _ it.aborts.crash in
+      let back = early it.aborts.crash in
       record {
         call = record {
           represents_updated = λ clean s m shown allowed. tt;
           only = λ clean. tt;
           goes = tt;
-          aborts = cut_then a b c looked.goes.on it.aborts;
+          aborts = cut_then looked.goes.on it.aborts;
           faults = λ s m shown allowed within clean free.
               next_cause a b c looked.goes.on it.aborts clean e (λ cleaner. it.faults s m (still_shown cleaner s m shown) allowed within clean (still_unlimited a b looked.goes.on free));
         };
-        spares = λ clean. looked_spares a b c looked (back clean) e (it.spares clean);
+        spares = λ clean. looked_spares looked (back clean) e (it.spares clean);
       }
 
   -- it may not, and blames the schema
@@ -105,7 +87,7 @@ module _ {S Stays Model : Type 0} (g : store.Ghosts S) (represents : Database �
       represents_updated = λ clean s m shown allowed. tt;
       only = λ clean. tt;
       goes = tt;
-      aborts = cut_after a b looked.goes.on;
+      aborts = cut_after looked.goes.on;
       faults = λ s m shown allowed within clean free. absurd (never clean s m shown allowed);
     };
     spares = λ clean. record { disk = tt; rows = inl (same_untouched touched a.now b.now (looked.same clean)) };

@@ -6,7 +6,7 @@ pub use Rattle.std.proofs.lemmas.List.Sorted.{IsPermutation-trans, length_permut
 pub use Rattle.std.proofs.lemmas.Result.{IfOk-weaker}
 pub use Rattle.std.specs.List.{AllByRecursion, list_all, list_any}
 pub use Rattle.std.specs.List.Sorted.{IsPermutation}
-pub use Rattle.std.specs.Prelude.{IfErr, IsOk, is_some, unwrap_or, ⊤}
+pub use Rattle.std.specs.Prelude.{IfErr, IfOk, IsOk, is_some, unwrap_or, ⊤}
 pub use Rattle.sqlite.specs.Effect.{Database}
 pub use Rattle.sqlite.specs.Held.{Held, state}
 pub use Rattle.sqlite.specs.State.{HasCleanDisk, State}
@@ -22,11 +22,11 @@ pub use Rattle.isad_core.specs.declared.values.Values.{Values}
 pub use Rattle.tree_core.proofs.EachLemmas.{cut-each, has-each, has_place-each, nodes-each}
 pub use Rattle.tree_core.specs.Forest.{Empty, Forest, HasDistinctIds, Node, add, branch, cut, each, has, has_place}
 pub use Rattle.tree_core.specs.Forest.{join, move_last, nodes, path, put_below, tree}
-pub use Rattle.catalogue_core.specs.Bounds.{IsBounded, IsKept, IsLegibleUnit}
+pub use Rattle.catalogue_core.specs.Bounds.{IsKept, IsLegibleUnit}
 pub use Rattle.catalogue_core.specs.CatalogueMerge.{Catalogue, box_number, number_among}
 pub use Rattle.catalogue_core.specs.Descriptions.{AreWhole, HasAllPlaces, HasPlaceFor, IsNew, KnowsItsContainers}
 pub use Rattle.catalogue_core.specs.Descriptions.{MayDescribe, with_boxes, with_numbered, with_unit, with_values}
-pub use Rattle.catalogue_core.specs.Statuses.{chosen, chosen_units, with_closure, with_status}
+pub use Rattle.catalogue_core.specs.Statuses.{chosen_units, with_closure, with_status}
 pub use Rattle.catalogue_core.specs.UnitLookup.{FindsUnit, has_unit}
 pub use Rattle.catalogue_core.specs.Units.{Unit, has_id, is_from}
 pub use Rattle.office_tables.proofs.CallEnds.{excused_then, leaves_part, making_last, making_not, making_then, read_cut}
@@ -40,10 +40,11 @@ pub use Rattle.office_tables.proofs.Rows.{had, has_map, map_has}
 pub use Rattle.office_tables.proofs.Sparing.{if_err_then, last_spares, last_touched, looked_spares, same_untouched}
 pub use Rattle.office_tables.proofs.Sparing.{spares_full, spares_known, spares_stopped, untouched, untouched_last}
 pub use Rattle.office_tables.proofs.Sparing.{wider_last, wider_spares}
-pub use Rattle.office_tables.proofs.StoreCalls.{makes_cut, makes_not, makes_part, tells_cut, tells_not}
+pub use Rattle.office_tables.proofs.StoreCalls.{makes_cut, makes_not, makes_part, makes_well, tells_cut, tells_last}
+pub use Rattle.office_tables.proofs.StoreCalls.{tells_not, tells_well}
 pub use Rattle.office_tables.proofs.Touching.{nothing_touched, touched_again, touched_then, touched_wider}
 pub use Rattle.office_tables.proofs.numbered.OwnNumbers.{none_there, still_numbered}
-pub use Rattle.office_tables.specs.Calls.{RepresentsAlone, StoreAnswers, StoreUpdates}
+pub use Rattle.office_tables.specs.Calls.{StoreAnswers, StoreUpdates}
 pub use Rattle.office_tables.specs.Faults.{BlamesDisk, HasCause, IsUnlimited, fault_of}
 pub use Rattle.office_tables.specs.Step.{Continues, Goes, HasRows, InTransaction, IsAborted, IsSame, LeavesUnchanged}
 pub use Rattle.office_tables.specs.Step.{OnlyTouches, PutsRow, Spares}
@@ -63,8 +64,8 @@ pub use Rattle.catalogue_statements.specs.DescriptionRows.{descriptions_of_other
 pub use Rattle.catalogue_statements.specs.NewUnit.{unit_of}
 pub use Rattle.catalogue_statements.specs.Representation.{Represents, RepresentsCatalogue, RepresentsContainers}
 pub use Rattle.catalogue_statements.specs.Representation.{RepresentsElements, RepresentsLinkRows, RepresentsNumbered}
-pub use Rattle.catalogue_statements.specs.Representation.{RepresentsSettings, RepresentsUnits, catalogue_trees}
-pub use Rattle.catalogue_statements.specs.Representation.{described_trees, element_number, elements_of, housing_places}
+pub use Rattle.catalogue_statements.specs.Representation.{RepresentsUnits, catalogue_trees, described_trees}
+pub use Rattle.catalogue_statements.specs.Representation.{element_number, elements_of, housing_places}
 pub use Rattle.catalogue_statements.specs.Representation.{numbered_containers, numbered_texts, texts_from}
 pub use Rattle.catalogue_statements.specs.Rows.{ElementRow, HousingRow, cells_of_unit, counted_from, element_row}
 pub use Rattle.catalogue_statements.specs.Rows.{housing_row, office_row}

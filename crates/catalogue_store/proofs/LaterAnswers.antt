@@ -33,12 +33,12 @@ module _ {S X Stays Part Model Share : Type 0} (g : store.Ghosts S) (represents 
       answers = λ clean s m it.
           if_ok_by r (LeavesUnchanged b c) (answer s m)
           (λ last.
-          let of = shares s m it (early b c _ last.goes.on.crash clean) in
+          let of = shares s m it (early last.goes.on.crash clean) in
           IfOk-weaker r (answer_part of.part of.share) (answer s m) of.turn (told.answers clean of.part of.share of.shown))
           told.looks;
-      looks = on_ok_then r (LeavesUnchanged b c) (LeavesUnchanged a c) (looks_then a b c looked) told.looks;
-      aborts = on_err_then r (IsAborted b c) (IsAborted a c) (cut_then a b c looked.goes.on) told.aborts;
-      faults = λ s m it allowed within. excused_then a b c looked.goes.on r told.aborts (λ before.
+      looks = on_ok_then r (LeavesUnchanged b c) (LeavesUnchanged a c) (looks_then looked) told.looks;
+      aborts = on_err_then r (IsAborted b c) (IsAborted a c) (cut_then looked.goes.on) told.aborts;
+      faults = λ s m it allowed within. excused_then _ looked.goes.on r told.aborts (λ before.
           let of = shares s m it before in
           let both = of.allowed allowed within in
           told.faults of.part of.share of.shown both.0 both.1);

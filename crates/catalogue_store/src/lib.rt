@@ -22,7 +22,7 @@ pub use heads::{Head, find_head, heads_below, path_heads};
 pub use import_entries::{enter_unit, enter_values};
 pub use office::{Office, office_row, settings};
 pub use office_tables::{StoreFault, begin, commit, create_index, create_table, roll_back};
-pub use presence::{find_unit, is_unit};
+pub use presence::is_unit;
 pub use status_and_closure::{set_closure, set_status};
 pub use tree_places::{Attached, LinkPlaces, Places, marks_of};
 pub use unit_values::{UnitValues, values};

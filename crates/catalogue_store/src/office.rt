@@ -87,7 +87,8 @@ pub fn office_row<P: Places, S: Alter>(
     })
 }
 
-/// The settings, the day and the next unit number. Nothing is counted.
+/// The office's row: the settings, the day and the next unit number. Unlike `office_row`, it counts neither units nor
+/// containers.
 pub fn settings<P: Places, S: Alter>(
     alloc: Global,
     tables: &mut Tables<P, S>,

@@ -1,9 +1,11 @@
 -- The units that rows bring, told one after another before any is entered.
-use Rattle.std.proofs.Common.{◌≡◌, ℕ, ◌+◌, ◌-◌, Bool, true, false, not, cond, List, [], ◌∷◌, ◌++◌, length}
-use Rattle.std.proofs.Common.{length-append, append_assoc, append-nil, Option, Some, None, refl, sym, ap, ◌∙◌, subst}
-use Rattle.std.proofs.Common.{arith}
-use Rattle.csv_import.proofs.Common.{Arrival, Bytes, Forest, KnowsNumbers, Row, Unit, arrival_at, arrivals_from}
-use Rattle.csv_import.proofs.Common.{arrivals_of, bytes_eq, is_known, new_of, option_and_then, or_there, parent_number}
+use Rattle.std.proofs.Common.{◌≡◌, ℕ, ◌+◌, ◌-◌, ◌<◌, ◌≤◌, Bool, true, false, not, cond, List, [], ◌∷◌, ◌++◌, drop}
+use Rattle.std.proofs.Common.{get_or, length, length-append, append_assoc, append-nil, Option, Some, None, refl, sym}
+use Rattle.std.proofs.Common.{ap, ◌∙◌, subst, arith}
+use Rattle.csv_import.proofs.Common.{Arrival, Bytes, Catalogue, Forest, KnowsNumbers, KnowsUnits, Row, TellsParentOfNew}
+use Rattle.csv_import.proofs.Common.{Unit, arrival_at, arrivals_from, arrivals_of, bytes_eq, drop_all, drop_more}
+use Rattle.csv_import.proofs.Common.{is_known, new_of, number_there, option_and_then, or_there, parent_number}
+use Rattle.csv_import.proofs.KnownUnits.{row_told}
 
 module _ (f : Forest Unit) (source : Bytes) (next : ℕ) where
   -- the rest of the rows is to be looked at; of the others it is told what they bring
@@ -20,36 +22,31 @@ module _ (f : Forest Unit) (source : Bytes) (next : ℕ) where
   brought_by told above row =
       record { unit = next + length told; parent = option_and_then (parent_number f source (next + length told) above) row.parent }
 
-  -- what is told of a row by the number that comes next
-  pub at_number : (n : ℕ) (numbers : Bytes → Option ℕ) (told : List Arrival) (all rest : List Row) (row : Row) (found : Option Arrival)
-      → n ≡ next + length told → (it : AreTold numbers told all (row ∷ rest))
-      → ((above : List Row) → KnowsNumbers f source n above numbers → found ≡ arrival_at f source n above row)
-      → found ≡ arrival_at f source (next + length told) it.above row
-  at_number n numbers told all rest row found e it h =
-      subst (λ m. KnowsNumbers f source m it.above numbers → found ≡ arrival_at f source m it.above row) e (h it.above) it.knows
-
+module _ {f : Forest Unit} {source : Bytes} {next : ℕ} where
   -- the row's unit is catalogued
-  pub brings_none : (numbers : Bytes → Option ℕ) (told : List Arrival) (all rest : List Row) (row : Row)
-      → (it : AreTold numbers told all (row ∷ rest)) → None ≡ arrival_at f source (next + length told) it.above row
-      → AreTold numbers told all rest
-  brings_none numbers told all rest row it e = record {
+  pub brings_none : {numbers : Bytes → Option ℕ} {told : List Arrival} {all rest : List Row} {row : Row}
+      → (it : AreTold f source next numbers told all (row ∷ rest))
+      → None ≡ arrival_at f source (next + length told) it.above row → AreTold f source next numbers told all rest
+  brings_none {told = told} {rest = rest} {row = row} it e = record {
     above = it.above;
     knows = it.knows;
-    are = it.are ∙ ap (λ (b : Bool). told ++ arrivals_from f source (next + length told) it.above (sorted b row rest)) (known (is_known f source row) e);
+    are = it.are ∙ ap (λ (b : Bool). told ++ arrivals_from f source (next + length told) it.above (sorted f source next b row rest)) (known (is_known f source row) e);
   }
     where
-      known : (b : Bool) → None ≡ cond b None (Some (brought_by told it.above row)) → b ≡ true
+      known : (b : Bool) → None ≡ cond b None (Some (brought_by f source next told it.above row)) → b ≡ true
       known true h = refl
       known false h = absurd (cc)
 
   -- it is new
-  pub brings_one : (numbers after : Bytes → Option ℕ) (told : List Arrival) (all rest : List Row) (row : Row) (one : Arrival)
-      → (it : AreTold numbers told all (row ∷ rest)) → Some one ≡ arrival_at f source (next + length told) it.above row
-      → ((q : Bytes) → after q ≡ cond (bytes_eq q row.legacy) (Some (next + length told)) (numbers q))
-      → AreTold after (told ++ one ∷ []) all rest
-  brings_one numbers after told all rest row one it e more =
+  pub brings_one : {numbers after : Bytes → Option ℕ} {told : List Arrival} {all rest : List Row} {row : Row} {one : Arrival} {n : ℕ}
+      → (it : AreTold f source next numbers told all (row ∷ rest))
+      → Some one ≡ arrival_at f source (next + length told) it.above row → n ≡ next + length told
+      → ((q : Bytes) → after q ≡ cond (bytes_eq q row.legacy) (Some n) (numbers q))
+      → AreTold f source next after (told ++ one ∷ []) all rest
+  brings_one {numbers = numbers} {told = told} {rest = rest} {row = row} {one = one} it e given kept =
       let so = brought (is_known f source row) e in
       let n = next + length told in
+      let more = λ (q : Bytes). kept q ∙ ap (λ m. cond (bytes_eq q row.legacy) (Some m) (numbers q)) given in
       let longer = length-append told (one ∷ []) in
       let up : n + 1 ≡ next + length (told ++ one ∷ []) = omega (arith, longer) in
       let down : next + length (told ++ one ∷ []) - 1 ≡ n = omega (arith, longer) in
@@ -60,14 +57,14 @@ module _ (f : Forest Unit) (source : Bytes) (next : ℕ) where
             ∙ (numbered legacy (bytes_eq legacy row.legacy)
             ∙ sym (ap (λ o. or_there o (parent_number f source n [] legacy)) (more legacy)));
         are =
-            it.are ∙ (ap (λ (b : Bool). told ++ arrivals_from f source n it.above (sorted b row rest)) so.0
+            it.are ∙ (ap (λ (b : Bool). told ++ arrivals_from f source n it.above (sorted f source next b row rest)) so.0
             ∙ (ap (λ (a : Arrival). told ++ (a ∷ arrivals_from f source (n + 1) (row ∷ it.above) (new_of f source rest))) (sym so.1)
             ∙ (sym (append_assoc told (one ∷ []) (arrivals_from f source (n + 1) (row ∷ it.above) (new_of f source rest)))
             ∙ ap (λ m. (told ++ one ∷ []) ++ arrivals_from f source m (row ∷ it.above) (new_of f source rest)) up)));
       }
     where
-      brought : (b : Bool) → Some one ≡ cond b None (Some (brought_by told it.above row))
-          → (b ≡ false) × (one ≡ brought_by told it.above row)
+      brought : (b : Bool) → Some one ≡ cond b None (Some (brought_by f source next told it.above row))
+          → (b ≡ false) × (one ≡ brought_by f source next told it.above row)
       brought true h = absurd (cc)
       brought false h = (refl, cc)
 
@@ -76,6 +73,21 @@ module _ (f : Forest Unit) (source : Bytes) (next : ℕ) where
       numbered legacy true = refl
       numbered legacy false = it.knows legacy
 
-  pub all_told : (numbers : Bytes → Option ℕ) (told : List Arrival) (all : List Row) → AreTold numbers told all []
-      → told ≡ arrivals_of f source next all
-  all_told numbers told all it = sym (it.are ∙ append-nil told)
+  -- all rows are behind
+  pub all_told : {numbers : Bytes → Option ℕ} {told : List Arrival} {all : List Row} (i : ℕ)
+      → AreTold f source next numbers told all (drop i all) → length all ≤ i → told ≡ arrivals_of f source next all
+  all_told {numbers = numbers} {told = told} {all = all} i here behind =
+      let it = subst (AreTold f source next numbers told all) (drop_all i all behind) here in
+      sym (it.are ∙ append-nil told)
+
+-- ---- the row at its turn, as it is told what it brings by the number that comes next
+
+pub arrival_here : {c : Catalogue} {source : Bytes} {rows : List Row} {known numbers : Bytes → Option ℕ} {next n : ℕ} {told : List Arrival} {found : Option Arrival} (i : ℕ) {row : Row}
+    → KnowsUnits c source rows known → i < length rows → row ≡ get_or rows i row → n ≡ next + length told
+    → AreTold c.forest source next numbers told rows (drop i rows)
+    → (known row.legacy ≡ number_there c source row.legacy → TellsParentOfNew c source known row → (above : List Row) → KnowsNumbers c.forest source n above numbers → found ≡ arrival_at c.forest source n above row)
+    → (it : AreTold c.forest source next numbers told rows (row ∷ drop (i + 1) rows)) × (found ≡ arrival_at c.forest source (next + length told) it.above row)
+arrival_here {c = c} {source = source} {rows = rows} {numbers = numbers} {next = next} {told = told} {found = found} i {row = row} knows low is given here brings =
+    let it = subst (AreTold c.forest source next numbers told rows) (drop_more rows i row low ∙ ap (λ (r : Row). r ∷ drop (i + 1) rows) (sym is)) here in
+    let so = row_told i knows low is in
+    (it, subst (λ m. KnowsNumbers c.forest source m it.above numbers → found ≡ arrival_at c.forest source m it.above row) given (brings so.0 so.1 it.above) it.knows)

@@ -10,11 +10,13 @@ use Rattle.office_core.specs.State.{State}
 use Rattle.office_core.specs.declared.command.Command.{Command}
 use Rattle.office_core.specs.declared.command.Command.TheVariants as command
 use Rattle.office_core.specs.declared.done.Done.{Done}
+use Rattle.office_core.specs.declared.done.Done.TheVariants as done
 use Rattle.state_encoding.specs.OfficeRows.{tables}
 use Rattle.refinement.proofs.Frames.{desk_kept}
 use Rattle.refinement.proofs.Tellings.{looked_crash}
 use Rattle.refinement.specs.AccessConditions.{RepresentsWhole}
 use Rattle.refinement.specs.CommandSteps.{CarriesOut, CarriesOutStep}
+use Rattle.access.proofs.Passing.{if_ok_with}
 use Rattle.access.specs.Gate.{gate_reply, unless_refused}
 use Rattle.csv_import.specs.PendingImport.{ReadsCatalogue}
 use Rattle.csv_import.specs.declared.row_entry.Outcome.{Outcome}
@@ -23,14 +25,14 @@ use Rattle.csv_import.specs.declared.row_plan.Planned.TheVariants as plans
 use Rattle.csv_import.proofs.Common.{Answers, AreGoodUnits, BadFile, Bytes, CanBePlaced, Catalogue, Counts, Database}
 use Rattle.csv_import.proofs.Common.{File, FitsIn, Forest, Full, Goes, HasCleanDisk, HasLegibleSettings}
 use Rattle.csv_import.proofs.Common.{HasNumberedUnits, HaveUnits, Held, IsAborted, IsOk, IsReady, IsSoundOffice}
-use Rattle.csv_import.proofs.Common.{KnowsUnits, LeavesUnchanged, OfficeRow, Reply, Represents, RepresentsEntering}
-use Rattle.csv_import.proofs.Common.{RepresentsLegible, RepresentsNumbered, RepresentsSettings, RepresentsState, Row}
-use Rattle.csv_import.proofs.Common.{StoreFault, Trees, Updates, Version, accepted, after, catalogue_after}
-use Rattle.csv_import.proofs.Common.{catalogue_trees, counts_of, cut_then, does_then, early, excused_then, file_of}
-use Rattle.csv_import.proofs.Common.{first_that_holds, gate, goes_then, has_room, if_ok_with, import_outcome}
+use Rattle.csv_import.proofs.Common.{KnowsUnits, LeavesUnchanged, OfficeRow, Remark, Reply, Represents}
+use Rattle.csv_import.proofs.Common.{RepresentsEntering, RepresentsLegible, RepresentsNumbered, RepresentsSettings}
+use Rattle.csv_import.proofs.Common.{RepresentsState, Row, StoreFault, Trees, Updates, Version, accepted, after}
+use Rattle.csv_import.proofs.Common.{catalogue_after, catalogue_trees, counts_of, cut_then, does_then, early}
+use Rattle.csv_import.proofs.Common.{excused_then, file_of, first_that_holds, gate, goes_then, has_room, import_outcome}
 use Rattle.csv_import.proofs.Common.{is_refused, is_source, le-ltb, ltb-false, most_containers, nat_lt, next_with_room}
 use Rattle.csv_import.proofs.Common.{number_there, office_of, office_settings, on_err_then, on_ok_then, plan_of}
-use Rattle.csv_import.proofs.Common.{refusal, refused, reply_after, result_of, state, when, ⊤}
+use Rattle.csv_import.proofs.Common.{refusal, refused, remarks, reply_after, result_of, state, when, ⊤}
 use Rattle.csv_import.proofs.Counting.{no_room_there, room_there}
 use Rattle.csv_import.proofs.Frames.{entering_of}
 use Rattle.csv_import.proofs.Refused.{faulty, fits_planned, full}
@@ -49,6 +51,18 @@ few_containers s counted few = ltb-false most_containers (length s.catalogue.con
 pub judged_few : (s : State) (made : Done) → length s.catalogue.containers ≤ most_containers
     → reply_after s made ≡ gate_reply s made
 judged_few s made few = ap (λ (b : Bool). cond b (Err Full) (gate_reply s made)) (le-ltb most_containers (length s.catalogue.containers) few)
+
+-- by the remarks and the translations that were told
+pub judged_by : (source : Bytes) (file : File) (counts : Counts) (s : State) {made : Reply} {marks : List Remark} {translations : ℕ}
+    → length s.catalogue.containers ≤ most_containers
+    → made ≡ gate_reply s (done.Import counts.changed counts.new marks counts.same translations)
+    → marks ≡ remarks s.catalogue.forest source file.rows → translations ≡ file.translations
+    → made ≡ reply_after s (import_outcome source file counts s)
+judged_by source file counts s {marks = marks} {translations = translations} few is remarked translated =
+    is
+    ∙ (ap (λ (l : List Remark). gate_reply s (done.Import counts.changed counts.new l counts.same translations)) remarked
+    ∙ (ap (λ k. gate_reply s (done.Import counts.changed counts.new (remarks s.catalogue.forest source file.rows) counts.same k)) translated
+    ∙ sym (judged_few s (import_outcome source file counts s) few)))
 
 -- the rows' units are there, once they are entered; the same rows and units may be told otherwise
 pub have_units : (source : Bytes) (file : File) (units : List ℕ) (s : State)
@@ -170,7 +184,7 @@ module _ {S : Type 0} (g : kept_in.Ghosts S) (places : Trees → Forest ℕ → 
         → CarriesOut places version (λ s. (today ≡ s.day) × (is_source source ≡ true) × FitsIn source file s × KnowsUnits s.catalogue source file.rows numbers × (next ≡ s.catalogue.next)) (command.Import source bytes) before c r
     imports_so answers =
         let asked = command.Import source bytes in
-        let still = λ (clean : HasCleanDisk c). early b c _ (looked_crash r b c answers.looks answers.aborts) clean in
+        let still = λ (clean : HasCleanDisk c). early (looked_crash r b c answers.looks answers.aborts) clean in
         record {
           steps = λ clean s sound so it.
               let named = so.1 in
@@ -186,11 +200,10 @@ module _ {S : Type 0} (g : kept_in.Ghosts S) (places : Trees → Forest ℕ → 
               (is has so.0 ∙ ap (reply_after t) (ap (λ (n : Counts). import_outcome source file n t) counts_are ∙ sym (told_is s source bytes file read sound named fits)))
               (subst (λ (db : Database). RepresentsState places version db t) (sym (looked.same clean)) shown))
               answers.looks (answers.answers clean tt t shown);
-          goes = on_ok_then r (LeavesUnchanged b c) (Goes before c) (λ looked. goes_then before b c come.0.goes looked.goes) answers.looks;
-          aborts = on_err_then r (IsAborted b c) (IsAborted before c) (λ cut. cut_then before b c come.0.goes.on cut) answers.aborts;
+          goes = on_ok_then r (LeavesUnchanged b c) (Goes before c) (λ looked. goes_then come.0.goes looked.goes) answers.looks;
+          aborts = on_err_then r (IsAborted b c) (IsAborted before c) (λ cut. cut_then come.0.goes.on cut) answers.aborts;
           faults = λ s sound so it.
-              excused_then before b c come.0.goes.on r answers.aborts
-              (λ at_b. answers.faults tt (now s source bytes file read sound so.1 so.2) (shown_now at_b s sound so it) tt (has_numbered at_b s sound so it));
+              excused_then _ come.0.goes.on r answers.aborts (λ at_b. answers.faults tt (now s source bytes file read sound so.1 so.2) (shown_now at_b s sound so it) tt (has_numbered at_b s sound so it));
         }
 
 -- the same, where the rows are told otherwise

@@ -8,16 +8,17 @@ use Rattle.catalogue_core.proofs.EachRow.{length-numbered}
 use Rattle.catalogue_core.proofs.RowByRow.{IsApart, StandsSo, depth_same, further, known_more, known_number}
 use Rattle.catalogue_core.proofs.RowByRow.{known_stands, new_more, new_stands, no_such_number, some_depth}
 use Rattle.catalogue_core.proofs.RowsMerged.{begins}
+use Rattle.catalogue_core.specs.Bounds.{IsKept}
 use Rattle.catalogue_statements.proofs.Statuses.{each_each}
 use Rattle.tree_places.proofs.Joiners.{size_added}
 use Rattle.tree_places.specs.Arrivals.{MayJoin}
-use Rattle.csv_import.proofs.Common.{AllByRecursion, AreGoodUnits, AreToCome, Arrival, Bytes, Catalogue, Forest}
-use Rattle.csv_import.proofs.Common.{HasDistinctIds, Row, Unit, add, add-each, all_true, and_then, arrival_of}
+use Rattle.csv_import.proofs.Common.{AllByRecursion, AreGoodUnits, AreToCome, Arrival, BringUnits, Bytes, Catalogue}
+use Rattle.csv_import.proofs.Common.{Forest, HasDistinctIds, Row, Unit, add, add-each, all_true, and_then, arrival_of}
 use Rattle.csv_import.proofs.Common.{arrivals_from, arrivals_of, catalogue_after, cause_at, depth_under, each, find}
-use Rattle.csv_import.proofs.Common.{has, has-each, has_id, has_place, has_place-each, is_from, merged, new_at, new_of}
-use Rattle.csv_import.proofs.Common.{new_unit, nodes, nodes-each, none_merged, number_there, numbered_from, onto}
-use Rattle.csv_import.proofs.Common.{onto-more, option_and_then, or_as_before, parent_number, size, size-each}
-use Rattle.csv_import.proofs.Common.{some_found, with_new, with_row_at, with_rows, with_values}
+use Rattle.csv_import.proofs.Common.{has, has-each, has_id, has_place, has_place-each, is_from, kept_within, merged}
+use Rattle.csv_import.proofs.Common.{new_at, new_of, new_unit, nodes, nodes-each, none_merged, number_there}
+use Rattle.csv_import.proofs.Common.{numbered_from, onto, onto-more, option_and_then, or_as_before, parent_number, size}
+use Rattle.csv_import.proofs.Common.{size-each, some_found, with_new, with_row_at, with_rows, with_values}
 use Rattle.csv_import.proofs.OneRow.{entered_new, may_come, none_against}
 use Rattle.csv_import.proofs.RowsToCome.{OneEntered, one_entered}
 
@@ -110,14 +111,14 @@ module _ (c : Catalogue) (source : Bytes) (good : AreGoodUnits c) where
           subst (λ f. Joins (coming nb (row ∷ rest)) f (ids t.forest)) stay (subst (λ l. Joins l (ids (so_far (before ++ row ∷ []) nb).forest) (ids t.forest)) (sym none_new) more)
       at None found later =
           let none = no_such_number c source good before nb row s far.0 found in
-          let comes = may_come source row n (so_far before nb) it.turn none in
+          let comes = may_come it.turn none in
           let new = new_at (so_far before nb) source row in
           let made : it.after ≡ with_new source row (so_far before nb) =
           sym (ap (λ r. or_as_before (so_far before nb) (and_then (with_rows source []) r)) it.placed)
-          ∙ entered_new source row n (so_far before nb) it.turn none in
+          ∙ entered_new it.turn none in
           let is : it.after ≡ so_far (before ++ row ∷ []) (nb ++ row ∷ []) =
           made ∙ new_more c source good before nb row s far.0 found in
-          let deep = some_depth (depth_under c.forest source row.parent (onto [] nb)) (sym (ap cause_at (depth_same c source good before nb row s far.0 found row.parent)) ∙ none_against source row n (so_far before nb) it.turn none) in
+          let deep = some_depth (depth_under c.forest source row.parent (onto [] nb)) (sym (ap cause_at (depth_same c source good before nb row s far.0 found row.parent)) ∙ none_against it.turn none) in
           let more = later (before ++ row ∷ []) (nb ++ row ∷ []) (n + cond (Rattle.catalogue_core.specs.Intake.is_new (so_far before nb).forest source row) 1 0) t (new_stands c source good before nb row s far.0 found deep.0 deep.1) others
           (subst (AreToCome source rest (n + cond (Rattle.catalogue_core.specs.Intake.is_new (so_far before nb).forest source row) 1 0)) is it.rest) (ap (with_rows source rest) (sym is) ∙ left) in
           let first : coming nb (row ∷ rest) ≡ arrival_of new ∷ coming (nb ++ row ∷ []) rest =
@@ -169,3 +170,16 @@ may_join source rows next c it =
     let is = ap (λ r. size (or_as_before c r).forest) it.room.placed in
     let few = it.room.few in
     (all.can, omega (arith, many, same, is, few))
+
+-- the units that rows bring
+module _ {source : Bytes} {rows : List Row} {numbers : Bytes → Option ℕ} {next : ℕ} {arrivals : List Arrival} {c : Catalogue} (bring : BringUnits source rows numbers next arrivals c) where
+  pub brought_join : MayJoin arrivals (ids c.forest)
+  brought_join = subst (λ l. MayJoin l (ids c.forest)) (sym bring.units) (may_join source rows next c bring.come)
+
+  pub brought_stand : added arrivals (ids c.forest) ≡ ids (catalogue_after source rows c).forest
+  brought_stand = ap (λ l. added l (ids c.forest)) bring.units ∙ (come_to_stand source rows next c bring.come).ends
+
+  pub brought_kept : IsKept c
+  brought_kept =
+      let few = bring.come.few_boxes in
+      kept_within c bring.come.units (omega (arith, few)) bring.come.days bring.come.legible

@@ -9,8 +9,8 @@ pub use Rattle.std.specs.BTreeMap.{get_by_text}
 pub use Rattle.std.specs.BTreeSet.{contains_text}
 pub use Rattle.std.specs.List.{AllByRecursion, cons_option, enumerate_from, flat_map, list_all, list_any}
 pub use Rattle.std.specs.Option.{option_eq, option_map_or, option_to_list}
-pub use Rattle.std.specs.Prelude.{IfOk, IsErr, IsErrAnd, IsOk, count_by, filter, filter_map, find, is_some, nat_le}
-pub use Rattle.std.specs.Prelude.{nat_lt, option_and_then, option_map, slice_get, unwrap_or, ⊤, ◌==◌}
+pub use Rattle.std.specs.Prelude.{IfOk, IfSome, IsErr, IsErrAnd, IsOk, count_by, filter, filter_map, find, is_some}
+pub use Rattle.std.specs.Prelude.{nat_le, nat_lt, option_and_then, option_map, slice_get, unwrap_or, ⊤, ◌==◌}
 pub use Rattle.std.specs.Str.{bytes_eq}
 pub use Rattle.sqlite.specs.Effect.{Database}
 pub use Rattle.sqlite.specs.Held.{Held, state}
@@ -28,7 +28,7 @@ pub use Rattle.tree_core.specs.Forest.{Empty, Forest, HasDistinctIds, Node, add,
 pub use Rattle.tree_core.specs.Forest.{path, put_below, size}
 pub use Rattle.tree_core.specs.Tops.{last_but_one, right_above}
 pub use Rattle.tree_core.specs.declared.arrivals.Arrival.{Arrival}
-pub use Rattle.atom_csv.specs.FileContents.{file_of, is_long, line_fault, lines_below, row_number, row_of, row_told}
+pub use Rattle.atom_csv.specs.FileContents.{file_of, is_long, line_fault, lines_below, row_number, row_of}
 pub use Rattle.atom_csv.specs.declared.file.File.{File}
 pub use Rattle.atom_csv.specs.declared.file.Row.{Row}
 pub use Rattle.desk_core.specs.Refusals.{first_that_holds, unless, when}
@@ -60,18 +60,19 @@ pub use Rattle.catalogue_core.specs.Intake.{Taken, catalogued_unit, is_changed, 
 pub use Rattle.catalogue_core.specs.Intake.{take_rows, with_file}
 pub use Rattle.catalogue_core.specs.Sources.{is_source}
 pub use Rattle.catalogue_core.specs.Units.{Unit, has_id, is_from}
-pub use Rattle.office_tables.proofs.CallEnds.{excused_then, makes_not, same_fault, tells_cut}
+pub use Rattle.office_tables.proofs.CallEnds.{excused_then, makes_not, makes_well, same_fault, tells_cut, tells_well}
 pub use Rattle.office_tables.proofs.Calls.{cut_after, cut_then, early, goes_nowhere, goes_then, looks_nowhere}
 pub use Rattle.office_tables.proofs.Calls.{looks_then, on_err_then, on_ok_then}
 pub use Rattle.office_tables.proofs.StoreCalls.{as_answers, as_updates}
 pub use Rattle.office_tables.proofs.Touching.{nothing_touched, touched_again, touched_then, touched_wider}
 pub use Rattle.office_tables.specs.Calls.{Answers, Updates}
-pub use Rattle.office_tables.specs.Step.{Goes, IsAborted, LeavesUnchanged, OnlyTouches}
+pub use Rattle.office_tables.specs.Step.{Goes, HasRows, IsAborted, LeavesUnchanged, OnlyTouches}
 pub use Rattle.office_tables.specs.Versions.{Version}
 pub use Rattle.office_tables.specs.declared.fault.StoreFault.{StoreFault}
 pub use Rattle.catalogue_statements.specs.Representation.{Represents, RepresentsCatalogue, RepresentsNumbered}
 pub use Rattle.catalogue_statements.specs.Representation.{RepresentsOffice, RepresentsSettings, RepresentsUnits}
 pub use Rattle.catalogue_statements.specs.Representation.{catalogue_trees, described_trees}
+pub use Rattle.catalogue_statements.specs.Rows.{cells_of_unit, counted_from, office_row}
 pub use Rattle.catalogue_statements.specs.declared.office.OfficeRow.{OfficeRow}
 pub use Rattle.office_core.proofs.KeptOffices.{office_settings}
 pub use Rattle.office_core.specs.ImportReply.{bad_file, is_level_above, lacks_essential, remark_if, remark_on, remarks}
@@ -80,11 +81,9 @@ pub use Rattle.office_core.specs.Rules.{Reply, after, gate, intake_of, refusal, 
 pub use Rattle.office_core.specs.SoundOffice.{AreTexts, HasLegibleSettings, IsSoundOffice}
 pub use Rattle.office_core.specs.State.{is_container}
 pub use Rattle.office_core.specs.declared.done.Remark.{Remark}
-pub use Rattle.office_core.specs.declared.done.Remark.TheVariants.{LacksEssential, LevelTooHigh}
 pub use Rattle.refinement.proofs.Doings.{accepted, catalogue_passed, does_pass, does_then, is_refused, makes_passed}
 pub use Rattle.refinement.proofs.Doings.{makes_passed_later, refused, tells_full, tells_passed, tells_passed_later}
 pub use Rattle.refinement.specs.Representation.{RepresentsState, office_of}
-pub use Rattle.access.proofs.Passing.{if_ok_then, if_ok_with}
 pub use Rattle.csv_import.specs.AncestorPaths.{ComeTo, IsWay, above_way, numbers_of, path_at}
 pub use Rattle.csv_import.specs.Arrivals.{BringUnits, IsReady, KnowsNumbers, arrival_at, arrival_of, arrivals_from}
 pub use Rattle.csv_import.specs.Arrivals.{arrivals_of}
@@ -97,6 +96,5 @@ pub use Rattle.csv_import.specs.Remarks.{number_above}
 pub use Rattle.csv_import.specs.RowEntry.{CanEnter, RepresentsEntering, RepresentsLegible, boxes_named, catalogue_after}
 pub use Rattle.csv_import.specs.RowEntry.{counts_of, or_as_before}
 pub use Rattle.csv_import.specs.RowPlan.{KnowsDepths, as_plan, at_depth, new_of, or_there, placing_of, plan_of}
-pub use Rattle.csv_import.specs.Turns.{AreToCome, IsTurn, MayChange, MayCome, count_entry, entry_of}
-pub use Rattle.csv_import.specs.declared.ancestor_depths.Way.{Way}
+pub use Rattle.csv_import.specs.Turns.{AreToCome, IsTurn, IsTurnOf, MayChange, MayCome, count_entry, entry_of}
 pub use Rattle.csv_import.specs.declared.row_entry.Counts.{Counts}

@@ -1,12 +1,14 @@
 -- How many units and containers there are, as SQL counts them.
-use Rattle.std.proofs.Common.{◌≡◌, ℕ, ◌+◌, ◌<◌, ◌≤◌, Bool, true, false, cond, ◌&&◌, length, Some, None, refl, sym, ap}
-use Rattle.std.proofs.Common.{ap₂, ◌∙◌, inl, inr, arith}
+use Rattle.std.proofs.Common.{◌≡◌, ℕ, ◌+◌, ◌<◌, ◌≤◌, Bool, true, false, cond, ◌&&◌, List, length, map, Some, None, refl}
+use Rattle.std.proofs.Common.{sym, ap, ap₂, ◌∙◌, inl, inr, arith}
 use Rattle.catalogue_core.proofs.NodeLemmas.{length-nodes}
 use Rattle.office_tables.specs.RowCounts.{cap}
-use Rattle.csv_import.proofs.Common.{Catalogue, Forest, RepresentsUnits, Trees, Unit, and_parts, cases_Bool, has_room}
-use Rattle.csv_import.proofs.Common.{le-leb, le-ltb, leb-false, leb-true, length_permutation, lt-leb, lt-ltb, ltb-false}
-use Rattle.csv_import.proofs.Common.{ltb-true, most_containers, most_unit_numbers, most_units, nat_le, nat_lt}
-use Rattle.csv_import.proofs.Common.{next_with_room, nodes, size}
+use Rattle.office_tables.specs.Schema as tables
+use Rattle.csv_import.proofs.Common.{Catalogue, Database, Forest, OfficeRow, RepresentsSettings, RepresentsUnits, Trees}
+use Rattle.csv_import.proofs.Common.{Unit, Version, and_parts, cases_Bool, cells_of_unit, has_room, le-leb, le-ltb}
+use Rattle.csv_import.proofs.Common.{leb-false, leb-true, length_permutation, lt-leb, lt-ltb, ltb-false, ltb-true}
+use Rattle.csv_import.proofs.Common.{most_containers, most_unit_numbers, most_units, nat_le, nat_lt, next_with_room}
+use Rattle.csv_import.proofs.Common.{nodes, size, ⊤}
 
 -- the count has an end, but far above what an office may have
 pub many_counted : (n : ℕ) → nat_lt most_containers (cap n) ≡ nat_lt most_containers n
@@ -52,6 +54,16 @@ no_room_there new c e = at (has_room new c) e
 pub units_counted : {db : Trees} {f : Forest Unit} {units : ℕ} (at : RepresentsUnits db f)
     → units ≡ cap (length at.units) → units ≡ cap (size f)
 units_counted {f = f} at is = is ∙ ap cap (length_permutation (nodes f) at.units at.are ∙ length-nodes f)
+
+-- the same by the settings that were read and the units that were counted after it
+pub next_told : {places : Trees → Forest ℕ → Type 0} {version : Version} {db later : Database} {c : Catalogue} {o office : OfficeRow} (new units next : ℕ) {space room : Bool}
+    → RepresentsSettings places version db c o → office ≡ o → next ≡ office.next_unit → later ≡ db
+    → ((us : List Unit) → later.trees tables.unit.tree ≡ map cells_of_unit us → ⊤ → units ≡ cap (length us))
+    → space ≡ (nat_le (units + new) most_units && nat_le (next + new) (most_unit_numbers + 1)) → space ≡ room
+    → cond room (Some next) None ≡ next_with_room new c
+next_told {c = c} new units next {room = room} it read told same counted space here =
+    let at = it.catalogue.units in
+    next_if new c units next (units_counted at (counted at.units (ap (λ (db : Database). db.trees tables.unit.tree) same ∙ at.rows) tt)) (told ∙ (ap (λ (row : OfficeRow). row.next_unit) read ∙ it.catalogue.next)) room (sym space ∙ here)
 
 -- the next number is within the limit, where there is room
 pub number_within : (units next new : ℕ)

@@ -18,15 +18,15 @@ its_number source row next c turn = at (number_there c source row.legacy) refl
     at : (r : Option ℕ) → number_there c source row.legacy ≡ r
         → number_there (catalogue_after source (row ∷ []) c) source row.legacy ≡ Some (unwrap_or (number_there c source row.legacy) next)
     at (Some id) e =
-        ap (λ d. number_there d source row.legacy) (entered_known source row next c turn id e)
+        ap (λ d. number_there d source row.legacy) (entered_known turn e)
         ∙ (valued_still id row.values c source row.legacy ∙ (e ∙ sym (ap (λ o. Some (unwrap_or o next)) e)))
     at None e =
         let unit = new_unit source (new_at c source row) in
         let it : is_from source row.legacy unit ≡ true =
         and_from (bytes_eq source source) (bytes_eq row.legacy row.legacy) (same_text source) (same_text row.legacy) in
         let none = none_found (is_from source row.legacy) (nodes c.forest) (none_there c source row.legacy e) in
-        let placed = placed_added (is_from source row.legacy) unit it (new_at c source row).parent c.forest none (may_come source row next c turn e).place.place in
-        ap (λ d. number_there d source row.legacy) (entered_new source row next c turn e)
+        let placed = placed_added (is_from source row.legacy) unit it (new_at c source row).parent c.forest none (may_come turn e).place.place in
+        ap (λ d. number_there d source row.legacy) (entered_new turn e)
         ∙ (ap (option_map (λ (u : Unit). u.id)) placed.found ∙ (ap Some (sym turn.number) ∙ sym (ap (λ o. Some (unwrap_or o next)) e)))
 
 -- the first row is entered, and then the others

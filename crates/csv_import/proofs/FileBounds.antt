@@ -7,14 +7,14 @@ use Rattle.std.proofs.lemmas.List.Sums.{length-filter}
 use Rattle.atom_csv.specs.Columns.{columns}
 use Rattle.atom_csv.specs.Entries.{entries, trimmed_entry, parts_of}
 use Rattle.atom_csv.specs.Fields.{Fields, value}
+use Rattle.atom_csv.specs.FileContents.{row_told}
 use Rattle.atom_csv.specs.Values.{boxes_of, is_named_box, triple, triples}
 use Rattle.atom_csv.specs.declared.column.Column.TheVariants as column
 use Rattle.catalogue_core.proofs.GoodRows.{any_at}
 use Rattle.csv_import.proofs.Common.{AllByRecursion, BoxKey, Bytes, File, Row, answers, boxes_named, cons_option}
 use Rattle.csv_import.proofs.Common.{count_by, distinct, enumerate_from, file_of, filter, filter_map, flat_map, is_long}
 use Rattle.csv_import.proofs.Common.{is_same_box, length-map, line_at, line_fault, lines_below, ltb-false, most_bytes}
-use Rattle.csv_import.proofs.Common.{most_rows, nat_lt, no_fault_cons, read_from, row_number, row_of, row_told}
-use Rattle.csv_import.proofs.Common.{slice_get, ◌==◌}
+use Rattle.csv_import.proofs.Common.{most_rows, nat_lt, no_fault_cons, read_from, row_number, row_of, slice_get, ◌==◌}
 
 -- ---- one row
 

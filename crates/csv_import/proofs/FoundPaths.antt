@@ -1,10 +1,10 @@
 -- The path of the unit that a source has under a number.
-use Rattle.std.proofs.Common.{◌≡◌, ℕ, suc, ◌+◌, Bool, true, false, not, cond, ◌||◌, List, [], ◌∷◌, length, map, Some}
-use Rattle.std.proofs.Common.{None, refl, sym, ap, ap₂, ◌∙◌, nat_eq, arith}
+use Rattle.std.proofs.Common.{◌≡◌, ℕ, suc, ◌+◌, Bool, true, false, not, cond, ◌||◌, List, [], ◌∷◌, length, map, Option}
+use Rattle.std.proofs.Common.{Some, None, refl, sym, ap, ap₂, ◌∙◌, nat_eq, arith}
 use Rattle.refinement.proofs.Paths.{path_there}
-use Rattle.csv_import.proofs.Common.{AllByRecursion, AreGoodUnits, Bytes, Catalogue, Empty, Forest, Node, Unit}
-use Rattle.csv_import.proofs.Common.{all_split, depth_under, each, eqb-true, find, found_numbers, has, has_id, is_from}
-use Rattle.csv_import.proofs.Common.{list_any, nodes, path, path-each}
+use Rattle.csv_import.proofs.Common.{AllByRecursion, AreGoodUnits, Bytes, Catalogue, Empty, Forest, KnowsDepths, Node}
+use Rattle.csv_import.proofs.Common.{Row, Unit, all_split, depth_under, each, eqb-true, find, found_numbers, has}
+use Rattle.csv_import.proofs.Common.{has_id, is_from, length-map, list_any, nodes, or_there, path, path-each}
 
 -- ---- paths
 
@@ -55,3 +55,17 @@ depth_found f source legacy n b long zero =
     swapped : (b : Bool) → cond (not b) (Some (n + 1)) None ≡ cond b None (Some (n + 1))
     swapped true = refl
     swapped false = refl
+
+-- the same by the numbers on the path, as they were read
+pub read_depth : (f : Forest Unit) (source legacy : Bytes) (n : ℕ) (b : Bool) {ids : List ℕ}
+    → ids ≡ map (λ (u : Unit). u.id) (path (is_from source legacy) f) → length ids ≡ n → nat_eq n 0 ≡ b
+    → depth_under f source (Some legacy) [] ≡ cond b None (Some (n + 1))
+read_depth f source legacy n b are long zero =
+    depth_found f source legacy n b (sym (length-map (path (is_from source legacy) f) (λ (u : Unit). u.id)) ∙ (sym (ap length are) ∙ long)) zero
+
+-- how deep a row lies whose parent is none of the new rows above it
+pub depth_here : (f : Forest Unit) (source p : Bytes) (above : List Row) (below : Bytes → Option ℕ) {o : Option Bytes} {depth : Option ℕ}
+    → KnowsDepths f source above below → below p ≡ None → depth_under f source (Some p) [] ≡ depth → o ≡ Some p
+    → depth ≡ depth_under f source o above
+depth_here f source p above below knows none deep is =
+    sym (ap (λ (q : Option Bytes). depth_under f source q above) is ∙ (knows p ∙ (ap (λ (o : Option ℕ). or_there o (depth_under f source (Some p) [])) none ∙ deep)))

@@ -1,13 +1,20 @@
 -- The catalogue's tables beside the places: what they show as the office's row and the next number change by themselves.
-use Rattle.std.proofs.Common.{◌≡◌, ℕ, true, not, List, Option, None, Result, OnOk, refl, sym, subst, ◌∙◌}
+use Rattle.std.proofs.Common.{◌≡◌, ℕ, true, not, List, [], ◌∷◌, Option, None, Result, Ok, OnOk, refl, sym, subst, ◌∙◌}
 use Rattle.sqlite_trees.specs.declared.store.Store as store
 use Rattle.catalogue_core.specs.Bounds.{IsKept}
+use Rattle.office_tables.specs.Schema as tables
+use Rattle.catalogue_statements.specs.Values.{RepresentsValues}
 use Rattle.catalogue_store.specs.ImportEntries.{with_entered}
+use Rattle.catalogue_store.specs.UnitValues.{values_of_unit}
+use Rattle.catalogue_store.specs.declared.unit_values.UnitValues.{UnitValues}
 use Rattle.refinement.proofs.Frames.{are_apart, untouched}
-use Rattle.csv_import.proofs.Common.{AreWhole, Bytes, Catalogue, Database, HasPlaceFor, Held, IsNew, KnowsItsContainers}
-use Rattle.csv_import.proofs.Common.{MayChange, MayCome, MayDescribe, OfficeRow, OnlyTouches, RepresentsCatalogue}
-use Rattle.csv_import.proofs.Common.{RepresentsEntering, RepresentsOffice, Row, StoreFault, Unit, Updates, Values}
-use Rattle.csv_import.proofs.Common.{Version, described_trees, new_at, state, with_new, with_unit, with_values, ⊤}
+use Rattle.csv_import.proofs.Common.{Answers, AreWhole, Bytes, Catalogue, Database, Forest, HasCleanDisk, HasPlaceFor}
+use Rattle.csv_import.proofs.Common.{HasRows, Held, IsNew, KnowsItsContainers, MayChange, MayCome, MayDescribe}
+use Rattle.csv_import.proofs.Common.{OfficeRow, OnlyTouches, RepresentsCatalogue, RepresentsEntering}
+use Rattle.csv_import.proofs.Common.{RepresentsNumbered, RepresentsOffice, Row, StoreFault, Trees, Unit, Updates}
+use Rattle.csv_import.proofs.Common.{Values, Version, all_places, catalogue_trees, described_trees, each, new_at}
+use Rattle.csv_import.proofs.Common.{office_row, state, touched_then, touched_wider, with_new, with_unit, with_values}
+use Rattle.csv_import.proofs.Common.{⊤}
 use Rattle.csv_import.proofs.OneRow.{unit_comes}
 
 -- the catalogue with another number as the next
@@ -59,6 +66,35 @@ module _ (old new : Database) (touched : List ℕ) (only : OnlyTouches touched o
         };
       }
 
+-- the tables before, where the next number is the catalogue's
+abbrev pub counted : OfficeRow → Catalogue → OfficeRow
+counted o c = record o { next_unit = c.next }
+
+-- the places are written first
+pub placed_first : {places : Trees → Forest ℕ → Type 0} {version : Version} {old : Database} (new : Database) (o : OfficeRow) {c : Catalogue}
+    → RepresentsNumbered places version old o c → OnlyTouches (tables.link.tree ∷ []) old new → new.schema ≡ old.schema
+    → RepresentsEntering version new (counted o c) c
+placed_first {version = version} {old = old} new o {c = c} it only schema =
+    described_kept old new (tables.link.tree ∷ []) only refl schema version (counted o c) (counted o c) c c.next (only tables.office.tree refl refl ∙ it.catalogue.office) refl it.catalogue
+
+-- and the next number last
+pub counted_last : {places : Trees → Forest ℕ → Type 0} {version : Version} (old new : Database) (o : OfficeRow) (c d : Catalogue) {next : ℕ}
+    → RepresentsEntering version old (counted o c) d
+    → HasRows tables.office.tree (office_row version (record o { next_unit = next }) ∷ []) old new
+    → new.schema ≡ old.schema → next ≡ d.next → places new.trees (each (λ (u : Unit). u.id) d.forest)
+    → RepresentsNumbered places version new o d
+counted_last {version = version} old new o c d it wrote schema number stand = record {
+  catalogue = described_kept old new (tables.office.tree ∷ []) wrote.only refl schema version (counted o c) (counted o d) (at_next c.next d) d.next (subst (λ n. new.trees tables.office.tree ≡ office_row version (record o { next_unit = n }) ∷ []) number wrote.are) refl it;
+  shown = stand;
+}
+
+-- so only the catalogue's tables are touched
+pub all_touched : (a b c d : Database) → OnlyTouches (tables.link.tree ∷ []) a b → OnlyTouches described_trees b c
+    → OnlyTouches (tables.office.tree ∷ []) c d → OnlyTouches catalogue_trees a d
+all_touched a b c d placed entered counted_so =
+    touched_wider (tables.link.tree ∷ tables.unit.tree ∷ tables.element.tree ∷ tables.container.tree ∷ tables.housing.tree ∷ tables.office.tree ∷ []) catalogue_trees a d refl
+    (touched_then (tables.link.tree ∷ described_trees) (tables.office.tree ∷ []) a c d (touched_then (tables.link.tree ∷ []) described_trees a b c placed entered) counted_so)
+
 -- a call on the catalogue's tables while rows are entered
 pub makes_entering : {S X : Type 0} (g : store.Ghosts S) (version : Version) (kept may kept_then may_then : Catalogue → Type 0) (made made_then : Catalogue → Catalogue) (touched : List ℕ) (before after : Held S) (r : Result X StoreFault)
     → ((n : ℕ) (c : Catalogue) → may c → kept_then (at_next n c) × may_then (at_next n c))
@@ -83,6 +119,15 @@ pub makes_valued : {S X : Type 0} {g : store.Ghosts S} {version : Version} {befo
 makes_valued {g = g} {version = version} {before = before} {after = after} {r = r} unit values it =
     makes_entering g version (λ _. ⊤) (MayChange unit values) (λ c. IsKept c × AreWhole values) (MayDescribe unit) (with_values unit values) (with_values unit values) described_trees before after r
     (λ n c allowed. ((kept_at n c allowed.kept, allowed.whole), describes_at n unit c allowed.there)) (λ n c allowed. refl) it
+
+-- its values are read
+pub values_told : {S : Type 0} {g : store.Ghosts S} {version : Version} {before after : Held S} {found : Option UnitValues} {unit : ℕ} {values : Values} {o : OfficeRow} {c : Catalogue}
+    → MayChange unit values c
+    → Answers g RepresentsValues before after (Ok found) KnowsItsContainers IsKept (λ _ c found. found ≡ values_of_unit unit c)
+    → HasCleanDisk (state g after) → RepresentsEntering version (state g before).now o c
+    → found ≡ values_of_unit unit c
+values_told {version = version} {o = o} {c = c} may told clean it =
+    told.answers clean o (at_next o.next_unit c) (record { version = version; catalogue = it; places = all_places c may.units })
 
 -- the unit of a row, by the number that it gets
 abbrev pub unit_at : Bytes → Row → ℕ → Unit

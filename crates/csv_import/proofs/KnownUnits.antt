@@ -1,14 +1,18 @@
 -- The units of a file's rows and their parents, known by their numbers in the source, and known still as rows are entered.
-use Rattle.std.proofs.Common.{◌≡◌, ℕ, Bool, true, false, cond, ◌&&◌, ◌||◌, ◌<◌, ◌+◌, length, get_or, List, [], ◌∷◌}
-use Rattle.std.proofs.Common.{Option, Some, None, refl, sym, ap, ◌∙◌, subst}
-use Rattle.std.specs.Prelude.{IfSome, drop}
+use Rattle.std.proofs.Common.{◌≡◌, ℕ, Bool, true, false, not, cond, ◌&&◌, ◌||◌, ◌<◌, ◌≤◌, ◌+◌, ◌++◌, length, get_or}
+use Rattle.std.proofs.Common.{List, [], ◌∷◌, Option, Some, None, append_assoc, arith, refl, sym, ap, ◌∙◌, subst}
+use Rattle.std.specs.Prelude.{drop, take}
 use Rattle.catalogue_core.proofs.EachOf.{none_found}
-use Rattle.csv_import.proofs.Common.{AllByRecursion, AreToCome, Bytes, Catalogue, IsAsked, IsTurn, KnowsAsked}
-use Rattle.csv_import.proofs.Common.{KnowsUnits, Row, TellsParentOfNew, TellsUnits, Unit, Values, alike_each}
-use Rattle.csv_import.proofs.Common.{all-get_or, all_so, bytes_eq, catalogue_after, drop_more, false≢true, find, has_id}
+use Rattle.csv_import.specs.declared.row_entry.Entry.{Entry}
+use Rattle.csv_import.proofs.Common.{AllByRecursion, AreToCome, Bytes, Catalogue, Counts, IfSome, IsAsked, IsTurn}
+use Rattle.csv_import.proofs.Common.{IsTurnOf, KnowsAsked, KnowsUnits, Row, TellsParentOfNew, TellsUnits, Unit, Values}
+use Rattle.csv_import.proofs.Common.{alike_each, all-get_or, all_append, all_so, bytes_eq, catalogue_after}
+use Rattle.csv_import.proofs.Common.{catalogued_unit, count_entry, drop_more, entry_of, false≢true, find, has_id}
 use Rattle.csv_import.proofs.Common.{is_from, is_known, is_some, new_at, new_unit, nodes, number_there, one_text}
-use Rattle.csv_import.proofs.Common.{option_map, same_added, some_found, with_new, with_values}
+use Rattle.csv_import.proofs.Common.{option_map, same_added, some_found, take_all, take_more, units_from, unwrap_or}
+use Rattle.csv_import.proofs.Common.{with_new, with_values}
 use Rattle.csv_import.proofs.OneRow.{entered_known, entered_new}
+use Rattle.csv_import.proofs.RowsToCome.{AllCome, HaveCome, all_come, at_end, from_here, next_comes, none_come}
 use Rattle.csv_import.proofs.RowsToCome.{one_entered}
 
 -- a unit is catalogued where it has a number
@@ -29,26 +33,36 @@ pub none_known : (o : Option ℕ) → is_some o ≡ false → o ≡ None
 none_known None e = refl
 none_known (Some id) e = absurd (false≢true (sym e))
 
--- what is told of the row at this index
-pub told_at : (c : Catalogue) (source : Bytes) (rows : List Row) (numbers : Bytes → Option ℕ) (i : ℕ) (row : Row)
-    → i < length rows → get_or rows i row ≡ row → TellsUnits c source rows numbers
-    → numbers row.legacy ≡ number_there c source row.legacy
-told_at c source rows numbers i row low is told =
-    subst (λ (r : Row). numbers r.legacy ≡ number_there c source r.legacy) is (all-get_or (λ (r : Row). numbers r.legacy ≡ number_there c source r.legacy) rows i row told low)
+-- a row by the number that is kept for it
+module _ (c : Catalogue) (source : Bytes) (row : Row) {kept : Option ℕ} {some : Bool} (is : kept ≡ number_there c source row.legacy) (told : some ≡ is_some kept) where
+  pub known_here : {b : Bool} → some ≡ b → is_known c.forest source row ≡ b
+  known_here here = sym (is_known_by c source row) ∙ (ap is_some (sym is) ∙ (sym told ∙ here))
 
--- and of those after it
+  pub new_here : some ≡ false → number_there c source row.legacy ≡ None
+  new_here here = none_known (number_there c source row.legacy) (ap is_some (sym is) ∙ (sym told ∙ here))
+
+-- the parent that a row names
+pub parent_here : (c : Catalogue) (source : Bytes) (numbers : Bytes → Option ℕ) {o : Option Bytes} {p : Bytes}
+    → o ≡ Some p → IfSome o (λ parent. numbers parent ≡ number_there c source parent)
+    → numbers p ≡ number_there c source p
+parent_here c source numbers is told =
+    subst (λ o. IfSome o (λ parent. numbers parent ≡ number_there c source parent)) is told
+
+-- what is told of the row at this index, and of the parent of a new one
+pub row_told : {c : Catalogue} {source : Bytes} {rows : List Row} {numbers : Bytes → Option ℕ} (i : ℕ) {row : Row}
+    → KnowsUnits c source rows numbers → i < length rows → row ≡ get_or rows i row
+    → (numbers row.legacy ≡ number_there c source row.legacy) × TellsParentOfNew c source numbers row
+row_told {c = c} {source = source} {rows = rows} {numbers = numbers} i {row = row} knows low is = (
+  subst (λ (r : Row). numbers r.legacy ≡ number_there c source r.legacy) (sym is) (all-get_or (λ (r : Row). numbers r.legacy ≡ number_there c source r.legacy) rows i row knows.each low),
+  subst (TellsParentOfNew c source numbers) (sym is) (all-get_or (TellsParentOfNew c source numbers) rows i row knows.parents low),
+)
+
+-- and of the rows after it
 pub told_here : (c : Catalogue) (source : Bytes) (rows : List Row) (numbers : Bytes → Option ℕ) (i : ℕ) (row : Row)
     → i < length rows → get_or rows i row ≡ row → TellsUnits c source (drop i rows) numbers
     → (numbers row.legacy ≡ number_there c source row.legacy) × TellsUnits c source (drop (i + 1) rows) numbers
 told_here c source rows numbers i row low is told =
     subst (λ rest. TellsUnits c source rest numbers) (drop_more rows i row low ∙ ap (λ (r : Row). r ∷ drop (i + 1) rows) is) told
-
--- the parent of the row at this index
-pub parent_at : (c : Catalogue) (source : Bytes) (rows : List Row) (numbers : Bytes → Option ℕ) (i : ℕ) (row : Row)
-    → i < length rows → get_or rows i row ≡ row → AllByRecursion (TellsParentOfNew c source numbers) rows
-    → TellsParentOfNew c source numbers row
-parent_at c source rows numbers i row low is told =
-    subst (TellsParentOfNew c source numbers) is (all-get_or (TellsParentOfNew c source numbers) rows i row told low)
 
 -- ---- they become known one after another
 
@@ -60,58 +74,6 @@ module _ (c : Catalogue) (source : Bytes) where
     right = λ q. subst (λ o. IfSome o (λ n. number_there c source q ≡ Some n)) (sym (none q)) tt;
     told = λ q yes. absurd (false≢true (sym (unasked q) ∙ yes));
   }
-
-  -- one number more was asked for
-  module _ (asked later : Bytes → Bool) (numbers : Bytes → Option ℕ) (legacy : Bytes) (before : KnowsAsked c source asked numbers) (more : (q : Bytes) → later q ≡ (bytes_eq q legacy || asked q)) where
-    -- again
-    pub asked_again : asked legacy ≡ true → KnowsAsked c source later numbers
-    asked_again was = record {
-      right = before.right;
-      told = λ q yes. at q (bytes_eq q legacy) refl (sym (more q) ∙ yes);
-    }
-      where
-        at : (q : Bytes) (b : Bool) → bytes_eq q legacy ≡ b → (b || asked q) ≡ true
-            → numbers q ≡ number_there c source q
-        at q true e h = before.told q (ap asked (one_text q legacy e) ∙ was)
-        at q false e h = before.told q h
-
-    -- the catalogue has none
-    pub asked_in_vain : None ≡ number_there c source legacy → KnowsAsked c source later numbers
-    asked_in_vain is = record {
-      right = before.right;
-      told = λ q yes. at q (bytes_eq q legacy) refl (sym (more q) ∙ yes);
-    }
-      where
-        none : (q : Bytes) (o : Option ℕ) → IfSome o (λ n. number_there c source q ≡ Some n)
-            → None ≡ number_there c source q → o ≡ number_there c source q
-        none q None h e = e
-        none q (Some n) h e = absurd (let clash : None ≡ Some n = e ∙ h in cc)
-
-        at : (q : Bytes) (b : Bool) → bytes_eq q legacy ≡ b → (b || asked q) ≡ true
-            → numbers q ≡ number_there c source q
-        at q true e h = none q (numbers q) (before.right q) (is ∙ ap (number_there c source) (sym (one_text q legacy e)))
-        at q false e h = before.told q h
-
-    -- it is catalogued
-    pub asked_and_found : (after : Bytes → Option ℕ) (unit : ℕ) → Some unit ≡ number_there c source legacy
-        → ((q : Bytes) → after q ≡ cond (bytes_eq q legacy) (Some unit) (numbers q)) → KnowsAsked c source later after
-    asked_and_found after unit is kept = record {
-      right = λ q. subst (λ o. IfSome o (λ n. number_there c source q ≡ Some n)) (sym (kept q)) (right_at q (bytes_eq q legacy) refl);
-      told = λ q yes. kept q ∙ at q (bytes_eq q legacy) refl (sym (more q) ∙ yes);
-    }
-      where
-        there : (q : Bytes) → bytes_eq q legacy ≡ true → Some unit ≡ number_there c source q
-        there q e = is ∙ ap (number_there c source) (sym (one_text q legacy e))
-
-        right_at : (q : Bytes) (b : Bool) → bytes_eq q legacy ≡ b
-            → IfSome (cond b (Some unit) (numbers q)) (λ n. number_there c source q ≡ Some n)
-        right_at q true e = sym (there q e)
-        right_at q false e = before.right q
-
-        at : (q : Bytes) (b : Bool) → bytes_eq q legacy ≡ b → (b || asked q) ≡ true
-            → cond b (Some unit) (numbers q) ≡ number_there c source q
-        at q true e h = there q e
-        at q false e h = before.told q h
 
   -- ---- a row and its parent
 
@@ -126,23 +88,96 @@ module _ (c : Catalogue) (source : Bytes) where
   still_asked asked later more rows all =
       all_so (IsAsked c source asked) (IsAsked c source later) (λ row it. record { unit = more row.legacy it.unit; parent = λ new. if_asked asked later more row.parent (it.parent new) }) rows all
 
+  -- one row more was asked for
+  pub one_asked : (asked later : Bytes → Bool) (rows : List Row) (i : ℕ) {row : Row} → i < length rows
+      → row ≡ get_or rows i row → ((q : Bytes) → asked q ≡ true → later q ≡ true)
+      → AllByRecursion (IsAsked c source asked) (take i rows) → IsAsked c source later row
+      → AllByRecursion (IsAsked c source later) (take (i + 1) rows)
+  one_asked asked later rows i {row} low is more before it =
+      let one : take (i + 1) rows ≡ take i rows ++ row ∷ [] =
+      take_more rows i row low ∙ ap (λ (r : Row). take i rows ++ r ∷ []) (sym is) in
+      subst (AllByRecursion (IsAsked c source later)) (sym one)
+      (all_append (IsAsked c source later) (take i rows) (row ∷ []) (still_asked asked later more (take i rows) before) (it, tt))
+
   abbrev IsTold : (Bytes → Option ℕ) → Row → Type 0
   IsTold numbers row = numbers row.legacy ≡ number_there c source row.legacy
 
   -- all rows were asked for
-  pub all_known : (asked : Bytes → Bool) (numbers : Bytes → Option ℕ) (rows : List Row)
-      → KnowsAsked c source asked numbers → AllByRecursion (IsAsked c source asked) rows
+  pub all_known : (asked : Bytes → Bool) (numbers : Bytes → Option ℕ) (rows : List Row) (i : ℕ)
+      → KnowsAsked c source asked numbers × AllByRecursion (IsAsked c source asked) (take i rows) → length rows ≤ i
       → KnowsUnits c source rows numbers
-  all_known asked numbers rows it all = record {
-    sound = it.right;
-    each = all_so (IsAsked c source asked) (IsTold numbers) (λ row h. it.told row.legacy h.unit) rows all;
-    parents = all_so (IsAsked c source asked) (TellsParentOfNew c source numbers) (λ row h new. parent_told row.parent (h.parent new)) rows all;
-  }
+  all_known asked numbers rows i so behind =
+      let it = so.0 in
+      let all = subst (AllByRecursion (IsAsked c source asked)) (take_all i rows behind) so.1 in
+      record {
+        sound = it.right;
+        each = all_so (IsAsked c source asked) (IsTold numbers) (λ row h. it.told row.legacy h.unit) rows all;
+        parents = all_so (IsAsked c source asked) (TellsParentOfNew c source numbers) (λ row h new. parent_told row.parent (h.parent new)) rows all;
+      }
     where
       parent_told : (p : Option Bytes) → IfSome p (λ parent. asked parent ≡ true)
           → IfSome p (λ parent. numbers parent ≡ number_there c source parent)
       parent_told None h = tt
-      parent_told (Some parent) h = it.told parent h
+      parent_told (Some parent) h = so.0.told parent h
+
+-- one number more was asked for
+module _ {c : Catalogue} {source : Bytes} {asked : Bytes → Bool} {numbers : Bytes → Option ℕ} (before : KnowsAsked c source asked numbers) (later : Bytes → Bool) (legacy : Bytes) (more : (q : Bytes) → later q ≡ (bytes_eq q legacy || asked q)) where
+  -- again
+  pub asked_again : {fresh : Bool} → fresh ≡ not (asked legacy) → fresh ≡ false → KnowsAsked c source later numbers
+  asked_again noted known = record {
+    right = before.right;
+    told = λ q yes. at q (bytes_eq q legacy) refl (sym (more q) ∙ yes);
+  }
+    where
+      turned : (b : Bool) → not b ≡ false → b ≡ true
+      turned true h = refl
+      turned false h = absurd (cc)
+
+      was : asked legacy ≡ true
+      was = turned (asked legacy) (sym noted ∙ known)
+
+      at : (q : Bytes) (b : Bool) → bytes_eq q legacy ≡ b → (b || asked q) ≡ true
+          → numbers q ≡ number_there c source q
+      at q true e h = before.told q (ap asked (one_text q legacy e) ∙ was)
+      at q false e h = before.told q h
+
+  -- the catalogue has none
+  pub asked_in_vain : None ≡ number_there c source legacy → KnowsAsked c source later numbers
+  asked_in_vain is = record {
+    right = before.right;
+    told = λ q yes. at q (bytes_eq q legacy) refl (sym (more q) ∙ yes);
+  }
+    where
+      none : (q : Bytes) (o : Option ℕ) → IfSome o (λ n. number_there c source q ≡ Some n)
+          → None ≡ number_there c source q → o ≡ number_there c source q
+      none q None h e = e
+      none q (Some n) h e = absurd (let clash : None ≡ Some n = e ∙ h in cc)
+
+      at : (q : Bytes) (b : Bool) → bytes_eq q legacy ≡ b → (b || asked q) ≡ true
+          → numbers q ≡ number_there c source q
+      at q true e h = none q (numbers q) (before.right q) (is ∙ ap (number_there c source) (sym (one_text q legacy e)))
+      at q false e h = before.told q h
+
+  -- it is catalogued
+  pub asked_and_found : (after : Bytes → Option ℕ) (unit : ℕ) → Some unit ≡ number_there c source legacy
+      → ((q : Bytes) → after q ≡ cond (bytes_eq q legacy) (Some unit) (numbers q)) → KnowsAsked c source later after
+  asked_and_found after unit is kept = record {
+    right = λ q. subst (λ o. IfSome o (λ n. number_there c source q ≡ Some n)) (sym (kept q)) (right_at q (bytes_eq q legacy) refl);
+    told = λ q yes. kept q ∙ at q (bytes_eq q legacy) refl (sym (more q) ∙ yes);
+  }
+    where
+      there : (q : Bytes) → bytes_eq q legacy ≡ true → Some unit ≡ number_there c source q
+      there q e = is ∙ ap (number_there c source) (sym (one_text q legacy e))
+
+      right_at : (q : Bytes) (b : Bool) → bytes_eq q legacy ≡ b
+          → IfSome (cond b (Some unit) (numbers q)) (λ n. number_there c source q ≡ Some n)
+      right_at q true e = sym (there q e)
+      right_at q false e = before.right q
+
+      at : (q : Bytes) (b : Bool) → bytes_eq q legacy ≡ b → (b || asked q) ≡ true
+          → cond b (Some unit) (numbers q) ≡ number_there c source q
+      at q true e h = there q e
+      at q false e h = before.told q h
 
 -- ---- they stay known
 
@@ -180,10 +215,10 @@ number_still source row next c turn legacy other = at (number_there c source row
     at : (r : Option ℕ) → number_there c source row.legacy ≡ r
         → number_there (catalogue_after source (row ∷ []) c) source legacy ≡ number_there c source legacy
     at (Some id) e =
-        ap (λ d. number_there d source legacy) (entered_known source row next c turn id e)
+        ap (λ d. number_there d source legacy) (entered_known turn e)
         ∙ valued_still id row.values c source legacy
     at None e =
-        ap (λ d. number_there d source legacy) (entered_new source row next c turn e)
+        ap (λ d. number_there d source legacy) (entered_new turn e)
         ∙ others_still source row c legacy other
 
 -- the units of the rows that are still to come
@@ -196,3 +231,65 @@ known_still source row rows next c numbers come it = each rows come.told.once.0 
         → TellsUnits c source rest numbers → TellsUnits (catalogue_after source (row ∷ []) c) source rest numbers
     each [] h k = tt
     each (r ∷ rest) h k = (k.0 ∙ sym (number_still source row next c (one_entered source row rows next c come).turn r.legacy h.0), each rest h.1 k.1)
+
+-- ---- their numbers, one after another
+
+module _ (numbers : Bytes → Option ℕ) (rows : List Row) (i n : ℕ) (items : List ℕ) {row : Row} {kept : Option ℕ} {all : List ℕ} (low : i < length rows) (is : row ≡ get_or rows i row) (given : kept ≡ numbers row.legacy) (so_far : all ≡ items ++ units_from numbers n (drop i rows)) where
+  number_next : all ≡ items ++ (unwrap_or kept n ∷ units_from numbers (n + cond (is_some kept) 0 1) (drop (i + 1) rows))
+  number_next =
+      so_far
+      ∙ (ap (λ (rest : List Row). items ++ units_from numbers n rest) (drop_more rows i row low ∙ ap (λ (r : Row). r ∷ drop (i + 1) rows) (sym is))
+      ∙ ap (λ (o : Option ℕ). items ++ (unwrap_or o n ∷ units_from numbers (n + cond (is_some o) 0 1) (drop (i + 1) rows))) (sym given))
+
+  -- that of a catalogued unit
+  pub known_next : {unit : ℕ} → kept ≡ Some unit → all ≡ (items ++ unit ∷ []) ++ units_from numbers n (drop (i + 1) rows)
+  known_next {unit} some =
+      let same : n + 0 ≡ n = omega arith in
+      number_next
+      ∙ (ap (λ (o : Option ℕ). items ++ (unwrap_or o n ∷ units_from numbers (n + cond (is_some o) 0 1) (drop (i + 1) rows))) some
+      ∙ (ap (λ m. items ++ (unit ∷ units_from numbers m (drop (i + 1) rows))) same ∙ sym (append_assoc items (unit ∷ []) (units_from numbers n (drop (i + 1) rows)))))
+
+  -- that of a new one
+  pub new_next : kept ≡ None → all ≡ (items ++ n ∷ []) ++ units_from numbers (n + 1) (drop (i + 1) rows)
+  new_next none =
+      number_next
+      ∙ (ap (λ (o : Option ℕ). items ++ (unwrap_or o n ∷ units_from numbers (n + cond (is_some o) 0 1) (drop (i + 1) rows))) none
+      ∙ sym (append_assoc items (n ∷ []) (units_from numbers (n + 1) (drop (i + 1) rows))))
+
+-- ---- rows that are entered one after another
+
+-- those before this index are entered, and it is told still which units the others have
+pub record AreComing (source : Bytes) (rows : List Row) (numbers : Bytes → Option ℕ) (next i : ℕ) (counts : Counts) (c d : Catalogue) : Type 0 where
+  pub come : HaveCome source rows (drop i rows) next counts c d
+  pub told : TellsUnits d source (drop i rows) numbers
+
+pub first_comes : {source : Bytes} {rows : List Row} {numbers : Bytes → Option ℕ} {next : ℕ} {c : Catalogue}
+    → AreToCome source rows next c → TellsUnits c source rows numbers
+    → AreComing source rows numbers next 0 (record { changed = 0; new = 0; same = 0 }) c c
+first_comes {source} {rows} {numbers} {next} {c} come told =
+    record { come = none_come source rows next c come; told = told }
+
+module _ {source : Bytes} {rows : List Row} {numbers : Bytes → Option ℕ} {next i : ℕ} {counts : Counts} {c d : Catalogue} (coming : AreComing source rows numbers next i counts c d) where
+  -- the row at this index has its turn, with the number that is told of it
+  pub its_turn : {row : Row} {number : Option ℕ} → i < length rows → row ≡ get_or rows i row → number ≡ numbers row.legacy
+      → IsTurnOf source row number (next + counts.new) d
+  its_turn {row} low is given =
+      let have = from_here source rows next counts c d i row low (sym is) coming.come in
+      let told = told_here d source rows numbers i row low (sym is) coming.told in
+      ((one_entered source row (drop (i + 1) rows) (next + counts.new) d have.come).turn, given ∙ told.0)
+
+  -- it is entered, and then come the others
+  pub others_come : {row : Row} {became : Entry} {after : Counts} → i < length rows → row ≡ get_or rows i row
+      → became ≡ entry_of (catalogued_unit d.forest source row) row.values → after ≡ count_entry became counts
+      → AreComing source rows numbers next (i + 1) after c (catalogue_after source (row ∷ []) d)
+  others_come {row} {became} {after} low is does counted =
+      let rest = drop (i + 1) rows in
+      let have = from_here source rows next counts c d i row low (sym is) coming.come in
+      let told = told_here d source rows numbers i row low (sym is) coming.told in
+      record {
+        come = subst (λ (n : Counts). HaveCome source rows rest next n c (catalogue_after source (row ∷ []) d)) (sym counted) (next_comes source rows row rest next counts c d became have does);
+        told = known_still source row rest (next + counts.new) d numbers have.come told.1;
+      }
+
+  pub all_entered : AreToCome source rows next c → length rows ≤ i → AllCome source rows next counts c d
+  all_entered come behind = all_come source rows next counts c d come (at_end source rows next counts c d i behind coming.come)

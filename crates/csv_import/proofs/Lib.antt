@@ -1,5 +1,6 @@
 pub mod Common
 pub mod Tellings
+pub mod Pairs
 pub mod FoundPaths
 pub mod Planned
 pub mod Climbed

@@ -6,13 +6,14 @@ use Rattle.catalogue_core.proofs.EachOf.{none_found}
 use Rattle.catalogue_core.specs.UnitLookup.{FindsUnit}
 use Rattle.catalogue_store.specs.UnitValues.{values_of_unit}
 use Rattle.catalogue_store.specs.declared.unit_values.UnitValues.{UnitValues}
+use Rattle.csv_import.specs.declared.row_entry.Entry.TheVariants as entry
 use Rattle.csv_import.proofs.Common.{AllByRecursion, AreGoodUnits, AreWhole, Bytes, Catalogue, IsGoodRow, IsTurn}
-use Rattle.csv_import.proofs.Common.{MayChange, MayCome, Row, Unit, all_of_found, and_parts, and_then, box_number}
-use Rattle.csv_import.proofs.Common.{catalogue_after, cause_at, depth_there, each_there, eqb-true, false≢true, find}
-use Rattle.csv_import.proofs.Common.{find_none, found_numbers, has, has_id, has_place, is_from, list_any, ne_eqb}
-use Rattle.csv_import.proofs.Common.{new_at, new_unit, nodes, number_there, option_and_then, option_map, or_as_before}
-use Rattle.csv_import.proofs.Common.{or_cases, or_parts, path, some_found, unless_cause, with_new, with_row_at}
-use Rattle.csv_import.proofs.Common.{with_rows, with_values}
+use Rattle.csv_import.proofs.Common.{MayChange, MayCome, Row, Unit, Values, all_of_found, and_parts, and_then}
+use Rattle.csv_import.proofs.Common.{box_number, catalogue_after, cause_at, depth_there, each_there, entry_of, eqb-true}
+use Rattle.csv_import.proofs.Common.{false≢true, find, find_none, found_numbers, has, has_id, has_place, is_from}
+use Rattle.csv_import.proofs.Common.{list_any, ne_eqb, new_at, new_unit, nodes, number_there, option_and_then}
+use Rattle.csv_import.proofs.Common.{option_map, or_as_before, or_cases, or_parts, path, same_values, some_found}
+use Rattle.csv_import.proofs.Common.{unless_cause, with_new, with_row_at, with_rows, with_values}
 
 -- ---- the unit with a number in a source
 
@@ -90,13 +91,13 @@ finds_number c source legacy (Some id) good h = at (find (is_from source legacy)
 whole_row : (row : Row) → IsGoodRow row → AreWhole row.values
 whole_row row good = record { places = good.texts_count; once = good.apart }
 
-module _ (source : Bytes) (row : Row) (next : ℕ) (c : Catalogue) (turn : IsTurn source row next c) where
-  pub entered_known : (id : ℕ) → number_there c source row.legacy ≡ Some id
+module _ {source : Bytes} {row : Row} {next : ℕ} {c : Catalogue} (turn : IsTurn source row next c) where
+  pub entered_known : {id : ℕ} → number_there c source row.legacy ≡ Some id
       → catalogue_after source (row ∷ []) c ≡ with_values id row.values c
-  entered_known id e = ap (λ n. or_as_before c (and_then (with_rows source []) (with_row_at n source row c))) e
+  entered_known e = ap (λ n. or_as_before c (and_then (with_rows source []) (with_row_at n source row c))) e
 
-  pub may_change : (id : ℕ) → number_there c source row.legacy ≡ Some id → MayChange id row.values c
-  may_change id e =
+  pub may_change : {id : ℕ} → number_there c source row.legacy ≡ Some id → MayChange id row.values c
+  may_change {id} e =
       let it = is_found c source row.legacy id turn.units e in
       record {
         units = turn.units;
@@ -180,6 +181,13 @@ told_of_it c id u told found e =
     ∙ ap (option_map (λ (u : Unit). (let x : UnitValues = record { values = u.values; containers = map (box_number c.containers) u.values.boxes } in x))) found in
     let is : told ≡ record { values = u.values; containers = map (box_number c.containers) u.values.boxes } = cc in
     ap (λ (x : UnitValues). x.values) is
+
+-- what becomes of it, by its values as they are told
+pub entry_told : (c : Catalogue) (id : ℕ) (values : Values) {u : Unit} {told : UnitValues} {same b : Bool}
+    → find (has_id id) (nodes c.forest) ≡ Some u → Some told ≡ values_of_unit id c
+    → same ≡ same_values told.values values → same ≡ b → cond b entry.Same entry.Changed ≡ entry_of (Some u) values
+entry_told c id values {u} {told} found is alike here =
+    ap (λ (b : Bool). cond b entry.Same entry.Changed) (sym here ∙ (alike ∙ ap (λ (w : Values). same_values w values) (told_of_it c id u told found is)))
 
 -- the unit of a row, by the number that comes next
 pub unit_comes : (source : Bytes) (row : Row) (next : ℕ) (c : Catalogue) → next ≡ c.next

@@ -1,15 +1,16 @@
 -- What the path of a row's unit says of it.
 use Rattle.std.proofs.Common.{◌≡◌, ℕ, Bool, true, false, cond, List, [], ◌∷◌, ◌++◌, map, Option, Some, None, refl, sym}
-use Rattle.std.proofs.Common.{ap, subst, ◌∙◌, inl, inr, nat_eq, append_assoc}
+use Rattle.std.proofs.Common.{ap, ap₂, subst, ◌∙◌, inl, inr, nat_eq, append_assoc}
 use Rattle.std.specs.List.{IsDistinct}
 use Rattle.tree_core.proofs.Lists.{eqb_comm}
 use Rattle.catalogue_core.proofs.EachOf.{none_found}
 use Rattle.catalogue_core.proofs.UnitPlaces.{HaveOwnNumbers}
 use Rattle.catalogue_core.specs.Members.{StandsIn}
-use Rattle.csv_import.proofs.Common.{AllByRecursion, Bytes, Empty, Forest, HasItsUnit, LacksEssential, LevelTooHigh}
-use Rattle.csv_import.proofs.Common.{Node, Remark, Row, Unit, Values, eq-eqb, find, find-append, has, has_id, is_from}
-use Rattle.csv_import.proofs.Common.{is_level_above, lacks_essential, last_but_one, nodes, option_map, option_to_list}
-use Rattle.csv_import.proofs.Common.{or_else, path, rank_of, remark_if, remark_on, remarks, some_found}
+use Rattle.office_core.specs.declared.done.Remark.TheVariants.{LacksEssential, LevelTooHigh}
+use Rattle.csv_import.proofs.Common.{AllByRecursion, Bytes, Empty, Forest, HasItsUnit, Node, Remark, Row, Unit, Values}
+use Rattle.csv_import.proofs.Common.{eq-eqb, find, find-append, has, has_id, is_from, is_level_above, lacks_essential}
+use Rattle.csv_import.proofs.Common.{last_but_one, nodes, option_map, option_to_list, or_else, path, rank_of, remark_if}
+use Rattle.csv_import.proofs.Common.{remark_on, remarks, some_found}
 
 -- ---- lists
 
@@ -31,6 +32,14 @@ last_but_two [] p v = refl
 last_but_two (x ∷ []) p v = refl
 last_but_two (x ∷ y ∷ []) p v = refl
 last_but_two (x ∷ y ∷ z ∷ us) p v = last_but_two (y ∷ z ∷ us) p v
+
+-- ---- levels
+
+-- a row's remark by its own rank and that above it, as they were told
+pub remarked_by : (n : ℕ) {own above rank other : Option ℕ} {high b : Bool} → high ≡ is_level_above own above → own ≡ rank
+    → above ≡ other → high ≡ b → remark_if b (LevelTooHigh n) ≡ remark_if (is_level_above rank other) (LevelTooHigh n)
+remarked_by n told own_is above_is is =
+    ap (λ (b : Bool). remark_if b (LevelTooHigh n)) (sym is ∙ (told ∙ ap₂ is_level_above own_is above_is))
 
 -- ---- paths
 

@@ -52,7 +52,9 @@ fn arrival_of(
     Some(NumberedArrival { unit: next, parent })
 }
 
-/// The units that the rows of a file add, numbered in file order.
+/// The units that the rows of a file add, each with its parent, numbered from `import.next` on in file order.
+/// `import.catalogued` must tell which units of the rows, and which parents of new rows, are catalogued. Fails only for
+/// want of memory.
 pub(crate) fn arrivals(
     alloc: Global,
     import: &Import<'_>,

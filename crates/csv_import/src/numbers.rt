@@ -88,8 +88,8 @@ fn look_up_row<P: Places, S: Alter>(
     Ok(())
 }
 
-/// The numbers of the catalogued units among those of these rows and the parents of those that are new. Each is looked
-/// up once, and kept for all later steps.
+/// The numbers of the units of these rows, and of the parents that new rows name, by their numbers in the source. One
+/// that is not catalogued is left out. Each is looked up once, and kept for all later steps.
 pub(crate) fn known_units<P: Places, S: Alter>(
     alloc: Global,
     tables: &mut Tables<P, S>,

@@ -16,7 +16,8 @@ use office_tables::{Number, StoreFault, Tables};
 use sqlite::Alter;
 use std::alloc::Global;
 
-/// The numbers of the units from a top down to this one. Empty if there is none.
+/// The numbers of the units on the path of this unit, which must be catalogued, from the top down to it. Empty if no
+/// unit is given.
 pub(crate) fn path_of<P: Places, S: Alter>(
     alloc: Global,
     tables: &mut Tables<P, S>,

@@ -224,7 +224,9 @@ fn enter_with_places<P: Places, S: Alter>(
     Ok(counts)
 }
 
-/// Enters the rows one after another: the unit of a row gets the row's values, or is added with the next number.
+/// Enters the rows one after another: the unit of a row gets the row's values, or is added with the next number. Each
+/// row must have a place, there must be room for the new units, and what `import` tells of the catalogue must be right.
+/// Returns how many rows had each effect, and each row's unit, in the order of the rows.
 pub(crate) fn enter_rows<P: Places, S: Alter>(
     alloc: Global,
     tables: &mut Tables<P, S>,

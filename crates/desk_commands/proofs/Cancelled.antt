@@ -1,35 +1,41 @@
 -- An order that is cancelled, in the rows of the desk.
-use Rattle.std.proofs.Common.{◌≡◌, ℕ, true, false, nat_eq, List, [], ◌∷◌, Option, Some, None, Ok, Err, refl, sym, ap}
+use Rattle.std.proofs.Common.{◌≡◌, ℕ, true, false, nat_eq, List, [], ◌∷◌, Option, Some, None, Ok, refl, sym, ap, subst}
 use Rattle.std.proofs.Common.{◌∙◌}
 use Rattle.office_tables.specs.Schema as schema
-use Rattle.desk_store.specs.Orders as store
-use Rattle.desk_store.specs.declared.orders.OrderState.{OrderState}
 use Rattle.desk_store.specs.declared.orders.OrderState.TheVariants as states
+use Rattle.desk_store.specs.declared.orders.PlacedOrder.{PlacedOrder}
 use Rattle.office_core.specs.declared.command.Command.TheVariants as command
 use Rattle.office_core.specs.declared.done.Done.TheVariants as done
-use Rattle.desk_commands.proofs.Common.{Cancelled, CarriesOutStep, Command, Database, Forest, IsSoundOffice}
+use Rattle.refinement.proofs.OrderRows.{not_placed, waits_by_row, was_placed}
+use Rattle.desk_commands.proofs.Common.{Cancelled, CarriesOutStep, Command, Database, Forest, IsSoundOffice, IsThere}
 use Rattle.desk_commands.proofs.Common.{OnlyTouches, OrderNotWaiting, OrderRow, RepresentsDesk, RepresentsState}
 use Rattle.desk_commands.proofs.Common.{Standing, State, Trees, UnknownOrder, Version, accepts, cancelled, container_of}
 use Rattle.desk_commands.proofs.Common.{false≢true, is_cancelled, is_out_for, is_some, only_cancels, order_rows}
-use Rattle.desk_commands.proofs.Common.{refusal, refuses, rows_moved, some_and, standing, stands, stands_past}
-use Rattle.desk_commands.proofs.Common.{state_number, tables, waits, waits_by_row, with_order_state, with_state}
+use Rattle.desk_commands.proofs.Common.{order_state_number, order_with, refusal, rows_moved, some_and, stands}
+use Rattle.desk_commands.proofs.Common.{stands_past, state_number, tables, waits, with_order_state, with_state}
+
+module _ (version : Version) (s : State) (o : ℕ) where
+  pub unknown_order : {found : Option PlacedOrder} → IsThere (order_with o (tables version s).desk) found → found ≡ None
+      → refusal s (command.Cancel o) ≡ Some UnknownOrder
+  unknown_order it is =
+      let unknown = not_placed s version o (subst (λ (found : Option PlacedOrder). IsThere (order_with o (tables version s).desk) found) is it) in
+      rw unknown refl
+
+  -- the row tells whether the order waits
+  pub known_order : {found : Option PlacedOrder} {placed : PlacedOrder} → IsThere (order_with o (tables version s).desk) found
+      → found ≡ Some placed
+      → (is_some (container_of s o) ≡ true) × (waits s o ≡ nat_eq (order_state_number placed.state) 1)
+  known_order {placed = placed} it is =
+      let there = was_placed s version o placed (subst (λ (found : Option PlacedOrder). IsThere (order_with o (tables version s).desk) found) is it) in
+      (there.known, sym (waits_by_row s o) ∙ ap (λ n. nat_eq n 1) (sym there.state))
+
+  pub not_waiting : is_some (container_of s o) ≡ true → waits s o ≡ false
+      → refusal s (command.Cancel o) ≡ Some OrderNotWaiting
+  not_waiting known not_so = rw (known, not_so) refl
 
 module _ (places : Trees → Forest ℕ → Type 0) (version : Version) (s : State) (o : ℕ) where
   abbrev asked : Command
   asked = command.Cancel o
-
-  pub unknown_order : (db : Database) → is_some (container_of s o) ≡ false
-      → CarriesOutStep places version s asked (Err UnknownOrder) db
-  unknown_order db unknown = let why : refusal s asked ≡ Some UnknownOrder = rw unknown refl in refuses places version s asked db UnknownOrder why
-
-  pub not_waiting : (db : Database) → is_some (container_of s o) ≡ true → waits s o ≡ false
-      → CarriesOutStep places version s asked (Err OrderNotWaiting) db
-  not_waiting db known not_so = let why : refusal s asked ≡ Some OrderNotWaiting = rw (known, not_so) refl in refuses places version s asked db OrderNotWaiting why
-
-  -- the state of the row tells whether the order waits
-  pub waits_or_not : (state : OrderState) → store.order_state_number state ≡ state_number (standing s o)
-      → waits s o ≡ nat_eq (store.order_state_number state) 1
-  waits_or_not state is = sym (waits_by_row s o) ∙ ap (λ n. nat_eq n 1) (sym is)
 
   rows_after : IsSoundOffice s → (c : ℕ) → container_of s o ≡ Some c → stands o (s.queue c) ≡ true
       → order_rows (cancelled s o (Some c)) ≡ with_state o 4 (order_rows s)

@@ -1,18 +1,18 @@
 -- The names that several proofs of this crate cite, passed on from one place. Declares nothing.
-pub use Rattle.std.proofs.lemmas.Bool.{and_parts, cases_Bool, cases_eq, eqb-true, false≢true, leb-false, ltb-false}
-pub use Rattle.std.proofs.lemmas.Bool.{ltb-true}
+pub use Rattle.std.proofs.lemmas.Bool.{and_parts, cases_Bool, cases_eq, eqb-true, false≢true, leb-false}
 pub use Rattle.std.proofs.lemmas.Bool.Decides.{nat_tests}
-pub use Rattle.std.proofs.lemmas.List.{length-append, length-map, map-append, take-append-drop, take-map, take_all}
-pub use Rattle.std.proofs.lemmas.List.{take_more, take_rest}
+pub use Rattle.std.proofs.lemmas.List.{append_assoc, length-append, length-map, map-append, take-append-drop, take-map}
+pub use Rattle.std.proofs.lemmas.List.{take_all, take_more, take_rest}
 pub use Rattle.std.proofs.lemmas.List.Sorted.{All-permutation, IsNonDecreasingBy-from_sort, IsPermutation-append_right}
 pub use Rattle.std.proofs.lemmas.List.Sorted.{IsPermutation-map, IsPermutation-sym, IsPermutation-trans}
 pub use Rattle.std.proofs.lemmas.List.Sorted.{list_any-IsPermutation}
 pub use Rattle.std.specs.List.{AllByRecursion, cons_option, flat_map, list_any}
 pub use Rattle.std.specs.List.Sorted.{IsPermutation}
-pub use Rattle.std.specs.Prelude.{IsOk, IsUtf8, filter_map, find, int_lt, is_some, nat_le, nat_lt, option_and_then}
-pub use Rattle.std.specs.Prelude.{option_map, slice_get, unwrap_or, ⊤}
+pub use Rattle.std.specs.Prelude.{IsErr, IsErrAnd, IsOk, IsUtf8, filter_map, find, int_lt, is_some, nat_le, nat_lt}
+pub use Rattle.std.specs.Prelude.{option_and_then, option_map, slice_get, unwrap_or, ⊤}
 pub use Rattle.sqlite.specs.Effect.{Database}
-pub use Rattle.sqlite.specs.Held.{state}
+pub use Rattle.sqlite.specs.Held.{Held, state}
+pub use Rattle.sqlite.specs.State.{HasCleanDisk}
 pub use Rattle.sqlite.specs.Tree.{Trees, rowid}
 pub use Rattle.isad_core.specs.Limits.{IsNumber, most_orders, most_permits, most_runs, most_tickets}
 pub use Rattle.tree_core.specs.Forest.{Forest, cut, nodes}
@@ -32,29 +32,21 @@ pub use Rattle.desk_core.specs.declared.refusal.Refusal.TheVariants.{NothingToMo
 pub use Rattle.desk_core.specs.declared.refusal.Refusal.TheVariants.{UnknownContainer, UnknownOrder, UnknownTicket}
 pub use Rattle.desk_core.specs.declared.refusal.Refusal.TheVariants.{UnknownUnit}
 pub use Rattle.catalogue_core.specs.Members.{StandsIn}
-pub use Rattle.catalogue_core.specs.UnitLookup.{has_unit}
-pub use Rattle.catalogue_core.specs.Units.{Unit, has_id}
 pub use Rattle.office_tables.proofs.Calls.{cut_after, cut_then, early, goes_nowhere, goes_then, looks_nowhere}
 pub use Rattle.office_tables.proofs.Calls.{looks_then}
-pub use Rattle.office_tables.specs.Order.{IsOrdered, Rises}
-pub use Rattle.office_tables.specs.Step.{Goes, LeavesUnchanged, OnlyTouches}
+pub use Rattle.office_tables.specs.Step.{Continues, Goes, IsAborted, LeavesUnchanged, OnlyTouches}
 pub use Rattle.office_tables.specs.Versions.{Version, version_number}
-pub use Rattle.desk_store.specs.Holdings.{at_desk_of, candidates_of, is_first_waiting, is_on_shelf, issued_by}
-pub use Rattle.desk_store.specs.Holdings.{issued_of, on_shelf, placed_at, waits_for, with_place}
+pub use Rattle.desk_store.specs.Holdings.{at_desk_of, candidates_of, firsts_of, is_first_waiting, is_on_shelf}
+pub use Rattle.desk_store.specs.Holdings.{issued_by, issued_of, on_shelf, placed_at, waits_for, with_place}
 pub use Rattle.desk_store.specs.Orders.{IsNextOrder, IsThere, order_state_number, order_with, with_order}
 pub use Rattle.desk_store.specs.Orders.{with_order_state}
-pub use Rattle.desk_store.specs.Permits.{HasUnitRow, MayHave, by_permitted_unit, desk_with_permit, desk_without_permit}
-pub use Rattle.desk_store.specs.Permits.{is_permit, permits_of}
 pub use Rattle.desk_store.specs.Readers.{card_of, next_ticket, ticket_holder, with_last_day, with_reader}
-pub use Rattle.desk_store.specs.Representation.{IsNumberOf, RepresentsDesk}
+pub use Rattle.desk_store.specs.Representation.{IsNumberOf, RepresentsDesk, RepresentsDeskAlone}
 pub use Rattle.desk_store.specs.Runs.{TakesEachOnce, line_of_run, next_run, with_run}
-pub use Rattle.desk_store.specs.Storage.{IsHeaded, container_with}
 pub use Rattle.desk_store.specs.declared.container_orders.ContainerOrder.{ContainerOrder}
 pub use Rattle.desk_store.specs.declared.orders.WaitingOrder.{WaitingOrder}
-pub use Rattle.desk_store.specs.declared.queue_heads.QueueHead.{QueueHead}
 pub use Rattle.office_core.proofs.Filed.{fetched_out, is_cancelled, is_issued, is_ordered, is_returned, only_cancels}
 pub use Rattle.office_core.proofs.Filed.{only_issues, only_orders, only_returns, picked_due, reshelved_out, waiting}
-pub use Rattle.office_core.proofs.Filed.{waits_within}
 pub use Rattle.office_core.proofs.OrderLaws.{goes_same, stands_out, stands_past, stands_waiting}
 pub use Rattle.office_core.proofs.PassedChecks.{passed_issue, passed_order, passed_permit, passed_take_seat}
 pub use Rattle.office_core.proofs.Steps.{held_so, passes}
@@ -84,16 +76,15 @@ pub use Rattle.state_encoding.specs.OfficeRows.{tables}
 pub use Rattle.refinement.proofs.CardsShown.{card, card_shown, has_card, holder_shown, known_ticket}
 pub use Rattle.refinement.proofs.CommandSteps.{accepts, refuses}
 pub use Rattle.refinement.proofs.DeskSteps.{desk_step}
-pub use Rattle.refinement.proofs.Doings.{accepted, after_look, catalogue_passed, desk_passed, does_pass, does_refuse}
-pub use Rattle.refinement.proofs.Doings.{does_then, is_refused, makes_passed, office_passed, refused, tells_full}
-pub use Rattle.refinement.proofs.Doings.{tells_passed_later}
+pub use Rattle.refinement.proofs.Doings.{accepted, after_look, catalogue_passed, desk_passed, does_pass, does_then}
+pub use Rattle.refinement.proofs.Doings.{is_refused, makes_passed, makes_passed_later, office_passed, refused}
+pub use Rattle.refinement.proofs.Doings.{tells_full, tells_passed_later}
 pub use Rattle.refinement.proofs.HoldingRows.{place_after, placed_to, rows_of}
 pub use Rattle.refinement.proofs.Judged.{judged_now}
-pub use Rattle.refinement.proofs.OrderRows.{not_placed, waits_by_row, was_placed}
 pub use Rattle.refinement.proofs.StorageShown.{has_container, legible_storage, shows_storage, storage_of}
 pub use Rattle.refinement.specs.AccessConditions.{CanBeJudged, RepresentsWhole}
 pub use Rattle.refinement.specs.CommandSteps.{CarriesOut, CarriesOutStep}
 pub use Rattle.refinement.specs.ReadingRoomLimits.{limits_of}
 pub use Rattle.refinement.specs.Representation.{RepresentsState, office_of}
+pub use Rattle.access.specs.KnownUnits.{AreTold, open_ones}
 pub use Rattle.desk_commands.specs.ContainerMoves.{all_placed, handed_over, with_all_placed}
-pub use Rattle.desk_commands.specs.RunCreation.{open_orders, taken_by}

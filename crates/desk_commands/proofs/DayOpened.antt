@@ -1,5 +1,5 @@
 -- A day that begins, in the tables.
-use Rattle.std.proofs.Common.{◌≡◌, ℕ, true, false, List, [], ◌∷◌, Some, None, Ok, Err, refl, sym, ap, subst}
+use Rattle.std.proofs.Common.{◌≡◌, ℕ, true, false, List, [], ◌∷◌, Some, None, Ok, refl, sym, ap, subst}
 use Rattle.std.specs.Prelude.{ℤ}
 use Rattle.office_tables.specs.Schema as schema
 use Rattle.desk_store.specs.OfficeDay.{House, RepresentsBoth, opened_house}
@@ -11,7 +11,7 @@ use Rattle.refinement.proofs.Frames.{catalogue_with_office}
 use Rattle.desk_commands.proofs.Common.{AreTexts, CarriesOutStep, Command, Database, Forest, OnlyTouches, Reply}
 use Rattle.desk_commands.proofs.Common.{RepresentsDesk, RepresentsState, SeatRow, State, StillIssued, Trees, Version}
 use Rattle.desk_commands.proofs.Common.{accepted, after, always_texts, containers, int_lt, is_out, list_any, office_of}
-use Rattle.desk_commands.proofs.Common.{refusal, refused, tables, version_number}
+use Rattle.desk_commands.proofs.Common.{refusal, tables, version_number}
 
 -- the desk of a state, and what the office's own row tells
 abbrev pub house_of : Version → State → House
@@ -47,15 +47,8 @@ module _ (version : Version) (s : State) (day : ℤ) (later : int_lt s.day day �
   not_refused : list_any (is_out s) (containers s) ≡ false → refusal s asked ≡ None
   not_refused none = rw (later, none) refl
 
-  is_refused : list_any (is_out s) (containers s) ≡ true → refusal s asked ≡ Some StillIssued
-  is_refused some = rw (later, some) refl
-
-  pub refuses_day : (places : Trees → Forest ℕ → Type 0) (db : Database) → list_any (is_out s) (containers s) ≡ true
-      → CarriesOutStep places version s asked (Err StillIssued) db
-  refuses_day places db some = record {
-    told = sym (ap (λ (p : State × Reply). p.1) (refused s asked StillIssued (is_refused some)));
-    represents = λ ok. absurd (cc);
-  }
+  pub refuses_day : list_any (is_out s) (containers s) ≡ true → refusal s asked ≡ Some StillIssued
+  refuses_day some = rw (later, some) refl
 
   pub opens_day : (places : Trees → Forest ℕ → Type 0)
       → ((old new : Trees) (f : Forest ℕ) → new schema.link.tree ≡ old schema.link.tree → places old f → places new f)

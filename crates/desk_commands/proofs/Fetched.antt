@@ -1,8 +1,8 @@
 -- What a run takes, by the rows of the desk and in the state: its lines, its containers and its number.
 use Rattle.std.proofs.Common.{◌≡◌, ℕ, zero, suc, ◌+◌, ◌-◌, ◌<◌, ◌≤◌, drop, Bool, true, false, cond, ◌&&◌, ◌||◌, nat_eq}
 use Rattle.std.proofs.Common.{List, [], ◌∷◌, ◌++◌, length, map, filter, take, Option, Some, None, inl, inr, refl, sym}
-use Rattle.std.proofs.Common.{ap, subst, ◌∙◌, arith}
-use Rattle.std.proofs.lemmas.List.{append-nil, append_assoc}
+use Rattle.std.proofs.Common.{ap, ap₂, subst, ◌∙◌, arith}
+use Rattle.std.proofs.lemmas.List.{append-nil}
 use Rattle.std.proofs.lemmas.List.Elements.{filter-append}
 use Rattle.std.specs.List.{IsDistinct}
 use Rattle.desk_core.proofs.OrderLemmas.{in_order-permutation}
@@ -11,17 +11,18 @@ use Rattle.desk_store.proofs.PickingCalls.{filter_both}
 use Rattle.office_core.proofs.Counts.{numbered_from_one}
 use Rattle.office_core.proofs.LineOrder.{any-in_order}
 use Rattle.office_core.specs.State as state
+use Rattle.desk_commands.specs.RunCreation.{open_orders, taken_by}
 use Rattle.desk_commands.proofs.Common.{AllByRecursion, ContainerOrder, IsAscending, IsPermutation}
 use Rattle.desk_commands.proofs.Common.{IsPermutation-append_right, IsPermutation-map, IsSoundOffice, Line, Order}
 use Rattle.desk_commands.proofs.Common.{OrderRow, Run, RunLineRow, StandsIn, State, TakesEachOnce, Version, all_of_in}
-use Rattle.desk_commands.proofs.Common.{and_parts, brings, candidates_of, cases_Bool, cons_option, eqb-true, false≢true}
-use Rattle.desk_commands.proofs.Common.{filter_map, first, flipped, in_filter, in_map, in_rows, is_due, is_empty}
-use Rattle.desk_commands.proofs.Common.{is_first_waiting, is_line_before, is_on_shelf, is_shelf, length-map}
-use Rattle.desk_commands.proofs.Common.{length-rows, line_for, line_of_run, lines_from, list_any, most_runs, nat_le}
-use Rattle.desk_commands.proofs.Common.{nat_lt, nat_tests, next_run, nth, numbered_within, numbers_to, opens}
-use Rattle.desk_commands.proofs.Common.{option_map, order_row, order_rows, orders_of_run, picked_due, run_line_row}
-use Rattle.desk_commands.proofs.Common.{run_line_rows, run_row, some_and, stands, tables, take-append-drop, take-map}
-use Rattle.desk_commands.proofs.Common.{take_all, taken_by}
+use Rattle.desk_commands.proofs.Common.{and_parts, append_assoc, brings, candidates_of, cases_Bool, cons_option}
+use Rattle.desk_commands.proofs.Common.{eqb-true, false≢true, filter_map, first, flipped, in_filter, in_map, in_rows}
+use Rattle.desk_commands.proofs.Common.{is_due, is_empty, is_first_waiting, is_line_before, is_on_shelf, is_shelf}
+use Rattle.desk_commands.proofs.Common.{length-map, length-rows, line_for, line_of_run, lines_from, list_any, most_runs}
+use Rattle.desk_commands.proofs.Common.{nat_le, nat_lt, nat_tests, next_run, nth, numbered_within, numbers_to}
+use Rattle.desk_commands.proofs.Common.{open_ones, opens, option_map, order_row, order_rows, orders_of_run, picked_due}
+use Rattle.desk_commands.proofs.Common.{run_line_row, run_line_rows, run_row, some_and, stands, tables}
+use Rattle.desk_commands.proofs.Common.{take-append-drop, take-map, take_all}
 use Rattle.desk_commands.proofs.MovedAll.{AreWithin, all_taken}
 use Rattle.desk_commands.proofs.Picked.{due_shown, is_open_for}
 use Rattle.desk_commands.proofs.Reshelved.{all_left, rising_left, rising_to}
@@ -63,10 +64,18 @@ split_at (x ∷ xs) (suc i) (suc j) low =
     ap (λ l. x ∷ l) (ap (λ n. take i xs ++ take n (drop i xs)) e ∙ split_at xs i j (omega (arith, low)))
 
 -- those of one more part
-pub part_more : {X : Type 0} (test : X → Bool) (xs : List X) (i j : ℕ) → i ≤ j
+part_more : {X : Type 0} (test : X → Bool) (xs : List X) (i j : ℕ) → i ≤ j
     → filter test (take i xs) ++ filter test (take (j - i) (drop i xs)) ≡ filter test (take j xs)
 part_more test xs i j low =
     sym (filter-append test (take i xs) (take (j - i) (drop i xs))) ∙ ap (filter test) (split_at xs i j low)
+
+-- so they are found after the others
+pub part_found : (s : State) (first waiting : List ContainerOrder) (i j : ℕ) {due found more : List ContainerOrder} → i ≤ j
+    → due ≡ first ++ open_ones s (take i waiting) → found ≡ open_ones s (take (j - i) (drop i waiting)) → more ≡ due ++ found
+    → more ≡ first ++ open_ones s (take j waiting)
+part_found s first waiting i j {found = found} low due_is found_is more_is =
+    more_is ∙ ap₂ ◌++◌ due_is found_is ∙ append_assoc first (open_ones s (take i waiting)) (open_ones s (take (j - i) (drop i waiting)))
+    ∙ ap (λ l. first ++ l) (part_more (λ (o : ContainerOrder). opens s o.ticket o.container) waiting i j low)
 
 -- those of the first that pass both tests are as many as are sought
 pub head_enough : {X : Type 0} (opened shelved : X → Bool) (most i : ℕ) (xs : List X) → length (filter opened (filter shelved (take i xs))) ≡ most
@@ -85,6 +94,22 @@ pub head_and_rest : {X : Type 0} (opened shelved : X → Bool) (i : ℕ) (xs : L
 head_and_rest opened shelved i xs =
     sym (filter-append opened (filter shelved (take i xs)) (filter shelved (drop i xs)))
     ∙ ap (filter opened) (sym (filter-append shelved (take i xs) (drop i xs)) ∙ ap (filter shelved) (take-append-drop i xs))
+
+-- the open ones of these orders that stand on the shelf: the first of them are looked at first
+module _ (s : State) (shelved : ContainerOrder → Bool) (most i : ℕ) (waiting : List ContainerOrder) {near found : List ContainerOrder} (near_is : near ≡ filter shelved (take i waiting)) (found_is : found ≡ open_ones s near) where
+  of_first : found ≡ open_ones s (filter shelved (take i waiting))
+  of_first = found_is ∙ ap (open_ones s) near_is
+
+  -- they are enough
+  pub found_enough : length found ≡ most → found ≡ open_orders s most (filter shelved waiting)
+  found_enough many = of_first ∙ head_enough (λ (o : ContainerOrder). opens s o.ticket o.container) shelved most i waiting (sym (ap length of_first) ∙ many)
+
+  -- the others are looked at too
+  pub found_later : {far due : List ContainerOrder} → far ≡ filter shelved (drop i waiting)
+      → due ≡ take most (found ++ open_ones s far) → due ≡ open_orders s most (filter shelved waiting)
+  found_later far_is due_is =
+      due_is
+      ∙ ap (take most) (ap₂ ◌++◌ of_first (ap (open_ones s) far_is) ∙ head_and_rest (λ (o : ContainerOrder). opens s o.ticket o.container) shelved i waiting)
 
 rising_taken : (k : ℕ) (ns : List ℕ) → IsAscending ns → IsAscending (take k ns)
 rising_taken zero ns h = tt

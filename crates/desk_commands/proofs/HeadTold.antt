@@ -1,13 +1,15 @@
 -- The head of a container's queue, as the desk is told of it: is the container known, where is it, and who is the first
 -- that waits.
-use Rattle.std.proofs.Common.{◌≡◌, ℕ, true, false, ◌||◌, List, [], ◌∷◌, Option, Some, None, refl, sym, ap, ◌∙◌}
+use Rattle.std.proofs.Common.{◌≡◌, ℕ, true, false, ◌||◌, List, [], ◌∷◌, Option, Some, None, refl, sym, ap, subst, ◌∙◌}
 use Rattle.isad_core.specs.declared.values.BoxKey.{BoxKey}
+use Rattle.desk_store.specs.Storage.{IsHeaded, container_with}
+use Rattle.desk_store.specs.declared.queue_heads.QueueHead.{QueueHead}
 use Rattle.refinement.proofs.QueuesShown.{place_shown, told_queue}
 use Rattle.desk_commands.specs.Issuance.{IsQueuedFor, first_waiting}
-use Rattle.desk_commands.proofs.Common.{IsHeaded, IsSoundOffice, Order, QueueHead, State, Version, WaitingOrder}
-use Rattle.desk_commands.proofs.Common.{cons_option, container_of, container_with, filter_map, first, has_container}
-use Rattle.desk_commands.proofs.Common.{is_container, is_out_for, is_some, nth, option_and_then, option_map}
-use Rattle.desk_commands.proofs.Common.{same_number, slice_get, stands, storage_of, waiting}
+use Rattle.desk_commands.proofs.Common.{IsSoundOffice, Order, State, Version, WaitingOrder, cons_option, container_of}
+use Rattle.desk_commands.proofs.Common.{filter_map, first, has_container, is_container, is_out_for, is_some, nth}
+use Rattle.desk_commands.proofs.Common.{option_and_then, option_map, same_number, slice_get, stands, storage_of}
+use Rattle.desk_commands.proofs.Common.{waiting}
 
 -- an order that waits, with its ticket
 abbrev pub waiter : ℕ → Order → WaitingOrder
@@ -38,19 +40,22 @@ module _ (s : State) (c : ℕ) where
               absurd (let bad : None ≡ Some c = sym none ∙ for_it in cc)
 
   module _ (version : Version) where
-    pub none_queued : IsHeaded c (storage_of version s) (container_with c (storage_of version s)) None
-        → is_container s c ≡ false
-    none_queued it = sym (has_container version s c) ∙ at (container_with c (storage_of version s)) it
+    pub none_queued : {told : Option QueueHead} → IsHeaded c (storage_of version s) (container_with c (storage_of version s)) told
+        → told ≡ None → is_container s c ≡ false
+    none_queued it none =
+        sym (has_container version s c)
+        ∙ at (container_with c (storage_of version s)) (subst (λ (head : Option QueueHead). IsHeaded c (storage_of version s) (container_with c (storage_of version s)) head) none it)
       where
         at : (box : Option (ℕ × BoxKey)) → IsHeaded c (storage_of version s) box None → is_some box ≡ false
         at None it = refl
         at (Some box) it = absurd it
 
     -- the container is known, is where it is told to be, and the order that is told is the first that waits for it
-    pub queued_at : IsSoundOffice s → (head : QueueHead)
-        → IsHeaded c (storage_of version s) (container_with c (storage_of version s)) (Some head)
+    pub queued_at : IsSoundOffice s → (head : QueueHead) {told : Option QueueHead}
+        → IsHeaded c (storage_of version s) (container_with c (storage_of version s)) told → told ≡ Some head
         → IsQueuedFor s c head.place head.first
-    queued_at sound head it = at (container_with c (storage_of version s)) refl it
+    queued_at sound head it found =
+        at (container_with c (storage_of version s)) refl (subst (λ (head : Option QueueHead). IsHeaded c (storage_of version s) (container_with c (storage_of version s)) head) found it)
       where
         at : (box : Option (ℕ × BoxKey)) → container_with c (storage_of version s) ≡ box
             → IsHeaded c (storage_of version s) box (Some head) → IsQueuedFor s c head.place head.first

@@ -1,6 +1,6 @@
 -- A container that is given to a reader, in the rows of the desk; and when it may be.
-use Rattle.std.proofs.Common.{◌≡◌, ℕ, Bool, true, false, cond, ◌||◌, nat_eq, List, [], ◌∷◌, Option, Some, None, Ok, inl}
-use Rattle.std.proofs.Common.{inr, refl, sym, ap, subst, ◌∙◌, arith}
+use Rattle.std.proofs.Common.{◌≡◌, ℕ, Bool, true, false, cond, nat_eq, List, [], ◌∷◌, Option, Some, None, Ok, inl, inr}
+use Rattle.std.proofs.Common.{refl, sym, ap, subst, ◌∙◌}
 use Rattle.std.specs.Prelude.{ℤ}
 use Rattle.desk_core.specs.Decisions as decided
 use Rattle.desk_core.specs.declared.reader.Place.TheVariants.{Desk}
@@ -12,7 +12,7 @@ use Rattle.office_core.specs.declared.done.Done.TheVariants as done
 use Rattle.refinement.proofs.SeatsShown.{some_placed}
 use Rattle.refinement.specs.Sitters.{sitter, sitter_of}
 use Rattle.desk_commands.specs.Issuance.{IsQueuedFor, asked_for, first_waiting}
-use Rattle.desk_commands.proofs.Common.{CarriesOutStep, Command, Database, Forest, HoldingRow, IsNumber, IsSoundOffice}
+use Rattle.desk_commands.proofs.Common.{CarriesOutStep, Command, Database, Forest, HoldingRow, IsSoundOffice}
 use Rattle.desk_commands.proofs.Common.{IssueFacts, Limits, NotAtDesk, NotFirst, OnlyTouches, Order, OrderRow, Out}
 use Rattle.desk_commands.proofs.Common.{Place, Reader, Refusal, RepresentsDesk, RepresentsState, Shelf, Standing, State}
 use Rattle.desk_commands.proofs.Common.{Trees, UnknownContainer, Version, WaitingOrder, accepts, cases_Bool, checks}
@@ -21,8 +21,8 @@ use Rattle.desk_commands.proofs.Common.{held_count, holder_shown, int_lt, is_by,
 use Rattle.desk_commands.proofs.Common.{is_issued, is_out_for, is_seat_of, is_seated, is_some, is_ticket, issue_checks}
 use Rattle.desk_commands.proofs.Common.{issue_facts, issued, limits_of, nth, only_issues, opens, option_and_then}
 use Rattle.desk_commands.proofs.Common.{option_map, order_rows, passed_issue, passes, place_after, refusal, rows_moved}
-use Rattle.desk_commands.proofs.Common.{same_number, seat_of, some_and, stands, stands_out, state_number, tables}
-use Rattle.desk_commands.proofs.Common.{ticket_holder, unwrap_or, waits_within, with_state}
+use Rattle.desk_commands.proofs.Common.{seat_of, some_and, stands, stands_out, state_number, tables, ticket_holder}
+use Rattle.desk_commands.proofs.Common.{unwrap_or, with_state}
 use Rattle.desk_commands.proofs.HeadTold.{waiter}
 
 -- ---- who may have it
@@ -128,14 +128,6 @@ module _ (s : State) (c : ℕ) where
 
 -- ---- what it does
 
--- an order that waits is one of those that were placed
-pub small_head : (s : State) → IsSoundOffice s → (c o : ℕ) → first (s.queue c) ≡ Some o → IsNumber o
-small_head s sound c o head = let within = waits_within s c o sound.sound.desk.filed (at (s.queue c) head) in let few = sound.sound.desk.orders.few in omega (arith, within, few)
-  where
-    at : (q : List ℕ) → first q ≡ Some o → stands o q ≡ true
-    at [] h = absurd (cc)
-    at (p ∷ os) h = let same : o ≡ p = cc in ap (λ b. b || stands o os) (ap (nat_eq o) (sym same) ∙ same_number o)
-
 module _ (places : Trees → Forest ℕ → Type 0) (version : Version) (s : State) (c t : ℕ) where
   abbrev asked : Command
   asked = command.Issue c t
@@ -177,12 +169,11 @@ module _ (places : Trees → Forest ℕ → Type 0) (version : Version) (s : Sta
 
 -- ---- the decision on what was read
 
-pub decided_as : (version : Version) (s : State) (c t : ℕ) → IsSoundOffice s
-    → (place : Place) (head : Option WaitingOrder) (opened : Bool) (who : Option Sitter) (today : ℤ) (limits : Limits)
-    → today ≡ s.day → limits ≡ limits_of s → IsQueuedFor s c place head → who ≡ ticket_holder t (tables version s).desk
+pub decided_as : (version : Version) (t : ℕ) {s : State} {c : ℕ} {place : Place} {head : Option WaitingOrder} {opened : Bool} {who : Option Sitter} {today : ℤ} {limits : Limits}
+    → IsSoundOffice s → today ≡ s.day → limits ≡ limits_of s → IsQueuedFor s c place head → who ≡ ticket_holder t (tables version s).desk
     → opened ≡ opens s t c
     → first_that_holds (issue_checks (issue_facts (Some (asked_for place head opened)) t who today limits)) ≡ refusal s (command.Issue c t)
-decided_as version s c t sound place head opened who today limits day allowed queued told is_open =
+decided_as version t {s} {c} {place} {head} {opened} {who} {today} {limits} sound day allowed queued told is_open =
     ap (λ (r : Option Sitter). first_that_holds (issue_checks (issue_facts (Some (asked_for place head opened)) t r today limits))) (told ∙ holder_shown version s sound t)
     ∙ ap (λ (n : ℤ). first_that_holds (issue_checks (issue_facts (Some (asked_for place head opened)) t (sitter s t) n limits))) day
     ∙ ap (λ (l : Limits). first_that_holds (issue_checks (issue_facts (Some (asked_for place head opened)) t (sitter s t) s.day l))) allowed

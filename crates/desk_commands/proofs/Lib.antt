@@ -1,9 +1,9 @@
 pub mod Common
+pub mod OneStep
 pub mod Registered
 pub mod StillOut
 pub mod DayOpened
 pub mod Renewed
-pub mod KnownNumbers
 pub mod Seated
 pub mod Ordered
 pub mod Permitted

@@ -1,20 +1,27 @@
 -- Containers that go to one place, one after the other, in the rows of the desk.
-use Rattle.std.proofs.Common.{◌≡◌, ℕ, ◌<◌, ◌≤◌, get_or, Bool, true, false, cond, ◌||◌, nat_eq, List, [], ◌∷◌, ◌++◌}
-use Rattle.std.proofs.Common.{length, take, zero, suc, refl, sym, ap, ◌∙◌, arith}
+use Rattle.std.proofs.Common.{◌≡◌, ℕ, ◌<◌, ◌≤◌, get_or, Bool, true, false, cond, ◌||◌, nat_eq, List, [], ◌∷◌, ◌++◌, ◌+◌}
+use Rattle.std.proofs.Common.{length, take, zero, suc, refl, sym, ap, subst, ◌∙◌, arith}
 use Rattle.std.proofs.Math.Path.{fun_ext}
 use Rattle.desk_core.specs.DeskRows.{Desk}
 use Rattle.desk_store.proofs.MadeInTurn.{legible_place}
-use Rattle.desk_commands.proofs.Common.{AllByRecursion, HoldingRow, IsLegible, IsNumber, Order, Place, State}
-use Rattle.desk_commands.proofs.Common.{all_placed, flipped, numbers_to, order_row, order_rows, placed_at, placed_to}
-use Rattle.desk_commands.proofs.Common.{rows_from, rows_of, standing, stands, state_number, update_at, with_all_placed}
-use Rattle.desk_commands.proofs.Common.{with_place}
+use Rattle.desk_commands.proofs.Common.{AllByRecursion, HoldingRow, IsLegible, IsNumber, Order, Place, RepresentsDesk}
+use Rattle.desk_commands.proofs.Common.{State, Trees, all_placed, flipped, numbers_to, order_row, order_rows, placed_at}
+use Rattle.desk_commands.proofs.Common.{placed_to, rows_from, rows_of, standing, stands, state_number, take_more}
+use Rattle.desk_commands.proofs.Common.{update_at, with_all_placed, with_place}
 
 -- ---- one container more
 
-pub one_more_placed : (p : Place) (cs : List ℕ) (c : ℕ) (rows : List HoldingRow)
+one_more_placed : (p : Place) (cs : List ℕ) (c : ℕ) (rows : List HoldingRow)
     → all_placed p (cs ++ c ∷ []) rows ≡ placed_at c p (all_placed p cs rows)
 one_more_placed p [] c rows = refl
 one_more_placed p (k ∷ cs) c rows = one_more_placed p cs c (placed_at k p rows)
+
+pub next_placed : {db : Trees} (p : Place) (cs : List ℕ) (i : ℕ) (d : Desk) → i < length cs
+    → RepresentsDesk db (with_place (get_or cs i 0) p (with_all_placed p (take i cs) d))
+    → RepresentsDesk db (with_all_placed p (take (i + 1) cs) d)
+next_placed {db} p cs i d low it =
+    subst (λ (l : List ℕ). RepresentsDesk db (with_all_placed p l d)) (sym (take_more cs i 0 low))
+    (subst (λ (rows : List HoldingRow). RepresentsDesk db (record d { holdings = rows })) (sym (one_more_placed p (take i cs) (get_or cs i 0) d.holdings)) it)
 
 pub legible_all : (p : Place) (cs : List ℕ) (d : Desk) → AllByRecursion IsNumber cs → IsLegible d
     → IsLegible (with_all_placed p cs d)

@@ -4,25 +4,27 @@ use Rattle.std.proofs.Common.{length, map, Some, None, Ok, Less, inl, inr, refl,
 use Rattle.std.specs.Ordering.{int_cmp}
 use Rattle.sqlite.specs.Order.{Row}
 use Rattle.sqlite.specs.declared.types.Value.TheVariants.{Int}
+use Rattle.catalogue_core.specs.UnitLookup.{has_unit}
+use Rattle.catalogue_core.specs.Units.{Unit, has_id}
 use Rattle.office_tables.proofs.Sorted.{only_order}
 use Rattle.office_tables.proofs.numbered.Counted.{below_less}
+use Rattle.office_tables.specs.Order.{IsOrdered, Rises}
 use Rattle.office_tables.specs.Schema as schema
 use Rattle.catalogue_statements.specs.Rows.{cells_of_unit}
+use Rattle.desk_store.specs.Permits.{HasUnitRow, MayHave, by_permitted_unit, desk_with_permit, permits_of}
 use Rattle.desk_store.specs.declared.reader_permits.Permit.{Permit as Told}
 use Rattle.office_core.proofs.Counts.{numbered_from_one}
 use Rattle.office_core.specs.declared.command.Command.TheVariants as command
 use Rattle.office_core.specs.declared.done.Done.TheVariants as done
 use Rattle.refinement.proofs.PermitsShown.{granted_rows, permits_reordered, permits_shown, told_of, by_unit_total}
 use Rattle.desk_commands.specs.Permits.{MayPermit, later_of, until_for}
-use Rattle.desk_commands.proofs.Common.{AllByRecursion, ByUnit, CarriesOutStep, Database, Forest, Full, HasUnitRow}
-use Rattle.desk_commands.proofs.Common.{IsOrdered, IsPermutation, IsSoundOffice, MayHave, OnlyTouches, Permit}
-use Rattle.desk_commands.proofs.Common.{RepresentsDesk, RepresentsState, Rises, StandsIn, State, Trees, Unit}
-use Rattle.desk_commands.proofs.Common.{UnknownTicket, UnknownUnit, Version, accepts, after, by_permitted_unit, checks}
-use Rattle.desk_commands.proofs.Common.{desk_with_permit, eqb-true, find, granted_until, has_id, has_permit, has_unit}
-use Rattle.desk_commands.proofs.Common.{held_so, int_lt, is_some, is_ticket, length-map, length-rows, list_any}
-use Rattle.desk_commands.proofs.Common.{list_any-IsPermutation, most_permits, nat_le, nodes, numbered_within}
-use Rattle.desk_commands.proofs.Common.{option_map, passed_permit, passes, permit_rows, permits_of, reader_row, refusal}
-use Rattle.desk_commands.proofs.Common.{rowid, some_in, tables}
+use Rattle.desk_commands.proofs.Common.{AllByRecursion, ByUnit, CarriesOutStep, Database, Forest, Full, IsPermutation}
+use Rattle.desk_commands.proofs.Common.{IsSoundOffice, OnlyTouches, Permit, RepresentsDesk, RepresentsState, StandsIn}
+use Rattle.desk_commands.proofs.Common.{State, Trees, UnknownTicket, UnknownUnit, Version, accepts, after, checks}
+use Rattle.desk_commands.proofs.Common.{eqb-true, find, granted_until, has_permit, held_so, int_lt, is_some, is_ticket}
+use Rattle.desk_commands.proofs.Common.{length-map, length-rows, list_any, list_any-IsPermutation, most_permits, nat_le}
+use Rattle.desk_commands.proofs.Common.{nodes, numbered_within, option_map, passed_permit, passes, permit_rows}
+use Rattle.desk_commands.proofs.Common.{reader_row, refusal, rowid, some_in, tables}
 
 -- ---- the permits that are read
 
@@ -63,7 +65,10 @@ later_until u day (p ∷ ps) = at (nat_eq p.unit u) (later_until u day ps)
     at true rest = refl
     at false rest = rest
 
-module _ (version : Version) (s : State) (sound : IsSoundOffice s) (t u : ℕ) (held : List Told) (read : IsOrdered by_permitted_unit (permits_of t (tables version s).desk) held) where
+module _ (version : Version) (s : State) (sound : IsSoundOffice s) (t u : ℕ) {held told : List Told} (same : held ≡ told) (ordered : IsOrdered by_permitted_unit (permits_of t (tables version s).desk) told) where
+  read : IsOrdered by_permitted_unit (permits_of t (tables version s).desk) held
+  read = subst (IsOrdered by_permitted_unit (permits_of t (tables version s).desk)) (sym same) ordered
+
   pub has_read : is_some (until_for u held) ≡ has_permit s t u
   has_read = ap (λ l. is_some (until_for u l)) (read_are version s sound t held read) ∙ some_until u (s.permits t)
 

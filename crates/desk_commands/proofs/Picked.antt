@@ -3,13 +3,14 @@ use Rattle.std.proofs.Common.{◌≡◌, ℕ, suc, ◌<◌, Bool, true, false, n
 use Rattle.std.proofs.Common.{map, filter, Option, inl, inr, refl, sym, ap, subst, ◌∙◌, arith}
 use Rattle.std.proofs.Math.Bool.{and_comm}
 use Rattle.desk_core.specs.declared.reader.Place.TheVariants.{Desk}
+use Rattle.refinement.proofs.OrderRows.{waits_by_row}
 use Rattle.desk_commands.proofs.Common.{AllByRecursion, ContainerOrder, HoldingRow, IsAscending, IsSoundOffice, Order}
 use Rattle.desk_commands.proofs.Common.{OrderRow, Out, Place, StandsIn, State, Version, any_same, below_none}
 use Rattle.desk_commands.proofs.Common.{candidates_of, cases_Bool, eqb-true, first, flipped, holding_rows, in_rows}
 use Rattle.desk_commands.proofs.Common.{is_due, is_first_waiting, is_on_shelf, is_shelf, list_any, nat_lt, nat_tests}
 use Rattle.desk_commands.proofs.Common.{numbers_from, numbers_to, opens, option_map, order_row, order_rows, place_from}
 use Rattle.desk_commands.proofs.Common.{place_in, reads_back, rows_from, some_and, stands, tables, to_from, unwrap_or}
-use Rattle.desk_commands.proofs.Common.{waits_by_row, waits_for}
+use Rattle.desk_commands.proofs.Common.{waits_for}
 
 -- ---- a container without a row is on the shelf
 

@@ -1,6 +1,6 @@
 -- A ticket that gets another last day, in the rows of the desk.
 use Rattle.std.proofs.Common.{◌≡◌, ℕ, zero, suc, ◌+◌, ◌<◌, true, false, nat_eq, List, [], ◌∷◌, length, map, Some, None}
-use Rattle.std.proofs.Common.{Ok, Err, refl, sym, ap, subst, ◌∙◌, arith}
+use Rattle.std.proofs.Common.{Ok, refl, sym, ap, subst, ◌∙◌, arith}
 use Rattle.std.specs.Prelude.{ℤ}
 use Rattle.office_tables.specs.Schema as schema
 use Rattle.desk_store.specs.Readers as store
@@ -11,8 +11,7 @@ use Rattle.desk_commands.proofs.Common.{AreTexts, CarriesOutStep, Command, Datab
 use Rattle.desk_commands.proofs.Common.{Reader, ReaderRow, Reply, RepresentsDesk, RepresentsState, State, Trees}
 use Rattle.desk_commands.proofs.Common.{UnknownTicket, Version, accepted, after, always_texts, desk_step, flat_map}
 use Rattle.desk_commands.proofs.Common.{is_some, is_ticket, nat_tests, nth, numbers_to, permit_row, permit_rows}
-use Rattle.desk_commands.proofs.Common.{reader_row, refusal, refused, renewed, rows_from, same_number, tables}
-use Rattle.desk_commands.proofs.Common.{with_last_day}
+use Rattle.desk_commands.proofs.Common.{reader_row, refusal, renewed, rows_from, same_number, tables, with_last_day}
 
 before : (n t : ℕ) → t < n → nat_eq t n ≡ false
 before n t less = grind (arith, nat_tests, less)
@@ -61,11 +60,8 @@ module _ (version : Version) (s : State) (t : ℕ) (until : ℤ) where
       ap (λ (rows : List ReaderRow). record (tables version next).desk { readers = rows }) (renewed_rows until t s.readers known)
       ∙ ap (λ (rows : List PermitRow). record (with_last_day t until (tables version s).desk) { permits = rows }) permits_same
 
-  pub not_known : (places : Trees → Forest ℕ → Type 0) (db : Database) → is_ticket s t ≡ false
-      → CarriesOutStep places version s asked (Err UnknownTicket) db
-  not_known places db unknown =
-      let why : refusal s asked ≡ Some UnknownTicket = rw unknown refl in
-      record { told = sym (ap (λ (p : State × Reply). p.1) (refused s asked UnknownTicket why)); represents = λ ok. absurd (cc) }
+  pub not_known : is_ticket s t ≡ false → refusal s asked ≡ Some UnknownTicket
+  not_known unknown = rw unknown refl
 
   pub renews : (places : Trees → Forest ℕ → Type 0)
       → ((old new : Trees) (f : Forest ℕ) → new schema.link.tree ≡ old schema.link.tree → places old f → places new f)

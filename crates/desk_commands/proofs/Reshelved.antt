@@ -1,6 +1,6 @@
 -- Containers that go back to the shelf, in the rows of the desk.
 use Rattle.std.proofs.Common.{◌≡◌, ℕ, zero, suc, ◌||◌, ◌<◌, ◌≤◌, Bool, true, false, not, cond, ◌&&◌, nat_eq, List, []}
-use Rattle.std.proofs.Common.{◌∷◌, length, map, filter, Some, None, Ok, Err, refl, sym, ap, ◌∙◌, arith}
+use Rattle.std.proofs.Common.{◌∷◌, length, map, filter, Some, None, Ok, refl, sym, ap, ◌∙◌, arith}
 use Rattle.std.proofs.Math.Bool.{and_comm}
 use Rattle.desk_core.specs.Orders.{in_order, put_in_order}
 use Rattle.desk_core.specs.Runs as decided
@@ -14,8 +14,8 @@ use Rattle.desk_commands.proofs.Common.{RepresentsDesk, RepresentsState, Shelf, 
 use Rattle.desk_commands.proofs.Common.{all_of_in, any_same, ascending-push, at_desk_of, cons_option, containers}
 use Rattle.desk_commands.proofs.Common.{flipped, goes_same, holding_row, idle, in_filter, in_numbers, is_desk, is_empty}
 use Rattle.desk_commands.proofs.Common.{is_idle, list_any, nat_lt, nat_tests, numbers_to, order_rows, reads_back}
-use Rattle.desk_commands.proofs.Common.{refusal, refuses, reshelved, reshelved_out, rows_of, some_and, tables}
-use Rattle.desk_commands.proofs.Common.{waits_for, with_all_placed}
+use Rattle.desk_commands.proofs.Common.{refusal, reshelved, reshelved_out, rows_of, some_and, tables, waits_for}
+use Rattle.desk_commands.proofs.Common.{with_all_placed}
 use Rattle.desk_commands.proofs.MovedAll.{AreWithin, all_moved, rows_stay}
 
 -- ---- whether an order waits for a container
@@ -97,10 +97,18 @@ rising_to (suc n) = ascending-push (numbers_to n) (suc n) (rising_to n) (all_of_
 
 module _ (version : Version) (s : State) (sound : IsSoundOffice s) where
   -- what is picked of what is told
-  pub picks_idle : decided.reshelved_containers (at_desk_of (tables version s).desk) ≡ idle s
+  picks_idle : decided.reshelved_containers (at_desk_of (tables version s).desk) ≡ idle s
   picks_idle =
       ap (in_order nat_lt) (told_idle s sound (containers s))
       ∙ rising_order (idle s) (rising_left (is_idle s) (containers s) (rising_to (length s.catalogue.containers)))
+
+  -- it was picked, and it was told whether there is any
+  pub idle_told : {told : List (ℕ × Bool)} {picked seen : List ℕ} {none b : Bool}
+      → picked ≡ decided.reshelved_containers told → told ≡ at_desk_of (tables version s).desk
+      → none ≡ is_empty seen → seen ≡ picked → none ≡ b → (picked ≡ idle s) × (is_empty (idle s) ≡ b)
+  idle_told picked_is told_is none_is same is =
+      let all = picked_is ∙ ap decided.reshelved_containers told_is ∙ picks_idle in
+      (all, ap is_empty (sym all) ∙ ap is_empty (sym same) ∙ sym none_is ∙ is)
 
   idle_within : AreWithin (length s.catalogue.containers) (idle s)
   idle_within = all_of_in (λ c. (1 ≤ c) × (c ≤ length s.catalogue.containers)) (idle s) (λ c k. in_numbers (length s.catalogue.containers) c (in_filter (is_idle s) (containers s) c k).0)
@@ -109,11 +117,10 @@ module _ (version : Version) (s : State) (sound : IsSoundOffice s) where
   small_idle = let few = sound.sound.containers.few in
       all_of_in IsNumber (idle s) (λ c k. let within = (in_numbers (length s.catalogue.containers) c (in_filter (is_idle s) (containers s) c k).0).1 in omega (arith, within, few))
 
-  module _ (places : Trees → Forest ℕ → Type 0) where
-    pub nothing_idle : (db : Database) → is_empty (idle s) ≡ true
-        → CarriesOutStep places version s command.Reshelve (Err NothingToMove) db
-    nothing_idle db none = let why : refusal s command.Reshelve ≡ Some NothingToMove = rw none refl in refuses places version s command.Reshelve db NothingToMove why
+  pub nothing_idle : is_empty (idle s) ≡ true → refusal s command.Reshelve ≡ Some NothingToMove
+  nothing_idle none = rw none refl
 
+  module _ (places : Trees → Forest ℕ → Type 0) where
     pub reshelves : ((old new : Trees) (f : Forest ℕ) → new schema.link.tree ≡ old schema.link.tree → places old f → places new f)
         → (before now : Database) → is_empty (idle s) ≡ false → RepresentsState places version before s
         → now.schema ≡ before.schema → OnlyTouches (schema.holding.tree ∷ []) before now

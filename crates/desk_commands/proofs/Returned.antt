@@ -1,6 +1,5 @@
 -- A container that comes back, in the rows of the desk.
-use Rattle.std.proofs.Common.{◌≡◌, ℕ, true, false, List, [], ◌∷◌, Option, Some, None, Ok, Err, refl, sym, ap, ◌∙◌}
-use Rattle.std.proofs.Common.{arith}
+use Rattle.std.proofs.Common.{◌≡◌, ℕ, true, false, List, [], ◌∷◌, Option, Some, None, Ok, refl, sym, ap, ◌∙◌, arith}
 use Rattle.desk_core.specs.declared.reader.Place.TheVariants.{Desk}
 use Rattle.office_tables.specs.Schema as schema
 use Rattle.desk_store.specs.declared.orders.OrderState.TheVariants as states
@@ -12,8 +11,8 @@ use Rattle.desk_commands.proofs.Common.{IsSoundOffice, NotIssued, OnlyTouches, O
 use Rattle.desk_commands.proofs.Common.{RepresentsDesk, RepresentsState, Shelf, Standing, State, Trees}
 use Rattle.desk_commands.proofs.Common.{UnknownContainer, Version, accepts, container_of, handed_over, is_container}
 use Rattle.desk_commands.proofs.Common.{is_out, is_out_for, is_returned, is_some, numbered_within, only_returns}
-use Rattle.desk_commands.proofs.Common.{order_out, order_rows, place_after, refusal, refuses, returned, rows_moved}
-use Rattle.desk_commands.proofs.Common.{stands, stands_past, state_number, tables, unwrap_or, with_state}
+use Rattle.desk_commands.proofs.Common.{order_out, order_rows, place_after, refusal, returned, rows_moved, stands}
+use Rattle.desk_commands.proofs.Common.{stands_past, state_number, tables, unwrap_or, with_state}
 
 -- the order that a container is out with is one of those that were placed
 pub small_order : (s : State) → IsSoundOffice s → (c o : ℕ) → s.place c ≡ Out o → IsNumber o
@@ -31,9 +30,8 @@ module _ (places : Trees → Forest ℕ → Type 0) (version : Version) (s : Sta
       → refusal s asked ≡ Some why
   unknown_container why is unknown = let first : refusal s asked ≡ Some UnknownContainer = rw unknown refl in first ∙ ap Some (sym is)
 
-  pub not_issued : (db : Database) → is_container s c ≡ true → is_out s c ≡ false
-      → CarriesOutStep places version s asked (Err NotIssued) db
-  not_issued db known in_house = let why : refusal s asked ≡ Some NotIssued = rw (known, in_house) refl in refuses places version s asked db NotIssued why
+  pub not_issued : is_container s c ≡ true → is_out s c ≡ false → refusal s asked ≡ Some NotIssued
+  not_issued known in_house = rw (known, in_house) refl
 
   module _ (o : ℕ) (out : s.place c ≡ Out o) where
     rows_after : IsSoundOffice s → order_rows (returned s c (Out o)) ≡ with_state o 3 (order_rows s)

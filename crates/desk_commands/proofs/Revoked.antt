@@ -4,7 +4,10 @@ use Rattle.std.proofs.Common.{ap, subst, ◌∙◌, nat_eq}
 use Rattle.isad_core.specs.Days.{is_day_number}
 use Rattle.tree_core.proofs.Lists.{eqb_comm}
 use Rattle.catalogue_core.proofs.DistinctLists.{all_so}
+use Rattle.catalogue_core.specs.UnitLookup.{has_unit}
+use Rattle.catalogue_core.specs.Units.{Unit, has_id}
 use Rattle.office_tables.specs.Schema as schema
+use Rattle.desk_store.specs.Permits.{desk_without_permit, is_permit}
 use Rattle.office_core.specs.AccessRestrictions.{MayRevoke}
 use Rattle.office_core.specs.declared.command.Command.TheVariants as command
 use Rattle.refinement.proofs.PermitsShown.{revoked_rows}
@@ -13,10 +16,10 @@ use Rattle.access.proofs.OpenElsewhere.{none_left, stays_permitted, still_open}
 use Rattle.access.specs.Gate.{OthersAreOpen}
 use Rattle.desk_commands.proofs.Common.{AllByRecursion, AreTexts, CanBeJudged, Database, Forest, IsLegible}
 use Rattle.desk_commands.proofs.Common.{IsSoundOffice, NoPermit, OnlyTouches, Permit, PermitRow, RepresentsDesk}
-use Rattle.desk_commands.proofs.Common.{RepresentsState, State, Trees, Unit, UnknownTicket, UnknownUnit, Version, after}
-use Rattle.desk_commands.proofs.Common.{cases_eq, cut, desk_step, desk_without_permit, eqb-true, first_that_holds, gate}
-use Rattle.desk_commands.proofs.Common.{has_id, has_permit, has_unit, is_permit, is_permitted, is_ticket, judged_now}
-use Rattle.desk_commands.proofs.Common.{nodes, permit_rows, put_here, put_there, refusal, revoked, tables, update_at}
+use Rattle.desk_commands.proofs.Common.{RepresentsState, State, Trees, UnknownTicket, UnknownUnit, Version, after}
+use Rattle.desk_commands.proofs.Common.{cases_eq, cut, desk_step, eqb-true, first_that_holds, gate, has_permit}
+use Rattle.desk_commands.proofs.Common.{is_permitted, is_ticket, judged_now, nodes, permit_rows, put_here, put_there}
+use Rattle.desk_commands.proofs.Common.{refusal, revoked, tables, update_at}
 
 all_kept : {X : Type 0} (P : X → Type 0) (p : X → Bool) (xs : List X) → AllByRecursion P xs
     → AllByRecursion P (filter p xs)

@@ -9,17 +9,19 @@ use Rattle.isad_core.specs.Days.{IsDayNumber, is_day_number}
 use Rattle.desk_core.specs.DeskRows.{Desk as Rows}
 use Rattle.desk_core.specs.declared.reader.Place.TheVariants.{Desk}
 use Rattle.office_tables.specs.Schema as schema
+use Rattle.desk_store.proofs.PickingCalls.{candidates_are}
 use Rattle.desk_store.specs.Runs as stored
 use Rattle.office_core.specs.declared.command.Command.TheVariants as command
 use Rattle.office_core.specs.declared.done.Done.TheVariants as done
+use Rattle.desk_commands.specs.RunCreation.{open_orders, taken_by}
 use Rattle.desk_commands.proofs.Common.{All-permutation, AllByRecursion, CarriesOutStep, ContainerOrder, Database}
 use Rattle.desk_commands.proofs.Common.{Forest, Full, HoldingRow, IsLegible, IsNumberOf, IsPermutation}
-use Rattle.desk_commands.proofs.Common.{IsPermutation-sym, IsPermutation-trans, IsSoundOffice, NothingToMove}
+use Rattle.desk_commands.proofs.Common.{IsPermutation-sym, IsPermutation-trans, IsSoundOffice, Limits, NothingToMove}
 use Rattle.desk_commands.proofs.Common.{OnlyTouches, OrderRow, Place, RepresentsDesk, RepresentsState, RunLineRow}
 use Rattle.desk_commands.proofs.Common.{RunRow, State, Trees, Version, accepts, all_placed, fetched, fetched_out}
-use Rattle.desk_commands.proofs.Common.{goes_same, holding_rows, is_empty, most_runs, nat_le, new_run, numbers_to}
-use Rattle.desk_commands.proofs.Common.{order_rows, orders_of_run, refusal, refuses, rows_of, run_line_rows, run_row}
-use Rattle.desk_commands.proofs.Common.{some_and, tables, taken_by, with_all_placed, with_run}
+use Rattle.desk_commands.proofs.Common.{firsts_of, goes_same, holding_rows, is_empty, limits_of, most_runs, nat_le}
+use Rattle.desk_commands.proofs.Common.{new_run, numbers_to, on_shelf, order_rows, orders_of_run, refusal, refuses}
+use Rattle.desk_commands.proofs.Common.{rows_of, run_line_rows, run_row, some_and, tables, with_all_placed, with_run}
 use Rattle.desk_commands.proofs.Fetched.{as_many, brought, none_left, none_taken, one_left, same_lines, taken_within}
 use Rattle.desk_commands.proofs.MovedAll.{all_moved, rows_stay}
 use Rattle.desk_commands.proofs.Registered.{rows_end}
@@ -73,6 +75,16 @@ legible_run (Some n) day os d good it = record {
     one_more [] h = (good, tt)
     one_more (row ∷ rows) h = (h.0, one_more rows h.1)
 
+-- what a run takes, by the orders that were found of those that were told
+pub due_taken : (version : Version) (s : State) {limits : Limits} {waiting due : List ContainerOrder}
+    → due ≡ open_orders s limits.run (on_shelf (tables version s).desk waiting) → limits ≡ limits_of s
+    → waiting ≡ firsts_of (tables version s).desk → due ≡ taken_by version s
+due_taken version s {waiting = waiting} found allowed told =
+    found
+    ∙ ap (λ (l : Limits). open_orders s l.run (on_shelf (tables version s).desk waiting)) allowed
+    ∙ ap (λ l. open_orders s s.settings.run_size (on_shelf (tables version s).desk l)) told
+    ∙ ap (open_orders s s.settings.run_size) (candidates_are (tables version s).desk)
+
 module _ (version : Version) (s : State) (sound : IsSoundOffice s) where
   pub today_legible : (day : ℤ) → day ≡ s.day → is_day_number day ≡ true
   today_legible day today = is_day_number-true day (subst IsDayNumber (sym today) sound.sound.days.today)
@@ -104,14 +116,10 @@ module _ (version : Version) (s : State) (sound : IsSoundOffice s) where
       ∙ ap (λ (rows : List HoldingRow). record (tables version (fetched s)).desk { orders = order_rows s; holdings = rows }) holdings_moved
       ∙ ap (λ (rows : List RunRow). record desk { holdings = all_placed Desk containers_taken (holding_rows s); runs = rows; run_lines = run_line_rows (fetched s) }) (rows_end run_row s.runs (new_run s))
 
-  module _ (places : Trees → Forest ℕ → Type 0) where
-    pub nothing_due : (db : Database) → is_empty taken ≡ true
-        → CarriesOutStep places version s command.Run (Err NothingToMove) db
-    nothing_due db none =
-        let nobody : is_empty (orders_of_run s) ≡ true = none_taken version s sound ∙ none in
-        let why : refusal s command.Run ≡ Some NothingToMove = rw nobody refl in
-        refuses places version s command.Run db NothingToMove why
+  pub nothing_due : is_empty taken ≡ true → refusal s command.Run ≡ Some NothingToMove
+  nothing_due none = let nobody : is_empty (orders_of_run s) ≡ true = none_taken version s sound ∙ none in rw nobody refl
 
+  module _ (places : Trees → Forest ℕ → Type 0) where
     no_number_left : (db : Database) → is_empty taken ≡ false → nat_le most_runs (length s.runs) ≡ true
         → CarriesOutStep places version s command.Run (Err Full) db
     no_number_left db some full =

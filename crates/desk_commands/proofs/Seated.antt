@@ -71,11 +71,13 @@ module _ (s : State) (sound : IsSoundOffice s) (t : ℕ) where
       sym leave_checked ∙ ap (λ w. first_that_holds (leave_seat_checks (leave_seat_facts w))) (sym is) ∙ sym holds
 
   -- the seats that are taken, in whatever order
-  pub numbers_told : (version : Version) (taken : List TakenSeat) (numbers : List ℕ)
+  pub numbers_told : (version : Version) {taken : List TakenSeat} {numbers seen : List ℕ}
       → taken ≡ taken_seats (tables version s).desk → IsPermutation (map (λ (r : TakenSeat). r.seat) taken) numbers
-      → (k : ℕ) → list_any (nat_eq k) numbers ≡ list_any (nat_eq k) (map (λ (r : SeatRow). r.seat) (seat_rows s))
-  numbers_told version taken numbers are same k =
-      sym (list_any-IsPermutation (nat_eq k) (map (λ (r : TakenSeat). r.seat) taken) numbers same)
+      → seen ≡ numbers
+      → (k : ℕ) → list_any (nat_eq k) seen ≡ list_any (nat_eq k) (map (λ (r : SeatRow). r.seat) (seat_rows s))
+  numbers_told version {taken} {numbers} are same shown k =
+      ap (list_any (nat_eq k)) shown
+      ∙ sym (list_any-IsPermutation (nat_eq k) (map (λ (r : TakenSeat). r.seat) taken) numbers same)
       ∙ ap (λ l. list_any (nat_eq k) (map (λ (r : TakenSeat). r.seat) l)) are
       ∙ list_any-map (nat_eq k) (λ (r : TakenSeat). r.seat) (taken_seats (tables version s).desk)
       ∙ list_any-map (λ (r : TakenSeat). nat_eq k r.seat) (λ (r : SeatRow). (let x : TakenSeat = record { seat = r.seat; ticket = r.ticket } in x)) (seat_rows s)

@@ -1,11 +1,12 @@
 -- What is told of the containers that are out says whether there are any.
-use Rattle.std.proofs.Common.{◌≡◌, ℕ, true, false, not, nat_eq, List, [], ◌∷◌, Option, Some, None, refl, sym, ap, ◌∙◌}
+use Rattle.std.proofs.Common.{◌≡◌, ℕ, Bool, true, false, not, nat_eq, List, [], ◌∷◌, Option, Some, None, refl, sym, ap}
+use Rattle.std.proofs.Common.{◌∙◌}
 use Rattle.desk_core.specs.declared.reader.Place.TheVariants.{Desk}
 use Rattle.refinement.proofs.RowsOfLists.{found_row}
-use Rattle.desk_commands.proofs.Common.{IsFiled, IsSoundOffice, Order, OrderRow, Out, Place, Shelf, State, Version}
-use Rattle.desk_commands.proofs.Common.{containers, false≢true, filter_map, find, holding_row, is_empty, is_out}
-use Rattle.desk_commands.proofs.Common.{is_out_for, is_some, issued_by, issued_of, list_any, nth, option_map, order_row}
-use Rattle.desk_commands.proofs.Common.{order_rows, same_number, tables}
+use Rattle.desk_commands.proofs.Common.{ContainerOrder, IsFiled, IsSoundOffice, Order, OrderRow, Out, Place, Shelf}
+use Rattle.desk_commands.proofs.Common.{State, Version, containers, false≢true, filter_map, find, holding_row, is_empty}
+use Rattle.desk_commands.proofs.Common.{is_out, is_out_for, is_some, issued_by, issued_of, list_any, nth, option_map}
+use Rattle.desk_commands.proofs.Common.{order_row, order_rows, same_number, tables}
 
 some_mapped : {X Y : Type 0} (f : X → Y) (o : Option X) → is_some o ≡ true → is_some (option_map f o) ≡ true
 some_mapped f None h = absurd (cc)
@@ -47,6 +48,12 @@ module _ (s : State) where
             with_row None is h = absurd (cc)
             with_row (Some row) is h = rw is refl
 
-    pub out_or_none : (version : Version)
-        → is_empty (issued_of (tables version s).desk) ≡ not (list_any (is_out s) (containers s))
-    out_or_none version = none_issued (containers s)
+    -- it is told whether there are none
+    pub any_out : (version : Version) {told : List ContainerOrder} {none b : Bool} → told ≡ issued_of (tables version s).desk
+        → none ≡ is_empty told → none ≡ b → list_any (is_out s) (containers s) ≡ not b
+    any_out version told_is none_is is =
+        turned (list_any (is_out s) (containers s)) (sym (none_issued (containers s)) ∙ ap is_empty (sym told_is) ∙ sym none_is ∙ is)
+      where
+        turned : {b : Bool} (x : Bool) → not x ≡ b → x ≡ not b
+        turned true e = ap not e
+        turned false e = ap not e

@@ -10,7 +10,7 @@ ghost use Rattle.refinement.specs.CommandSteps.{Performs, PerformsKnowing};
 use catalogue_store::Places;
 use desk_store::{OrderState, end_order, order};
 use office_core::{Done, Refusal};
-use office_tables::{StoreFault, Tables, known_number};
+use office_tables::{Number, StoreFault, Tables};
 use sqlite::Alter;
 use std::alloc::Global;
 
@@ -24,14 +24,13 @@ fn is_waiting(state: OrderState) -> bool
 /// Cancels an order that is known to wait.
 fn end_waiting<P: Places, S: Alter>(
     tables: &mut Tables<P, S>,
-    order: u64,
+    order: Number,
 ) -> Result<Result<Done, Refusal>, StoreFault>
     ensures { PerformsKnowing P.represents P.version S.Store (λ s. waits s order ≡ true) (command.Cancel order)
         tables.old tables.new result }
 {
-    let number = known_number(order)?;
-    end_order(tables, number, OrderState::Cancelled)?;
-    Ok(Ok(Done::Cancel { order }))
+    end_order(tables, order, OrderState::Cancelled)?;
+    Ok(Ok(Done::Cancel { order: order.get() }))
 }
 
 /// Cancels an order, and tells its number. The command is refused if the order was not placed or does not wait. After a
@@ -39,7 +38,7 @@ fn end_waiting<P: Places, S: Alter>(
 pub fn cancel<P: Places, S: Alter>(
     alloc: Global,
     tables: &mut Tables<P, S>,
-    number: u64,
+    number: Number,
 ) -> Result<Result<Done, Refusal>, StoreFault>
     ensures { Performs P.represents P.version S.Store (command.Cancel number) tables.old tables.new result }
 {

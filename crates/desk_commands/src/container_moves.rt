@@ -15,7 +15,7 @@ use desk_store::{OrderState, end_order, set_place};
 use office_tables::{Number, StoreFault, Tables, Versioned, known_number};
 use sqlite::Alter;
 
-/// Moves a container to a place, and sets its order to the state that goes with the place.
+/// Moves a container to a place, and sets an order to a state. The caller sees to it that order and state fit the place.
 pub(crate) fn hand_over<P: Versioned, S: Alter>(
     tables: &mut Tables<P, S>,
     container: Number,
@@ -32,7 +32,8 @@ pub(crate) fn hand_over<P: Versioned, S: Alter>(
     set_place(tables, container, place)
 }
 
-/// Moves these containers to one place, one after the other.
+/// Moves these containers to one place, one after the other. Fails with `StoreFault::Schema` at a number that is 2^63
+/// or greater.
 pub(crate) fn move_all<P: Versioned, S: Alter>(
     tables: &mut Tables<P, S>,
     containers: &[u64],

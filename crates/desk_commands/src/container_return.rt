@@ -10,22 +10,21 @@ use catalogue_store::Places;
 use desk_core::{Place, known_container};
 use desk_store::{OrderState, queue_head};
 use office_core::{Done, Refusal};
-use office_tables::{StoreFault, Tables, known_number};
+use office_tables::{Number, StoreFault, Tables, known_number};
 use sqlite::Alter;
 use std::alloc::Global;
 
 /// Takes back to the desk a container that is known to be out with this order.
 fn take_back<P: Places, S: Alter>(
     tables: &mut Tables<P, S>,
-    container: u64,
+    container: Number,
     order: u64,
 ) -> Result<Result<Done, Refusal>, StoreFault>
     ensures { PerformsKnowing P.represents P.version S.Store (λ s. s.place container ≡ Out order)
         (command.Return container) tables.old tables.new result }
 {
-    let from = known_number(container)?;
     let with = known_number(order)?;
-    hand_over(tables, from, Place::Desk, with, OrderState::Done)?;
+    hand_over(tables, container, Place::Desk, with, OrderState::Done)?;
     Ok(Ok(Done::Return { order }))
 }
 
@@ -34,7 +33,7 @@ fn take_back<P: Places, S: Alter>(
 pub fn return_container<P: Places, S: Alter>(
     alloc: Global,
     tables: &mut Tables<P, S>,
-    container: u64,
+    container: Number,
 ) -> Result<Result<Done, Refusal>, StoreFault>
     ensures { Performs P.represents P.version S.Store (command.Return container) tables.old tables.new result }
 {

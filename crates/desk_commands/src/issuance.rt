@@ -20,7 +20,7 @@ use desk_core::{AtDesk, Limits, Place, Reader, known_container, may_issue};
 use desk_store::{OrderState, QueueHead, WaitingOrder, queue_head, ticket_holder};
 use isad_core::Day;
 use office_core::{Done, Refusal};
-use office_tables::{StoreFault, Tables, known_number};
+use office_tables::{Number, StoreFault, Tables};
 use sqlite::Alter;
 use std::alloc::Global;
 
@@ -28,7 +28,7 @@ use std::alloc::Global;
 fn ticket_of(first: Option<WaitingOrder>) -> Option<u64>
     ensures { result ≡ option_map (λ (w : Waiter). w.ticket) first }
 {
-    first.map(|first| first.ticket)
+    first.map(|first| first.ticket.get())
 }
 
 /// The order with which a container that is known may be issued to the ticket, or why it may not be issued. `head` is
@@ -36,11 +36,11 @@ fn ticket_of(first: Option<WaitingOrder>) -> Option<u64>
 fn decide(
     head: QueueHead,
     is_open: bool,
-    ticket: u64,
+    ticket: Number,
     who: Option<Reader>,
     today: Day,
     limits: &Limits,
-) -> Result<u64, Refusal>
+) -> Result<Number, Refusal>
     ensures refused { result_err result
         ≡ first_that_holds (issue_checks
         (issue_facts (Some (asked_for head.place head.first is_open)) ticket who today limits.now)) }
@@ -51,7 +51,7 @@ fn decide(
         head: ticket_of(head.first),
         is_open,
     };
-    may_issue(Some(&asked), ticket, who.as_ref(), today, limits)?;
+    may_issue(Some(&asked), ticket.get(), who.as_ref(), today, limits)?;
     match head.first {
         Some(first) => Ok(first.order),
         None => Err(Refusal::NotFirst),
@@ -61,18 +61,22 @@ fn decide(
 /// Issues a container with the first order that waits for it. The caller knows that no rule forbids this.
 fn lend<P: Places, S: Alter>(
     tables: &mut Tables<P, S>,
-    container: u64,
-    ticket: u64,
-    order: u64,
+    container: Number,
+    ticket: Number,
+    order: Number,
 ) -> Result<Result<Done, Refusal>, StoreFault>
     ensures { PerformsKnowing P.represents P.version S.Store
         (λ s. (refusal s (command.Issue container ticket) ≡ None) × (first_of (s.queue container) ≡ Some order))
         (command.Issue container ticket) tables.old tables.new result }
 {
-    let lent = known_number(container)?;
-    let with = known_number(order)?;
-    hand_over(tables, lent, Place::Out(with.get()), with, OrderState::Out)?;
-    Ok(Ok(Done::Issue { order }))
+    hand_over(
+        tables,
+        container,
+        Place::Out(order.get()),
+        order,
+        OrderState::Out,
+    )?;
+    Ok(Ok(Done::Issue { order: order.get() }))
 }
 
 /// Issues a container to a reader if no rule forbids it. The container is known, and `head` is the head of its queue.
@@ -81,8 +85,8 @@ fn issue_known<P: Places, S: Alter>(
     tables: &mut Tables<P, S>,
     today: Day,
     limits: &Limits,
-    container: u64,
-    ticket: u64,
+    container: Number,
+    ticket: Number,
     head: QueueHead,
 ) -> Result<Result<Done, Refusal>, StoreFault>
     ensures { PerformsKnowing P.represents P.version S.Store
@@ -99,15 +103,15 @@ fn issue_known<P: Places, S: Alter>(
 
 /// Issues a container to a reader, and tells the order's number. The container must be at the desk and open to the
 /// reader, the reader's order the first in its queue. The reader must have a valid ticket and a seat, and may hold one
-/// more container. Otherwise, also if the container is not known, the command is refused. After a refusal the caller
-/// must roll the transaction back. `today` and `limits` must be the office's.
+/// more container. Otherwise, also if the container is not known, the command is refused, by the first of
+/// `issue_checks` that does not hold. After a refusal the caller must roll the transaction back. `today` and `limits` must be the office's.
 pub fn issue<P: Places, S: Alter>(
     alloc: Global,
     tables: &mut Tables<P, S>,
     today: Day,
     limits: &Limits,
-    container: u64,
-    ticket: u64,
+    container: Number,
+    ticket: Number,
 ) -> Result<Result<Done, Refusal>, StoreFault>
     ensures { PerformsKnowing P.represents P.version S.Store (λ s. (today ≡ s.day) × (limits.now ≡ limits_of s))
         (command.Issue container ticket) tables.old tables.new result }

@@ -28,8 +28,8 @@ fn begin_day<P: Places, S: Alter>(
     Ok(Ok(Done::OpenDay { day }))
 }
 
-/// Opens another day, which is known to be later, and tells it. The command is refused if a container is out. After a
-/// refusal the caller must roll the transaction back.
+/// Opens a day, which must be later than the office's, and frees every seat. Tells the day. The command is refused if a
+/// container is out. After a refusal the caller must roll the transaction back.
 pub fn open<P: Places, S: Alter>(
     alloc: Global,
     tables: &mut Tables<P, S>,

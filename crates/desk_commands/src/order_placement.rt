@@ -15,19 +15,19 @@ use desk_core::{Ask, Limits, may_order};
 use desk_store::{LiveOrder, ReaderCard, append_order, reader};
 use isad_core::Day;
 use office_core::{Done, Refusal};
-use office_tables::{StoreFault, Tables, known_number};
+use office_tables::{Number, StoreFault, Tables, known_number};
 use sqlite::Alter;
 use std::alloc::Global;
 
 /// Whether one of these orders is for the container.
-fn is_for_one(live: &[LiveOrder], container: u64) -> bool
+fn is_for_one(live: &[LiveOrder], container: Number) -> bool
     ensures { result ≡ list_any (λ (order : Live). nat_eq container order.container) live.now }
 {
-    live.iter().any(|order| container == order.container)
+    live.iter().any(|order| container.get() == order.container)
 }
 
 /// The facts that decide on an order for the container, besides the reader.
-fn ask(card: &ReaderCard, container: u64, is_open: bool) -> Ask
+fn ask(card: &ReaderCard, container: Number, is_open: bool) -> Ask
     ensures { result ≡ ask_of card.now container is_open }
 {
     Ask {
@@ -42,17 +42,15 @@ fn ask(card: &ReaderCard, container: u64, is_open: bool) -> Ask
 fn append<P: Places, S: Alter>(
     tables: &mut Tables<P, S>,
     today: Day,
-    ticket: u64,
-    container: u64,
+    ticket: Number,
+    container: Number,
     order: u64,
 ) -> Result<Result<Done, Refusal>, StoreFault>
     ensures { PerformsKnowing P.represents P.version S.Store (λ s. MayPlaceOrder s ticket container order today)
         (command.Order ticket container) tables.old tables.new result }
 {
     let number = known_number(order)?;
-    let reader = known_number(ticket)?;
-    let asked = known_number(container)?;
-    append_order(tables, number, reader, asked, today)?;
+    append_order(tables, number, ticket, container, today)?;
     Ok(Ok(Done::Order { order }))
 }
 
@@ -62,8 +60,8 @@ fn decide<P: Places, S: Alter>(
     today: Day,
     limits: &Limits,
     card: &ReaderCard,
-    ticket: u64,
-    container: u64,
+    ticket: Number,
+    container: Number,
     is_open: bool,
 ) -> Result<Result<Done, Refusal>, StoreFault>
     ensures { PerformsKnowing P.represents P.version S.Store
@@ -88,8 +86,8 @@ fn order_by<P: Places, S: Alter>(
     today: Day,
     limits: &Limits,
     card: &ReaderCard,
-    ticket: u64,
-    container: u64,
+    ticket: Number,
+    container: Number,
 ) -> Result<Result<Done, Refusal>, StoreFault>
     ensures { PerformsKnowing P.represents P.version S.Store
         (λ s. (today ≡ s.day) × (limits.now ≡ limits_of s) × IsCardOf P.version s ticket card.now)
@@ -109,8 +107,8 @@ pub fn order<P: Places, S: Alter>(
     tables: &mut Tables<P, S>,
     today: Day,
     limits: &Limits,
-    ticket: u64,
-    container: u64,
+    ticket: Number,
+    container: Number,
 ) -> Result<Result<Done, Refusal>, StoreFault>
     ensures { PerformsKnowing P.represents P.version S.Store (λ s. (today ≡ s.day) × (limits.now ≡ limits_of s))
         (command.Order ticket container) tables.old tables.new result }

@@ -12,7 +12,7 @@ use catalogue_store::{Places, is_unit};
 use desk_store::{Permit, grant, is_registered, permits};
 use isad_core::{Day, limits};
 use office_core::{Done, Refusal};
-use office_tables::{StoreFault, Tables, known_number};
+use office_tables::{Number, StoreFault, Tables};
 use sqlite::Alter;
 use std::alloc::Global;
 
@@ -20,11 +20,11 @@ use std::alloc::Global;
 const MOST_PERMITS: usize = limits::MOST_PERMITS as usize;
 
 /// The last day of the permit for a unit, or none if there is no permit.
-pub(crate) fn last_day(held: &[Permit], unit: u64) -> Option<Day>
+pub(crate) fn last_day(held: &[Permit], unit: Number) -> Option<Day>
     ensures { result ≡ until_for unit held.now }
 {
     held.iter()
-        .find(|permit| permit.unit == unit)
+        .find(|permit| permit.unit == unit.get())
         .map(|permit| permit.until)
 }
 
@@ -39,7 +39,7 @@ fn later(held: Option<Day>, asked: Day) -> Day
 }
 
 /// Whether the ticket has no permit for the unit, but as many permits for other units as it may have.
-fn is_full(held: &[Permit], unit: u64) -> bool
+fn is_full(held: &[Permit], unit: Number) -> bool
     ensures { result ≡ (not (is_some (until_for unit held.now)) && nat_le most_permits (length held.now)) }
 {
     last_day(held, unit).is_none() && held.len() >= MOST_PERMITS
@@ -49,20 +49,18 @@ fn is_full(held: &[Permit], unit: u64) -> bool
 /// granted before.
 fn give<P: Places, S: Alter>(
     tables: &mut Tables<P, S>,
-    ticket: u64,
-    unit: u64,
+    ticket: Number,
+    unit: Number,
     asked: Day,
     until: Day,
 ) -> Result<Result<Done, Refusal>, StoreFault>
     ensures { PerformsKnowing P.represents P.version S.Store (λ s. MayPermit s ticket unit asked until)
         (command.Permit ticket unit asked) tables.old tables.new result }
 {
-    let reader = known_number(ticket)?;
-    let read = known_number(unit)?;
-    grant(tables, reader, read, until)?;
+    grant(tables, ticket, unit, until)?;
     Ok(Ok(Done::Permit {
-        ticket,
-        unit,
+        ticket: ticket.get(),
+        unit: unit.get(),
         until,
     }))
 }
@@ -71,8 +69,8 @@ fn give<P: Places, S: Alter>(
 fn give_within<P: Places, S: Alter>(
     alloc: Global,
     tables: &mut Tables<P, S>,
-    ticket: u64,
-    unit: u64,
+    ticket: Number,
+    unit: Number,
     asked: Day,
 ) -> Result<Result<Done, Refusal>, StoreFault>
     ensures { PerformsKnowing P.represents P.version S.Store
@@ -91,8 +89,8 @@ fn give_within<P: Places, S: Alter>(
 fn give_for<P: Places, S: Alter>(
     alloc: Global,
     tables: &mut Tables<P, S>,
-    ticket: u64,
-    unit: u64,
+    ticket: Number,
+    unit: Number,
     asked: Day,
 ) -> Result<Result<Done, Refusal>, StoreFault>
     ensures { PerformsKnowing P.represents P.version S.Store (λ s. is_ticket s ticket ≡ true)
@@ -112,8 +110,8 @@ fn give_for<P: Places, S: Alter>(
 pub fn permit<P: Places, S: Alter>(
     alloc: Global,
     tables: &mut Tables<P, S>,
-    ticket: u64,
-    unit: u64,
+    ticket: Number,
+    unit: Number,
     until: Day,
 ) -> Result<Result<Done, Refusal>, StoreFault>
     ensures { Performs P.represents P.version S.Store (command.Permit ticket unit until) tables.old tables.new result }

@@ -9,22 +9,23 @@ use catalogue_store::Places;
 use desk_store::{is_registered, renew};
 use isad_core::Day;
 use office_core::{Done, Refusal};
-use office_tables::{StoreFault, Tables, known_number};
+use office_tables::{Number, StoreFault, Tables};
 use sqlite::Alter;
 use std::alloc::Global;
 
 /// Writes the last day of a ticket that was given.
 fn set_last_day<P: Places, S: Alter>(
     tables: &mut Tables<P, S>,
-    ticket: u64,
+    ticket: Number,
     until: Day,
 ) -> Result<Result<Done, Refusal>, StoreFault>
     ensures { PerformsKnowing P.represents P.version S.Store (λ s. is_ticket s ticket ≡ true)
         (command.Renew ticket until) tables.old tables.new result }
 {
-    let number = known_number(ticket)?;
-    renew(tables, number, until)?;
-    Ok(Ok(Done::Renew { ticket }))
+    renew(tables, ticket, until)?;
+    Ok(Ok(Done::Renew {
+        ticket: ticket.get(),
+    }))
 }
 
 /// Gives a ticket another last day, and tells its number. The command is refused if the ticket was not given. After a
@@ -32,7 +33,7 @@ fn set_last_day<P: Places, S: Alter>(
 pub fn renew_ticket<P: Places, S: Alter>(
     alloc: Global,
     tables: &mut Tables<P, S>,
-    ticket: u64,
+    ticket: Number,
     until: Day,
 ) -> Result<Result<Done, Refusal>, StoreFault>
     ensures { Performs P.represents P.version S.Store (command.Renew ticket until) tables.old tables.new result }

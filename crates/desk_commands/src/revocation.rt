@@ -13,7 +13,7 @@ use catalogue_store::{Places, is_unit};
 use desk_store::{is_registered, permits, revoke};
 use isad_core::Day;
 use office_core::{Done, Refusal};
-use office_tables::{StoreFault, Tables, known_number};
+use office_tables::{Number, StoreFault, Tables};
 use sqlite::Alter;
 use std::alloc::Global;
 
@@ -22,16 +22,20 @@ fn take_back<P: Places, S: Alter>(
     alloc: Global,
     tables: &mut Tables<P, S>,
     today: Day,
-    ticket: u64,
-    unit: u64,
+    ticket: Number,
+    unit: Number,
 ) -> Result<Result<Done, Refusal>, StoreFault>
     ensures { PerformsKnowing P.represents P.version S.Store (λ s. (today ≡ s.day) × MayRevoke s ticket unit)
         (command.Revoke ticket unit) tables.old tables.new result }
 {
-    let reader = known_number(ticket)?;
-    let read = known_number(unit)?;
-    revoke(tables, reader, read)?;
-    pass_gate_near(alloc, tables, today, read, Done::Revoke { unit })
+    revoke(tables, ticket, unit)?;
+    pass_gate_near(
+        alloc,
+        tables,
+        today,
+        unit,
+        Done::Revoke { unit: unit.get() },
+    )
 }
 
 /// Revokes a permit that may or may not exist. The ticket and the unit exist.
@@ -39,8 +43,8 @@ fn take_back_held<P: Places, S: Alter>(
     alloc: Global,
     tables: &mut Tables<P, S>,
     today: Day,
-    ticket: u64,
-    unit: u64,
+    ticket: Number,
+    unit: Number,
 ) -> Result<Result<Done, Refusal>, StoreFault>
     ensures { PerformsKnowing P.represents P.version S.Store
         (λ s. (today ≡ s.day) × (is_ticket s ticket ≡ true) × (has_unit s.catalogue.forest unit ≡ true))
@@ -59,8 +63,8 @@ fn take_back_for<P: Places, S: Alter>(
     alloc: Global,
     tables: &mut Tables<P, S>,
     today: Day,
-    ticket: u64,
-    unit: u64,
+    ticket: Number,
+    unit: Number,
 ) -> Result<Result<Done, Refusal>, StoreFault>
     ensures { PerformsKnowing P.represents P.version S.Store (λ s. (today ≡ s.day) × (is_ticket s ticket ≡ true))
         (command.Revoke ticket unit) tables.old tables.new result }
@@ -79,8 +83,8 @@ pub fn revoke_permit<P: Places, S: Alter>(
     alloc: Global,
     tables: &mut Tables<P, S>,
     today: Day,
-    ticket: u64,
-    unit: u64,
+    ticket: Number,
+    unit: Number,
 ) -> Result<Result<Done, Refusal>, StoreFault>
     ensures { PerformsKnowing P.represents P.version S.Store (λ s. today ≡ s.day) (command.Revoke ticket unit)
         tables.old tables.new result }

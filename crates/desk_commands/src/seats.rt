@@ -14,14 +14,14 @@ use desk_core::{Limits, Reader, may_leave, may_sit};
 use desk_store::{TakenSeat, seats, set_seat, ticket_holder};
 use isad_core::Day;
 use office_core::{Done, Refusal};
-use office_tables::{StoreFault, Tables, known_number};
+use office_tables::{Number, StoreFault, Tables};
 use sqlite::Alter;
 use std::alloc::{AllocError, Global};
 
 /// Frees the seat of a ticket that is known to be allowed to leave.
 fn free_seat<P: Places, S: Alter>(
     tables: &mut Tables<P, S>,
-    ticket: u64,
+    ticket: Number,
     seat: u32,
 ) -> Result<Result<Done, Refusal>, StoreFault>
     ensures { PerformsKnowing P.represents P.version S.Store (λ s. MayLeave s ticket seat) (command.LeaveSeat ticket)
@@ -36,7 +36,7 @@ fn free_seat<P: Places, S: Alter>(
 pub fn leave_seat<P: Places, S: Alter>(
     alloc: Global,
     tables: &mut Tables<P, S>,
-    ticket: u64,
+    ticket: Number,
 ) -> Result<Result<Done, Refusal>, StoreFault>
     ensures { Performs P.represents P.version S.Store (command.LeaveSeat ticket) tables.old tables.new result }
 {
@@ -63,14 +63,13 @@ fn numbers_of(alloc: Global, taken: &[TakenSeat]) -> Result<Vec<u32>, AllocError
 /// Gives a ticket a seat that is free.
 fn take<P: Places, S: Alter>(
     tables: &mut Tables<P, S>,
-    ticket: u64,
+    ticket: Number,
     seat: u32,
 ) -> Result<Result<Done, Refusal>, StoreFault>
     ensures { PerformsKnowing P.represents P.version S.Store (λ s. MaySit s ticket seat) (command.TakeSeat ticket)
         tables.old tables.new result }
 {
-    let number = known_number(ticket)?;
-    set_seat(tables, seat, Some(number))?;
+    set_seat(tables, seat, Some(ticket))?;
     Ok(Ok(Done::TakeSeat { seat }))
 }
 
@@ -80,7 +79,7 @@ fn sit_down<P: Places, S: Alter>(
     tables: &mut Tables<P, S>,
     today: Day,
     limits: &Limits,
-    ticket: u64,
+    ticket: Number,
     who: Option<Reader>,
 ) -> Result<Result<Done, Refusal>, StoreFault>
     ensures { PerformsKnowing P.represents P.version S.Store
@@ -103,7 +102,7 @@ pub fn take_seat<P: Places, S: Alter>(
     tables: &mut Tables<P, S>,
     today: Day,
     limits: &Limits,
-    ticket: u64,
+    ticket: Number,
 ) -> Result<Result<Done, Refusal>, StoreFault>
     ensures { PerformsKnowing P.represents P.version S.Store (λ s. (today ≡ s.day) × (limits.now ≡ limits_of s))
         (command.TakeSeat ticket) tables.old tables.new result }

@@ -33,7 +33,8 @@ pub(crate) fn values_of<T: Told>(alloc: Global, things: &[T]) -> Result<Value, A
     Ok(Value::Array(values))
 }
 
-/// The bytes of the JSON array of these things. None of them may contain a number with a fraction.
+/// The bytes of the JSON array of these things, in order and without white space. No number in it, at any depth, may be
+/// a float.
 pub(crate) fn list_text<T: Told>(alloc: Global, things: &[T]) -> Result<List<u8>, AllocError>
     requires whole { has_float (list (map T.told things.now)) ≡ false }
     ensures { IfOk result (λ text. text ≡ compact_text (list (map T.told things.now))) }

@@ -22,7 +22,7 @@ impl Told for ContainerOrder {
     }
 }
 
-/// The containers that are out, each with its order and the ticket of that order, as JSON.
+/// The containers that are out, by number, each with its order and the ticket of that order, as JSON.
 pub fn issued_now<P: Places, S: Alter>(
     alloc: Global,
     tables: &mut Tables<P, S>,

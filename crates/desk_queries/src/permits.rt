@@ -7,7 +7,7 @@ use crate::json_values::{Told, list_text};
 use catalogue_store::Places;
 use desk_store::{Permit, is_registered, permits};
 use office_core::{Answer, Refusal};
-use office_tables::{StoreFault, Tables};
+use office_tables::{Number, StoreFault, Tables};
 use replies::day_value;
 use serde_json::{Value, json};
 use sqlite::Alter;
@@ -28,7 +28,7 @@ impl Told for Permit {
 pub fn reader_permits<P: Places, S: Alter>(
     alloc: Global,
     tables: &mut Tables<P, S>,
-    ticket: u64,
+    ticket: Number,
 ) -> Result<Answer, StoreFault>
     ensures { Responds P.represents P.version S.Store (query.ReaderPermits ticket) tables.old tables.new result }
 {

@@ -16,7 +16,7 @@ use desk_core::{Place, known_container};
 use desk_store::{ContainerQueue, WaitingOrder};
 use isad_core::List;
 use office_core::Answer;
-use office_tables::{StoreFault, Tables};
+use office_tables::{Number, StoreFault, Tables};
 use replies::text_of;
 use serde_json::{Value, json};
 use sqlite::Alter;
@@ -28,7 +28,7 @@ impl Told for WaitingOrder {
     ghost told = { waiting_data };
 
     fn value(&self, alloc: Global) -> Result<Value, AllocError> {
-        json!(in alloc; {"order": self.order, "ticket": self.ticket})
+        json!(in alloc; {"order": self.order.get(), "ticket": self.ticket.get()})
     }
 }
 
@@ -78,11 +78,12 @@ fn queue_text(alloc: Global, container: u64, queue: &ContainerQueue) -> Result<L
     text_of(alloc, &value)
 }
 
-/// Where a container is, and who waits for it, as JSON. The answer is `Unknown` if the container is not known.
+/// A container's name and place, the order that it is out with, and the orders that wait for it, the oldest first, as
+/// JSON. The answer is `Unknown` if the container is not known.
 pub fn queue<P: Places, S: Alter>(
     alloc: Global,
     tables: &mut Tables<P, S>,
-    container: u64,
+    container: Number,
 ) -> Result<Answer, StoreFault>
     ensures { Responds P.represents P.version S.Store (query.Queue container) tables.old tables.new result }
 {
@@ -91,6 +92,6 @@ pub fn queue<P: Places, S: Alter>(
         Ok(queue) => queue,
         Err(why) => return Ok(Answer::Unknown(why)),
     };
-    let text = queue_text(alloc, container, &queue)?;
+    let text = queue_text(alloc, container.get(), &queue)?;
     Ok(Answer::Json(text))
 }

@@ -14,7 +14,7 @@ use catalogue_store::Places;
 use desk_store::{LiveOrder, ReaderCard, reader};
 use isad_core::{Day, List};
 use office_core::{Answer, Refusal};
-use office_tables::{StoreFault, Tables};
+use office_tables::{Number, StoreFault, Tables};
 use replies::{day_value, text_of};
 use serde_json::{Value, json};
 use sqlite::Alter;
@@ -69,12 +69,12 @@ fn card_text(alloc: Global, card: &ReaderCard) -> Result<List<u8>, AllocError>
 }
 
 /// A reader's name, last day and seat, and the orders of the ticket that wait or are out, as JSON. The answer is
-/// `Unknown` if the ticket was not given.
+/// `Unknown` if the ticket was not given. It does not depend on `today`.
 pub fn reader_orders<P: Places, S: Alter>(
     alloc: Global,
     tables: &mut Tables<P, S>,
     today: Day,
-    ticket: u64,
+    ticket: Number,
 ) -> Result<Answer, StoreFault>
     ensures { Responds P.represents P.version S.Store (query.ReaderOrders ticket) tables.old tables.new result }
 {

@@ -1,34 +1,18 @@
 -- A reader's card, and the holder of a ticket: the parts are read one after another, and nothing is changed between them.
-use Rattle.std.proofs.Common.{◌≡◌, ℕ, ℤ, suc, ◌+◌, ◌<◌, ◌≤◌, ◌^◌, ◌&&◌, true, false, Bool, cond, nat_eq, List, [], ◌∷◌}
-use Rattle.std.proofs.Common.{map, filter, length, find, Option, Some, None, refl, sym, ap, subst, ◌∙◌, arith}
+use Rattle.std.proofs.Common.{◌≡◌, ℕ, ℤ, suc, ◌<◌, ◌≤◌, ◌^◌, ◌&&◌, true, false, Bool, cond, nat_eq, List, [], ◌∷◌, map}
+use Rattle.std.proofs.Common.{filter, length, find, Option, Some, None, refl, sym, ap, subst, ◌∙◌, arith}
 use Rattle.std.proofs.lemmas.List.Sums.{length-filter, count_by-le-length}
 use Rattle.desk_core.proofs.Counts.{count_map}
 use Rattle.desk_core.specs.declared.reader.Reader.{Reader}
 use Rattle.desk_store.specs.declared.reader_summary.ReaderCard.{ReaderCard}
 use Rattle.desk_store.specs.declared.readers.NamedReader.{NamedReader}
 use Rattle.desk_store.specs.declared.taken_seats.TakenSeat.{TakenSeat}
-use Rattle.desk_store.proofs.Common.{AllByRecursion, AreCounted, Desk, OrderLine, OrderRow, SeatRow, card_of, count_by}
-use Rattle.desk_store.proofs.Common.{counted_within, has_not_ended, held_with, is_some, length-map, most_orders, nat_lt}
-use Rattle.desk_store.proofs.Common.{nat_tests, option_map, orders_not_ended, placed_on, reader_with, seat_of_ticket}
-use Rattle.desk_store.proofs.Common.{ticket_holder}
+use Rattle.desk_store.proofs.Common.{Desk, OrderLine, OrderRow, SeatRow, card_of, count_by, has_not_ended, held_with}
+use Rattle.desk_store.proofs.Common.{is_some, length-map, most_orders, nat_lt, nat_tests, option_map, orders_not_ended}
+use Rattle.desk_store.proofs.Common.{placed_on, reader_with, seat_of_ticket, ticket_holder}
 use Rattle.desk_store.proofs.CardRows.{line_of}
 use Rattle.desk_store.proofs.ReaderRows.{named}
 use Rattle.desk_store.proofs.SeatRows.{taken}
-
--- ---- a number that was not given
-
-find_none : {A : Type 0} (number : A → ℕ) (t n : ℕ) (xs : List A) → AllByRecursion (λ x. number x < n) xs → n ≤ t
-    → find (λ x. nat_eq t (number x)) xs ≡ None
-find_none number t n [] all h = refl
-find_none number t n (x ∷ xs) all h =
-    let low = all.0 in
-    let apart : nat_eq t (number x) ≡ false = grind (arith, nat_tests, low, h) in
-    rw apart (find_none number t n xs all.1 h)
-
-pub unknown : {A : Type 0} (number : A → ℕ) (t : ℕ) (xs : List A) → AreCounted number xs → length xs < t
-    → find (λ x. nat_eq t (number x)) xs ≡ None
-unknown number t xs counted h =
-    find_none number t (1 + length xs) xs (counted_within number 1 xs counted) (omega (arith, h))
 
 -- ---- a number that was given
 

@@ -58,12 +58,12 @@ pub use Rattle.office_tables.proofs.Sparing.{last_touched, looked_spares, own_la
 pub use Rattle.office_tables.proofs.Sparing.{spares_own, untouched, untouched_last, wider_last}
 pub use Rattle.office_tables.proofs.StatementEnds.{answered, caused, changes, done, looks_up, puts_numbered, puts_row}
 pub use Rattle.office_tables.proofs.StatementEnds.{thins, thins_numbered}
-pub use Rattle.office_tables.proofs.StoreCalls.{makes_cut}
+pub use Rattle.office_tables.proofs.StoreCalls.{makes_cut, makes_well, tells_cut, tells_not}
 pub use Rattle.office_tables.proofs.Tests.{both, by_one_int, by_two_ints, either_first, eq_ints, flag, only}
 pub use Rattle.office_tables.proofs.Tests.{same_number}
 pub use Rattle.office_tables.proofs.Touching.{touched_again, touched_wider}
 pub use Rattle.office_tables.proofs.numbered.Counted.{counted_again, counted_free, counted_more, counted_rises}
-pub use Rattle.office_tables.proofs.numbered.Counted.{counted_within, less_below, put_end}
+pub use Rattle.office_tables.proofs.numbered.Counted.{less_below, put_end}
 pub use Rattle.office_tables.proofs.numbered.OwnNumbers.{all_numbered, one_at_end, one_more, still_numbered, those_left}
 pub use Rattle.office_tables.proofs.numbered.OwnNumbers.{told_permuted}
 pub use Rattle.office_tables.proofs.statements.DeleteOf.{delete_faults, delete_leaves}
@@ -89,7 +89,6 @@ pub use Rattle.office_tables.specs.Step.{Continues, Goes, HasRows, Holds, IsAbor
 pub use Rattle.office_tables.specs.Step.{OnlyTouches, PutsRow, Spares}
 pub use Rattle.office_tables.specs.Versions.{First, Second, Version}
 pub use Rattle.office_tables.specs.declared.fault.StoreFault.{StoreFault}
-pub use Rattle.office_tables.specs.declared.fault.StoreFault.TheVariants.{Memory}
 pub use Rattle.desk_store.specs.Holdings.{at_desk_of, candidates_of, firsts_of, is_first_waiting, is_on_shelf}
 pub use Rattle.desk_store.specs.Holdings.{issued_by, loan_by, on_shelf, placed_at, put_down, waits_for, with_place}
 pub use Rattle.desk_store.specs.Orders.{IsAt, IsNextOrder, IsThere, holding_of, order_state_number, order_with}
@@ -103,8 +102,8 @@ pub use Rattle.desk_store.specs.Representation.{RepresentsDeskAlone}
 pub use Rattle.desk_store.specs.Rows.{holding_cells, order_cells, reader_cells, run_cells, run_line_cells, seat_cells}
 pub use Rattle.desk_store.specs.RunCandidates.{is_earliest}
 pub use Rattle.desk_store.specs.Runs.{TakesEachOnce, line_of_run, lines_of, next_run, run_with, with_run}
-pub use Rattle.desk_store.specs.Storage.{AreKnown, IsHeaded, IsKnownLine, IsLegibleStorage, IsQueued, IsToldLine}
-pub use Rattle.desk_store.specs.Storage.{IsToldRun, RepresentsQueues, Storage, container_with}
+pub use Rattle.desk_store.specs.Storage.{AreKnown, IsHeaded, IsKnownLine, IsQueued, IsToldLine, IsToldRun}
+pub use Rattle.desk_store.specs.Storage.{RepresentsQueues, Storage, container_with}
 pub use Rattle.desk_store.specs.declared.container_orders.ContainerOrder.{ContainerOrder}
 pub use Rattle.desk_store.specs.declared.loans.HoldingLine.{HoldingLine}
 pub use Rattle.desk_store.specs.declared.reader_summary.OrderLine.{OrderLine}

@@ -19,10 +19,10 @@ use Rattle.desk_store.proofs.Common.{PutsRow, Ran, RepresentsDesk, RepresentsDes
 use Rattle.desk_store.proofs.Common.{StoreUpdates, Term, Trees, Values, Version, ascending-filter, cast_int, cast_maybe}
 use Rattle.desk_store.proofs.Common.{cast_null, choosing, col, cut_then, delete_faults, delete_leaves, delete_only}
 use Rattle.desk_store.proofs.Common.{early, edit_of, goes_then, holding, holding_cells, insert_faults, insert_puts}
-use Rattle.desk_store.proofs.Common.{last_cause, last_touched, le_refl, list_any, lit, number_welcome, on_err_then}
-use Rattle.desk_store.proofs.Common.{on_ok_then, only, op2, option_map, or_null, put_down, put_rises, put_row, put_rows}
-use Rattle.desk_store.proofs.Common.{references_fit, same_number, schema, state, still_unlimited, touched_again}
-use Rattle.desk_store.proofs.Common.{untouched_last, value_rows, with_place, ⊤}
+use Rattle.desk_store.proofs.Common.{last_cause, last_touched, le_refl, list_any, lit, makes_well, number_welcome}
+use Rattle.desk_store.proofs.Common.{on_err_then, on_ok_then, only, op2, option_map, or_null, put_down, put_rises}
+use Rattle.desk_store.proofs.Common.{put_row, put_rows, references_fit, same_number, schema, state, still_unlimited}
+use Rattle.desk_store.proofs.Common.{touched_again, untouched_last, value_rows, with_place, ⊤}
 use Rattle.desk_store.proofs.Frames.{with_holdings}
 
 -- ---- a container has no row any more
@@ -132,18 +132,9 @@ module _ {S : Type 0} (g : store.Ghosts S) (before mid : Held S) (n : ℕ) where
   module _ (goes : Goes a b) (rows : HasCleanDisk b → (xs : List HoldingRow) → Holds holding holding_cells a xs → AreByNumber (λ (x : HoldingRow). x.container) xs → HasRows tables.holding.tree (map holding_cells (without n xs)) a.now b.now)
       (only : HasCleanDisk b → OnlyTouches (tables.holding.tree ∷ []) a.now b.now) where
     pub shelved : StoreUpdates g (tables.holding.tree ∷ []) RepresentsDeskAlone before mid (Ok (tt {0})) (λ _. ⊤) IsLegible (with_place n Shelf)
-    shelved = record {
-      call = record {
-        represents_updated = λ clean beside d shown may.
-            let has = rows clean d.holdings shown.holdings shown.holdings_rise in
-            with_holdings a.now b.now d shown _ has.only has.are (ascending-filter _ (λ (x : HoldingRow). not (nat_eq n x.container)) d.holdings shown.holdings_rise);
-        only = only;
-        goes = goes;
-        aborts = tt;
-        faults = λ beside d shown may kept clean free. tt;
-      };
-      spares = λ clean. tt;
-    }
+    shelved = makes_well goes only (λ clean beside d shown may.
+        let has = rows clean d.holdings shown.holdings shown.holdings_rise in
+        with_holdings a.now b.now d shown _ has.only has.are (ascending-filter _ (λ (x : HoldingRow). not (nat_eq n x.container)) d.holdings shown.holdings_rise))
 
     module _ (after : Held S) (p : ℕ) (o : Option ℕ) where
       abbrev z : State
@@ -155,7 +146,7 @@ module _ {S : Type 0} (g : store.Ghosts S) (before mid : Held S) (n : ℕ) where
       module _ (r : Result Unit StoreFault) (leaves : Leaves b z r) (puts : HasCleanDisk z → OnOk r (PutsRow tables.holding.tree (holding_cells here) b.now z.now))
           (faults : (xs : List HoldingRow) → Holds holding holding_cells b xs → list_any (λ (x : HoldingRow). nat_eq n x.container) xs ≡ false → FaultsHaveCause b z r) where
         back : HasCleanDisk z → HasCleanDisk b
-        back = early b z _ leaves.crash
+        back = early leaves.crash
 
         moved : HasCleanDisk z → PutsRow tables.holding.tree (holding_cells here) b.now z.now → (d : Desk)
             → RepresentsDesk a.now.trees d
@@ -172,8 +163,8 @@ module _ {S : Type 0} (g : store.Ghosts S) (before mid : Held S) (n : ℕ) where
           call = record {
             represents_updated = λ clean beside d shown may. on_ok_then r _ _ (λ put. moved clean put d shown) (puts clean);
             only = λ clean. on_ok_then r _ _ (λ put. touched_again (tables.holding.tree ∷ []) a.now b.now z.now (only (back clean)) put.only) (puts clean);
-            goes = on_ok_then r _ _ (goes_then a b z goes) leaves.goes;
-            aborts = on_err_then r _ _ (cut_then a b z goes.on) leaves.aborts;
+            goes = on_ok_then r _ _ (goes_then goes) leaves.goes;
+            aborts = on_err_then r _ _ (cut_then goes.on) leaves.aborts;
             faults = λ beside d shown may kept clean free. last_cause a b z goes.on r leaves.aborts clean (λ cleaner.
                 faults (without n d.holdings) (rows cleaner d.holdings shown.holdings shown.holdings_rise).are (none_without n d.holdings) clean (still_unlimited a b goes.on free));
           };

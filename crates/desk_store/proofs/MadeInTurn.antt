@@ -38,13 +38,13 @@ module _ {S X Y : Type 0} (g : store.Ghosts S) (before mid after : Held S) (done
   makes_then begins goes_on may_then kept_then these those =
       let left = went r b c goes_on.goes goes_on.aborts in
       record {
-        represents_updated = λ clean s d shown may. goes_on.represents_updated clean s (first d) (begins.represents_updated (early b c _ left clean) s d shown may) (may_then d may);
+        represents_updated = λ clean s d shown may. goes_on.represents_updated clean s (first d) (begins.represents_updated (early left clean) s d shown may) (may_then d may);
         only = λ clean. on_ok_then r _ _
-            (λ only. touched_again touched a.now b.now c.now (touched_wider one touched a.now b.now these (begins.only (early b c _ left clean))) (touched_wider two touched b.now c.now those only))
+            (λ only. touched_again touched a.now b.now c.now (touched_wider one touched a.now b.now these (begins.only (early left clean))) (touched_wider two touched b.now c.now those only))
             (goes_on.only clean);
-        goes = on_ok_then r _ _ (goes_then a b c begins.goes) goes_on.goes;
-        aborts = on_err_then r _ _ (cut_then a b c begins.goes.on) goes_on.aborts;
-        faults = λ s d shown may kept. excused_then a b c begins.goes.on r goes_on.aborts (λ clean. goes_on.faults s (first d) (begins.represents_updated clean s d shown may) (may_then d may) (kept_then d kept));
+        goes = on_ok_then r _ _ (goes_then begins.goes) goes_on.goes;
+        aborts = on_err_then r _ _ (cut_then begins.goes.on) goes_on.aborts;
+        faults = λ s d shown may kept. excused_then _ begins.goes.on r goes_on.aborts (λ clean. goes_on.faults s (first d) (begins.represents_updated clean s d shown may) (may_then d may) (kept_then d kept));
       }
 
 -- ---- what can be read back

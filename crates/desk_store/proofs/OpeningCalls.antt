@@ -66,7 +66,7 @@ module _ {S : Type 0} (g : store.Ghosts S) (before mid : Held S) (day : ℤ) whe
         → ((o : OfficeRow) → Holds office office_cells b (o ∷ []) → FaultsHaveCause b c r)
         → StoreUpdates g (tables.seat.tree ∷ tables.office.tree ∷ []) RepresentsBoth before after r (λ _. ⊤) IsLegibleHouse (opened_house day)
     opens leaves dated dates faults =
-        let back = early b c _ leaves.crash in
+        let back = early leaves.crash in
         record {
           call = record {
             represents_updated = λ clean beside house shown may. on_ok_then r _ _ (λ has. record {
@@ -74,8 +74,8 @@ module _ {S : Type 0} (g : store.Ghosts S) (before mid : Held S) (day : ℤ) whe
               desk = same_desk b.now c.now _ has.only (with_seats a.now b.now house.desk shown.desk [] (only (back clean)) (freed (back clean) house.desk.seats shown.desk.seats shown.desk.seats_rise).are tt);
             }) (dated clean house.office (only (back clean) tables.office.tree refl refl ∙ shown.office));
             only = λ clean. on_ok_then r _ _ (λ touched. touched_again (tables.seat.tree ∷ tables.office.tree ∷ []) a.now b.now c.now (touched_wider (tables.seat.tree ∷ []) (tables.seat.tree ∷ tables.office.tree ∷ []) a.now b.now refl (only (back clean))) (touched_wider (tables.office.tree ∷ []) (tables.seat.tree ∷ tables.office.tree ∷ []) b.now c.now refl touched)) (dates clean);
-            goes = on_ok_then r _ _ (goes_then a b c goes) leaves.goes;
-            aborts = on_err_then r _ _ (cut_then a b c goes.on) leaves.aborts;
+            goes = on_ok_then r _ _ (goes_then goes) leaves.goes;
+            aborts = on_err_then r _ _ (cut_then goes.on) leaves.aborts;
             faults = λ beside house shown may kept clean free. last_cause a b c goes.on r leaves.aborts clean (λ cleaner.
                 faults house.office (only cleaner tables.office.tree refl refl ∙ shown.office) clean (still_unlimited a b goes.on free));
           };

@@ -1,12 +1,10 @@
 -- Permits that are told, granted and taken back, on the whole desk.
 use Rattle.std.proofs.Common.{◌≡◌, ℕ, ◌+◌, ◌<◌, ℤ, pos, List, [], ◌∷◌, length, map, filter, get_or, Bool, false, not}
 use Rattle.std.proofs.Common.{nat_eq, Equal, Result, Err, OnOk, inl, inr, refl, sym, ap, ap₂, subst, ◌∙◌, arith}
-use Rattle.std.proofs.lemmas.List.Sorted.{IsPermutation-refl}
 use Rattle.sqlite_rules.specs.Lists.{Has}
 use Rattle.sqlite_trees.specs.declared.store.Store as store
 use Rattle.office_tables.specs.NumberedStatements.{PutsNumbered, ThinsNumbered}
 use Rattle.office_tables.specs.Schema as tables
-use Rattle.desk_store.specs.declared.reader_permits.Permit.{Permit}
 use Rattle.desk_store.proofs.Common.{AllByRecursion, Desk, Goes, HasCleanDisk, HasNumbered, HasUnitRow, Held, Int}
 use Rattle.desk_store.proofs.Common.{IsLegible, IsNumberOf, IsOrdered, IsPermutation, IsSorted, MayHave, OnlyTouches}
 use Rattle.desk_store.proofs.Common.{PermitRow, PutsRow, RepresentsDesk, RepresentsDeskAlone, Row, State, StoreFault}
@@ -14,10 +12,9 @@ use Rattle.desk_store.proofs.Common.{StoreUpdates, Trees, all-filter, by_permitt
 use Rattle.desk_store.proofs.Common.{desk_with_permit, desk_without_permit, early, eqb-true, get_or-map, goes_then, had}
 use Rattle.desk_store.proofs.Common.{has_at, has_filtered, int_cmp, int_cmp_total, is_lt, is_permit, last_cause}
 use Rattle.desk_store.proofs.Common.{last_touched, length-map, list_any, next_rowid, on_err_then, on_ok_both}
-use Rattle.desk_store.proofs.Common.{on_ok_then, one_more, or_from, ordering_then, permit_cells, permits_of, rowid}
-use Rattle.desk_store.proofs.Common.{state, still_unlimited, tied_itself, told_permuted, untouched, untouched_last}
+use Rattle.desk_store.proofs.Common.{on_ok_then, one_more, or_from, ordering_then, permit_cells, rowid, state}
+use Rattle.desk_store.proofs.Common.{still_unlimited, tied_itself, told_permuted, untouched, untouched_last}
 use Rattle.desk_store.proofs.Common.{with_permit_row, without_permit, ⊤}
-use Rattle.desk_store.proofs.NumbersOf.{none_after}
 use Rattle.desk_store.proofs.Frames.{with_permits}
 use Rattle.desk_store.proofs.PermitRows.{by_ticket, permit_of, told_of}
 
@@ -53,15 +50,6 @@ module _ (t : ℕ) (there : List Row) (ps : List PermitRow) (at : HasNumbered pe
       → IsOrdered by_permitted_unit (map permit_of (filter of_ticket ps)) (map told_of ys)
   told_ordered ys ordered =
       (told_permuted permit_cells permit_of there ps at of_ticket ys ordered.0, told_sorted ys ordered.0 ordered.1)
-
--- a ticket that was not given has no permit
-pub none_given : (t : ℕ) (db : Trees) (d : Desk) → RepresentsDesk db d → length d.readers < t
-    → IsOrdered by_permitted_unit (permits_of t d) []
-none_given t db d shown over =
-    subst (λ ps. IsOrdered by_permitted_unit (map told ps) []) (sym (none_after (λ (p : PermitRow). p.ticket) d.readers t over d.permits shown.permit_tickets)) (IsPermutation-refl [], λ k e low high. absurd (omega (arith, high)))
-  where
-    told : PermitRow → Permit
-    told p = record { unit = p.unit; until = p.until }
 
 -- ---- the ticket has no permit any more
 
@@ -146,7 +134,7 @@ module _ {S : Type 0} (g : store.Ghosts S) (before mid after : Held S) (t u : �
         → HasNumbered permit_cells (a.now.trees tables.permit.tree) ps
         → OnOk r (HasNumbered permit_cells (c.now.trees tables.permit.tree) (with_permit_row t u until ps))
     rows_granted clean ps stored =
-        on_ok_then r _ _ (λ at. row_put (early b c _ puts.leaves.crash clean) at ps stored) (puts.puts clean)
+        on_ok_then r _ _ (λ at. row_put (early puts.leaves.crash clean) at ps stored) (puts.puts clean)
 
     put : HasCleanDisk b
         → PutsRow tables.permit.tree (permit_cells (next_rowid (b.now.trees tables.permit.tree), row)) b.now c.now
@@ -159,13 +147,13 @@ module _ {S : Type 0} (g : store.Ghosts S) (before mid after : Held S) (t u : �
     pub grants : StoreUpdates g (tables.permit.tree ∷ []) RepresentsDeskAlone before after r (MayHave t u a.now.trees) IsLegible (desk_with_permit t u until)
     grants =
         let leaves = puts.leaves in
-        let back = early b c _ leaves.crash in
+        let back = early leaves.crash in
         record {
           call = record {
             represents_updated = λ clean beside d shown may. on_ok_then r _ _ (λ at. put (back clean) at d shown may.0) (puts.puts clean);
             only = λ clean. on_ok_then r _ _ (λ (at : PutsRow tables.permit.tree (permit_cells (next_rowid (b.now.trees tables.permit.tree), row)) b.now c.now) tree known other. at.only tree known other ∙ only (back clean) tree known other) (puts.puts clean);
-            goes = on_ok_then r _ _ (goes_then a b c goes) leaves.goes;
-            aborts = on_err_then r _ _ (cut_then a b c goes.on) leaves.aborts;
+            goes = on_ok_then r _ _ (goes_then goes) leaves.goes;
+            aborts = on_err_then r _ _ (cut_then goes.on) leaves.aborts;
             faults = λ beside d shown may kept clean free. last_cause a b c goes.on r leaves.aborts clean (λ cleaner.
                 puts.faults (without_permit t u d.permits) (left cleaner d.permits shown.permits) (none_left t u d.permits, still_there cleaner may.1) clean (still_unlimited a b goes.on free));
           };

@@ -8,9 +8,9 @@ use Rattle.desk_store.proofs.Common.{Database, Desk, Goes, HasCause, HasCleanDis
 use Rattle.desk_store.proofs.Common.{IsSame, IsUnlimited, LeavesUnchanged, OnlyTouches, PutsRow, ReaderRow}
 use Rattle.desk_store.proofs.Common.{RepresentsDesk, RepresentsDeskAlone, Spares, State, StoreFault, StoreUpdates}
 use Rattle.desk_store.proofs.Common.{cases_Bool, counted_free, counted_more, cut_then, early, goes_then, length-append}
-use Rattle.desk_store.proofs.Common.{list_any, looked_spares, ltb-true, most_tickets, nat_lt, next_cause, next_ticket}
-use Rattle.desk_store.proofs.Common.{put_end, put_row, put_rows, reader, reader_cells, state, still_unlimited}
-use Rattle.desk_store.proofs.Common.{untouched, with_reader, ⊤}
+use Rattle.desk_store.proofs.Common.{list_any, looked_spares, ltb-true, makes_well, most_tickets, nat_lt, next_cause}
+use Rattle.desk_store.proofs.Common.{next_ticket, put_end, put_row, put_rows, reader, reader_cells, state}
+use Rattle.desk_store.proofs.Common.{still_unlimited, untouched, with_reader, ⊤}
 use Rattle.desk_store.proofs.Frames.{with_readers}
 
 -- where there is a next ticket, it is one more than those that were given
@@ -54,17 +54,10 @@ module _ {S : Type 0} (g : store.Ghosts S) (before mid after : Held S) (name : B
     pub added : Goes b c → (HasCleanDisk c → PutsRow tables.reader.tree (reader_cells row) b.now c.now)
         → StoreUpdates g (tables.reader.tree ∷ []) RepresentsDeskAlone before after (Ok (Some ticket)) (λ _. ⊤) IsLegible (λ d. with_reader (next_ticket d) name until d)
     added goes puts =
-        let back = early b c _ goes.on.crash in
-        record {
-          call = record {
-            represents_updated = λ clean beside d shown may. put (back clean) (puts clean) d shown;
-            only = λ clean. subst (λ (db : Database). OnlyTouches (tables.reader.tree ∷ []) db c.now) (looked.same (back clean)) (puts clean).only;
-            goes = goes_then a b c looked.goes goes;
-            aborts = tt;
-            faults = λ beside d shown may kept clean free. tt;
-          };
-          spares = λ clean. tt;
-        }
+        let back = early goes.on.crash in
+        makes_well (goes_then looked.goes goes)
+        (λ clean. subst (λ (db : Database). OnlyTouches (tables.reader.tree ∷ []) db c.now) (looked.same (back clean)) (puts clean).only)
+        (λ clean beside d shown may. put (back clean) (puts clean) d shown)
 
     pub failed : (e : StoreFault) → IsAborted b c → (HasCleanDisk c → Spares IsSame b c e)
         → ((xs : List ReaderRow) → Holds reader reader_cells b xs → list_any (λ (r : ReaderRow). nat_eq ticket r.ticket) xs ≡ false → HasCleanDisk c → IsUnlimited b → HasCause b c e)
@@ -74,9 +67,9 @@ module _ {S : Type 0} (g : store.Ghosts S) (before mid after : Held S) (name : B
         represents_updated = λ clean beside d shown may. tt;
         only = λ clean. tt;
         goes = tt;
-        aborts = cut_then a b c looked.goes.on cut;
+        aborts = cut_then looked.goes.on cut;
         faults = λ beside d shown may kept clean free. next_cause a b c looked.goes.on cut clean e (λ cleaner.
             why d.readers (still_shown cleaner d shown).readers (counted_free (λ (r : ReaderRow). r.ticket) 1 d.readers ticket shown.tickets (next_is d ticket (is cleaner d shown)).0) clean (still_unlimited a b looked.goes.on free));
       };
-      spares = λ clean. untouched (tables.reader.tree ∷ []) a c e (looked_spares a b c looked (early b c _ cut.crash clean) e (spares clean));
+      spares = λ clean. untouched (tables.reader.tree ∷ []) a c e (looked_spares looked (early cut.crash clean) e (spares clean));
     }

@@ -13,8 +13,8 @@ use Rattle.desk_store.proofs.Common.{OnlyTouches, PutsRow, RepresentsDesk, Repre
 use Rattle.desk_store.proofs.Common.{Spares, State, StoreFault, StoreUpdates, TakesEachOnce, all-append, all-get_or}
 use Rattle.desk_store.proofs.Common.{all-map, all_from_map, all_of, and_right, append_assoc, cases_Bool, counted_free}
 use Rattle.desk_store.proofs.Common.{counted_more, cut_then, early, goes_then, length-append, line_of_run, list_any}
-use Rattle.desk_store.proofs.Common.{looked_spares, ltb-true, map_more, most_runs, nat_lt, next_cause, next_run}
-use Rattle.desk_store.proofs.Common.{or_from, put_end, put_row, put_rows, run_cells, run_line_cells, state}
+use Rattle.desk_store.proofs.Common.{looked_spares, ltb-true, makes_well, map_more, most_runs, nat_lt, next_cause}
+use Rattle.desk_store.proofs.Common.{next_run, or_from, put_end, put_row, put_rows, run_cells, run_line_cells, state}
 use Rattle.desk_store.proofs.Common.{still_numbered, still_unlimited, touched_again, touched_wider, with_run, ⊤}
 use Rattle.desk_store.proofs.Frames.{with_runs}
 use Rattle.desk_store.proofs.NumbersOf.{widened, none_after}
@@ -122,8 +122,8 @@ module _ (a b c : State) (run : ℕ) (on : ℤ) (taken : List ContainerOrder) wh
 -- before the last step the disk was clean too
 pub clean_before : {X : Type 0} (b c : State) (r : Result X StoreFault) → OnOk r (Goes b c) → OnErr r (IsAborted b c)
     → HasCleanDisk c → HasCleanDisk b
-clean_before b c (Ok x) goes cut clean = early b c _ goes.on.crash clean
-clean_before b c (Err e) goes cut clean = early b c _ cut.crash clean
+clean_before b c (Ok x) goes cut clean = early goes.on.crash clean
+clean_before b c (Err e) goes cut clean = early cut.crash clean
 
 -- ---- the call
 
@@ -146,19 +146,12 @@ module _ {S : Type 0} (g : store.Ghosts S) (before mid after : Held S) (on : ℤ
         → (HasCleanDisk c → OnlyTouches (tables.run.tree ∷ tables.run_line.tree ∷ []) b.now c.now)
         → StoreUpdates g (tables.run.tree ∷ tables.run_line.tree ∷ []) RepresentsDeskAlone before after (Ok (Some run)) (λ _. ⊤) (λ d. IsLegible d × TakesEachOnce taken) (λ d. with_run (next_run d) on taken d)
     recorded goes represents only =
-        let back = early b c _ goes.on.crash in
-        record {
-          call = record {
-            represents_updated = λ clean beside d shown may.
-                let at = is (back clean) d shown in
-                subst (λ o. RepresentsDesk c.now.trees (with_run o on taken d)) at (represents clean d (still_shown (back clean) d shown) at);
-            only = λ clean. subst (λ (db : Database). OnlyTouches (tables.run.tree ∷ tables.run_line.tree ∷ []) db c.now) (looked.same (back clean)) (only clean);
-            goes = goes_then a b c looked.goes goes;
-            aborts = tt;
-            faults = λ beside d shown may kept clean free. tt;
-          };
-          spares = λ clean. tt;
-        }
+        let back = early goes.on.crash in
+        makes_well (goes_then looked.goes goes)
+        (λ clean. subst (λ (db : Database). OnlyTouches (tables.run.tree ∷ tables.run_line.tree ∷ []) db c.now) (looked.same (back clean)) (only clean))
+        (λ clean beside d shown may.
+        let at = is (back clean) d shown in
+        subst (λ o. RepresentsDesk c.now.trees (with_run o on taken d)) at (represents clean d (still_shown (back clean) d shown) at))
 
     pub not_recorded : (e : StoreFault) → IsAborted b c
         → (HasCleanDisk c → Spares (OnlyTouches (tables.run.tree ∷ tables.run_line.tree ∷ [])) b c e)
@@ -169,8 +162,8 @@ module _ {S : Type 0} (g : store.Ghosts S) (before mid after : Held S) (on : ℤ
         represents_updated = λ clean beside d shown may. tt;
         only = λ clean. tt;
         goes = tt;
-        aborts = cut_then a b c looked.goes.on cut;
+        aborts = cut_then looked.goes.on cut;
         faults = λ beside d shown may kept clean free. next_cause a b c looked.goes.on cut clean e (λ cleaner. why d (still_shown cleaner d shown) (is cleaner d shown) kept.1 clean (still_unlimited a b looked.goes.on free));
       };
-      spares = λ clean. looked_spares a b c looked (early b c _ cut.crash clean) e (spares clean);
+      spares = λ clean. looked_spares looked (early cut.crash clean) e (spares clean);
     }

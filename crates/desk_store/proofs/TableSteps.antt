@@ -24,13 +24,13 @@ makes_next {S} {g} {here} {next} {last} {before} {mid} {after} {x} {r} first the
     record {
       made = λ start making.
           let step = first.made start making in
-          on_ok_then r (Continues b c × IsMaking [] last start c) (Continues a c × IsMaking [] last start c) (λ it. (continues_then a b c step.0 it.0, it.1)) (then.made start step.1);
+          on_ok_then r (Continues b c × IsMaking [] last start c) (Continues a c × IsMaking [] last start c) (λ it. (continues_then step.0 it.0, it.1)) (then.made start step.1);
       faults = λ start making clean.
           let step = first.made start making in
           last_cause a b c step.0 r (then.aborts start step.1) clean (λ _. then.faults start step.1 clean);
       aborts = λ start making.
           let step = first.made start making in
-          on_err_then r (IsAborted b c) (IsAborted a c) (cut_then a b c step.0) (then.aborts start step.1);
+          on_err_then r (IsAborted b c) (IsAborted a c) (cut_then step.0) (then.aborts start step.1);
     }
 
 -- one table is made

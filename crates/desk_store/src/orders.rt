@@ -43,8 +43,8 @@ pub struct PlacedOrder {
 /// An order in the queue of its container.
 #[derive(Debug, Clone, Copy, PartialEq, Eq)]
 pub struct WaitingOrder {
-    pub order: u64,
-    pub ticket: u64,
+    pub order: Number,
+    pub ticket: Number,
 }
 
 /// The row of an order, without its number.
@@ -127,7 +127,7 @@ impl OrderEntry {
 }
 
 /// The order with this number, or none if no such order was placed.
-fn find_placed<P: Versioned, S: Alter>(
+pub fn order<P: Versioned, S: Alter>(
     alloc: Global,
     tables: &mut Tables<P, S>,
     order: Number,
@@ -140,19 +140,4 @@ fn find_placed<P: Versioned, S: Alter>(
     };
     let placed = entry.decode()?;
     Ok(Some(placed))
-}
-
-/// The order with this number, or none if no such order was placed, whatever the number.
-pub fn order<P: Versioned, S: Alter>(
-    alloc: Global,
-    tables: &mut Tables<P, S>,
-    order: u64,
-) -> Result<Option<PlacedOrder>, StoreFault>
-    ensures answers { StoreAnswers S.Store RepresentsDeskAlone tables.old tables.new result
-        within IsLegible gives λ _ d found. IsThere (order_with order d) found }
-{
-    match Number::of(order) {
-        Some(number) => find_placed(alloc, tables, number),
-        None => Ok(None),
-    }
 }

@@ -23,7 +23,7 @@ pub struct QueueHead {
 
 /// Where a container is, and the first order that waits for it; none if the container is not known. Neither what is
 /// written on the container nor any other order is read.
-fn find_head<P: Versioned, S: Alter>(
+pub fn queue_head<P: Versioned, S: Alter>(
     alloc: Global,
     tables: &mut Tables<P, S>,
     container: Number,
@@ -39,20 +39,4 @@ fn find_head<P: Versioned, S: Alter>(
     let place = place_of(alloc, tables, container)?;
     let first = first_for(alloc, tables, container)?;
     Ok(Some(QueueHead { place, first }))
-}
-
-/// Where a container is, and the first order that waits for it; none if the container is not known, whatever its number.
-pub fn queue_head<P: Versioned, S: Alter>(
-    alloc: Global,
-    tables: &mut Tables<P, S>,
-    container: u64,
-) -> Result<Option<QueueHead>, StoreFault>
-    ensures answers { StoreAnswers S.Store RepresentsQueues tables.old tables.new result
-        within IsLegibleStorage
-        gives λ _ storage found. IsHeaded container storage (container_with container storage) found }
-{
-    match Number::of(container) {
-        Some(number) => find_head(alloc, tables, number),
-        None => Ok(None),
-    }
 }

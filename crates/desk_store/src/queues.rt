@@ -111,7 +111,7 @@ pub(crate) fn place_of<P: Versioned, S: Alter>(
 }
 
 /// The name of a container, where it is, and the orders that wait for it; none if the container is not known.
-fn find_queue<P: Versioned, S: Alter>(
+pub fn queue<P: Versioned, S: Alter>(
     alloc: Global,
     tables: &mut Tables<P, S>,
     container: Number,
@@ -130,21 +130,4 @@ fn find_queue<P: Versioned, S: Alter>(
         place,
         waiting: List(waiting),
     }))
-}
-
-/// The name of a container, where it is, and the orders that wait for it; none if the container is not known, whatever
-/// its number.
-pub fn queue<P: Versioned, S: Alter>(
-    alloc: Global,
-    tables: &mut Tables<P, S>,
-    container: u64,
-) -> Result<Option<ContainerQueue>, StoreFault>
-    ensures answers { StoreAnswers S.Store RepresentsQueues tables.old tables.new result
-        within IsLegibleStorage
-        gives λ _ storage found. IsQueued container storage (container_with container storage) found }
-{
-    match Number::of(container) {
-        Some(number) => find_queue(alloc, tables, number),
-        None => Ok(None),
-    }
 }

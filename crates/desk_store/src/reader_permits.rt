@@ -53,7 +53,7 @@ impl FromRow for Permit {
 }
 
 /// The permits of a ticket, in order of unit. They are found by the ticket, the first column of the primary key.
-fn permits_with<P: Versioned, S: Alter>(
+pub fn permits<P: Versioned, S: Alter>(
     alloc: Global,
     tables: &mut Tables<P, S>,
     ticket: Number,
@@ -67,21 +67,6 @@ fn permits_with<P: Versioned, S: Alter>(
         "SELECT unit, until FROM permit WHERE ticket = ?1 ORDER BY ticket, unit",
         &[ticket.cell()],
     )
-}
-
-/// The permits of a ticket, in order of unit. A ticket that was not given has none.
-pub fn permits<P: Versioned, S: Alter>(
-    alloc: Global,
-    tables: &mut Tables<P, S>,
-    ticket: u64,
-) -> Result<Vec<Permit>, StoreFault>
-    ensures answers { StoreAnswers S.Store RepresentsDeskAlone tables.old tables.new result
-        within IsLegible gives λ _ d all. IsOrdered by_permitted_unit (permits_of ticket d) all.items }
-{
-    match Number::of(ticket) {
-        Some(number) => permits_with(alloc, tables, number),
-        None => Ok(Vec::new(alloc)),
-    }
 }
 
 /// Adds a permit for a unit for which the ticket has none.

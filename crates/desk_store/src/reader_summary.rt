@@ -200,7 +200,7 @@ fn orders_of<P: Versioned, S: Alter>(
 }
 
 /// A reader's card on a day, or none if the ticket was not given.
-fn find_card<P: Versioned, S: Alter>(
+pub fn reader<P: Versioned, S: Alter>(
     alloc: Global,
     tables: &mut Tables<P, S>,
     ticket: Number,
@@ -226,20 +226,4 @@ fn find_card<P: Versioned, S: Alter>(
         placed: told.placed,
         orders: told.orders,
     }))
-}
-
-/// A reader's card on a day, or none if the ticket was not given, whatever its number.
-pub fn reader<P: Versioned, S: Alter>(
-    alloc: Global,
-    tables: &mut Tables<P, S>,
-    ticket: u64,
-    today: Day,
-) -> Result<Option<ReaderCard>, StoreFault>
-    ensures answers { StoreAnswers S.Store RepresentsDeskAlone tables.old tables.new result
-        within IsLegible gives λ _ d card. card ≡ card_of ticket today d }
-{
-    match Number::of(ticket) {
-        Some(number) => find_card(alloc, tables, number, today),
-        None => Ok(None),
-    }
 }

@@ -173,7 +173,7 @@ pub fn add_reader<P: Versioned, S: Alter>(
 }
 
 /// Whether a ticket was given.
-fn is_given<P: Versioned, S: Alter>(
+pub fn is_registered<P: Versioned, S: Alter>(
     alloc: Global,
     tables: &mut Tables<P, S>,
     ticket: Number,
@@ -183,19 +183,4 @@ fn is_given<P: Versioned, S: Alter>(
 {
     let found = find_reader(alloc, tables, ticket)?;
     Ok(found.is_some())
-}
-
-/// Whether a ticket was given, whatever its number.
-pub fn is_registered<P: Versioned, S: Alter>(
-    alloc: Global,
-    tables: &mut Tables<P, S>,
-    ticket: u64,
-) -> Result<bool, StoreFault>
-    ensures answers { StoreAnswers S.Store RepresentsDeskAlone tables.old tables.new result
-        within IsLegible gives λ _ d known. known ≡ is_some (reader_with ticket d) }
-{
-    match Number::of(ticket) {
-        Some(number) => is_given(alloc, tables, number),
-        None => Ok(false),
-    }
 }

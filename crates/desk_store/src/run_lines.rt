@@ -109,7 +109,7 @@ fn candidates_of<P: Versioned, S: Alter>(
 
 /// What a run brought: its day, and its lines, each with what is written on its container. Returns none if
 /// there was no such run.
-fn find_run<P: Versioned, S: Alter>(
+pub fn run<P: Versioned, S: Alter>(
     alloc: Global,
     tables: &mut Tables<P, S>,
     run: Number,
@@ -127,20 +127,4 @@ fn find_run<P: Versioned, S: Alter>(
         day: made.day,
         lines: List(told),
     }))
-}
-
-/// What a run brought, or none if there was no such run, whatever its number.
-pub fn run<P: Versioned, S: Alter>(
-    alloc: Global,
-    tables: &mut Tables<P, S>,
-    run: u64,
-) -> Result<Option<Brought>, StoreFault>
-    ensures answers { StoreAnswers S.Store RepresentsQueues tables.old tables.new result
-        within IsLegibleStorage and AreKnown run
-        gives λ _ storage found. IsToldRun storage (run_with run storage.desk) found }
-{
-    match Number::of(run) {
-        Some(number) => find_run(alloc, tables, number),
-        None => Ok(None),
-    }
 }

@@ -16,7 +16,7 @@ use std::alloc::Global;
 
 /// The reader who has a ticket, with his seat and how many containers are out with him, or none if the
 /// ticket was not given.
-fn find_holder<P: Versioned, S: Alter>(
+pub fn ticket_holder<P: Versioned, S: Alter>(
     alloc: Global,
     tables: &mut Tables<P, S>,
     ticket: Number,
@@ -35,19 +35,4 @@ fn find_holder<P: Versioned, S: Alter>(
         seat: seat_in(taken),
         held: count_out(&lines),
     }))
-}
-
-/// The reader who has a ticket, or none if the ticket was not given, whatever its number.
-pub fn ticket_holder<P: Versioned, S: Alter>(
-    alloc: Global,
-    tables: &mut Tables<P, S>,
-    ticket: u64,
-) -> Result<Option<Reader>, StoreFault>
-    ensures answers { StoreAnswers S.Store RepresentsDeskAlone tables.old tables.new result
-        within IsLegible gives λ _ d holder. holder ≡ ticket_holder ticket d }
-{
-    match Number::of(ticket) {
-        Some(number) => find_holder(alloc, tables, number),
-        None => Ok(None),
-    }
 }

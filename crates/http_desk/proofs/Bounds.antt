@@ -1,20 +1,21 @@
 -- Sessions that a bound ended in a text.
-use Rattle.std.proofs.Common.{◌≡◌, ◌≤◌, ◌+◌, ℕ, List, [], ◌++◌, length, take, drop, refl, sym, ap, ◌∙◌, subst, true}
-use Rattle.std.proofs.Common.{false, Bool, append_assoc, inl, inr, Option}
+use Rattle.std.proofs.Common.{◌≡◌, ◌≤◌, ◌+◌, ℕ, [], ◌++◌, length, take, drop, refl, sym, ap, ◌∙◌, subst, true, false}
+use Rattle.std.proofs.Common.{Bool, append_assoc, inl, inr, Option}
 use Rattle.std.specs.Prelude.{◌||◌, Ok, Err}
+use Rattle.office_core.specs.declared.machine.Machine as machine
 use Rattle.http_messages.specs.Answers.{continue_text}
 use Rattle.http_messages.specs.declared.status.Status.TheVariants.{Busy}
+use Rattle.http_desk.specs.Bounds.{ExchangeBounded, IsLastAnswer, SessionBounded, StopsBounded, leave_of}
 use Rattle.http_desk.specs.Exchanges.{Refused}
 use Rattle.http_desk.specs.declared.output.Sent.TheVariants.{All, Failed, Bound as OutOfTurns}
 use Rattle.http_desk.specs.declared.session_end.Ended.TheVariants.{Bound}
-use Rattle.http_desk.proofs.Common.{Accepted, Answer, Answers, Appends, Appends-trans, Bytes, Closed, Command, Consumes}
-use Rattle.http_desk.proofs.Common.{Consumes-nil, Consumes-trans, Ends, ExchangeBounded, Fails, HasHead, IfOk, IsFront}
-use Rattle.http_desk.proofs.Common.{IsLastAnswer, Last, MatchResult, Message, Next, OnErr, Request, Result, Sends}
-use Rattle.http_desk.proofs.Common.{SendsAnswer, Sent, SessionBounded, Stands, State, Status, StopsBounded, Stream}
-use Rattle.http_desk.proofs.Common.{TellsWriteBound, TextIsUsedUp, Through, after_answer, after_sending, answer_text}
-use Rattle.http_desk.proofs.Common.{body_length, closes, continue_if, error, is_head, last_text, leave_of}
-use Rattle.http_desk.proofs.Common.{message_answer, most_answers, nat_eq, refusal_text, response, state_after_last}
-use Rattle.http_desk.proofs.Common.{state_after_message, state_after_messages}
+use Rattle.http_desk.proofs.Common.{Accepted, Answer, Answers, Appends, Appends-trans, Bytes, Closed, Consumes}
+use Rattle.http_desk.proofs.Common.{Consumes-nil, Consumes-trans, Ends, Fails, HasHead, IfOk, IsFront, Last}
+use Rattle.http_desk.proofs.Common.{MatchResult, Message, Next, OnErr, Request, Result, Sends, SendsAnswer, Sent}
+use Rattle.http_desk.proofs.Common.{Stands, State, Status, Stream, TellsWriteBound, TextIsUsedUp, Through, after_answer}
+use Rattle.http_desk.proofs.Common.{after_sending, answer_text, body_length, closes, continue_if, error, is_head}
+use Rattle.http_desk.proofs.Common.{last_text, message_answer, most_answers, nat_eq, refusal_text, response}
+use Rattle.http_desk.proofs.Common.{state_after_last, state_after_message, state_after_messages}
 use Rattle.http_desk.proofs.Faults.{bound_sent, closed_no_bound, goes_no_bound}
 use Rattle.http_desk.proofs.Turns.{front_after, head_more, may_fail_after, message_at}
 use Rattle.http_desk.proofs.Sessions.{Begun, Carried, cuts_longer}
@@ -54,15 +55,15 @@ begun_bounded number s t u read written buffer more out writer b g =
       bounded,
     )
 
-module _ {M : Type 0} (represents : M → State → Type 0) (is_intact is_open : M → Type 0) (recovers : M → List Command → State → Type 0) where
+module _ {M : Type 0} (o : machine.Ghosts M) where
   -- a fixed answer broke off
   pub refused_to_bound : (number : ℕ) (old new : M) (input before : Bytes) (last : Last) (bare : Bool) (status : Status) (a b : Option Bytes) (next : Next) (writer : Stream)
       → Refused a b bare status next → TellsWriteBound (refusal_text bare (error status)) writer next → Stands input last
       → before ≡ continue_if (leave_of last)
       → ((s : State) → IsLastAnswer number s last (refusal_text bare (error status)))
       → ((s : State) → (before ++ refusal_text bare (error status) ≡ last_text number s last) × (s ≡ state_after_last s last))
-      → (is_intact new → (s : State) → represents old s → represents new s) → next ≡ Ends Bound
-      → (written : Bytes) × Appends a b written × Through represents is_intact old new (λ s t. StopsBounded number s input (before ++ written) t writer)
+      → (o.is_intact new → (s : State) → o.represents old s → o.represents new s) → next ≡ Ends Bound
+      → (written : Bytes) × Appends a b written × Through o.represents o.is_intact old new (λ s t. StopsBounded number s input (before ++ written) t writer)
   refused_to_bound number old new input before last bare status a b next writer (sent, sends, e) told x lead answer alone kept bound =
       let text = refusal_text bare (error status) in
       let (front, is_front, appended) = sent_front sent (Ends Closed) a b text closed_no_bound (sym e ∙ bound) sends in (
@@ -85,16 +86,16 @@ module _ {M : Type 0} (represents : M → State → Type 0) (is_intact is_open :
       → bare ≡ is_head request.method → (request.closes || nat_eq number most_answers) ≡ closing
       → MatchResult made (λ x. SendsAnswer a b closing (answer_text bare closing (answer x)) next) (λ e. Refused a b false Busy next)
       → MatchResult made (λ x. TellsWriteBound (answer_text bare closing (answer x)) writer next) (λ e. TellsWriteBound (refusal_text false (error Busy)) writer next)
-      → IfOk made (λ x. is_intact new → (s : State) → represents old s → represents new (response s request (take n (drop size items))).1 × (answer x ≡ (response s request (take n (drop size items))).0))
-      → OnErr made (is_intact new → (s : State) → represents old s → represents new s) → next ≡ Ends Bound
-      → (written : Bytes) × Appends a b written × Through represents is_intact old new (λ s t. StopsBounded number s items (continue_if request.waits ++ written) t writer)
+      → IfOk made (λ x. o.is_intact new → (s : State) → o.represents old s → o.represents new (response s request (take n (drop size items))).1 × (answer x ≡ (response s request (take n (drop size items))).0))
+      → OnErr made (o.is_intact new → (s : State) → o.represents old s → o.represents new s) → next ≡ Ends Bound
+      → (written : Bytes) × Appends a b written × Through o.represents o.is_intact old new (λ s t. StopsBounded number s items (continue_if request.waits ++ written) t writer)
   answered_to_bound answer number old new items size n request (Ok x) bare a b closing next writer h within e is_bare is_closing (sent, sends, ends) told answers busy bound =
       let text = answer_text bare closing (answer x) in
       let (front, is_front, appended) =
       sent_front sent (after_answer closing) a b text (after_no_bound closing) (sym ends ∙ bound) sends in
       let message : Message = record { request = request; body = take n (drop size items) } in
       let rest = drop (size + n) items in
-      let begins = message_at represents is_intact is_open recovers items size n request rest h within e refl in (
+      let begins = message_at o items size n request rest h within e refl in (
         front,
         appended,
         λ i s shown.
@@ -115,13 +116,13 @@ module _ {M : Type 0} (represents : M → State → Type 0) (is_intact is_open :
       (may_fail_after items (take size items) (drop size items) request h) refl (λ s. refl) (λ s. (refl, refl)) busy bound
 
   -- the leave to send a body broke off
-  pub leave_to_bound : (number : ℕ) (office : M) (items block more : Bytes) (request : Request) (a b : Option Bytes) (writer : Stream) (sent : Sent) (result : Next)
+  pub leave_to_bound : {items block more : Bytes} {request : Request} {result : Next} (number : ℕ) (office : M) (a b : Option Bytes) (writer : Stream) (sent : Sent)
       → result ≡ after_sending sent (Ends Closed) → HasHead items block (Accepted request) more
       → Sends b writer.bytes (continue_if request.waits) sent
       → (sent ≡ OutOfTurns → request.waits ≡ true) → (sent ≡ OutOfTurns → TextIsUsedUp continue_text writer)
       → result ≡ Ends Bound
-      → ExchangeBounded represents is_intact number a a b writer office items office
-  leave_to_bound number office items block more request a b writer sent result e h sends due used bound =
+      → ExchangeBounded o.represents o.is_intact number a a b writer office items office
+  leave_to_bound {items = items} {block = block} {more = more} {request = request} number office a b writer sent e h sends due used bound =
       let is = bound_sent sent (Ends Closed) closed_no_bound (sym e ∙ bound) in
       let (front, is_front, appended) =
       sent_front sent (Ends Closed) b writer.bytes (continue_if request.waits) closed_no_bound (sym e ∙ bound) sends in
@@ -149,9 +150,9 @@ module _ {M : Type 0} (represents : M → State → Type 0) (is_intact is_open :
 
   -- a bound in the place of a message is one of the session
   pub carried_to_bound : (a b b2 c d : Option Bytes) (writer : Stream) (start now new : M) (number : ℕ) (buffer : Bytes)
-      → (is_intact new → is_intact now) → Carried represents is_intact is_open recovers a b c d start now number buffer
-      → ExchangeBounded represents is_intact number b b2 d writer now buffer new
-      → (read : Bytes) × (written : Bytes) × Consumes a b2 read × Appends c writer.bytes written × Through represents is_intact start new (λ s t. SessionBounded s read written t writer)
+      → (o.is_intact new → o.is_intact now) → Carried o a b c d start now number buffer
+      → ExchangeBounded o.represents o.is_intact number b b2 d writer now buffer new
+      → (read : Bytes) × (written : Bytes) × Consumes a b2 read × Appends c writer.bytes written × Through o.represents o.is_intact start new (λ s t. SessionBounded s read written t writer)
   carried_to_bound a b b2 c d writer start now new number buffer before (read, written, consumed, appended, intact, through) (read2, written2, consumed2, appended2, through2) = (
     read ++ read2,
     written ++ written2,

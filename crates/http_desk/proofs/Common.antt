@@ -7,7 +7,7 @@ pub use Rattle.std.proofs.lemmas.Str.{IsUtf8-drop, IsUtf8-encode, IsUtf8-from_is
 pub use Rattle.std.specs.Io.KnownBytes.{Appends, Consumes}
 pub use Rattle.std.specs.List.{AllByRecursion, flat_map, list_all, starts_with}
 pub use Rattle.std.specs.Prelude.{IfOk, IfSome, IsOk, MatchResult, OnErr, OnOk, Result, decimal, is_none, nat_eq, not}
-pub use Rattle.std.specs.Prelude.{option_and_then, option_map, unwrap_or}
+pub use Rattle.std.specs.Prelude.{option_and_then, option_map, unwrap_or, ⊤}
 pub use Rattle.std.specs.Str.{bytes_eq}
 pub use Rattle.isad_core.specs.Days.{IsDayNumber, day_of, number_of_date, two_digits}
 pub use Rattle.isad_core.specs.Texts.{Bytes}
@@ -38,7 +38,6 @@ pub use Rattle.http_messages.specs.declared.status.Status.{Status}
 pub use Rattle.http_messages.specs.declared.status.Status.TheVariants.{BadRequest, Fine, LengthRequired, NotFound}
 pub use Rattle.http_desk.specs.AcceptedMessages.{AllLeaveOpen, IsAccepted, LastLeavesOpen, LeavesOpen}
 pub use Rattle.http_desk.specs.AnswerOutput.{IsViewOf, Sends, SendsAsCalled}
-pub use Rattle.http_desk.specs.Bounds.{ExchangeBounded, IsLastAnswer, SessionBounded, StopsBounded, leave_of}
 pub use Rattle.http_desk.specs.BusyMessages.{AnswersTo, IsBusyWith, StaysFound, StaysFoundOrBusy}
 pub use Rattle.http_desk.specs.Exchanges.{AtEndIf, EndsAsCalled, Exchange, ExchangeGoesOn, IsNoEnd, Keeps, SendsAnswer}
 pub use Rattle.http_desk.specs.Exchanges.{Talks, TalksWhole, Through, Turn, WritesAsCalled, after_answer, after_sending}
@@ -48,7 +47,6 @@ pub use Rattle.http_desk.specs.MessageInput.{ReadsIntoBuffer}
 pub use Rattle.http_desk.specs.Messages.{Answers, Begins, BodyCut, Cuts, Fails, HasHead, HeadCut, IsBlank, IsHeadCut}
 pub use Rattle.http_desk.specs.Messages.{IsTooLong, Last, MayFail, Message, NoHead, Nothing, Refuses, SomeHead, Stands}
 pub use Rattle.http_desk.specs.Messages.{longest_head}
-pub use Rattle.http_desk.specs.Purposes.{IsNoQuestion, meaning_of}
 pub use Rattle.http_desk.specs.Runs.{AllBring, AllHappen, AllMean, AreVisits, ByHttp, CallsNameDays, CallsNameTexts}
 pub use Rattle.http_desk.specs.Runs.{Directly, Fixed, Happens, HasCarriedOut, HasMeaning, Meaning, Puts, Replied, Visit}
 pub use Rattle.http_desk.specs.Runs.{VisitBrings, VisitLeavesOpen, VisitsLeaveOpen, all_messages, answers_of}
@@ -57,15 +55,15 @@ pub use Rattle.http_desk.specs.Session.{EndsSo, IsClosing, IsCutOff, IsFront, Se
 pub use Rattle.http_desk.specs.Session.{closes, continue_if, last_text, message_answer, message_text, most_answers}
 pub use Rattle.http_desk.specs.Session.{refusal_text, state_after_last, state_after_message, state_after_messages}
 pub use Rattle.http_desk.specs.Session.{text_after_all}
-pub use Rattle.http_desk.specs.StreamFaults.{IsFlushed, IsUsedUp, QuietFill, QuietSend, TakesCalls, TakesTurns}
+pub use Rattle.http_desk.specs.StreamFaults.{IsFlushed, IsUsedUp, QuietSend, StepsAsCalled, TakesCalls, TakesTurns}
 pub use Rattle.http_desk.specs.StreamFaults.{TellsReadFault, TellsSomeWriteBound, TellsWriteBound, TextIsUsedUp}
-pub use Rattle.http_desk.specs.StreamFaults.{fill_failed, is_read_fault, is_write_fault, send_failed}
+pub use Rattle.http_desk.specs.StreamFaults.{is_read_fault, is_write_fault, send_failed}
 pub use Rattle.http_desk.specs.Streams.{Stream, most_reads, one_more_call}
 pub use Rattle.http_desk.specs.WorkedExamples.{filled_office, fonds_list, not_found, with_draft}
 pub use Rattle.http_desk.specs.WorkedSessions.{draft_head, draft_request, half_a_request, list_request, one_unit}
 pub use Rattle.http_desk.specs.WorkedSessions.{page_request, register_head}
 pub use Rattle.http_desk.specs.declared.output.Sent.{Sent}
 pub use Rattle.http_desk.specs.declared.session_end.Ended.{Ended}
-pub use Rattle.http_desk.specs.declared.session_end.Ended.TheVariants.{Closed, End, ReadFault, WriteFault}
+pub use Rattle.http_desk.specs.declared.session_end.Ended.TheVariants.{Closed, Cut, End, ReadFault, WriteFault}
 pub use Rattle.http_desk.specs.declared.session_end.Next.{Next}
 pub use Rattle.http_desk.specs.declared.session_end.Next.TheVariants.{Ends, Goes}

@@ -2,11 +2,11 @@
 use Rattle.std.proofs.Common.{◌≡◌, ◌<◌, ℕ, suc, ◌+◌, List, [], ◌∷◌, ◌++◌, length, refl, sym, ap, ◌∙◌, subst, arith}
 use Rattle.std.proofs.Common.{true, false, Bool}
 use Rattle.std.specs.Prelude.{◌||◌}
-use Rattle.http_desk.specs.declared.session_end.Ended.TheVariants.{Cut, Bound}
-use Rattle.http_desk.proofs.Common.{AllByRecursion, Answers, AreSameOutcomes, Begins, BodyCut, Bytes, Closed, Cuts, End}
-use Rattle.http_desk.proofs.Common.{Ended, EndsSo, Fails, HasEnded, HeadCut, IsClosing, IsCutOff, Last, Message, NoHead}
-use Rattle.http_desk.proofs.Common.{Nothing, ReadFault, Refuses, Session, Stands, State, StaysOpen, WriteFault, Written}
-use Rattle.http_desk.proofs.Common.{is_busy, last_text, most_answers, nat_eq, nat_tests, state_after_last}
+use Rattle.http_desk.specs.declared.session_end.Ended.TheVariants.{Bound}
+use Rattle.http_desk.proofs.Common.{AllByRecursion, Answers, AreSameOutcomes, Begins, BodyCut, Bytes, Closed, Cut, Cuts}
+use Rattle.http_desk.proofs.Common.{End, Ended, EndsSo, Fails, HasEnded, HeadCut, IsClosing, IsCutOff, Last, Message}
+use Rattle.http_desk.proofs.Common.{NoHead, Nothing, ReadFault, Refuses, Session, Stands, State, StaysOpen, WriteFault}
+use Rattle.http_desk.proofs.Common.{Written, is_busy, last_text, most_answers, nat_eq, nat_tests, state_after_last}
 use Rattle.http_desk.proofs.Common.{state_after_messages, text_after_all, was_busy}
 use Rattle.http_desk.proofs.Cutting.{begins_unique, stands_unique}
 

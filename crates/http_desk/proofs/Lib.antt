@@ -18,6 +18,7 @@ pub mod Faults
 pub mod Endings
 pub mod Bounds
 pub mod Views
+pub mod Exchanges
 pub mod Options
 pub mod Strings
 pub mod Values

@@ -2,6 +2,7 @@
 use Rattle.std.proofs.Common.{◌≡◌, ◌<◌, ◌+◌, ℕ, suc, List, [], ◌∷◌, ◌++◌, length, refl, sym, ap, ◌∙◌, subst, arith}
 use Rattle.std.proofs.Common.{true, false, Bool, append-nil, Option, length-append}
 use Rattle.std.specs.Prelude.{◌||◌}
+use Rattle.office_core.specs.declared.machine.Machine as machine
 use Rattle.http_desk.proofs.Common.{AllByRecursion, AllLeaveOpen, Appends, Appends-nil, Appends-trans, Bytes, Command}
 use Rattle.http_desk.proofs.Common.{Consumes, Consumes-nil, Consumes-trans, Cuts, Ended, Ends, Exchange, ExchangeGoesOn}
 use Rattle.http_desk.proofs.Common.{Goes, IsAccepted, Keeps, Message, Next, State, StaysFound, StaysOpen, Talks}
@@ -110,24 +111,24 @@ begun_ends was between now had mid has number s t u read written buffer more out
 pub not_over : (s t : State) (read written buffer : Bytes) → Begun (most_answers + 1) s read written t buffer → ⊥
 not_over s t read written buffer b = omega (arith, b.few, b.count)
 
-module _ {M : Type 0} (represents : M → State → Type 0) (is_intact is_open : M → Type 0) (recovers : M → List Command → State → Type 0) where
+module _ {M : Type 0} (o : machine.Ghosts M) where
   -- what was read and written so far
   abbrev pub Carried : Option Bytes → Option Bytes → Option Bytes → Option Bytes → M → M → ℕ → Bytes → Type 0
   Carried a b c d start now number buffer =
       (read : Bytes) × (written : Bytes) × Consumes a b read × Appends c d written
-      × (is_intact now → is_intact start)
-      × Through represents is_intact start now (λ s t. BegunOpen (is_open start) (is_open now) (recovers start) (recovers now) number s read written t buffer)
+      × (o.is_intact now → o.is_intact start)
+      × Through o.represents o.is_intact start now (λ s t. BegunOpen (o.is_open start) (o.is_open now) (o.recovers start) (o.recovers now) number s read written t buffer)
 
   pub carried_none : (a c : Option Bytes) (start : M) (buffer : Bytes) → buffer ≡ []
       → Carried a a c c start start 1 buffer
   carried_none a c start buffer e =
-      ([], [], Consumes-nil a, Appends-nil c, (λ i. i), λ i s h. (s, h, begun_none (is_open start) (recovers start) s buffer e))
+      ([], [], Consumes-nil a, Appends-nil c, (λ i. i), λ i s h. (s, h, begun_none (o.is_open start) (o.recovers start) s buffer e))
 
-  pub carried_on : (a b b2 c d d2 : Option Bytes) (start now new : M) (number : ℕ) (buffer rest : Bytes) (next : Next)
-      → next ≡ Goes → (is_intact new → is_intact now) → Carried a b c d start now number buffer
-      → Exchange represents is_intact is_open recovers number b b2 d d2 now buffer next new rest
+  pub carried_on : {next : Next} (a b b2 c d d2 : Option Bytes) (start now new : M) (number : ℕ) (buffer rest : Bytes)
+      → next ≡ Goes → (o.is_intact new → o.is_intact now) → Carried a b c d start now number buffer
+      → Exchange o.represents o.is_intact o.is_open o.recovers number b b2 d d2 now buffer next new rest
       → Carried a b2 c d2 start new (number + 1) rest
-  carried_on a b b2 c d d2 start now new number buffer rest next e before (read, written, consumed, appended, intact, through) (read2, written2, consumed2, appended2, through2) = (
+  carried_on a b b2 c d d2 start now new number buffer rest e before (read, written, consumed, appended, intact, through) (read2, written2, consumed2, appended2, through2) = (
     read ++ read2,
     written ++ written2,
     Consumes-trans a b b2 read read2 consumed consumed2,
@@ -137,15 +138,15 @@ module _ {M : Type 0} (represents : M → State → Type 0) (is_intact is_open :
         let (t, shown, begun) = through (before i) s h in
         let (u, shown2, turn) = through2 i t shown in
         let (goes, kept, found) =
-        subst (λ n. Turn (is_open now) (is_open new) (recovers now) (recovers new) number t (buffer ++ read2) n written2 u rest) e turn in
-        (u, shown2, begun_on (is_open start) (is_open new) (recovers start) (recovers now) (recovers new) number s t u read written buffer read2 written2 rest begun.0 begun.2 goes kept found),
+        subst (λ n. Turn (o.is_open now) (o.is_open new) (o.recovers now) (o.recovers new) number t (buffer ++ read2) n written2 u rest) e turn in
+        (u, shown2, begun_on (o.is_open start) (o.is_open new) (o.recovers start) (o.recovers now) (o.recovers new) number s t u read written buffer read2 written2 rest begun.0 begun.2 goes kept found),
   )
 
-  pub carried_to_end : (a b b2 c d d2 : Option Bytes) (start now new : M) (number : ℕ) (buffer rest : Bytes) (next : Next) (end : Ended)
-      → next ≡ Ends end → (is_intact new → is_intact now) → Carried a b c d start now number buffer
-      → Exchange represents is_intact is_open recovers number b b2 d d2 now buffer next new rest
-      → Talks represents is_intact is_open recovers a b2 c d2 start end new
-  carried_to_end a b b2 c d d2 start now new number buffer rest next end e before (read, written, consumed, appended, intact, through) (read2, written2, consumed2, appended2, through2) = (
+  pub carried_to_end : {next : Next} {end : Ended} (a b b2 c d d2 : Option Bytes) (start now new : M) (number : ℕ) (buffer rest : Bytes)
+      → next ≡ Ends end → (o.is_intact new → o.is_intact now) → Carried a b c d start now number buffer
+      → Exchange o.represents o.is_intact o.is_open o.recovers number b b2 d d2 now buffer next new rest
+      → Talks o.represents o.is_intact o.is_open o.recovers a b2 c d2 start end new
+  carried_to_end {end = end} a b b2 c d d2 start now new number buffer rest e before (read, written, consumed, appended, intact, through) (read2, written2, consumed2, appended2, through2) = (
     read ++ read2,
     written ++ written2,
     Consumes-trans a b b2 read read2 consumed consumed2,
@@ -153,14 +154,14 @@ module _ {M : Type 0} (represents : M → State → Type 0) (is_intact is_open :
     λ i s h.
         let (t, shown, begun) = through (before i) s h in
         let (u, shown2, turn) = through2 i t shown in
-        let stops : LastTurn (is_open now) (is_open new) (recovers now) (recovers new) number t (buffer ++ read2) written2 end u =
-        subst (λ n. Turn (is_open now) (is_open new) (recovers now) (recovers new) number t (buffer ++ read2) n written2 u rest) e turn in
-        (u, shown2, begun_ends (is_open start) (is_open now) (is_open new) (recovers start) (recovers now) (recovers new) number s t u read written buffer read2 written2 end begun.0 begun.1 begun.2 stops),
+        let stops : LastTurn (o.is_open now) (o.is_open new) (o.recovers now) (o.recovers new) number t (buffer ++ read2) written2 end u =
+        subst (λ n. Turn (o.is_open now) (o.is_open new) (o.recovers now) (o.recovers new) number t (buffer ++ read2) n written2 u rest) e turn in
+        (u, shown2, begun_ends (o.is_open start) (o.is_open now) (o.is_open new) (o.recovers start) (o.recovers now) (o.recovers new) number s t u read written buffer read2 written2 end begun.0 begun.1 begun.2 stops),
   )
 
   -- no more messages are answered than may be
   pub carried_over : (a b c d : Option Bytes) (start now : M) (buffer : Bytes) (end : Ended)
       → Carried a b c d start now (most_answers + 1) buffer
-      → Talks represents is_intact is_open recovers a b c d start end now
+      → Talks o.represents o.is_intact o.is_open o.recovers a b c d start end now
   carried_over a b c d start now buffer end (read, written, consumed, appended, intact, through) =
       (read, written, consumed, appended, λ i s h. let (t, shown, begun) = through i s h in absurd (not_over s t read written buffer begun.0))

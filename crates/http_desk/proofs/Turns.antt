@@ -1,22 +1,23 @@
 -- Lemmas on one message's place.
-use Rattle.std.proofs.Common.{◌≡◌, ◌<◌, ◌≤◌, ◌+◌, ◌⊎◌, inl, inr, ℕ, List, [], ◌++◌, length, take, drop, refl, sym, ap}
-use Rattle.std.proofs.Common.{◌∙◌, subst, arith, true, false, Bool, codes, append_assoc, Option, length-take}
-use Rattle.std.proofs.Common.{length-drop, length-append, take-append-drop, drop-drop}
+use Rattle.std.proofs.Common.{◌≡◌, ◌<◌, ◌≤◌, ◌+◌, inl, inr, ℕ, List, [], ◌++◌, length, take, drop, refl, sym, ap, ◌∙◌}
+use Rattle.std.proofs.Common.{subst, arith, true, false, Bool, codes, append_assoc, Option, length-take, length-drop}
+use Rattle.std.proofs.Common.{length-append, take-append-drop, drop-drop}
 use Rattle.std.specs.Prelude.{◌||◌, Ok, Err}
+use Rattle.office_core.specs.declared.machine.Machine as machine
 use Rattle.http_messages.specs.HeadScan.{scan}
+use Rattle.http_messages.specs.declared.head_verdict.Judged.{Judged}
 use Rattle.http_messages.specs.declared.status.Status.TheVariants.{Busy}
 use Rattle.http_desk.specs.Exchanges.{Refused}
 use Rattle.http_desk.specs.declared.output.Sent.TheVariants.{All, Failed, Bound as OutOfTurns}
-use Rattle.http_desk.specs.declared.session_end.Ended.TheVariants.{Cut, Bound}
 use Rattle.http_desk.proofs.Common.{Accepted, Answer, Answers, AnswersTo, Appends, Begins, BodyCut, Bytes, Closed}
-use Rattle.http_desk.proofs.Common.{Command, Consumes-nil, Ended, Ends, Exchange, Fails, Fine, Goes, HasHead, HeadCut}
-use Rattle.http_desk.proofs.Common.{IfOk, IsAccepted, IsBlank, IsBusyWith, IsClosing, IsFront, IsHeadCut, JudgesHead}
-use Rattle.http_desk.proofs.Common.{Last, LastLeavesOpen, MatchResult, MayFail, Message, Next, Nothing, OnErr, OnOk}
-use Rattle.http_desk.proofs.Common.{ReadFault, Request, Result, Sends, SendsAnswer, Sent, Stands, State, Status}
-use Rattle.http_desk.proofs.Common.{StaysFound, StaysFoundOrBusy, Stops, Through, Turn, Verdict, Whole, after_sending}
-use Rattle.http_desk.proofs.Common.{answer_text, body_length, closes, continue_if, drop-append-le, error, is_head}
-use Rattle.http_desk.proofs.Common.{last_text, longest_head, message_text, most_answers, nat_eq, refusal_text, response}
-use Rattle.http_desk.proofs.Common.{scan_take_more, state_after_last, state_after_message, take-append-le}
+use Rattle.http_desk.proofs.Common.{Command, Consumes-nil, Ended, Ends, Exchange, Fails, Fine, Goes, HasHead, IfOk}
+use Rattle.http_desk.proofs.Common.{IsAccepted, IsBusyWith, IsClosing, IsFront, JudgesHead, Last, LastLeavesOpen}
+use Rattle.http_desk.proofs.Common.{MatchResult, MayFail, Message, Next, OnErr, OnOk, Request, Result, Sends}
+use Rattle.http_desk.proofs.Common.{SendsAnswer, Sent, Stands, State, Status, StaysFound, StaysFoundOrBusy, Stops}
+use Rattle.http_desk.proofs.Common.{Through, Turn, Verdict, Whole, after_sending, answer_text, body_length, closes}
+use Rattle.http_desk.proofs.Common.{continue_if, drop-append-le, error, is_head, last_text, longest_head, message_text}
+use Rattle.http_desk.proofs.Common.{most_answers, nat_eq, refusal_text, response, scan_take_more, state_after_last}
+use Rattle.http_desk.proofs.Common.{state_after_message, take-append-le, verdict_in}
 
 -- ---- heads
 
@@ -35,6 +36,15 @@ pub head_found : (items : Bytes) (size : ℕ) (v : Verdict) → scan (take longe
 head_found items size v e h j =
     let len : length (take size items) ≡ size = omega (arith, length-take size items) in
     record { ends = e ∙ ap Whole (sym len); whole = sym (take-append-drop size items); judged = j }
+
+-- the head that was found and judged
+pub head_judged : {items held : Bytes} {size limit : ℕ} {verdict known : Judged}
+    → (scan (take longest_head items) ≡ Whole size) × (size ≤ length items) × (size ≤ limit) → held ≡ items
+    → verdict ≡ known → JudgesHead (take size held) (verdict_in (take size held) verdict)
+    → HasHead items (take size items) (verdict_in (take size items) known) (drop size items)
+head_judged {items = items} {size = size} {verdict = verdict} {known = known} (found, within, limit) same is judged =
+    head_found items size (verdict_in (take size items) known) found within
+    (subst (λ v. JudgesHead (take size items) (verdict_in (take size items) v)) is (subst (λ b. JudgesHead (take size b) (verdict_in (take size b) verdict)) same judged))
 
 pub begins_more : (input : Bytes) (m : Message) (rest more : Bytes) → Begins input m rest
     → Begins (input ++ more) m (rest ++ more)
@@ -111,19 +121,24 @@ pub left_back : {A E : Type 0} (made : Result A E) (lent back rest : Bytes) → 
 left_back (Ok x) lent back rest left same = same ∙ left
 left_back (Err why) lent back rest left same = left
 
-module _ {M : Type 0} (represents : M → State → Type 0) (is_intact is_open : M → Type 0) (recovers : M → List Command → State → Type 0) where
+module _ {M : Type 0} (o : machine.Ghosts M) where
   -- what stands last changes nothing in the office
   abbrev pub AloneAt : ℕ → Last → Bytes → Type 0
   AloneAt number last text = (s : State) → (text ≡ last_text number s last) × (s ≡ state_after_last s last)
+
+  -- what is written in a message's place after `before`, and what becomes of the office there
+  abbrev pub Acts : ℕ → M → M → Bytes → Bytes → Option Bytes → Option Bytes → Next → Bytes → Type 0
+  Acts number old new input before a b next rest = (written : Bytes) × Appends a b written
+      × Through o.represents o.is_intact old new (λ s t. Turn (o.is_open old) (o.is_open new) (o.recovers old) (o.recovers new) number s input next (before ++ written) t rest)
 
   -- a fixed answer was sent
   pub refused : (number : ℕ) (old new : M) (input before rest : Bytes) (last : Last) (bare : Bool) (status : Status) (a b : Option Bytes) (next : Next)
       → Refused a b bare status next → Stands input last → IsClosing number last
       → AloneAt number last (before ++ refusal_text bare (error status))
-      → (is_intact new → (s : State) → represents old s → represents new s)
-      → ((s : State) → LastLeavesOpen (is_open old) s last → is_open new)
-      → (is_intact new → (s : State) → represents old s → StaysFoundOrBusy (recovers old) (recovers new) (IsBusyWith input last) s s)
-      → (written : Bytes) × Appends a b written × Through represents is_intact old new (λ s t. Turn (is_open old) (is_open new) (recovers old) (recovers new) number s input next (before ++ written) t rest)
+      → (o.is_intact new → (s : State) → o.represents old s → o.represents new s)
+      → ((s : State) → LastLeavesOpen (o.is_open old) s last → o.is_open new)
+      → (o.is_intact new → (s : State) → o.represents old s → StaysFoundOrBusy (o.recovers old) (o.recovers new) (IsBusyWith input last) s s)
+      → Acts number old new input before a b next rest
   refused number old new input before rest last bare status a b next (sent, sends, e) x c alone kept stays found =
       let (written, appended, is) = written_of a b (refusal_text bare (error status)) sent sends in (
         written,
@@ -131,8 +146,8 @@ module _ {M : Type 0} (represents : M → State → Type 0) (is_intact is_open :
         λ i s h. (
           s,
           kept i s h,
-          subst (λ n. Turn (is_open old) (is_open new) (recovers old) (recovers new) number s input n (before ++ written) s rest) (sym e)
-              (closed_turn (is_open old) (is_open new) (recovers old) (recovers new) number s input before (refusal_text bare (error status)) written rest s last sent x c (alone s).0 (alone s).1 is (stays s) (found i s h)),
+          subst (λ n. Turn (o.is_open old) (o.is_open new) (o.recovers old) (o.recovers new) number s input n (before ++ written) s rest) (sym e)
+              (closed_turn (o.is_open old) (o.is_open new) (o.recovers old) (o.recovers new) number s input before (refusal_text bare (error status)) written rest s last sent x c (alone s).0 (alone s).1 is (stays s) (found i s h)),
         ),
       )
 
@@ -160,10 +175,10 @@ module _ {M : Type 0} (represents : M → State → Type 0) (is_intact is_open :
       → bare ≡ is_head request.method → (request.closes || nat_eq number most_answers) ≡ true
       → next ≡ after_sending sent (Ends Closed)
       → Sends a b (answer_text bare true told) sent
-      → (is_intact new → (s : State) → represents old s → represents new (response s request (body_at items size n)).1 × (told ≡ (response s request (body_at items size n)).0))
-      → (request.method ≡ codes "POST" → is_intact new → told.status ≡ Fine → is_open new)
-      → (is_intact new → (s : State) → represents old s → StaysFound (recovers old) (recovers new) s (response s request (body_at items size n)).1)
-      → (written : Bytes) × Appends a b written × Through represents is_intact old new (λ s t. Turn (is_open old) (is_open new) (recovers old) (recovers new) number s items next (continue_if request.waits ++ written) t rest)
+      → (o.is_intact new → (s : State) → o.represents old s → o.represents new (response s request (body_at items size n)).1 × (told ≡ (response s request (body_at items size n)).0))
+      → (request.method ≡ codes "POST" → o.is_intact new → told.status ≡ Fine → o.is_open new)
+      → (o.is_intact new → (s : State) → o.represents old s → StaysFound (o.recovers old) (o.recovers new) s (response s request (body_at items size n)).1)
+      → Acts number old new items (continue_if request.waits) a b next rest
   acted_closing number old new items size n request told bare rest a b sent next h within e r is_bare closing ends sends answers kept found =
       let (written, appended, is) = written_of a b (answer_text bare true told) sent sends in
       let message : Message = record { request = request; body = body_at items size n } in
@@ -176,8 +191,8 @@ module _ {M : Type 0} (represents : M → State → Type 0) (is_intact is_open :
             λ j. continue_if request.waits ++ answer_text (is_bare j) (sym closing j) (told_is j) in (
               state_after_message s message,
               shown_after,
-              subst (λ x. Turn (is_open old) (is_open new) (recovers old) (recovers new) number s items x (continue_if request.waits ++ written) (state_after_message s message) rest) (sym ends)
-                  (closed_turn (is_open old) (is_open new) (recovers old) (recovers new) number s items (continue_if request.waits) (answer_text bare true told) written rest (state_after_message s message) (Answers message) sent
+              subst (λ x. Turn (o.is_open old) (o.is_open new) (o.recovers old) (o.recovers new) number s items x (continue_if request.waits ++ written) (state_after_message s message) rest) (sym ends)
+                  (closed_turn (o.is_open old) (o.is_open new) (o.recovers old) (o.recovers new) number s items (continue_if request.waits) (answer_text bare true told) written rest (state_after_message s message) (Answers message) sent
                   (rest, begins) closing says refl is (λ accepted. kept accepted.0 i (ap (λ (x : Answer). x.status) told_is ∙ accepted.1)) (λ asked before. inl (found i s shown asked before))),
             ),
       )
@@ -188,10 +203,10 @@ module _ {M : Type 0} (represents : M → State → Type 0) (is_intact is_open :
       → bare ≡ is_head request.method → (request.closes || nat_eq number most_answers) ≡ false
       → next ≡ after_sending sent Goes
       → Sends a b (answer_text bare false told) sent
-      → (is_intact new → (s : State) → represents old s → represents new (response s request (body_at items size n)).1 × (told ≡ (response s request (body_at items size n)).0))
-      → (request.method ≡ codes "POST" → is_intact new → told.status ≡ Fine → is_open new)
-      → (is_intact new → (s : State) → represents old s → StaysFound (recovers old) (recovers new) s (response s request (body_at items size n)).1)
-      → (written : Bytes) × Appends a b written × Through represents is_intact old new (λ s t. Turn (is_open old) (is_open new) (recovers old) (recovers new) number s items next (continue_if request.waits ++ written) t rest)
+      → (o.is_intact new → (s : State) → o.represents old s → o.represents new (response s request (body_at items size n)).1 × (told ≡ (response s request (body_at items size n)).0))
+      → (request.method ≡ codes "POST" → o.is_intact new → told.status ≡ Fine → o.is_open new)
+      → (o.is_intact new → (s : State) → o.represents old s → StaysFound (o.recovers old) (o.recovers new) s (response s request (body_at items size n)).1)
+      → Acts number old new items (continue_if request.waits) a b next rest
   acted_open number old new items size n request told bare rest a b sent next h within e r is_bare closing ends sends answers kept found =
       let (written, appended, is) = written_of a b (answer_text bare false told) sent sends in
       let message : Message = record { request = request; body = body_at items size n } in
@@ -204,8 +219,8 @@ module _ {M : Type 0} (represents : M → State → Type 0) (is_intact is_open :
             λ j. continue_if request.waits ++ answer_text (is_bare j) false (told_is j) in (
               state_after_message s message,
               shown_after,
-              subst (λ x. Turn (is_open old) (is_open new) (recovers old) (recovers new) number s items x (continue_if request.waits ++ written) (state_after_message s message) rest) (sym ends)
-                  (open_turn (is_open old) (is_open new) (recovers old) (recovers new) number s items (continue_if request.waits) (answer_text bare false told) written rest (state_after_message s message) message sent begins closing says refl is
+              subst (λ x. Turn (o.is_open old) (o.is_open new) (o.recovers old) (o.recovers new) number s items x (continue_if request.waits ++ written) (state_after_message s message) rest) (sym ends)
+                  (open_turn (o.is_open old) (o.is_open new) (o.recovers old) (o.recovers new) number s items (continue_if request.waits) (answer_text bare false told) written rest (state_after_message s message) message sent begins closing says refl is
                   (λ accepted. kept accepted.0 i (ap (λ (x : Answer). x.status) told_is ∙ accepted.1)) (found i s shown)),
             ),
       )
@@ -216,10 +231,10 @@ module _ {M : Type 0} (represents : M → State → Type 0) (is_intact is_open :
       → n ≡ body_length request → rest ≡ drop (size + n) items
       → bare ≡ is_head request.method → (request.closes || nat_eq number most_answers) ≡ closing
       → SendsAnswer a b closing (answer_text bare closing told) next
-      → (is_intact new → (s : State) → represents old s → represents new (response s request (body_at items size n)).1 × (told ≡ (response s request (body_at items size n)).0))
-      → (request.method ≡ codes "POST" → is_intact new → told.status ≡ Fine → is_open new)
-      → (is_intact new → (s : State) → represents old s → StaysFound (recovers old) (recovers new) s (response s request (body_at items size n)).1)
-      → (written : Bytes) × Appends a b written × Through represents is_intact old new (λ s t. Turn (is_open old) (is_open new) (recovers old) (recovers new) number s items next (continue_if request.waits ++ written) t rest)
+      → (o.is_intact new → (s : State) → o.represents old s → o.represents new (response s request (body_at items size n)).1 × (told ≡ (response s request (body_at items size n)).0))
+      → (request.method ≡ codes "POST" → o.is_intact new → told.status ≡ Fine → o.is_open new)
+      → (o.is_intact new → (s : State) → o.represents old s → StaysFound (o.recovers old) (o.recovers new) s (response s request (body_at items size n)).1)
+      → Acts number old new items (continue_if request.waits) a b next rest
   acted number old new items size n request told bare rest a b true next h within e r is_bare closes (sent, sends, ends) answers kept found =
       acted_closing number old new items size n request told bare rest a b sent next h within e r is_bare closes ends sends answers kept found
   acted number old new items size n request told bare rest a b false next h within e r is_bare closes (sent, sends, ends) answers kept found =
@@ -231,12 +246,12 @@ module _ {M : Type 0} (represents : M → State → Type 0) (is_intact is_open :
       → n ≡ body_length request → OnOk made (rest ≡ drop (size + n) items)
       → bare ≡ is_head request.method → (request.closes || nat_eq number most_answers) ≡ closing
       → MatchResult made (λ x. SendsAnswer a b closing (answer_text bare closing (answer x)) next) (λ e. Refused a b false Busy next)
-      → IfOk made (λ x. is_intact new → (s : State) → represents old s → represents new (response s request (body_at items size n)).1 × (answer x ≡ (response s request (body_at items size n)).0))
-      → OnErr made (is_intact new → (s : State) → represents old s → represents new s)
-      → (request.method ≡ codes "POST" → IfOk made (λ x. is_intact new → (answer x).status ≡ Fine → is_open new))
-      → IfOk made (λ x. is_intact new → (s : State) → represents old s → StaysFound (recovers old) (recovers new) s (response s request (body_at items size n)).1)
-      → OnErr made (is_intact new → (s : State) → represents old s → StaysFoundOrBusy (recovers old) (recovers new) (AnswersTo (λ x. response x request (body_at items size n))) s s)
-      → (written : Bytes) × Appends a b written × Through represents is_intact old new (λ s t. Turn (is_open old) (is_open new) (recovers old) (recovers new) number s items next (continue_if request.waits ++ written) t rest)
+      → IfOk made (λ x. o.is_intact new → (s : State) → o.represents old s → o.represents new (response s request (body_at items size n)).1 × (answer x ≡ (response s request (body_at items size n)).0))
+      → OnErr made (o.is_intact new → (s : State) → o.represents old s → o.represents new s)
+      → (request.method ≡ codes "POST" → IfOk made (λ x. o.is_intact new → (answer x).status ≡ Fine → o.is_open new))
+      → IfOk made (λ x. o.is_intact new → (s : State) → o.represents old s → StaysFound (o.recovers old) (o.recovers new) s (response s request (body_at items size n)).1)
+      → OnErr made (o.is_intact new → (s : State) → o.represents old s → StaysFoundOrBusy (o.recovers old) (o.recovers new) (AnswersTo (λ x. response x request (body_at items size n))) s s)
+      → Acts number old new items (continue_if request.waits) a b next rest
   answered_at answer number old new items size n request (Ok x) bare rest a b closing next h within e r is_bare closes sent answers busy kept found doubt =
       acted number old new items size n request (answer x) bare rest a b closing next h within e r is_bare closes sent answers kept found
   answered_at answer number old new items size n request (Err why) bare rest a b closing next h within e r is_bare closes sent answers busy kept found doubt =
@@ -248,12 +263,12 @@ module _ {M : Type 0} (represents : M → State → Type 0) (is_intact is_open :
       ])
 
   -- the leave to send a body was broken off
-  pub leave_broken : (number : ℕ) (office : M) (items block more : Bytes) (request : Request) (a b c : Option Bytes) (sent : Sent) (next result : Next)
+  pub leave_broken : {items block more : Bytes} {request : Request} {result : Next} (number : ℕ) (office : M) (a b c : Option Bytes) (sent : Sent) (next : Next)
       → (sent ≡ All → ⊥) → result ≡ after_sending sent next → HasHead items block (Accepted request) more
       → Sends b c (continue_if request.waits) sent
-      → Exchange represents is_intact is_open recovers number a a b c office items result office items
-  leave_broken number office items block more request a b c All next result n e h s = absurd (n refl)
-  leave_broken number office items block more request a b c Failed next result n e h (front, (others, f), s) =
+      → Exchange o.represents o.is_intact o.is_open o.recovers number a a b c office items result office items
+  leave_broken number office a b c All next n e h s = absurd (n refl)
+  leave_broken {items = items} {block = block} {more = more} {request = request} number office a b c Failed next n e h (front, (others, f), s) =
       let there : HasHead (items ++ []) block (Accepted request) (more ++ []) = head_more items block (Accepted request) more [] h in (
         [],
         front,
@@ -262,7 +277,7 @@ module _ {M : Type 0} (represents : M → State → Type 0) (is_intact is_open :
         λ i x shown. (
           x,
           shown,
-          subst (λ r. Turn (is_open office) (is_open office) (recovers office) (recovers office) number x (items ++ []) r front x items) (sym e) (
+          subst (λ r. Turn (o.is_open office) (o.is_open office) (o.recovers office) (o.recovers office) number x (items ++ []) r front x items) (sym e) (
             record {
               last = Fails request.waits false;
               stands = may_fail_after (items ++ []) block (more ++ []) request there;
@@ -275,7 +290,7 @@ module _ {M : Type 0} (represents : M → State → Type 0) (is_intact is_open :
           ),
         ),
       )
-  leave_broken number office items block more request a b c OutOfTurns next result n e h (front, (others, f), s) =
+  leave_broken {items = items} {block = block} {more = more} {request = request} number office a b c OutOfTurns next n e h (front, (others, f), s) =
       let there : HasHead (items ++ []) block (Accepted request) (more ++ []) = head_more items block (Accepted request) more [] h in (
         [],
         front,
@@ -284,7 +299,7 @@ module _ {M : Type 0} (represents : M → State → Type 0) (is_intact is_open :
         λ i x shown. (
           x,
           shown,
-          subst (λ r. Turn (is_open office) (is_open office) (recovers office) (recovers office) number x (items ++ []) r front x items) (sym e) (
+          subst (λ r. Turn (o.is_open office) (o.is_open office) (o.recovers office) (o.recovers office) number x (items ++ []) r front x items) (sym e) (
             record {
               last = Fails request.waits false;
               stands = may_fail_after (items ++ []) block (more ++ []) request there;
@@ -299,51 +314,27 @@ module _ {M : Type 0} (represents : M → State → Type 0) (is_intact is_open :
       )
 
 -- a head that was found is the same in a buffer that has grown
-pub front_same : (items new got : Bytes) (size : ℕ) → size ≤ length items → new ≡ items ++ got
-    → take size items ≡ take size new
-front_same items new got size h e = sym (ap (take size) e ∙ take-append-le size items got h)
-
-pub head_grown : (items new got : Bytes) (size : ℕ) (v : Verdict) → size ≤ length items → new ≡ items ++ got
-    → HasHead items (take size items) v (drop size items) → HasHead new (take size new) v (drop size new)
-head_grown items new got size v h e a =
+pub head_grown : {items new : Bytes} (got : Bytes) (size : ℕ) (v : Bytes → Verdict) → size ≤ length items → new ≡ items ++ got
+    → HasHead items (take size items) (v (take size items)) (drop size items)
+    → HasHead new (take size new) (v (take size new)) (drop size new)
+head_grown {items = items} {new = new} got size v h e a =
     let t : take size items ≡ take size new = sym (ap (take size) e ∙ take-append-le size items got h) in
     let d : drop size items ++ got ≡ drop size new = sym (ap (drop size) e ∙ drop-append-le size items got h) in
-    let one : HasHead (items ++ got) (take size items) v (drop size items ++ got) =
-    head_more items (take size items) v (drop size items) got a in
-    let two = subst (λ b. HasHead (items ++ got) b v (drop size items ++ got)) t one in
-    let three = subst (λ m. HasHead (items ++ got) (take size new) v m) d two in
-    subst (λ i. HasHead i (take size new) v (drop size new)) (sym e) three
+    let one : HasHead (items ++ got) (take size items) (v (take size items)) (drop size items ++ got) =
+    head_more items (take size items) (v (take size items)) (drop size items) got a in
+    let two = subst (λ b. HasHead (items ++ got) b (v b) (drop size items ++ got)) t one in
+    let three = subst (λ m. HasHead (items ++ got) (take size new) (v (take size new)) m) d two in
+    subst (λ i. HasHead i (take size new) (v (take size new)) (drop size new)) (sym e) three
+
+-- the input stops inside a body
+pub body_cut : {items here : Bytes} {r : Request} (got : Bytes) (size : ℕ) → size ≤ length items → here ≡ items ++ got
+    → length here < size + body_length r → HasHead items (take size items) (Accepted r) (drop size items)
+    → Stands here (BodyCut r)
+body_cut {items = items} {here = here} {r = r} got size h e l a =
+    (take size here, drop size here, head_grown got size (λ b. Accepted r) h e a, omega (arith, length-drop size here, ap length e ∙ length-append items got))
 
 -- the last place; an office that it leaves open is open then
 abbrev pub LastTurn : Type 0 → Type 0 → (had has : List Command → State → Type 0) → ℕ → State → Bytes → Bytes → Ended
     → State → Type 0
 LastTurn was now had has number s input out end new =
     (stops : Stops number s input out end new) × (LastLeavesOpen was s stops.last → now) × StaysFoundOrBusy had has (IsBusyWith input stops.last) s new
-
--- the input stops inside a body
-pub stops_in_body : (was : Type 0) (had : List Command → State → Type 0) (number : ℕ) (s : State) (items new got : Bytes) (size : ℕ) (r : Request) (end : Ended)
-    → size ≤ length items → new ≡ items ++ got → length new < size + body_length r
-    → HasHead items (take size items) (Accepted r) (drop size items) → ((end ≡ Cut) ⊎ (end ≡ ReadFault))
-    → LastTurn was was had had number s (items ++ got) (continue_if r.waits) end s
-stops_in_body was had number s items new got size r end h e l a which =
-    let len : length new ≡ length items + length got = ap length e ∙ length-append items got in
-    let stands : Stands (items ++ got) (BodyCut r) =
-    (take size items, drop size items ++ got, head_more items (take size items) (Accepted r) (drop size items) got a, omega (arith, length-append (drop size items) got, length-drop size items)) in
-    elim which as (λ w. LastTurn was was had had number s (items ++ got) (continue_if r.waits) end s) [
-      | inl f ↦ subst (λ x. LastTurn was was had had number s (items ++ got) (continue_if r.waits) x s) (sym f) (record { last = BodyCut r; stands = stands; ends = tt; written = refl; leaves = refl }, (λ stays. stays), (λ asked before. inl before))
-      | inr f ↦ subst (λ x. LastTurn was was had had number s (items ++ got) (continue_if r.waits) x s) (sym f) (record { last = BodyCut r; stands = stands; ends = inr tt; written = refl; leaves = refl }, (λ stays. stays), (λ asked before. inl before))
-    ]
-
--- the input stops before a head or inside it
-pub stops_early : (was : Type 0) (had : List Command → State → Type 0) (number : ℕ) (s : State) (input : Bytes)
-    → (IsBlank input ⊎ IsHeadCut input) → LastTurn was was had had number s input [] ReadFault s
-stops_early was had number s input (inl h) =
-    (record { last = Nothing; stands = h; ends = inl refl; written = refl; leaves = refl }, (λ stays. stays), (λ asked before. inl before))
-stops_early was had number s input (inr h) =
-    (record { last = HeadCut; stands = h; ends = inr tt; written = refl; leaves = refl }, (λ stays. stays), (λ asked before. inl before))
-
--- a bound, where a head may have asked for leave
-pub bound_here : (was : Type 0) (had : List Command → State → Type 0) (number : ℕ) (s : State) (input : Bytes) (leave : Bool)
-    → MayFail input leave false → LastTurn was was had had number s input (continue_if leave) Bound s
-bound_here was had number s input leave m =
-    (record { last = Fails leave false; stands = m; ends = tt; written = (refusal_text false (error Busy), refl); leaves = refl }, (λ never. absurd never), (λ asked before. inl before))

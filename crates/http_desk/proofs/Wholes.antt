@@ -1,12 +1,13 @@
 -- The session of the whole input: what follows a closing answer means nothing.
 use Rattle.std.proofs.Common.{◌≡◌, ℕ, suc, List, [], ◌++◌, length, length-append, Option, None, Some, Bool, inl, inr}
 use Rattle.std.proofs.Common.{sym, ap, ◌∙◌, subst, append-nil, arith}
+use Rattle.office_core.specs.declared.machine.Machine as machine
 use Rattle.http_messages.specs.HeadScan.{scan}
-use Rattle.http_desk.specs.declared.session_end.Ended.TheVariants.{Cut, Bound}
-use Rattle.http_desk.proofs.Common.{Answers, AtEndIf, BodyCut, Bytes, Closed, Command, End, Ended, Ends, Fails, HeadCut}
-use Rattle.http_desk.proofs.Common.{IsBusyWith, IsClosing, IsTooLong, Keeps, Last, NoHead, Nothing, ReadFault, Refuses}
-use Rattle.http_desk.proofs.Common.{SomeHead, Stands, State, Talks, TalksWhole, Verdict, WriteFault, longest_head}
-use Rattle.http_desk.proofs.Common.{take-append-le}
+use Rattle.http_desk.specs.declared.session_end.Ended.TheVariants.{Bound}
+use Rattle.http_desk.proofs.Common.{Answers, AtEndIf, BodyCut, Bytes, Closed, Command, Cut, End, Ended, Ends, Fails}
+use Rattle.http_desk.proofs.Common.{HeadCut, IsBusyWith, IsClosing, IsTooLong, Keeps, Last, NoHead, Nothing, ReadFault}
+use Rattle.http_desk.proofs.Common.{Refuses, SomeHead, Stands, State, Talks, TalksWhole, Verdict, WriteFault}
+use Rattle.http_desk.proofs.Common.{longest_head, take-append-le}
 use Rattle.http_desk.proofs.Turns.{head_more, begins_more}
 use Rattle.http_desk.proofs.Sessions.{cuts_longer}
 
@@ -67,18 +68,18 @@ nothing_follows was now had has s input out more new (a, kept, found) = (
 all_read : (xs ys read : Bytes) → xs ≡ read ++ ys → ys ≡ [] → read ≡ xs
 all_read xs ys read e f = sym (e ∙ ap (λ l. read ++ l) f ∙ append-nil read)
 
-pub talks_whole : {M : Type 0} (represents : M → State → Type 0) (is_intact is_open : M → Type 0) (recovers : M → List Command → State → Type 0) (a b c d : Option Bytes) (old new : M) (end : Ended)
-    → Talks represents is_intact is_open recovers a b c d old end new → AtEndIf b (Ends end)
-    → TalksWhole represents is_intact is_open recovers a c d old end new
-talks_whole represents is_intact is_open recovers None b c d old new end t at_end = tt
-talks_whole represents is_intact is_open recovers (Some xs) None c d old new end (read, written, q, p, through) at_end =
+pub talks_whole : {M : Type 0} (o : machine.Ghosts M) (a b c d : Option Bytes) (old new : M) (end : Ended)
+    → Talks o.represents o.is_intact o.is_open o.recovers a b c d old end new → AtEndIf b (Ends end)
+    → TalksWhole o.represents o.is_intact o.is_open o.recovers a c d old end new
+talks_whole o None b c d old new end t at_end = tt
+talks_whole o (Some xs) None c d old new end (read, written, q, p, through) at_end =
     absurd q
-talks_whole represents is_intact is_open recovers (Some xs) (Some ys) c d old new End (read, written, q, p, through) at_end =
-    λ h. (written, p, λ i s x. let (t, y, session) = through i s x in (t, y, subst (λ l. Keeps (is_open old) (is_open new) (recovers old) (recovers new) s l written End t) (all_read xs ys read q at_end) session))
-talks_whole represents is_intact is_open recovers (Some xs) (Some ys) c d old new Cut (read, written, q, p, through) at_end =
-    λ h. (written, p, λ i s x. let (t, y, session) = through i s x in (t, y, subst (λ l. Keeps (is_open old) (is_open new) (recovers old) (recovers new) s l written Cut t) (all_read xs ys read q at_end) session))
-talks_whole represents is_intact is_open recovers (Some xs) (Some ys) c d old new Closed (read, written, q, p, through) at_end =
-    λ h. (written, p, λ i s x. let (t, y, session) = through i s x in (t, y, subst (λ l. Keeps (is_open old) (is_open new) (recovers old) (recovers new) s l written Closed t) (sym q) (nothing_follows (is_open old) (is_open new) (recovers old) (recovers new) s read written ys t session)))
-talks_whole represents is_intact is_open recovers (Some xs) (Some ys) c d old new ReadFault t at_end = λ h. absurd h
-talks_whole represents is_intact is_open recovers (Some xs) (Some ys) c d old new WriteFault t at_end = λ h. absurd h
-talks_whole represents is_intact is_open recovers (Some xs) (Some ys) c d old new Bound t at_end = λ h. absurd h
+talks_whole o (Some xs) (Some ys) c d old new End (read, written, q, p, through) at_end =
+    λ h. (written, p, λ i s x. let (t, y, session) = through i s x in (t, y, subst (λ l. Keeps (o.is_open old) (o.is_open new) (o.recovers old) (o.recovers new) s l written End t) (all_read xs ys read q at_end) session))
+talks_whole o (Some xs) (Some ys) c d old new Cut (read, written, q, p, through) at_end =
+    λ h. (written, p, λ i s x. let (t, y, session) = through i s x in (t, y, subst (λ l. Keeps (o.is_open old) (o.is_open new) (o.recovers old) (o.recovers new) s l written Cut t) (all_read xs ys read q at_end) session))
+talks_whole o (Some xs) (Some ys) c d old new Closed (read, written, q, p, through) at_end =
+    λ h. (written, p, λ i s x. let (t, y, session) = through i s x in (t, y, subst (λ l. Keeps (o.is_open old) (o.is_open new) (o.recovers old) (o.recovers new) s l written Closed t) (sym q) (nothing_follows (o.is_open old) (o.is_open new) (o.recovers old) (o.recovers new) s read written ys t session)))
+talks_whole o (Some xs) (Some ys) c d old new ReadFault t at_end = λ h. absurd h
+talks_whole o (Some xs) (Some ys) c d old new WriteFault t at_end = λ h. absurd h
+talks_whole o (Some xs) (Some ys) c d old new Bound t at_end = λ h. absurd h

@@ -9,8 +9,7 @@ use Rattle.std.specs.Str.{is_utf8, chars}
 use Rattle.httparse.specs.Grammar.{Field, IsField, RequestHead, IsRequestHead, print_request, crlf, is_token_byte}
 use Rattle.httparse.specs.Grammar.{is_uri_byte, is_value_byte, trim_ows, IsToken}
 use Rattle.http_messages.specs.HeadScan.{scan}
-use Rattle.http_desk.specs.declared.session_end.Ended.TheVariants.{Cut}
-use Rattle.http_desk.proofs.Common.{Accepted, Begins, BodyCut, Bytes, End, HasHead, IsBlank, IsUtf8-from_is_utf8}
+use Rattle.http_desk.proofs.Common.{Accepted, Begins, BodyCut, Bytes, Cut, End, HasHead, IsBlank, IsUtf8-from_is_utf8}
 use Rattle.http_desk.proofs.Common.{Message, Nothing, Request, Session, Stands, State, StaysOpen, Verdict, Whole}
 use Rattle.http_desk.proofs.Common.{continue_if, draft_head, list_all, list_request, longest_head, message_text}
 use Rattle.http_desk.proofs.Common.{page_request, register_head, scan_take_more, state_after_message, text_after_all}

@@ -47,7 +47,8 @@ fn read_once<R: Read>(reader: &mut Source<'_, R>, chunk: &mut [u8]) -> Result<us
     Err(Filled::Bound)
 }
 
-/// Reads once, and again if that was interrupted, in at most as many turns as are left.
+/// Reads once, and again if that was interrupted, in at most as many turns as are left, and adds the bytes to the end
+/// of the buffer. Unless the result is `More`, the buffer stays the same.
 pub fn fill<R: Read>(reader: &mut Source<'_, R>, buffer: &mut Vec<u8>) -> Filled
     ensures got { ReadsIntoBuffer reader.old.bytes reader.new.bytes buffer.old.items buffer.new.items }
     ensures same { result ≢ Filled.More → buffer.new.items ≡ buffer.old.items }
@@ -82,8 +83,9 @@ fn remove_front(buffer: &mut Vec<u8>, n: usize)
     buffer.truncate(len - n);
 }
 
-/// Takes a message from the front: a copy of its head, and its body, which keeps the buffer's memory. The bytes after
-/// the message are left in the buffer.
+/// Takes a message from the front: a copy of its head, the first `size` bytes, and its body, the next `len` bytes,
+/// which keeps the buffer's memory. The bytes after the message are left in the buffer. After an error the contract
+/// does not say what is left in it.
 pub fn take_message(
     buffer: &mut Vec<u8>,
     size: usize,

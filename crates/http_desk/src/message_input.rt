@@ -72,7 +72,8 @@ fn look(buffer: &[u8], seen: usize, place: HeadScanState) -> Scan
     }
 }
 
-/// Reads until the buffer begins with a whole head.
+/// Reads into the buffer until it begins with a whole head, or until the result tells why none can be found. What was
+/// read stays in the buffer.
 pub fn gather_head<R: Read>(reader: &mut Source<'_, R>, buffer: &mut Vec<u8>) -> FoundHead
     ensures got { ReadsIntoBuffer reader.old.bytes reader.new.bytes buffer.old.items buffer.new.items }
     ensures found { FindsHead buffer.new.items result }
@@ -109,7 +110,8 @@ pub fn gather_head<R: Read>(reader: &mut Source<'_, R>, buffer: &mut Vec<u8>) ->
     }
 }
 
-/// Reads until the buffer has at least `end` bytes.
+/// Reads into the buffer until it has at least `end` bytes, those of the head included, or until the result tells why
+/// it cannot. What was read stays in the buffer.
 pub fn gather_body<R: Read>(
     reader: &mut Source<'_, R>,
     buffer: &mut Vec<u8>,

@@ -17,11 +17,14 @@ pub struct OfficeCall {
 }
 
 impl OfficeCall {
+    /// Leave to ask an office once, with the memory of this allocator.
     pub fn new(alloc: Global) -> OfficeCall {
         OfficeCall { alloc }
     }
 
-    /// Carries out one command, as `Machine::apply` says.
+    /// Carries out one command: the reply, its JSON and the new state are those of the machine's step. After an
+    /// accepted command the office is open. If it is busy, its state is unchanged, but a crash may find the state after
+    /// this command.
     pub fn apply<M: Machine>(self, office: &mut M, command: Command) -> Result<Reply, Busy>
         ensures intact { M.is_intact office.new → M.is_intact office.old }
         ensures was_open { M.is_intact office.new → M.is_open office.new → M.is_open office.old }
@@ -39,7 +42,7 @@ impl OfficeCall {
         office.apply(self.alloc, command)
     }
 
-    /// Answers one question, as `Machine::ask` says.
+    /// Answers one question: the answer is the machine's. The state is unchanged, also if the office is busy.
     pub fn ask<M: Machine>(self, office: &mut M, query: Query) -> Result<Answer, Busy>
         ensures intact { M.is_intact office.new → M.is_intact office.old }
         ensures was_open { M.is_intact office.new → M.is_open office.new → M.is_open office.old }

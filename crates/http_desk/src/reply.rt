@@ -49,7 +49,8 @@ fn send_parts<W: Write>(writer: &mut Sink<'_, W>, parts: Parts<'_>) -> Sent
     )
 }
 
-/// Writes an answer; without its body if `bare` is true, as for HEAD.
+/// Writes an answer and flushes; without its body if `bare` is true, as for HEAD. If `closing` is true, the answer says
+/// that the connection is closed.
 pub fn send_answer<W: Write>(
     writer: &mut Sink<'_, W>,
     bare: bool,

@@ -119,6 +119,7 @@ fn purpose_by_route(
 }
 
 impl Means {
+    /// The means of a session, with this allocator. Fails if there is no memory for the routes.
     pub fn new(alloc: Global) -> Result<Means, AllocError> {
         let routes = Routes::new(alloc)?;
         Ok(Means { alloc, routes })
@@ -136,7 +137,9 @@ impl Means {
         OfficeCall::new(self.alloc)
     }
 
-    /// What a request is for whose body is complete.
+    /// What a request is for whose body is complete. `block` has the bytes of its head, in which `head` lies. Carrying
+    /// out the purpose gives the answer to the request, in every state. A POST is never for a question; if it is not
+    /// for a command either, its answer is not 200.
     pub fn purpose(&self, block: &[u8], head: Head, body: Vec<u8>) -> Result<Purpose, AllocError>
         requires method { IsWithin (length block.now) head.method }
         requires target { IsWithin (length block.now) head.target }

@@ -162,7 +162,8 @@ impl<'b> Prepared<'b> {
     }
 }
 
-/// Removes the message from the front of the buffer and answers it. The result borrows the buffer.
+/// Removes the message from the front of the buffer and answers it. Its head is the first `size` bytes, and its body
+/// follows. If the office is busy, the contract does not say what is left in the buffer. The result borrows the buffer.
 pub fn prepare<'b, M: Machine>(
     means: &Means,
     office: &mut M,

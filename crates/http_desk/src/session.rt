@@ -59,6 +59,7 @@ fn refuse<W: Write>(writer: &mut Sink<'_, W>, bare: bool, status: Status) -> Nex
 }
 
 /// Writes the whole answer of the office, and returns what comes next. It gets no allocator, and nothing that has one.
+#[tactic(auto, using(crate::proofs::Endings::answer_told, crate::proofs::Endings::answer_bound))]
 fn reply<W: Write>(
     writer: &mut Sink<'_, W>,
     bare: bool,
@@ -211,8 +212,9 @@ fn receive<R: Read, W: Write, M: Machine>(
     }
 }
 
-/// Reads one message, answers it, and returns what comes next. The buffer has what was read before and not yet
-/// answered. A message takes no more reads than the longest head and body have bytes, and one more.
+/// Reads one message, answers it, and returns what comes next. `number` is the message's in the session, counted from
+/// 1. The buffer has what was read before and not yet answered. A message takes no more reads than the longest head and
+/// body have bytes, and one more.
 pub fn exchange<R: Read, W: Write, M: Machine>(
     means: &Means,
     reader: &mut Source<'_, R>,

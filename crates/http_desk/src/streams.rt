@@ -84,7 +84,8 @@ impl<'a, R: Read> Source<'a, R> {
         reader
     }
 
-    /// Allows the turns of one message.
+    /// Allows the turns of one message, in place of those that are left: one for each byte of the longest head and of
+    /// the longest body, and one more.
     pub fn begin_message(&mut self)
         ensures { self.new ≡ record self.old { given = most_reads; turns = most_reads } }
     {
@@ -92,7 +93,7 @@ impl<'a, R: Read> Source<'a, R> {
         self.turns = READS;
     }
 
-    /// Allows the turns of a stream that is read to its end.
+    /// Allows the turns of a stream that is read to its end, in place of those that are left: 4294967295.
     pub fn begin_stream(&mut self)
         ensures { self.new ≡ record self.old { given = most_calls; turns = most_calls } }
     {
@@ -128,7 +129,8 @@ impl<'a, R: Read> Source<'a, R> {
         self.calls
     }
 
-    /// One read, which takes a turn.
+    /// One read, which takes a turn, of which one must be left. The bytes go to the front of `chunk`, which must not be
+    /// empty: 0 bytes mean that the input has ended.
     pub fn read(&mut self, chunk: &mut [u8]) -> Result<usize, Undone>
         requires turn { 0 < self.old.turns }
         requires room { 0 < length chunk.old }
@@ -214,7 +216,7 @@ impl<'a, W: Write> Sink<'a, W> {
         writer
     }
 
-    /// Allows the turns of a text of `len` bytes.
+    /// Allows the turns of a text of `len` bytes, in place of those that are left: one for each byte, and 16 more.
     pub fn begin_text(&mut self, len: u64)
         requires { len + more_writes < 2 ^ 64 }
         ensures { self.new ≡ record self.old { given = len + more_writes; turns = len + more_writes } }
@@ -223,7 +225,8 @@ impl<'a, W: Write> Sink<'a, W> {
         self.turns = len + MORE_WRITES;
     }
 
-    /// Allows the turns of a text that is no answer, or those of its flush.
+    /// Allows the turns of a text that is no answer, or those of its flush, in place of those that are left:
+    /// 4294967295.
     pub fn begin_stream(&mut self)
         ensures { self.new ≡ record self.old { given = most_calls; turns = most_calls } }
     {
@@ -266,7 +269,8 @@ impl<'a, W: Write> Sink<'a, W> {
         self.calls
     }
 
-    /// One write, which takes a turn.
+    /// One write, which takes a turn, of which one must be left. Returns how many bytes of `piece`, which must not be
+    /// empty, it took. One that took none has failed.
     pub fn write(&mut self, piece: &[u8]) -> Result<usize, Undone>
         requires turn { 0 < self.old.turns }
         requires some { 0 < length piece.now }

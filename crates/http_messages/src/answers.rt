@@ -70,7 +70,7 @@ pub struct AnswerView<'a> {
 }
 
 impl<'a> AnswerView<'a> {
-    /// A fixed answer.
+    /// The answer with the fixed body of this status, in JSON.
     pub fn fixed_answer(status: Status) -> AnswerView<'a>
         ensures { answer_of_view result ≡ error status }
     {
@@ -137,6 +137,7 @@ fn error_body(status: Status) -> &'static [u8]
     }
 }
 
+/// The status code that HTTP gives to a status.
 pub fn code_of(status: Status) -> StatusCode
     ensures { result ≡ status_code status }
 {
@@ -153,6 +154,7 @@ pub fn code_of(status: Status) -> StatusCode
     }
 }
 
+/// The reason phrase behind the status code in the first line of an answer.
 pub fn phrase(status: Status) -> &'static [u8]
     ensures phrase { result.now ≡ phrase_of status }
     ensures short { length result.now ≤ 40 }
@@ -170,6 +172,7 @@ pub fn phrase(status: Status) -> &'static [u8]
     }
 }
 
+/// The value of `Content-Type`: plain text, or else JSON.
 pub fn type_of(is_text: bool) -> &'static [u8]
     ensures name { result.now ≡ type_name is_text }
     ensures short { length result.now ≤ 40 }

@@ -144,7 +144,7 @@ impl Routes {
         }
     }
 
-    /// What a path leads to.
+    /// What a path leads to. None if no route has such a path, or it is not UTF-8.
     pub fn route_of<'p>(&self, path: &'p [u8]) -> Option<Route<'p>>
         ensures { option_map route_in result ≡ spec.route_of path.now }
     {

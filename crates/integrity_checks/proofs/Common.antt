@@ -19,6 +19,7 @@ pub use Rattle.sqlite.specs.Collation.TheVariants.{Binary}
 pub use Rattle.sqlite.specs.Command.TheVariants.{Select}
 pub use Rattle.sqlite.specs.Held.{Held, state}
 pub use Rattle.sqlite.specs.Order.{Row, column}
+pub use Rattle.sqlite.specs.State.{HasCleanDisk, IsLive, Shown, State}
 pub use Rattle.sqlite.specs.Term.{Term, col}
 pub use Rattle.sqlite.specs.Tree.{IsAscending, Trees}
 pub use Rattle.sqlite.specs.declared.types.Value.TheVariants.{Int, Null}

@@ -1,7 +1,6 @@
 -- How a call ends that examines rows.
 use Rattle.std.proofs.Common.{◌≡◌, inl, Ok, Err, Result, refl, sym, subst}
 use Rattle.std.specs.Prelude.{IfOk}
-use Rattle.sqlite.specs.State.{State, HasCleanDisk}
 use Rattle.sqlite_trees.specs.declared.store.Store as store
 use Rattle.office_tables.proofs.CallEnds.{excused_then, read_not, same_fault}
 use Rattle.office_tables.specs.Faults.{BlamesDisk, HasCause, FaultsHaveCause}
@@ -10,7 +9,8 @@ use Rattle.office_tables.specs.Step.{LeavesUnchanged}
 use Rattle.office_tables.specs.declared.fault.StoreFault.TheVariants as fault
 use Rattle.row_decoding.proofs.ReadCalls.{reads_then, reads_well, same_trees}
 use Rattle.row_decoding.specs.Examinations.{Examines}
-use Rattle.integrity_checks.proofs.Common.{Held, IfErr, IsErr, IsErrAnd, StoreFault, Trees, cut_after, early, state}
+use Rattle.integrity_checks.proofs.Common.{HasCleanDisk, Held, IfErr, IsErr, IsErrAnd, State, StoreFault, Trees}
+use Rattle.integrity_checks.proofs.Common.{cut_after, early, state}
 
 module _ {S X : Type 0} {g : store.Ghosts S} {before after : Held S} {answer : Trees → X → Type 0} where
   -- it answers by what was read
@@ -22,7 +22,7 @@ module _ {S X : Type 0} {g : store.Ghosts S} {before after : Held S} {answer : T
   full : LeavesUnchanged (state g before) (state g after) → (e : StoreFault) → e ≡ fault.Memory
       → Examines g before after (Err e) answer
   full looked e memory = record {
-    reads = read_not (state g before) (state g after) (Err e) e refl (cut_after (state g before) (state g after) looked.goes.on) (λ clean. record { disk = subst (BlamesDisk (state g before) (state g after)) (sym memory) tt; rows = inl (looked.same clean) });
+    reads = read_not (state g before) (state g after) (Err e) e refl (cut_after looked.goes.on) (λ clean. record { disk = subst (BlamesDisk (state g before) (state g after)) (sym memory) tt; rows = inl (looked.same clean) });
     answers = λ clean. tt;
     faults = λ clean free. subst (HasCause (state g before) (state g after)) (sym memory) tt;
   }
@@ -30,7 +30,7 @@ module _ {S X : Type 0} {g : store.Ghosts S} {before after : Held S} {answer : T
   pub is_full : {r : Result X StoreFault} → IsErr r × IsErrAnd r (λ f. f ≡ fault.Memory)
       → LeavesUnchanged (state g before) (state g after) → Examines g before after r answer
   is_full {r} handed looked =
-      subst (λ (r : Result X StoreFault). Examines g before after r answer) (sym (same_fault r fault.Memory handed.0 handed.1)) (full looked fault.Memory refl)
+      subst (λ (r : Result X StoreFault). Examines g before after r answer) (sym (same_fault handed)) (full looked fault.Memory refl)
 
   -- it answers by what was read, if there was memory for it
   pub examined_or_full : {r : Result X StoreFault} → LeavesUnchanged (state g before) (state g after)
@@ -50,7 +50,7 @@ module _ {S X : Type 0} {g : store.Ghosts S} {before after : Held S} {answer : T
     pub passes_of : {Y : Type 0} → Reads {X = Y} (state g before) (state g after) (Err e)
         → FaultsHaveCause {X = Y} (state g before) (state g after) (Err e) → Examines g before after r answer
     passes_of read faults =
-        subst (λ (r : Result X StoreFault). Examines g before after r answer) (sym (same_fault r e handed.0 handed.1))
+        subst (λ (r : Result X StoreFault). Examines g before after r answer) (sym (same_fault handed))
         (record { reads = read_not (state g before) (state g after) (Err e) e refl read.aborts read.spares; answers = λ clean. tt; faults = faults })
 
     -- of its first call
@@ -64,12 +64,12 @@ module _ {S X : Type 0} {g : store.Ghosts S} {before after : Held S} {answer : T
         → Examines g before after r answer
     passes_later {mid} {Y} looked it =
         passes_of (reads_then {X = Y} (state g before) (state g mid) (state g after) (Err e) looked it.reads)
-        (excused_then {X = Y} (state g before) (state g mid) (state g after) looked.goes.on (Err e) it.reads.aborts (λ clean. it.faults))
+        (excused_then {X = Y} _ looked.goes.on (Err e) it.reads.aborts (λ clean. it.faults))
 
 module _ {S Y : Type 0} {g : store.Ghosts S} {mid after : Held S} {r : Result Y StoreFault} {other : Trees → Y → Type 0} where
   -- the disk was clean before it
   pub earlier : Examines g mid after r other → HasCleanDisk (state g after) → HasCleanDisk (state g mid)
-  earlier it clean = early (state g mid) (state g after) _ it.reads.crash clean
+  earlier it clean = early it.reads.crash clean
 
   -- what a call answers after a look, it answers of the tables as they were
   pub still : {old : State} → LeavesUnchanged old (state g mid) → Examines g mid after r other
@@ -85,7 +85,7 @@ module _ {S Y : Type 0} {g : store.Ghosts S} {mid after : Held S} {r : Result Y 
   examined_last {before} {answer} looked it is = record {
     reads = reads_then (state g before) (state g mid) (state g after) r looked it.reads;
     answers = λ clean. on_ok r (is (earlier it clean)) (still looked it clean);
-    faults = excused_then (state g before) (state g mid) (state g after) looked.goes.on r it.reads.aborts (λ clean. it.faults);
+    faults = excused_then _ looked.goes.on r it.reads.aborts (λ clean. it.faults);
   }
     where
       on_ok : (r : Result Y StoreFault)

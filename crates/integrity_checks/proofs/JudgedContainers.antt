@@ -9,14 +9,15 @@ use Rattle.office_tables.specs.Schema as tables
 use Rattle.row_decoding.specs.TableRows.{by}
 use Rattle.integrity_checks.specs.ScanAnswers.{is_numbered}
 use Rattle.integrity_checks.proofs.Common.{Binary, ContainerRow, Int, IsPermutation, IsSorted, Key, Means, Row, Select}
-use Rattle.integrity_checks.proofs.Common.{Term, Trees, Version, alike_then, all_alike, and-false, and-true, and_assoc}
-use Rattle.integrity_checks.proofs.Common.{are_container_answers, are_good_container_rows, are_numbered_from, ascending}
-use Rattle.integrity_checks.proofs.Common.{asking, by_rowid, cases_Bool, col, column, cons_option, containers_in}
-use Rattle.integrity_checks.proofs.Common.{from_first, good_containers_in, has_unread, is_container_answer, is_number}
-use Rattle.integrity_checks.proofs.Common.{le_refl, length-map, length_ordered, length_permutation, length_read}
-use Rattle.integrity_checks.proofs.Common.{list_all, list_any-IsPermutation, number_in, number_of_containers}
-use Rattle.integrity_checks.proofs.Common.{option_map_or, ordered_alike, read_alike, read_by_number, read_container}
-use Rattle.integrity_checks.proofs.Common.{show, text_in}
+use Rattle.integrity_checks.proofs.Common.{Shown, State, Term, Trees, Version, alike_then, all_alike, and-false}
+use Rattle.integrity_checks.proofs.Common.{and-true, and_assoc, are_container_answers, are_good_container_rows}
+use Rattle.integrity_checks.proofs.Common.{are_numbered_from, ascending, asking, by_rowid, cases_Bool, col, column}
+use Rattle.integrity_checks.proofs.Common.{cons_option, containers_in, from_first, good_containers_in, has_unread}
+use Rattle.integrity_checks.proofs.Common.{in_table, is_container_answer, is_number, le_refl, length-map}
+use Rattle.integrity_checks.proofs.Common.{length_ordered, length_permutation, length_read, list_all}
+use Rattle.integrity_checks.proofs.Common.{list_any-IsPermutation, number_in, number_of_containers, option_map_or}
+use Rattle.integrity_checks.proofs.Common.{ordered_alike, read_alike, read_by_number, read_container, show, text_in}
+use Rattle.integrity_checks.proofs.Common.{then-Equal}
 
 -- ---- one row more
 
@@ -153,3 +154,14 @@ module _ (db : Trees) (ys rows : List Row) (count : ℕ) (good : Bool) (same : I
 
   pub not_good : (good && nat_le count 100000) ≡ false → None ≡ number_of_containers db
   not_good bad = sym (ap (λ b. cond b (Some (length (containers_in db))) None) (sym containers_judged ∙ bad))
+
+-- what was gathered tells how many there are
+pub numbered_so : (v : Version) (old new : State) (rows : List Row) (count : ℕ) (good known : Bool) → old.now.schema ≡ tables.schema v
+    → Shown containers_text [] old new rows → count ≡ length rows → good ≡ are_container_answers 1 rows
+    → (good && nat_le count 100000) ≡ known → cond known (Some count) None ≡ number_of_containers old.now.trees
+numbered_so v old new rows count good true has shown counted is fine =
+    let got = in_table tables.container containers_terms by_id containers_names containers_text v (containers_mean v) by_rowid (λ a b. then-Equal _) old new has rows shown in
+    so_many old.now.trees got.0 rows count good got.1 got.2 got.3 counted is fine
+numbered_so v old new rows count good false has shown counted is bad =
+    let got = in_table tables.container containers_terms by_id containers_names containers_text v (containers_mean v) by_rowid (λ a b. then-Equal _) old new has rows shown in
+    not_good old.now.trees got.0 rows count good got.1 got.2 got.3 counted is bad

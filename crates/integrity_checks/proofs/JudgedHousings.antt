@@ -8,20 +8,20 @@ use Rattle.sqlite.specs.Listing.{understood}
 use Rattle.sqlite.specs.Query.{key_cmp}
 use Rattle.sqlite_tied.specs.Compute.{everything}
 use Rattle.office_tables.specs.Schema as tables
-use Rattle.integrity_checks.proofs.Common.{Alike, AllByRecursion, AreSummedUp, Binary, HousingRow, Int, IsPermutation}
-use Rattle.integrity_checks.proofs.Common.{IsSorted, Key, Means, Null, Row, Select, Term, Trees, Up, Version}
-use Rattle.integrity_checks.proofs.Common.{alike_then, all_alike, are_filled, ascending, asking, by_rowid, cases_Bool}
-use Rattle.integrity_checks.proofs.Common.{catalogue_in, col, column, cons_option, containers_in, eq-eqb, filter_alike}
-use Rattle.integrity_checks.proofs.Common.{from_first, get_or-map, good_housings_in, has_unread, higher}
-use Rattle.integrity_checks.proofs.Common.{housing_in_answer, is_between, is_good_housing, is_lt, is_placed, le_refl}
-use Rattle.integrity_checks.proofs.Common.{length-map, list_all, list_all-append, list_any-append, ne_eqb}
-use Rattle.integrity_checks.proofs.Common.{option_map_or, ordered_alike, ordering_then, permuted, read_alike}
+use Rattle.integrity_checks.proofs.Common.{Alike, AllByRecursion, AreSummedUp, Binary, HousingRow, Int, IsLive}
+use Rattle.integrity_checks.proofs.Common.{IsPermutation, IsSorted, Key, Means, Null, Row, Select, Shown, State, Term}
+use Rattle.integrity_checks.proofs.Common.{Trees, Up, Version, alike_then, all_alike, are_filled, ascending, asking}
+use Rattle.integrity_checks.proofs.Common.{by_rowid, cases_Bool, catalogue_in, col, column, cons_option, containers_in}
+use Rattle.integrity_checks.proofs.Common.{eq-eqb, filter_alike, from_first, get_or-map, good_housings_in, has_unread}
+use Rattle.integrity_checks.proofs.Common.{higher, housing_in_answer, in_table, is_between, is_good_housing, is_lt}
+use Rattle.integrity_checks.proofs.Common.{is_placed, le_refl, length-map, list_all, list_all-append, list_any-append}
+use Rattle.integrity_checks.proofs.Common.{ne_eqb, option_map_or, ordered_alike, ordering_then, permuted, read_alike}
 use Rattle.integrity_checks.proofs.Common.{read_housing, read_placed, read_unit, same_rows, show, stands, then-Equal}
-use Rattle.integrity_checks.proofs.Common.{then_by, unit_numbers, up_read, value_cmp}
+use Rattle.integrity_checks.proofs.Common.{then_by, unit_numbers, up_read, value_cmp, was_open}
 use Rattle.integrity_checks.proofs.FilledUnits.{unit_of, rows_of, higher_is, filled_judged}
 use Rattle.integrity_checks.proofs.Tested.{all_same, said_shown, unread_shown, passes, judged, unread_tested}
 use Rattle.integrity_checks.proofs.Tested.{same_tested}
-use Rattle.integrity_checks.proofs.UnitsThere.{HasUnit, housing_unit, housing_has_unit}
+use Rattle.integrity_checks.proofs.UnitsThere.{HasUnit, housing_unit, housing_has_unit, housings_have_units}
 
 -- ---- one row more
 
@@ -318,3 +318,13 @@ module _ (v : Version) (db : Trees) (units_read : has_unread read_unit (db table
       never true p x h = refl
       never false true x h = absurd cc
       never false false x h = refl
+
+-- what was gathered judges the table
+pub housings_told : (v : Version) (old new : State) (rows : List Row) (good : Bool) (unit count highest last containers : ℕ) → old.now.schema ≡ tables.schema v
+    → Shown housings_text [] old new rows → AreSummedUp rows good unit count highest last → IsLive old
+    → has_unread read_unit (old.now.trees tables.unit.tree) ≡ false → length (containers_in old.now.trees) ≡ containers
+    → ((good && nat_le highest count) && nat_le last containers) ≡ good_housings_in v old.now.trees
+housings_told v old new rows good unit count highest last containers has shown held live units_read as_many =
+    let got = in_table tables.housing housings_terms by_unit_and_ord housings_names housings_text v (housings_mean v) by_unit compares old new has rows shown in
+    let kept = housings_have_units old v has live (was_open tables.housing housings_terms by_unit_and_ord housings_names housings_text v (housings_mean v) old new has rows shown) in
+    housings_judged v old.now.trees units_read got.0 rows good unit count highest last held got.1 got.2 got.3 kept containers as_many

@@ -5,16 +5,17 @@ use Rattle.std.proofs.Common.{filter_map, refl, sym, ap, ap₂, ◌∙◌, arith
 use Rattle.sqlite.specs.Listing.{understood}
 use Rattle.sqlite_tied.specs.Compute.{everything}
 use Rattle.office_tables.proofs.ByNumber.{by}
-use Rattle.office_tables.specs.Schema.{reader}
+use Rattle.office_tables.specs.Schema.{reader, schema}
 use Rattle.integrity_checks.proofs.Common.{Binary, Int, IsPermutation, IsSorted, Key, Means, ReaderRow, Row, Select}
-use Rattle.integrity_checks.proofs.Common.{Term, Trees, Version, all_as_any, and-false, and-true, any_ordered, any_read}
-use Rattle.integrity_checks.proofs.Common.{are_numbered_from, are_reader_answers, are_registered_well, ascending}
-use Rattle.integrity_checks.proofs.Common.{asking, by_key, cases_Bool, col, column, cons_option, from_first, has_unread}
-use Rattle.integrity_checks.proofs.Common.{in_order, is_good_reader, is_number, is_reader_answer, is_reader_with}
-use Rattle.integrity_checks.proofs.Common.{le_refl, length-map, length_ordered, length_permutation, length_read}
-use Rattle.integrity_checks.proofs.Common.{list_all, list_any-IsPermutation, number_in, number_registered}
-use Rattle.integrity_checks.proofs.Common.{option_map_or, or_parts, read_by_number, read_reader, readers_are_defective}
-use Rattle.integrity_checks.proofs.Common.{readers_in, text_in, whole_in}
+use Rattle.integrity_checks.proofs.Common.{Shown, State, Term, Trees, Version, all_as_any, and-false, and-true}
+use Rattle.integrity_checks.proofs.Common.{any_ordered, any_read, are_numbered_from, are_reader_answers}
+use Rattle.integrity_checks.proofs.Common.{are_registered_well, ascending, asking, by_key, cases_Bool, col, column}
+use Rattle.integrity_checks.proofs.Common.{cons_option, from_first, has_unread, in_order, in_table, is_good_reader}
+use Rattle.integrity_checks.proofs.Common.{is_number, is_reader_answer, is_reader_with, le_refl, length-map}
+use Rattle.integrity_checks.proofs.Common.{length_ordered, length_permutation, length_read, list_all}
+use Rattle.integrity_checks.proofs.Common.{list_any-IsPermutation, number_in, number_registered, option_map_or}
+use Rattle.integrity_checks.proofs.Common.{or_parts, read_by_number, read_reader, readers_are_defective, readers_in}
+use Rattle.integrity_checks.proofs.Common.{text_in, then-Equal, whole_in}
 use Rattle.integrity_checks.proofs.JudgedContainers.{mixed}
 
 -- ---- one row more
@@ -155,3 +156,14 @@ module _ (db : Trees) (ys rows : List Row) (count : ℕ) (good : Bool) (same : I
 
   pub registered_badly : (good && nat_le count 1000000) ≡ false → None ≡ number_registered db
   registered_badly bad = sym (ap (λ b. cond b None (Some (length (readers_in db)))) (sym judged ∙ ap not bad))
+
+-- what was gathered tells how many there are
+pub registered_so : (v : Version) (old new : State) (rows : List Row) (count : ℕ) (good known : Bool) → old.now.schema ≡ schema v
+    → Shown all_readers_text [] old new rows → count ≡ length rows → good ≡ are_reader_answers 1 rows
+    → (good && nat_le count 1000000) ≡ known → cond known (Some count) None ≡ number_registered old.now.trees
+registered_so v old new rows count good true has shown counted is fine =
+    let got = in_table reader all_readers_terms by_ticket all_readers_names all_readers_text v (all_readers_means v) (by_key read_reader ticket_of keyed) (λ a b. then-Equal _) old new has rows shown in
+    registered_so_many old.now.trees got.0 rows count good got.1 got.2 got.3 counted is fine
+registered_so v old new rows count good false has shown counted is bad =
+    let got = in_table reader all_readers_terms by_ticket all_readers_names all_readers_text v (all_readers_means v) (by_key read_reader ticket_of keyed) (λ a b. then-Equal _) old new has rows shown in
+    registered_badly old.now.trees got.0 rows count good got.1 got.2 got.3 counted is bad

@@ -5,14 +5,15 @@ use Rattle.sqlite.specs.Listing.{understood}
 use Rattle.sqlite_tied.specs.Compute.{everything}
 use Rattle.office_tables.specs.Schema as tables
 use Rattle.row_decoding.specs.TableRows.{by}
-use Rattle.integrity_checks.proofs.Common.{Alike, AreGathered, AreUnitsPlaced, IsPermutation, Means, Row, Select, Term}
-use Rattle.integrity_checks.proofs.Common.{Trees, UnitRow, Version, alike_back, alike_then, all_alike, all_stand_in}
-use Rattle.integrity_checks.proofs.Common.{any_alike, are_good_unit_numbers, asking, catalogue_in, col}
-use Rattle.integrity_checks.proofs.Common.{described_in_answer, encoding, has_unread, height, is_described, le_refl}
-use Rattle.integrity_checks.proofs.Common.{length-map, length_alike, length_permutation, list_all, list_all-map}
-use Rattle.integrity_checks.proofs.Common.{list_any-IsPermutation, list_any-map, most_deep, most_units, ordered_alike}
-use Rattle.integrity_checks.proofs.Common.{permuted, place_numbers, places_in, places_said, read_alike, read_described}
-use Rattle.integrity_checks.proofs.Common.{read_unit, same_rows, show, stands, unit_numbers, units_are_defective}
+use Rattle.integrity_checks.proofs.Common.{Alike, AreGathered, AreUnitsPlaced, IsPermutation, Means, Row, Select, Shown}
+use Rattle.integrity_checks.proofs.Common.{State, Term, Trees, UnitRow, Version, alike_back, alike_then, all_alike}
+use Rattle.integrity_checks.proofs.Common.{all_stand_in, any_alike, are_good_unit_numbers, asking, catalogue_in, col}
+use Rattle.integrity_checks.proofs.Common.{described_in_answer, encoding, has_unread, height, in_any_order, in_table}
+use Rattle.integrity_checks.proofs.Common.{is_described, le_refl, length-map, length_alike, length_permutation}
+use Rattle.integrity_checks.proofs.Common.{list_all, list_all-map, list_any-IsPermutation, list_any-map, most_deep}
+use Rattle.integrity_checks.proofs.Common.{most_units, ordered_alike, permuted, place_numbers, places_in, places_said}
+use Rattle.integrity_checks.proofs.Common.{read_alike, read_described, read_unit, same_rows, show, stands, unit_numbers}
+use Rattle.integrity_checks.proofs.Common.{units_are_defective}
 use Rattle.integrity_checks.proofs.Tested.{said_shown, unread_shown, unread_tested, same_tested}
 
 -- ---- the text
@@ -153,3 +154,12 @@ module _ (v : Version) (next : ℕ) (db : Trees) (ys rows : List Row) (numbers :
       judged_both (has_unread read_unit table) (list_all is_described in_catalogue) (list_all (λ (row : UnitRow). nat_lt row.id next) in_catalogue) rest good fine
       (gathered.all ∙ ap not unread) (λ none all. is ∙ fits none all places deep placed depth)
       ∙ ap (λ b. not (has_unread read_unit table || not (b && rest))) (sym (all_both (λ (row : UnitRow). nat_lt row.id next) is_described in_catalogue))
+
+-- what was gathered judges the table
+pub units_told : (v version : Version) (next : ℕ) (old new : State) (rows : List Row) (numbers : List ℕ) (good : Bool) (places : List ℕ) (deep : ℕ) (fine : Bool)
+    → old.now.schema ≡ tables.schema v → Shown units_text [] old new rows → AreGathered (λ n. n) described_in_answer rows numbers good
+    → AreUnitsPlaced (places_in (encoding version) old.now.trees) places → deep ≡ height (places_said (places_in (encoding version) old.now.trees))
+    → fine ≡ are_good_unit_numbers next places deep numbers → (good && fine) ≡ not (units_are_defective version next old.now.trees)
+units_told v version next old new rows numbers good places deep fine has shown gathered placed depth is =
+    let got = in_table tables.unit units_terms [] units_names units_text v (units_mean v) in_any_order (λ a b. refl) old new has rows shown in
+    units_judged version next old.now.trees got.0 rows numbers good gathered got.1 got.3 places deep placed depth fine is

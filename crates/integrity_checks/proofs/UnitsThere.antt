@@ -2,7 +2,6 @@
 use Rattle.std.proofs.Common.{◌≡◌, ℕ, pos, List, [], ◌∷◌, map, Bool, true, false, ◌||◌, Option, Some, None, is_none}
 use Rattle.std.proofs.Common.{refl, sym, ap, ap₂, subst, ◌∙◌, filter_map, nat_eq, IsTrue}
 use Rattle.sqlite.specs.Effect.{IsDatabase}
-use Rattle.sqlite.specs.State.{State, IsLive}
 use Rattle.sqlite_schema.specs.Names.{same_name}
 use Rattle.sqlite_schema.specs.Rules.{agree, has_null, has_parent}
 use Rattle.sqlite_schema.specs.declared.schema.Constraint.TheVariants.{ForeignKey}
@@ -11,11 +10,12 @@ use Rattle.office_tables.proofs.Tests.{only, same_number}
 use Rattle.office_tables.specs.Schema.{schema, to_unit}
 use Rattle.office_tables.specs.Schema as tables
 use Rattle.row_decoding.specs.TableRows.{by}
-use Rattle.integrity_checks.proofs.Common.{AllByRecursion, ElementRow, First, HousingRow, Int, Row, Second, Trees}
-use Rattle.integrity_checks.proofs.Common.{UnitRow, Version, and_parts, any_alike, catalogue_in, column, cons_option}
-use Rattle.integrity_checks.proofs.Common.{flag_in, from_first, has_unread, is_number, list_all, list_any, number_in}
-use Rattle.integrity_checks.proofs.Common.{option_map_or, or_null_in, or_parts, ordered_alike, plain, read_element}
-use Rattle.integrity_checks.proofs.Common.{read_housing, read_unit, stands, text_in, true≢false, unit_numbers, whole_in}
+use Rattle.integrity_checks.proofs.Common.{AllByRecursion, ElementRow, First, HousingRow, Int, IsLive, Row, Second}
+use Rattle.integrity_checks.proofs.Common.{State, Trees, UnitRow, Version, and_parts, any_alike, catalogue_in, column}
+use Rattle.integrity_checks.proofs.Common.{cons_option, flag_in, from_first, has_unread, is_number, list_all, list_any}
+use Rattle.integrity_checks.proofs.Common.{number_in, option_map_or, or_null_in, or_parts, ordered_alike, plain}
+use Rattle.integrity_checks.proofs.Common.{read_element, read_housing, read_unit, stands, text_in, true≢false}
+use Rattle.integrity_checks.proofs.Common.{unit_numbers, whole_in}
 
 -- ---- what a row that is read has
 

@@ -28,7 +28,7 @@ good_holdings_in a db = not (holdings_are_defective a db)
 abbrev pub good_runs_in : Around → Trees → Bool
 good_runs_in a db = not (runs_are_defective a db)
 
--- these are the orders of the table, each of which can be read
+-- these are the orders of the table, by number, each of which can be read
 abbrev pub AreOrdersOf : Trees → List OrderRow → Type 0
 AreOrdersOf db orders = AreRead by_rowid read_order (db tables.orders.tree) orders true
 

@@ -1,4 +1,5 @@
 //! The check of the catalogue's tables.
+#![tactic(auto, using(crate::proofs::ExaminationEnds::passes, crate::proofs::ExaminationEnds::passes_later))]
 
 ghost use Rattle.std.specs.Prelude.{◌≡◌};
 ghost use Rattle.row_decoding.specs.Examinations.{Examines};
@@ -43,9 +44,9 @@ fn check_contents<P: Versioned, S: Alter>(
     Ok(None)
 }
 
-/// The first part of the catalogue whose rows no catalogue can have, or none. `next` is the number of the next unit.
-/// Reads all tables completely, unless a defect is found before. Holds no more at once than the places, or the numbers
-/// of the units.
+/// The first part of the catalogue (places, units, elements, containers) of which a row cannot be read or whose rows no
+/// catalogue can have, or none. `next` is the number of the next unit. Reads all tables completely, unless a defect is
+/// found before. Holds no more at once than the places, or the numbers of the units.
 pub fn load_check<P: CheckedPlaces, S: Alter>(
     alloc: Global,
     tables: &mut Tables<P, S>,

@@ -27,7 +27,7 @@ fn text_in(value: ValueRef<'_>) -> Option<&str>
     }
 }
 
-/// Whether it is a text.
+/// Whether the cell is a text, in UTF-8.
 pub(crate) fn is_text(value: ValueRef<'_>) -> bool
     ensures { result ≡ is_some (text_said (owned value.entry)) }
 {
@@ -54,7 +54,7 @@ pub(crate) fn is_short(value: ValueRef<'_>) -> bool
     }
 }
 
-/// Whether it is the name of a source.
+/// Whether it is a text that is well-formed as the name of a source.
 pub(crate) fn is_source_text(value: ValueRef<'_>) -> bool
     ensures { result ≡ option_map_or is_source_name (text_said (owned value.entry)) false }
 {

@@ -47,7 +47,8 @@ impl Gathering for Containers {
     }
 }
 
-/// The number of containers, or none if no catalogue can have their rows. Reads the whole table, row by row.
+/// The number of containers; none if a row cannot be read, or if they are not numbered from 1 on, each with a name that
+/// is not blank, and no more than `MOST_CONTAINERS`. Reads the whole table, row by row.
 pub(crate) fn count_if_numbered<P: Versioned, S: Alter>(
     tables: &mut Tables<P, S>,
 ) -> Result<Option<u64>, StoreFault>

@@ -1,4 +1,5 @@
 //! The check of the reading room's tables.
+#![tactic(auto, using(crate::proofs::ExaminationEnds::passes, crate::proofs::ExaminationEnds::passes_later, crate::proofs::ExaminationEnds::is_full))]
 
 ghost use Rattle.std.specs.Prelude.{◌≡◌, map};
 ghost use Rattle.row_decoding.specs.Examinations.{Examines};
@@ -72,8 +73,9 @@ fn check_cards<P: Versioned, S: Alter>(
     check_orders(alloc, tables, around)
 }
 
-/// The first part of the desk whose rows no desk of an office with these limits can have on this day, or none. Reads
-/// all tables completely, unless a defect is found before. Rows other than the readers' are held in memory.
+/// The first part of the desk (readers with seats and permits, orders, holdings, runs) of which a row cannot be read or
+/// whose rows no desk of an office with these limits can have on this day, or none. Reads all tables completely, unless
+/// a defect is found before. Rows other than the readers' are held in memory.
 pub fn load_check_desk<P: Versioned, S: Alter>(
     alloc: Global,
     tables: &mut Tables<P, S>,

@@ -1,4 +1,5 @@
 //! Whether all rows of a table of the desk can be read and can be a desk's.
+#![tactic(auto, using(crate::proofs::ExaminationEnds::passes, crate::proofs::ExaminationEnds::passes_later, crate::proofs::ExaminationEnds::is_full))]
 
 ghost use Rattle.std.specs.Prelude.{◌≡◌, Some, map};
 ghost use Rattle.row_decoding.specs.Examinations.{Examines};
@@ -19,7 +20,8 @@ use row_decoding::{container_numbers, holdings, permits, run_lines, runs, seats,
 use sqlite::Alter;
 use std::alloc::Global;
 
-/// Reads what the desk is checked against. `readers` is the number of its readers.
+/// Reads what the desk is checked against: the numbers of the units and of the containers, beside these limits, this
+/// day and the number of readers. `readers` must be what `count_if_registered` returned for these tables.
 pub(crate) fn surroundings<P: Versioned, S: Alter>(
     alloc: Global,
     tables: &mut Tables<P, S>,
@@ -44,7 +46,7 @@ pub(crate) fn surroundings<P: Versioned, S: Alter>(
     })
 }
 
-/// Whether all seats can be read and can be a desk's.
+/// Whether all seats can be read and can be a desk's. `around` must be what `surroundings` returns for these tables.
 pub(crate) fn seats_are_good<P: Versioned, S: Alter>(
     alloc: Global,
     tables: &mut Tables<P, S>,
@@ -57,7 +59,7 @@ pub(crate) fn seats_are_good<P: Versioned, S: Alter>(
     Ok(all.are_read && are_good)
 }
 
-/// Whether all permits can be read and can be a desk's.
+/// Whether all permits can be read and can be a desk's. `around` must be what `surroundings` returns for these tables.
 pub(crate) fn permits_are_good<P: Versioned, S: Alter>(
     alloc: Global,
     tables: &mut Tables<P, S>,
@@ -70,7 +72,8 @@ pub(crate) fn permits_are_good<P: Versioned, S: Alter>(
     Ok(all.are_read && are_good)
 }
 
-/// Whether all holdings can be read and can be a desk's with these orders.
+/// Whether all holdings can be read and can be a desk's. `around` must be what `surroundings` returns for these tables,
+/// and `orders` all rows of the table of orders, by number, each readable and found good.
 pub(crate) fn holdings_are_good<P: Versioned, S: Alter>(
     alloc: Global,
     tables: &mut Tables<P, S>,
@@ -85,7 +88,8 @@ pub(crate) fn holdings_are_good<P: Versioned, S: Alter>(
     Ok(all.are_read && are_good)
 }
 
-/// Whether all runs and their lines can be read and can be a desk's with these orders.
+/// Whether all runs and their lines can be read and can be a desk's. `around` must be what `surroundings` returns for
+/// these tables, and `orders` all rows of the table of orders, by number, each readable and found good.
 pub(crate) fn runs_are_good<P: Versioned, S: Alter>(
     alloc: Global,
     tables: &mut Tables<P, S>,

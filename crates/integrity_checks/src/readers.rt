@@ -75,7 +75,8 @@ impl Gathering for Readers {
     }
 }
 
-/// The number of readers, or none if no desk can have their rows. Reads the whole table, row by row.
+/// The number of readers; none if a row cannot be read, or if their tickets are not numbered from 1 on, each with a
+/// name and a last day, and no more than `MOST_TICKETS`. Reads the whole table, row by row.
 pub(crate) fn count_if_registered<P: Versioned, S: Alter>(
     tables: &mut Tables<P, S>,
 ) -> Result<Option<u64>, StoreFault>

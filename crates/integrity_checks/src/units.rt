@@ -92,8 +92,9 @@ fn are_placed(numbers: Vec<u64>, placed: Vec<u64>, height: u64, next: u64) -> bo
     are_good(&units, &places, height, next)
 }
 
-/// Whether the units can be a catalogue's, if the units `placed` have a place, the deepest lies at `height`, and `next`
-/// is the number of the next unit. Reads the whole table, row by row. Holds the numbers while it runs.
+/// Whether the units can be a catalogue's. `placed` must be the units that have a place, in ascending order, `height`
+/// the depth of the deepest, and `next` is the number of the next unit. Reads the whole table, row by row. Holds the
+/// numbers while it runs.
 pub(crate) fn units_are_good<P: Versioned, S: Alter>(
     alloc: Global,
     tables: &mut Tables<P, S>,

@@ -5,8 +5,8 @@ pub use Rattle.std.proofs.lemmas.Bool.{and_parts, both_ways, cases_Bool, cases_e
 pub use Rattle.std.proofs.lemmas.Bool.{false≢true, le-leb, le-ltb, leb-true, lt-leb, lt-ltb, ltb-true, ne_eqb, not-true}
 pub use Rattle.std.proofs.lemmas.Bool.{or_from, or_parts, or_right}
 pub use Rattle.std.proofs.lemmas.Bool.Decides.{nat_tests}
-pub use Rattle.std.proofs.lemmas.List.{drop_all, get_or-map, length-map, length-reverse, map-append, map-id, map_more}
-pub use Rattle.std.proofs.lemmas.List.{reverse-append, take_all, take_more}
+pub use Rattle.std.proofs.lemmas.List.{drop_all, drop_more, get_or-map, length-map, length-reverse, map-append, map-id}
+pub use Rattle.std.proofs.lemmas.List.{map_more, reverse-append, take_all, take_more}
 pub use Rattle.std.proofs.lemmas.List.Sorted.{IsNonDecreasingBy-from_all_adjacent, IsPermutation-append_comm}
 pub use Rattle.std.proofs.lemmas.List.Sorted.{IsPermutation-append_left, IsPermutation-cons, IsPermutation-filter_both}
 pub use Rattle.std.proofs.lemmas.List.Sorted.{IsPermutation-map, IsPermutation-refl, IsPermutation-sym}
@@ -107,6 +107,7 @@ pub use Rattle.office_tables.specs.Schema.{schema, to_unit, unit}
 pub use Rattle.office_tables.specs.StatementMeaning.{Means}
 pub use Rattle.office_tables.specs.Step.{Continues, Goes, HasRows, Holds, InTransaction, IsAborted, IsSame}
 pub use Rattle.office_tables.specs.Step.{LeavesUnchanged, OnlyTouches, PutsRow, Spares}
+pub use Rattle.office_tables.specs.TableStatements.{LooksUp, Thins}
 pub use Rattle.office_tables.specs.Versions.{First, Second, Version}
 pub use Rattle.office_tables.specs.declared.fault.StoreFault.{StoreFault}
 pub use Rattle.catalogue_statements.proofs.NumberTests.{at_most}
@@ -115,7 +116,9 @@ pub use Rattle.catalogue_statements.specs.Representation.{RepresentsOffice, Repr
 pub use Rattle.catalogue_statements.specs.Representation.{numbered_containers}
 pub use Rattle.catalogue_statements.specs.Rows.{HousingRow, by_housing, by_number, cells_of_unit, counted_from}
 pub use Rattle.catalogue_statements.specs.Rows.{element_row, housing_row, office_row}
+pub use Rattle.catalogue_statements.specs.declared.office.OfficeRow.{OfficeRow}
 pub use Rattle.tree_places.proofs.MarkForests.{ids_from, marks_bare, marks_from, part_in, path_ids, path_in}
+pub use Rattle.tree_places.specs.MarkLookUps.{HoldsHousings, Members}
 pub use Rattle.nested_sets.specs.Arrivals.{AreFree, FitsTable, found_before, key, rows_among, with_span_rows}
 pub use Rattle.nested_sets.specs.AttachedRows.{AreFit, HoldsHousedRows, HoldsUnitAndHousingRows, by_house}
 pub use Rattle.nested_sets.specs.AttachedRows.{goes_with_row, goes_with_unit, is_in, numbered_cells, numbered_status}

@@ -181,14 +181,14 @@ module _ (old new : State) (known : HasCleanDisk old → Knows drop_text drop_co
   crash : Survives old new (λ _. ⊥)
   crash = survives_weaker old new (CommitsBy drop_text [] old) (λ _. ⊥)
       (λ clean db h.
-      let it = known (early old new _ survives clean) in
+      let it = known (early survives clean) in
       let none = outside (statement_of drop_text (understood old.now.schema drop_text)) db (commits_as it db h) in
       let e : true ≡ false = sym it.inside ∙ none in
       cc)
       survives
 
   pub drop_cut : (e : Error) → (HasCleanDisk new → Executes drop_text [] old new (Err e)) → IsAborted old new
-  drop_cut e runs = record { crash = crash; aborts = λ clean. stopped old new (known (early old new _ survives clean)).inside (stops drop_text [] old new e (runs clean)) }
+  drop_cut e runs = record { crash = crash; aborts = λ clean. stopped old new (known (early survives clean)).inside (stops drop_text [] old new e (runs clean)) }
 
   pub drop_continues : (HasCleanDisk new → Shows old new new.now (if old.in_transaction then old.committed else new.now) old.in_transaction)
       → Continues old new
@@ -196,6 +196,6 @@ module _ (old new : State) (known : HasCleanDisk old → Knows drop_text drop_co
     crash = crash;
     within = λ clean.
         let it = done clean in
-        let inside = (known (early old new _ survives clean)).inside in
+        let inside = (known (early survives clean)).inside in
         record { opened = it.is_open ∙ sym it.was_open; committed = it.committed_is ∙ ap (λ k. if k then old.committed else new.now) inside; mode = it.mode };
   }

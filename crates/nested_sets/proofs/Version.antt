@@ -6,11 +6,10 @@ use Rattle.sqlite_tied.specs.Compute.{everything}
 use Rattle.office_tables.proofs.statements.LeafOf.{office_kept}
 use Rattle.office_tables.proofs.statements.OnlyOf.{update_only}
 use Rattle.office_tables.proofs.statements.UpdateOf.{update_leaves, update_faults}
-use Rattle.catalogue_statements.specs.declared.office.OfficeRow.{OfficeRow}
 use Rattle.nested_sets.proofs.Common.{Binary, Command, Compare, Eq, First, HasCause, HasRows, Int, IsLive, IsUnlimited}
-use Rattle.nested_sets.proofs.Common.{Means, Null, OnlyTouches, Ran, Row, Second, State, StoreFault, Term, Update}
-use Rattle.nested_sets.proofs.Common.{VersionedRow, cast_int, cast_null, cast_row, choosing, col, in_version_2, le_refl}
-use Rattle.nested_sets.proofs.Common.{office, office_row, only, op2, same_number, schema, versioned_cells}
+use Rattle.nested_sets.proofs.Common.{Means, Null, OfficeRow, OnlyTouches, Ran, Row, Second, State, StoreFault, Term}
+use Rattle.nested_sets.proofs.Common.{Update, VersionedRow, cast_int, cast_null, cast_row, choosing, col, in_version_2}
+use Rattle.nested_sets.proofs.Common.{le_refl, office, office_row, only, op2, same_number, schema, versioned_cells}
 
 abbrev pub set_version_text : List ℕ
 set_version_text = codes "UPDATE office SET version = ?1 WHERE one = 1"

@@ -137,8 +137,8 @@ module _ {S X : Type 0} {g : trees.Ghosts S} {before mid after : Held S} {versio
       let b = state g mid in
       let d = state g after in
       record {
-        answers = λ clean. judged.answers (early b d _ found.crash clean);
-        back = λ clean. still_before a b d (judged.back (early b d _ found.crash clean)) (found.still_open clean);
+        answers = λ clean. judged.answers (early found.crash clean);
+        back = λ clean. still_before a b d (judged.back (early found.crash clean)) (found.still_open clean);
         disk = λ clean. tt;
         faults = λ clean ordered. tt;
         crash = apart a b d judged.crash found.crash;
@@ -153,11 +153,11 @@ module _ {S X : Type 0} {g : trees.Ghosts S} {before mid after : Held S} {versio
       let b = state g mid in
       let d = state g after in
       let why = λ (clean : HasCleanDisk d).
-      let at_b = early b d _ found.crash clean in
+      let at_b = early found.crash clean in
       caused_later a b d judged.crash found.crash.counts at_b e (found.faults clean (judged.back at_b).ended) in
       record {
         answers = λ clean. tt;
-        back = λ clean. let at_b = early b d _ found.crash clean in stopped_before a b d (judged.back at_b) (settled at_b) (found.stopped clean);
+        back = λ clean. let at_b = early found.crash clean in stopped_before a b d (judged.back at_b) (settled at_b) (found.stopped clean);
         disk = λ clean. outer_blames a d e (why clean);
         faults = λ clean ordered. why clean;
         crash = apart a b d judged.crash found.crash;

@@ -4,21 +4,21 @@ use Rattle.std.proofs.Common.{subst, ◌∙◌}
 use Rattle.std.proofs.lemmas.Result.{IfOk-weaker}
 use Rattle.sqlite.specs.State.{State}
 use Rattle.sqlite_trees.specs.declared.store.Store as trees
-use Rattle.desk_core.specs.declared.refusal.Refusal.{Refusal}
 use Rattle.office_tables.specs.Transactions.{Committed, IsEnded}
 use Rattle.office_tables.specs.declared.fault.StoreFault.TheVariants as fault
 use Rattle.office_core.specs.Json.{reply_text}
 use Rattle.office_core.specs.Rules as machine
 use Rattle.office_core.specs.State as office
+use Rattle.office_core.specs.declared.machine.Reply.{Reply}
 use Rattle.refinement.proofs.Crashes.{went}
 use Rattle.refinement.proofs.Doings.{refused}
 use Rattle.refinement.specs.CommandSteps.{CarriesOutStep}
 use Rattle.office.specs.CallTransactions.{Applies, Replies}
 use Rattle.office.specs.Transactions.{Settles}
 use Rattle.office.proofs.Common.{Command, Database, Forest, Goes, GoesOn, HasCleanDisk, Held, IfErr, IfOk, IsAsBefore}
-use Rattle.office.proofs.Common.{IsAtRest, IsErr, IsIn, IsOffice, IsOk, IsSoundOffice, MayFind, Reply, RepresentsState}
-use Rattle.office.proofs.Common.{Shows, StoreFault, Survives, TakesStep, Trees, Version, after, decide, early, refusal}
-use Rattle.office.proofs.Common.{result_of, state, step, survives_then}
+use Rattle.office.proofs.Common.{IsAtRest, IsErr, IsIn, IsOffice, IsOk, IsSoundOffice, MayFind, Refusal}
+use Rattle.office.proofs.Common.{RepresentsState, Shows, StoreFault, Survives, TakesStep, Trees, Version, after, decide}
+use Rattle.office.proofs.Common.{early, refusal, result_of, state, step, survives_then}
 use Rattle.office.proofs.States.{found_committed, shown_begun}
 
 -- a step that is refused changes nothing
@@ -105,10 +105,10 @@ module _ {S : Type 0} (g : trees.Ghosts S) (before begun done after : Held S) wh
     second = went outcome b m does.goes does.aborts
 
     clean_m : HasCleanDisk z → HasCleanDisk m
-    clean_m clean = early m z _ last.crash clean
+    clean_m clean = early last.crash clean
 
     clean_b : HasCleanDisk z → HasCleanDisk b
-    clean_b clean = early b m _ second (clean_m clean)
+    clean_b clean = early second (clean_m clean)
 
     was_open : HasCleanDisk z → IsTrue z.is_open → IsTrue a.is_open
     was_open clean opened = (begins (clean_b clean)).was_open
@@ -129,7 +129,7 @@ module _ {S : Type 0} (g : trees.Ghosts S) (before begun done after : Held S) wh
         at : (r : Result Reply StoreFault) → IfOk r (λ x. outcome ≡ Ok x) → IfOk r (λ x. IsOk x.done → Committed m z)
             → IfOk r (λ x. IsErr x.done → IsEnded m z) → IfOk r (λ x. TakesStep places version s asked x.done z)
         at (Ok x) same committed ended =
-            stepped places version a b m z s asked (rest.rests (early a b _ first (clean_b clean))) (begins (clean_b clean)) is (went_on x same clean) x.done (carried x same clean s sound is) committed ended
+            stepped places version a b m z s asked (rest.rests (early first (clean_b clean))) (begins (clean_b clean)) is (went_on x same clean) x.done (carried x same clean s sound is) committed ended
         at (Err e) same committed ended = tt
 
     finds : Survives a z (MayFind places version asked a)

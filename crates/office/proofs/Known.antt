@@ -3,13 +3,11 @@ use Rattle.std.proofs.Common.{ℕ, Ok, Err, Result, sym, subst, OnOk, OnErr}
 use Rattle.sqlite.specs.State as store
 use Rattle.office_tables.proofs.CallEnds.{excused_then}
 use Rattle.office_core.specs.State.{State}
-use Rattle.office_core.specs.declared.query.Answer.{Answer}
-use Rattle.office_core.specs.declared.query.Query.{Query}
 use Rattle.refinement.specs.QueryAnswers.{AnswersQuery}
 use Rattle.public_queries.specs.InformedAnswers.{AnswersKnowing}
-use Rattle.office.proofs.Common.{Database, Forest, HasCleanDisk, IsAborted, IsSoundOffice, LeavesUnchanged}
-use Rattle.office.proofs.Common.{RepresentsState, StoreFault, Trees, Version, cut_then, early, looks_then, on_err_then}
-use Rattle.office.proofs.Common.{on_ok_then}
+use Rattle.office.proofs.Common.{Answer, Database, Forest, HasCleanDisk, IsAborted, IsSoundOffice, LeavesUnchanged}
+use Rattle.office.proofs.Common.{Query, RepresentsState, StoreFault, Trees, Version, cut_then, early, looks_then}
+use Rattle.office.proofs.Common.{on_err_then, on_ok_then}
 
 looked_on : (a b : store.State) (r : Result Answer StoreFault) → OnOk r (LeavesUnchanged a b) → OnErr r (IsAborted a b)
     → store.Survives a b (λ _. ⊥)
@@ -27,9 +25,9 @@ module _ {places : Trees → Forest ℕ → Type 0} {version : Version} where
       subst (λ (db : Database). RepresentsState places version db s) (sym (looked.same at_b)) it in
       record {
         answers = λ clean s sound it.
-            let at_b = early b c _ (looked_on b c r last.looks last.aborts) clean in
+            let at_b = early (looked_on b c r last.looks last.aborts) clean in
             last.answers clean s sound (learns at_b s sound it) (still at_b s it);
-        looks = on_ok_then r (LeavesUnchanged b c) (LeavesUnchanged a c) (λ on. looks_then a b c looked on) last.looks;
-        aborts = on_err_then r (IsAborted b c) (IsAborted a c) (λ cut. cut_then a b c looked.goes.on cut) last.aborts;
-        faults = λ s sound it. excused_then a b c looked.goes.on r last.aborts (λ at_b. last.faults s sound (learns at_b s sound it) (still at_b s it));
+        looks = on_ok_then r (LeavesUnchanged b c) (LeavesUnchanged a c) (λ on. looks_then looked on) last.looks;
+        aborts = on_err_then r (IsAborted b c) (IsAborted a c) (λ cut. cut_then looked.goes.on cut) last.aborts;
+        faults = λ s sound it. excused_then _ looked.goes.on r last.aborts (λ at_b. last.faults s sound (learns at_b s sound it) (still at_b s it));
       }

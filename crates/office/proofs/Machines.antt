@@ -6,12 +6,11 @@ use Rattle.office_core.specs.Json.{reply_text}
 use Rattle.office_core.specs.Queries.{answer}
 use Rattle.office_core.specs.Rules as rules
 use Rattle.office_core.specs.State.{State}
-use Rattle.office_core.specs.declared.query.Answer.{Answer}
-use Rattle.office_core.specs.declared.query.Query.{Query}
+use Rattle.office_core.specs.declared.machine.Reply.{Reply}
 use Rattle.office.specs.Runs.{IsCall, Replied, Answered, question_call, command_call}
-use Rattle.office.proofs.Common.{Command, Database, Forest, Held, IfOk, IsAsBefore, IsIn, IsOk, IsSoundOffice, Reply}
-use Rattle.office.proofs.Common.{RepresentsState, TakesStep, Trees, Version, has_clean_disk, is_shown, is_still_open}
-use Rattle.office.proofs.Common.{state, step}
+use Rattle.office.proofs.Common.{Answer, Command, Database, Forest, Held, IfOk, IsAsBefore, IsIn, IsOk, IsSoundOffice}
+use Rattle.office.proofs.Common.{Query, RepresentsState, TakesStep, Trees, Version, has_clean_disk, is_shown}
+use Rattle.office.proofs.Common.{is_still_open, state, step}
 
 -- while nothing is changed, it is in the state that it was in
 pub in_as_before : (places : Trees → Forest ℕ → Type 0) (version : Version) (a b : sqlite.State) (s : State)

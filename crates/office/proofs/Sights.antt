@@ -1,13 +1,12 @@
 -- What is seen to be wrong with a command is its first check.
 use Rattle.std.proofs.Common.{◌≡◌, true, false, Bool, Some, sym, refl}
 use Rattle.desk_core.specs.Refusals.{unless}
-use Rattle.desk_core.specs.declared.refusal.Refusal.{Refusal}
 use Rattle.desk_core.specs.declared.refusal.Refusal.TheVariants.{BadName, DayNotLater}
 use Rattle.catalogue_core.specs.Sources.{is_source}
 use Rattle.office_core.specs.State.{State}
 use Rattle.office_core.specs.declared.command.Command.TheVariants as command
 use Rattle.office.specs.Sight.{day_check, name_check}
-use Rattle.office.proofs.Common.{Command, int_lt, is_name, refusal}
+use Rattle.office.proofs.Common.{Command, Refusal, int_lt, is_name, refusal}
 
 first : (b : Bool) (fault why : Refusal) → unless b fault ≡ Some why → b ≡ false
 first true fault why h = absurd (cc)

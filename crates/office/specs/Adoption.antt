@@ -35,7 +35,7 @@ HasAdoptCause version old new fault.OldVersion = IsVerdict version old.now verdi
 HasAdoptCause version old new fault.NewVersion = IsVerdict version old.now verdict.NewVersion
 HasAdoptCause version old new (fault.Unsound n) = IsVerdict version old.now (verdict.Unsound n)
 
--- no cause holds for the rows of the tables, and the tables are unchanged
+-- the verdict on the tables is `Sound`, and while the connection is open, they are unchanged
 pub record IsAdopted (version : Version) (old new : store.State) : Type 0 where
   pub sound : IsVerdict version old.now verdict.Sound
   pub same : IsTrue new.is_open → new.now ≡ old.now

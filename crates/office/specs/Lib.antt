@@ -56,6 +56,7 @@ pub mod InitialSettings
 pub mod IdleOffice
 pub mod NewOffice
 pub mod Migration
+pub mod NamedNumbers
 pub mod Sight
 pub mod Rows
 pub mod OfficeCall

@@ -22,7 +22,8 @@ use Rattle.nested_sets.specs.Representation.{RepresentsSpanRows}
 -- ---- of tables of any origin
 
 -- The tables were a sound office's of version 1, and are now those of one of version 2, in the same state. The table of
--- nested sets has replaced that of links, the office's row has the new version, and no other table has other rows.
+-- nested sets has replaced that of links, the office's row has the new version, and no other table has other rows. The
+-- state is told of tables whose rows stood in order.
 pub record IsMigrated (old new : Database) : Type 0 where
   pub judged : IsVerdict First old verdict.Sound
   pub sound : StandInOrder old → IsSoundOffice (state_in First old.trees)

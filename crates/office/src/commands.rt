@@ -7,10 +7,12 @@ ghost use Rattle.office_core.specs.SoundOffice.{NamesTexts};
 ghost use Rattle.office_tables.specs.declared.fault.StoreFault.TheVariants as fault;
 ghost use Rattle.office.specs.CallTransactions.{Applies, Replies};
 ghost use Rattle.office.specs.IdleOffice.{IsOffice};
+ghost use Rattle.office.specs.NamedNumbers.{of_named};
 ghost use Rattle.office.specs.Sight.{day_check, name_check};
 ghost use Rattle.refinement.specs.CommandSteps.{Performs, PerformsKnowing};
 ghost use Rattle.refinement.specs.Representation.{office_of};
 
+use crate::named_numbers::named;
 use crate::names::{refused_by_day, refused_by_name};
 use crate::office_row::{limits_in, own_row};
 use crate::transactions::settle;
@@ -38,7 +40,7 @@ fn perform<P: Places, S: Alter>(
     requires named { name_check command.now ≡ None }
     requires dated { day_check row.now.day command.now ≡ None }
     requires texts { NamesTexts command.now }
-    ensures { PerformsKnowing P.represents P.version S.Store (λ s. row.now ≡ office_of s) command.now
+    ensures { PerformsKnowing P.represents P.version S.Store (λ s. row.now ≡ office_of s) (of_named command.now)
         tables.old tables.new result }
 {
     let today = row.day;
@@ -52,32 +54,54 @@ fn perform<P: Places, S: Alter>(
             unit,
             draft,
             branch,
-        } => change_status(alloc, tables, today, *unit, *draft, *branch),
+        } => change_status(alloc, tables, today, named(*unit), *draft, *branch),
         Command::SetClosure { unit, until } => {
-            change_closure(alloc, tables, today, *unit, *until)
+            change_closure(alloc, tables, today, named(*unit), *until)
         }
-        Command::Move { unit, parent } => move_to(alloc, tables, today, *unit, *parent),
-        Command::Remove { unit } => remove_unit(alloc, tables, today, *unit),
+        Command::Move { unit, parent } => move_to(
+            alloc,
+            tables,
+            today,
+            named(*unit),
+            parent.map(named),
+        ),
+        Command::Remove { unit } => remove_unit(alloc, tables, today, named(*unit)),
         Command::Register { name, until } => register(tables, name, *until),
-        Command::Renew { ticket, until } => renew_ticket(alloc, tables, *ticket, *until),
-        Command::TakeSeat { ticket } => take_seat(alloc, tables, today, &limits, *ticket),
-        Command::LeaveSeat { ticket } => leave_seat(alloc, tables, *ticket),
+        Command::Renew { ticket, until } => renew_ticket(alloc, tables, named(*ticket), *until),
+        Command::TakeSeat { ticket } => take_seat(alloc, tables, today, &limits, named(*ticket)),
+        Command::LeaveSeat { ticket } => leave_seat(alloc, tables, named(*ticket)),
         Command::Order { ticket, container } => {
-            order(alloc, tables, today, &limits, *ticket, *container)
+            order(
+                alloc,
+                tables,
+                today,
+                &limits,
+                named(*ticket),
+                named(*container),
+            )
         }
-        Command::Cancel { order } => cancel(alloc, tables, *order),
+        Command::Cancel { order } => cancel(alloc, tables, named(*order)),
         Command::Run => fetch(alloc, tables, today, &limits),
         Command::Reshelve => reshelve(alloc, tables),
         Command::Issue { container, ticket } => {
-            issue(alloc, tables, today, &limits, *container, *ticket)
+            issue(
+                alloc,
+                tables,
+                today,
+                &limits,
+                named(*container),
+                named(*ticket),
+            )
         }
-        Command::Return { container } => return_container(alloc, tables, *container),
+        Command::Return { container } => return_container(alloc, tables, named(*container)),
         Command::Permit {
             ticket,
             unit,
             until,
-        } => permit(alloc, tables, *ticket, *unit, *until),
-        Command::Revoke { ticket, unit } => { revoke_permit(alloc, tables, today, *ticket, *unit) }
+        } => permit(alloc, tables, named(*ticket), named(*unit), *until),
+        Command::Revoke { ticket, unit } => {
+            revoke_permit(alloc, tables, today, named(*ticket), named(*unit))
+        }
     }
 }
 
@@ -122,8 +146,9 @@ fn reply_to<P: Places, S: Alter>(
     reply_of(alloc, done)
 }
 
-/// Carries out a command in a transaction of its own. The reply's bytes are made before the commit. A malformed name is
-/// refused before any statement.
+/// Carries out a command in a transaction of its own, which is committed if the command is accepted, and rolled back
+/// after a refusal or a fault. The reply's bytes are made before the commit. A malformed name is refused before any
+/// statement.
 pub(crate) fn apply_to<P: Places, S: Alter>(
     alloc: Global,
     closed: &mut Closed<P, S>,

@@ -38,7 +38,8 @@ fn confirm_open<S: Alter>(conn: &mut Connection<S>) -> Result<(), StoreFault>
     Ok(())
 }
 
-/// Judges what the tables are. If they are judged, the connection is still open.
+/// Judges what the tables are, in a transaction that is rolled back. If the call succeeds, the connection is still
+/// open.
 pub(crate) fn look_over<P: CheckedPlaces, S: Alter>(
     alloc: Global,
     conn: &mut Connection<S>,

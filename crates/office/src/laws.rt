@@ -30,9 +30,10 @@ pub use state_encoding::laws_of_offices::{
     states_are_represented, versions_differ_in_places,
 };
 
-/// Over any list of calls, even if some of them were busy, the office runs as the machine does. The calls that were not
-/// busy return the machine's replies, each with its JSON, and the machine's answers. The office is then in the
-/// machine's state.
+/// Over any list of calls, even if some of them were busy, the office runs as the machine does, as long as its store
+/// has returned what was written to it. The calls that were not busy return the machine's replies, each with its JSON,
+/// and the machine's answers. The office is then in the machine's state. If the last call was a command that was
+/// accepted, it is open.
 pub fn calls_are_the_machines_run<M: Machine>()
     ensures { (calls : List Call) (old new : M) → AreCalls M.represents M.is_intact M.is_open old new calls
         → IsMachinesRun M.represents M.is_intact M.is_open old new calls }

@@ -7,6 +7,7 @@ mod inspection;
 pub mod laws;
 mod machine;
 mod migration;
+mod named_numbers;
 mod names;
 mod new_office;
 mod office_row;

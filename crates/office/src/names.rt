@@ -11,8 +11,8 @@ use desk_core::is_name;
 use isad_core::Day;
 use office_core::{Command, Refusal};
 
-/// The first check of a command, if it depends on the command alone: the name of a source or of a reader must be
-/// well-formed.
+/// `BadName` if the command names the source of an import or a new reader, and that name is not well-formed; otherwise
+/// none. It is the first check of these commands, and depends on the command alone.
 pub(crate) fn refused_by_name(command: &Command) -> Option<Refusal>
     ensures { result ≡ name_check command.now }
 {
@@ -23,7 +23,8 @@ pub(crate) fn refused_by_name(command: &Command) -> Option<Refusal>
     }
 }
 
-/// The first check of a command, if it depends on the office's day: a new day must be later.
+/// `DayNotLater` if the command opens a day that is not later than `today`, the office's day; otherwise none. It is the
+/// first check of this command.
 pub(crate) fn refused_by_day(today: Day, command: &Command) -> Option<Refusal>
     ensures { result ≡ day_check today command.now }
 {
@@ -40,7 +41,8 @@ fn is_of_calendar(day: Day)
     let _ = day.number();
 }
 
-/// The days that a command names are days of the calendar, and the reader's name in it is UTF-8.
+/// Changes nothing. Its contract is a law: the days that a command names are days of the calendar, and the reader's
+/// name in it is UTF-8.
 pub(crate) fn names_days_and_texts(command: &Command)
     ensures days { NamesDays command.now }
     ensures texts { NamesTexts command.now }

@@ -25,8 +25,8 @@ fn make_tables<P: Places, S: Alter>(
     create::<P, S>(conn, row)
 }
 
-/// Makes a new office in one transaction. There must be no tables yet. A crash finds what was there before, or the
-/// complete office.
+/// Makes a new office in one transaction. There must be no tables yet. If it fails, nothing is changed. A crash finds
+/// what was there before, or the complete office.
 pub(crate) fn found<P: Places, S: Alter>(
     conn: &mut Connection<S>,
     row: &OfficeRow,

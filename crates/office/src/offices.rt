@@ -56,7 +56,8 @@ impl<P: Places, S: Alter> Model for Office<P, S> {
 
 impl<P: Places, S: Alter> Office<P, S> {
     /// Makes a new office in a store without tables. If there are tables already, the fault is `Schema`. On a fault the
-    /// connection is given back, with its tables unchanged.
+    /// connection is given back, with its tables unchanged. A crash finds what was there before, or the complete
+    /// office.
     pub fn create(
         conn: Connection<S>,
         settings: Settings,
@@ -165,8 +166,9 @@ impl<P: Places, S: Alter> Office<P, S> {
 }
 
 impl<P: CheckedPlaces, S: Alter> Office<P, S> {
-    /// Opens an office over tables of any origin, if they are a sound office's. Its connection is open. Otherwise the
-    /// connection is given back with the fault. The tables are unchanged in either case.
+    /// Opens an office over tables of any origin, if they are a sound office's; otherwise the connection is given back
+    /// with the fault. The tables are unchanged in either case. The office's connection is open. If the rows stand in
+    /// order, with ascending whole numbers, it is in the state that they describe, and that is sound.
     pub fn adopt(
         alloc: Global,
         conn: Connection<S>,

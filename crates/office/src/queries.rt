@@ -5,9 +5,11 @@ ghost use Rattle.sqlite.specs.Held.{state};
 ghost use Rattle.public_queries.specs.InformedAnswers.{RespondsKnowing};
 ghost use Rattle.office.specs.CallTransactions.{Asks};
 ghost use Rattle.office.specs.IdleOffice.{IsOffice};
+ghost use Rattle.office.specs.NamedNumbers.{asks_named};
 ghost use Rattle.refinement.specs.QueryAnswers.{Responds};
 ghost use Rattle.refinement.specs.Representation.{office_of};
 
+use crate::named_numbers::named;
 use crate::office_row::own_row;
 use catalogue_statements::OfficeRow;
 use catalogue_store::Places;
@@ -25,18 +27,18 @@ fn read<P: Places, S: Alter>(
     row: &OfficeRow,
     query: Query,
 ) -> Result<Answer, StoreFault>
-    ensures { RespondsKnowing P.represents P.version S.Store (λ s. row.now ≡ office_of s) query tables.old tables.new
-        result }
+    ensures { RespondsKnowing P.represents P.version S.Store (λ s. row.now ≡ office_of s) (asks_named query)
+        tables.old tables.new result }
 {
     match query {
         Query::Fonds => fonds(alloc, tables, row),
-        Query::Aid { unit } => aid(alloc, tables, row, unit),
-        Query::Page { unit } => page(alloc, tables, row, unit),
-        Query::ReaderOrders { ticket } => reader_orders(alloc, tables, row.day, ticket),
-        Query::Queue { container } => queue(alloc, tables, container),
-        Query::RunSlip { run } => run_slip(alloc, tables, run),
+        Query::Aid { unit } => aid(alloc, tables, row, named(unit)),
+        Query::Page { unit } => page(alloc, tables, row, named(unit)),
+        Query::ReaderOrders { ticket } => reader_orders(alloc, tables, row.day, named(ticket)),
+        Query::Queue { container } => queue(alloc, tables, named(container)),
+        Query::RunSlip { run } => run_slip(alloc, tables, named(run)),
         Query::IssuedNow => issued_now(alloc, tables),
-        Query::ReaderPermits { ticket } => reader_permits(alloc, tables, ticket),
+        Query::ReaderPermits { ticket } => reader_permits(alloc, tables, named(ticket)),
     }
 }
 

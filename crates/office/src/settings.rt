@@ -114,7 +114,8 @@ fn is_up_to(most: usize, number: usize) -> bool
 }
 
 impl Settings {
-    /// Makes settings, if all are within their limits. Otherwise the fault names the first that is not.
+    /// Makes settings, if all are within their limits. Otherwise the fault names the first that is not, in the order of
+    /// the parameters. `Memory` is returned only if all are within their limits.
     pub fn new(
         alloc: Global,
         country: &str,

@@ -35,7 +35,8 @@ fn keep_lent<P: Versioned, S: Alter>(closed: &mut Closed<P, S>) -> Result<(), St
     Ok(())
 }
 
-/// Ends the transaction: commits what an accepted command did, and rolls back after a refusal or a fault.
+/// Ends the transaction: commits what an accepted command did, and rolls back after a refusal or a fault. Returns the
+/// outcome; or, if the commit fails, its fault, and then all is rolled back.
 pub(crate) fn settle<P: Versioned, S: Alter>(
     closed: &mut Closed<P, S>,
     outcome: Result<Reply, StoreFault>,

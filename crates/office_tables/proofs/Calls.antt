@@ -12,62 +12,62 @@ use Rattle.office_tables.proofs.Common.{State, Survives, Trees, Update, command_
 use Rattle.office_tables.proofs.Common.{survives_then, survives_weaker}
 use Rattle.office_tables.proofs.Errors.{stops, fails, keeps}
 
-pub early : (old new : State) (P : Trees → Type 0) → Survives old new P → HasCleanDisk new → HasCleanDisk old
-early old new P s clean = omega (arith, s.clean)
+pub early : {old new : State} {P : Trees → Type 0} → Survives old new P → HasCleanDisk new → HasCleanDisk old
+early s clean = omega (arith, s.clean)
 
 both_open : (a b : State) → IsTrue a.is_open → IsTrue b.is_open → b.is_open ≡ a.is_open
 both_open a b p q = q ∙ sym p
 
 -- ---- one step after another
 
-on_then : (a b c : State) → GoesOn a b → GoesOn b c → GoesOn a c
-on_then a b c p q = record { opened = q.opened ∙ p.opened; committed = q.committed ∙ p.committed; mode = q.mode ∙ p.mode }
+on_then : {a b c : State} → GoesOn a b → GoesOn b c → GoesOn a c
+on_then p q = record { opened = q.opened ∙ p.opened; committed = q.committed ∙ p.committed; mode = q.mode ∙ p.mode }
 
-pub back_then : (a b c : State) → GoesOn a b → IsBack b c → IsBack a c
-back_then a b c p q = record { was_open = λ h. subst IsTrue p.opened (q.was_open h); now = λ h. q.now h ∙ p.committed; committed = λ h. q.committed h ∙ p.committed; ended = q.ended }
+pub back_then : {a b c : State} → GoesOn a b → IsBack b c → IsBack a c
+back_then p q = record { was_open = λ h. subst IsTrue p.opened (q.was_open h); now = λ h. q.now h ∙ p.committed; committed = λ h. q.committed h ∙ p.committed; ended = q.ended }
 
-cut_on : (a b c : State) → GoesOn a b → GoesOn b c ⊎ IsBack b c → GoesOn a c ⊎ IsBack a c
-cut_on a b c p (inl q) = inl (on_then a b c p q)
-cut_on a b c p (inr q) = inr (back_then a b c p q)
+cut_on : {a b c : State} → GoesOn a b → GoesOn b c ⊎ IsBack b c → GoesOn a c ⊎ IsBack a c
+cut_on p (inl q) = inl (on_then p q)
+cut_on p (inr q) = inr (back_then p q)
 
-crash_then : (a b c : State) → Survives a b (λ _. ⊥) → Survives b c (λ _. ⊥) → Survives a c (λ _. ⊥)
-crash_then a b c p q = survives_then a b c (λ _. ⊥) (λ _. ⊥) (λ _. ⊥) (λ _ db none. none) (λ _ db none. none) p q
+crash_then : {a b c : State} → Survives a b (λ _. ⊥) → Survives b c (λ _. ⊥) → Survives a c (λ _. ⊥)
+crash_then {a = a} {b = b} {c = c} p q = survives_then a b c (λ _. ⊥) (λ _. ⊥) (λ _. ⊥) (λ _ db none. none) (λ _ db none. none) p q
 
-pub continues_then : (a b c : State) → Continues a b → Continues b c → Continues a c
-continues_then a b c p q = record {
-  crash = crash_then a b c p.crash q.crash;
-  within = λ clean. on_then a b c (p.within (early b c _ q.crash clean)) (q.within clean);
+pub continues_then : {a b c : State} → Continues a b → Continues b c → Continues a c
+continues_then p q = record {
+  crash = crash_then p.crash q.crash;
+  within = λ clean. on_then (p.within (early q.crash clean)) (q.within clean);
 }
 
-pub goes_then : (a b c : State) → Goes a b → Goes b c → Goes a c
-goes_then a b c p q = record {
-  on = continues_then a b c p.on q.on;
-  schema = λ clean. q.schema clean ∙ p.schema (early b c _ q.on.crash clean);
+pub goes_then : {a b c : State} → Goes a b → Goes b c → Goes a c
+goes_then p q = record {
+  on = continues_then p.on q.on;
+  schema = λ clean. q.schema clean ∙ p.schema (early q.on.crash clean);
 }
 
-pub cut_then : (a b c : State) → Continues a b → IsAborted b c → IsAborted a c
-cut_then a b c p q = record {
-  crash = crash_then a b c p.crash q.crash;
-  aborts = λ clean. cut_on a b c (p.within (early b c _ q.crash clean)) (q.aborts clean);
+pub cut_then : {a b c : State} → Continues a b → IsAborted b c → IsAborted a c
+cut_then p q = record {
+  crash = crash_then p.crash q.crash;
+  aborts = λ clean. cut_on (p.within (early q.crash clean)) (q.aborts clean);
 }
 
 -- a step that succeeded, of a call that then fails
-pub cut_after : (a b : State) → Continues a b → IsAborted a b
-cut_after a b p = record { crash = p.crash; aborts = λ clean. inl (p.within clean) }
+pub cut_after : {a b : State} → Continues a b → IsAborted a b
+cut_after p = record { crash = p.crash; aborts = λ clean. inl (p.within clean) }
 
 pub still : (version : Version) (a b : State) → InTransaction version a → Goes a b → InTransaction version b
 still version a b inside p clean =
-    (p.schema clean ∙ (inside (early a b _ p.on.crash clean)).0, (p.on.within clean).mode ∙ (inside (early a b _ p.on.crash clean)).1)
+    (p.schema clean ∙ (inside (early p.on.crash clean)).0, (p.on.within clean).mode ∙ (inside (early p.on.crash clean)).1)
 
-pub looks_then : (a b c : State) → LeavesUnchanged a b → LeavesUnchanged b c → LeavesUnchanged a c
-looks_then a b c p q = record { goes = goes_then a b c p.goes q.goes; same = λ clean. q.same clean ∙ p.same (early b c _ q.goes.on.crash clean) }
+pub looks_then : {a b c : State} → LeavesUnchanged a b → LeavesUnchanged b c → LeavesUnchanged a c
+looks_then p q = record { goes = goes_then p.goes q.goes; same = λ clean. q.same clean ∙ p.same (early q.goes.on.crash clean) }
 
 -- no step at all
 stays : (a : State) → Survives a a (λ _. ⊥)
 stays a = record { clean = omega arith; shield = λ h. h; counts = omega arith; limit = refl; closes = λ clean is. inl is; crash = λ clean db h. inl h }
 
-pub goes_nowhere : (a : State) → Goes a a
-goes_nowhere a = record {
+pub goes_nowhere : {a : State} → Goes a a
+goes_nowhere {a = a} = record {
   on = record { crash = stays a; within = λ clean. record { opened = refl; committed = refl; mode = refl } };
   schema = λ clean. refl;
 }
@@ -142,36 +142,36 @@ module _ (sql : List ℕ) (params : Row) (old new : State) (command : Command) (
 
   pub write_crash : Survives old new (CommitsBy sql params old) → Survives old new (λ _. ⊥)
   write_crash s = survives_weaker old new (CommitsBy sql params old) (λ _. ⊥)
-      (λ clean db h. let it = known (early old new _ s clean) in never it.inside (alone command _ db writes (commits_as it db h))) s
+      (λ clean db h. let it = known (early s clean) in never it.inside (alone command _ db writes (commits_as it db h))) s
 
   pub write_cut : (e : Error) → (HasCleanDisk new → Executes sql params old new (Err e))
       → Survives old new (CommitsBy sql params old) → IsAborted old new
-  write_cut e runs s = record { crash = write_crash s; aborts = λ clean. stopped old new (known (early old new _ s clean)).inside (stops sql params old new e (runs clean)) }
+  write_cut e runs s = record { crash = write_crash s; aborts = λ clean. stopped old new (known (early s clean)).inside (stops sql params old new e (runs clean)) }
 
   pub write_continues : (HasCleanDisk new → Shows old new new.now (if old.in_transaction then old.committed else new.now) old.in_transaction)
       → Survives old new (CommitsBy sql params old) → Continues old new
   write_continues done s =
-      record { crash = write_crash s; within = λ clean. shown_on old new (known (early old new _ s clean)).inside (done clean) }
+      record { crash = write_crash s; within = λ clean. shown_on old new (known (early s clean)).inside (done clean) }
 
 -- ---- queries
 
 module _ (sql : List ℕ) (params : Row) (old new : State) (command : Command) (known : HasCleanDisk old → Knows sql command old) where
   read_crash : Survives old new (CommitsShowing sql params old) → Survives old new (λ _. ⊥)
-  read_crash s = survives_weaker old new _ _ (λ clean db h. never_commits sql params old db (known (early old new _ s clean)).plain h) s
+  read_crash s = survives_weaker old new _ _ (λ clean db h. never_commits sql params old db (known (early s clean)).plain h) s
 
   pub read_cut : (e : Error) → (HasCleanDisk new → FailsToQuery sql params old new e)
       → Survives old new (CommitsShowing sql params old) → IsAborted old new
-  read_cut e runs s = record { crash = read_crash s; aborts = λ clean. stopped old new (known (early old new _ s clean)).inside (fails sql params old new e (runs clean)) }
+  read_cut e runs s = record { crash = read_crash s; aborts = λ clean. stopped old new (known (early s clean)).inside (fails sql params old new e (runs clean)) }
 
   pub read_looks : (rows : List Row) → (HasCleanDisk new → Shown sql params old new rows)
       → Survives old new (CommitsShowing sql params old) → LeavesUnchanged old new
   read_looks rows shown s =
-      let same = λ (clean : HasCleanDisk new). keeps sql params old new rows (known (early old new _ s clean)).plain (shown clean) in
+      let same = λ (clean : HasCleanDisk new). keeps sql params old new rows (known (early s clean)).plain (shown clean) in
       record {
         goes = record {
           on = record {
             crash = read_crash s;
-            within = λ clean. unchanged_on old new (known (early old new _ s clean)).inside (same clean);
+            within = λ clean. unchanged_on old new (known (early s clean)).inside (same clean);
           };
           schema = λ clean. ap (λ d. d.schema) (same clean).0.now_is;
         };
@@ -206,11 +206,11 @@ on_ok_from (Err e) P p = tt
 -- what was read cannot be taken over
 pub cut_looks : {X E : Type 0} (r : Result X E) (a b : State) → LeavesUnchanged a b → OnErr r (IsAborted a b)
 cut_looks (Ok x) a b p = tt
-cut_looks (Err e) a b p = cut_after a b p.goes.on
+cut_looks (Err e) a b p = cut_after p.goes.on
 
 pub on_ok_both : {X E : Type 0} (r : Result X E) (P Q R : Type 0) → (P → Q → R) → OnOk r P → OnOk r Q → OnOk r R
 on_ok_both (Ok x) P Q R f p q = f p q
 on_ok_both (Err e) P Q R f p q = tt
 
-pub looks_nowhere : (a : State) → LeavesUnchanged a a
-looks_nowhere a = record { goes = goes_nowhere a; same = λ clean. refl }
+pub looks_nowhere : {a : State} → LeavesUnchanged a a
+looks_nowhere {a = a} = record { goes = goes_nowhere; same = λ clean. refl }

@@ -77,7 +77,7 @@ our_plain sql old ours clean = let it = ours.here clean in subst (λ s. IsPlain 
 
 module _ (sql : List ℕ) (old new : State) (ours : IsOurQuery sql old) (crash : Survives old new (λ _. ⊥)) where
   inside : HasCleanDisk new → IsTrue old.in_transaction
-  inside clean = (ours.here (early old new _ crash clean)).2
+  inside clean = (ours.here (early crash clean)).2
 
   looked : (HasCleanDisk new → IsUnchanged old new) → LeavesUnchanged old new
   looked same = record {
@@ -98,14 +98,14 @@ module _ (sql : List ℕ) (old new : State) (ours : IsOurQuery sql old) (crash :
   short_spares : (e : StoreFault) → HasCleanDisk new → StopsShort sql [] old new e → Spares IsSame old new e
   short_spares e clean (inl h) = subst (Spares IsSame old new) (sym h.0) (record { disk = tt; rows = inl h.1.0.now_is })
   short_spares e clean (inr h) =
-      subst (Spares IsSame old new) (sym h.1) (query_spares sql [] old new (our_plain sql old ours (early old new _ crash clean)) h.0 h.2)
+      subst (Spares IsSame old new) (sym h.1) (query_spares sql [] old new (our_plain sql old ours (early crash clean)) h.0 h.2)
 
   pub gathered_reads : {G : Type 0} (Holds : List Row → G → Type 0) (r : Result G StoreFault)
       → (HasCleanDisk new → IfOk r (Gathers Holds sql [] old new))
       → (HasCleanDisk new → IfErr r (StopsShort sql [] old new)) → Reads old new r
   gathered_reads Holds (Ok all) gathers stops = record {
     crash = crash;
-    looks = looked (λ clean. keeps sql [] old new (gathers clean).rows (our_plain sql old ours (early old new _ crash clean)) (gathers clean).shown);
+    looks = looked (λ clean. keeps sql [] old new (gathers clean).rows (our_plain sql old ours (early crash clean)) (gathers clean).shown);
     aborts = tt;
     spares = λ clean. tt;
   }

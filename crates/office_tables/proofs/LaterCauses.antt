@@ -9,9 +9,9 @@ use Rattle.office_tables.proofs.Causes.{cause_then}
 pub last_cause : {X : Type 0} (a b c : State) → Continues a b → (r : Result X StoreFault) → OnErr r (IsAborted b c)
     → HasCleanDisk c → (HasCleanDisk b → IfErr r (HasCause b c)) → IfErr r (HasCause a c)
 last_cause a b c p (Ok x) cut clean h = tt
-last_cause a b c p (Err e) cut clean h = let before = early b c _ cut.crash clean in cause_then a b c p before e (h before)
+last_cause a b c p (Err e) cut clean h = let before = early cut.crash clean in cause_then a b c p before e (h before)
 
 -- the fault of a step after which the call ends
 pub next_cause : (a b c : State) → Continues a b → IsAborted b c → HasCleanDisk c → (e : StoreFault)
     → (HasCleanDisk b → HasCause b c e) → HasCause a c e
-next_cause a b c p cut clean e h = let before = early b c _ cut.crash clean in cause_then a b c p before e (h before)
+next_cause a b c p cut clean e h = let before = early cut.crash clean in cause_then a b c p before e (h before)

@@ -15,7 +15,7 @@ use Rattle.office_tables.proofs.Sparing.{looked_spares, spares_full, spares_know
 
 -- a call that reads in two steps
 reads_last : {X : Type 0} (a b c : State) (r : Result X StoreFault) → LeavesUnchanged a b → Reads b c r → Reads a c r
-reads_last a b c (Ok x) looked last = read_well a c (looks_then a b c looked last.looks)
+reads_last a b c (Ok x) looked last = read_well a c (looks_then looked last.looks)
 reads_last a b c (Err e) looked last = read_cut a b c (Err e) e refl looked last.aborts last.spares
 
 -- this fault is handed on
@@ -25,7 +25,7 @@ Hands r e = IsErr r × IsErrAnd r (λ f. f ≡ e)
 -- what holds of the fault that is handed on
 pub if_handed : {X : Type 0} (r : Result X StoreFault) (e : StoreFault) (P : StoreFault → Type 0) → Hands r e → P e
     → IfErr r P
-if_handed r e P handed so = subst (λ (q : Result _ StoreFault). IfErr q P) (sym (same_fault r e handed.0 handed.1)) so
+if_handed r e P handed so = subst (λ (q : Result _ StoreFault). IfErr q P) (sym (same_fault handed)) so
 
 module _ {S X M : Type 0} {g : store.Ghosts S} {holds : State → M → Type 0} {before after : Held S} {orderly kept : M → Type 0} {answer : M → X → Type 0} where
   -- all its steps went well
@@ -40,7 +40,7 @@ module _ {S X M : Type 0} {g : store.Ghosts S} {holds : State → M → Type 0} 
       → ((m : M) → holds (state g before) m → kept m → HasCleanDisk (state g after) → IsUnlimited (state g before) → HasCause (state g before) (state g after) e)
       → LooksUp g holds before after r orderly kept answer
   looks_not {r} e handed cut spares why =
-      let is : r ≡ Err e = same_fault r e handed.0 handed.1 in
+      let is : r ≡ Err e = same_fault handed in
       record {
         reads = read_not (state g before) (state g after) r e is cut spares;
         answers = λ clean m held up. subst (λ (q : Result X StoreFault). IfOk q (answer m)) (sym is) tt;
@@ -54,14 +54,14 @@ module _ {S X M : Type 0} {g : store.Ghosts S} {holds : State → M → Type 0} 
       → (HasCleanDisk b → (m : M) → holds (state g before) m → kept m → HasCleanDisk (state g after) → IsUnlimited b → HasCause b (state g after) e)
       → LooksUp g holds before after r orderly kept answer
   looks_cut {r} {b} e handed looked cut spares why =
-      looks_not e handed (cut_then (state g before) b (state g after) looked.goes.on cut) (λ clean. looked_spares (state g before) b (state g after) looked (early b (state g after) _ cut.crash clean) e (spares clean))
+      looks_not e handed (cut_then looked.goes.on cut) (λ clean. looked_spares looked (early cut.crash clean) e (spares clean))
       (λ m held k clean free. next_cause (state g before) b (state g after) looked.goes.on cut clean e (λ clean_b. why clean_b m held k clean (still_unlimited (state g before) b looked.goes.on free)))
 
   -- memory runs out after steps that went well
   pub looks_full : {r : Result X StoreFault} → Hands r fault.Memory → LeavesUnchanged (state g before) (state g after)
       → LooksUp g holds before after r orderly kept answer
   looks_full handed looked =
-      looks_not fault.Memory handed (cut_after (state g before) (state g after) looked.goes.on) (spares_full (state g before) (state g after) looked) (λ m held k clean free. tt)
+      looks_not fault.Memory handed (cut_after looked.goes.on) (spares_full looked) (λ m held k clean free. tt)
 
   -- the tables are not ours, which cannot be if they hold what is kept
   pub looks_known : {r : Result X StoreFault} (e : StoreFault) → Hands r e → e ≡ fault.Schema
@@ -69,7 +69,7 @@ module _ {S X M : Type 0} {g : store.Ghosts S} {holds : State → M → Type 0} 
       → (HasCleanDisk (state g after) → (m : M) → holds (state g before) m → kept m → ⊥)
       → LooksUp g holds before after r orderly kept answer
   looks_known e handed is looked never =
-      looks_not e handed (cut_after (state g before) (state g after) looked.goes.on) (λ clean. subst (Spares IsSame (state g before) (state g after)) (sym is) (spares_known (state g before) (state g after) looked clean))
+      looks_not e handed (cut_after looked.goes.on) (λ clean. subst (Spares IsSame (state g before) (state g after)) (sym is) (spares_known looked clean))
       (λ m held k clean free. absurd (never clean m held k))
 
   -- it finds that the tables are not ours, and says so
@@ -103,6 +103,6 @@ module _ {S X M : Type 0} {g : store.Ghosts S} {holds : State → M → Type 0} 
       → LooksUp g holds before after r orderly kept answer
   looks_last {r} {b} looked last told why = record {
     reads = reads_last (state g before) b (state g after) r looked last;
-    answers = λ clean m held up. if_ok_by r (LeavesUnchanged b (state g after)) (answer m) (λ went. told (early b (state g after) _ went.goes.on.crash clean) clean m held up) last.looks;
-    faults = λ m held k. excused_then (state g before) b (state g after) looked.goes.on r last.aborts (λ clean. why clean m held k);
+    answers = λ clean m held up. if_ok_by r (LeavesUnchanged b (state g after)) (answer m) (λ went. told (early went.goes.on.crash clean) clean m held up) last.looks;
+    faults = λ m held k. excused_then _ looked.goes.on r last.aborts (λ clean. why clean m held k);
   }

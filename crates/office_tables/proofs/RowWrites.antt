@@ -55,7 +55,7 @@ module _ (sql : List ℕ) (params : Row) (old new : State) (ours : IsOurs sql ol
 
   pub went_well : (count : ℕ) → (HasCleanDisk new → Executes sql params old new (Ok count)) → Goes old new
   went_well count runs =
-      let wrote = λ (clean : HasCleanDisk new). let it = ours.here (early old new _ survives clean) in
+      let wrote = λ (clean : HasCleanDisk new). let it = ours.here (early survives clean) in
       as_write old new ours.command (statement_of sql (understood (schema it.0) sql)) params count ours.changes (runs_as sql params old new (schema it.0) it.1 ours.command it.3.is it.3.plain count (runs clean)) in
       record {
         on = write_continues sql params old new ours.command (is_one ours.command ours.changes) known (λ clean. (wrote clean).shown) survives;
@@ -67,7 +67,7 @@ module _ (sql : List ℕ) (params : Row) (old new : State) (ours : IsOurs sql ol
 
   pub blames : (e : Error) → (HasCleanDisk new → Executes sql params old new (Err e)) → HasCleanDisk new
       → BlamesDisk old new (fault_of e)
-  blames e runs clean = write_disk sql params old new ours.command (is_one ours.command ours.changes) (known (early old new _ survives clean)) e (runs clean)
+  blames e runs clean = write_disk sql params old new ours.command (is_one ours.command ours.changes) (known (early survives clean)) e (runs clean)
 
   pub statement_spares : (e : Error) → (HasCleanDisk new → Executes sql params old new (Err e)) → HasCleanDisk new
       → Spares IsSame old new (fault_of e)

@@ -71,12 +71,12 @@ spares_then {L} {M} a b c on clean e turn it =
   where
     turned : L b.now c.now ⊎ IsBack b c → M a.now c.now ⊎ IsBack a c
     turned (inl left) = inl (turn left)
-    turned (inr back) = inr (back_then a b c (on.within clean) back)
+    turned (inr back) = inr (back_then (on.within clean) back)
 
 -- after a look
-pub looked_spares : {L : Database → Database → Type 0} (a b c : State) → LeavesUnchanged a b → HasCleanDisk b
+pub looked_spares : {L : Database → Database → Type 0} {a b c : State} → LeavesUnchanged a b → HasCleanDisk b
     → (e : StoreFault) → Spares L b c e → Spares L a c e
-looked_spares {L} a b c looked clean e =
+looked_spares {L = L} {a = a} {b = b} {c = c} looked clean e =
     spares_then a b c looked.goes.on clean e (subst (λ (db : Database). L db c.now) (looked.same clean))
 
 -- rows that are as they were are touched nowhere
@@ -97,15 +97,15 @@ touched_spares touched a b c on clean only e =
 -- ---- what the function itself found wrong
 
 -- after a look, by a fault that is not the disk's
-pub spares_own : (a b : State) → LeavesUnchanged a b → HasCleanDisk b → (e : StoreFault) → e ≢ fault.Disk
+pub spares_own : {a b : State} → LeavesUnchanged a b → HasCleanDisk b → (e : StoreFault) → e ≢ fault.Disk
     → Spares IsSame a b e
-spares_own a b looked clean e other = record { disk = own_fault a b e other; rows = inl (looked.same clean) }
+spares_own {a = a} {b = b} looked clean e other = record { disk = own_fault a b e other; rows = inl (looked.same clean) }
 
-pub spares_full : (a b : State) → LeavesUnchanged a b → HasCleanDisk b → Spares IsSame a b fault.Memory
-spares_full a b looked clean = record { disk = tt; rows = inl (looked.same clean) }
+pub spares_full : {a b : State} → LeavesUnchanged a b → HasCleanDisk b → Spares IsSame a b fault.Memory
+spares_full looked clean = record { disk = tt; rows = inl (looked.same clean) }
 
-pub spares_known : (a b : State) → LeavesUnchanged a b → HasCleanDisk b → Spares IsSame a b fault.Schema
-spares_known a b looked clean = record { disk = tt; rows = inl (looked.same clean) }
+pub spares_known : {a b : State} → LeavesUnchanged a b → HasCleanDisk b → Spares IsSame a b fault.Schema
+spares_known {a = a} {b = b} looked clean = record { disk = tt; rows = inl (looked.same clean) }
 
 -- ---- the last call of a function, whose result is the function's
 
@@ -118,7 +118,7 @@ if_err_then (Err e) P Q f p = f e p
 pub last_spares : {X : Type 0} (a b c : State) → LeavesUnchanged a b → (r : Result X StoreFault)
     → OnErr r (IsAborted b c) → HasCleanDisk c → IfErr r (Spares IsSame b c) → IfErr r (Spares IsSame a c)
 last_spares a b c looked (Ok x) cut clean h = tt
-last_spares a b c looked (Err e) cut clean h = looked_spares a b c looked (early b c _ cut.crash clean) e h
+last_spares a b c looked (Err e) cut clean h = looked_spares looked (early cut.crash clean) e h
 
 -- it wrote, and its last step writes
 pub last_touched : {X : Type 0} (touched : List ℕ) (a b c : State) → Continues a b
@@ -126,7 +126,7 @@ pub last_touched : {X : Type 0} (touched : List ℕ) (a b c : State) → Continu
     → HasCleanDisk c → IfErr r (Spares (OnlyTouches touched) b c)
     → IfErr r (Spares (OnlyTouches touched) a c)
 last_touched touched a b c on only (Ok x) cut clean h = tt
-last_touched touched a b c on only (Err e) cut clean h = let before = early b c _ cut.crash clean in touched_spares touched a b c on before (only before) e h
+last_touched touched a b c on only (Err e) cut clean h = let before = early cut.crash clean in touched_spares touched a b c on before (only before) e h
 
 pub untouched_last : {X : Type 0} (touched : List ℕ) (a b : State) (r : Result X StoreFault)
     → IfErr r (Spares IsSame a b) → IfErr r (Spares (OnlyTouches touched) a b)
@@ -137,14 +137,7 @@ untouched_last touched a b (Err e) h = untouched touched a b e h
 pub own_last : {X : Type 0} (a b : State) → LeavesUnchanged a b → (r : Result X StoreFault)
     → IfErr r (λ e. e ≢ fault.Disk) → HasCleanDisk b → IfErr r (Spares IsSame a b)
 own_last a b looked (Ok x) other clean = tt
-own_last a b looked (Err e) other clean = spares_own a b looked clean e other
-
--- only a look came before its last step, which writes
-pub last_looked : {X : Type 0} (touched : List ℕ) (a b c : State) → LeavesUnchanged a b → (r : Result X StoreFault)
-    → OnErr r (IsAborted b c) → HasCleanDisk c → IfErr r (Spares (OnlyTouches touched) b c)
-    → IfErr r (Spares (OnlyTouches touched) a c)
-last_looked touched a b c looked r cut clean h =
-    last_touched touched a b c looked.goes.on (λ before. same_untouched touched a.now b.now (looked.same before)) r cut clean h
+own_last a b looked (Err e) other clean = spares_own looked clean e other
 
 -- tables that are named, and more of them
 pub wider_spares : (few many : List ℕ) (a b : State) (e : StoreFault)

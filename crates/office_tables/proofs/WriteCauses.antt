@@ -268,4 +268,4 @@ disk_then a b c p clean fault.Schema h = tt
 pub last_disk : {X : Type 0} (a b c : State) → Continues a b → (r : Result X StoreFault) → OnErr r (IsAborted b c)
     → HasCleanDisk c → IfErr r (BlamesDisk b c) → IfErr r (BlamesDisk a c)
 last_disk a b c p (Ok x) cut clean h = tt
-last_disk a b c p (Err e) cut clean h = disk_then a b c p (early b c _ cut.crash clean) e h
+last_disk a b c p (Err e) cut clean h = disk_then a b c p (early cut.crash clean) e h

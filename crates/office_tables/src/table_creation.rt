@@ -88,7 +88,8 @@ pub fn create_units<S: Alter>(conn: &mut Connection<S>) -> Result<(), StoreFault
     )
 }
 
-/// Makes the tables of the containers and of the units in them.
+/// Makes the tables of the containers and of the units in them. Those of the desk and of the units must be there, since they
+/// are made in the order of `catalogue_schema`.
 pub fn create_containers<S: Alter>(conn: &mut Connection<S>) -> Result<(), StoreFault>
     ensures made { (start : Database) → IsMaking desk_tables unit_schema start (state S.Store conn.old)
         → OnOk result (Continues (state S.Store conn.old) (state S.Store conn.new)

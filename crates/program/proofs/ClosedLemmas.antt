@@ -55,7 +55,7 @@ pub as_found : {D : Type 0} {g : Ghosts D} (image : Image) (found last : Held (F
     → HasLeft last files → AreAsFound g image files
 as_found {D} {g} image found last files stays opens finds survives same left = λ honest.
     let clean = left.clean honest in
-    let clean_found = early (file_state found) (file_state last) _ survives clean in
+    let clean_found = early survives clean in
     let opened = opens clean_found in
     let held : Hold g files (file_state found).now.trees = elim (cases_Bool (file_state last).is_open) [
       | inl is_open ↦ subst (λ (db : Database). Hold g files db.trees) (same clean is_open) (left.hold honest is_open)

@@ -70,7 +70,7 @@ module _ {S : Type 0} (g : trees.Ghosts S) (keeps : KeepsCommits g) (a b : Held 
     stepped s (Err why) clean opened takes it asked found = λ shut db may. elim (crash.crash clean db may) [
       | inl before ↦
           let same = refused_same s command (subst IsErr takes.0 refl) in
-          subst (λ t. AreTablesAfter (IsAmong asked) t db) (sym same) (found_before (early (state g a) (state g b) _ crash clean) s it asked found db before)
+          subst (λ t. AreTablesAfter (IsAmong asked) t db) (sym same) (found_before (early crash clean) s it asked found db before)
       | inr more ↦ inl (more s it.0 it.1)
     ]
 
@@ -88,7 +88,7 @@ module _ {S : Type 0} (g : trees.Ghosts S) (keeps : KeepsCommits g) (a b : Held 
     busy_found (Ok reply) = tt
     busy_found (Err e) = λ clean s it asked found shut db may. elim (crash.crash clean db may) [
       | inl before ↦
-          more_so (IsAmong asked) (IsAmong (command ∷ asked)) (λ one among. inr among) s db (found_before (early (state g a) (state g b) _ crash clean) s it asked found db before)
+          more_so (IsAmong asked) (IsAmong (command ∷ asked)) (λ one among. inr among) s db (found_before (early crash clean) s it asked found db before)
       | inr more ↦ inr (command, inl refl, more s it.0 it.1)
     ]
 
@@ -96,6 +96,6 @@ module _ {S : Type 0} (g : trees.Ghosts S) (keeps : KeepsCommits g) (a b : Held 
   pub question_found : Survives (state g a) (state g b) (λ _. ⊥) → HasCleanDisk (state g b) → (s : State) → shown a s
       → (asked : List Command) → IsRecovered g a asked s → IsRecovered g b asked s
   question_found crash clean s it asked found = λ shut db may. elim (crash.crash clean db may) [
-    | inl before ↦ found_before (early (state g a) (state g b) _ crash clean) s it asked found db before
+    | inl before ↦ found_before (early crash clean) s it asked found db before
     | inr none ↦ absurd none
   ]

@@ -16,7 +16,7 @@ module _ {D : Type 0} (g : Ghosts D) (image : Image) where
   pub taken_in : WhatWasTakenInIsHeld g image
   taken_in source done files it honest s holds sound =
       let clean = it.closed.clean honest in
-      let before = early (file_state it.office) (file_state it.after) _ it.crash clean in
+      let before = early it.crash clean in
       let opened = it.kept clean refl in
       let after = (it.step clean s sound ((it.opened before).left s holds)).1 in
       held_so g image it.after files _ it.closed honest (after opened) opened
@@ -58,5 +58,5 @@ module _ {D : Type 0} (g : Ghosts D) (image : Image) where
   pub brought_over : WhatWasBroughtOverIsHeld g image
   brought_over files it honest =
       let clean = it.closed.clean honest in
-      let before = early (file_state it.found) (file_state it.after) _ it.crash clean in
+      let before = early it.crash clean in
       held_so g image it.after files _ it.closed honest ((it.same clean).represents (it.is_store before).1) (it.kept clean)

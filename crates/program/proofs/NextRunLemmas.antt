@@ -81,13 +81,13 @@ module _ {D : Type 0} (g : Ghosts D) (image : Image) where
       → (more : List Command) × (t : State) × RunBrings s run more t × (t ≡ state_after s more) × IsAfter next t []
   goes files next s was (TakesIn source reply it) copied found =
       let clean = copied.was_clean in
-      let before = early (file_state it.office) (file_state it.after) _ it.crash clean in
+      let before = early it.crash clean in
       let asked = Import source it.file in
       let took = it.step clean s was.sound (finds image _ s (it.opened before) was) in
       (asked ∷ [], (step s asked).0, (refl, (took.0, refl)), refl, holds_next it.after files next it.closed copied found _ (took.1 copied.was_open) (always_sound_office s (asked ∷ []) (tt, tt) (tt, tt) was.sound))
   goes files next s was (IsBusy source fault it) copied found =
       let clean = copied.was_clean in
-      let before = early (file_state it.office) (file_state it.after) _ it.crash clean in
+      let before = early it.crash clean in
       let same = it.same clean in
       let there = finds image _ s (it.opened before) was (same.was_open copied.was_open) in
       ([], s, (refl, refl), refl, holds_next it.after files next it.closed copied found s (subst (λ (db : Database). RepresentsState RepresentsSpanRows Second db s) (sym (same.now copied.was_open)) there) was.sound)
@@ -105,11 +105,11 @@ module _ {D : Type 0} (g : Ghosts D) (image : Image) where
       (commands, t, bring, leaves, holds_next it.after files next it.closed copied found t (kept.1 copied.was_open) kept.0)
   goes files next s was (Judges judged it) copied found =
       let clean = copied.was_clean in
-      let before = early (file_state it.found) (file_state it.after) _ it.crash clean in
+      let before = early it.crash clean in
       ([], s, (refl, refl), refl, stays_next it.after files next it.left copied found image s (file_state it.found).now (it.is_store before).0 (it.same clean copied.was_open) was)
   goes files next s was (FailsToMigrate fault it) copied found =
       let clean = copied.was_clean in
-      let before = early (file_state it.found) (file_state it.after) _ it.crash clean in
+      let before = early it.crash clean in
       ([], s, (refl, refl), refl, stays_next it.after files next it.closed copied found image s (file_state it.found).now (it.is_store before).0 ((it.back clean).now copied.was_open) was)
 
   pub goes_on : RunGoesOn g image
@@ -127,7 +127,7 @@ module _ {D : Type 0} (g : Ghosts D) (image : Image) where
 
   pub as_brought_over : BeginsAsBroughtOver g image
   as_brought_over files it copied next found =
-      let before = early (file_state it.found) (file_state it.after) _ it.crash copied.was_clean in
+      let before = early it.crash copied.was_clean in
       let ordered = (it.is_store before).1 in
       let same = it.same copied.was_clean in
       holds_next it.after files next it.closed copied found _ (same.represents ordered) (same.sound ordered)

@@ -48,7 +48,8 @@ pub enum Fault {
 }
 
 impl Fault {
-    /// The exit status.
+    /// The exit status: 1 for a refusal and for a check that found no sound office, 2 for a command line that is not
+    /// valid, 3 for all else.
     pub fn status(&self) -> u8
         ensures { result ≡ exit_status self.now }
     {

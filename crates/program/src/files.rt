@@ -191,7 +191,9 @@ pub type ClosedFiles<S> = Files<FileFrom<S>>;
 /// What became of the store of a command that was given `S`.
 pub type Outcome<S> = StoreOutcome<S, FileFrom<S>>;
 
-/// Closes the file. What was committed is in the file, or in its log if it could not be copied: nothing is lost.
+/// Closes the file and its log. No transaction may be open. If the connection was open, they hold what was committed:
+/// the file does, or its log if it could not be copied. If a failure of the disk had shut the connection, they hold
+/// what a crash might have left.
 pub fn close<S: Start>(conn: Connection<FileStoreFrom<S>>) -> ClosedFiles<S>
     ensures { (HasCleanDisk (file_state conn) → (file_state conn).in_transaction ≡ false) → HasLeft conn result }
 {

@@ -20,8 +20,8 @@ use sqlite::Alter;
 use std::alloc::Global;
 use std::io::Write;
 
-/// Imports a file into the office with one command, which is one step of the machine. If the office is busy, its tables
-/// are unchanged.
+/// Imports a file into the office with one command, which is one step of the machine. A refusal is a reply. If the
+/// office is busy, that is the fault, and its tables are unchanged.
 pub fn take_in<P: Places, S: Alter>(
     alloc: Global,
     office: &mut Office<P, S>,
@@ -51,7 +51,8 @@ pub fn take_in<P: Places, S: Alter>(
     Ok(office.apply(alloc, &import)?)
 }
 
-/// Prints what was done, or returns the refusal as a fault.
+/// Prints the JSON of an accepted reply as a line. A refusal is not printed, but returned as a fault with its line.
+/// `reply.json` must be the JSON of `reply.done`.
 pub fn tell_reply<W: Write>(alloc: Global, reply: Reply, out: &mut Sink<'_, W>) -> Result<(), Fault>
     requires { reply.json ≡ reply_text reply.done }
     ensures done { OnOk result (ReplyPrinted reply.done out.old out.new) }

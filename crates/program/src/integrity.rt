@@ -24,7 +24,8 @@ use sqlite_disk::Disk;
 use std::alloc::Global;
 use std::io::Write;
 
-/// Returns why no office of this version can be opened on the store, or none if one can. The store is unchanged.
+/// Returns why no office of version 2 can be opened on the store, or none if its tables are a sound office's. They are
+/// unchanged. The connection is given back, with no transaction open.
 pub fn judge<S: Alter>(alloc: Global, conn: Connection<S>) -> (Option<OpenFault>, Connection<S>)
     requires outside { HasCleanDisk (state S.Store conn) → (state S.Store conn).in_transaction ≡ false }
     requires unlimited { IsUnlimited (state S.Store conn) }
@@ -43,7 +44,8 @@ pub fn judge<S: Alter>(alloc: Global, conn: Connection<S>) -> (Option<OpenFault>
     }
 }
 
-/// Judges the tables in a file in the same way, and closes the file as it was found.
+/// Opens the store in a file, and closes it as it was found. Returns why no office of version 2 can be opened on its
+/// tables, or none if they are a sound office's, with the closed files.
 pub fn judge_file<S: Start>(
     rt: &HostRuntime,
     alloc: Global,
@@ -58,8 +60,8 @@ pub fn judge_file<S: Start>(
     Ok((judged, close(conn)))
 }
 
-/// Prints the verdict `sound`, `old version` or `not sound`, and fails unless it is `sound`. Any other fault of an
-/// opening is returned, and nothing is printed.
+/// Prints the verdict `sound`, `old version` or `not sound`, the last with its cause, and fails with `NotSound` unless
+/// it is `sound`. Any other fault of an opening is returned, and nothing is printed.
 pub fn tell_judgment<W: Write>(
     alloc: Global,
     judged: Option<OpenFault>,

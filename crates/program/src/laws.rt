@@ -20,19 +20,22 @@ pub fn a_file_opens_in_the_state_that_was_left()
     ensures { (image : Image) (s : State) (found : Database) → IsInTheStateThatWasLeft image s found }
 {}
 
-/// After any sessions and calls, a new office in the engine's store in memory is in the machine's state after the
-/// commands among them, and the rules are kept at each point.
+/// After any sessions, and calls that name days of the calendar, a new office in the engine's store in memory is in the
+/// machine's state after the commands among them, and the rules are kept at each point. Such a store is never shut.
 pub fn the_headline_in_memory()
     ensures { TheHeadlineInMemory }
 {}
 
-/// The same for the new office of a trial, unless a write that found no memory has shut it.
+/// After any sessions and calls, the new office of a trial is in the machine's state after the commands among them,
+/// unless a failed write has shut it, and the rules are kept at each point. After a command that was accepted as the
+/// last message or call, it is not shut.
 pub fn the_headline_of_a_trial()
     ensures { TheHeadlineOfATrial ⟦<MemoryDisk as Disk>⟧ }
 {}
 
-/// The same for an office that a file held. When it is closed, the file holds it in that state, at least if the last
-/// message or call was a command that was accepted.
+/// Any sessions and calls with an office that a file held bring the machine from the office's state to another by the
+/// commands among them, and the rules are kept at each point. When the office is closed, the file holds it in that
+/// state, if the last message or call was a command that was accepted, or if no failure of the disk had shut it.
 pub fn the_headline_in_a_file<S: Start>()
     ensures { TheHeadlineInAFile ⟦<FileFrom<S> as Disk>⟧ (image_at S.Start) }
 {}

@@ -18,7 +18,8 @@ use std::io::{Read, Write};
 
 /// Performs one command with these streams as standard input, output and error. Only `serve` uses the port. Returns the
 /// exit status, and what became of the store: its file and its log are closed. The two may have held anything before:
-/// `S` gives their content.
+/// `S` gives their content. The status is 0 if the command was done; otherwise it is that of the fault, whose message
+/// is written on standard error.
 pub fn perform<S: Start, R: Read, W: Write, E: Write, P: Port>(
     rt: &HostRuntime,
     alloc: Global,

@@ -52,7 +52,8 @@ fn refused_file(alloc: Global, fault: FileFault) -> Fault
     }
 }
 
-/// Prints the finding aids of a file, or of standard input if there is no path.
+/// Prints the finding aids of a file, or of standard input if there is no path. If it cannot be read or is refused,
+/// nothing is printed; a refusal is a fault with its line.
 pub fn print_preview<F: Files, R: Read, W: Write>(
     rt: &F,
     alloc: Global,

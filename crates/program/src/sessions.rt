@@ -27,7 +27,8 @@ fn after(ended: Ended) -> Result<(), Fault>
     }
 }
 
-/// Answers the requests of one session on an office.
+/// Answers the requests of one session on an office. If the session breaks off, that is the fault. It does not if its
+/// input ends between messages, or if it is closed after an answer.
 pub fn talk_with<M: Machine, R: Read, W: Write>(
     alloc: Global,
     office: &mut M,
@@ -47,7 +48,8 @@ pub fn talk_with<M: Machine, R: Read, W: Write>(
     after(talk(alloc, reader, out, office))
 }
 
-/// Answers the requests of one session on a new office in memory.
+/// Answers the requests of one session on a new office in memory, which is then discarded. If the session breaks off,
+/// that is the fault. If there is no memory for an office, nothing is read or written.
 pub fn try_office<R: Read, W: Write>(
     alloc: Global,
     settings: Settings,

@@ -72,8 +72,8 @@ pub fn make_office<S: Start>(
     }
 }
 
-/// Opens the office that the tables in a file represent. If that fails, a file that was opened is closed as it was
-/// found.
+/// Opens the sound office of version 2 in the file at the path `store`, whose content `S` gives. The fault is `File` if
+/// nothing is found there, `Memory`, or else `Store`. If it fails, a file that was opened is closed as it was found.
 pub fn open_office<S: Start>(
     rt: &HostRuntime,
     alloc: Global,
@@ -102,7 +102,7 @@ pub fn close_office<S: Start>(office: KeptOffice<S>) -> ClosedFiles<S>
     close(office.into_connection())
 }
 
-/// Makes a new office for a trial. A failure of its disk is want of memory, too.
+/// Makes a new office in memory, for a trial. Every failure, also of its disk, is want of memory.
 pub fn make_trial_office(alloc: Global, settings: Settings) -> Result<TrialOffice, AllocError>
     ensures sound { IfOk result (λ _. IsSoundOffice (founded settings)) }
     ensures founded { IfOk result (λ office. IsIn RepresentsSpanRows Second (founded settings) (file_state office)) }

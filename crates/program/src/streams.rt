@@ -59,7 +59,9 @@ pub fn read_to_end<R: Read>(alloc: Global, reader: &mut Source<'_, R>) -> Result
     read_within(alloc, reader, most_calls())
 }
 
-/// Reads a stream to its end in at most `reads` reads.
+/// Reads a stream to its end in at most `reads` reads. An interrupted read counts, and so does the one that finds the
+/// end. If these do not suffice, the fault is `Failed`. Replaces the turns that the reader had left, as `begin_stream`
+/// does. That no more reads are made is only tested.
 pub fn read_within<R: Read>(
     alloc: Global,
     reader: &mut Source<'_, R>,
@@ -106,7 +108,8 @@ pub fn write_line<W: Write>(writer: &mut Sink<'_, W>, bytes: &[u8]) -> Result<()
     flush(writer)
 }
 
-/// Writes the bytes and a line feed in at most `writes` writes in all.
+/// Writes the bytes and a line feed in at most `writes` writes in all, without a flush. After a fault a front of them
+/// was written.
 pub fn line_within<W: Write>(
     writer: &mut Sink<'_, W>,
     bytes: &[u8],
@@ -124,7 +127,8 @@ pub fn line_within<W: Write>(
     Ok(())
 }
 
-/// Writes the bytes in at most `writes` writes, and returns how many of these are left.
+/// Writes the bytes in at most `writes` writes, without a flush, and returns how many of these are left. An interrupted
+/// write counts. After a fault a front of the bytes was written.
 pub fn write_within<W: Write>(
     writer: &mut Sink<'_, W>,
     bytes: &[u8],

@@ -1,13 +1,13 @@
 -- What the office answers when it is asked for a finding aid, by the path of the unit in the whole forest.
-use Rattle.std.proofs.Common.{◌≡◌, ℕ, ◌≤◌, ◌^◌, true, false, cond, List, [], ◌∷◌, refl, sym, ap, ap₂, ◌∙◌, map}
+use Rattle.std.proofs.Common.{◌≡◌, ℕ, true, false, cond, List, [], ◌∷◌, refl, sym, ap, ap₂, ◌∙◌, map}
 use Rattle.office_core.specs.State.{State}
 use Rattle.office_core.specs.declared.query.Query.TheVariants as query
 use Rattle.refinement.proofs.Judged.{distinct_ids}
 use Rattle.public_queries.proofs.Common.{Empty, Forest, HasDistinctIds, IsSoundOffice, IsTellable, PublicUnit, Text}
 use Rattle.public_queries.proofs.Common.{Unit, Unknown, UnknownUnit, above_last, aid, aid_of, answer, before_last, each}
-use Rattle.public_queries.proofs.Common.{has_id, has_public_number, head_identifiers, head_of, is_unit_closed, known_of}
-use Rattle.public_queries.proofs.Common.{no_unit, office_kept, office_knows, office_of, office_places, path, press}
-use Rattle.public_queries.proofs.Common.{public_forest, public_of, repository_of, shown_below, shows_last, tree, ℤ}
+use Rattle.public_queries.proofs.Common.{has, has_id, has_public_number, head_identifiers, head_of, is_unit_closed}
+use Rattle.public_queries.proofs.Common.{known_of, office_knows, office_of, office_places, path, press, public_forest}
+use Rattle.public_queries.proofs.Common.{public_of, repository_of, shown_below, shows_last, tree, ℤ}
 use Rattle.public_queries.proofs.AidPrinted.{id_same}
 use Rattle.public_queries.proofs.Standing.{Finds, nowhere, seen}
 
@@ -37,9 +37,9 @@ module _ (s : State) (sound : IsSoundOffice s) where
     pub hidden : shows_last s.day (map head_of way) ≡ false → Unknown UnknownUnit ≡ answer s (query.Aid u)
     hidden e = sym (ap (λ b. cond b (Text (aid_of (press s) u (public_forest s))) (Unknown UnknownUnit)) (stands.has_is ∙ e))
 
-    pub far_off : 2 ^ 63 ≤ u → Unknown UnknownUnit ≡ answer s (query.Aid u)
+    pub far_off : has (has_id u) s.catalogue.forest ≡ false → Unknown UnknownUnit ≡ answer s (query.Aid u)
     far_off far =
-        let none = nowhere (has_id u) s.catalogue.forest (sym (no_unit s.catalogue u far (office_kept s sound))) in
+        let none = nowhere (has_id u) s.catalogue.forest far in
         hidden (ap (λ (w : List Unit). shows_last s.day (map head_of w)) none.0)
 
     pub shown : shows_last s.day (map head_of way) ≡ true

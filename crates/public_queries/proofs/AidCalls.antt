@@ -39,11 +39,11 @@ module _ {S X Stays Model : Type 0} (g : store.Ghosts S) (represents : Database 
       → (HasCleanDisk b → (s : Stays) (m : Model) → represents a.now s m → (x : X) → told s m x → answer s m x)
       → Answers g represents mid after r may kept told → Answers g represents before after r more kept answer
   tells_then may more told answer looked allows means last =
-      let still = λ (clean : HasCleanDisk c). early b c _ (looked_crash r last.looks last.aborts) clean in
+      let still = λ (clean : HasCleanDisk c). early (looked_crash r last.looks last.aborts) clean in
       let shown = λ (at_b : HasCleanDisk b) (s : Stays) (m : Model) (it : represents a.now s m). subst (λ (db : Database). represents db s m) (sym (looked.same at_b)) it in
       record {
         answers = λ clean s m it. if_ok_then r (told s m) (answer s m) (means (still clean) s m it) (last.answers clean s m (shown (still clean) s m it));
-        looks = on_ok_then r (LeavesUnchanged b c) (LeavesUnchanged a c) (λ on. looks_then a b c looked on) last.looks;
-        aborts = on_err_then r (IsAborted b c) (IsAborted a c) (λ cut. cut_then a b c looked.goes.on cut) last.aborts;
-        faults = λ s m it allowed within. excused_then a b c looked.goes.on r last.aborts (λ at_b. last.faults s m (shown at_b s m it) (allows at_b s m it allowed) within);
+        looks = on_ok_then r (LeavesUnchanged b c) (LeavesUnchanged a c) (λ on. looks_then looked on) last.looks;
+        aborts = on_err_then r (IsAborted b c) (IsAborted a c) (λ cut. cut_then looked.goes.on cut) last.aborts;
+        faults = λ s m it allowed within. excused_then _ looked.goes.on r last.aborts (λ at_b. last.faults s m (shown at_b s m it) (allows at_b s m it allowed) within);
       }

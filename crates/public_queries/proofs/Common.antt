@@ -31,14 +31,13 @@ pub use Rattle.catalogue_core.specs.Pages.{page_boxes, page_line, page_of, pages
 pub use Rattle.catalogue_core.specs.Pages.{with_codes}
 pub use Rattle.catalogue_core.specs.PublicForest.{PublicUnit, Told, public_of, public_unit, stub_of}
 pub use Rattle.catalogue_core.specs.Units.{Unit, has_id, is_later, is_unit_closed}
-pub use Rattle.office_tables.proofs.CallEnds.{excused_then, same_fault}
+pub use Rattle.office_tables.proofs.CallEnds.{excused_then, same_fault, tells_well}
 pub use Rattle.office_tables.proofs.Calls.{cut_after, cut_then, early, looks_nowhere, looks_then, on_err_then}
 pub use Rattle.office_tables.proofs.Calls.{on_ok_then}
 pub use Rattle.office_tables.specs.Step.{IsAborted, LeavesUnchanged}
 pub use Rattle.office_tables.specs.declared.fault.StoreFault.{StoreFault}
 pub use Rattle.catalogue_statements.specs.Representation.{Represents}
 pub use Rattle.catalogue_statements.specs.declared.office.OfficeRow.{OfficeRow}
-pub use Rattle.catalogue_store.proofs.UnitsThere.{no_unit}
 pub use Rattle.catalogue_store.specs.Heads.{head_of}
 pub use Rattle.catalogue_store.specs.declared.heads.Head.{Head}
 pub use Rattle.catalogue_store.specs.declared.unit_values.UnitValues.{UnitValues}

@@ -4,8 +4,9 @@ use Rattle.std.proofs.Common.{take, get_or, Some, refl, sym, ap, subst, ◌∙�
 use Rattle.std.specs.List.{IsDistinct, find}
 use Rattle.std.specs.Prelude.{map}
 use Rattle.tree_core.proofs.Lists.{eqb_comm}
+use Rattle.catalogue_store.proofs.UnitsThere.{no_unit}
 use Rattle.public_queries.proofs.Common.{AllByRecursion, Catalogue, Empty, Forest, Head, IsKept, Node, Unit, all_split}
-use Rattle.public_queries.proofs.Common.{cases_lt, false≢true, has, has_id, head_of, length-map, no_unit, nodes, path}
+use Rattle.public_queries.proofs.Common.{cases_lt, false≢true, has, has_id, head_of, length-map, nodes, path}
 use Rattle.public_queries.proofs.Common.{some_found}
 
 pub path_all : (P : Unit → Type 0) (is : Unit → Bool) (f : Forest Unit) → AllByRecursion P (nodes f)

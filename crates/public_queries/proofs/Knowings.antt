@@ -31,7 +31,7 @@ module _ (places : Trees → Forest ℕ → Type 0) (version : Version) (known :
       → ((s : State) → IsSoundOffice s → known s → RepresentsState places version b.now s → HasCleanDisk c → IsUnlimited b → HasCause b c e)
       → AnswersKnowing places version known asked a c r
   knows_no_more a b c r e is looked cut why =
-      knows_not a c r e is (cut_then a b c looked.goes.on cut)
+      knows_not a c r e is (cut_then looked.goes.on cut)
       (λ s sound so it clean free.
       next_cause a b c looked.goes.on cut clean e (λ at_b. why s sound so (still_shown places version a b looked at_b s it) clean (still_unlimited a b looked.goes.on free)))
 
@@ -39,7 +39,7 @@ module _ (places : Trees → Forest ℕ → Type 0) (version : Version) (known :
   pub knows_short : (a b : store.State) (r : Result Answer StoreFault) → r ≡ Err fault.Memory → LeavesUnchanged a b
       → AnswersKnowing places version known asked a b r
   knows_short a b r is looked =
-      knows_not a b r fault.Memory is (cut_after a b looked.goes.on) (λ s sound so it clean free. tt)
+      knows_not a b r fault.Memory is (cut_after looked.goes.on) (λ s sound so it clean free. tt)
 
   -- it tells what was read
   pub knows_by : (a b : store.State) (told : Answer) → LeavesUnchanged a b
@@ -54,7 +54,7 @@ module _ {places : Trees → Forest ℕ → Type 0} {version : Version} {known :
   pub knows_passed : {a b : store.State} → IsAborted a b
       → ((s : State) → IsSoundOffice s → known s → RepresentsState places version a.now s → HasCleanDisk b → IsUnlimited a → HasCause a b e)
       → AnswersKnowing places version known asked a b r
-  knows_passed {a} {b} cut why = knows_not places version known asked a b r e (same_fault r e handed.0 handed.1) cut why
+  knows_passed {a} {b} cut why = knows_not places version known asked a b r e (same_fault handed) cut why
 
   -- which is a call on the catalogue
   pub catalogue_passed : {a b : store.State} → IsAborted a b
@@ -68,4 +68,4 @@ module _ {places : Trees → Forest ℕ → Type 0} {version : Version} {known :
       → ((s : State) → IsSoundOffice s → known s → RepresentsState places version b.now s → HasCleanDisk c → IsUnlimited b → HasCause b c e)
       → AnswersKnowing places version known asked a c r
   knows_passed_later {a} {b} {c} looked cut why =
-      knows_no_more places version known asked a b c r e (same_fault r e handed.0 handed.1) looked cut why
+      knows_no_more places version known asked a b c r e (same_fault handed) looked cut why

@@ -19,10 +19,10 @@ pub knows_then : (places : Trees → Forest ℕ → Type 0) (version : Version) 
 knows_then places version known later asked a b c r looked means last =
     record {
       answers = λ clean s sound so it.
-          let at_b = early b c _ (looked_crash r b c last.looks last.aborts) clean in
+          let at_b = early (looked_crash r b c last.looks last.aborts) clean in
           last.answers clean s sound (means at_b s sound so it) (still_shown places version a b looked at_b s it);
-      looks = on_ok_then r (LeavesUnchanged b c) (LeavesUnchanged a c) (λ on. looks_then a b c looked on) last.looks;
-      aborts = on_err_then r (IsAborted b c) (IsAborted a c) (λ cut. cut_then a b c looked.goes.on cut) last.aborts;
+      looks = on_ok_then r (LeavesUnchanged b c) (LeavesUnchanged a c) (λ on. looks_then looked on) last.looks;
+      aborts = on_err_then r (IsAborted b c) (IsAborted a c) (λ cut. cut_then looked.goes.on cut) last.aborts;
       faults = λ s sound so it.
-          excused_then a b c looked.goes.on r last.aborts (λ at_b. last.faults s sound (means at_b s sound so it) (still_shown places version a b looked at_b s it));
+          excused_then _ looked.goes.on r last.aborts (λ at_b. last.faults s sound (means at_b s sound so it) (still_shown places version a b looked at_b s it));
     }

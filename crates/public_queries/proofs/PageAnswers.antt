@@ -1,15 +1,15 @@
 -- What the tables of a sound office tell of a page.
-use Rattle.std.proofs.Common.{◌≡◌, ℕ, ◌≤◌, ◌^◌, true, false, List, [], ◌∷◌, ◌++◌, Some, sym, ap, subst, ◌∙◌, nat_eq}
+use Rattle.std.proofs.Common.{◌≡◌, ℕ, true, false, List, [], ◌∷◌, ◌++◌, Some, sym, ap, subst, ◌∙◌, nat_eq}
 use Rattle.std.specs.List.{IsDistinct, find}
 use Rattle.std.specs.Prelude.{map}
 use Rattle.office_core.specs.State.{State}
 use Rattle.office_core.specs.declared.query.Query.TheVariants as query
 use Rattle.public_queries.proofs.Common.{AllByRecursion, Bytes, HasDistinctIds, Head, IsSoundOffice, OfficeRow, Shown}
 use Rattle.public_queries.proofs.Common.{Text, Unit, UnitValues, Unknown, UnknownUnit, all_bare, answer, closed_page}
-use Rattle.public_queries.proofs.Common.{coded_way, each, has_id, head_alone, head_identifiers, head_of, is_later}
-use Rattle.public_queries.proofs.Common.{is_no_draft, is_unit_closed, map-append, no_unit, nodes, nodes-each}
-use Rattle.public_queries.proofs.Common.{office_kept, office_of, page, page_of_units, part_below, path, press}
-use Rattle.public_queries.proofs.Common.{repository_of, shows_last, tops, unit_values}
+use Rattle.public_queries.proofs.Common.{coded_way, each, has, has_id, head_alone, head_identifiers, head_of, is_later}
+use Rattle.public_queries.proofs.Common.{is_no_draft, is_unit_closed, map-append, nodes, nodes-each, office_of, page}
+use Rattle.public_queries.proofs.Common.{page_of_units, part_below, path, press, repository_of, shows_last, tops}
+use Rattle.public_queries.proofs.Common.{unit_values}
 use Rattle.public_queries.proofs.FoundUnits.{path_all, found_each}
 use Rattle.public_queries.proofs.OwnRows.{not_shown}
 use Rattle.public_queries.proofs.Standing.{shown_in, nowhere, Stands, stands}
@@ -27,10 +27,9 @@ module _ (s : State) (sound : IsSoundOffice s) where
       → shown_in s.day u s.catalogue.forest ≡ false
   alone u e = not_shown s.day u s.catalogue.forest (path_found u) e
 
-  -- a number that a table cannot keep is no unit's
-  pub far : (u : ℕ) → 2 ^ 63 ≤ u → Unknown UnknownUnit ≡ answer s (query.Page u)
-  far u large =
-      let none = sym (no_unit s.catalogue u large (office_kept s sound)) in
+  -- there is no such unit
+  pub far : (u : ℕ) → has (has_id u) s.catalogue.forest ≡ false → Unknown UnknownUnit ≡ answer s (query.Page u)
+  far u none =
       sym (page_hidden (press s) s.day u s.catalogue.forest distinct (ap (λ l. shows_last s.day (map head_of l)) (nowhere (has_id u) s.catalogue.forest none).0))
 
   pub judged : (u : ℕ) (row : OfficeRow) (way : List Head) → row ≡ office_of s

@@ -33,7 +33,7 @@ are_open day heads = list_all (is_open_on day) heads
 
 -- ---- head lines
 
--- what a head line needs of a unit's body: the day until which it is closed
+-- what a head line needs of a unit's body: the day until which it is closed, if it is closed on this day
 abbrev pub bare_body : ℤ → Option ℤ → Body
 bare_body day None = Full [] []
 bare_body day (Some until) = cond (int_lt day until) (Closed until) (Full [] [])

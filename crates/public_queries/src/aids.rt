@@ -146,17 +146,14 @@ pub fn aid<P: Places, S: Alter>(
     alloc: Global,
     tables: &mut Tables<P, S>,
     known: &OfficeRow,
-    unit: u64,
+    unit: Number,
 ) -> Result<Answer, StoreFault>
     ensures { RespondsKnowing P.represents P.version S.Store (λ s. known.now ≡ office_of s) (query.Aid unit)
         tables.old tables.new result }
 {
-    let Some(number) = Number::of(unit) else {
-        return Ok(Answer::Unknown(Refusal::UnknownUnit));
-    };
-    let published = is_published(alloc, tables, number)?;
+    let published = is_published(alloc, tables, unit)?;
     if !published {
         return Ok(Answer::Unknown(Refusal::UnknownUnit));
     }
-    aid_on_path(alloc, tables, known, number)
+    aid_on_path(alloc, tables, known, unit)
 }

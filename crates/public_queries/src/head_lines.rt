@@ -55,7 +55,8 @@ fn bare_in(
     Ok(shown)
 }
 
-/// Those of the units right below others that are not drafts, with their head lines alone.
+/// Those of these units that are not drafts, each with its number and its head line alone. `ids` are the identifiers
+/// from the top down to the unit right above them, and are the same afterwards unless the call fails.
 pub(crate) fn bare_units(
     alloc: Global,
     known: &OfficeRow,

@@ -15,7 +15,7 @@ use office_tables::{Number, StoreFault, Tables};
 use sqlite::Alter;
 use std::alloc::Global;
 
-/// Whether there is this unit, and it is no draft.
+/// Whether there is this unit, and it is no draft. Its closure and the units above it are not looked at.
 pub(crate) fn is_published<P: Places, S: Alter>(
     alloc: Global,
     tables: &mut Tables<P, S>,

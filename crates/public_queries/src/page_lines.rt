@@ -133,7 +133,8 @@ pub(crate) fn print_closed(alloc: Global, head: Shown) -> Result<List<u8>, Alloc
     Ok(List(page_text(alloc, &page)?))
 }
 
-/// The page of the first of these units.
+/// The page of the first of these units. The others must be those above it, the nearest first; `head` is its head, and
+/// `below` are the units right below it.
 pub(crate) fn print_told(
     alloc: Global,
     head: Shown,

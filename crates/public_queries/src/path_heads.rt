@@ -18,7 +18,8 @@ fn are_open(heads: &[Head], today: Day) -> bool
         .all(|head| !head.draft && !is_closed(head.until, today))
 }
 
-/// Whether the public is shown the last unit of a path.
+/// Whether the public is shown the last unit of a path, in full or as a stub: none of the units is a draft, and none
+/// above the last is closed on this day. False for an empty path.
 pub(crate) fn shows_last(way: &[Head], today: Day) -> bool
     ensures { result ≡ represents today way.now }
 {

@@ -25,7 +25,7 @@ pub(crate) fn text_or_empty(alloc: Global, text: Option<&Text>) -> Result<Text, 
     }
 }
 
-/// These units of a path with their codes, the lowest first.
+/// The units of a path with their reference codes. They are given from the top down, and returned the lowest first.
 pub(crate) fn with_codes(
     alloc: Global,
     known: &OfficeRow,

@@ -106,7 +106,9 @@ fn seen_closed<P: Places, S: Alter>(
     })
 }
 
-/// What is seen of a unit of an aid.
+/// What the public sees of a unit of a finding aid: its own description or, if `unit.stub` is true, its identifier, its
+/// level and the day until which it is closed. There must be this unit, and it must be a stub exactly if it is closed
+/// today.
 pub(crate) fn seen_unit<P: Places, S: Alter>(
     alloc: Global,
     tables: &mut Tables<P, S>,

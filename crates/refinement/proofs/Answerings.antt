@@ -3,6 +3,8 @@ use Rattle.std.proofs.Common.{◌≡◌, ℕ, Ok, Err, Result, sym, subst}
 use Rattle.sqlite.specs.State as store
 use Rattle.desk_core.specs.DeskRows.{Desk}
 use Rattle.desk_core.specs.LegibleDesks.{IsLegible}
+use Rattle.office_tables.proofs.CallEnds.{same_fault}
+use Rattle.office_tables.proofs.Calls.{cut_then}
 use Rattle.office_tables.proofs.Causes.{still_unlimited}
 use Rattle.office_tables.proofs.LaterCauses.{next_cause}
 use Rattle.office_tables.specs.Faults.{HasCause, IsUnlimited}
@@ -13,7 +15,7 @@ use Rattle.office_core.specs.declared.query.Query.{Query}
 use Rattle.refinement.specs.QueryAnswers.{AnswersQuery}
 use Rattle.refinement.proofs.Common.{Database, Forest, HasCleanDisk, IsAborted, IsErr, IsErrAnd, IsSoundOffice}
 use Rattle.refinement.proofs.Common.{LeavesUnchanged, RepresentsDeskAlone, RepresentsState, StoreFault, Trees, Version}
-use Rattle.refinement.proofs.Common.{cut_then, desk_legible, same_fault, tables, ⊤}
+use Rattle.refinement.proofs.Common.{desk_legible, tables, ⊤}
 
 module _ (places : Trees → Forest ℕ → Type 0) (version : Version) where
   -- what was shown is still shown after a look
@@ -37,7 +39,7 @@ module _ (places : Trees → Forest ℕ → Type 0) (version : Version) where
         → ((s : State) → IsSoundOffice s → RepresentsState places version b.now s → HasCleanDisk c → IsUnlimited b → HasCause b c e)
         → AnswersQuery places version asked a c r
     stops_later a b c r e is looked cut why =
-        answers_not a c r e is (cut_then a b c looked.goes.on cut)
+        answers_not a c r e is (cut_then looked.goes.on cut)
         (λ s sound it clean free.
         next_cause a b c looked.goes.on cut clean e (λ at_b. why s sound (still_shown a b looked at_b s it) clean (still_unlimited a b looked.goes.on free)))
 
@@ -54,7 +56,7 @@ module _ {places : Trees → Forest ℕ → Type 0} {version : Version} {asked :
   pub answers_passed : {a b : store.State} → IsAborted a b
       → ((s : State) → IsSoundOffice s → RepresentsState places version a.now s → HasCleanDisk b → IsUnlimited a → HasCause a b e)
       → AnswersQuery places version asked a b r
-  answers_passed {a} {b} cut why = answers_not places version asked a b r e (same_fault r e fault.0 fault.1) cut why
+  answers_passed {a} {b} cut why = answers_not places version asked a b r e (same_fault fault) cut why
 
   -- which is a call on the desk
   pub desk_answers_passed : {a b : store.State} → IsAborted a b
@@ -68,4 +70,4 @@ module _ {places : Trees → Forest ℕ → Type 0} {version : Version} {asked :
       → ((s : State) → IsSoundOffice s → RepresentsState places version b.now s → HasCleanDisk c → IsUnlimited b → HasCause b c e)
       → AnswersQuery places version asked a c r
   answers_passed_later {a} {b} {c} looked cut why =
-      stops_later places version asked a b c r e (same_fault r e fault.0 fault.1) looked cut why
+      stops_later places version asked a b c r e (same_fault fault) looked cut why

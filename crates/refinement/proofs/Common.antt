@@ -15,8 +15,6 @@ pub use Rattle.desk_core.specs.declared.reader.Place.{Place}
 pub use Rattle.desk_core.specs.declared.reader.Place.TheVariants.{Out, Shelf}
 pub use Rattle.catalogue_core.specs.CatalogueMerge.{Catalogue}
 pub use Rattle.catalogue_core.specs.Units.{Unit}
-pub use Rattle.office_tables.proofs.CallEnds.{excused_then, same_fault}
-pub use Rattle.office_tables.proofs.Calls.{cut_after, cut_then, early, goes_then, looks_then, on_err_then, on_ok_then}
 pub use Rattle.office_tables.specs.RowNumbers.{AreCountedFrom, HasNumbered}
 pub use Rattle.office_tables.specs.Step.{Continues, Goes, IsAborted, LeavesUnchanged, OnlyTouches, table_trees}
 pub use Rattle.office_tables.specs.Versions.{Version}

@@ -7,7 +7,9 @@ use Rattle.desk_core.specs.DeskRows.{Desk}
 use Rattle.desk_core.specs.LegibleDesks.{IsLegible}
 use Rattle.desk_core.specs.declared.refusal.Refusal.{Refusal}
 use Rattle.catalogue_core.specs.Bounds.{IsKept}
+use Rattle.office_tables.proofs.CallEnds.{excused_then, same_fault}
 use Rattle.office_tables.proofs.CallEnds as ends
+use Rattle.office_tables.proofs.Calls.{cut_after, cut_then, early, goes_then, on_err_then, on_ok_then}
 use Rattle.office_tables.proofs.Causes.{still_unlimited}
 use Rattle.office_tables.proofs.LaterCauses.{next_cause}
 use Rattle.office_tables.specs.Calls.{Answers, Updates}
@@ -21,9 +23,8 @@ use Rattle.refinement.specs.AccessConditions.{CanBeJudged}
 use Rattle.refinement.specs.CommandSteps.{CarriesOut, CarriesOutStep}
 use Rattle.refinement.proofs.Common.{Catalogue, Continues, Database, Forest, Goes, HasCleanDisk, IsAborted, IsErr}
 use Rattle.refinement.proofs.Common.{IsErrAnd, IsSoundOffice, LeavesUnchanged, OfficeRow, Represents}
-use Rattle.refinement.proofs.Common.{RepresentsDeskAlone, RepresentsState, StoreFault, Trees, Version, cut_after}
-use Rattle.refinement.proofs.Common.{cut_then, desk_legible, early, excused_then, goes_then, office_of, on_err_then}
-use Rattle.refinement.proofs.Common.{on_ok_then, same_fault, tables, ⊤}
+use Rattle.refinement.proofs.Common.{RepresentsDeskAlone, RepresentsState, StoreFault, Trees, Version, desk_legible}
+use Rattle.refinement.proofs.Common.{office_of, tables, ⊤}
 use Rattle.refinement.proofs.Crashes.{went}
 use Rattle.refinement.proofs.Judged.{judged_now}
 
@@ -45,11 +46,11 @@ module _ (places : Trees → Forest ℕ → Type 0) (version : Version) (known :
       subst (λ (db : Database). RepresentsState places version db s) (sym (looked.same at_b)) it in
       record {
         steps = λ clean s sound so it.
-            let at_b = early b c _ (went r b c last.goes last.aborts) clean in
+            let at_b = early (went r b c last.goes last.aborts) clean in
             last.steps clean s sound (learns at_b s sound so it) (still at_b s it);
-        goes = on_ok_then r (Goes b c) (Goes a c) (λ on. goes_then a b c looked.goes on) last.goes;
-        aborts = on_err_then r (IsAborted b c) (IsAborted a c) (λ cut. cut_then a b c looked.goes.on cut) last.aborts;
-        faults = λ s sound so it. excused_then a b c looked.goes.on r last.aborts (λ at_b. last.faults s sound (learns at_b s sound so it) (still at_b s it));
+        goes = on_ok_then r (Goes b c) (Goes a c) (λ on. goes_then looked.goes on) last.goes;
+        aborts = on_err_then r (IsAborted b c) (IsAborted a c) (λ cut. cut_then looked.goes.on cut) last.aborts;
+        faults = λ s sound so it. excused_then _ looked.goes.on r last.aborts (λ at_b. last.faults s sound (learns at_b s sound so it) (still at_b s it));
       }
 
   -- it reads first, and is refused
@@ -76,7 +77,7 @@ refuses places version s asked why db holds =
 module _ {places : Trees → Forest ℕ → Type 0} {version : Version} {known : State → Type 0} {asked : Command} {old new : store.State} (e : StoreFault) {r : Result Reply StoreFault} (handed : IsErr r × IsErrAnd r (λ f. f ≡ e)) (cut : IsAborted old new) where
   pub does_pass : ((s : State) → IsSoundOffice s → known s → RepresentsState places version old.now s → HasCleanDisk new → IsUnlimited old → HasCause old new e)
       → CarriesOut places version known asked old new r
-  does_pass why = does_not places version known asked old new r e (same_fault r e handed.0 handed.1) cut why
+  does_pass why = does_not places version known asked old new r e (same_fault handed) cut why
 
   -- the step is a call on the desk
   pub desk_passed : ((beside : ⊤) (d : Desk) → RepresentsDeskAlone old.now beside d → ⊤ → IsLegible d → HasCleanDisk new → IsUnlimited old → HasCause old new e)
@@ -123,7 +124,7 @@ pub tells_full : {S X Stays Model : Type 0} {g : trees.Ghosts S} {represents : D
     → IsErr r × IsErrAnd r (λ f. f ≡ fault.Memory) → LeavesUnchanged (state g before) (state g after)
     → Answers g represents before after r may kept answer
 tells_full {g = g} {represents = represents} {kept = kept} {may = may} {before = before} {after = after} {r = r} {answer = answer} full looked =
-    ends.tells_not g represents kept may before after r answer fault.Memory (same_fault r fault.Memory full.0 full.1) (cut_after (state g before) (state g after) looked.goes.on) (λ s m it allowed within clean free. tt)
+    ends.tells_not (same_fault full) (cut_after looked.goes.on) (λ s m it allowed within clean free. tt)
 
 -- it passes the fault of a step on
 module _ {S X Stays Model : Type 0} {g : trees.Ghosts S} {represents : Database → Stays → Model → Type 0} {kept may : Model → Type 0} {before after : Held S} (e : StoreFault) {r : Result X StoreFault} (handed : IsErr r × IsErrAnd r (λ f. f ≡ e)) where
@@ -131,12 +132,12 @@ module _ {S X Stays Model : Type 0} {g : trees.Ghosts S} {represents : Database 
   module _ (cut : IsAborted (state g before) (state g after))
       (why : (s : Stays) (m : Model) → represents (state g before).now s m → may m → kept m → HasCleanDisk (state g after) → IsUnlimited (state g before) → HasCause (state g before) (state g after) e) where
     pub tells_passed : {answer : Stays → Model → X → Type 0} → Answers g represents before after r may kept answer
-    tells_passed {answer} = ends.tells_not g represents kept may before after r answer e (same_fault r e handed.0 handed.1) cut why
+    tells_passed {answer} = ends.tells_not (same_fault handed) cut why
 
     pub makes_passed : {made : Model → Model} {touched : List ℕ}
         → Updates g touched represents before after r may kept made
     makes_passed {made} {touched} =
-        ends.makes_not g represents kept may before after r made touched e (same_fault r e handed.0 handed.1) cut why
+        ends.makes_not (same_fault handed) cut why
 
   -- of a later one
   pub tells_passed_later : {b : store.State} {answer : Stays → Model → X → Type 0} → LeavesUnchanged (state g before) b
@@ -146,8 +147,7 @@ module _ {S X Stays Model : Type 0} {g : trees.Ghosts S} {represents : Database 
   tells_passed_later {b} {answer} looked cut why =
       let a = state g before in
       let c = state g after in
-      ends.tells_not g represents kept may before after r answer e (same_fault r e handed.0 handed.1) (cut_then a b c looked.goes.on cut)
-      (λ s m it allowed within clean free.
+      ends.tells_not (same_fault handed) (cut_then looked.goes.on cut) (λ s m it allowed within clean free.
       next_cause a b c looked.goes.on cut clean e
       (λ at_b. why s m (subst (λ (db : Database). represents db s m) (sym (looked.same at_b)) it) allowed within clean (still_unlimited a b looked.goes.on free)))
 
@@ -157,4 +157,4 @@ module _ {S X Stays Model : Type 0} {g : trees.Ghosts S} {represents : Database 
       → ((s : Stays) (m : Model) → represents (state g before).now s m → may m → kept m → HasCleanDisk (state g mid) → HasCleanDisk (state g after) → IsUnlimited (state g mid) → HasCause (state g mid) (state g after) e)
       → Updates g touched represents before after r may kept made
   makes_passed_later mid {made} {touched} on cut why =
-      ends.makes_cut g represents kept may before mid after r made touched e (same_fault r e handed.0 handed.1) on cut why
+      ends.makes_cut (same_fault handed) on cut why

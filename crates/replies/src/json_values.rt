@@ -18,9 +18,9 @@ pub fn day_value(alloc: Global, day: Day) -> Result<Value, AllocError>
     json!(in alloc; text)
 }
 
-/// The bytes of a JSON value. It must not contain a number with a fraction.
+/// The bytes of a JSON value. Its numbers must be whole, and fit 64 bits.
 pub fn text_of(alloc: Global, value: &Value) -> Result<List<u8>, AllocError>
-    requires whole { has_float (view value.now) ≡ false }
+    requires no_float { has_float (view value.now) ≡ false }
     ensures { IfOk result (λ text. text ≡ compact_text (view value.now)) }
 {
     let text = value.to_string(alloc)?;

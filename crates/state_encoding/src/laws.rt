@@ -48,12 +48,12 @@ pub fn rows_describe_the_catalogue()
     ensures { (version : Version) (t : OfficeRows) → SaysTheCatalogue version t }
 {}
 
-/// The rows of a sound catalogue meet the keys, and have none of the causes 1 to 5.
+/// In either version, the rows of a sound catalogue meet the keys, and have none of the causes 1 to 5.
 pub fn catalogue_has_no_cause()
     ensures { (version : Version) (s : State) → HasNoCatalogueCause version s }
 {}
 
-/// The rows of a sound state meet the keys, and have none of the causes 1 to 10.
+/// In either version, the rows of a sound state meet the keys, and have none of the causes 1 to 10.
 pub fn tables_have_no_cause()
     ensures { (version : Version) (s : State) → HasNoCause version s }
 {}

@@ -101,7 +101,7 @@ fn read_card<S: Alter>(
 ) -> Result<(), StoreFault> {
     place_orders(alloc, tables, text)?;
     let day = day_after(1)?;
-    if let Some(card) = &reader(alloc, tables, 1, day)? {
+    if let Some(card) = &reader(alloc, tables, Number::from(1), day)? {
         let (held, placed, orders) = (card.reader.held, card.placed, card.orders);
         write!(text, "{held} {placed} {orders}\n")?;
         for live in card.live.as_slice() {
@@ -109,7 +109,7 @@ fn read_card<S: Alter>(
             write!(text, "{order} {container} {is_out}\n")?;
         }
     }
-    let is_unknown = reader(alloc, tables, 9, day)?.is_none();
+    let is_unknown = reader(alloc, tables, Number::from(9), day)?.is_none();
     write!(text, "{is_unknown}\n")?;
     Ok(())
 }
@@ -138,7 +138,7 @@ pub(crate) fn show_candidates<S: Alter>(
 fn show_holder<S: Alter>(
     alloc: Global,
     tables: &mut Tables<LinkPlaces, S>,
-    ticket: u64,
+    ticket: Number,
     text: &mut String,
 ) -> Result<(), StoreFault> {
     let Some(holder) = ticket_holder(alloc, tables, ticket)? else {
@@ -159,9 +159,9 @@ fn hold<S: Alter>(
     place_orders(alloc, tables, text)?;
     register(alloc, tables, "Bob", text)?;
     set_seat(tables, 2, Some(Number::from(2)))?;
-    show_holder(alloc, tables, 1, text)?;
-    show_holder(alloc, tables, 2, text)?;
-    show_holder(alloc, tables, 3, text)
+    show_holder(alloc, tables, Number::from(1), text)?;
+    show_holder(alloc, tables, Number::from(2), text)?;
+    show_holder(alloc, tables, Number::from(3), text)
 }
 
 /// Ann returns container 1, and order 2 is cancelled: whether order 1 is done, and order 3 unknown.
@@ -174,8 +174,9 @@ fn end_orders<S: Alter>(
     end_order(tables, Number::from(1), OrderState::Done)?;
     set_place(tables, Number::from(1), Place::Shelf)?;
     end_order(tables, Number::from(2), OrderState::Cancelled)?;
-    let is_done = order(alloc, tables, 1)?.is_some_and(|placed| placed.state == OrderState::Done);
-    let is_unknown = order(alloc, tables, 3)?.is_none();
+    let is_done = order(alloc, tables, Number::from(1))?.is_some_and(|placed| placed.state
+        == OrderState::Done);
+    let is_unknown = order(alloc, tables, Number::from(3))?.is_none();
     write!(text, "{is_done} {is_unknown}\n")?;
     Ok(())
 }
@@ -208,7 +209,7 @@ fn grant_permits<S: Alter>(
     grant(tables, Number::from(1), Number::from(2), day_after(0)?)?;
     grant(tables, Number::from(1), Number::from(2), day_after(9)?)?;
     revoke(tables, Number::from(1), Number::from(1))?;
-    for permit in &permits(alloc, tables, 1)? {
+    for permit in &permits(alloc, tables, Number::from(1))? {
         let (unit, until) = (permit.unit, permit.until.number());
         write!(text, "{unit} {until}\n")?;
     }
@@ -231,8 +232,8 @@ fn pick_run<S: Alter>(
     for &(container, awaited) in &at_desk(alloc, tables)? {
         write!(text, "{container} {awaited}\n")?;
     }
-    let is_unknown = queue(alloc, tables, 1)?.is_none();
-    let is_unmade = run(alloc, tables, 1)?.is_none();
+    let is_unknown = queue(alloc, tables, Number::from(1))?.is_none();
+    let is_unmade = run(alloc, tables, Number::from(1))?.is_none();
     write!(text, "{is_unknown} {is_unmade}\n")?;
     Ok(())
 }

@@ -65,7 +65,7 @@ pub(crate) fn furnish<S: Alter>(
 fn show_queue<S: Alter>(
     alloc: Global,
     tables: &mut Tables<LinkPlaces, S>,
-    container: u64,
+    container: Number,
     text: &mut String,
 ) -> Result<(), StoreFault> {
     let Some(known) = queue(alloc, tables, container)? else {
@@ -79,7 +79,7 @@ fn show_queue<S: Alter>(
         Place::Out(order) => write!(text, " out {order}")?,
     }
     for waiting in known.waiting.as_slice() {
-        let (order, ticket) = (waiting.order, waiting.ticket);
+        let (order, ticket) = (waiting.order.get(), waiting.ticket.get());
         write!(text, " {order}:{ticket}")?;
     }
     text.push_str("\n")?;
@@ -101,14 +101,14 @@ fn fetch<S: Alter>(
 fn show_slip<S: Alter>(
     alloc: Global,
     tables: &mut Tables<LinkPlaces, S>,
-    number: u64,
+    number: Number,
     text: &mut String,
 ) -> Result<(), StoreFault> {
     let Some(brought) = run(alloc, tables, number)? else {
         text.push_str("no run\n")?;
         return Ok(());
     };
-    let slip = slip_text(alloc, number, brought.day, brought.lines.as_slice())?;
+    let slip = slip_text(alloc, number.get(), brought.day, brought.lines.as_slice())?;
     for byte in &slip {
         text.push(char::from(*byte))?;
     }
@@ -150,11 +150,11 @@ fn lent_in_turn<S: Alter>(
     show_candidates(alloc, tables, text)?;
     fetch(tables, &[ordered(1)], text)?;
     set_place(tables, Number::from(1), Place::Desk)?;
-    show_queue(alloc, tables, 1, text)?;
+    show_queue(alloc, tables, Number::from(1), text)?;
     lend(tables, 1, 1)?;
-    show_queue(alloc, tables, 1, text)?;
+    show_queue(alloc, tables, Number::from(1), text)?;
     give_back(tables, 1, 1)?;
-    show_queue(alloc, tables, 1, text)
+    show_queue(alloc, tables, Number::from(1), text)
 }
 
 /// An order with Ann's ticket: order 1 for container 1, order 2 for container 2, and so on.
@@ -203,9 +203,9 @@ fn fetched_in_two_runs<S: Alter>(
     set_place(tables, Number::from(2), Place::Desk)?;
     show_candidates(alloc, tables, text)?;
     fetch(tables, &[ordered(3)], text)?;
-    show_slip(alloc, tables, 1, text)?;
-    show_slip(alloc, tables, 2, text)?;
-    show_slip(alloc, tables, 3, text)
+    show_slip(alloc, tables, Number::from(1), text)?;
+    show_slip(alloc, tables, Number::from(2), text)?;
+    show_slip(alloc, tables, Number::from(3), text)
 }
 
 /// A day in the reading room of a new office.

@@ -12,7 +12,6 @@ pub use Rattle.std.specs.List.{AllByRecursion, AllPairs, dedup, list_any}
 pub use Rattle.std.specs.List.Sorted.{IsPermutation, IsSorted}
 pub use Rattle.std.specs.Option.{option_eq}
 pub use Rattle.std.specs.Ordering.{int_cmp, is_lt, nat_cmp, ordering_then}
-pub use Rattle.std.specs.Prelude.{⊤}
 pub use Rattle.sqlite.specs.Effect.{Database}
 pub use Rattle.sqlite.specs.Held.{Held, state}
 pub use Rattle.sqlite.specs.State.{HasCleanDisk, State}
@@ -29,8 +28,8 @@ pub use Rattle.tree_core.proofs.LastPlaces.{last_shown}
 pub use Rattle.tree_core.proofs.LinkPaths.{Parts, has-links, has_beside, has_child, holds, ids-rows_below, links_none}
 pub use Rattle.tree_core.proofs.LinkPaths.{other_id, parts, path_none, path_to, upwards_more}
 pub use Rattle.tree_core.proofs.NumberingWalk.{closed-set, closed_after, closed_past, ids-number}
-pub use Rattle.tree_core.specs.Forest.{Empty, Forest, HasDistinctIds, Node, add, branch, cut, each, has, has_place}
-pub use Rattle.tree_core.specs.Forest.{move_last, nodes, path, size, tree}
+pub use Rattle.tree_core.specs.Forest.{Empty, Forest, HasDistinctIds, Node, add, branch, each, has, has_place, nodes}
+pub use Rattle.tree_core.specs.Forest.{path, size, tree}
 pub use Rattle.tree_core.specs.Links.{RepresentsLinks, rows_below, siblings}
 pub use Rattle.tree_core.specs.Spans.{spans_from}
 pub use Rattle.tree_core.specs.Tops.{below_first, last_but_one, part_below, right_above, tops}
@@ -43,29 +42,25 @@ pub use Rattle.catalogue_core.specs.MarkLookup.{mark_at, marks_at}
 pub use Rattle.catalogue_core.specs.UnitMarks.{AreMarks, AreWalkMarks, mark_of, names_container, part_of}
 pub use Rattle.catalogue_core.specs.UnitMarks.{without_number}
 pub use Rattle.catalogue_core.specs.Units.{Unit, has_id}
-pub use Rattle.office_tables.proofs.CallEnds.{excused_then, leaves_part, making_last, making_not, same_fault}
-pub use Rattle.office_tables.proofs.Calls.{cut_after, cut_then, early, goes_nowhere, goes_then, looks_nowhere}
-pub use Rattle.office_tables.proofs.Calls.{looks_then, on_err_then, on_ok_both, on_ok_then}
+pub use Rattle.office_tables.proofs.CallEnds.{leaves_part, making_last, making_not, same_fault}
+pub use Rattle.office_tables.proofs.Calls.{cut_after, early, goes_nowhere, goes_then, looks_nowhere, looks_then}
+pub use Rattle.office_tables.proofs.Calls.{on_ok_then}
 pub use Rattle.office_tables.proofs.LinkFaults.{few_links, low_places, places_below}
 pub use Rattle.office_tables.proofs.LookUps.{Hands, looks_full, looks_ill, looks_known, looks_not, looks_passed}
 pub use Rattle.office_tables.proofs.LookUps.{looks_passed_later, looks_well}
-pub use Rattle.office_tables.proofs.Outcomes.{if_ok_by, on_ok_by}
 pub use Rattle.office_tables.proofs.Rows.{had, has_map, map_has}
-pub use Rattle.office_tables.proofs.Sparing.{last_looked, last_spares, looked_spares, own_fault, spares_full}
-pub use Rattle.office_tables.proofs.Sparing.{spares_known}
-pub use Rattle.office_tables.proofs.StoreCalls.{makes_not, tells_cut, tells_not}
-pub use Rattle.office_tables.specs.Calls.{RepresentsAlone, StoreAnswers}
+pub use Rattle.office_tables.proofs.Sparing.{own_fault, spares_full, spares_known}
+pub use Rattle.office_tables.proofs.StoreCalls.{makes_last, makes_none, makes_not, makes_well, tells_cut, tells_last}
+pub use Rattle.office_tables.proofs.StoreCalls.{tells_not, tells_well}
 pub use Rattle.office_tables.specs.Order.{Rises}
-pub use Rattle.office_tables.specs.Step.{Continues, Goes, IsAborted, LeavesUnchanged, OnlyTouches, PutsRow}
-pub use Rattle.office_tables.specs.Versions.{First}
+pub use Rattle.office_tables.specs.Step.{Continues, Goes, LeavesUnchanged, OnlyTouches, PutsRow}
 pub use Rattle.catalogue_statements.proofs.LinkRepresentation.{adds, no_link_rows}
-pub use Rattle.catalogue_statements.proofs.UpdateEnds.{looked_only, makes_first, makes_ill, makes_last, makes_later}
-pub use Rattle.catalogue_statements.proofs.UpdateEnds.{makes_passed, makes_well}
+pub use Rattle.catalogue_statements.proofs.UpdateEnds.{leaves_so, looked_only, makes_first, makes_ill, makes_later}
+pub use Rattle.catalogue_statements.proofs.UpdateEnds.{makes_passed}
 pub use Rattle.catalogue_statements.specs.Representation.{Represents, RepresentsHousings, RepresentsLinkRows}
 pub use Rattle.catalogue_statements.specs.Representation.{RepresentsUnits, housing_places, numbered_containers}
 pub use Rattle.catalogue_statements.specs.Rows.{HousingRow, by_housing, by_number, by_place, counted_from, link_row}
-pub use Rattle.tree_places.specs.Attachments.{AreAttached, AreAttachedMarks, AreWholeMarksOf, IsOfMarked, NeedsNoPath}
-pub use Rattle.tree_places.specs.Attachments.{named_by}
+pub use Rattle.tree_places.specs.Attachments.{AreAttached, AreAttachedMarks, IsOfMarked, named_by}
 pub use Rattle.tree_places.specs.LastPlaces.{KnowsLast, last_known, taken_below}
 pub use Rattle.tree_places.specs.LinkForests.{HoldsForest}
 pub use Rattle.tree_places.specs.declared.links.Task.TheVariants.{Close, Open}

@@ -14,7 +14,7 @@ use office_tables::{Number, StoreFault, Tables, Versioned};
 use sqlite::Alter;
 use std::alloc::Global;
 
-/// The units that a container is attached to, each once, in order of their numbers.
+/// The units that name a container among their own, each once, in order of their numbers.
 pub fn attached_units<P: Versioned, S: Alter>(
     alloc: Global,
     tables: &mut Tables<P, S>,

@@ -22,8 +22,7 @@ module _ {A : Type 0} (number : A → ℕ) where
       → AllByRecursion (λ x. number x < n + length xs) xs
   counted_within n [] c = tt
   counted_within n (x ∷ xs) c =
-      let e = c.0 in
-      (omega (arith, e), all_weaker (λ y. number y < suc n + length xs) (λ y. number y < n + suc (length xs)) (λ y h. omega (arith, h)) xs (counted_within (suc n) xs c.1))
+      (omega (arith, c.0), all_weaker (λ y. number y < suc n + length xs) (λ y. number y < n + suc (length xs)) (λ y h. omega (arith, h)) xs (counted_within (suc n) xs c.1))
 
   -- and one has the greatest
   pub counted_last : (n : ℕ) (x : A) (xs : List A) → AreCountedFrom number n (x ∷ xs)
@@ -41,15 +40,13 @@ module _ {A : Type 0} (number : A → ℕ) where
       → put_by (λ x. pos (number x)) new xs ≡ xs ++ new ∷ []
   put_end n [] new c e = refl
   put_end n (x ∷ xs) new c e =
-      let here = c.0 in
-      rw (below_less (number x) (number new) (omega (arith, here, e))) (ap (λ l. x ∷ l) (put_end (suc n) xs new c.1 (e ∙ omega arith)))
+      rw (below_less (number x) (number new) (omega (arith, c.0, e))) (ap (λ l. x ∷ l) (put_end (suc n) xs new c.1 (e ∙ omega arith)))
 
   pub counted_free : (n : ℕ) (xs : List A) (m : ℕ) → AreCountedFrom number n xs → m ≡ n + length xs
       → list_any (λ x. nat_eq m (number x)) xs ≡ false
   counted_free n [] m c e = refl
   counted_free n (x ∷ xs) m c e =
-      let here = c.0 in
-      let apart : nat_eq m (number x) ≡ false = grind (arith, nat_tests, here, e) in
+      let apart : nat_eq m (number x) ≡ false = grind (arith, nat_tests, c.0, e) in
       or_from (nat_eq m (number x)) _ apart (counted_free (suc n) xs m c.1 (e ∙ omega arith))
 
   -- rows that change, but for their numbers
@@ -61,9 +58,9 @@ module _ {A : Type 0} (number : A → ℕ) where
   counted_above : (k n : ℕ) (xs : List A) → k < n → AreCountedFrom number n xs
       → AllByRecursion (λ x. int_cmp (pos k) (pos (number x)) ≡ Less) xs
   counted_above k n [] h c = tt
-  counted_above k n (x ∷ xs) h c = let here = c.0 in (below_less k (number x) (omega (arith, here, h)), counted_above k (suc n) xs (omega (arith, h)) c.1)
+  counted_above k n (x ∷ xs) h c = (below_less k (number x) (omega (arith, c.0, h)), counted_above k (suc n) xs (omega (arith, h)) c.1)
 
   pub counted_rises : (n : ℕ) (xs : List A) → AreCountedFrom number n xs
       → Rises (λ a b. int_cmp (pos (number a)) (pos (number b))) xs
   counted_rises n [] c = tt
-  counted_rises n (x ∷ xs) c = let here = c.0 in (counted_above (number x) (suc n) xs (omega (arith, here)) c.1, counted_rises (suc n) xs c.1)
+  counted_rises n (x ∷ xs) c = (counted_above (number x) (suc n) xs (omega (arith, c.0)) c.1, counted_rises (suc n) xs c.1)

@@ -212,7 +212,7 @@ good_housing t units f row h =
     let c = within 1 (length t.catalogue.containers) row.container b.0 in
     record {
       unit = f row.unit (stands_in row.unit (unit_numbers t.catalogue) a.0);
-      container = (c.0, (let l = c.1 in omega (arith, l, n)));
+      container = (c.0, (omega (arith, c.1, n)));
       ord = within 1 (length (housings_of row.unit t.catalogue.housings)) row.ord b.1;
     }
 

@@ -28,7 +28,7 @@ returns-then-branch g c =
     let own = c.args.own.now in
     let one = c.in_ok-defect.ensures in
     let two = c.in_ok-breaks_day_rules.ensures in
-    judged (looks_then _ _ _ one.reads.looks two.reads.looks) (λ clean known.
+    judged (looks_then one.reads.looks two.reads.looks) (λ clean known.
     let clean_mid = before _ _ two.reads.looks clean in
     let good = good_tables v db own known (sym c.in_default.is ∙ one.answers clean_mid) in
     let told = subst (λ (db : Database). own_row_of v db.trees ≡ Some own → AreGoodTables v db → c.in_ok-breaks_day_rules.field-0 ≡ day_is_broken (rows_in v db.trees)) (one.reads.looks.same clean_mid) (two.answers clean) in
@@ -41,7 +41,7 @@ returns g c =
     let own = c.args.own.now in
     let one = c.in_ok-defect.ensures in
     let two = c.in_ok-breaks_day_rules.ensures in
-    judged (looks_then _ _ _ one.reads.looks two.reads.looks) (λ clean known.
+    judged (looks_then one.reads.looks two.reads.looks) (λ clean known.
     let clean_mid = before _ _ two.reads.looks clean in
     let good = good_tables v db own known (sym c.in_default.is ∙ one.answers clean_mid) in
     let told = subst (λ (db : Database). own_row_of v db.trees ≡ Some own → AreGoodTables v db → c.in_ok-breaks_day_rules.field-0 ≡ day_is_broken (rows_in v db.trees)) (one.reads.looks.same clean_mid) (two.answers clean) in

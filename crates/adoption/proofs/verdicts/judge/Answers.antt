@@ -9,19 +9,17 @@ returns-in_err-verdict g c = passes c.from_residual.ensures c.in_err-verdict.ens
 
 pub returns-in-Some : goal.returns-in-Some
 returns-in-Some g c =
-    let v = g.P.Versioned.version in
     let one = c.in_ok-verdict.ensures in
-    judged one.reads.looks (λ clean. subst (IsVersionVerdict v (state g.S.Store c.args.conn.now).now) c.in-Some.is (one.answers clean))
+    judged one.reads.looks (λ clean. subst (IsVersionVerdict g.P.Versioned.version (state g.S.Store c.args.conn.now).now) c.in-Some.is (one.answers clean))
 
 pub returns-in_err-are_ours : goal.returns-in_err-are_ours
 returns-in_err-are_ours g c = is_full c.from_residual-in_err-are_ours.ensures c.in_err-are_ours.ensures.memory c.in_ok-verdict.ensures.reads.looks
 
 pub returns-then-not-branch : goal.returns-then-not-branch
 returns-then-not-branch g c =
-    let v = g.P.Versioned.version in
     let one = c.in_ok-verdict.ensures in
     judged one.reads.looks (λ clean. record {
-      version_is = subst (IsVersionVerdict v (state g.S.Store c.args.conn.now).now) c.in_default.is (one.answers clean);
+      version_is = subst (IsVersionVerdict g.P.Versioned.version (state g.S.Store c.args.conn.now).now) c.in_default.is (one.answers clean);
       schema_is_not = λ is.
           let yes = c.in_ok-are_ours.ensures.answers.1 (ap (λ (db : Database). db.schema) (one.reads.looks.same clean) ∙ is) in
           let no = c.if-not-branch.true in
@@ -36,15 +34,14 @@ returns-in_err-cause g c =
 pub returns-in-Some-2 : goal.returns-in-Some-2
 returns-in-Some-2 g c =
     let v = g.P.Versioned.version in
-    let old = state g.S.Store c.args.conn.now in
     let one = c.in_ok-verdict.ensures in
     let two = c.in_ok-cause.ensures in
-    judged (looks_then _ _ _ one.reads.looks two.reads.looks) (λ clean.
+    judged (looks_then one.reads.looks two.reads.looks) (λ clean.
     let clean_mid = before _ _ two.reads.looks clean in
     let same = one.reads.looks.same clean_mid in
     let told = subst (λ (db : Database). StandInOrder db → c.in_ok-cause.field-0 ≡ cell_cause v db.trees) same (two.answers clean) in (
       record {
-        version_is = subst (IsVersionVerdict v old.now) c.in_default.is (one.answers clean_mid);
+        version_is = subst (IsVersionVerdict v (state g.S.Store c.args.conn.now).now) c.in_default.is (one.answers clean_mid);
         schema_is = ap (λ (db : Database). db.schema) (sym same) ∙ c.in_ok-are_ours.ensures.answers.0 c.if-not-branch.false;
       },
       λ ordered. sym (told ordered) ∙ c.in-Some-2.is,
@@ -53,15 +50,14 @@ returns-in-Some-2 g c =
 pub returns-in-None : goal.returns-in-None
 returns-in-None g c =
     let v = g.P.Versioned.version in
-    let old = state g.S.Store c.args.conn.now in
     let one = c.in_ok-verdict.ensures in
     let two = c.in_ok-cause.ensures in
-    judged (looks_then _ _ _ one.reads.looks two.reads.looks) (λ clean.
+    judged (looks_then one.reads.looks two.reads.looks) (λ clean.
     let clean_mid = before _ _ two.reads.looks clean in
     let same = one.reads.looks.same clean_mid in
     let told = subst (λ (db : Database). StandInOrder db → c.in_ok-cause.field-0 ≡ cell_cause v db.trees) same (two.answers clean) in (
       record {
-        version_is = subst (IsVersionVerdict v old.now) c.in_default.is (one.answers clean_mid);
+        version_is = subst (IsVersionVerdict v (state g.S.Store c.args.conn.now).now) c.in_default.is (one.answers clean_mid);
         schema_is = ap (λ (db : Database). db.schema) (sym same) ∙ c.in_ok-are_ours.ensures.answers.0 c.if-not-branch.false;
       },
       λ ordered. sym (told ordered) ∙ c.in-None.is,

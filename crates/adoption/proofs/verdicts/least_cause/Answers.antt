@@ -24,7 +24,7 @@ returns-in-Some-2 g c =
     let old = state g.S.Store c.args.tables.now in
     let one = c.in_ok-own.ensures in
     let two = c.in_ok-defect.ensures in
-    judged (looks_then _ _ _ one.reads.looks two.reads.looks) (λ clean ordered.
+    judged (looks_then one.reads.looks two.reads.looks) (λ clean ordered.
     let is : Some own ≡ own_row_of v old.now.trees = sym c.in-Some.is ∙ (one.answers (earlier two clean)).2 ordered in
     ap Some c.cause.ensures ∙ sym (told_catalogue v old.now.trees own is c.in-Some-2.defect (sym c.in-Some-2.is ∙ still one.reads.looks two clean)))
 
@@ -35,7 +35,7 @@ returns g c =
     let old = state g.S.Store c.args.tables.now in
     let one = c.in_ok-own.ensures in
     let two = c.in_ok-defect.ensures in
-    let looked = looks_then _ _ _ one.reads.looks two.reads.looks in
+    let looked = looks_then one.reads.looks two.reads.looks in
     let good = λ (clean : HasCleanDisk (state g.S.Store c.load_check.new.tables)) (ordered : StandInOrder old.now).
     let first = one.answers (earlier two clean) in
     let is : Some own ≡ own_row_of v old.now.trees = sym c.in-Some.is ∙ first.2 ordered in

@@ -16,7 +16,7 @@ returns-in_default g c =
 pub returns-then-len-ne1 : goal.returns-then-len-ne1
 returns-then-len-ne1 g c =
     let one = c.in_ok-rows.ensures in
-    judged one.reads.looks (λ clean. inr (c.in-Some.rows.items, subst (AreVersions (state g.S.Store c.args.conn.now).now) c.in-Some.is (one.answers clean), λ is. let it = c.if-len-ne1.true in search (rules, it, is)))
+    judged one.reads.looks (λ clean. inr (c.in-Some.rows.items, subst (AreVersions (state g.S.Store c.args.conn.now).now) c.in-Some.is (one.answers clean), λ is. search (rules, c.if-len-ne1.true, is)))
 
 pub returns : goal.returns
 returns g c = judged c.in_ok-rows.ensures.reads.looks (λ clean.

@@ -8,7 +8,6 @@ pub loop-field-preserved : goal.loop-field-preserved
 loop-field-preserved c =
     let (row, found, at) = c.in-Some.ensures.steps in
     let same = c.loop-field.invariant.same in
-    let done = c.loop-field.invariant.done in
     let fields = fields_of c.args.row.now in
     let i = c.loop-field.field-iterator.at in
     let here = sym (found ∙ ap (λ (r : Row). field_at (fields_of r) i) same) in
@@ -16,7 +15,7 @@ loop-field-preserved c =
     record {
       same = ap (λ b. b.now) row ∙ same;
       done = ap borrowed_fields c.in_ok-push.ensures.items ∙ (map-append (λ (f : Bor Bytes). f.now) c.loop-field.names.items (c.trim.result ∷ [])
-          ∙ (ap (λ fs. fs ++ c.trim.result.now ∷ []) done ∙ (ap (λ f. map trimmed (take i fields) ++ f ∷ []) c.trim.ensures
+          ∙ (ap (λ fs. fs ++ c.trim.result.now ∷ []) c.loop-field.invariant.done ∙ (ap (λ f. map trimmed (take i fields) ++ f ∷ []) c.trim.ensures
           ∙ (sym (map-append trimmed (take i fields) (c.in-Some.field.now ∷ [])) ∙ (ap (map trimmed) (sym next) ∙ ap (λ n. map trimmed (take n fields)) (sym at))))));
     }
 

@@ -20,8 +20,7 @@ loop-end-preserved c =
     let within = c.loop-end.invariant.within in
     let there = c.loop-end-test.true in
     let lt : i < length text = omega arith in
-    let same = c.as_bytes-bytes.ensures.value in
-    let space : is_space (get_or text i 0) ≡ true = ap (λ (bs : List ℕ). is_space (get_or bs i 0)) (sym same) ∙ (sym c.is_space.ensures ∙ c.if-is_space.true) in
+    let space : is_space (get_or text i 0) ≡ true = ap (λ (bs : List ℕ). is_space (get_or bs i 0)) (sym c.as_bytes-bytes.ensures.value) ∙ (sym c.is_space.ensures ∙ c.if-is_space.true) in
     let next : suc i ≡ c.loop-end.end = omega arith in
     record {
       within = omega arith;

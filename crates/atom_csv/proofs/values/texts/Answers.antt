@@ -16,9 +16,8 @@ one_more tell xs i d y low is =
 pub loop-i-preserved : goal.loop-i-preserved
 loop-i-preserved c =
     let i = c.loop-i.i in
-    let long = c.loop-i.invariant.long in
     let low = c.loop-i-test.true in
-    let set = take-set_at c.loop-i.texts (i + 2) (i + 1 + 2) c.in_ok-texts-3.field-0 (omega arith) (omega (arith, long, low)) in
+    let set = take-set_at c.loop-i.texts (i + 2) (i + 1 + 2) c.in_ok-texts-3.field-0 (omega arith) (omega (arith, c.loop-i.invariant.long, low)) in
     let next = one_more {X = element.the_data} (λ e. nonblank (text_in_columns c.args.header.now (trimmed_fields c.args.row.now) e)) line_elements i element.ReferenceCode c.in_ok-texts-3.field-0 low (search rules) in
     record {
       long = search rules;
@@ -29,8 +28,7 @@ pub returns : goal.returns
 unfolding text_elements
 returns c =
     let i = c.loop-i.i in
-    let long = c.loop-i.invariant.long in
     let last = c.loop-i-test.false in
-    let end : i ≡ 23 = (let high = c.loop-i.auto.i-end in omega (arith, last, high)) in
-    sym (take_all (i + 2) c.loop-i.texts (omega (arith, long, last)))
+    let end : i ≡ 23 = (omega (arith, last, c.loop-i.auto.i-end)) in
+    sym (take_all (i + 2) c.loop-i.texts (omega (arith, c.loop-i.invariant.long, last)))
     ∙ (c.loop-i.invariant.done ∙ ap (λ (n : ℕ). map (λ e. nonblank (text_in_columns c.args.header.now (trimmed_fields c.args.row.now) e)) (element.ReferenceCode ∷ element.Title ∷ take n line_elements)) end)

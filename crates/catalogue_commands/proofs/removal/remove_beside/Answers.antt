@@ -1,8 +1,9 @@
 use Rattle.std.proofs.Common.{◌≡◌, true}
+use Rattle.office_core.proofs.KeptOffices.{office_kept}
 use Rattle.office_core.specs.declared.command.Command.TheVariants as command
 use Rattle.office_core.specs.declared.done.Done.TheVariants as done
-use Rattle.catalogue_commands.proofs.Common.{AreAsked, AreEnough, does_pass, has_unit, issued_of, office_kept}
-use Rattle.catalogue_commands.proofs.Common.{office_of, passed_where, permit_rows, state, tables}
+use Rattle.catalogue_commands.proofs.Common.{AreAsked, AreEnough, does_pass, has_unit, issued_of, office_of}
+use Rattle.catalogue_commands.proofs.Common.{passed_where, permit_rows, state, tables}
 use Rattle.catalogue_commands.proofs.Removed.{removes, removes_near}
 use Rattle.catalogue_commands.proofs.removal.remove_beside.Goals as goal
 

@@ -1,23 +1,19 @@
-use Rattle.std.proofs.Common.{◌≡◌, false, refl, sym, ap, ◌∙◌}
-use Rattle.catalogue_commands.proofs.Common.{catalogue_passed, does_then, has_unit, is_refused, is_some, office_kept}
-use Rattle.catalogue_commands.proofs.Common.{office_of}
-use Rattle.catalogue_commands.proofs.KnownUnits.{same_number}
+use Rattle.std.proofs.Common.{◌≡◌, false, refl, sym, ◌∙◌}
+use Rattle.catalogue_commands.proofs.Common.{catalogue_passed, does_then, has_unit, is_refused, office_of}
 use Rattle.catalogue_commands.proofs.removal.remove_unit.Goals as goal
 
-pub returns-in_err-number : goal.returns-in_err-number
-returns-in_err-number g c = let told = c.in_err-number.ensures.answers in catalogue_passed _ c.from_residual.ensures told.aborts told.faults
+pub returns-in_err-known : goal.returns-in_err-known
+returns-in_err-known g c = let told = c.in_err-known.ensures.answers in catalogue_passed _ c.from_residual.ensures told.aborts told.faults
 
-pub returns-in_default : goal.returns-in_default
-returns-in_default g c =
-    let told = c.in_ok-number.ensures.answers in
+pub returns-then-not-known : goal.returns-then-not-known
+returns-then-not-known g c =
+    let told = c.in_ok-known.ensures.answers in
     is_refused told.looks (λ clean s sound so it.
-    let none : has_unit s.catalogue.forest c.args.unit ≡ false = sym (told.answers clean (office_of s) s.catalogue it.catalogue (office_kept s sound)) ∙ ap is_some c.in_default.is in
+    let none : has_unit s.catalogue.forest c.args.unit ≡ false = sym (told.answers clean (office_of s) s.catalogue it.catalogue) ∙ c.if-not-known.true in
     rw none refl)
 
 pub returns : goal.returns
 returns g c =
-    let told = c.in_ok-number.ensures.answers in
-    let same = same_number _ c.in-Some.number c.args.unit c.in-Some.is c.in_ok-number.ensures.same in
-    let last = rw same at c.remove_known.ensures in
-    does_then told.looks last
-    (λ clean s sound so it. (so, sym (told.answers clean (office_of s) s.catalogue it.catalogue (office_kept s sound)) ∙ ap is_some c.in-Some.is))
+    let told = c.in_ok-known.ensures.answers in
+    does_then told.looks c.remove_known.ensures
+    (λ clean s sound so it. (so, sym (told.answers clean (office_of s) s.catalogue it.catalogue) ∙ c.if-not-known.false))

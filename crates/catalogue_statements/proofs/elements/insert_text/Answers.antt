@@ -9,8 +9,7 @@ use Rattle.catalogue_statements.proofs.elements.insert_text.Goals as goal
 
 pub returns-in-None : goal.returns-in-None
 returns-in-None g c =
-    let a = state g.S.Store c.args.tables.now in
-    writes_well (goes_nowhere a) (λ clean. nothing_touched (tables.element.tree ∷ []) a.now)
+    writes_well goes_nowhere (λ clean. nothing_touched (tables.element.tree ∷ []) (state g.S.Store c.args.tables.now).now)
     (λ clean xs at.
     let none : WithTexts c.args.unit (text_cells c.args.place None) xs xs = record { more = []; are = IsPermutation-refl xs; tell = IsPermutation-refl []; theirs = tt } in
     (xs, at, subst (λ t. WithTexts c.args.unit (text_cells c.args.place (option_copied t)) xs xs) (sym c.in-None.is) none))

@@ -26,11 +26,11 @@ loop-text-preserved g c =
     (c.as_ref.ensures.value ∙ c.text-item.is ∙ ap (λ (l : List (Option Bytes)). get_or l i c.text-item.result) c.as_slice-text-items.ensures ∙ ap (get_or texts i) (sym c.as_ref.ensures.value)) in (
       ap (λ n. n + 1) invariant.0,
       (
-        goes_then a b d invariant.1.0 last,
+        goes_then invariant.1.0 last,
         (
-          λ clean. touched_again (tables.element.tree ∷ []) a.now b.now d.now (invariant.1.1.0 (early b d _ last.on.crash clean)) (c.in_ok-insert_text.ensures.only clean),
+          λ clean. touched_again (tables.element.tree ∷ []) a.now b.now d.now (invariant.1.1.0 (early last.on.crash clean)) (c.in_ok-insert_text.ensures.only clean),
           λ clean xs at.
-              let before = invariant.1.1.1 (early b d _ last.on.crash clean) xs at in
+              let before = invariant.1.1.1 (early last.on.crash clean) xs at in
               let one = c.in_ok-insert_text.ensures.makes clean before.0 before.1 in
               (one.0, one.1, subst (λ cells. WithTexts unit cells xs one.0) cells (cells_then (λ (e : ElementRow). e.unit) cell_of unit (first_cells i texts) (text_cells c.loop-text.place text) xs before.0 one.0 before.2 one.2)),
         ),
@@ -39,7 +39,6 @@ loop-text-preserved g c =
 
 pub returns-in_err-insert_text : goal.returns-in_err-insert_text
 returns-in_err-insert_text g c =
-    let a = state g.S.Store c.args.tables.now in
     let b = state g.S.Store c.loop-text.tables in
     let d = state g.S.Store c.insert_text.new.tables in
     let unit = c.args.unit in
@@ -51,7 +50,7 @@ returns-in_err-insert_text g c =
     writes_cut c.in_err-insert_text.field-0.0 c.from_residual.ensures so_far.0 so_far.1.0 failed.leaves.aborts (λ clean. untouched (tables.element.tree ∷ []) b d _ (failed.leaves.spares clean))
     (λ before xs at room.
     let told = so_far.1.1 before xs at in
-    let here = unit_still a.now.trees b.now.trees unit ((so_far.1.0 before) tables.unit.tree refl refl) room.0 in
+    let here = unit_still (state g.S.Store c.args.tables.now).now.trees b.now.trees unit ((so_far.1.0 before) tables.unit.tree refl refl) room.0 in
     let low : i < length texts = subst (λ (l : List (Option Bytes)). i < length l) c.as_slice-text-items.ensures c.loop-text-test.true in
     let next = text_free unit i texts xs told.0 (omega (arith, low)) told.2 room.1 in
     let none_yet = subst (λ k. list_any (λ (e : ElementRow). nat_eq unit e.unit && nat_eq (element_number k) e.k) told.0 ≡ false) (sym invariant.0) next in

@@ -33,8 +33,8 @@ returns g c =
     let next = c.in_ok-number.ensures in
     let looked = next.reads.looks in
     let inserted = c.in_ok-insert_container.ensures in
-    let early_b = early b d _ inserted.leaves.crash in
-    writes_well (goes_then a b d looked.goes inserted.leaves.goes) (λ clean. touched_again touched a.now b.now d.now (same_untouched touched a.now b.now (looked.same (early_b clean))) (inserted.puts clean).only)
+    let early_b = early inserted.leaves.crash in
+    writes_well (goes_then looked.goes inserted.leaves.goes) (λ clean. touched_again touched a.now b.now d.now (same_untouched touched a.now b.now (looked.same (early_b clean))) (inserted.puts clean).only)
     (λ clean boxes at.
     let before = early_b clean in
     let is = next.answers before boxes at tt in

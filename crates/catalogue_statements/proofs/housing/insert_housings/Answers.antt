@@ -31,11 +31,11 @@ loop-key-preserved g c =
     let place : c.loop-key.place ≡ length seen = invariant.0 ∙ sym (length-take-le i told (omega (arith, low))) in (
       ap (λ n. n + 1) invariant.0,
       (
-        goes_then a b d invariant.1.0 last,
+        goes_then invariant.1.0 last,
         (
-          λ clean. touched_again (tables.container.tree ∷ tables.housing.tree ∷ []) a.now b.now d.now (invariant.1.1.0 (early b d _ last.on.crash clean)) (did.only clean),
+          λ clean. touched_again (tables.container.tree ∷ tables.housing.tree ∷ []) a.now b.now d.now (invariant.1.1.0 (early last.on.crash clean)) (did.only clean),
           λ clean boxes xs at.
-              let before = invariant.1.1.1 (early b d _ last.on.crash clean) boxes xs at in
+              let before = invariant.1.1.1 (early last.on.crash clean) boxes xs at in
               let now = with_boxes boxes seen in
               let one = did.makes clean (record { boxes = now; rows = before.0 }) before.1 in
               let ys = one.0 in
@@ -52,7 +52,7 @@ loop-key-init g c =
     let a = state g.S.Store c.args.tables.now in (
       refl,
       (
-        goes_nowhere a,
+        goes_nowhere,
         (
           λ clean. nothing_touched (tables.container.tree ∷ tables.housing.tree ∷ []) a.now,
           λ clean boxes xs at.
@@ -64,7 +64,6 @@ loop-key-init g c =
 
 pub returns-in_err-house : goal.returns-in_err-house
 returns-in_err-house g c =
-    let a = state g.S.Store c.args.tables.now in
     let b = state g.S.Store c.loop-key.tables in
     let unit = c.args.unit in
     let told = c.args.values.now.boxes in
@@ -78,7 +77,7 @@ returns-in_err-house g c =
     (λ before held at room.
     let none = room.2 in
     let housed = so_far.1.1 before held.boxes held.rows at in
-    let here = unit_still a.now.trees b.now.trees unit ((so_far.1.0 before) tables.unit.tree refl refl) room.0 in
+    let here = unit_still (state g.S.Store c.args.tables.now).now.trees b.now.trees unit ((so_far.1.0 before) tables.unit.tree refl refl) room.0 in
     let low : i < length told = subst (λ (l : List BoxKey). i < length l) c.as_slice-key-items.ensures c.loop-key-test.true in
     let is : key ≡ get_or told i key = c.key-item.is ∙ ap (λ (l : List BoxKey). get_or l i key) c.as_slice-key-items.ensures in
     let now = with_boxes held.boxes seen in

@@ -42,12 +42,11 @@ returns-in-None g c =
 
 pub returns-in-Some : goal.returns-in-Some
 returns-in-Some g c =
-    let a = state g.S.Store c.args.tables.now in
     let b = state g.S.Store c.container_number.new.tables in
     let key = c.args.key.now in
     let found = c.in_ok-number.ensures in
     let looked = found.reads.looks in
-    writes_well looked.goes (λ clean. same_untouched (tables.container.tree ∷ []) a.now b.now (looked.same clean))
+    writes_well looked.goes (λ clean. same_untouched (tables.container.tree ∷ []) (state g.S.Store c.args.tables.now).now b.now (looked.same clean))
     (λ clean boxes at apart.
     let got = found.answers clean (counted_from 1 boxes) at tt in
     let some : number_among boxes key ≡ Some c.in-Some.number =

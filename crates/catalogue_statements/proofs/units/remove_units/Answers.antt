@@ -12,7 +12,7 @@ use Rattle.catalogue_statements.proofs.units.remove_units.Goals as goal
 pub loop-id-init : goal.loop-id-init
 loop-id-init g c =
     let a = state g.S.Store c.args.tables.now in
-    (goes_nowhere a, ((λ clean. nothing_touched unit_tables a.now), λ clean xs stored up listed. removed_none a.now))
+    (goes_nowhere, ((λ clean. nothing_touched unit_tables a.now), λ clean xs stored up listed. removed_none a.now))
 
 pub returns-in_err-remove_unit-clause-writes : goal.returns-in_err-remove_unit-clause-writes
 returns-in_err-remove_unit-clause-writes g c =
@@ -36,12 +36,12 @@ loop-id-preserved g c =
     let is : c.id-item.result ≡ get_or ids i 0 = c.id-item.is ∙ get_or_default ids i c.id-item.result 0 c.loop-id-test.true in
     let removed = rw is at c.in_ok-remove_unit.ensures in
     let last = removed.leaves.goes in (
-      goes_then a b d invariant.0 last,
+      goes_then invariant.0 last,
       (
-        (λ clean. touched_again unit_tables a.now b.now d.now (invariant.1.0 (early b d _ last.on.crash clean)) (removed.only clean)),
+        (λ clean. touched_again unit_tables a.now b.now d.now (invariant.1.0 (early last.on.crash clean)) (removed.only clean)),
         λ clean xs stored up listed.
             let gone = take i ids in
-            let before = invariant.1.1 (early b d _ last.on.crash clean) xs stored up listed in
+            let before = invariant.1.1 (early last.on.crash clean) xs stored up listed in
             let one = removed.removes clean (without_records id_of gone xs) (before.units xs stored up) (ascending-filter _ _ xs up) (next_listed ids i xs listed c.loop-id-test.true) in
             subst (λ (l : List ℕ). AreRemoved l a.now d.now) (sym (take_more ids i 0 c.loop-id-test.true)) (removed_then gone (get_or ids i 0 ∷ []) a.now b.now d.now before one),
       ),
@@ -57,10 +57,9 @@ pub returns-in_err-remove_unit-clause-faults : goal.returns-in_err-remove_unit-c
 returns-in_err-remove_unit-clause-faults g c told listed clean free =
     let a = state g.S.Store c.args.tables.now in
     let b = state g.S.Store c.loop-id.tables in
-    let d = state g.S.Store c.remove_unit.new.tables in
     let invariant = c.loop-id.invariant in
-    let before = early b d _ c.in_err-remove_unit.ensures.leaves.aborts.crash clean in
+    let before = early c.in_err-remove_unit.ensures.leaves.aborts.crash clean in
     let free_b : IsUnlimited b = still_unlimited a b invariant.0.on free in
     let why = c.in_err-remove_unit.ensures.faults (told_after (take c.loop-id.id-index c.args.ids.now) a.now b.now told (invariant.1.1 before told.units told.unit_rows told.units_rise listed)) clean free_b in
-    let whole = cause_then a b d invariant.0.on before _ why in
+    let whole = cause_then a b (state g.S.Store c.remove_unit.new.tables) invariant.0.on before _ why in
     search (rules, whole)

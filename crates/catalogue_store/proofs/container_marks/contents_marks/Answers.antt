@@ -6,23 +6,17 @@ use Rattle.catalogue_store.proofs.container_marks.contents_marks.Goals as goal
 
 pub returns-in_err-units : goal.returns-in_err-units
 returns-in_err-units g c =
-    let handed = c.from_residual.ensures in
     let e = c.in_err-units.field-0.0 in
-    record {
-      answers = tells_not g.S.Store (Represents g.P.Places.represents g.P.Versioned.version) IsKept (λ _. ⊤) c.args.tables.now c.attached_units.new.tables c.from_residual.result (λ _ k found. AreContentsMarks k c.args.container found.items) e
-          (same_fault c.from_residual.result e handed.0 handed.1) c.in_err-units.ensures.reads.aborts c.in_err-units.ensures.reads.spares
-          (λ o k it may kept clean free. c.in_err-units.ensures.faults k it.catalogue.housings clean free);
-    }
+    record { answers = tells_not (same_fault c.from_residual.ensures) c.in_err-units.ensures.reads.aborts c.in_err-units.ensures.reads.spares (λ o k it may kept clean free. c.in_err-units.ensures.faults k it.catalogue.housings clean free) }
 
 pub returns : goal.returns
 returns g c =
     let looked = c.in_ok-units.ensures.reads.looks in
-    let ids = c.deref.result.now in
     let represents = Represents g.P.Places.represents g.P.Versioned.version in
     record {
       answers = answers_later g.S.Store represents IsKept (λ _. ⊤) represents IsKept (λ _. ⊤) c.args.tables.now c.attached_units.new.tables c.marks_of_units.new.tables c.marks_of_units.result
           (λ _ k found. AreContentsMarks k c.args.container found.items)
-          (λ _ k found. AreWholeMarksOfEach k.forest ids found.items) looked
+          (λ _ k found. AreWholeMarksOfEach k.forest c.deref.result.now found.items) looked
           (λ o k it before.
           let got = c.in_ok-units.ensures.units before k it.catalogue.units it.catalogue.housings in
           let is = c.deref.ensures.value ∙ got.2 in

@@ -1,39 +1,28 @@
 use Rattle.std.proofs.Common.{[], ◌∷◌, ◌+◌, Err, refl, sym, ap, ◌∙◌, nat_eq, arith}
-use Rattle.isad_core.specs.Limits.{IsNumber}
 use Rattle.office_tables.specs.Schema as tables
-use Rattle.office_tables.specs.declared.fault.StoreFault.TheVariants as fault
 use Rattle.catalogue_statements.proofs.NewUnits.{no_unit, shows_added}
-use Rattle.catalogue_store.proofs.Common.{ElementRow, Goes, HasPlaceFor, HasRows, HousingRow, IsAborted, IsKept, IsNew}
-use Rattle.catalogue_store.proofs.Common.{OnlyTouches, RepresentsNumbered, Unit, add, catalogue_trees, cut_after}
-use Rattle.catalogue_store.proofs.Common.{cut_then, each, early, excused_then, goes_then, has-each, has_id}
-use Rattle.catalogue_store.proofs.Common.{has_place-each, is_from, last_touched, list_any-IsPermutation, looks_nowhere}
-use Rattle.catalogue_store.proofs.Common.{makes_cut, makes_not, nodes, none_yet, office_row, on_err_then, on_ok_by}
-use Rattle.catalogue_store.proofs.Common.{on_ok_then, same_fault, spares_known, state, touched_then, touched_wider}
-use Rattle.catalogue_store.proofs.Common.{unit_added, unit_of, untouched_last, wider_spares, with_numbered}
+use Rattle.catalogue_store.proofs.Common.{ElementRow, Goes, HasRows, HousingRow, IsAborted, OnlyTouches}
+use Rattle.catalogue_store.proofs.Common.{RepresentsNumbered, Unit, add, catalogue_trees, cut_after, cut_then, each}
+use Rattle.catalogue_store.proofs.Common.{early, excused_then, goes_then, has-each, has_id, has_place-each, is_from}
+use Rattle.catalogue_store.proofs.Common.{last_touched, list_any-IsPermutation, looks_nowhere, makes_cut, makes_not}
+use Rattle.catalogue_store.proofs.Common.{nodes, none_yet, office_row, on_err_then, on_ok_by, on_ok_then, same_fault}
+use Rattle.catalogue_store.proofs.Common.{spares_known, state, touched_then, touched_wider, unit_added, unit_of}
+use Rattle.catalogue_store.proofs.Common.{untouched_last, wider_spares, with_numbered}
 use Rattle.catalogue_store.proofs.Telling.{descriptions_in, descriptions_shown, same_described, same_descriptions}
 use Rattle.catalogue_store.proofs.descriptions.add_placed.Goals as goal
 
 pub returns-in_err-next : goal.returns-in_err-next
 returns-in_err-next g c =
-    let a = state g.S.Store c.args.tables.now in
-    let handed = c.from_residual.ensures in
     let e = c.in_err-next.field-0.0 in
-    let looked = looks_nowhere a in
-    record {
-      updates = makes_not g.S.Store (RepresentsNumbered g.P.Places.represents g.P.Versioned.version) (λ k. IsKept k × IsNew (unit_of c.args.unit.now) k × IsNumber (c.args.unit.now.id + 1)) (HasPlaceFor c.args.parent) c.args.tables.now c.args.tables.now c.from_residual.result (with_numbered c.args.parent (unit_of c.args.unit.now)) catalogue_trees fault.Schema
-          (same_fault c.from_residual.result e handed.0 handed.1 ∙ ap Err c.in_err-next.ensures.fair) (cut_after a a looked.goes.on) (spares_known a a looked)
-          (λ o k it may kept clean free. let small = kept.2 in absurd (omega (arith, small, c.get.ensures.same, c.in_err-next.ensures.great)));
-    }
+    let looked = looks_nowhere in
+    record { updates = makes_not (same_fault c.from_residual.ensures ∙ ap Err c.in_err-next.ensures.fair) (cut_after looked.goes.on) (spares_known looked) (λ o k it may kept clean free. let small = kept.2 in absurd (omega (arith, small, c.get.ensures.same, c.in_err-next.ensures.great))) }
 
 pub returns-in_err-insert_unit : goal.returns-in_err-insert_unit
 returns-in_err-insert_unit g c =
     let u = unit_of c.args.unit.now in
-    let handed = c.from_residual-in_err-insert_unit.ensures in
     let e = c.in_err-insert_unit.field-0.0 in
     record {
-      updates = makes_not g.S.Store (RepresentsNumbered g.P.Places.represents g.P.Versioned.version) (λ k. IsKept k × IsNew (unit_of c.args.unit.now) k × IsNumber (c.args.unit.now.id + 1)) (HasPlaceFor c.args.parent) c.args.tables.now c.insert_unit.new.tables c.from_residual-in_err-insert_unit.result (with_numbered c.args.parent (unit_of c.args.unit.now)) catalogue_trees e
-          (same_fault c.from_residual-in_err-insert_unit.result e handed.0 handed.1) c.in_err-insert_unit.ensures.leaves.aborts c.in_err-insert_unit.ensures.leaves.spares
-          (λ o k it may kept clean free.
+      updates = makes_not (same_fault c.from_residual-in_err-insert_unit.ensures) c.in_err-insert_unit.ensures.leaves.aborts c.in_err-insert_unit.ensures.leaves.spares (λ o k it may kept clean free.
           let at = it.catalogue.units in
           c.in_err-insert_unit.ensures.faults at.units at.rows (
             sym (list_any-IsPermutation (has_id u.id) (nodes k.forest) at.units at.are) ∙ kept.1.number,
@@ -46,14 +35,8 @@ returns-in_err-add g c =
     let a = state g.S.Store c.args.tables.now in
     let b = state g.S.Store c.insert_unit.new.tables in
     let u = unit_of c.args.unit.now in
-    let handed = c.from_residual-in_err-add.ensures in
-    let e = c.in_err-add.field-0.0 in
     record {
-      updates = makes_cut g.S.Store (RepresentsNumbered g.P.Places.represents g.P.Versioned.version) (λ k. IsKept k × IsNew (unit_of c.args.unit.now) k × IsNumber (c.args.unit.now.id + 1)) (HasPlaceFor c.args.parent) c.args.tables.now c.insert_unit.new.tables c.add.new.tables c.from_residual-in_err-add.result (with_numbered c.args.parent (unit_of c.args.unit.now)) catalogue_trees e
-          (same_fault c.from_residual-in_err-add.result e handed.0 handed.1) c.in_ok-insert_unit.ensures.leaves.goes.on
-          (λ at_b. touched_wider (tables.unit.tree ∷ []) catalogue_trees a.now b.now refl (c.in_ok-insert_unit.ensures.puts at_b).only) c.in_err-add.ensures.updates.aborts
-          (λ clean. wider_spares (tables.link.tree ∷ []) catalogue_trees b (state g.S.Store c.add.new.tables) e refl (c.in_err-add.ensures.updates.spares clean))
-          (λ o k it may kept at_b clean free.
+      updates = makes_cut (same_fault c.from_residual-in_err-add.ensures) c.in_ok-insert_unit.ensures.leaves.goes.on (λ at_b. touched_wider (tables.unit.tree ∷ []) catalogue_trees a.now b.now refl (c.in_ok-insert_unit.ensures.puts at_b).only) c.in_err-add.ensures.updates.aborts (λ clean. wider_spares (tables.link.tree ∷ []) catalogue_trees b (state g.S.Store c.add.new.tables) c.in_err-add.field-0.0 refl (c.in_err-add.ensures.updates.spares clean)) (λ o k it may kept at_b clean free.
           let ids = each (λ (x : Unit). x.id) k.forest in
           let only = (c.in_ok-insert_unit.ensures.puts at_b).only in
           let shown = g.met.P.Places.shows_same a.now.trees b.now.trees ids (only tables.link.tree refl refl) it.shown in
@@ -67,22 +50,15 @@ returns-in_err-describe g c =
     let b = state g.S.Store c.insert_unit.new.tables in
     let d = state g.S.Store c.add.new.tables in
     let u = unit_of c.args.unit.now in
-    let handed = c.from_residual-in_err-describe.ensures in
-    let e = c.in_err-describe.field-0.0 in
-    let went = goes_then a b d c.in_ok-insert_unit.ensures.leaves.goes c.in_ok-add.ensures.updates.goes in
+    let went = goes_then c.in_ok-insert_unit.ensures.leaves.goes c.in_ok-add.ensures.updates.goes in
     record {
-      updates = makes_cut g.S.Store (RepresentsNumbered g.P.Places.represents g.P.Versioned.version) (λ k. IsKept k × IsNew (unit_of c.args.unit.now) k × IsNumber (c.args.unit.now.id + 1)) (HasPlaceFor c.args.parent) c.args.tables.now c.add.new.tables c.describe.new.tables c.from_residual-in_err-describe.result (with_numbered c.args.parent (unit_of c.args.unit.now)) catalogue_trees e
-          (same_fault c.from_residual-in_err-describe.result e handed.0 handed.1) went.on
-          (λ at_d. touched_wider (tables.unit.tree ∷ tables.link.tree ∷ []) catalogue_trees a.now d.now refl
-          (touched_then (tables.unit.tree ∷ []) (tables.link.tree ∷ []) a.now b.now d.now (c.in_ok-insert_unit.ensures.puts (early b d _ c.in_ok-add.ensures.updates.goes.on.crash at_d)).only (c.in_ok-add.ensures.updates.only at_d)))
-          c.in_err-describe.ensures.leaves.aborts
-          (λ clean. wider_spares (tables.element.tree ∷ tables.container.tree ∷ tables.housing.tree ∷ []) catalogue_trees d (state g.S.Store c.describe.new.tables) e refl (c.in_err-describe.ensures.leaves.spares clean))
-          (λ o k it may kept at_d clean free.
+      updates = makes_cut (same_fault c.from_residual-in_err-describe.ensures) went.on (λ at_d. touched_wider (tables.unit.tree ∷ tables.link.tree ∷ []) catalogue_trees a.now d.now refl
+          (touched_then (tables.unit.tree ∷ []) (tables.link.tree ∷ []) a.now b.now d.now (c.in_ok-insert_unit.ensures.puts (early c.in_ok-add.ensures.updates.goes.on.crash at_d)).only (c.in_ok-add.ensures.updates.only at_d))) c.in_err-describe.ensures.leaves.aborts (λ clean. wider_spares (tables.element.tree ∷ tables.container.tree ∷ tables.housing.tree ∷ []) catalogue_trees d (state g.S.Store c.describe.new.tables) c.in_err-describe.field-0.0 refl (c.in_err-describe.ensures.leaves.spares clean)) (λ o k it may kept at_d clean free.
           let v = g.P.Versioned.version in
           let shown = record o { next_unit = k.next } in
           let at = it.catalogue in
           let told = descriptions_in v a.now shown k at in
-          let at_b = early b d _ c.in_ok-add.ensures.updates.goes.on.crash at_d in
+          let at_b = early c.in_ok-add.ensures.updates.goes.on.crash at_d in
           let put = c.in_ok-insert_unit.ensures.puts at_b in
           let only = put.only in
           let aside = c.in_ok-add.ensures.updates.only at_d in
@@ -112,7 +88,7 @@ returns g c =
     let added = c.in_ok-add.ensures.updates in
     let described = c.in_ok-describe.ensures in
     let numbered = rw (c.in_ok-next.ensures.same, c.get.ensures.same) at c.set_next_unit.ensures in
-    let went = goes_then a d e (goes_then a b d c.in_ok-insert_unit.ensures.leaves.goes added.goes) described.leaves.goes in
+    let went = goes_then (goes_then c.in_ok-insert_unit.ensures.leaves.goes added.goes) described.leaves.goes in
     record {
       updates = record {
         call = record {
@@ -125,9 +101,9 @@ returns g c =
               let shown = RepresentsNumbered represents v h.now o (with_numbered parent u k) in
               on_ok_by r (Goes e h) shown
               (λ last.
-              let at_e = early e h _ last.on.crash clean in
-              let at_d = early d e _ described.leaves.goes.on.crash at_e in
-              let at_b = early b d _ added.goes.on.crash at_d in
+              let at_e = early last.on.crash clean in
+              let at_d = early described.leaves.goes.on.crash at_e in
+              let at_b = early added.goes.on.crash at_d in
               let put = c.in_ok-insert_unit.ensures.puts at_b in
               let kept = put.only in
               let new_id = no_unit a.now.trees k.forest at.units u put.fresh in
@@ -140,7 +116,7 @@ returns g c =
               let office = told tables.office.tree refl refl ∙ aside tables.office.tree refl refl ∙ kept tables.office.tree refl refl ∙ at.office in
               on_ok_then r (HasRows tables.office.tree (office_row v (record before { next_unit = u.id + 1 }) ∷ []) e.now h.now) shown
               (λ wrote. shows_added v represents a.now h.now before k parent u it may.place may.knows (record {
-                schema = (goes_then a e h went last).schema clean;
+                schema = (goes_then went last).schema clean;
                 office = wrote.are;
                 units = wrote.only tables.unit.tree refl refl ∙ told tables.unit.tree refl refl ∙ aside tables.unit.tree refl refl ∙ put.rows;
                 fresh = put.fresh;
@@ -157,9 +133,9 @@ returns g c =
               let touched = OnlyTouches catalogue_trees a.now h.now in
               on_ok_by r (Goes e h) touched
               (λ last.
-              let at_e = early e h _ last.on.crash clean in
-              let at_d = early d e _ described.leaves.goes.on.crash at_e in
-              let at_b = early b d _ added.goes.on.crash at_d in
+              let at_e = early last.on.crash clean in
+              let at_d = early described.leaves.goes.on.crash at_e in
+              let at_b = early added.goes.on.crash at_d in
               let two = touched_then unit link a.now b.now d.now (c.in_ok-insert_unit.ensures.puts at_b).only (added.only at_d) in
               let three = touched_then (tables.unit.tree ∷ link) told a.now d.now e.now two (described.only at_e) in
               on_ok_then r (OnlyTouches office e.now h.now) touched
@@ -167,12 +143,12 @@ returns g c =
               (touched_then (tables.unit.tree ∷ tables.link.tree ∷ told) office a.now e.now h.now three only))
               (numbered.only clean))
               numbered.leaves.goes;
-          goes = on_ok_then r (Goes e h) (Goes a h) (goes_then a e h went) numbered.leaves.goes;
-          aborts = on_err_then r (IsAborted e h) (IsAborted a h) (cut_then a e h went.on) numbered.leaves.aborts;
-          faults = λ o k it may kept. excused_then a e h went.on r numbered.leaves.aborts (λ at_e.
+          goes = on_ok_then r (Goes e h) (Goes a h) (goes_then went) numbered.leaves.goes;
+          aborts = on_err_then r (IsAborted e h) (IsAborted a h) (cut_then went.on) numbered.leaves.aborts;
+          faults = λ o k it may kept. excused_then _ went.on r numbered.leaves.aborts (λ at_e.
               let before = record o { next_unit = k.next } in
-              let at_d = early d e _ described.leaves.goes.on.crash at_e in
-              let at_b = early b d _ added.goes.on.crash at_d in
+              let at_d = early described.leaves.goes.on.crash at_e in
+              let at_b = early added.goes.on.crash at_d in
               let only = (c.in_ok-insert_unit.ensures.puts at_b).only in
               let aside = added.only at_d in
               let told = described.only at_e in
@@ -183,8 +159,8 @@ returns g c =
             let unit = tables.unit.tree ∷ [] in
             let link = tables.link.tree ∷ [] in
             let told = tables.element.tree ∷ tables.container.tree ∷ tables.housing.tree ∷ [] in
-            let at_d = early d e _ described.leaves.goes.on.crash at_e in
-            let at_b = early b d _ added.goes.on.crash at_d in
+            let at_d = early described.leaves.goes.on.crash at_e in
+            let at_b = early added.goes.on.crash at_d in
             let two = touched_then unit link a.now b.now d.now (c.in_ok-insert_unit.ensures.puts at_b).only (added.only at_d) in
             touched_wider (tables.unit.tree ∷ tables.link.tree ∷ told) catalogue_trees a.now e.now refl (touched_then (tables.unit.tree ∷ link) told a.now d.now e.now two (described.only at_e)))
             r numbered.leaves.aborts clean (untouched_last catalogue_trees e h r (numbered.leaves.spares clean));

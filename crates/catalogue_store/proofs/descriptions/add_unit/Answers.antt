@@ -8,11 +8,9 @@ use Rattle.catalogue_store.proofs.descriptions.add_unit.Goals as goal
 
 pub returns-in_err-is_place-clause-updates : goal.returns-in_err-is_place-clause-updates
 returns-in_err-is_place-clause-updates g c =
-    let handed = c.from_residual.ensures in
     let e = c.in_err-is_place.field-0.0 in
     let told = c.in_err-is_place.ensures.answers in
-    makes_not g.S.Store (RepresentsNumbered g.P.Places.represents g.P.Versioned.version) (λ k. IsKept k × IsNew (unit_of c.args.unit.now) k × IsNumber (c.args.unit.now.id + 1)) (HasPlaceFor c.args.parent) c.args.tables.now c.is_place.new.tables c.from_residual.result (with_numbered c.args.parent (unit_of c.args.unit.now)) catalogue_trees e
-    (same_fault c.from_residual.result e handed.0 handed.1) told.aborts told.spares (λ o k shown may kept clean free. told.faults (record o { next_unit = k.next }) k shown tt kept.0 clean free)
+    makes_not (same_fault c.from_residual.ensures) told.aborts told.spares (λ o k shown may kept clean free. told.faults (record o { next_unit = k.next }) k shown tt kept.0 clean free)
 
 pub returns-then-not-branch : goal.returns-then-not-branch
 returns-then-not-branch g c =
@@ -25,13 +23,12 @@ returns-then-not-branch g c =
 
 pub returns : goal.returns
 returns g c =
-    let a = state g.S.Store c.is_place.new.tables in
     let b = state g.S.Store c.add_placed.new.tables in
     let told = c.in_ok-is_place.ensures.answers in
     let added = c.add_placed.ensures.updates in
     record {
       updates = makes_after g.S.Store (RepresentsNumbered g.P.Places.represents g.P.Versioned.version) (λ k. IsKept k × IsNew (unit_of c.args.unit.now) k × IsNumber (c.args.unit.now.id + 1)) (HasPlaceFor c.args.parent) (with_numbered c.args.parent (unit_of c.args.unit.now)) catalogue_trees c.args.tables.now c.is_place.new.tables told.looks c.add_placed.new.tables c.add_placed.result added;
       accepts = λ clean o k shown.
-          on_ok_then c.add_placed.result (Goes a b) (has_place has_id c.args.parent k.forest ≡ true)
-          (λ went. sym (told.answers (early a b _ went.on.crash clean) (record o { next_unit = k.next }) k shown) ∙ c.if-not-branch.false) added.goes;
+          on_ok_then c.add_placed.result (Goes (state g.S.Store c.is_place.new.tables) b) (has_place has_id c.args.parent k.forest ≡ true)
+          (λ went. sym (told.answers (early went.on.crash clean) (record o { next_unit = k.next }) k shown) ∙ c.if-not-branch.false) added.goes;
     }

@@ -1,51 +1,32 @@
 use Rattle.std.proofs.Common.{◌≡◌, map, sym, subst, ap, ◌∙◌, true}
 use Rattle.tree_core.specs.Tops.{part_below, tops}
-use Rattle.catalogue_store.proofs.Common.{AllByRecursion, Database, IfOk-weaker, IsAborted, IsKept, LeavesUnchanged}
-use Rattle.catalogue_store.proofs.Common.{Represents, Unit, cut_then, each, early, excused_then, has_id, has_unit}
-use Rattle.catalogue_store.proofs.Common.{head_of, if_ok_by, last_spares, looks_then, on_err_then, on_ok_then}
-use Rattle.catalogue_store.proofs.Common.{same_fault, state, tells_not, ⊤}
+use Rattle.catalogue_store.proofs.Common.{AllByRecursion, Database, IfOk-weaker, Represents, Unit, each, has_id}
+use Rattle.catalogue_store.proofs.Common.{has_unit, head_of, same_fault, state, tells_last, tells_not}
 use Rattle.catalogue_store.proofs.HeadForests.{all_there, below_ids, below_in, heads_are}
 use Rattle.catalogue_store.proofs.heads.heads_below.Goals as goal
 
 pub returns-in_err-units : goal.returns-in_err-units
 returns-in_err-units g c =
-    let e = c.from_residual.ensures in
     let why = c.in_err-units.ensures.answers in
-    record {
-      answers = tells_not g.S.Store (Represents g.P.Places.represents g.P.Versioned.version) IsKept (λ _. ⊤) c.args.tables.now c.below.new.tables c.from_residual.result (λ _ k heads. heads.items ≡ map head_of (tops (part_below has_id c.args.unit k.forest))) c.in_err-units.field-0.0
-          (same_fault c.from_residual.result c.in_err-units.field-0.0 e.0 e.1) why.aborts why.spares (λ o k it may kept. why.faults tt (each (λ (u : Unit). u.id) k.forest) it.shown tt kept.places);
-    }
+    record { answers = tells_not (same_fault c.from_residual.ensures) why.aborts why.spares (λ o k it may kept. why.faults tt (each (λ (u : Unit). u.id) k.forest) it.shown tt kept.places) }
 
 pub returns : goal.returns
 returns g c =
     let a = state g.S.Store c.args.tables.now in
-    let b = state g.S.Store c.below.new.tables in
-    let d = state g.S.Store c.heads_of.new.tables in
     let found = c.in_ok-units.ensures.answers in
     let looked = found.looks in
     let last = c.heads_of.ensures.answers in
     record {
-      answers = record {
-        call = record {
-          answers = λ clean o k it.
-              let units = tops (part_below has_id c.args.unit k.forest) in
-              if_ok_by c.heads_of.result (LeavesUnchanged b d) (λ heads. heads.items ≡ map head_of units)
-              (λ went.
-              let before = early b d _ went.goes.on.crash clean in
-              let shown = subst (λ (db : Database). Represents g.P.Places.represents g.P.Versioned.version db o k) (sym (looked.same before)) it in
-              let ids = c.deref.ensures.value ∙ found.answers before tt (each (λ (u : Unit). u.id) k.forest) it.shown ∙ below_ids c.args.unit k.forest in
-              IfOk-weaker c.heads_of.result _ (λ heads. heads.items ≡ map head_of units)
-              (λ heads told. heads_are a.now.trees k.forest it.catalogue.units units heads.items (below_in c.args.unit k.forest) (told ∙ ap (map _) ids))
-              (last.answers clean o k shown))
-              last.looks;
-          looks = on_ok_then c.heads_of.result (LeavesUnchanged b d) (LeavesUnchanged a d) (looks_then a b d looked) last.looks;
-          aborts = on_err_then c.heads_of.result (IsAborted b d) (IsAborted a d) (cut_then a b d looked.goes.on) last.aborts;
-          faults = λ o k it may kept. excused_then a b d looked.goes.on c.heads_of.result last.aborts
-              (λ before.
-              let shown = subst (λ (db : Database). Represents g.P.Places.represents g.P.Versioned.version db o k) (sym (looked.same before)) it in
-              let ids = c.deref.ensures.value ∙ found.answers before tt (each (λ (u : Unit). u.id) k.forest) it.shown ∙ below_ids c.args.unit k.forest in
-              last.faults o k shown (subst (AllByRecursion (λ unit. has_unit k.forest unit ≡ true)) (sym ids) (all_there k.forest (tops (part_below has_id c.args.unit k.forest)) (below_in c.args.unit k.forest))) kept);
-        };
-        spares = λ clean. last_spares a b d looked c.heads_of.result last.aborts clean (last.spares clean);
-      };
+      answers = tells_last looked last.looks last.aborts last.spares
+          (λ before clean o k it.
+          let units = tops (part_below has_id c.args.unit k.forest) in
+          let shown = subst (λ (db : Database). Represents g.P.Places.represents g.P.Versioned.version db o k) (sym (looked.same before)) it in
+          let ids = c.deref.ensures.value ∙ found.answers before tt (each (λ (u : Unit). u.id) k.forest) it.shown ∙ below_ids c.args.unit k.forest in
+          IfOk-weaker c.heads_of.result _ (λ heads. heads.items ≡ map head_of units)
+          (λ heads told. heads_are a.now.trees k.forest it.catalogue.units units heads.items (below_in c.args.unit k.forest) (told ∙ ap (map _) ids))
+          (last.answers clean o k shown))
+          (λ before o k it may kept.
+          let shown = subst (λ (db : Database). Represents g.P.Places.represents g.P.Versioned.version db o k) (sym (looked.same before)) it in
+          let ids = c.deref.ensures.value ∙ found.answers before tt (each (λ (u : Unit). u.id) k.forest) it.shown ∙ below_ids c.args.unit k.forest in
+          last.faults o k shown (subst (AllByRecursion (λ unit. has_unit k.forest unit ≡ true)) (sym ids) (all_there k.forest (tops (part_below has_id c.args.unit k.forest)) (below_in c.args.unit k.forest))) kept);
     }

@@ -1,30 +1,24 @@
 use Rattle.std.proofs.Common.{◌≡◌, ◌++◌, ◌∷◌, [], Some, map, take, get_or, true, refl, sym, ap, ap₂, subst, ◌∙◌, arith}
-use Rattle.office_tables.specs.declared.fault.StoreFault.TheVariants as fault
-use Rattle.catalogue_store.proofs.Common.{AllByRecursion, Database, IsKept, Represents, all-get_or, cut_after, early}
-use Rattle.catalogue_store.proofs.Common.{get_or_default, has_unit, head_at, looks_nowhere, looks_then, map-append}
-use Rattle.catalogue_store.proofs.Common.{same_fault, spares_full, spares_known, state, take_all, take_more, tells_cut}
-use Rattle.catalogue_store.proofs.Common.{tells_not}
+use Rattle.catalogue_store.proofs.Common.{Database, Represents, all-get_or, cut_after, early, get_or_default, has_unit}
+use Rattle.catalogue_store.proofs.Common.{head_at, looks_nowhere, looks_then, map-append, same_fault, spares_full}
+use Rattle.catalogue_store.proofs.Common.{spares_known, take_all, take_more, tells_cut, tells_not, tells_well}
 use Rattle.catalogue_store.proofs.HeadForests.{some_head}
 use Rattle.catalogue_store.proofs.heads.heads_of.Goals as goal
 
 pub loop-unit-init : goal.loop-unit-init
 loop-unit-init g c =
-    let a = state g.S.Store c.args.tables.now in
-    record { looks = looks_nowhere a; so_far = λ clean o k it. ap (map Some) c.new-heads.ensures.items }
+    record { looks = looks_nowhere; so_far = λ clean o k it. ap (map Some) c.new-heads.ensures.items }
 
 pub loop-unit-preserved : goal.loop-unit-preserved
 loop-unit-preserved g c =
-    let a = state g.S.Store c.args.tables.now in
-    let b = state g.S.Store c.loop-unit.tables in
-    let d = state g.S.Store c.find_head.new.tables in
     let units = c.args.units.now in
     let i = c.loop-unit.unit-index in
     let is : c.unit-item.result ≡ get_or units i 0 = c.unit-item.is ∙ get_or_default units i c.unit-item.result 0 c.loop-unit-test.true in
     let told = (rw is at c.in_ok-found.ensures).answers in
     record {
-      looks = looks_then a b d c.loop-unit.invariant.looks c.in_ok-found.ensures.answers.looks;
+      looks = looks_then c.loop-unit.invariant.looks c.in_ok-found.ensures.answers.looks;
       so_far = λ clean o k it.
-          let at_b = early b d _ c.in_ok-found.ensures.answers.looks.goes.on.crash clean in
+          let at_b = early c.in_ok-found.ensures.answers.looks.goes.on.crash clean in
           let same = c.loop-unit.invariant.looks.same at_b in
           let this = sym c.in-Some.is ∙ told.answers clean o k (subst (λ (db : Database). Represents g.P.Places.represents g.P.Versioned.version db o k) (sym same) it) in
           ap (map Some) c.in_ok-push.ensures.items ∙ map-append Some c.loop-unit.heads.items (c.in-Some.head ∷ [])
@@ -34,56 +28,33 @@ loop-unit-preserved g c =
 
 pub returns-in_err-found : goal.returns-in_err-found
 returns-in_err-found g c =
-    let handed = c.from_residual.ensures in
     let e = c.in_err-found.field-0.0 in
     let looked = c.loop-unit.invariant.looks in
-    record {
-      answers = tells_cut g.S.Store (Represents g.P.Places.represents g.P.Versioned.version) IsKept (λ k. AllByRecursion (λ unit. has_unit k.forest unit ≡ true) c.args.units.now) c.args.tables.now c.loop-unit.tables c.find_head.new.tables c.from_residual.result (λ _ k heads. map Some heads.items ≡ map (head_at k.forest) c.args.units.now) e
-          (same_fault c.from_residual.result e handed.0 handed.1) looked c.in_err-found.ensures.answers.aborts c.in_err-found.ensures.answers.spares
-          (λ o k it there kept at_b clean free. c.in_err-found.ensures.answers.faults o k (subst (λ (db : Database). Represents g.P.Places.represents g.P.Versioned.version db o k) (sym (looked.same at_b)) it) tt kept clean free);
-    }
+    record { answers = tells_cut (same_fault c.from_residual.ensures) looked c.in_err-found.ensures.answers.aborts c.in_err-found.ensures.answers.spares (λ o k it there kept at_b clean free. c.in_err-found.ensures.answers.faults o k (subst (λ (db : Database). Represents g.P.Places.represents g.P.Versioned.version db o k) (sym (looked.same at_b)) it) tt kept clean free) }
 
 pub returns-in_default : goal.returns-in_default
 returns-in_default g c =
-    let a = state g.S.Store c.args.tables.now in
-    let b = state g.S.Store c.loop-unit.tables in
-    let d = state g.S.Store c.find_head.new.tables in
     let units = c.args.units.now in
     let i = c.loop-unit.unit-index in
     let is : c.unit-item.result ≡ get_or units i 0 = c.unit-item.is ∙ get_or_default units i c.unit-item.result 0 c.loop-unit-test.true in
     let told = (rw is at c.in_ok-found.ensures).answers in
-    let looked = looks_then a b d c.loop-unit.invariant.looks told.looks in
+    let looked = looks_then c.loop-unit.invariant.looks told.looks in
     record {
-      answers = tells_not g.S.Store (Represents g.P.Places.represents g.P.Versioned.version) IsKept (λ k. AllByRecursion (λ unit. has_unit k.forest unit ≡ true) c.args.units.now) c.args.tables.now c.find_head.new.tables _ (λ _ k heads. map Some heads.items ≡ map (head_at k.forest) c.args.units.now) fault.Schema refl (cut_after a d looked.goes.on) (spares_known a d looked)
-          (λ o k it there kept clean free.
+      answers = tells_not refl (cut_after looked.goes.on) (spares_known looked) (λ o k it there kept clean free.
           let here = all-get_or (λ unit. has_unit k.forest unit ≡ true) c.args.units.now c.loop-unit.unit-index 0 there c.loop-unit-test.true in
-          let at_b = early b d _ c.in_ok-found.ensures.answers.looks.goes.on.crash clean in
+          let at_b = early c.in_ok-found.ensures.answers.looks.goes.on.crash clean in
           let shown = subst (λ (db : Database). Represents g.P.Places.represents g.P.Versioned.version db o k) (sym (c.loop-unit.invariant.looks.same at_b)) it in
           absurd (some_head k.forest (get_or c.args.units.now c.loop-unit.unit-index 0) here (sym c.in_default.is ∙ told.answers clean o k shown)));
     }
 
 pub returns-in_err-push : goal.returns-in_err-push
 returns-in_err-push g c =
-    let a = state g.S.Store c.args.tables.now in
-    let b = state g.S.Store c.loop-unit.tables in
-    let d = state g.S.Store c.find_head.new.tables in
-    let handed = c.from_residual-in_err-push.ensures in
-    let looked = looks_then a b d c.loop-unit.invariant.looks c.in_ok-found.ensures.answers.looks in
-    record {
-      answers = tells_not g.S.Store (Represents g.P.Places.represents g.P.Versioned.version) IsKept (λ k. AllByRecursion (λ unit. has_unit k.forest unit ≡ true) c.args.units.now) c.args.tables.now c.find_head.new.tables c.from_residual-in_err-push.result (λ _ k heads. map Some heads.items ≡ map (head_at k.forest) c.args.units.now) fault.Memory
-          (same_fault c.from_residual-in_err-push.result fault.Memory handed.0 handed.1) (cut_after a d looked.goes.on) (spares_full a d looked) (λ o k it there kept clean free. tt);
-    }
+    let looked = looks_then c.loop-unit.invariant.looks c.in_ok-found.ensures.answers.looks in
+    record { answers = tells_not (same_fault c.from_residual-in_err-push.ensures) (cut_after looked.goes.on) (spares_full looked) (λ o k it there kept clean free. tt) }
 
 pub returns : goal.returns
 returns g c =
     record {
-      answers = record {
-        call = record {
-          answers = λ clean o k it. c.loop-unit.invariant.so_far clean o k it ∙ ap (map (head_at k.forest)) (take_all c.loop-unit.unit-index c.args.units.now (omega (arith, c.loop-unit-test.false)));
-          looks = c.loop-unit.invariant.looks;
-          aborts = tt;
-          faults = λ o k it there kept clean free. tt;
-        };
-        spares = λ clean. tt;
-      };
+      answers = tells_well c.loop-unit.invariant.looks
+          (λ clean o k it. c.loop-unit.invariant.so_far clean o k it ∙ ap (map (head_at k.forest)) (take_all c.loop-unit.unit-index c.args.units.now (omega (arith, c.loop-unit-test.false))));
     }

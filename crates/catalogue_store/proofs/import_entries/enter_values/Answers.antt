@@ -1,37 +1,26 @@
 use Rattle.std.proofs.Common.{[], ◌∷◌, nat_eq, refl, sym, ◌∙◌}
 use Rattle.office_tables.specs.Schema as tables
-use Rattle.catalogue_store.proofs.Common.{AreWhole, ElementRow, Goes, HousingRow, IsAborted, IsDescribed, IsKept}
-use Rattle.catalogue_store.proofs.Common.{MayDescribe, OnlyTouches, RepresentsCatalogue, cut_then, described_trees}
-use Rattle.catalogue_store.proofs.Common.{descriptions_of_others, early, excused_then, goes_then, has_id, last_touched}
-use Rattle.catalogue_store.proofs.Common.{list_any-IsPermutation, makes_cut, makes_not, nodes, none_left, on_err_then}
-use Rattle.catalogue_store.proofs.Common.{on_ok_both, on_ok_by, on_ok_then, same_fault, state, touched_then}
-use Rattle.catalogue_store.proofs.Common.{touched_wider, unit_valued, wider_last, wider_spares, with_values, ⊤}
+use Rattle.catalogue_store.proofs.Common.{ElementRow, Goes, HousingRow, IsAborted, IsDescribed, OnlyTouches}
+use Rattle.catalogue_store.proofs.Common.{RepresentsCatalogue, cut_then, described_trees, descriptions_of_others, early}
+use Rattle.catalogue_store.proofs.Common.{excused_then, goes_then, has_id, last_touched, list_any-IsPermutation}
+use Rattle.catalogue_store.proofs.Common.{makes_cut, makes_not, nodes, none_left, on_err_then, on_ok_both, on_ok_by}
+use Rattle.catalogue_store.proofs.Common.{on_ok_then, same_fault, state, touched_then, touched_wider, unit_valued}
+use Rattle.catalogue_store.proofs.Common.{wider_last, wider_spares, with_values, ⊤}
 use Rattle.catalogue_store.proofs.Telling.{descriptions_in, descriptions_shown, same_descriptions}
 use Rattle.catalogue_store.proofs.Valued.{shows_valued}
 use Rattle.catalogue_store.proofs.import_entries.enter_values.Goals as goal
 
 pub returns-in_err-set_level : goal.returns-in_err-set_level
 returns-in_err-set_level g c =
-    let handed = c.from_residual.ensures in
     let e = c.in_err-set_level.field-0.0 in
-    record {
-      updates = λ v. makes_not g.S.Store (RepresentsCatalogue v) (λ k. IsKept k × AreWhole c.args.values.now) (MayDescribe c.args.unit) c.args.tables.now c.set_level.new.tables c.from_residual.result (with_values c.args.unit c.args.values.now) described_trees e
-          (same_fault c.from_residual.result e handed.0 handed.1) c.in_err-set_level.ensures.leaves.aborts c.in_err-set_level.ensures.leaves.spares
-          (λ o k it may kept clean free. let at = it.units in c.in_err-set_level.ensures.faults at.units at.rows at.rise clean free);
-    }
+    record { updates = λ v. makes_not (same_fault c.from_residual.ensures) c.in_err-set_level.ensures.leaves.aborts c.in_err-set_level.ensures.leaves.spares (λ o k it may kept clean free. let at = it.units in c.in_err-set_level.ensures.faults at.units at.rows at.rise clean free) }
 
 pub returns-in_err-clear : goal.returns-in_err-clear
 returns-in_err-clear g c =
     let a = state g.S.Store c.args.tables.now in
     let b = state g.S.Store c.set_level.new.tables in
-    let handed = c.from_residual-in_err-clear.ensures in
-    let e = c.in_err-clear.field-0.0 in
     record {
-      updates = λ v. makes_cut g.S.Store (RepresentsCatalogue v) (λ k. IsKept k × AreWhole c.args.values.now) (MayDescribe c.args.unit) c.args.tables.now c.set_level.new.tables c.clear.new.tables c.from_residual-in_err-clear.result (with_values c.args.unit c.args.values.now) described_trees e
-          (same_fault c.from_residual-in_err-clear.result e handed.0 handed.1) c.in_ok-set_level.ensures.leaves.goes.on
-          (λ at_b. touched_wider (tables.unit.tree ∷ []) described_trees a.now b.now refl (c.in_ok-set_level.ensures.only at_b)) c.in_err-clear.ensures.leaves.aborts
-          (λ clean. wider_spares (tables.element.tree ∷ tables.housing.tree ∷ []) described_trees b (state g.S.Store c.clear.new.tables) e refl (c.in_err-clear.ensures.leaves.spares clean))
-          (λ o k it may kept at_b clean free.
+      updates = λ v. makes_cut (same_fault c.from_residual-in_err-clear.ensures) c.in_ok-set_level.ensures.leaves.goes.on (λ at_b. touched_wider (tables.unit.tree ∷ []) described_trees a.now b.now refl (c.in_ok-set_level.ensures.only at_b)) c.in_err-clear.ensures.leaves.aborts (λ clean. wider_spares (tables.element.tree ∷ tables.housing.tree ∷ []) described_trees b (state g.S.Store c.clear.new.tables) c.in_err-clear.field-0.0 refl (c.in_err-clear.ensures.leaves.spares clean)) (λ o k it may kept at_b clean free.
           let told = descriptions_in v a.now o k it in
           let only = c.in_ok-set_level.ensures.only at_b in
           let here = same_descriptions a.now.trees b.now.trees told (only tables.element.tree refl refl) (only tables.container.tree refl refl) (only tables.housing.tree refl refl) (descriptions_shown v a.now o k it may.knows) in
@@ -50,7 +39,7 @@ returns g c =
     let leveled = c.in_ok-set_level.ensures in
     let cleared = c.in_ok-clear.ensures in
     let last = c.describe.ensures in
-    let went = goes_then a b d leveled.leaves.goes cleared.leaves.goes in
+    let went = goes_then leveled.leaves.goes cleared.leaves.goes in
     let level = tables.unit.tree ∷ [] in
     let gone = tables.element.tree ∷ tables.housing.tree ∷ [] in
     let described = tables.element.tree ∷ tables.container.tree ∷ tables.housing.tree ∷ [] in
@@ -63,15 +52,15 @@ returns g c =
               let shown = RepresentsCatalogue v e.now o (with_values unit values k) in
               on_ok_by r (Goes d e) shown
               (λ further.
-              let before_d = early d e _ further.on.crash clean in
-              let before_b = early b d _ cleared.leaves.goes.on.crash before_d in
+              let before_d = early further.on.crash clean in
+              let before_b = early cleared.leaves.goes.on.crash before_d in
               let wrote = leveled.rows before_b it.units.units it.units.rows it.units.rise in
               let kept = wrote.only in
               let here = same_descriptions a.now.trees b.now.trees told (kept tables.element.tree refl refl) (kept tables.container.tree refl refl) (kept tables.housing.tree refl refl) (descriptions_shown v a.now o k it may.knows) in
               let still = cleared.only before_d in
               on_ok_both r (IsDescribed unit values others.housed.boxes others.elements others.housed.rows e.now.trees) (OnlyTouches described d.now e.now) shown
               (λ made only. (shows_valued unit values v (λ _ _. ⊤) (λ _ _ _ _ _. tt) a.now e.now o k (record { catalogue = it; shown = tt }) may.knows may.there (record {
-                schema = (goes_then a d e went further).schema clean;
+                schema = (goes_then went further).schema clean;
                 office = only tables.office.tree refl refl ∙ still tables.office.tree refl refl ∙ kept tables.office.tree refl refl;
                 places = only tables.link.tree refl refl ∙ still tables.link.tree refl refl ∙ kept tables.link.tree refl refl;
                 units_are = only tables.unit.tree refl refl ∙ still tables.unit.tree refl refl ∙ wrote.are;
@@ -83,18 +72,18 @@ returns g c =
               let touched = OnlyTouches described_trees a.now e.now in
               on_ok_by r (Goes d e) touched
               (λ further.
-              let before_d = early d e _ further.on.crash clean in
-              let before_b = early b d _ cleared.leaves.goes.on.crash before_d in
+              let before_d = early further.on.crash clean in
+              let before_b = early cleared.leaves.goes.on.crash before_d in
               let first = touched_then level gone a.now b.now d.now (leveled.only before_b) (cleared.only before_d) in
               on_ok_then r (OnlyTouches described d.now e.now) touched
               (λ only. touched_wider (tables.unit.tree ∷ tables.element.tree ∷ tables.housing.tree ∷ described) described_trees a.now e.now refl (touched_then (tables.unit.tree ∷ gone) described a.now d.now e.now first only))
               (last.only clean))
               last.leaves.goes;
-          goes = on_ok_then r (Goes d e) (Goes a e) (goes_then a d e went) last.leaves.goes;
-          aborts = on_err_then r (IsAborted d e) (IsAborted a e) (cut_then a d e went.on) last.leaves.aborts;
-          faults = λ o k it may kept. excused_then a d e went.on r last.leaves.aborts (λ before_d.
+          goes = on_ok_then r (Goes d e) (Goes a e) (goes_then went) last.leaves.goes;
+          aborts = on_err_then r (IsAborted d e) (IsAborted a e) (cut_then went.on) last.leaves.aborts;
+          faults = λ o k it may kept. excused_then _ went.on r last.leaves.aborts (λ before_d.
               let told = descriptions_in v a.now o k it in
-              let before_b = early b d _ cleared.leaves.goes.on.crash before_d in
+              let before_b = early cleared.leaves.goes.on.crash before_d in
               let wrote = leveled.rows before_b it.units.units it.units.rows it.units.rise in
               let only = wrote.only in
               let here = same_descriptions a.now.trees b.now.trees told (only tables.element.tree refl refl) (only tables.container.tree refl refl) (only tables.housing.tree refl refl) (descriptions_shown v a.now o k it may.knows) in
@@ -109,7 +98,7 @@ returns g c =
               ));
         };
         spares = λ clean. last_touched described_trees a d e went.on
-            (λ at_d. touched_wider (tables.unit.tree ∷ gone) described_trees a.now d.now refl (touched_then level gone a.now b.now d.now (leveled.only (early b d _ cleared.leaves.goes.on.crash at_d)) (cleared.only at_d))) r last.leaves.aborts clean
+            (λ at_d. touched_wider (tables.unit.tree ∷ gone) described_trees a.now d.now refl (touched_then level gone a.now b.now d.now (leveled.only (early cleared.leaves.goes.on.crash at_d)) (cleared.only at_d))) r last.leaves.aborts clean
             (wider_last described described_trees d e r refl (last.leaves.spares clean));
       };
     }

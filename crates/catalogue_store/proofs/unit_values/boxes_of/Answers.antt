@@ -10,9 +10,7 @@ use Rattle.catalogue_store.proofs.unit_values.boxes_of.Goals as goal
 
 pub loop-number-preserved : goal.loop-number-preserved
 loop-number-preserved g c =
-    let a = state g.S.Store c.args.tables.now in
     let b = state g.S.Store c.loop-number.tables in
-    let d = state g.S.Store c.container_of.new.tables in
     let i = c.loop-number.number-index in
     let key = c.in_ok-container_of.field-0 in
     let invariant = c.loop-number.invariant in
@@ -20,9 +18,9 @@ loop-number-preserved g c =
     let item : c.number-item.result ≡ get_or numbers i 0 = c.number-item.is ∙ get_or_default numbers i c.number-item.result 0 c.loop-number-test.true in
     let found = rw item at c.in_ok-container_of.ensures in
     let last = found.reads.looks in (
-      looks_then a b d invariant.0 last,
+      looks_then invariant.0 last,
       λ clean boxes at bs is.
-          let before = early b d _ last.goes.on.crash clean in
+          let before = early last.goes.on.crash clean in
           let there : RepresentsContainers b.now.trees boxes = ap (λ (db : Database). db.trees tables.container.tree) (invariant.0.same before) ∙ at in
           let low : i < length bs = subst (λ n. i < n) (ap length is ∙ length-map bs (box_number boxes)) c.loop-number-test.true in
           let number : get_or c.args.numbers.now i 0 ≡ box_number boxes (get_or bs i key) = ap (λ (l : List ℕ). get_or l i 0) is ∙ get_or-map (box_number boxes) bs i key 0 low in
@@ -32,29 +30,24 @@ loop-number-preserved g c =
 
 pub returns-in_err-container_of-clause-reads : goal.returns-in_err-container_of-clause-reads
 returns-in_err-container_of-clause-reads g c =
-    let a = state g.S.Store c.args.tables.now in
     let b = state g.S.Store c.loop-number.tables in
     let d = state g.S.Store c.container_of.new.tables in
-    let handed = c.from_residual.ensures in
-    read_cut a b d c.from_residual.result c.in_err-container_of.field-0.0 (same_fault c.from_residual.result c.in_err-container_of.field-0.0 handed.0 handed.1)
+    read_cut (state g.S.Store c.args.tables.now) b d c.from_residual.result c.in_err-container_of.field-0.0 (same_fault c.from_residual.ensures)
     c.loop-number.invariant.0 c.in_err-container_of.ensures.reads.aborts c.in_err-container_of.ensures.reads.spares
 
 pub returns-in_err-push-clause-reads : goal.returns-in_err-push-clause-reads
 returns-in_err-push-clause-reads g c =
     let a = state g.S.Store c.args.tables.now in
-    let b = state g.S.Store c.loop-number.tables in
     let d = state g.S.Store c.container_of.new.tables in
-    let looked = looks_then a b d c.loop-number.invariant.0 c.in_ok-container_of.ensures.reads.looks in
-    let handed = c.from_residual-in_err-push.ensures in
-    read_not a d c.from_residual-in_err-push.result fault.Memory (same_fault c.from_residual-in_err-push.result fault.Memory handed.0 handed.1) (cut_after a d looked.goes.on) (spares_full a d looked)
+    let looked = looks_then c.loop-number.invariant.0 c.in_ok-container_of.ensures.reads.looks in
+    read_not a d c.from_residual-in_err-push.result fault.Memory (same_fault c.from_residual-in_err-push.ensures) (cut_after looked.goes.on) (spares_full looked)
 
 pub returns-in_err-container_of-clause-faults : goal.returns-in_err-container_of-clause-faults
 returns-in_err-container_of-clause-faults g c boxes at legible bs known is clean free =
     let a = state g.S.Store c.args.tables.now in
     let b = state g.S.Store c.loop-number.tables in
-    let d = state g.S.Store c.container_of.new.tables in
     let looked = c.loop-number.invariant.0 in
-    let before = early b d _ c.in_err-container_of.ensures.reads.aborts.crash clean in
+    let before = early c.in_err-container_of.ensures.reads.aborts.crash clean in
     let free_b : IsUnlimited b = still_unlimited a b looked.goes.on free in
     let there : RepresentsContainers b.now.trees boxes = ap (λ (db : Database). db.trees tables.container.tree) (looked.same before) ∙ at in
     let box = box_at boxes bs c.args.numbers.now c.loop-number.number-index known is c.loop-number-test.true in
@@ -62,5 +55,5 @@ returns-in_err-container_of-clause-faults g c boxes at legible bs known is clean
     let i = c.loop-number.number-index in
     let item : c.number-item.result ≡ get_or numbers i 0 = c.number-item.is ∙ get_or_default numbers i c.number-item.result 0 c.loop-number-test.true in
     let why = c.in_err-container_of.ensures.faults boxes there legible box.0 box.1 (item ∙ box.2) clean free_b in
-    let whole = cause_then a b d looked.goes.on before _ why in
+    let whole = cause_then a b (state g.S.Store c.container_of.new.tables) looked.goes.on before _ why in
     search (rules, whole)

@@ -1,24 +1,17 @@
 use Rattle.std.proofs.Common.{◌≡◌, List, map, ap, ◌∙◌, sym, subst}
-use Rattle.std.specs.Prelude.{IsUtf8}
 use Rattle.isad_core.specs.declared.values.Values.{«Values» as Description}
 use Rattle.catalogue_statements.proofs.CellReads.{cells_read, elements_in_order}
 use Rattle.catalogue_statements.proofs.TextReads.{cell_of as told_of}
 use Rattle.catalogue_statements.specs.DescriptionRows.{cell_of}
 use Rattle.catalogue_statements.specs.declared.row_types.Element.{Element}
-use Rattle.catalogue_store.proofs.Common.{AllByRecursion, ElementRow, HasCause, HasCleanDisk, IsSame, Spares}
-use Rattle.catalogue_store.proofs.Common.{TellsTexts, cut_looks, if_err_then, map-map, numbered_texts, on_ok_from}
-use Rattle.catalogue_store.proofs.Common.{same_fault, spares_known, state, tells_not, ⊤}
+use Rattle.catalogue_store.proofs.Common.{ElementRow, HasCause, HasCleanDisk, IsSame, Spares, TellsTexts, cut_looks}
+use Rattle.catalogue_store.proofs.Common.{if_err_then, map-map, numbered_texts, on_ok_from, same_fault, spares_known}
+use Rattle.catalogue_store.proofs.Common.{state, tells_not}
 use Rattle.catalogue_store.proofs.ValueCauses.{never_fails}
 use Rattle.catalogue_store.proofs.unit_values.texts_of.Goals as goal
 
 pub returns-in_err-found : goal.returns-in_err-found
-returns-in_err-found g c =
-    let handed = c.from_residual.ensures in
-    record {
-      answers = tells_not g.S.Store (TellsTexts c.args.unit) (AllByRecursion (λ (e : ElementRow). IsUtf8 e.value)) (λ _. ⊤) c.args.tables.now c.elements_of.new.tables c.from_residual.result _ c.in_err-found.field-0.0
-          (same_fault c.from_residual.result c.in_err-found.field-0.0 handed.0 handed.1) c.in_err-found.ensures.reads.aborts c.in_err-found.ensures.reads.spares
-          (λ values xs it may legible clean free. c.in_err-found.ensures.faults xs it.rows legible clean free);
-    }
+returns-in_err-found g c = record { answers = tells_not (same_fault c.from_residual.ensures) c.in_err-found.ensures.reads.aborts c.in_err-found.ensures.reads.spares (λ values xs it may legible clean free. c.in_err-found.ensures.faults xs it.rows legible clean free) }
 
 pub returns : goal.returns
 returns g c =
@@ -40,6 +33,6 @@ returns g c =
           aborts = cut_looks c.texts_by_element.result old new looked;
           faults = λ values xs it may legible clean free. never_fails c.texts_by_element.result (HasCause old new) (c.texts_by_element.ensures.places values it.places (are clean values xs it));
         };
-        spares = λ clean. if_err_then c.texts_by_element.result _ (Spares IsSame old new) (λ e is. subst (Spares IsSame old new) (sym is) (spares_known old new looked clean)) c.texts_by_element.ensures.fair;
+        spares = λ clean. if_err_then c.texts_by_element.result _ (Spares IsSame old new) (λ e is. subst (Spares IsSame old new) (sym is) (spares_known looked clean)) c.texts_by_element.ensures.fair;
       };
     }

@@ -1,6 +1,7 @@
 use Rattle.std.proofs.Common.{◌+◌, ap, arith, length, subst}
-use Rattle.std.specs.Prelude.{◌≤◌, IfSome}
-use Rattle.csv_import.proofs.Common.{catalogue_passed, does_pass, most_unit_numbers, office_of, office_settings, state}
+use Rattle.std.specs.Prelude.{◌≤◌}
+use Rattle.csv_import.proofs.Common.{IfSome, catalogue_passed, does_pass, most_unit_numbers, office_of, office_settings}
+use Rattle.csv_import.proofs.Common.{state}
 use Rattle.csv_import.proofs.Carried.{imports, ready_for, refused_full, refused_row, settings_shown, shown_legible}
 use Rattle.csv_import.proofs.Carried.{when_known, when_placed, when_roomy}
 use Rattle.csv_import.proofs.Frames.{entering_of}
@@ -38,12 +39,9 @@ returns-in_default g c bytes read =
 
 pub invariant_of-import : goal.invariant_of-import
 invariant_of-import g c =
-    let few = c.requires.few in
     let same = ap length c.as_slice-rows.ensures in
     let low = subst (λ o. IfSome o (λ n. n ≤ most_unit_numbers + 1)) c.in-Some.is c.in_ok-next.ensures.low in
-    record {
-      few = omega (arith, few, same, low);
-    }
+    record { few = omega (arith, c.requires.few, same, low) }
 
 pub returns-in_err-outcome : goal.returns-in_err-outcome
 returns-in_err-outcome g c bytes read =

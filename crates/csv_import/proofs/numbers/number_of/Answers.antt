@@ -1,13 +1,12 @@
-use Rattle.csv_import.proofs.Common.{as_answers, looks_nowhere, state}
+use Rattle.csv_import.proofs.Common.{as_answers, looks_nowhere}
 use Rattle.csv_import.proofs.OneRow.{finds_number}
 use Rattle.csv_import.proofs.Tellings.{told_last}
 use Rattle.csv_import.proofs.numbers.number_of.Goals as goal
 
 pub returns : goal.returns
 returns g c =
-    let a = state g.S.Store c.args.tables.now in
     record {
-      answers = told_last (λ _ _. tt) (λ _ k. k.forest) (as_answers _ _ _ _ _ _ _ _ c.known.ensures.answers) (looks_nowhere a)
+      answers = told_last (λ _ _. tt) (λ _ k. k.forest) (as_answers c.known.ensures.answers) looks_nowhere
           (record {
             shown = λ clean o k it. it.units;
             allowed = λ clean o k it good kept. (tt, tt);

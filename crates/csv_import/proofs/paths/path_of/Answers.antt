@@ -1,7 +1,7 @@
 use Rattle.std.proofs.Common.{map, sym, ap, ◌∙◌}
 use Rattle.std.specs.Prelude.{nat_eq}
 use Rattle.catalogue_core.proofs.EachOf.{none_found}
-use Rattle.csv_import.proofs.Common.{Unit, as_answers, each, is_from, looks_nowhere, nodes, path, state}
+use Rattle.csv_import.proofs.Common.{Unit, as_answers, each, is_from, looks_nowhere, nodes, path}
 use Rattle.csv_import.proofs.FoundPaths.{none_path, path_by_number}
 use Rattle.csv_import.proofs.OneRow.{is_found, none_there}
 use Rattle.csv_import.proofs.Tellings.{told_last, tells_so}
@@ -9,18 +9,16 @@ use Rattle.csv_import.proofs.paths.path_of.Goals as goal
 
 pub returns-in_default : goal.returns-in_default
 returns-in_default g c =
-    let a = state g.S.Store c.args.tables.now in
     record {
-      answers = tells_so (looks_nowhere a) (λ clean o k it good source legacy is.
+      answers = tells_so looks_nowhere (λ clean o k it good source legacy is.
           c.new.ensures.items
           ∙ sym (ap (map (λ (unit : Unit). unit.id)) (none_path (is_from source legacy) k.forest (none_found (is_from source legacy) (nodes k.forest) (none_there k source legacy (sym is ∙ c.in_default.is))))));
     }
 
 pub returns : goal.returns
 returns g c =
-    let a = state g.S.Store c.args.tables.now in
     record {
-      answers = told_last (λ _ _. tt) (λ _ k. each (λ (unit : Unit). unit.id) k.forest) (as_answers _ _ _ _ _ _ _ _ c.path.ensures.answers) (looks_nowhere a)
+      answers = told_last (λ _ _. tt) (λ _ k. each (λ (unit : Unit). unit.id) k.forest) (as_answers c.path.ensures.answers) looks_nowhere
           (record {
             shown = λ clean o k it. it.shown;
             allowed = λ clean o k it may kept. (tt, kept.places);

@@ -9,9 +9,7 @@ use Rattle.csv_import.proofs.remarks.rank_there.Goals as goal
 pub returns-in_err-level : goal.returns-in_err-level
 returns-in_err-level g c =
     let a = state g.S.Store c.args.tables.now in
-    record {
-      answers = tells_passed _ c.from_residual.ensures c.in_err-level.ensures.reads.aborts (λ o k it may kept clean free. (let at = it.catalogue.units in c.in_err-level.ensures.faults at.units at.rows (legible_units a.now.trees k at kept) clean free));
-    }
+    record { answers = tells_passed _ c.from_residual.ensures c.in_err-level.ensures.reads.aborts (λ o k it may kept clean free. (let at = it.catalogue.units in c.in_err-level.ensures.faults at.units at.rows (legible_units a.now.trees k at kept) clean free)) }
 
 pub returns-in_default : goal.returns-in_default
 returns-in_default g c =

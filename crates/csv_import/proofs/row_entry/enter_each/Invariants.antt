@@ -1,7 +1,8 @@
-use Rattle.std.proofs.Common.{◌+◌, ◌≤◌, drop}
-use Rattle.csv_import.proofs.Common.{AreToCome, Catalogue, Goes, HasCleanDisk, OfficeRow, OnlyTouches}
-use Rattle.csv_import.proofs.Common.{RepresentsEntering, TellsUnits, described_trees, get_by_text, state}
-use Rattle.csv_import.proofs.RowsToCome.{HaveCome}
+use Rattle.std.proofs.Common.{◌+◌, ◌≤◌}
+use Rattle.csv_import.specs.PendingImport.{AreNext}
+use Rattle.csv_import.proofs.Common.{Catalogue, Goes, HasCleanDisk, OfficeRow, OnlyTouches, RepresentsEntering}
+use Rattle.csv_import.proofs.Common.{described_trees, get_by_text, state}
+use Rattle.csv_import.proofs.KnownUnits.{AreComing}
 use Rattle.csv_import.proofs.row_entry.enter_each.Given as goal
 
 abbrev pub invariant-loop-row : goal.invariant-loop-row
@@ -9,7 +10,6 @@ invariant-loop-row g l = record {
   few : l.counts.changed + l.counts.new + l.counts.same ≤ l.row-index;
   goes : Goes (state g.S.Store l.initial.tables) (state g.S.Store l.tables);
   only : HasCleanDisk (state g.S.Store l.tables) → OnlyTouches described_trees (state g.S.Store l.initial.tables).now (state g.S.Store l.tables).now;
-  so_far : HasCleanDisk (state g.S.Store l.tables) → (o : OfficeRow) (c : Catalogue) → RepresentsEntering g.P.Versioned.version (state g.S.Store l.initial.tables).now o c → AreToCome l.import.source.now l.import.rows.now l.import.next c → TellsUnits c l.import.source.now l.import.rows.now (get_by_text l.import.catalogued.now)
-      → (d : Catalogue) × RepresentsEntering g.P.Versioned.version (state g.S.Store l.tables).now o d × HaveCome l.import.source.now l.import.rows.now (drop l.row-index l.import.rows.now) l.import.next l.counts c d
-      × TellsUnits d l.import.source.now (drop l.row-index l.import.rows.now) (get_by_text l.import.catalogued.now);
+  so_far : HasCleanDisk (state g.S.Store l.tables) → (o : OfficeRow) (c : Catalogue) → RepresentsEntering g.P.Versioned.version (state g.S.Store l.initial.tables).now o c → AreNext l.import c
+      → (d : Catalogue) × RepresentsEntering g.P.Versioned.version (state g.S.Store l.tables).now o d × AreComing l.import.source.now l.import.rows.now (get_by_text l.import.catalogued.now) l.import.next l.row-index l.counts c d;
 }

@@ -18,5 +18,5 @@ returns g c =
     record {
       updates = makes_then g.S.Store c.args.tables.now c.end_order.new.tables c.set_place.new.tables _ c.set_place.result (λ _. ⊤) (λ _. ⊤)
           (with_order_state c.args.order c.args.next) (with_place c.args.container c.args.place) (tables.orders.tree ∷ []) (tables.holding.tree ∷ []) (tables.orders.tree ∷ tables.holding.tree ∷ [])
-          (as_updates _ _ _ _ _ _ _ _ _ c.in_ok-end_order.ensures.updates) (as_updates _ _ _ _ _ _ _ _ _ c.set_place.ensures.updates) (λ d may. tt) (λ d kept. legible_state c.args.order c.args.next d kept) refl refl;
+          (as_updates c.in_ok-end_order.ensures.updates) (as_updates c.set_place.ensures.updates) (λ d may. tt) (λ d kept. legible_state c.args.order c.args.next d kept) refl refl;
     }

@@ -1,8 +1,7 @@
 use Rattle.std.proofs.Common.{[], ◌∷◌, take}
-use Rattle.sqlite.specs.State.{HasCleanDisk}
 use Rattle.desk_core.specs.DeskRows.{Desk}
 use Rattle.office_tables.specs.Schema as tables
-use Rattle.desk_commands.proofs.Common.{Goes, OnlyTouches, RepresentsDesk, state, with_all_placed}
+use Rattle.desk_commands.proofs.Common.{Goes, HasCleanDisk, OnlyTouches, RepresentsDesk, state, with_all_placed}
 use Rattle.desk_commands.proofs.container_moves.move_all.Given as goal
 
 abbrev pub invariant-loop-container : goal.invariant-loop-container

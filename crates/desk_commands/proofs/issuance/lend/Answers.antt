@@ -1,38 +1,15 @@
-use Rattle.std.proofs.Common.{arith}
-use Rattle.desk_commands.proofs.Common.{cut_after, desk_passed, does_pass, looks_nowhere, state, tables}
-use Rattle.desk_commands.proofs.KnownNumbers.{kept_issued}
-use Rattle.desk_commands.proofs.Issued.{issues, small_head}
+use Rattle.desk_commands.proofs.Common.{desk_passed}
+use Rattle.desk_commands.proofs.Issued.{issues}
+use Rattle.desk_commands.proofs.OneStep.{desk_made}
 use Rattle.desk_commands.proofs.issuance.lend.Goals as goal
 
 pub hand_over-requires : goal.hand_over-requires
 hand_over-requires g c = record { known = rw c.get.ensures.same c.get.ensures.small }
 
-pub returns-in_err-lent : goal.returns-in_err-lent
-returns-in_err-lent g c =
-    let a = state g.S.Store c.args.tables.now in
-    let great = c.in_err-lent.ensures.great in
-    does_pass _ c.from_residual.ensures (cut_after a a (looks_nowhere a).goes.on)
-    (λ s sound so it clean free. let kept = kept_issued s sound c.args.container c.args.ticket so.0 in absurd (omega (arith, kept, great)))
-
-pub returns-in_err-with : goal.returns-in_err-with
-returns-in_err-with g c =
-    let a = state g.S.Store c.args.tables.now in
-    let great = c.in_err-with.ensures.great in
-    does_pass _ c.from_residual-in_err-with.ensures (cut_after a a (looks_nowhere a).goes.on)
-    (λ s sound so it clean free. let kept = small_head s sound c.args.container c.args.order so.1 in absurd (omega (arith, kept, great)))
-
 pub returns-in_err-hand_over : goal.returns-in_err-hand_over
-returns-in_err-hand_over g c = let made = c.in_err-hand_over.ensures.updates in desk_passed _ c.from_residual-in_err-hand_over.ensures made.aborts made.faults
+returns-in_err-hand_over g c = let made = c.in_err-hand_over.ensures.updates in desk_passed _ c.from_residual.ensures made.aborts made.faults
 
 pub returns : goal.returns
 returns g c =
-    let a = state g.S.Store c.args.tables.now in
-    let b = state g.S.Store c.hand_over.new.tables in
-    let made = rw (c.get.ensures.same, c.in_ok-lent.ensures.same, c.in_ok-with.ensures.same) at c.in_ok-hand_over.ensures.updates in
-    record {
-      steps = λ clean s sound so it. issues g.P.Places.represents g.P.Versioned.version s c.args.container c.args.ticket sound g.met.P.Places.shows_same a.now b.now c.args.order so.0 so.1 it (made.goes.schema clean) (made.only clean)
-          (made.represents_updated clean tt (tables g.P.Versioned.version s).desk it.desk tt);
-      goes = made.goes;
-      aborts = tt;
-      faults = λ s sound so it clean free. tt;
-    }
+    rw c.get-2.ensures.same (desk_made (rw c.get.ensures.same at c.in_ok-hand_over.ensures.updates) (λ s sound so it. tt) (λ s sound so it schema only put.
+    issues g.P.Places.represents g.P.Versioned.version s c.args.container c.args.ticket sound g.met.P.Places.shows_same _ _ c.args.order so.0 so.1 it schema only put))

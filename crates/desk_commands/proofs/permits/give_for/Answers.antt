@@ -1,6 +1,6 @@
 use Rattle.std.proofs.Common.{sym, ◌∙◌}
 use Rattle.refinement.specs.Representation.{office_of as office_row}
-use Rattle.desk_commands.proofs.Common.{catalogue_passed, does_then, is_refused, judged_now}
+use Rattle.desk_commands.proofs.Common.{catalogue_passed, does_then, is_refused}
 use Rattle.desk_commands.proofs.Permitted.{no_unit}
 use Rattle.desk_commands.proofs.permits.give_for.Goals as goal
 
@@ -11,10 +11,10 @@ pub returns-then-not-there : goal.returns-then-not-there
 returns-then-not-there g c =
     let told = c.in_ok-there.ensures.answers in
     is_refused told.looks
-    (λ clean s sound so it. no_unit s c.args.ticket c.args.unit c.args.asked so (sym (told.answers clean (office_row s) s.catalogue it.catalogue (judged_now s sound).catalogue) ∙ c.if-not-there.true))
+    (λ clean s sound so it. no_unit s c.args.ticket c.args.unit c.args.asked so (sym (told.answers clean (office_row s) s.catalogue it.catalogue) ∙ c.if-not-there.true))
 
 pub returns : goal.returns
 returns g c =
     let told = c.in_ok-there.ensures.answers in
     does_then told.looks c.give_within.ensures
-    (λ clean s sound so it. (so, sym (told.answers clean (office_row s) s.catalogue it.catalogue (judged_now s sound).catalogue) ∙ c.if-not-there.false))
+    (λ clean s sound so it. (so, sym (told.answers clean (office_row s) s.catalogue it.catalogue) ∙ c.if-not-there.false))

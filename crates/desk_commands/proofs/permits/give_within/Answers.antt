@@ -1,7 +1,6 @@
-use Rattle.std.proofs.Common.{true, false, sym, ap, subst, ◌∙◌}
+use Rattle.std.proofs.Common.{true, false, sym, ap, ◌∙◌}
 use Rattle.desk_commands.specs.Permits.{later_of}
-use Rattle.desk_commands.proofs.Common.{IsOrdered, by_permitted_unit, desk_passed, does_then, is_refused, permits_of}
-use Rattle.desk_commands.proofs.Common.{tables}
+use Rattle.desk_commands.proofs.Common.{desk_passed, does_then, is_refused, tables}
 use Rattle.desk_commands.proofs.Permitted.{full_is, last_check, later_read}
 use Rattle.desk_commands.proofs.permits.give_within.Goals as goal
 
@@ -12,7 +11,7 @@ pub returns-then-is_full : goal.returns-then-is_full
 returns-then-is_full g c =
     let told = c.in_ok-held.ensures.answers in
     is_refused told.looks (λ clean s sound so it. last_check s c.args.ticket c.args.unit c.args.asked true so.0 so.1
-    (sym (full_is g.P.Versioned.version s sound c.args.ticket c.args.unit c.deref.result.now (subst (IsOrdered by_permitted_unit (permits_of c.args.ticket (tables g.P.Versioned.version s).desk)) (sym c.deref.ensures.value) (told.answers clean tt (tables g.P.Versioned.version s).desk it.desk))) ∙ sym c.is_full.ensures ∙ c.if-is_full.true))
+    (sym (full_is g.P.Versioned.version s sound c.args.ticket c.args.unit c.deref.ensures.value (told.answers clean tt (tables g.P.Versioned.version s).desk it.desk)) ∙ sym c.is_full.ensures ∙ c.if-is_full.true))
 
 pub returns : goal.returns
 returns g c =
@@ -20,7 +19,7 @@ returns g c =
     does_then told.looks c.give.ensures
     (λ clean s sound so it. record {
       allowed = last_check s c.args.ticket c.args.unit c.args.asked false so.0 so.1
-          (sym (full_is g.P.Versioned.version s sound c.args.ticket c.args.unit c.deref.result.now (subst (IsOrdered by_permitted_unit (permits_of c.args.ticket (tables g.P.Versioned.version s).desk)) (sym c.deref.ensures.value) (told.answers clean tt (tables g.P.Versioned.version s).desk it.desk))) ∙ sym c.is_full.ensures ∙ c.if-is_full.false);
+          (sym (full_is g.P.Versioned.version s sound c.args.ticket c.args.unit c.deref.ensures.value (told.answers clean tt (tables g.P.Versioned.version s).desk it.desk)) ∙ sym c.is_full.ensures ∙ c.if-is_full.false);
       stands = c.later-until.ensures ∙ ap (λ day. later_of day c.args.asked) c.last_day.ensures
-          ∙ later_read g.P.Versioned.version s sound c.args.ticket c.args.unit c.deref-2.result.now (subst (IsOrdered by_permitted_unit (permits_of c.args.ticket (tables g.P.Versioned.version s).desk)) (sym c.deref-2.ensures.value) (told.answers clean tt (tables g.P.Versioned.version s).desk it.desk)) c.args.asked;
+          ∙ later_read g.P.Versioned.version s sound c.args.ticket c.args.unit c.deref-2.ensures.value (told.answers clean tt (tables g.P.Versioned.version s).desk it.desk) c.args.asked;
     })

@@ -1,35 +1,20 @@
-use Rattle.std.proofs.Common.{refl, arith}
+use Rattle.std.proofs.Common.{refl}
 use Rattle.office_core.specs.declared.command.Command.TheVariants as command
 use Rattle.office_core.specs.declared.done.Done.TheVariants as done
 use Rattle.access.proofs.Passing.{passed_where}
 use Rattle.access.specs.Gate.{OthersAreOpen}
-use Rattle.desk_commands.proofs.Common.{cut_after, desk_passed, does_pass, looks_nowhere, state, tables}
-use Rattle.desk_commands.proofs.KnownNumbers.{kept_ticket, kept_unit}
+use Rattle.desk_commands.proofs.Common.{desk_passed, state, tables}
 use Rattle.desk_commands.proofs.Revoked.{gate_is_left, judged, revokes_near, represents}
 use Rattle.desk_commands.proofs.revocation.take_back.Goals as goal
 
-pub returns-in_err-reader : goal.returns-in_err-reader
-returns-in_err-reader g c =
-    let a = state g.S.Store c.args.tables.now in
-    let great = c.in_err-reader.ensures.great in
-    does_pass _ c.from_residual.ensures (cut_after a a (looks_nowhere a).goes.on)
-    (λ s sound so it clean free. let kept = kept_ticket s sound c.args.ticket so.1.ticket in absurd (omega (arith, kept, great)))
-
-pub returns-in_err-read : goal.returns-in_err-read
-returns-in_err-read g c =
-    let a = state g.S.Store c.args.tables.now in
-    let great = c.in_err-read.ensures.great in
-    does_pass _ c.from_residual-in_err-read.ensures (cut_after a a (looks_nowhere a).goes.on)
-    (λ s sound so it clean free. let kept = kept_unit s sound c.args.unit so.1.unit in absurd (omega (arith, kept, great)))
-
 pub returns-in_err-revoke : goal.returns-in_err-revoke
-returns-in_err-revoke g c = let made = c.in_err-revoke.ensures.updates in desk_passed _ c.from_residual-in_err-revoke.ensures made.aborts made.faults
+returns-in_err-revoke g c = let made = c.in_err-revoke.ensures.updates in desk_passed _ c.from_residual.ensures made.aborts made.faults
 
 pub returns : goal.returns
 returns g c =
     let a = state g.S.Store c.args.tables.now in
     let b = state g.S.Store c.revoke.new.tables in
-    let made = rw (c.in_ok-reader.ensures.same, c.in_ok-read.ensures.same) at c.in_ok-revoke.ensures.updates in
+    let made = c.in_ok-revoke.ensures.updates in
     passed_where g.S.Store g.P.Places.represents g.P.Versioned.version _ (command.Revoke c.args.ticket c.args.unit) c.args.today (done.Revoke c.args.unit) a c.revoke.new.tables c.pass_gate_near.new.tables c.pass_gate_near.result (OthersAreOpen c.args.unit)
     (record {
       represents = λ clean s sound so it. represents s sound c.args.ticket c.args.unit g.P.Places.represents g.met.P.Places.shows_same g.P.Versioned.version a.now b.now it (made.goes.schema clean) (made.only clean)
@@ -39,4 +24,4 @@ returns g c =
       last = λ s so. gate_is_left s c.args.ticket c.args.unit so.1;
       answers = λ clean s so it. refl;
     })
-    (λ s sound so. revokes_near s sound c.args.ticket c.args.unit) made.goes (rw c.in_ok-read.ensures.same at c.pass_gate_near.ensures.answers)
+    (λ s sound so. revokes_near s sound c.args.ticket c.args.unit) made.goes (rw c.get.ensures.same at c.pass_gate_near.ensures.answers)

@@ -1,6 +1,5 @@
-use Rattle.std.proofs.Common.{◌≡◌, true, false, not, sym, ap, subst, ◌∙◌}
-use Rattle.desk_commands.proofs.Common.{IsOrdered, by_permitted_unit, desk_passed, does_then, is_refused, is_some}
-use Rattle.desk_commands.proofs.Common.{permits_of, tables}
+use Rattle.std.proofs.Common.{◌≡◌, true, false, not, sym, ap, ◌∙◌}
+use Rattle.desk_commands.proofs.Common.{desk_passed, does_then, is_refused, is_some, tables}
 use Rattle.desk_commands.proofs.Permitted.{has_read}
 use Rattle.desk_commands.proofs.Revoked.{no_permit}
 use Rattle.desk_commands.proofs.revocation.take_back_held.Goals as goal
@@ -13,7 +12,7 @@ returns-then-is_none g c =
     let told = c.in_ok-held.ensures.answers in
     let none : is_some c.last_day-until.result ≡ false = c.is_none.ensures ∙ ap not c.if-is_none.true in
     is_refused told.looks (λ clean s sound so it. no_permit s c.args.ticket c.args.unit so.1 so.2
-    (sym (has_read g.P.Versioned.version s sound c.args.ticket c.args.unit c.deref.result.now (subst (IsOrdered by_permitted_unit (permits_of c.args.ticket (tables g.P.Versioned.version s).desk)) (sym c.deref.ensures.value) (told.answers clean tt (tables g.P.Versioned.version s).desk it.desk))) ∙ ap is_some (sym c.last_day-until.ensures) ∙ none))
+    (sym (has_read g.P.Versioned.version s sound c.args.ticket c.args.unit c.deref.ensures.value (told.answers clean tt (tables g.P.Versioned.version s).desk it.desk)) ∙ ap is_some (sym c.last_day-until.ensures) ∙ none))
 
 pub returns : goal.returns
 returns g c =
@@ -25,6 +24,6 @@ returns g c =
       record {
         ticket = so.1;
         unit = so.2;
-        permit = sym (has_read g.P.Versioned.version s sound c.args.ticket c.args.unit c.deref.result.now (subst (IsOrdered by_permitted_unit (permits_of c.args.ticket (tables g.P.Versioned.version s).desk)) (sym c.deref.ensures.value) (told.answers clean tt (tables g.P.Versioned.version s).desk it.desk))) ∙ ap is_some (sym c.last_day-until.ensures) ∙ some;
+        permit = sym (has_read g.P.Versioned.version s sound c.args.ticket c.args.unit c.deref.ensures.value (told.answers clean tt (tables g.P.Versioned.version s).desk it.desk)) ∙ ap is_some (sym c.last_day-until.ensures) ∙ some;
       },
     ))

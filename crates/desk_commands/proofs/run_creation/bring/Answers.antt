@@ -1,19 +1,16 @@
 use Rattle.std.proofs.Common.{ℕ, List, ◌∷◌, [], refl, sym, subst, ◌∙◌}
 use Rattle.desk_core.specs.declared.reader.Place.TheVariants.{Desk}
-use Rattle.office_tables.proofs.Causes.{cause_then, still_unlimited}
 use Rattle.office_tables.proofs.Touching.{touched_again, touched_wider}
 use Rattle.office_tables.specs.Schema as schema
-use Rattle.desk_commands.proofs.Common.{RepresentsDesk, TakesEachOnce, cut_then, desk_legible, does_pass, early}
-use Rattle.desk_commands.proofs.Common.{goes_then, next_run, state, tables, with_all_placed, with_run}
+use Rattle.desk_commands.proofs.Common.{RepresentsDesk, TakesEachOnce, desk_legible, does_pass, early, goes_then}
+use Rattle.desk_commands.proofs.Common.{next_run, state, tables, with_all_placed, with_run}
 use Rattle.desk_commands.proofs.Fetched.{taken_once}
+use Rattle.desk_commands.proofs.OneStep.{does_pass_later, does_well}
 use Rattle.desk_commands.proofs.RunMade.{legible_run, runs_out, runs_with, today_legible}
 use Rattle.desk_commands.proofs.run_creation.bring.Goals as goal
 
 pub move_all-requires : goal.move_all-requires
-move_all-requires g c =
-    let a = state g.S.Store c.args.tables.now in
-    let b = state g.S.Store c.record_run.new.tables in
-    record { known = tt }
+move_all-requires g c = record { known = tt }
 
 pub returns-in_err-run : goal.returns-in_err-run
 returns-in_err-run g c =
@@ -23,33 +20,20 @@ returns-in_err-run g c =
 
 pub returns-in_default : goal.returns-in_default
 returns-in_default g c =
-    let b = state g.S.Store c.record_run.new.tables in
+    let v = g.P.Versioned.version in
     let made = c.in_ok-run.ensures in
-    record {
-      steps = λ clean s sound so it. runs_out g.P.Versioned.version s sound g.P.Places.represents b.now c.args.due.now so.1 so.2
-          (sym c.in_default.is ∙ made.number clean (tables g.P.Versioned.version s).desk it.desk);
-      goes = made.updates.goes;
-      aborts = tt;
-      faults = λ s sound so it clean free. tt;
-    }
+    does_well made.updates.goes (λ clean s sound so it.
+    runs_out v s sound g.P.Places.represents _ c.args.due.now so.1 so.2 (sym c.in_default.is ∙ made.number clean (tables v s).desk it.desk))
 
 pub returns-in_err-move_all : goal.returns-in_err-move_all
 returns-in_err-move_all g c =
     let v = g.P.Versioned.version in
-    let a = state g.S.Store c.args.tables.now in
-    let b = state g.S.Store c.record_run.new.tables in
-    let d = state g.S.Store c.move_all.new.tables in
     let made = c.in_ok-run.ensures.updates in
     let moved = c.in_err-move_all.ensures.updates in
-    does_pass _ c.from_residual-in_err-move_all.ensures (cut_then a b d made.goes.on moved.aborts) (λ s sound so it clean free.
+    does_pass_later _ c.from_residual-in_err-move_all.ensures made.goes.on moved.aborts (λ s sound so it at_b.
     let desk = (tables v s).desk in
-    let at_b = early b d _ moved.aborts.crash clean in
-    cause_then a b d made.goes.on at_b _
-    (moved.faults tt (with_run (next_run desk) c.args.today c.args.due.now desk)
-    (made.represents_updated at_b tt desk it.desk tt)
-    c.requires.numbers
-    (legible_run (next_run desk) c.args.today c.args.due.now desk (today_legible v s sound c.args.today so.0) (desk_legible v s sound))
-    clean (still_unlimited a b made.goes.on free)))
+    let legible = legible_run (next_run desk) c.args.today c.args.due.now desk (today_legible v s sound c.args.today so.0) (desk_legible v s sound) in
+    moved.faults tt (with_run (next_run desk) c.args.today c.args.due.now desk) (made.represents_updated at_b tt desk it.desk tt) c.requires.numbers legible)
 
 pub returns : goal.returns
 returns g c =
@@ -60,19 +44,13 @@ returns g c =
     let made = c.in_ok-run.ensures.updates in
     let moved = c.in_ok-move_all.ensures.updates in
     let touched = schema.run.tree ∷ schema.run_line.tree ∷ schema.holding.tree ∷ [] in
-    let goes = goes_then a b d made.goes moved.goes in
-    rw c.get.ensures.same (record {
-      steps = λ clean s sound so it.
-          let desk = (tables v s).desk in
-          let at_b = early b d _ moved.goes.on.crash clean in
-          let put = with_run (next_run desk) c.args.today c.args.due.now desk in
-          runs_with v s sound g.P.Places.represents g.met.P.Places.shows_same a.now d.now c.args.today c.args.due.now c.in-Some.run' so.0 so.1 so.2
-          (sym c.in-Some.is ∙ c.in_ok-run.ensures.number at_b desk it.desk) it (goes.schema clean)
-          (touched_again touched a.now b.now d.now (touched_wider (schema.run.tree ∷ schema.run_line.tree ∷ []) touched a.now b.now refl (made.only at_b)) (touched_wider (schema.holding.tree ∷ []) touched b.now d.now refl (moved.only clean)))
-          (subst (λ (l : List ℕ). RepresentsDesk d.now.trees (with_all_placed Desk l put)) c.requires.theirs
-          (moved.represents_updated clean tt put (made.represents_updated at_b tt desk it.desk tt)
-          c.requires.numbers));
-      goes = goes;
-      aborts = tt;
-      faults = λ s sound so it clean free. tt;
-    })
+    let goes = goes_then made.goes moved.goes in
+    rw c.get.ensures.same (does_well goes (λ clean s sound so it.
+    let desk = (tables v s).desk in
+    let at_b = early moved.goes.on.crash clean in
+    let put = with_run (next_run desk) c.args.today c.args.due.now desk in
+    let placed = moved.represents_updated clean tt put (made.represents_updated at_b tt desk it.desk tt) c.requires.numbers in
+    runs_with v s sound g.P.Places.represents g.met.P.Places.shows_same a.now d.now c.args.today c.args.due.now c.in-Some.run' so.0 so.1 so.2
+    (sym c.in-Some.is ∙ c.in_ok-run.ensures.number at_b desk it.desk) it (goes.schema clean)
+    (touched_again touched a.now b.now d.now (touched_wider (schema.run.tree ∷ schema.run_line.tree ∷ []) touched a.now b.now refl (made.only at_b)) (touched_wider (schema.holding.tree ∷ []) touched b.now d.now refl (moved.only clean)))
+    (subst (λ (l : List ℕ). RepresentsDesk d.now.trees (with_all_placed Desk l put)) c.requires.theirs placed)))

@@ -1,10 +1,7 @@
-use Rattle.std.proofs.Common.{ℕ, List, [], ◌∷◌, ◌++◌, map, take, get_or, sym, ap, subst, ◌∙◌, arith}
+use Rattle.std.proofs.Common.{ℕ, [], ◌∷◌, ◌++◌, map, take, get_or, sym, ap, subst, ◌∙◌, arith}
+use Rattle.catalogue_core.proofs.EachOf.{all_append}
 use Rattle.desk_commands.proofs.Common.{AllByRecursion, ContainerOrder, IsNumber, map-append, take_all, take_more}
 use Rattle.desk_commands.proofs.run_creation.containers_of.Goals as goal
-
-one_more : (ns : List ℕ) (n : ℕ) → AllByRecursion IsNumber ns → IsNumber n → AllByRecursion IsNumber (ns ++ n ∷ [])
-one_more [] n all it = (it, tt)
-one_more (m ∷ ms) n all it = (all.0, one_more ms n all.1 it)
 
 abbrev container_of : ContainerOrder → ℕ
 container_of o = o.container
@@ -20,7 +17,7 @@ loop-order-preserved c =
     record {
       theirs = c.in_ok-push.ensures.items ∙ ap (λ n. all ++ n ∷ []) same ∙ ap (λ l. l ++ container_of (get_or due i item) ∷ []) before.theirs
           ∙ sym (map-append container_of (take i due) (get_or due i item ∷ [])) ∙ sym (ap (map container_of) (take_more due i item c.loop-order-test.true));
-      numbers = subst (AllByRecursion IsNumber) (sym c.in_ok-push.ensures.items) (one_more all c.get.result before.numbers (subst IsNumber (sym c.get.ensures.same) c.get.ensures.small));
+      numbers = subst (AllByRecursion IsNumber) (sym c.in_ok-push.ensures.items) (all_append IsNumber all (c.get.result ∷ []) before.numbers (subst IsNumber (sym c.get.ensures.same) c.get.ensures.small, tt));
     }
 
 pub returns-clause-theirs : goal.returns-clause-theirs

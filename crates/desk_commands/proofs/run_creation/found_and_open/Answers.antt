@@ -1,10 +1,9 @@
-use Rattle.std.proofs.Common.{◌≤◌, ◌++◌, append-nil, append_assoc, length, take, ap, ap₂, sym, ◌∙◌, arith}
+use Rattle.std.proofs.Common.{◌≤◌, ◌++◌, append-nil, length, take, ap, sym, ◌∙◌, arith}
 use Rattle.std.proofs.lemmas.Grind.{common_steps}
 use Rattle.desk_store.proofs.ToldCalls.{ends_well, shown_on}
-use Rattle.access.specs.KnownUnits.{open_ones}
-use Rattle.desk_commands.proofs.Common.{CanBeJudged, ContainerOrder, RepresentsWhole, early, looks_nowhere, looks_then}
-use Rattle.desk_commands.proofs.Common.{opens, state, take_all, tells_full, tells_passed_later, ⊤}
-use Rattle.desk_commands.proofs.Fetched.{enough_with, part_more}
+use Rattle.desk_commands.proofs.Common.{ContainerOrder, RepresentsWhole, early, looks_nowhere, looks_then, open_ones}
+use Rattle.desk_commands.proofs.Common.{opens, take_all, tells_full, tells_passed_later}
+use Rattle.desk_commands.proofs.Fetched.{enough_with, part_found}
 use Rattle.desk_commands.proofs.run_creation.found_and_open.Goals.{then-loop-place-test+else-len-most}
 use Rattle.desk_commands.proofs.run_creation.found_and_open.Goals.{else-loop-place-test}
 use Rattle.desk_commands.proofs.run_creation.found_and_open.Goals as goal
@@ -12,7 +11,7 @@ use Rattle.desk_commands.proofs.run_creation.found_and_open.Goals as goal
 pub loop-place-init : goal.loop-place-init
 loop-place-init g c =
     record {
-      looks = looks_nowhere (state g.S.Store c.args.tables.now);
+      looks = looks_nowhere;
       room = grind (arith, common_steps);
       within = omega arith;
       so_far = λ clean s judged it day told. (told, sym (append-nil c.args.first.orders.items));
@@ -24,32 +23,22 @@ returns-in_err-found g c =
     record { answers = tells_passed_later _ c.from_residual.ensures c.loop-place.invariant.looks told.aborts (λ beside s it may judged. told.faults tt s it tt judged) }
 
 pub returns-in_err-extend_from_slice : goal.returns-in_err-extend_from_slice
-returns-in_err-extend_from_slice g c = record { answers = tells_full c.from_residual-in_err-extend_from_slice.ensures (looks_then _ _ _ c.loop-place.invariant.looks c.in_ok-found.ensures.answers.looks) }
+returns-in_err-extend_from_slice g c = record { answers = tells_full c.from_residual-in_err-extend_from_slice.ensures (looks_then c.loop-place.invariant.looks c.in_ok-found.ensures.answers.looks) }
 
 pub loop-place-preserved : goal.loop-place-preserved
 loop-place-preserved g c =
-    let represents = RepresentsWhole g.P.Places.represents g.P.Versioned.version in
-    let a = state g.S.Store c.args.tables.now in
-    let b = state g.S.Store c.loop-place.tables in
-    let d = state g.S.Store c.open_among.new.tables in
     let before = c.loop-place.invariant in
     let told = c.in_ok-found.ensures.answers in
-    let waiting = c.args.waiting.now in
     let from : c.loop-place.place ≤ c.min-end.result = grind (arith, common_steps) in
     record {
-      looks = looks_then a b d before.looks told.looks;
+      looks = looks_then before.looks told.looks;
       room = grind (arith, common_steps);
       within = grind (arith, common_steps);
       so_far = λ clean s judged it day known.
-          let test = λ (o : ContainerOrder). opens s o.ticket o.container in
-          let at_b = early b d _ told.looks.goes.on.crash clean in
+          let at_b = early told.looks.goes.on.crash clean in
           let so = before.so_far at_b s judged it day known in
-          let found = told.answers clean tt s (shown_on represents a b before.looks at_b s it) judged day so.0 in (
-            found.1,
-            c.in_ok-extend_from_slice.ensures.items ∙ ap₂ ◌++◌ so.1 (c.deref.ensures.value ∙ found.0)
-                ∙ append_assoc c.args.first.orders.items (open_ones s (take c.loop-place.place waiting)) _
-                ∙ ap (λ l. c.args.first.orders.items ++ l) (part_more test waiting c.loop-place.place c.min-end.result from),
-          );
+          let found = told.answers clean tt s (shown_on (RepresentsWhole g.P.Places.represents g.P.Versioned.version) before.looks at_b s it) judged day so.0 in
+          (found.1, part_found s c.args.first.orders.items c.args.waiting.now c.loop-place.place c.min-end.result from so.1 (c.deref.ensures.value ∙ found.0) c.in_ok-extend_from_slice.ensures.items);
     }
 
 pub returns : goal.returns
@@ -59,8 +48,7 @@ returns g c =
     let most = c.args.most in
     let first = c.args.first.orders.items in
     record {
-      answers = ends_well (RepresentsWhole g.P.Places.represents g.P.Versioned.version) CanBeJudged (λ _. ⊤) g.S.Store c.args.tables.now c.args.tables.now c.loop-place.tables _ c.loop-place.invariant.looks _
-          (λ clean s it judged day known.
+      answers = ends_well c.loop-place.invariant.looks _ (λ clean s it judged day known.
           let test = λ (o : ContainerOrder). opens s o.ticket o.container in
           let so = (c.loop-place.invariant.so_far clean s judged it day known).1 in
           c.truncate.ensures.items ∙ ap (take most) so

@@ -1,7 +1,6 @@
 use Rattle.std.proofs.Common.{◌≡◌, ◌≤◌, ◌-◌, ◌++◌, take, length}
-use Rattle.sqlite.specs.State.{HasCleanDisk}
-use Rattle.access.specs.KnownUnits.{AreTold, open_ones}
-use Rattle.desk_commands.proofs.Common.{CanBeJudged, LeavesUnchanged, RepresentsState, State, state}
+use Rattle.desk_commands.proofs.Common.{AreTold, CanBeJudged, HasCleanDisk, LeavesUnchanged, RepresentsState, State}
+use Rattle.desk_commands.proofs.Common.{open_ones, state}
 use Rattle.desk_commands.proofs.run_creation.found_and_open.Given as goal
 
 abbrev pub invariant-loop-place : goal.invariant-loop-place

@@ -1,4 +1,5 @@
-use Rattle.desk_commands.proofs.Common.{desk_passed, state, tables}
+use Rattle.desk_commands.proofs.Common.{desk_passed}
+use Rattle.desk_commands.proofs.OneStep.{desk_made}
 use Rattle.desk_commands.proofs.Seated.{leaves}
 use Rattle.desk_commands.proofs.seats.free_seat.Goals as goal
 
@@ -7,13 +8,5 @@ returns-in_err-set_seat g c = let made = c.in_err-set_seat.ensures.updates in de
 
 pub returns : goal.returns
 returns g c =
-    let a = state g.S.Store c.args.tables.now in
-    let b = state g.S.Store c.set_seat.new.tables in
-    let made = c.in_ok-set_seat.ensures.updates in
-    record {
-      steps = λ clean s sound so it. leaves s sound c.args.ticket g.P.Versioned.version g.P.Places.represents g.met.P.Places.shows_same a.now b.now it (made.goes.schema clean) (made.only clean) c.args.seat so
-          (made.represents_updated clean tt (tables g.P.Versioned.version s).desk it.desk tt);
-      goes = made.goes;
-      aborts = tt;
-      faults = λ s sound so it clean free. tt;
-    }
+    desk_made c.in_ok-set_seat.ensures.updates.call (λ s sound so it. tt) (λ s sound so it schema only put.
+    leaves s sound c.args.ticket g.P.Versioned.version g.P.Places.represents g.met.P.Places.shows_same _ _ it schema only c.args.seat so put)

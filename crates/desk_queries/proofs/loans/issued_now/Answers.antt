@@ -15,10 +15,9 @@ list_text-requires g c = record { whole = no_float loan_data (λ loan. refl) c.d
 pub returns : goal.returns
 returns g c =
     let v = g.P.Versioned.version in
-    let a = state g.S.Store c.args.tables.now in
     let b = state g.S.Store c.issued.new.tables in
     let told = c.in_ok-loans.ensures.answers in
-    answers_by g.P.Places.represents v query.IssuedNow a b (Json c.in_ok-text.text) told.looks
+    answers_by g.P.Places.represents v query.IssuedNow (state g.S.Store c.args.tables.now) b (Json c.in_ok-text.text) told.looks
     (λ clean s sound it.
     ap Json c.in_ok-text.ensures
     ∙ ap (λ (l : List ContainerOrder). Json (compact_text (list (map loan_data l)))) (c.deref.ensures.value ∙ told.answers clean tt (tables v s).desk it.desk)

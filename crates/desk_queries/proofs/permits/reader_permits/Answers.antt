@@ -15,10 +15,9 @@ returns-in_err-known g c = let told = c.in_err-known.ensures.answers in desk_ans
 pub returns-then-not-known : goal.returns-then-not-known
 returns-then-not-known g c =
     let v = g.P.Versioned.version in
-    let a = state g.S.Store c.args.tables.now in
     let b = state g.S.Store c.is_registered.new.tables in
     let told = c.in_ok-known.ensures.answers in
-    answers_by g.P.Places.represents v (query.ReaderPermits c.args.ticket) a b (Unknown UnknownTicket) told.looks
+    answers_by g.P.Places.represents v (query.ReaderPermits c.args.ticket) (state g.S.Store c.args.tables.now) b (Unknown UnknownTicket) told.looks
     (λ clean s sound it.
     no_ticket v s sound c.args.ticket (sym (known_ticket v s sound c.args.ticket) ∙ sym (told.answers clean tt (tables v s).desk it.desk) ∙ c.if-not-known.true))
 
@@ -36,15 +35,13 @@ pub returns : goal.returns
 returns g c =
     let v = g.P.Versioned.version in
     let a = state g.S.Store c.args.tables.now in
-    let b = state g.S.Store c.is_registered.new.tables in
-    let z = state g.S.Store c.permits.new.tables in
     let first = c.in_ok-known.ensures.answers in
     let told = c.in_ok-granted.ensures.answers in
     let t = c.args.ticket in
-    answers_by g.P.Places.represents v (query.ReaderPermits t) a z (Json c.in_ok-text.text) (looks_then a b z first.looks told.looks)
+    answers_by g.P.Places.represents v (query.ReaderPermits t) a (state g.S.Store c.permits.new.tables) (Json c.in_ok-text.text) (looks_then first.looks told.looks)
     (λ clean s sound it.
-    let at_b = early b z _ told.looks.goes.on.crash clean in
-    let at = still_shown g.P.Places.represents v a b first.looks at_b s it in
+    let at_b = early told.looks.goes.on.crash clean in
+    let at = still_shown g.P.Places.represents v a (state g.S.Store c.is_registered.new.tables) first.looks at_b s it in
     ap Json c.in_ok-text.ensures
     ∙ ap (λ (l : List Permit). Json (compact_text (list (map permit_data l)))) c.deref.ensures.value
     ∙ ap (λ l. Json (compact_text (list l))) (permits_told v s sound t c.in_ok-granted.granted.items (told.answers clean tt (tables v s).desk at.desk))

@@ -4,4 +4,4 @@ use Rattle.desk_queries.proofs.CardTold.{card_whole}
 use Rattle.desk_queries.proofs.reader_card.card_text.Goals as goal
 
 pub text_of-requires : goal.text_of-requires
-text_of-requires c = record { whole = ap has_float c.in_ok-value.ensures ∙ card_whole c.args.card.now }
+text_of-requires c = record { no_float = ap has_float c.in_ok-value.ensures ∙ card_whole c.args.card.now }

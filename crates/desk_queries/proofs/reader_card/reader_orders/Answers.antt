@@ -12,10 +12,9 @@ returns-in_err-card g c = let told = c.in_err-card.ensures.answers in desk_answe
 pub returns-in_default : goal.returns-in_default
 returns-in_default g c =
     let v = g.P.Versioned.version in
-    let a = state g.S.Store c.args.tables.now in
     let b = state g.S.Store c.reader.new.tables in
     let told = c.in_ok-card.ensures.answers in
-    answers_by g.P.Places.represents v (query.ReaderOrders c.args.ticket) a b (Unknown UnknownTicket) told.looks
+    answers_by g.P.Places.represents v (query.ReaderOrders c.args.ticket) (state g.S.Store c.args.tables.now) b (Unknown UnknownTicket) told.looks
     (λ clean s sound it.
     ap (λ (card : Option ReaderCard). known_json UnknownTicket (option_map card_data card)) (sym c.in_default.is)
     ∙ card_answer v s sound c.args.ticket c.args.today c.in_ok-card.field-0 (told.answers clean tt (tables v s).desk it.desk))
@@ -23,10 +22,9 @@ returns-in_default g c =
 pub returns : goal.returns
 returns g c =
     let v = g.P.Versioned.version in
-    let a = state g.S.Store c.args.tables.now in
     let b = state g.S.Store c.reader.new.tables in
     let told = c.in_ok-card.ensures.answers in
-    answers_by g.P.Places.represents v (query.ReaderOrders c.args.ticket) a b (Json c.in_ok-text.text) told.looks
+    answers_by g.P.Places.represents v (query.ReaderOrders c.args.ticket) (state g.S.Store c.args.tables.now) b (Json c.in_ok-text.text) told.looks
     (λ clean s sound it.
     ap Json c.in_ok-text.ensures
     ∙ ap (λ (card : Option ReaderCard). known_json UnknownTicket (option_map card_data card)) (sym c.in-Some.is)

@@ -17,9 +17,8 @@ pub returns-in_default : goal.returns-in_default
 returns-in_default g c =
     let v = g.P.Versioned.version in
     let a = state g.S.Store c.args.tables.now in
-    let b = state g.S.Store c.run.new.tables in
     let told = c.in_ok-brought.ensures.answers in
-    answers_by g.P.Places.represents v (query.RunSlip c.args.run) a b (Unknown UnknownRun) told.looks
+    answers_by g.P.Places.represents v (query.RunSlip c.args.run) a (state g.S.Store c.run.new.tables) (Unknown UnknownRun) told.looks
     (λ clean s sound it.
     ap (told_slip c.args.run) (sym c.in_default.is)
     ∙ run_told v s sound c.args.run c.in_ok-brought.field-0 (told.answers clean tt (storage_of v s) (shows_storage v s g.P.Places.represents a.now sound it)))
@@ -28,10 +27,9 @@ pub returns : goal.returns
 returns g c =
     let v = g.P.Versioned.version in
     let a = state g.S.Store c.args.tables.now in
-    let b = state g.S.Store c.run.new.tables in
     let told = c.in_ok-brought.ensures.answers in
-    answers_by g.P.Places.represents v (query.RunSlip c.args.run) a b (Text c.in_ok-text.text.items) told.looks
+    answers_by g.P.Places.represents v (query.RunSlip c.args.run) a (state g.S.Store c.run.new.tables) (Text c.in_ok-text.text.items) told.looks
     (λ clean s sound it.
-    ap Text (c.in_ok-text.ensures ∙ ap (slip c.args.run c.in-Some.brought.day) c.as_slice.ensures)
+    ap Text ((rw c.get.ensures.same at c.in_ok-text.ensures) ∙ ap (slip c.args.run c.in-Some.brought.day) c.as_slice.ensures)
     ∙ ap (told_slip c.args.run) (sym c.in-Some.is)
     ∙ run_told v s sound c.args.run c.in_ok-brought.field-0 (told.answers clean tt (storage_of v s) (shows_storage v s g.P.Places.represents a.now sound it)))

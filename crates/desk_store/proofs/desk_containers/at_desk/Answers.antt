@@ -1,6 +1,5 @@
 use Rattle.std.proofs.Common.{◌≡◌, ℕ, ◌<◌, zero, suc, get_or, List, [], ◌∷◌, ◌++◌, length, refl, ap, ◌∙◌, arith}
-use Rattle.desk_store.proofs.Common.{IsLegible, Memory, RepresentsDeskAlone, early, list_any, looks_then, same_fault}
-use Rattle.desk_store.proofs.Common.{state, waits_for, ⊤}
+use Rattle.desk_store.proofs.Common.{RepresentsDeskAlone, early, list_any, looks_then, same_fault, waits_for}
 use Rattle.desk_store.proofs.ReshelvingCalls.{told_more, told_whole}
 use Rattle.desk_store.proofs.desk_containers.at_desk.Goals as goal
 use Rattle.desk_store.proofs.ToldCalls.{shown_on}
@@ -14,38 +13,24 @@ any_default (x ∷ xs) (suc i) d e low = any_default xs i d e (omega (arith, low
 
 pub returns-in_err-awaited : goal.returns-in_err-awaited
 returns-in_err-awaited g c =
-    let e = c.from_residual-in_err-awaited.ensures in
     record {
-      answers = ends_not RepresentsDeskAlone IsLegible (λ _. ⊤) g.S.Store c.args.tables.now c.loop-container.tables c.is_awaited.new.tables _ c.loop-container.invariant.looks
-          c.in_err-awaited.field-0.0 c.in_err-awaited.ensures.answers.aborts c.in_err-awaited.ensures.answers.spares (λ d shown may kept clean.
-          c.in_err-awaited.ensures.answers.faults tt d shown tt kept clean)
-          c.from_residual-in_err-awaited.result (same_fault c.from_residual-in_err-awaited.result c.in_err-awaited.field-0.0 e.0 e.1);
+      answers = ends_not c.loop-container.invariant.looks c.in_err-awaited.ensures.answers.aborts c.in_err-awaited.ensures.answers.spares (λ d shown may kept clean.
+          c.in_err-awaited.ensures.answers.faults tt d shown tt kept clean) (same_fault c.from_residual-in_err-awaited.ensures);
     }
 
 pub returns-in_err-push : goal.returns-in_err-push
-returns-in_err-push g c =
-    let a = state g.S.Store c.args.tables.now in
-    let b = state g.S.Store c.loop-container.tables in
-    let z = state g.S.Store c.is_awaited.new.tables in
-    let e = c.from_residual-in_err-push.ensures in
-    record {
-      answers = ends_full RepresentsDeskAlone IsLegible (λ _. ⊤) g.S.Store c.args.tables.now c.args.tables.now c.is_awaited.new.tables _ (looks_then a b z c.loop-container.invariant.looks c.in_ok-awaited.ensures.answers.looks)
-          c.from_residual-in_err-push.result (same_fault c.from_residual-in_err-push.result Memory e.0 e.1);
-    }
+returns-in_err-push g c = record { answers = ends_full (looks_then c.loop-container.invariant.looks c.in_ok-awaited.ensures.answers.looks) (same_fault c.from_residual-in_err-push.ensures) }
 
 pub loop-container-preserved : goal.loop-container-preserved
 loop-container-preserved g c =
-    let a = state g.S.Store c.args.tables.now in
-    let b = state g.S.Store c.loop-container.tables in
-    let z = state g.S.Store c.is_awaited.new.tables in
     let last = c.in_ok-awaited.ensures.answers.looks in
     let looked = c.loop-container.invariant.looks in
     record {
-      looks = looks_then a b z looked last;
-      containers = λ clean desk shown. c.loop-container.invariant.containers (early b z _ last.goes.on.crash clean) desk shown;
+      looks = looks_then looked last;
+      containers = λ clean desk shown. c.loop-container.invariant.containers (early last.goes.on.crash clean) desk shown;
       so_far = λ clean desk shown.
-          let before = early b z _ last.goes.on.crash clean in
-          let told = c.in_ok-awaited.ensures.answers.answers clean tt desk (shown_on RepresentsDeskAlone a b looked before desk shown) in
+          let before = early last.goes.on.crash clean in
+          let told = c.in_ok-awaited.ensures.answers.answers clean tt desk (shown_on RepresentsDeskAlone looked before desk shown) in
           let here = c.container-item.is ∙ any_default c.deref-container-items.result.now c.loop-container.container-index c.container-item.result 0 c.loop-container-test.true in
           c.in_ok-push.ensures.items
           ∙ ap (λ n. c.loop-container.told.items ++ (n, c.in_ok-awaited.awaited) ∷ []) (c.get.ensures.same ∙ here)
@@ -56,7 +41,7 @@ loop-container-preserved g c =
 pub returns : goal.returns
 returns g c =
     record {
-      answers = ends_well RepresentsDeskAlone IsLegible (λ _. ⊤) g.S.Store c.args.tables.now c.args.tables.now c.loop-container.tables _ c.loop-container.invariant.looks _ (λ clean desk shown.
+      answers = ends_well c.loop-container.invariant.looks _ (λ clean desk shown.
           told_whole desk c.deref-container-items.result.now c.loop-container.container-index c.loop-container.told.items c.loop-container-test.false
           (c.loop-container.invariant.containers clean desk shown) (c.loop-container.invariant.so_far clean desk shown));
     }

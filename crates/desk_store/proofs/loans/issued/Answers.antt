@@ -1,6 +1,6 @@
 use Rattle.std.proofs.Common.{Some, None, ap, sym, ◌∙◌}
-use Rattle.desk_store.proofs.Common.{HoldingLine, IsLegible, Memory, RepresentsDeskAlone, append-nil, early, loan_by}
-use Rattle.desk_store.proofs.Common.{looks_then, same_fault, state, ⊤}
+use Rattle.desk_store.proofs.Common.{HoldingLine, RepresentsDeskAlone, append-nil, early, loan_by, looks_then}
+use Rattle.desk_store.proofs.Common.{same_fault}
 use Rattle.desk_store.proofs.LoanCalls.{loans_more, loans_whole}
 use Rattle.desk_store.proofs.loans.issued.Goals.{in-Some+in_ok-push, in_default}
 use Rattle.desk_store.proofs.loans.issued.Goals as goal
@@ -8,24 +8,10 @@ use Rattle.desk_store.proofs.ToldCalls.{shown_on}
 use Rattle.desk_store.proofs.TellingCalls.{ends_full, ends_not, ends_well}
 
 pub returns-in_err-loan : goal.returns-in_err-loan
-returns-in_err-loan g c =
-    let e = c.from_residual-in_err-loan.ensures in
-    record {
-      answers = ends_not RepresentsDeskAlone IsLegible (λ _. ⊤) g.S.Store c.args.tables.now c.loop-line.tables c.loan_of.new.tables _ c.loop-line.invariant.looks
-          c.in_err-loan.field-0.0 c.in_err-loan.ensures.answers.aborts c.in_err-loan.ensures.answers.spares (λ d shown may kept. c.in_err-loan.ensures.answers.faults tt d shown tt kept)
-          c.from_residual-in_err-loan.result (same_fault c.from_residual-in_err-loan.result c.in_err-loan.field-0.0 e.0 e.1);
-    }
+returns-in_err-loan g c = record { answers = ends_not c.loop-line.invariant.looks c.in_err-loan.ensures.answers.aborts c.in_err-loan.ensures.answers.spares (λ d shown may kept. c.in_err-loan.ensures.answers.faults tt d shown tt kept) (same_fault c.from_residual-in_err-loan.ensures) }
 
 pub returns-in_err-push : goal.returns-in_err-push
-returns-in_err-push g c =
-    let a = state g.S.Store c.args.tables.now in
-    let b = state g.S.Store c.loop-line.tables in
-    let d = state g.S.Store c.loan_of.new.tables in
-    let e = c.from_residual-in_err-push.ensures in
-    record {
-      answers = ends_full RepresentsDeskAlone IsLegible (λ _. ⊤) g.S.Store c.args.tables.now c.args.tables.now c.loan_of.new.tables _ (looks_then a b d c.loop-line.invariant.looks c.in_ok-loan.ensures.answers.looks)
-          c.from_residual-in_err-push.result (same_fault c.from_residual-in_err-push.result Memory e.0 e.1);
-    }
+returns-in_err-push g c = record { answers = ends_full (looks_then c.loop-line.invariant.looks c.in_ok-loan.ensures.answers.looks) (same_fault c.from_residual-in_err-push.ensures) }
 
 pub loop-line-init : goal.loop-line-init
 loop-line-init g c =
@@ -37,17 +23,14 @@ loop-line-init g c =
 
 pub loop-line-preserved : goal.loop-line-preserved
 loop-line-preserved g c =
-    let a = state g.S.Store c.args.tables.now in
-    let b = state g.S.Store c.loop-line.tables in
-    let d = state g.S.Store c.loan_of.new.tables in
     let last = c.in_ok-loan.ensures.answers.looks in
     let looked = c.loop-line.invariant.looks in
     record {
-      looks = looks_then a b d looked last;
-      lines = λ clean desk shown. c.loop-line.invariant.lines (early b d _ last.goes.on.crash clean) desk shown;
+      looks = looks_then looked last;
+      lines = λ clean desk shown. c.loop-line.invariant.lines (early last.goes.on.crash clean) desk shown;
       so_far = λ clean desk shown.
-          let before = early b d _ last.goes.on.crash clean in
-          let told = c.in_ok-loan.ensures.answers.answers clean tt desk (shown_on RepresentsDeskAlone a b looked before desk shown) in
+          let before = early last.goes.on.crash clean in
+          let told = c.in_ok-loan.ensures.answers.answers clean tt desk (shown_on RepresentsDeskAlone looked before desk shown) in
           let done = c.loop-line.invariant.so_far before desk shown in
           let lines = c.deref-line-items.result.now in
           let i = c.loop-line.line-index in
@@ -66,7 +49,7 @@ loop-line-preserved g c =
 pub returns : goal.returns
 returns g c =
     record {
-      answers = ends_well RepresentsDeskAlone IsLegible (λ _. ⊤) g.S.Store c.args.tables.now c.args.tables.now c.loop-line.tables _ c.loop-line.invariant.looks _ (λ clean desk shown.
+      answers = ends_well c.loop-line.invariant.looks _ (λ clean desk shown.
           loans_whole desk.orders desk.holdings c.deref-line-items.result.now c.loop-line.line-index c.loop-line.loans.items c.loop-line-test.false
           (c.loop-line.invariant.lines clean desk shown) (c.loop-line.invariant.so_far clean desk shown));
     }

@@ -1,17 +1,34 @@
-use Rattle.std.proofs.Common.{None, refl, sym, subst, arith}
-use Rattle.desk_store.proofs.Common.{IsLegible, IsThere, OrderRow, RepresentsDeskAlone, looks_nowhere, state, ⊤}
-use Rattle.desk_store.proofs.CardCalls.{unknown}
-use Rattle.desk_store.proofs.TellingCalls.{ends_well}
+use Rattle.std.proofs.Common.{◌≡◌, true, false, nat_eq, None, sym, subst, ◌∙◌}
+use Rattle.desk_store.proofs.Common.{Database, OrderRow, RepresentsDesk, cut_after, looks_nowhere, order_with}
+use Rattle.desk_store.proofs.Common.{same_fault, spares_own, state}
+use Rattle.desk_store.proofs.OrderReads.{told_none, told_there, legible_there}
 use Rattle.desk_store.proofs.orders.order.Goals as goal
+use Rattle.desk_store.proofs.TellingCalls.{ends_not, ends_well}
 
-pub returns-in-Some : goal.returns-in-Some
-returns-in-Some g c = record { answers = rw c.in-Some.ensures.same at c.find_placed.ensures.answers }
-
-pub returns-in-None : goal.returns-in-None
-returns-in-None g c =
+pub returns-in_default : goal.returns-in_default
+returns-in_default g c =
     record {
-      answers = ends_well RepresentsDeskAlone IsLegible (λ _. ⊤) g.S.Store c.args.tables.now c.args.tables.now c.args.tables.now _ (looks_nowhere (state g.S.Store c.args.tables.now)) None (λ clean d shown.
-          let few = shown.few_orders in
-          let over = c.in-None.ensures.none refl in
-          subst (λ row. IsThere row None) (sym (unknown (λ (o : OrderRow). o.id) c.args.order d.orders shown.order_numbers (omega (arith, few, over)))) refl);
+      answers = ends_well c.in_ok-entry.ensures.reads.looks None (λ clean d shown.
+          let there = c.in_ok-entry.ensures.answers clean d.orders shown.orders shown.order_numbers in
+          told_none (order_with c.args.order d) (sym there ∙ c.in_default.is));
+    }
+
+pub returns-in_err-placed : goal.returns-in_err-placed
+returns-in_err-placed g c =
+    record {
+      answers = let looked = c.in_ok-entry.ensures.reads.looks in
+          ends_not looked (cut_after looks_nowhere.goes.on) (λ clean. spares_own looks_nowhere clean c.in_err-placed.field-0.0 c.in_err-placed.ensures.fair) (λ d shown may kept clean free.
+          let before = subst (λ (db : Database). RepresentsDesk db.trees d) (looked.same clean) shown in
+          let there = c.in_ok-entry.ensures.answers clean d.orders before.orders before.order_numbers in
+          let some = legible_there (λ (o : OrderRow). nat_eq c.args.order o.id) d.orders kept.orders c.in-Some.entry (sym there ∙ c.in-Some.is) in
+          absurd (let none : false ≡ true = c.in_err-placed.ensures.known some.0 some.1 in cc)) (same_fault c.from_residual-in_err-placed.ensures);
+    }
+
+pub returns : goal.returns
+returns g c =
+    record {
+      answers = ends_well c.in_ok-entry.ensures.reads.looks _ (λ clean d shown.
+          let there = c.in_ok-entry.ensures.answers clean d.orders shown.orders shown.order_numbers in
+          told_there (order_with c.args.order d) c.in-Some.entry c.in_ok-placed.placed (sym there ∙ c.in-Some.is)
+          c.in_ok-placed.ensures.ticket c.in_ok-placed.ensures.container c.in_ok-placed.ensures.day c.in_ok-placed.ensures.state);
     }

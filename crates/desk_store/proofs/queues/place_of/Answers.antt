@@ -1,7 +1,6 @@
 use Rattle.std.proofs.Common.{sym, ◌∙◌}
 use Rattle.std.specs.Prelude.{nat_eq}
-use Rattle.desk_store.proofs.Common.{HoldingRow, IfOk-weaker, IsLegible, RepresentsDeskAlone, cut_looks, holding_of}
-use Rattle.desk_store.proofs.Common.{on_ok_from, own_last, state, ⊤}
+use Rattle.desk_store.proofs.Common.{HoldingRow, IfOk-weaker, cut_looks, holding_of, on_ok_from, own_last, state}
 use Rattle.desk_store.proofs.PlaceRows.{at_entry, at_shelf, legible_place}
 use Rattle.desk_store.proofs.ToldCalls.{never_fails}
 use Rattle.desk_store.proofs.TellingCalls.{ends_well}
@@ -32,7 +31,7 @@ returns-in-Some g c =
 pub returns-in-None : goal.returns-in-None
 returns-in-None g c =
     record {
-      answers = ends_well RepresentsDeskAlone IsLegible (λ _. ⊤) g.S.Store c.args.tables.now c.args.tables.now c.find_place.new.tables _ c.in_ok-entry.ensures.reads.looks _ (λ clean d shown.
+      answers = ends_well c.in_ok-entry.ensures.reads.looks _ (λ clean d shown.
           let there = c.in_ok-entry.ensures.answers clean d.holdings shown.holdings shown.holdings_rise in
           at_shelf (holding_of c.args.container d) (sym there ∙ c.in-None.is));
     }

@@ -9,9 +9,8 @@ pub returns-in_err-clear_permit-clause-updates : goal.returns-in_err-clear_permi
 returns-in_err-clear_permit-clause-updates g c =
     let old = state g.S.Store c.args.tables.now in
     let whole = not_cleared g.S.Store c.args.tables.now c.clear_permit.new.tables c.clear_permit.new.tables c.args.ticket c.args.unit c.args.until c.in_err-clear_permit.field-0.0 c.in_err-clear_permit.ensures in
-    let e = c.from_residual.ensures in
     subst (λ (r : Result Unit StoreFault). StoreUpdates g.S.Store (tables.permit.tree ∷ []) RepresentsDeskAlone c.args.tables.now c.clear_permit.new.tables r (MayHave c.args.ticket c.args.unit old.now.trees) IsLegible (desk_with_permit c.args.ticket c.args.unit c.args.until))
-    (sym (same_fault c.from_residual.result c.in_err-clear_permit.field-0.0 e.0 e.1)) whole
+    (sym (same_fault c.from_residual.ensures)) whole
 
 pub returns : goal.returns
 returns g c =

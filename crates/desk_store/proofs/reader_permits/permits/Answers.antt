@@ -1,19 +1,28 @@
-use Rattle.std.proofs.Common.{refl, sym, subst, arith}
-use Rattle.desk_store.proofs.Common.{IsLegible, IsOrdered, RepresentsDeskAlone, by_permitted_unit, looks_nowhere}
-use Rattle.desk_store.proofs.Common.{permits_of, state, ⊤}
-use Rattle.desk_store.proofs.PermitCalls.{none_given}
+use Rattle.std.proofs.Common.{sym, subst}
+use Rattle.office_tables.specs.Schema as tables
+use Rattle.desk_store.proofs.Common.{IfOk-weaker, IsOrdered, answered, by_permitted_unit, caused, permits_of, state}
+use Rattle.desk_store.proofs.PermitCalls.{told_ordered}
+use Rattle.desk_store.proofs.PermitRows.{permits_command, permits_means, permits_finds, permits_faults}
 use Rattle.desk_store.proofs.reader_permits.permits.Goals as goal
-use Rattle.desk_store.proofs.TellingCalls.{ends_well}
 
-pub returns-in-Some : goal.returns-in-Some
-returns-in-Some g c = record { answers = rw c.in-Some.ensures.same at c.permits_with.ensures.answers }
+pub find-requires : goal.find-requires
+find-requires g c = record { count = 1; command = permits_command; means = permits_means g.P.Versioned.version }
 
-pub returns-in-None : goal.returns-in-None
-returns-in-None g c =
+pub returns : goal.returns
+returns g c =
     let old = state g.S.Store c.args.tables.now in
+    let new = state g.S.Store c.find.new.tables in
     record {
-      answers = ends_well RepresentsDeskAlone IsLegible (λ _. ⊤) g.S.Store c.args.tables.now c.args.tables.now c.args.tables.now _ (looks_nowhere old) _ (λ clean d shown.
-          let few = shown.few_tickets in
-          let over = c.in-None.ensures.none refl in
-          subst (IsOrdered by_permitted_unit (permits_of c.args.ticket d)) (sym c.new.ensures.items) (none_given c.args.ticket old.now.trees d shown (omega (arith, few, over))));
+      answers = record {
+        call = record {
+          answers = λ clean beside d shown.
+              answered old c.find.result _ (rw c.cell.ensures at (c.find.ensures.ran clean)) (λ ran. IfOk-weaker c.find.result _ _ (λ all it. subst (IsOrdered by_permitted_unit (permits_of c.args.ticket d)) (sym it.2) (told_ordered c.args.ticket (old.now.trees tables.permit.tree) d.permits shown.permits it.0 it.1))
+              (permits_finds old new c.args.ticket g.P.Versioned.version ran.0 d.permits shown.permits (λ found. found.items) c.find.result ran.1));
+          looks = c.find.ensures.reads.looks;
+          aborts = c.find.ensures.reads.aborts;
+          faults = λ beside d shown may kept clean free.
+              caused old new c.find.result (rw c.cell.ensures at (c.find.ensures.ran clean)) (λ ran. permits_faults old new c.args.ticket g.P.Versioned.version ran.0 d.permits shown.permits (λ found. found.items) c.find.result kept.permits free ran.2);
+        };
+        spares = c.find.ensures.reads.spares;
+      };
     }

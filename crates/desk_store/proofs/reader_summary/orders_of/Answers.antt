@@ -1,7 +1,7 @@
 use Rattle.std.proofs.Common.{◌<◌, ◌^◌, List, length, map, filter, nat_eq, ◌&&◌, refl, ap, sym, subst, ◌∙◌}
 use Rattle.desk_store.specs.declared.reader_summary.LiveOrder.{LiveOrder}
-use Rattle.desk_store.proofs.Common.{IsLegible, OrderLine, OrderRow, RepresentsDeskAlone, count_by, early}
-use Rattle.desk_store.proofs.Common.{has_not_ended, looks_then, map-map, same_fault, state, ⊤}
+use Rattle.desk_store.proofs.Common.{OrderLine, OrderRow, RepresentsDeskAlone, count_by, early, has_not_ended}
+use Rattle.desk_store.proofs.Common.{looks_then, map-map, same_fault, state}
 use Rattle.desk_store.proofs.CardCalls.{out_of_lines, few_lines}
 use Rattle.desk_store.proofs.CardRows.{line_of}
 use Rattle.desk_store.proofs.reader_summary.orders_of.Goals as goal
@@ -9,31 +9,18 @@ use Rattle.desk_store.proofs.ToldCalls.{shown_on}
 use Rattle.desk_store.proofs.TellingCalls.{ends_not, ends_well}
 
 pub returns-in_err-orders : goal.returns-in_err-orders
-returns-in_err-orders g c =
-    let a = state g.S.Store c.args.tables.now in
-    let b = state g.S.Store c.live_lines.new.tables in
-    let p = state g.S.Store c.placed_on.new.tables in
-    let e = c.from_residual-in_err-orders.ensures in
-    record {
-      answers = ends_not RepresentsDeskAlone IsLegible (λ _. ⊤) g.S.Store c.args.tables.now c.placed_on.new.tables c.last_order.new.tables _ (looks_then a b p c.in_ok-lines.ensures.reads.looks c.in_ok-placed.ensures.reads.looks)
-          c.in_err-orders.field-0.0 c.in_err-orders.ensures.reads.aborts c.in_err-orders.ensures.reads.spares (λ d shown may kept. c.in_err-orders.ensures.faults d.orders shown.orders (shown.few_orders, shown.order_numbers))
-          c.from_residual-in_err-orders.result (same_fault c.from_residual-in_err-orders.result c.in_err-orders.field-0.0 e.0 e.1);
-    }
+returns-in_err-orders g c = record { answers = ends_not (looks_then c.in_ok-lines.ensures.reads.looks c.in_ok-placed.ensures.reads.looks) c.in_err-orders.ensures.reads.aborts c.in_err-orders.ensures.reads.spares (λ d shown may kept. c.in_err-orders.ensures.faults d.orders shown.orders (shown.few_orders, shown.order_numbers)) (same_fault c.from_residual-in_err-orders.ensures) }
 
 pub returns : goal.returns
 returns g c =
-    let a = state g.S.Store c.args.tables.now in
-    let b = state g.S.Store c.live_lines.new.tables in
-    let p = state g.S.Store c.placed_on.new.tables in
-    let z = state g.S.Store c.last_order.new.tables in
     let first = c.in_ok-lines.ensures.reads.looks in
-    let two = looks_then a b p first c.in_ok-placed.ensures.reads.looks in
+    let two = looks_then first c.in_ok-placed.ensures.reads.looks in
     record {
-      answers = ends_well RepresentsDeskAlone IsLegible (λ _. ⊤) g.S.Store c.args.tables.now c.args.tables.now c.last_order.new.tables _ (looks_then a p z two c.in_ok-orders.ensures.reads.looks) _ (λ clean d shown.
-          let at_p = early p z _ c.in_ok-orders.ensures.reads.crash clean in
-          let at_b = early b p _ c.in_ok-placed.ensures.reads.crash at_p in
-          let shown_b = shown_on RepresentsDeskAlone a b first at_b d shown in
-          let shown_p = shown_on RepresentsDeskAlone a p two at_p d shown in
+      answers = ends_well (looks_then two c.in_ok-orders.ensures.reads.looks) _ (λ clean d shown.
+          let at_p = early c.in_ok-orders.ensures.reads.crash clean in
+          let at_b = early c.in_ok-placed.ensures.reads.crash at_p in
+          let shown_b = shown_on RepresentsDeskAlone first at_b d shown in
+          let shown_p = shown_on RepresentsDeskAlone two at_p d shown in
           let lines = c.in_ok-lines.ensures.answers at_b d.orders shown.orders shown.order_numbers in
           let told = λ (o : OrderLine). (let x : LiveOrder = record { order = o.order; container = o.container; is_out = nat_eq o.state 2 } in x) in
           let live = c.in_ok-live.ensures ∙ ap (map told) (c.deref.ensures.value ∙ lines) ∙ map-map told line_of (filter (λ (o : OrderRow). nat_eq c.args.ticket o.ticket && has_not_ended o) d.orders) in

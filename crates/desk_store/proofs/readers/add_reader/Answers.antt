@@ -9,9 +9,8 @@ pub returns-in_err-insert_reader-clause-updates : goal.returns-in_err-insert_rea
 returns-in_err-insert_reader-clause-updates g c =
     let whole = failed g.S.Store c.args.tables.now c.next_number.new.tables c.insert_reader.new.tables c.args.name.now c.args.until c.in-Some.ticket c.in_ok-ticket.ensures.reads.looks
     (λ clean d shown. sym c.in-Some.is ∙ c.in_ok-ticket.ensures.number clean d shown) c.in_err-insert_reader.field-0.0 c.in_err-insert_reader.ensures.leaves.aborts c.in_err-insert_reader.ensures.leaves.spares c.in_err-insert_reader.ensures.faults in
-    let e = c.from_residual-in_err-insert_reader.ensures in
     subst (λ (r : Result (Option ℕ) StoreFault). StoreUpdates g.S.Store (tables.reader.tree ∷ []) RepresentsDeskAlone c.args.tables.now c.insert_reader.new.tables r (λ _. ⊤) IsLegible (λ d. with_reader (next_ticket d) c.args.name.now c.args.until d))
-    (sym (same_fault c.from_residual-in_err-insert_reader.result c.in_err-insert_reader.field-0.0 e.0 e.1)) whole
+    (sym (same_fault c.from_residual-in_err-insert_reader.ensures)) whole
 
 pub returns-clause-updates : goal.returns-clause-updates
 returns-clause-updates g c =

@@ -8,13 +8,12 @@ use Rattle.desk_store.proofs.readers.renew.Goals as goal
 
 pub returns : goal.returns
 returns g c =
-    let old = state g.S.Store c.args.tables.now in
     let new = state g.S.Store c.set_last_day.new.tables in
     record {
       updates = record {
         call = record {
           represents_updated = λ clean beside d shown may. on_ok_then c.set_last_day.result _ _ (λ has.
-              with_readers old.now new.now d shown _ has.only has.are
+              with_readers (state g.S.Store c.args.tables.now).now new.now d shown _ has.only has.are
               (counted_again (λ (r : ReaderRow). r.ticket) 1 _ (same_tickets c.args.ticket c.args.until) d.readers shown.tickets)
               (subst (λ n. n ≤ most_tickets) (sym (length-map d.readers _)) shown.few_tickets) (subst (λ n. length d.readers ≤ n) (sym (length-map d.readers _)) (le_refl _))) (c.set_last_day.ensures.rows clean d.readers shown.readers shown.tickets);
           only = c.set_last_day.ensures.only;

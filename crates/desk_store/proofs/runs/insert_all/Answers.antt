@@ -14,10 +14,8 @@ returns-in_err-insert_run g c =
     let a = state g.S.Store c.args.tables.now in
     let b = state g.S.Store c.insert_run.new.tables in
     let e = c.in_err-insert_run.field-0.0 in
-    let handed = c.from_residual.ensures in
     let last = c.in_err-insert_run.ensures in
-    makes_not g.S.Store _ _ _ c.args.tables.now c.insert_run.new.tables c.from_residual.result _ both e (same_fault c.from_residual.result e handed.0 handed.1) last.leaves.aborts last.leaves.spares
-    (λ beside d shown is once. last.faults d.runs shown.runs (run_free a b b c.args.run c.args.on c.args.taken.now d shown is))
+    makes_not (same_fault c.from_residual.ensures) last.leaves.aborts last.leaves.spares (λ beside d shown is once. last.faults d.runs shown.runs (run_free a b b c.args.run c.args.on c.args.taken.now d shown is))
 
 pub returns : goal.returns
 returns g c =
@@ -37,8 +35,8 @@ returns g c =
         only = λ clean.
             let wrote = put.puts (clean_before b d r lines.goes lines.aborts clean) in
             on_ok_then r _ _ (both_touched a b d c.args.run c.args.on c.args.taken.now wrote.only) (lines.only clean);
-        goes = on_ok_then r _ _ (goes_then a b d goes) lines.goes;
-        aborts = on_err_then r _ _ (cut_then a b d goes.on) lines.aborts;
+        goes = on_ok_then r _ _ (goes_then goes) lines.goes;
+        aborts = on_err_then r _ _ (cut_then goes.on) lines.aborts;
         faults = λ beside desk shown is once clean free. last_cause a b d goes.on r lines.aborts clean (λ cleaner.
             lines.faults tt desk.run_lines (lines_still a b d c.args.run c.args.on c.args.taken.now (put.puts cleaner).only desk shown) tt
             (no_line a b d c.args.run c.args.on c.args.taken.now desk shown is, once) clean (still_unlimited a b goes.on free));

@@ -9,9 +9,8 @@ pub returns-in_err-insert_all-clause-updates : goal.returns-in_err-insert_all-cl
 returns-in_err-insert_all-clause-updates g c =
     let whole = not_recorded g.S.Store c.args.tables.now c.next_number.new.tables c.insert_all.new.tables c.args.on c.args.taken.now c.in-Some.run' c.in_ok-run.ensures.reads.looks
     (λ clean d shown. sym c.in-Some.is ∙ c.in_ok-run.ensures.number clean d shown) c.in_err-insert_all.field-0.0 c.in_err-insert_all.ensures.aborts c.in_err-insert_all.ensures.spares (c.in_err-insert_all.ensures.faults tt) in
-    let e = c.from_residual-in_err-insert_all.ensures in
     subst (λ (r : Result (Option ℕ) StoreFault). StoreUpdates g.S.Store (tables.run.tree ∷ tables.run_line.tree ∷ []) RepresentsDeskAlone c.args.tables.now c.insert_all.new.tables r (λ _. ⊤) (λ d. IsLegible d × TakesEachOnce c.args.taken.now) (λ d. with_run (next_run d) c.args.on c.args.taken.now d))
-    (sym (same_fault c.from_residual-in_err-insert_all.result c.in_err-insert_all.field-0.0 e.0 e.1)) whole
+    (sym (same_fault c.from_residual-in_err-insert_all.ensures)) whole
 
 pub returns-clause-updates : goal.returns-clause-updates
 returns-clause-updates g c =

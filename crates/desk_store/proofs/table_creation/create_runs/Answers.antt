@@ -5,15 +5,12 @@ use Rattle.desk_store.proofs.TableSteps.{makes_one, makes_not, makes_next}
 use Rattle.desk_store.proofs.table_creation.create_runs.Goals as goal
 
 pub returns-in_err-create_table : goal.returns-in_err-create_table
-returns-in_err-create_table g c =
-    let e = c.from_residual.ensures in
-    makes_not (same_fault c.from_residual.result c.in_err-create_table.field-0.0 e.0 e.1) (makes_one g.S.Store c.args.conn.now c.create_table.new.conn (Err c.in_err-create_table.field-0.0) holding_defined c.in_err-create_table.ensures.made c.in_err-create_table.ensures.faults c.in_err-create_table.ensures.aborts)
+returns-in_err-create_table g c = makes_not (same_fault c.from_residual.ensures) (makes_one g.S.Store c.args.conn.now c.create_table.new.conn (Err c.in_err-create_table.field-0.0) holding_defined c.in_err-create_table.ensures.made c.in_err-create_table.ensures.faults c.in_err-create_table.ensures.aborts)
 
 pub returns-in_err-create_table-2 : goal.returns-in_err-create_table-2
 returns-in_err-create_table-2 g c =
     let step1 = makes_one g.S.Store c.args.conn.now c.create_table.new.conn (Ok c.in_ok-create_table.field-0) holding_defined c.in_ok-create_table.ensures.made c.in_ok-create_table.ensures.faults c.in_ok-create_table.ensures.aborts in
-    let e = c.from_residual-in_err-create_table-2.ensures in
-    makes_not (same_fault c.from_residual-in_err-create_table-2.result c.in_err-create_table-2.field-0.0 e.0 e.1) (makes_next step1 (makes_one g.S.Store c.create_table.new.conn c.create_table-2.new.conn (Err c.in_err-create_table-2.field-0.0) run_defined c.in_err-create_table-2.ensures.made c.in_err-create_table-2.ensures.faults c.in_err-create_table-2.ensures.aborts))
+    makes_not (same_fault c.from_residual-in_err-create_table-2.ensures) (makes_next step1 (makes_one g.S.Store c.create_table.new.conn c.create_table-2.new.conn (Err c.in_err-create_table-2.field-0.0) run_defined c.in_err-create_table-2.ensures.made c.in_err-create_table-2.ensures.faults c.in_err-create_table-2.ensures.aborts))
 
 pub returns : goal.returns
 returns g c =

@@ -1,107 +1,55 @@
-use Rattle.std.proofs.Common.{◌≡◌, ◌<◌, ◌≤◌, ◌+◌, ◌++◌, [], refl, append-nil, ℕ, List, length, length-append, take}
-use Rattle.std.proofs.Common.{arith, ap, sym, ◌∙◌, subst}
-use Rattle.std.specs.Prelude.{◌||◌, Bool}
+use Rattle.std.proofs.Common.{◌≡◌, ◌<◌, ◌+◌, [], refl, length, length-append, arith, ap, ◌∙◌, rules}
+use Rattle.std.proofs.lemmas.Grind.{common_steps}
 use Rattle.http_messages.specs.HeadScan.{scan}
-use Rattle.http_desk.specs.declared.input_buffer.Filled.{Filled}
-use Rattle.http_desk.specs.declared.input_buffer.Filled.TheVariants.{More, AtEnd, Failed}
-use Rattle.http_desk.specs.declared.message_input.FoundHead.TheVariants.{Cut, Bound}
-use Rattle.http_desk.proofs.Common.{Consumes-nil, Lead, Open, QuietFill, fill_failed, longest_head, scan_take_limit}
-use Rattle.http_desk.proofs.Common.{scan_take_open, scan_take_within}
-use Rattle.http_desk.proofs.Fills.{reads_trans}
+use Rattle.http_desk.specs.declared.input_buffer.Filled.TheVariants.{AtEnd, Failed}
+use Rattle.http_desk.proofs.Common.{Lead, Open, longest_head, scan_take_limit, scan_take_within}
 use Rattle.http_desk.proofs.Faults.{takes_on}
-use Rattle.http_desk.proofs.Places.{blank_or_cut, led_on}
+use Rattle.http_desk.proofs.Fills.{reads_trans}
+use Rattle.http_desk.proofs.Places.{blank_or_cut, led_on, looked, still_open}
 use Rattle.http_desk.proofs.message_input.gather_head.Goals as goal
-
-more_not_end : AtEnd ≡ More → ⊥
-more_not_end e = cc
-
-fill_told : (f known : Filled) (old new : Bool) → f ≡ known → new ≡ (fill_failed f || old) → new ≡ (fill_failed known || old)
-fill_told f known old new e h = h ∙ ap (λ x. fill_failed x || old) e
-
-more_not_failed : Failed ≡ More → ⊥
-more_not_failed e = cc
-
-cut_not_bound : Cut ≡ Bound → ⊥
-cut_not_bound e = cc
-
-few_on : (n : ℕ) (items new got : List ℕ) → n ≡ length items → new ≡ items ++ got → n ≤ length new
-few_on n items new got e f =
-    let long : length new ≡ length items + length got = ap length f ∙ length-append items got in
-    omega arith
 
 nothing_seen : scan [] ≡ Open Lead
 unfolding scan
 nothing_seen = refl
 
 pub loop-size-init : goal.loop-size-init
-loop-size-init g c = record {
-  came = ([], Consumes-nil c.args.reader.now.bytes, sym (append-nil c.args.buffer.now.items));
-  few = omega arith;
-  short = omega arith;
-  led = nothing_seen;
-  failed = refl;
-  bound = λ q. (q, omega arith);
-  calls = (refl, omega arith, refl);
-}
+loop-size-init g c = search (rules, nothing_seen)
 
 pub returns-in-Whole-clause-found : goal.returns-in-Whole-clause-found
 returns-in-Whole-clause-found g c =
-    let e = ap (λ b. scan (take longest_head b)) (sym c.deref.ensures.value) ∙ sym c.look.ensures ∙ c.in-Whole.is in
+    let e = looked c.deref.ensures.value c.look.ensures c.in-Whole.is in
     (e, scan_take_within longest_head c.loop-size.buffer.items c.in-Whole.size e, scan_take_limit longest_head c.loop-size.buffer.items c.in-Whole.size e)
 
 pub loop-size-preserved : goal.loop-size-preserved
-loop-size-preserved g c = record {
-  came = reads_trans _ _ _ _ _ _ c.loop-size.invariant.came c.fill.ensures.got;
-  failed = fill_told c.fill.result More _ _ c.in-More.is c.fill.ensures.calls.failed ∙ c.loop-size.invariant.failed;
-  bound = λ q.
-      let (before, one) = c.fill.ensures.calls.bound q in
-      let (first, kept) = c.loop-size.invariant.bound before in
-      let more = c.fill.ensures.more c.in-More.is in
-      let took : c.fill.new.reader.turns + 1 ≡ c.loop-size.reader.turns = subst (λ f. QuietFill f c.loop-size.reader.turns c.fill.new.reader.turns) c.in-More.is one in
-      (first, omega arith);
-  calls = takes_on c.args.reader.now c.loop-size.reader c.fill.new.reader c.loop-size.invariant.calls c.fill.ensures.calls.taken;
-  few =
-      let all : c.len-seen.result ≡ length c.loop-size.buffer.items = omega arith in
-      few_on c.len-seen.result c.loop-size.buffer.items c.fill.new.buffer.items c.fill.ensures.got.0 all
-      c.fill.ensures.got.2;
-  short =
-      let below : length c.loop-size.buffer.items < longest_head = omega arith in
-      omega arith;
-  led =
-      let seen = ap (λ b. scan (take longest_head b)) (sym c.deref.ensures.value) ∙ sym c.look.ensures ∙ c.in-Open.is in
-      let below : length c.loop-size.buffer.items < longest_head = omega arith in
-      let all : c.len-seen.result ≡ length c.loop-size.buffer.items = omega arith in
-      led_on c.len-seen.result c.loop-size.buffer.items c.fill.new.buffer.items c.fill.ensures.got.0 c.in-Open.place
-      all c.fill.ensures.got.2 below seen;
-}
+loop-size-preserved g c =
+    let below : length c.loop-size.buffer.items < longest_head = omega arith in
+    let all : c.len-seen.result ≡ length c.loop-size.buffer.items = omega arith in
+    let (got, consumed, e) = c.fill.ensures.got in
+    let more : length c.fill.new.buffer.items ≡ length c.loop-size.buffer.items + length got = ap length e ∙ length-append c.loop-size.buffer.items got in
+    record {
+      came = reads_trans _ _ _ _ _ _ c.loop-size.invariant.came c.fill.ensures.got;
+      failed = grind (arith, common_steps);
+      bound = grind (arith, common_steps);
+      calls = takes_on c.args.reader.now c.loop-size.reader c.fill.new.reader c.loop-size.invariant.calls c.fill.ensures.calls.taken;
+      few = omega arith;
+      short = omega arith;
+      led = led_on c.len-seen.result c.loop-size.buffer.items c.fill.new.buffer.items got c.in-Open.place all e below (looked c.deref.ensures.value c.look.ensures c.in-Open.is);
+    }
 
 pub returns-in-Lead-clause-got : goal.returns-in-Lead-clause-got
 returns-in-Lead-clause-got g c = reads_trans _ _ _ _ _ _ c.loop-size.invariant.came c.fill.ensures.got
 
 pub returns-in-Lead-clause-found : goal.returns-in-Lead-clause-found
 returns-in-Lead-clause-found g c =
-    let same = c.fill.ensures.same (λ e. more_not_end (sym c.in-AtEnd.is ∙ e)) in
-    let seen = ap (λ b. scan (take longest_head b)) (sym c.deref.ensures.value) ∙ sym c.look.ensures ∙ c.in-Open.is ∙ ap Open c.in-Lead.is in
-    let short : length c.loop-size.buffer.items < longest_head = omega arith in
-    scan_take_open longest_head c.loop-size.buffer.items c.fill.new.buffer.items Lead same short seen
+    still_open AtEnd c.deref.ensures.value c.look.ensures (c.in-Open.is ∙ ap Open c.in-Lead.is) c.in-AtEnd.is (λ e. cc) c.fill.ensures.same (omega arith)
 
-pub returns-in_default : goal.returns-in_default
-returns-in_default g c =
-    let same = c.fill.ensures.same (λ e. more_not_end (sym c.in-AtEnd.is ∙ e)) in
-    let seen = ap (λ b. scan (take longest_head b)) (sym c.deref.ensures.value) ∙ sym c.look.ensures ∙ c.in-Open.is in
-    let short : length c.loop-size.buffer.items < longest_head = omega arith in
-    let (below, «open») = scan_take_open longest_head c.loop-size.buffer.items c.fill.new.buffer.items c.in-Open.place same short seen in
-    record {
-      got = reads_trans _ _ _ _ _ _ c.loop-size.invariant.came c.fill.ensures.got;
-      found = (below, c.in-Open.place, c.in_default.not-Lead, «open»);
-      at_end = c.fill.ensures.at_end c.in-AtEnd.is;
-      calls = record {
-        failed = fill_told c.fill.result AtEnd _ _ c.in-AtEnd.is c.fill.ensures.calls.failed ∙ c.loop-size.invariant.failed;
-        bound = λ q. let (before, one) = c.fill.ensures.calls.bound q in ((c.loop-size.invariant.bound before).0, tt);
-        used_up = λ e. absurd (cut_not_bound e);
-        taken = takes_on c.args.reader.now c.loop-size.reader c.fill.new.reader c.loop-size.invariant.calls c.fill.ensures.calls.taken;
-      };
-    }
+pub returns-in_default-clause-got : goal.returns-in_default-clause-got
+returns-in_default-clause-got g c = reads_trans _ _ _ _ _ _ c.loop-size.invariant.came c.fill.ensures.got
+
+pub returns-in_default-clause-found : goal.returns-in_default-clause-found
+returns-in_default-clause-found g c =
+    let (below, «open») = still_open AtEnd c.deref.ensures.value c.look.ensures c.in-Open.is c.in-AtEnd.is (λ e. cc) c.fill.ensures.same (omega arith) in
+    (below, c.in-Open.place, c.in_default.not-Lead, «open»)
 
 pub returns-in-Failed-clause-got : goal.returns-in-Failed-clause-got
 returns-in-Failed-clause-got g c = reads_trans _ _ _ _ _ _ c.loop-size.invariant.came c.fill.ensures.got
@@ -114,8 +62,5 @@ returns-in-NoMemory-clause-got g c = reads_trans _ _ _ _ _ _ c.loop-size.invaria
 
 pub returns-in-Failed-clause-found : goal.returns-in-Failed-clause-found
 returns-in-Failed-clause-found g c =
-    let same = c.fill.ensures.same (λ e. more_not_failed (sym c.in-Failed.is ∙ e)) in
-    let seen = ap (λ b. scan (take longest_head b)) (sym c.deref.ensures.value) ∙ sym c.look.ensures ∙ c.in-Open.is in
-    let short : length c.loop-size.buffer.items < longest_head = omega arith in
-    let (below, «open») = scan_take_open longest_head c.loop-size.buffer.items c.fill.new.buffer.items c.in-Open.place same short seen in
+    let (below, «open») = still_open Failed c.deref.ensures.value c.look.ensures c.in-Open.is c.in-Failed.is (λ e. cc) c.fill.ensures.same (omega arith) in
     blank_or_cut c.fill.new.buffer.items c.in-Open.place below «open»

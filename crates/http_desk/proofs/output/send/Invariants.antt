@@ -1,6 +1,7 @@
 -- of the pieces so far, what is no longer gathered is written, and where no call was interrupted in no more turns than bytes
 use Rattle.std.proofs.Common.{◌≡◌, ◌+◌, ◌≤◌, ◌++◌, ℕ, List, take, length, false}
 use Rattle.http_desk.proofs.Common.{Appends, flat_map}
+use Rattle.http_desk.proofs.Sends.{SendsSoFar}
 use Rattle.http_desk.proofs.output.send.Given as goal
 
 abbrev pub invariant-loop-piece : goal.invariant-loop-piece
@@ -8,8 +9,5 @@ invariant-loop-piece g l = record {
   came : (written : List ℕ) × (flat_map (λ p. p.now) (take l.piece-index l.pieces) ≡ written ++ l.lot.items)
       × Appends l.initial.writer.bytes l.writer.bytes written
       × (l.writer.interrupted ≡ false → length (flat_map (λ p. p.now) l.pieces) + 16 ≤ l.writer.turns + length written);
-  failed : l.writer.failed ≡ l.initial.writer.failed;
-  bound : l.writer.interrupted ≡ false → l.initial.writer.interrupted ≡ false;
-  given : l.writer.given ≡ length (flat_map (λ p. p.now) l.pieces) + 16;
-  calls : (l.writer.name ≡ l.initial.writer.name) × (l.writer.calls + l.writer.turns ≤ l.initial.writer.calls + (length (flat_map (λ p. p.now) l.pieces) + 16));
+  so_far : SendsSoFar (flat_map (λ p. p.now) l.pieces) l.initial.writer l.writer;
 }

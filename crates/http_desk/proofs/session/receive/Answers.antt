@@ -1,148 +1,70 @@
-use Rattle.std.proofs.Common.{◌<◌, ◌+◌, ◌++◌, length, take, drop, refl, ◌∙◌, subst, inl, inr, arith, false, true}
+use Rattle.std.proofs.Common.{refl, ◌∙◌, inl, inr, arith, true}
 use Rattle.http_messages.specs.Answers.{continue_text}
-use Rattle.http_messages.specs.declared.status.Status.TheVariants.{Busy}
-use Rattle.http_desk.specs.declared.session_end.Ended.TheVariants.{Cut}
-use Rattle.http_desk.proofs.Common.{Accepted, Appends-trans, Closed, Ends, Fails, HasHead, ReadFault, StopsBounded}
-use Rattle.http_desk.proofs.Common.{Through, Turn, continue_if, request_in, unwrap_or}
-use Rattle.http_desk.proofs.Turns.{leave_broken, front_same, head_grown, head_more, stops_in_body, bound_here}
-use Rattle.http_desk.proofs.Turns.{may_fail_after, refused}
-use Rattle.http_desk.proofs.Endings.{allowed, answered, by_writer, came_then, ends_on, ran_out}
+use Rattle.http_desk.proofs.Common.{Accepted, BodyCut, Closed, Ends, request_in}
+use Rattle.http_desk.proofs.Bounds.{leave_to_bound}
+use Rattle.http_desk.proofs.Endings.{allowed, answered, by_writer, ends_on, ran_out}
+use Rattle.http_desk.proofs.Exchanges.{bound_here, busy_alone, ends_here, placed, refused_placed}
 use Rattle.http_desk.proofs.Faults.{closed_no_bound, tells_bound, used_up}
-use Rattle.http_desk.proofs.Bounds.{leave_to_bound, refused_to_bound}
+use Rattle.http_desk.proofs.Turns.{body_cut, head_grown, leave_broken, may_fail_after}
 use Rattle.http_desk.proofs.session.receive.Goals as goal
 
 pub returns-in_default : goal.returns-in_default
 returns-in_default g c =
-    let items = c.args.buffer.now.items in
-    let size = c.args.size in
-    let block = take size items in
+    let leave = c.allow_body.ensures in
     record {
-      turn =
-          leave_broken g.M.Machine.represents g.M.Machine.is_intact g.M.Machine.is_open g.M.Machine.recovers c.args.number c.args.office.now items block
-          (drop size items) (request_in block c.args.head) c.args.reader.now.bytes _ _
-          c.allow_body.result _ c.after.result c.in_default.not-All c.after.ensures c.requires.accepted
-          c.allow_body.ensures.sends;
+      turn = leave_broken g.M.Machine c.args.number c.args.office.now _ _ _ _ (Ends Closed) c.in_default.not-All c.after.ensures c.requires.accepted leave.sends;
       store = record { intact = λ i. i; was_open = λ i stays. stays };
-      streams = by_writer _ _ _ _
-          (answered _ _ c.allow_body.result true c.after.result c.after.ensures (λ all. absurd (c.in_default.not-All all)) c.allow_body.ensures.writes c.allow_body.ensures.turns c.allow_body.ensures.same)
-          (λ e. (continue_text, tells_bound continue_text c.allow_body.new.writer c.allow_body.result (Ends Closed) c.after.result closed_no_bound c.after.ensures c.allow_body.ensures.used_up e)) (refl, omega arith, refl);
-      breaks_off = λ bound.
-          inr (leave_to_bound g.M.Machine.represents g.M.Machine.is_intact g.M.Machine.is_open g.M.Machine.recovers c.args.number c.args.office.now items block
-          (drop size items) (request_in block c.args.head) _ _ c.allow_body.new.writer c.allow_body.result c.after.result c.after.ensures c.requires.accepted
-          c.allow_body.ensures.sends c.allow_body.ensures.due c.allow_body.ensures.used_up bound);
+      streams = by_writer (answered true c.after.ensures (λ all. absurd (c.in_default.not-All all)) leave.writes leave.turns leave.same)
+          (λ e. (continue_text, tells_bound continue_text c.allow_body.new.writer c.allow_body.result (Ends Closed) c.after.result closed_no_bound c.after.ensures leave.used_up e)) (refl, omega arith, refl);
+      breaks_off = λ bound. inr (leave_to_bound g.M.Machine c.args.number c.args.office.now _ _ c.allow_body.new.writer _ c.after.ensures c.requires.accepted leave.sends leave.due leave.used_up bound);
     }
 
 pub act-requires-clause-accepted : goal.act-requires-clause-accepted
 act-requires-clause-accepted g c =
-    let items = c.args.buffer.now.items in
-    let new = c.gather_body.new.buffer.items in
-    let size = c.args.size in
-    let (got, consumed, e) = c.gather_body.ensures.got in
-    subst (λ b. HasHead new (take size new) (Accepted (request_in b c.args.head)) (drop size new)) (front_same items new got size c.requires.within e)
-    (head_grown items new got size (Accepted (request_in (take size items) c.args.head)) c.requires.within e c.requires.accepted)
+    head_grown _ c.args.size (λ b. Accepted (request_in b c.args.head)) c.requires.within c.gather_body.ensures.got.2 c.requires.accepted
 
-pub returns-in-Whole-clause-turn : goal.returns-in-Whole-clause-turn
-returns-in-Whole-clause-turn g c =
-    let (got, consumed, e) = c.gather_body.ensures.got in
-    let (written, appended, through) = c.act.ensures.turn in (
-      got,
-      continue_if c.args.head.waits ++ written,
-      consumed,
-      Appends-trans _ _ _ _ _ c.in-All.ensures.sends appended,
-      subst (λ input. Through g.M.Machine.represents g.M.Machine.is_intact c.args.office.now c.act.new.office (λ s t. Turn (g.M.Machine.is_open c.args.office.now) (g.M.Machine.is_open c.act.new.office) (g.M.Machine.recovers c.args.office.now) (g.M.Machine.recovers c.act.new.office) c.args.number s input c.act.result (continue_if c.args.head.waits ++ written) t c.act.new.buffer.items)) e through,
-    )
+pub returns-in-Whole : goal.returns-in-Whole
+returns-in-Whole g c =
+    let leave = c.in-All.ensures in
+    let act = c.act.ensures in
+    let (turn, streams, breaks_off) = placed g.M.Machine c.args.number c.args.office.now c.act.new.office c.args.buffer.now.items c.gather_body.new.buffer.items _ c.act.new.buffer.items
+    (allowed leave.writes (λ q. (leave.turns q).0) leave.same (leave.flushed refl)) leave.sends c.in-Whole.ensures.calls c.gather_body.ensures.got act.stream act.used_up act.turn act.breaks_off in
+    record { turn = turn; store = act.store; streams = streams; breaks_off = breaks_off }
 
 pub returns-in-Cut-clause-turn : goal.returns-in-Cut-clause-turn
 returns-in-Cut-clause-turn g c =
-    let items = c.args.buffer.now.items in
-    let size = c.args.size in
-    let (got, consumed, e) = c.gather_body.ensures.got in
-    let short : length c.gather_body.new.buffer.items < size + unwrap_or c.args.head.length 0 = omega (arith, c.in-Cut.ensures.found) in (
-      got,
-      continue_if c.args.head.waits,
-      consumed,
-      c.in-All.ensures.sends,
-      λ i s shown. (s, shown, stops_in_body (g.M.Machine.is_open c.args.office.now) (g.M.Machine.recovers c.args.office.now) c.args.number s items c.gather_body.new.buffer.items got size (request_in (take size items) c.args.head) Cut c.requires.within e short c.requires.accepted (inl refl)),
-    )
+    let stands = body_cut _ c.args.size c.requires.within c.gather_body.ensures.got.2 (omega (arith, c.in-Cut.ensures.found)) c.requires.accepted in
+    ends_here g.M.Machine _ _ _ _ _ _ _ _ _ _ (BodyCut _) c.gather_body.ensures.got c.in-All.ensures.sends stands tt (λ s. (refl, refl)) (λ s stays. stays)
 
 pub returns-in-Failed-clause-turn : goal.returns-in-Failed-clause-turn
 returns-in-Failed-clause-turn g c =
-    let items = c.args.buffer.now.items in
-    let size = c.args.size in
-    let (got, consumed, e) = c.gather_body.ensures.got in
-    let short : length c.gather_body.new.buffer.items < size + unwrap_or c.args.head.length 0 = omega (arith, c.in-Failed.ensures.found) in (
-      got,
-      continue_if c.args.head.waits,
-      consumed,
-      c.in-All.ensures.sends,
-      λ i s shown. (s, shown, stops_in_body (g.M.Machine.is_open c.args.office.now) (g.M.Machine.recovers c.args.office.now) c.args.number s items c.gather_body.new.buffer.items got size (request_in (take size items) c.args.head) ReadFault c.requires.within e short c.requires.accepted (inr refl)),
-    )
+    let stands = body_cut _ c.args.size c.requires.within c.gather_body.ensures.got.2 (omega (arith, c.in-Failed.ensures.found)) c.requires.accepted in
+    ends_here g.M.Machine _ _ _ _ _ _ _ _ _ _ (BodyCut _) c.gather_body.ensures.got c.in-All.ensures.sends stands (inr tt) (λ s. (refl, refl)) (λ s stays. stays)
 
 pub returns-in-Bound : goal.returns-in-Bound
 returns-in-Bound g c =
-    let items = c.args.buffer.now.items in
-    let size = c.args.size in
-    let (got, consumed, e) = c.gather_body.ensures.got in
-    let there = head_more items (take size items) (Accepted (request_in (take size items) c.args.head)) (drop size items) got c.requires.accepted in
-    let written = allowed c.args.reader.now c.args.writer.now c.allow_body.new.writer c.in-All.ensures.writes c.in-All.ensures.turns c.in-All.ensures.same (c.in-All.ensures.flushed refl) in
+    let leave = c.in-All.ensures in
+    let calls = c.in-Bound.ensures.calls in
+    let there = head_grown _ c.args.size (λ b. Accepted (request_in b c.args.head)) c.requires.within c.gather_body.ensures.got.2 c.requires.accepted in
     -- without an interruption the turns would have been enough
-    let all_taken = used_up _ c.gather_body.new.reader (c.gather_body.ensures.calls.taken.2 ∙ c.requires.given) (λ q.
-    let (before, few) = c.in-Bound.ensures.calls.bound q in
+    let all_taken = used_up _ c.gather_body.new.reader (calls.taken.2 ∙ c.requires.given) (λ q.
+    let (before, few) = calls.bound q in
     let enough = c.requires.turns before in
-    omega arith) (c.in-Bound.ensures.calls.used_up refl) in
+    omega arith) (calls.used_up refl) in
     record {
-      turn = (
-        got,
-        continue_if c.args.head.waits,
-        consumed,
-        c.in-All.ensures.sends,
-        λ i s shown. (s, shown, bound_here (g.M.Machine.is_open c.args.office.now) (g.M.Machine.recovers c.args.office.now) c.args.number s (items ++ got) c.args.head.waits (may_fail_after (items ++ got) (take size items) (drop size items ++ got) (request_in (take size items) c.args.head) there)),
-      );
+      turn = bound_here g.M.Machine _ _ _ _ _ _ _ _ c.args.head.waits c.gather_body.ensures.got leave.sends (may_fail_after _ _ _ _ there);
       store = record { intact = λ i. i; was_open = λ i stays. stays };
-      streams = ends_on _ _ _ _ _ _ _ written (ran_out _ _ _ c.in-Bound.ensures.calls.failed all_taken c.gather_body.ensures.calls.taken) c.gather_body.ensures.calls.taken;
+      streams = ends_on (allowed leave.writes (λ q. (leave.turns q).0) leave.same (leave.flushed refl)) (ran_out calls all_taken) calls.taken;
       breaks_off = λ e. inl all_taken;
     }
 
-pub returns-in-NoMemory-clause-turn : goal.returns-in-NoMemory-clause-turn
-returns-in-NoMemory-clause-turn g c =
-    let items = c.args.buffer.now.items in
-    let size = c.args.size in
-    let (got, consumed, e) = c.gather_body.ensures.got in
-    let there = head_more items (take size items) (Accepted (request_in (take size items) c.args.head)) (drop size items) got c.requires.accepted in
-    let (written, appended, through) = refused g.M.Machine.represents g.M.Machine.is_intact g.M.Machine.is_open g.M.Machine.recovers c.args.number c.args.office.now c.args.office.now (items ++ got) (continue_if c.args.head.waits) c.gather_body.new.buffer.items (Fails c.args.head.waits false) false Busy _ _ _ c.refuse.ensures.sent
-    (may_fail_after (items ++ got) (take size items) (drop size items ++ got) (request_in (take size items) c.args.head) there) tt (λ s. (refl, refl)) (λ i s h. h) (λ s never. absurd never) (λ i s h asked before. inl before) in
-    (got, continue_if c.args.head.waits ++ written, consumed, Appends-trans _ _ _ _ _ c.in-All.ensures.sends appended, through)
-
-pub returns-in-Whole-clause-streams : goal.returns-in-Whole-clause-streams
-returns-in-Whole-clause-streams g c =
-    let written = allowed c.args.reader.now c.args.writer.now c.allow_body.new.writer c.in-All.ensures.writes c.in-All.ensures.turns c.in-All.ensures.same (c.in-All.ensures.flushed refl) in
-    ends_on _ _ _ _ _ _ _ written
-    (came_then _ _ _ _ _ c.in-Whole.ensures.calls.failed (λ q. (c.in-Whole.ensures.calls.bound q).0) c.gather_body.ensures.calls.taken c.act.ensures.stream c.act.ensures.used_up) c.gather_body.ensures.calls.taken
-
-pub returns-in-NoMemory-clause-streams : goal.returns-in-NoMemory-clause-streams
-returns-in-NoMemory-clause-streams g c =
-    let written = allowed c.args.reader.now c.args.writer.now c.allow_body.new.writer c.in-All.ensures.writes c.in-All.ensures.turns c.in-All.ensures.same (c.in-All.ensures.flushed refl) in
-    ends_on _ _ _ _ _ _ _ written
-    (came_then _ _ _ _ _ c.in-NoMemory.ensures.calls.failed (λ q. (c.in-NoMemory.ensures.calls.bound q).0) c.gather_body.ensures.calls.taken c.refuse.ensures.stream (λ e. (_, c.refuse.ensures.used_up e))) c.gather_body.ensures.calls.taken
-
-pub returns-in-Whole-clause-breaks_off : goal.returns-in-Whole-clause-breaks_off
-returns-in-Whole-clause-breaks_off g c = λ bound.
-    let (got, consumed, e) = c.gather_body.ensures.got in
-    let (written, appended, through) = c.act.ensures.breaks_off bound in
-    inr (
-      got,
-      continue_if c.args.head.waits ++ written,
-      consumed,
-      Appends-trans _ _ _ _ _ c.in-All.ensures.sends appended,
-      subst (λ input. Through g.M.Machine.represents g.M.Machine.is_intact c.args.office.now c.act.new.office (λ s t. StopsBounded c.args.number s input (continue_if c.args.head.waits ++ written) t c.act.new.writer)) e through,
-    )
-
-pub returns-in-NoMemory-clause-breaks_off : goal.returns-in-NoMemory-clause-breaks_off
-returns-in-NoMemory-clause-breaks_off g c = λ bound.
-    let items = c.args.buffer.now.items in
-    let size = c.args.size in
-    let (got, consumed, e) = c.gather_body.ensures.got in
-    let there = head_more items (take size items) (Accepted (request_in (take size items) c.args.head)) (drop size items) got c.requires.accepted in
-    let (written, appended, through) = refused_to_bound g.M.Machine.represents g.M.Machine.is_intact g.M.Machine.is_open g.M.Machine.recovers c.args.number c.args.office.now c.args.office.now (items ++ got) (continue_if c.args.head.waits) (Fails c.args.head.waits false) false Busy _ _ _ c.refuse.new.writer c.refuse.ensures.sent c.refuse.ensures.used_up
-    (may_fail_after (items ++ got) (take size items) (drop size items ++ got) (request_in (take size items) c.args.head) there) refl (λ s. refl) (λ s. (refl, refl)) (λ i s h. h) bound in
-    inr (got, continue_if c.args.head.waits ++ written, consumed, Appends-trans _ _ _ _ _ c.in-All.ensures.sends appended, through)
+pub returns-in-NoMemory : goal.returns-in-NoMemory
+returns-in-NoMemory g c =
+    let items = c.gather_body.new.buffer.items in
+    let leave = c.in-All.ensures in
+    let refuse = c.refuse.ensures in
+    let there = head_grown _ c.args.size (λ b. Accepted (request_in b c.args.head)) c.requires.within c.gather_body.ensures.got.2 c.requires.accepted in
+    let (turn, streams, breaks_off) = refused_placed g.M.Machine c.args.number c.args.office.now c.args.buffer.now.items items _ items
+    (allowed leave.writes (λ q. (leave.turns q).0) leave.same (leave.flushed refl)) leave.sends c.in-NoMemory.ensures.calls c.gather_body.ensures.got
+    (busy_alone c.args.head.waits) (may_fail_after _ _ _ _ there) refuse.sent refuse.stream refuse.used_up in
+    record { turn = turn; store = record { intact = λ i. i; was_open = λ i stays. stays }; streams = streams; breaks_off = breaks_off }

@@ -1,4 +1,4 @@
-use Rattle.std.proofs.Common.{[], ◌∷◌, ◌++◌, refl, lit<, codes}
+use Rattle.std.proofs.Common.{[], ◌∷◌, refl}
 use Rattle.std.proofs.Math.Utf8.{encode}
 use Rattle.std.specs.Fmt.{digits}
 use Rattle.std.specs.Str.{is_utf8, chars}
@@ -6,14 +6,9 @@ use Rattle.serde_json.proofs.OnLiterals.{serde_json_on_literals}
 use Rattle.isad_core.specs.Days.{day_text}
 use Rattle.office_core.specs.WorkedExamples.{draft}
 use Rattle.office_core.specs.declared.query.Query.TheVariants as query
-use Rattle.http_desk.proofs.Common.{HasMeaning, Puts, ToDo, ToTell, draft_head, draft_request, filled_office}
-use Rattle.http_desk.proofs.Common.{fonds_list, half_a_request, list_request, not_found, one_unit, page_request}
-use Rattle.http_desk.proofs.Common.{register_head, with_draft}
+use Rattle.http_desk.proofs.Common.{HasMeaning, Puts, ToDo, ToTell, filled_office}
 use Rattle.http_desk.proofs.Meanings.{same_answers}
-use Rattle.http_desk.proofs.WorkedHeads.{list_has, page_has, register_has, draft_has, orders_at, two_answered}
-use Rattle.http_desk.proofs.WorkedHeads.{one_answered}
-use Rattle.http_desk.proofs.WorkedPieces.{list_message, page_message, draft_message, list_told, list_keeps, draft_told}
-use Rattle.http_desk.proofs.WorkedPieces.{draft_leaves, page_told, page_keeps}
+use Rattle.http_desk.proofs.WorkedPieces.{draft_and_page, draft_message, list_and_cut, list_message, page_message}
 use Rattle.http_desk.proofs.worked.worked_runs.Goals as goal
 
 list_means : HasMeaning list_message (Puts (ToTell query.Fonds))
@@ -39,10 +34,7 @@ returns c = record {
   no_length = λ s. refl;
   no_members = λ s. refl;
   none_came = (
-    one_answered filled_office filled_office (list_request ++ half_a_request) half_a_request list_message (orders_at (codes "/desk/register") 35) fonds_list
-        (record { block = list_request; head = list_has half_a_request; complete = refl })
-        refl list_told (list_keeps filled_office)
-        (register_head, codes "{\"name\":\"A", register_has (codes "{\"name\":\"A"), lit< tt) refl,
+    list_and_cut,
     record {
       meanings = Puts (ToTell query.Fonds) ∷ [];
       mean = (list_means, tt);
@@ -54,10 +46,7 @@ returns c = record {
     },
   );
   one_came = (
-    two_answered filled_office with_draft with_draft (draft_request ++ page_request) page_request draft_message page_message one_unit not_found
-        (record { block = draft_head; head = draft_has (draft_message.body ++ page_request); complete = refl })
-        (record { block = page_request; head = page_has []; complete = refl })
-        refl refl draft_told draft_leaves page_told (page_keeps with_draft),
+    draft_and_page,
     record {
       meanings = Puts (ToDo (draft 2)) ∷ Puts (ToTell (query.Page 2)) ∷ [];
       mean = (draft_means, (page_means, tt));

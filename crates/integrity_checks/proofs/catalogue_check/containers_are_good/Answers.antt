@@ -1,11 +1,8 @@
 use Rattle.std.proofs.Common.{sym, ◌∙◌}
 use Rattle.integrity_checks.proofs.Common.{state}
 use Rattle.integrity_checks.proofs.CatalogueDefects.{bad_containers, counted, rest_of_containers}
-use Rattle.integrity_checks.proofs.ExaminationEnds.{examined, examined_last, passes}
+use Rattle.integrity_checks.proofs.ExaminationEnds.{examined, examined_last}
 use Rattle.integrity_checks.proofs.catalogue_check.containers_are_good.Goals as goal
-
-pub returns-in_err-containers : goal.returns-in_err-containers
-returns-in_err-containers g c = passes c.from_residual.ensures c.in_err-containers.ensures
 
 pub returns-in_default : goal.returns-in_default
 returns-in_default g c =

@@ -3,11 +3,8 @@ use Rattle.std.specs.Prelude.{IfSome}
 use Rattle.catalogue_core.specs.Moves.{height as height_of}
 use Rattle.integrity_checks.proofs.Common.{AreUnitsPlaced, Placed, encoding, looks_then, places_in, places_said, state}
 use Rattle.integrity_checks.proofs.CatalogueDefects.{bad_places, bad_units, good_units, units_are_read}
-use Rattle.integrity_checks.proofs.ExaminationEnds.{earlier, examined, examined_last, passes, passes_later, still}
+use Rattle.integrity_checks.proofs.ExaminationEnds.{earlier, examined, examined_last, passes_later, still}
 use Rattle.integrity_checks.proofs.catalogue_check.load_check.Goals as goal
-
-pub returns-in_err-placed : goal.returns-in_err-placed
-returns-in_err-placed g c = passes c.from_residual.ensures c.in_err-placed.ensures
 
 pub returns-in_default : goal.returns-in_default
 returns-in_default g c =
@@ -23,7 +20,7 @@ returns-then-not-branch g c =
     let db = (state g.S.Store c.args.tables.now).now.trees in
     let one = c.in_ok-placed.ensures in
     let two = c.in_ok-units_are_good.ensures in
-    examined (looks_then _ _ _ one.reads.looks two.reads.looks) (λ clean.
+    examined (looks_then one.reads.looks two.reads.looks) (λ clean.
     let told = one.answers (earlier two clean) in
     let units = subst (λ (o : Option Placed). IfSome o (λ (p : Placed). AreUnitsPlaced (places_in (encoding v) db) p.units.items)) c.in-Some.is told.units in
     let deep = subst (λ (o : Option Placed). IfSome o (λ (p : Placed). p.height ≡ height_of (places_said (places_in (encoding v) db)))) c.in-Some.is told.height in
@@ -35,7 +32,7 @@ returns g c =
     let db = (state g.S.Store c.args.tables.now).now.trees in
     let one = c.in_ok-placed.ensures in
     let two = c.in_ok-units_are_good.ensures in
-    examined_last (looks_then _ _ _ one.reads.looks two.reads.looks) c.check_contents.ensures (λ clean told follows.
+    examined_last (looks_then one.reads.looks two.reads.looks) c.check_contents.ensures (λ clean told follows.
     let placed = one.answers (earlier two clean) in
     let units = subst (λ (o : Option Placed). IfSome o (λ (p : Placed). AreUnitsPlaced (places_in (encoding v) db) p.units.items)) c.in-Some.is placed.units in
     let deep = subst (λ (o : Option Placed). IfSome o (λ (p : Placed). p.height ≡ height_of (places_said (places_in (encoding v) db)))) c.in-Some.is placed.height in

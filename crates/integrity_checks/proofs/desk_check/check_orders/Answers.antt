@@ -4,16 +4,10 @@ use Rattle.office_tables.specs.Schema as tables
 use Rattle.integrity_checks.proofs.Common.{AreOrdersOf, AreRead, and_parts, by_rowid, desk_in, or_parts, order_record}
 use Rattle.integrity_checks.proofs.Common.{orders_are_bad, orders_are_defective, read_order, state}
 use Rattle.integrity_checks.proofs.DeskDefects.{was_good, was_bad, bad_orders, sound_orders}
-use Rattle.integrity_checks.proofs.ExaminationEnds.{examined, examined_last, is_full, passes}
+use Rattle.integrity_checks.proofs.ExaminationEnds.{examined, examined_last}
 use Rattle.integrity_checks.proofs.JudgedTables.{orders_judged}
 use Rattle.integrity_checks.proofs.desk_check.check_orders.Goals as goal
 use Rattle.integrity_checks.proofs.desk_check.check_orders.Goals.{then-all, else-all}
-
-pub returns-in_err-all : goal.returns-in_err-all
-returns-in_err-all g c = passes c.from_residual.ensures c.in_err-all.ensures
-
-pub returns-in_err-are_good : goal.returns-in_err-are_good
-returns-in_err-are_good g c = is_full c.from_residual-in_err-are_good.ensures c.in_ok-all.ensures.reads.looks
 
 pub returns-then-not-are_sound : goal.returns-then-not-are_sound
 returns-then-not-are_sound g c = examined c.in_ok-all.ensures.reads.looks (λ clean a held.

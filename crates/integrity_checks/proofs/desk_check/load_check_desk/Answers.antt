@@ -1,11 +1,8 @@
 use Rattle.std.proofs.Common.{◌≡◌, Some, sym, ◌∙◌}
 use Rattle.integrity_checks.proofs.Common.{around_in, looks_then, number_registered, state}
 use Rattle.integrity_checks.proofs.DeskDefects.{bad_readers, defect_of_cards}
-use Rattle.integrity_checks.proofs.ExaminationEnds.{earlier, examined, examined_last, passes, passes_later, still}
+use Rattle.integrity_checks.proofs.ExaminationEnds.{earlier, examined, examined_last, passes_later, still}
 use Rattle.integrity_checks.proofs.desk_check.load_check_desk.Goals as goal
-
-pub returns-in_err-readers : goal.returns-in_err-readers
-returns-in_err-readers g c = passes c.from_residual.ensures c.in_err-readers.ensures
 
 pub returns-in_default : goal.returns-in_default
 returns-in_default g c =
@@ -20,7 +17,7 @@ pub returns : goal.returns
 returns g c =
     let one = c.in_ok-readers.ensures in
     let two = c.in_ok-around.ensures in
-    examined_last (looks_then _ _ _ one.reads.looks two.reads.looks) c.check_cards.ensures (λ clean told follows.
+    examined_last (looks_then one.reads.looks two.reads.looks) c.check_cards.ensures (λ clean told follows.
     let db = (state g.S.Store c.args.tables.now).now.trees in
     let readers = c.in-Some.readers in
     let a = around_in c.args.limits.now c.args.today db in

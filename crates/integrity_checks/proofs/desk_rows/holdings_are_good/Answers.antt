@@ -1,15 +1,9 @@
 use Rattle.std.proofs.Common.{map, ◌&&◌, sym, ap, ◌∙◌}
 use Rattle.integrity_checks.proofs.Common.{holding_record, order_record, state}
-use Rattle.integrity_checks.proofs.ExaminationEnds.{examined, is_full, passes}
+use Rattle.integrity_checks.proofs.ExaminationEnds.{examined}
 use Rattle.integrity_checks.proofs.JudgedTables.{holdings_judged}
 use Rattle.integrity_checks.proofs.desk_rows.holdings_are_good.Goals as goal
 use Rattle.integrity_checks.proofs.desk_rows.holdings_are_good.Goals.{then-all, else-all}
-
-pub returns-in_err-all : goal.returns-in_err-all
-returns-in_err-all g c = passes c.from_residual.ensures c.in_err-all.ensures
-
-pub returns-in_err-are_good : goal.returns-in_err-are_good
-returns-in_err-are_good g c = is_full c.from_residual-in_err-are_good.ensures c.in_ok-all.ensures.reads.looks
 
 pub returns : goal.returns
 returns g c = examined c.in_ok-all.ensures.reads.looks (λ clean a held are fine.

@@ -1,21 +1,12 @@
 use Rattle.std.proofs.Common.{◌≡◌, map, ◌&&◌, sym, ap, ◌∙◌}
 use Rattle.integrity_checks.proofs.Common.{looks_then, order_record, run_line_record, run_record, state}
-use Rattle.integrity_checks.proofs.ExaminationEnds.{earlier, examined, is_full, passes, passes_later, still}
+use Rattle.integrity_checks.proofs.ExaminationEnds.{earlier, examined, still}
 use Rattle.integrity_checks.proofs.JudgedTables.{runs_judged}
 use Rattle.integrity_checks.proofs.desk_rows.runs_are_good.Goals as goal
 use Rattle.integrity_checks.proofs.desk_rows.runs_are_good.Goals.{then-all, else-all, then-are_read, else-are_read}
 
-pub returns-in_err-all : goal.returns-in_err-all
-returns-in_err-all g c = passes c.from_residual.ensures c.in_err-all.ensures
-
-pub returns-in_err-lines : goal.returns-in_err-lines
-returns-in_err-lines g c = passes_later c.from_residual-in_err-lines.ensures c.in_ok-all.ensures.reads.looks c.in_err-lines.ensures
-
-pub returns-in_err-are_good : goal.returns-in_err-are_good
-returns-in_err-are_good g c = is_full c.from_residual-in_err-are_good.ensures (looks_then _ _ _ c.in_ok-all.ensures.reads.looks c.in_ok-lines.ensures.reads.looks)
-
 pub returns : goal.returns
-returns g c = examined (looks_then _ _ _ c.in_ok-all.ensures.reads.looks c.in_ok-lines.ensures.reads.looks) (λ clean a held are fine.
+returns g c = examined (looks_then c.in_ok-all.ensures.reads.looks c.in_ok-lines.ensures.reads.looks) (λ clean a held are fine.
     let all = c.in_ok-all.all in
     let lines = c.in_ok-lines.lines in
     let good = c.in_ok-are_good.are_good in

@@ -1,12 +1,9 @@
 use Rattle.std.proofs.Common.{map, ◌&&◌, sym, ap, ◌∙◌}
 use Rattle.integrity_checks.proofs.Common.{seat_record, state}
-use Rattle.integrity_checks.proofs.ExaminationEnds.{examined, passes}
+use Rattle.integrity_checks.proofs.ExaminationEnds.{examined}
 use Rattle.integrity_checks.proofs.JudgedTables.{seats_judged}
 use Rattle.integrity_checks.proofs.desk_rows.seats_are_good.Goals as goal
 use Rattle.integrity_checks.proofs.desk_rows.seats_are_good.Goals.{then-all, else-all}
-
-pub returns-in_err-all : goal.returns-in_err-all
-returns-in_err-all g c = passes c.from_residual.ensures c.in_err-all.ensures
 
 pub returns : goal.returns
 returns g c = examined c.in_ok-all.ensures.reads.looks (λ clean a held.

@@ -2,18 +2,12 @@ use Rattle.std.proofs.Common.{◌≡◌, rules, sym, ◌∙◌, to_z, of_z, w32,
 use Rattle.std.proofs.lemmas.Int.{to_z-of_z}
 use Rattle.office_tables.specs.Schema as tables
 use Rattle.integrity_checks.proofs.Common.{looks_then, state}
-use Rattle.integrity_checks.proofs.ExaminationEnds.{earlier, examined, passes, passes_later, still}
+use Rattle.integrity_checks.proofs.ExaminationEnds.{earlier, examined, still}
 use Rattle.integrity_checks.proofs.Surroundings.{numbers_met, surrounded}
 use Rattle.integrity_checks.proofs.desk_rows.surroundings.Goals as goal
 
-pub returns-in_err-units : goal.returns-in_err-units
-returns-in_err-units g c = passes c.from_residual.ensures c.in_err-units.ensures
-
-pub returns-in_err-containers : goal.returns-in_err-containers
-returns-in_err-containers g c = passes_later c.from_residual-in_err-containers.ensures c.in_ok-units.ensures.reads.looks c.in_err-containers.ensures
-
 pub returns : goal.returns
-returns g c = examined (looks_then _ _ _ c.in_ok-units.ensures.reads.looks c.in_ok-containers.ensures.reads.looks) (λ clean count.
+returns g c = examined (looks_then c.in_ok-units.ensures.reads.looks c.in_ok-containers.ensures.reads.looks) (λ clean count.
     let db = (state g.S.Store c.args.tables.now).now.trees in
     let there = still c.in_ok-units.ensures.reads.looks c.in_ok-containers.ensures clean in
     let units = numbers_met (db tables.unit.tree) c.in_ok-units.units.rows.items (c.in_ok-units.ensures.answers (earlier c.in_ok-containers.ensures clean)) in

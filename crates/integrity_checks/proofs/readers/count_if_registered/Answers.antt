@@ -1,11 +1,9 @@
-use Rattle.std.proofs.Common.{◌≡◌, refl, ap, ◌∙◌, sym, nat_le, ◌&&◌}
+use Rattle.std.proofs.Common.{◌≡◌, refl, ap, ◌∙◌, sym, nat_le, ◌&&◌, true, false}
 use Rattle.office_tables.specs.Schema as tables
-use Rattle.integrity_checks.proofs.Common.{by_key, found_in, in_table, is_excused, is_query, read_reader, state}
-use Rattle.integrity_checks.proofs.Common.{then-Equal}
+use Rattle.integrity_checks.proofs.Common.{found_in, is_excused, is_query, state}
 use Rattle.integrity_checks.proofs.ExaminationEnds.{examined, passes_of}
-use Rattle.integrity_checks.proofs.JudgedReaders.{all_readers_text, all_readers_terms, by_ticket, all_readers_names}
-use Rattle.integrity_checks.proofs.JudgedReaders.{all_readers_means, ticket_of, keyed, registered_so_many}
-use Rattle.integrity_checks.proofs.JudgedReaders.{registered_badly}
+use Rattle.integrity_checks.proofs.JudgedReaders.{all_readers_means, all_readers_names, all_readers_terms}
+use Rattle.integrity_checks.proofs.JudgedReaders.{all_readers_text, by_ticket, registered_so}
 use Rattle.integrity_checks.proofs.readers.count_if_registered.Goals as goal
 use Rattle.integrity_checks.proofs.readers.count_if_registered.Goals.{then-all, else-all}
 
@@ -19,30 +17,24 @@ returns-in_err-all g c =
 
 pub returns-then-are_sound : goal.returns-then-are_sound
 returns-then-are_sound g c = examined c.in_ok-all.ensures.reads.looks (λ clean.
-    let v = g.P.Versioned.version in
     let old = state g.S.Store c.args.tables.now in
-    let new = state g.S.Store c.gather.new.tables in
-    let of = found_in old c.in_ok-all.all (c.in_ok-all.ensures.ran clean) in
-    let all = of.1 in
-    let got = in_table tables.reader all_readers_terms by_ticket all_readers_names all_readers_text v (all_readers_means v) (by_key read_reader ticket_of keyed) (λ a b. then-Equal _) old new of.0 all.rows all.shown in
-    let few = nat_le c.in_ok-all.all.count 1000000 in
-    let is : c.if-all.are_sound ≡ (c.in_ok-all.all.are_good && few) = elim c.if-all.branch [
+    let it = c.in_ok-all.all in
+    let (has, all, other) = found_in old it (c.in_ok-all.ensures.ran clean) in
+    let few = nat_le it.count 1000000 in
+    let is : c.if-all.are_sound ≡ (it.are_good && few) = elim c.if-all.branch [
       | then-all w ↦ w.are_sound-is ∙ ap (λ b. b && few) (sym w.if-all.true)
       | else-all w ↦ w.are_sound-is ∙ w.if-all.false ∙ ap (λ b. b && few) (sym w.if-all.false)
     ] in
-    registered_so_many old.now.trees got.0 all.rows c.in_ok-all.all.count c.in_ok-all.all.are_good got.1 got.2 got.3 all.holds.0 all.holds.1 (sym is ∙ c.if-are_sound.true))
+    registered_so g.P.Versioned.version old (state g.S.Store c.gather.new.tables) all.rows it.count it.are_good true has all.shown all.holds.0 all.holds.1 (sym is ∙ c.if-are_sound.true))
 
 pub returns-else-are_sound : goal.returns-else-are_sound
 returns-else-are_sound g c = examined c.in_ok-all.ensures.reads.looks (λ clean.
-    let v = g.P.Versioned.version in
     let old = state g.S.Store c.args.tables.now in
-    let new = state g.S.Store c.gather.new.tables in
-    let of = found_in old c.in_ok-all.all (c.in_ok-all.ensures.ran clean) in
-    let all = of.1 in
-    let got = in_table tables.reader all_readers_terms by_ticket all_readers_names all_readers_text v (all_readers_means v) (by_key read_reader ticket_of keyed) (λ a b. then-Equal _) old new of.0 all.rows all.shown in
-    let few = nat_le c.in_ok-all.all.count 1000000 in
-    let is : c.if-all.are_sound ≡ (c.in_ok-all.all.are_good && few) = elim c.if-all.branch [
+    let it = c.in_ok-all.all in
+    let (has, all, other) = found_in old it (c.in_ok-all.ensures.ran clean) in
+    let few = nat_le it.count 1000000 in
+    let is : c.if-all.are_sound ≡ (it.are_good && few) = elim c.if-all.branch [
       | then-all w ↦ w.are_sound-is ∙ ap (λ b. b && few) (sym w.if-all.true)
       | else-all w ↦ w.are_sound-is ∙ w.if-all.false ∙ ap (λ b. b && few) (sym w.if-all.false)
     ] in
-    registered_badly old.now.trees got.0 all.rows c.in_ok-all.all.count c.in_ok-all.all.are_good got.1 got.2 got.3 all.holds.0 all.holds.1 (sym is ∙ c.if-are_sound.false))
+    registered_so g.P.Versioned.version old (state g.S.Store c.gather.new.tables) all.rows it.count it.are_good false has all.shown all.holds.0 all.holds.1 (sym is ∙ c.if-are_sound.false))

@@ -8,8 +8,7 @@ returns-in-Some c =
     let some = c.in-Some.ensures.some in
     let fits : FitsSigned w32 c.to_unix_epoch_day.result = search rules in
     let given = simp to_z-of_z at c.from_number.ensures in
-    let value = c.to_unix_epoch_day.ensures.value in
-    given ∙ rw value (sym (number_of_date-civil c.in-Some.date _ _ _ some.0 some.1 some.2))
+    given ∙ rw c.to_unix_epoch_day.ensures.value (sym (number_of_date-civil c.in-Some.date _ _ _ some.0 some.1 some.2))
 
 pub returns-in-None : goal.returns-in-None
 returns-in-None c =

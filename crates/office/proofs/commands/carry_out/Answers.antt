@@ -1,6 +1,7 @@
 use Rattle.std.proofs.Common.{sym, ap, ◌∙◌}
 use Rattle.refinement.proofs.Doings.{does_pass, does_then, is_refused}
 use Rattle.office.specs.Sight.{day_check}
+use Rattle.office.proofs.NamedNumbers.{performs_named}
 use Rattle.office.proofs.Sights.{day_check_refuses}
 use Rattle.office.proofs.commands.carry_out.Goals as goal
 
@@ -16,4 +17,4 @@ returns-in-Some g c =
     day_check_refuses s c.args.command.now c.in-Some.why (sym (c.in-Some.ensures ∙ ap (λ today. day_check today c.args.command.now) day)))
 
 pub returns : goal.returns
-returns g c = let told = c.in_ok-row.ensures.answers in does_then told.looks c.perform.ensures (λ clean s sound so it. told.answers clean tt s it)
+returns g c = let told = c.in_ok-row.ensures.answers in does_then told.looks (performs_named g.P.Places.represents g.P.Versioned.version _ c.args.command.now _ _ _ c.perform.ensures) (λ clean s sound so it. told.answers clean tt s it)

@@ -7,7 +7,6 @@ use Rattle.office.proofs.inspection.judge_apart.Goals as goal
 
 pub returns-in_err-begin : goal.returns-in_err-begin
 returns-in_err-begin g c =
-    let old = state g.S.Store c.args.conn.now in
     let begun = state g.S.Store c.begin.new.conn in
     let it = c.in_err-begin.ensures in
     let e = c.in_err-begin.field-0.0 in
@@ -15,8 +14,8 @@ returns-in_err-begin g c =
     (record {
       answers = λ clean. tt;
       back = search rules;
-      disk = λ clean. outer_blames old begun e (it.faults clean (c.requires.outside (early old begun _ it.crash clean)));
-      faults = λ clean ordered. it.faults clean (c.requires.outside (early old begun _ it.crash clean));
+      disk = λ clean. outer_blames (state g.S.Store c.args.conn.now) begun e (it.faults clean (c.requires.outside (early it.crash clean)));
+      faults = λ clean ordered. it.faults clean (c.requires.outside (early it.crash clean));
       crash = it.crash;
     })
 
@@ -29,13 +28,13 @@ returns g c =
     let told = c.judge-verdict.ensures in
     record {
       answers = λ clean.
-          let clean_judged = early judged new _ c.take_back.ensures.crash clean in
-          let clean_begun = early begun judged _ told.reads.crash clean_judged in
+          let clean_judged = early c.take_back.ensures.crash clean in
+          let clean_begun = early told.reads.crash clean_judged in
           subst (λ (db : Database). IfOk c.judge-verdict.result (IsVerdict g.P.Versioned.version db)) (c.in_ok-begin.ensures.begun clean_begun).now_is (told.answers clean_judged);
       back = search rules;
       disk = λ clean.
-          let clean_judged = early judged new _ c.take_back.ensures.crash clean in
-          let clean_begun = early begun judged _ told.reads.crash clean_judged in
+          let clean_judged = early c.take_back.ensures.crash clean in
+          let clean_begun = early told.reads.crash clean_judged in
           if_err_then c.judge-verdict.result (BlamesDisk begun judged) (BlamesDisk old new)
           (blames_outside old begun judged new c.begin.ensures.crash.counts c.take_back.ensures.crash.counts (c.in_ok-begin.ensures.begun clean_begun).is_open)
           (told.disk clean_judged);

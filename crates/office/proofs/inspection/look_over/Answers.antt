@@ -5,8 +5,7 @@ use Rattle.office.proofs.HandedOn.{handed_on}
 use Rattle.office.proofs.inspection.look_over.Goals as goal
 
 pub returns-in_err-verdict-clause-looks : goal.returns-in_err-verdict-clause-looks
-returns-in_err-verdict-clause-looks g c =
-    handed_on (Inspects g.S.Store c.args.conn.now c.judge_apart.new.conn g.P.Versioned.version) _ _ c.from_residual.ensures c.in_err-verdict.ensures
+returns-in_err-verdict-clause-looks g c = handed_on (Inspects g.S.Store c.args.conn.now c.judge_apart.new.conn g.P.Versioned.version) _ _ c.from_residual.ensures c.in_err-verdict.ensures
 
 pub returns-in_err-confirm_open-clause-looks : goal.returns-in_err-confirm_open-clause-looks
 returns-in_err-confirm_open-clause-looks g c =

@@ -23,7 +23,7 @@ returns-in_err-verdict g c =
       aborts = told.reads.aborts;
       cause = λ clean opened.
           store_cause First old new e (told.disk clean)
-          (λ ordered. outer_cause old new (c.requires.inside (early old new _ told.reads.crash clean)) e (told.faults ordered clean c.requires.unlimited));
+          (λ ordered. outer_cause old new (c.requires.inside (early told.reads.crash clean)) e (told.faults ordered clean c.requires.unlimited));
     })
 
 pub returns-in_err-to_spans : goal.returns-in_err-to_spans
@@ -39,14 +39,14 @@ returns-in_err-to_spans g c =
       same = λ clean opened. tt;
       inside = tt;
       goes = tt;
-      aborts = cut_then old mid new reads.looks.goes.on failed.aborts;
+      aborts = cut_then reads.looks.goes.on failed.aborts;
       cause = λ clean opened.
-          let clean_mid = early mid new _ failed.aborts.crash clean in
+          let clean_mid = early failed.aborts.crash clean in
           let its_state = shows_its_state old.now c.in_ok-verdict.verdict (sym c.fault_for.ensures ∙ c.in_default.is) (c.in_ok-verdict.ensures.answers clean_mid) (c.schema.ensures.live opened).0 in
           cause_of_call old mid new e (failed.disk clean)
           (λ ordered.
           let shown = subst (λ (db : Database). RepresentsState RepresentsLinkRows First db (state_in First old.now.trees)) (sym (reads.looks.same clean_mid)) (its_state ordered).represents in
-          outer_cause mid new ((reads.looks.goes.on.within clean_mid).mode ∙ c.requires.inside (early old mid _ reads.crash clean_mid)) e
+          outer_cause mid new ((reads.looks.goes.on.within clean_mid).mode ∙ c.requires.inside (early reads.crash clean_mid)) e
           (failed.faults (state_in First old.now.trees) shown (its_state ordered).sound clean (reads.crash.limit ∙ c.requires.unlimited)))
           reads.crash.counts (reads.looks.goes.on.within clean_mid).opened;
     })
@@ -54,19 +54,18 @@ returns-in_err-to_spans g c =
 pub returns : goal.returns
 returns g c =
     let old = state g.S.Store c.args.conn.now in
-    let mid = state g.S.Store c.judge.new.conn in
     let new = state g.S.Store c.to_spans.new.conn in
     let reads = c.in_ok-verdict.ensures.reads in
     let made = c.in_ok-to_spans.ensures in
     record {
       same = λ clean opened.
-          let clean_mid = early mid new _ made.goes.crash clean in
+          let clean_mid = early made.goes.crash clean in
           let same = reads.looks.same clean_mid in
           migrated old.now c.in_ok-verdict.verdict (sym c.fault_for.ensures ∙ c.in_default.is) (c.in_ok-verdict.ensures.answers clean_mid) (c.schema.ensures.live opened).0 new.now
           (λ s shown. made.represents clean s (subst (λ (db : Database). RepresentsState RepresentsLinkRows First db s) (sym same) shown))
           (subst (λ (db : Database). OnlyTouches (tables.office.tree ∷ tables.link.tree ∷ []) db new.now) same (made.only clean));
       inside = made.inside;
-      goes = continues_then old mid new reads.looks.goes.on made.goes;
+      goes = continues_then reads.looks.goes.on made.goes;
       aborts = tt;
       cause = λ clean opened. tt;
     }

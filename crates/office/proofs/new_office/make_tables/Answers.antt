@@ -25,7 +25,7 @@ returns g c =
     let whole = making_last a b d step.0 r left.goes left.aborts left.disk (λ _. left.faults) in
     record {
       represents = λ clean.
-          let at_b = early b d _ (continued r b d left.goes left.aborts) clean in
+          let at_b = early (continued r b d left.goes left.aborts) clean in
           on_ok_both r _ _ _ (λ represents kept. record { catalogue = represents; desk = shows_none a b d.now.trees step.1 at_b kept }) (c.create.ensures.represents b.now desk clean) (c.create.ensures.desk b.now desk clean);
       goes = whole.goes;
       aborts = whole.aborts;

@@ -13,7 +13,6 @@ returns-in_err-execute-clause-leaves g c =
 
 pub returns-clause-leaves : goal.returns-clause-leaves
 returns-clause-leaves g c =
-    let old = state g.S.Store c.args.conn.now in
     let new = state g.S.Store c.execute.new.self in
-    let went = went_well _ _ old new c.requires c.execute.ensures.survives c.in_ok-execute.field-0 c.in_ok-execute.ensures.runs in
+    let went = went_well _ _ (state g.S.Store c.args.conn.now) new c.requires c.execute.ensures.survives c.in_ok-execute.field-0 c.in_ok-execute.ensures.runs in
     record { crash = went.on.crash; goes = went; aborts = tt; spares = λ _. tt }

@@ -10,7 +10,7 @@ returns-in_err-rows-clause-reads g c =
     let new = state g.S.Store c.query_all.new.self in
     let known = λ (clean : HasCleanDisk old). let it = c.requires.here clean in known_in _ c.args.sql.now c.requires.command old it.1 it.2 it.3.is it.3.plain in
     let cut = read_cut c.args.sql.now _ old new c.requires.command known c.in_err-rows.field-0.0 c.in_err-rows.ensures.err c.query_all.ensures.survives in
-    let spared = λ (clean : HasCleanDisk new). query_spares c.args.sql.now _ old new (known (early old new _ c.query_all.ensures.survives clean)).plain c.in_err-rows.field-0.0 (c.in_err-rows.ensures.err clean) in
+    let spared = λ (clean : HasCleanDisk new). query_spares c.args.sql.now _ old new (known (early c.query_all.ensures.survives clean)).plain c.in_err-rows.field-0.0 (c.in_err-rows.ensures.err clean) in
     record { crash = cut.crash; looks = search rules; aborts = search (rules, cut); spares = λ clean. let it = spared clean in search (rules, it) }
 
 pub returns-clause-reads : goal.returns-clause-reads

@@ -8,9 +8,8 @@ use Rattle.office_tables.proofs.table_creation.create_containers.Goals as goal
 
 pub returns-in_err-create_table-clause-aborts : goal.returns-in_err-create_table-clause-aborts
 returns-in_err-create_table-clause-aborts g c start making =
-    let a0 = state g.S.Store c.args.conn.now in
     let a1 = state g.S.Store c.create_table.new.conn in
-    let one : IsAborted a0 a1 = c.in_err-create_table.ensures.aborts desk_tables start s3 s4 making container_defined in
+    let one : IsAborted (state g.S.Store c.args.conn.now) a1 = c.in_err-create_table.ensures.aborts desk_tables start s3 s4 making container_defined in
     search (rules, one)
 
 pub returns-clause-made : goal.returns-clause-made
@@ -19,7 +18,7 @@ returns-clause-made g c start making =
     let a1 = state g.S.Store c.create_table.new.conn in
     let step1 = c.in_ok-create_table.ensures.made desk_tables start s3 s4 making container_defined in
     let a2 = state g.S.Store c.create_table-2.new.conn in
-    on_ok_then c.create_table-2.result (Continues a1 a2 × IsMaking desk_tables s5 start a2) (Continues a0 a2 × IsMaking desk_tables s5 start a2) (λ last. (continues_then a0 a1 a2 step1.0 last.0, last.1))
+    on_ok_then c.create_table-2.result (Continues a1 a2 × IsMaking desk_tables s5 start a2) (Continues a0 a2 × IsMaking desk_tables s5 start a2) (λ last. (continues_then step1.0 last.0, last.1))
     (c.create_table-2.ensures.made desk_tables start s4 s5 step1.1 housing_defined)
 
 pub returns-clause-aborts : goal.returns-clause-aborts
@@ -28,7 +27,7 @@ returns-clause-aborts g c start making =
     let a1 = state g.S.Store c.create_table.new.conn in
     let step1 = c.in_ok-create_table.ensures.made desk_tables start s3 s4 making container_defined in
     let a2 = state g.S.Store c.create_table-2.new.conn in
-    on_err_then c.create_table-2.result (IsAborted a1 a2) (IsAborted a0 a2) (λ last. cut_then a0 a1 a2 step1.0 last) (c.create_table-2.ensures.aborts desk_tables start s4 s5 step1.1 housing_defined)
+    on_err_then c.create_table-2.result (IsAborted a1 a2) (IsAborted a0 a2) (λ last. cut_then step1.0 last) (c.create_table-2.ensures.aborts desk_tables start s4 s5 step1.1 housing_defined)
 
 pub returns-in_err-create_table-clause-disk : goal.returns-in_err-create_table-clause-disk
 returns-in_err-create_table-clause-disk g c start making clean =

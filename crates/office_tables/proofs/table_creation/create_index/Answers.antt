@@ -19,14 +19,14 @@ returns-clause-made g c there start before after making defines =
     let old = state g.S.Store c.args.conn.now in
     let new = state g.S.Store c.execute.new.self in
     let on = write_continues c.args.text.now _ old new (CreateIndex defines.at) refl (λ clean. known_in before c.args.text.now (CreateIndex defines.at) old (making clean).0.schema_is (making clean).1 defines.says.is defines.says.plain)
-    (λ clean. (indexes there before after c.args.text.now start old new c.in_ok-execute.field-0 (making (early old new _ c.execute.ensures.survives clean)).0 (c.in_ok-execute.ensures.runs clean) defines).1) c.execute.ensures.survives in
-    (on, λ clean. ((indexes there before after c.args.text.now start old new c.in_ok-execute.field-0 (making (early old new _ on.crash clean)).0 (c.in_ok-execute.ensures.runs clean) defines).0, (on.within clean).mode ∙ (making (early old new _ on.crash clean)).1))
+    (λ clean. (indexes there before after c.args.text.now start old new c.in_ok-execute.field-0 (making (early c.execute.ensures.survives clean)).0 (c.in_ok-execute.ensures.runs clean) defines).1) c.execute.ensures.survives in
+    (on, λ clean. ((indexes there before after c.args.text.now start old new c.in_ok-execute.field-0 (making (early on.crash clean)).0 (c.in_ok-execute.ensures.runs clean) defines).0, (on.within clean).mode ∙ (making (early on.crash clean)).1))
 
 pub returns-in_err-execute-clause-disk : goal.returns-in_err-execute-clause-disk
 returns-in_err-execute-clause-disk g c there start before after making defines clean =
     let old = state g.S.Store c.args.conn.now in
     let new = state g.S.Store c.execute.new.self in
-    let before_clean = early old new _ c.execute.ensures.survives clean in
+    let before_clean = early c.execute.ensures.survives clean in
     let fair = write_disk c.args.text.now _ old new (CreateIndex defines.at) refl (known_in before c.args.text.now (CreateIndex defines.at) old (making before_clean).0.schema_is (making before_clean).1 defines.says.is defines.says.plain) c.in_err-execute.field-0.0 (c.in_err-execute.ensures.runs clean) in
     search (rules, fair)
 
@@ -34,7 +34,7 @@ pub returns-in_err-execute-clause-faults : goal.returns-in_err-execute-clause-fa
 returns-in_err-execute-clause-faults g c there start before after making defines clean =
     let old = state g.S.Store c.args.conn.now in
     let new = state g.S.Store c.execute.new.self in
-    let made = (making (early old new _ c.execute.ensures.survives clean)).0 in
+    let made = (making (early c.execute.ensures.survives clean)).0 in
     let utf8 : IsUtf8 c.args.text.now = search rules in
     let why = index_cause there before after c.args.text.now utf8 defines start old new c.schema.ensures.live made c.in_err-execute.field-0.0 (c.in_err-execute.ensures.runs clean) in
     search (rules, why)

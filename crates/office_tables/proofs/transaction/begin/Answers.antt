@@ -10,8 +10,7 @@ returns-in_err-execute-clause-stopped g c clean =
     search (rules, stopped)
 
 pub returns-in_err-execute-clause-crash : goal.returns-in_err-execute-clause-crash
-returns-in_err-execute-clause-crash g c =
-    survives_weaker (state g.S.Store c.args.conn.now) (state g.S.Store c.execute.new.self) _ (λ _. ⊥) (λ _ db h. begin_commits (state g.S.Store c.args.conn.now) db h) c.execute.ensures.survives
+returns-in_err-execute-clause-crash g c = survives_weaker (state g.S.Store c.args.conn.now) (state g.S.Store c.execute.new.self) _ (λ _. ⊥) (λ _ db h. begin_commits (state g.S.Store c.args.conn.now) db h) c.execute.ensures.survives
 
 pub returns-clause-outside : goal.returns-clause-outside
 returns-clause-outside g c clean = began_outside (state g.S.Store c.args.conn.now) (state g.S.Store c.execute.new.self) (Ok c.in_ok-execute.field-0) (c.in_ok-execute.ensures.runs clean)
@@ -20,8 +19,7 @@ pub returns-clause-begun : goal.returns-clause-begun
 returns-clause-begun g c clean = begins (state g.S.Store c.args.conn.now) (state g.S.Store c.execute.new.self) (Ok c.in_ok-execute.field-0) (c.in_ok-execute.ensures.runs clean)
 
 pub returns-clause-crash : goal.returns-clause-crash
-returns-clause-crash g c =
-    survives_weaker (state g.S.Store c.args.conn.now) (state g.S.Store c.execute.new.self) _ (λ _. ⊥) (λ _ db h. begin_commits (state g.S.Store c.args.conn.now) db h) c.execute.ensures.survives
+returns-clause-crash g c = survives_weaker (state g.S.Store c.args.conn.now) (state g.S.Store c.execute.new.self) _ (λ _. ⊥) (λ _ db h. begin_commits (state g.S.Store c.args.conn.now) db h) c.execute.ensures.survives
 
 pub returns-in_err-execute-clause-faults : goal.returns-in_err-execute-clause-faults
 returns-in_err-execute-clause-faults g c clean outside =

@@ -8,8 +8,7 @@ returns-in_err-line-in-Some-Unsound-clause-fault g c =
     c.in-Some-Unsound.is (cc) c.from_residual-in_err-line-in-Some-Unsound.ensures.1
 
 pub returns-in_ok-write_whole-in-Some-OldVersion-clause-fault : goal.returns-in_ok-write_whole-in-Some-OldVersion-clause-fault
-returns-in_ok-write_whole-in-Some-OldVersion-clause-fault g c =
-    told_old c.args.judged c.in-Some-OldVersion.field-0 _ _ c.in-Some-OldVersion.is (cc) c.in_ok-write_whole-in-Some-OldVersion.ensures.whole
+returns-in_ok-write_whole-in-Some-OldVersion-clause-fault g c = told_old c.args.judged c.in-Some-OldVersion.field-0 _ _ c.in-Some-OldVersion.is (cc) c.in_ok-write_whole-in-Some-OldVersion.ensures.whole
 
 pub returns-in_ok-write_whole-in-Some-Unsound-clause-fault : goal.returns-in_ok-write_whole-in-Some-Unsound-clause-fault
 returns-in_ok-write_whole-in-Some-Unsound-clause-fault g c =

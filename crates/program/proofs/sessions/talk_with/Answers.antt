@@ -4,8 +4,7 @@ use Rattle.program.proofs.Common.{AgreesWithCalls, IfErr-weaker, on_ok_weaker}
 use Rattle.program.proofs.sessions.talk_with.Goals as goal
 
 pub returns-clause-done : goal.returns-clause-done
-returns-clause-done g c =
-    on_ok_weaker c.after.result (λ well. (c.talk.result, well, c.talk.ensures.streams, c.talk.ensures.session)) c.after.ensures.well
+returns-clause-done g c = on_ok_weaker c.after.result (λ well. (c.talk.result, well, c.talk.ensures.streams, c.talk.ensures.session)) c.after.ensures.well
 
 pub returns-clause-broken : goal.returns-clause-broken
 returns-clause-broken g c =

@@ -8,7 +8,7 @@ use Rattle.program.proofs.stores.open_office.Goals as goal
 pub returns-in-Ok-adopt-clause-found : goal.returns-in-Ok-adopt-clause-found
 returns-in-Ok-adopt-clause-found g c clean =
     let found = file_state c.in-Ok.conn in
-    let clean_found = early found (file_state c.in-Ok-adopt.office) _ c.in-Ok-adopt.ensures.crash clean in
+    let clean_found = early c.in-Ok-adopt.ensures.crash clean in
     let opened = c.in-Ok-adopt.ensures.opens clean in
     let held = held_in _ found (c.in-Ok.ensures.opened clean_found).0 (c.in-Ok.ensures.found clean_found) in
     let ordered = c.in-Ok.ensures.ordered clean_found in

@@ -5,8 +5,7 @@ use Rattle.program.proofs.streams.read_within.Goals as goal
 use Rattle.program.proofs.streams.read_within.Goals.{in-Ok+in_ok-extend_from_slice-in-Ok, in-Err-Interrupted}
 
 pub returns-in_err-extend_from_slice-in-Ok-clause-front : goal.returns-in_err-extend_from_slice-in-Ok-clause-front
-returns-in_err-extend_from_slice-in-Ok-clause-front g c =
-    (_, Consumes-trans _ _ _ _ _ (rw c.begin_stream.ensures at c.loop-read.invariant.came) c.in-Ok.ensures.bytes.0)
+returns-in_err-extend_from_slice-in-Ok-clause-front g c = (_, Consumes-trans _ _ _ _ _ (rw c.begin_stream.ensures at c.loop-read.invariant.came) c.in-Ok.ensures.bytes.0)
 
 pub loop-read-preserved : goal.loop-read-preserved
 loop-read-preserved g c = record {

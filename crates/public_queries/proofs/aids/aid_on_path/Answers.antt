@@ -33,9 +33,9 @@ returns g c =
     let d = state g.S.Store c.branch_text.new.tables in
     let first = c.in_ok-way.ensures.answers in
     let last = c.in_ok-text.ensures.answers in
-    knows_by g.P.Places.represents v (λ s. c.args.known.now ≡ office_of s) (query.Aid c.args.unit) a d (Text c.in_ok-text.text) (looks_then a _ d first.looks last.looks)
+    knows_by g.P.Places.represents v (λ s. c.args.known.now ≡ office_of s) (query.Aid c.args.unit) a d (Text c.in_ok-text.text) (looks_then first.looks last.looks)
     (λ clean s sound so it.
-    let at_b = early _ d _ last.looks.goes.on.crash clean in
+    let at_b = early last.looks.goes.on.crash clean in
     let told = first.answers at_b (office_of s) s.catalogue it.catalogue in
     let way = c.deref.ensures.value ∙ told in
     let represents = ap (λ (l : List Head). shows_last s.day l) (sym way) ∙ ap (λ (o : OfficeRow). shows_last o.day c.deref.result.now) (sym so) ∙ sym c.shows_last.ensures ∙ c.if-not-shows_last.false in

@@ -1,6 +1,6 @@
 use Rattle.std.proofs.Common.{length, ap, ◌∙◌, refl}
-use Rattle.public_queries.proofs.Common.{IsKept, Represents, aid, has_id, public_units, repository_of, state}
-use Rattle.public_queries.proofs.Common.{tells_passed, tree, walk}
+use Rattle.public_queries.proofs.Common.{IsKept, Represents, aid, has_id, public_units, repository_of, tells_passed}
+use Rattle.public_queries.proofs.Common.{tree, walk}
 use Rattle.public_queries.proofs.AidCalls.{tells_then}
 use Rattle.public_queries.proofs.AidPrinted.{along_all}
 use Rattle.public_queries.proofs.AidUnits.{rows_of}
@@ -8,7 +8,6 @@ use Rattle.public_queries.proofs.aids.branch_text.Goals as goal
 
 pub returns : goal.returns
 returns g c =
-    let a = state g.S.Store c.args.tables.now in
     let first = c.in_ok-kept.ensures.answers in
     let day = c.args.known.now.day in
     record {

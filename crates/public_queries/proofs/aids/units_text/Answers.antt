@@ -1,7 +1,7 @@
 use Rattle.std.proofs.Common.{◌≡◌, ◌≤◌, ◌+◌, ◌++◌, ◌∷◌, [], length, take, drop, sym, ap, subst, ◌∙◌, arith, append-nil}
 use Rattle.public_queries.proofs.Common.{Database, Kept, Represents, aid, along, early, kept_from_walk, length-map}
-use Rattle.public_queries.proofs.Common.{looks_then, repository_of, shown_at, state, tells_full, tells_passed_later}
-use Rattle.public_queries.proofs.Common.{unit_lines}
+use Rattle.public_queries.proofs.Common.{looks_then, repository_of, shown_at, tells_full, tells_passed_later}
+use Rattle.public_queries.proofs.Common.{tells_well, unit_lines}
 use Rattle.public_queries.proofs.AidPrinted.{along_more, drop_past, row_at}
 use Rattle.public_queries.proofs.aids.units_text.Goals as goal
 
@@ -16,25 +16,22 @@ returns-in_err-seen g c =
     }
 
 pub returns-in_err-text : goal.returns-in_err-text
-returns-in_err-text g c = record { answers = tells_full c.from_residual-in_err-text.ensures (looks_then _ _ _ c.loop-unit.invariant.looks c.in_ok-seen.ensures.answers.looks) }
+returns-in_err-text g c = record { answers = tells_full c.from_residual-in_err-text.ensures (looks_then c.loop-unit.invariant.looks c.in_ok-seen.ensures.answers.looks) }
 
 pub returns-in_err-extend_from_slice : goal.returns-in_err-extend_from_slice
-returns-in_err-extend_from_slice g c = record { answers = tells_full c.from_residual-in_err-extend_from_slice.ensures (looks_then _ _ _ c.loop-unit.invariant.looks c.in_ok-seen.ensures.answers.looks) }
+returns-in_err-extend_from_slice g c = record { answers = tells_full c.from_residual-in_err-extend_from_slice.ensures (looks_then c.loop-unit.invariant.looks c.in_ok-seen.ensures.answers.looks) }
 
 pub loop-unit-preserved : goal.loop-unit-preserved
 loop-unit-preserved g c =
-    let a = state g.S.Store c.args.tables.now in
-    let b = state g.S.Store c.loop-unit.tables in
-    let d = state g.S.Store c.seen_unit.new.tables in
     let at = repository_of c.args.known.now in
     let base = c.len-base.result in
     let ids = c.loop-unit.ids.items in
     let i = c.loop-unit.unit-index in
     let last = c.in_ok-seen.ensures.answers in
     record {
-      looks = looks_then a b d c.loop-unit.invariant.looks last.looks;
+      looks = looks_then c.loop-unit.invariant.looks last.looks;
       so_far = λ clean o k it tellable rows keeps.
-          let before = early b d _ last.looks.goes.on.crash clean in
+          let before = early last.looks.goes.on.crash clean in
           let shown = subst (λ (db : Database). Represents g.P.Places.represents g.P.Versioned.version db o k) (sym (c.loop-unit.invariant.looks.same before)) it in
           let here = row_at c.args.known.now.day k c.args.kept.now rows i keeps c.loop-unit-test.true in
           let seen = last.answers clean o k shown tellable here.item here.holds here.is in
@@ -51,16 +48,11 @@ returns g c =
     let at = repository_of c.args.known.now in
     let i = c.loop-unit.unit-index in
     record {
-      answers = record {
-        answers = λ clean o k it tellable rows keeps.
-            let past : length rows ≤ i = (let long = ap length keeps.told ∙ length-map rows kept_from_walk in omega (arith, long, c.loop-unit-test.false)) in
-            let base : c.len-base.result ≡ length c.args.above.items = cc (c.len-base.ensures, c.args.above.ok.0) in
-            sym (ap (λ n. aid (along at k.containers n c.args.above.items rows)) (sym base)
-            ∙ c.loop-unit.invariant.so_far clean o k it tellable rows keeps
-            ∙ ap (λ l. c.loop-unit.out.items ++ aid (along at k.containers c.len-base.result c.loop-unit.ids.items l)) (drop_past rows i past)
-            ∙ append-nil c.loop-unit.out.items);
-        looks = c.loop-unit.invariant.looks;
-        aborts = tt;
-        faults = λ o k it may kept clean free. tt;
-      };
+      answers = tells_well c.loop-unit.invariant.looks (λ clean o k it tellable rows keeps.
+          let past : length rows ≤ i = (let long = ap length keeps.told ∙ length-map rows kept_from_walk in omega (arith, long, c.loop-unit-test.false)) in
+          let base : c.len-base.result ≡ length c.args.above.items = cc (c.len-base.ensures, c.args.above.ok.0) in
+          sym (ap (λ n. aid (along at k.containers n c.args.above.items rows)) (sym base)
+          ∙ c.loop-unit.invariant.so_far clean o k it tellable rows keeps
+          ∙ ap (λ l. c.loop-unit.out.items ++ aid (along at k.containers c.len-base.result c.loop-unit.ids.items l)) (drop_past rows i past)
+          ∙ append-nil c.loop-unit.out.items));
     }

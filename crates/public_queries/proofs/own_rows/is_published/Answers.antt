@@ -1,5 +1,5 @@
 use Rattle.std.proofs.Common.{◌≡◌, Bool, Option, Some, None, false, not, refl, sym, ap, ◌∙◌}
-use Rattle.public_queries.proofs.Common.{Head, Unit, head_of, is_no_draft, option_map}
+use Rattle.public_queries.proofs.Common.{Head, Unit, head_of, is_no_draft, option_map, tells_well}
 use Rattle.public_queries.proofs.own_rows.is_published.Goals as goal
 
 told_of : Option Head → Bool
@@ -16,12 +16,7 @@ unfolding told_of
 returns-in_default g c =
     let told = c.in_ok-head.ensures.answers in
     record {
-      answers = record {
-        answers = λ clean o k it. ap told_of (sym c.in_default.is ∙ told.answers clean o k it) ∙ same_told _;
-        looks = told.looks;
-        aborts = tt;
-        faults = λ o k it may kept clean free. tt;
-      };
+      answers = tells_well told.looks (λ clean o k it. ap told_of (sym c.in_default.is ∙ told.answers clean o k it) ∙ same_told _);
     }
 
 pub returns : goal.returns
@@ -29,10 +24,5 @@ unfolding told_of
 returns g c =
     let told = c.in_ok-head.ensures.answers in
     record {
-      answers = record {
-        answers = λ clean o k it. ap told_of (sym c.in-Some.is ∙ told.answers clean o k it) ∙ same_told _;
-        looks = told.looks;
-        aborts = tt;
-        faults = λ o k it may kept clean free. tt;
-      };
+      answers = tells_well told.looks (λ clean o k it. ap told_of (sym c.in-Some.is ∙ told.answers clean o k it) ∙ same_told _);
     }

@@ -1,18 +1,10 @@
-use Rattle.std.proofs.Common.{◌≡◌, refl, sym, ◌∙◌}
+use Rattle.std.proofs.Common.{◌≡◌, sym, ◌∙◌}
 use Rattle.office_core.specs.declared.query.Query.TheVariants as query
-use Rattle.public_queries.proofs.Common.{Unknown, UnknownUnit, looks_nowhere, office_of, state}
+use Rattle.public_queries.proofs.Common.{Unknown, UnknownUnit, office_of, state}
 use Rattle.public_queries.proofs.Knowings.{catalogue_passed, knows_by}
 use Rattle.public_queries.proofs.LaterKnowing.{knows_then}
-use Rattle.public_queries.proofs.PageAnswers.{alone, far, hidden}
+use Rattle.public_queries.proofs.PageAnswers.{alone, hidden}
 use Rattle.public_queries.proofs.pages.page.Goals as goal
-
-pub returns-in_default : goal.returns-in_default
-returns-in_default g c =
-    let v = g.P.Versioned.version in
-    let a = state g.S.Store c.args.tables.now in
-    knows_by g.P.Places.represents v (λ s. c.args.known.now ≡ office_of s) (query.Page c.args.unit) a a (Unknown UnknownUnit)
-    (looks_nowhere a)
-    (λ clean s sound so it. far s sound c.args.unit (c.in_default.ensures.none refl))
 
 pub returns-in_err-published : goal.returns-in_err-published
 returns-in_err-published g c = let told = c.in_err-published.ensures.answers in catalogue_passed _ c.from_residual.ensures told.aborts told.faults
@@ -21,7 +13,7 @@ pub returns-then-not-published : goal.returns-then-not-published
 returns-then-not-published g c =
     let a = state g.S.Store c.args.tables.now in
     let b = state g.S.Store c.is_published.new.tables in
-    let told = (rw c.in-Some.ensures.same at c.in_ok-published.ensures).answers in
+    let told = c.in_ok-published.ensures.answers in
     knows_by g.P.Places.represents g.P.Versioned.version (λ s. c.args.known.now ≡ office_of s) (query.Page c.args.unit) a b (Unknown UnknownUnit) told.looks
     (λ clean s sound so it.
     hidden s sound c.args.unit (alone s sound c.args.unit (sym (told.answers clean (office_of s) s.catalogue it.catalogue) ∙ c.if-not-published.true)))
@@ -31,7 +23,5 @@ returns g c =
     let a = state g.S.Store c.args.tables.now in
     let b = state g.S.Store c.is_published.new.tables in
     let d = state g.S.Store c.page_on_path.new.tables in
-    let told = c.in_ok-published.ensures.answers in
-    let last = rw c.in-Some.ensures.same at c.page_on_path.ensures in
-    knows_then g.P.Places.represents g.P.Versioned.version (λ s. c.args.known.now ≡ office_of s) (λ s. c.args.known.now ≡ office_of s) (query.Page c.args.unit) a b d c.page_on_path.result told.looks
-    (λ clean s sound so it. so) last
+    knows_then g.P.Places.represents g.P.Versioned.version (λ s. c.args.known.now ≡ office_of s) (λ s. c.args.known.now ≡ office_of s) (query.Page c.args.unit) a b d c.page_on_path.result c.in_ok-published.ensures.answers.looks
+    (λ clean s sound so it. so) c.page_on_path.ensures

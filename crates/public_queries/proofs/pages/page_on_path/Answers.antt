@@ -26,7 +26,6 @@ returns g c =
     let b = state g.S.Store c.path_heads.new.tables in
     let d = state g.S.Store c.shown_page.new.tables in
     let told = c.in_ok-way.ensures.answers in
-    let last = c.shown_page.ensures in
     knows_then g.P.Places.represents g.P.Versioned.version (λ s. c.args.known.now ≡ office_of s) (RepresentsUnit c.args.known.now c.args.unit c.as_slice-2.result.now) (query.Page c.args.unit) a b d c.shown_page.result told.looks
     (λ clean s sound so it. record {
       office = so;
@@ -35,4 +34,4 @@ returns g c =
           ap (λ (l : List Head). shows_last c.args.known.now.day l) (c.as_slice-2.ensures.value ∙ sym c.as_slice.ensures.value)
           ∙ sym c.shows_last.ensures ∙ c.if-not-shows_last.false;
     })
-    last
+    c.shown_page.ensures

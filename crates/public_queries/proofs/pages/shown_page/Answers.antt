@@ -1,5 +1,4 @@
 use Rattle.std.proofs.Common.{◌≡◌, ℕ, List, map, sym, ap, ◌∙◌}
-use Rattle.office_tables.specs.declared.fault.StoreFault.TheVariants as fault
 use Rattle.office_core.specs.State.{State}
 use Rattle.office_core.specs.declared.query.Query.TheVariants as query
 use Rattle.public_queries.proofs.Common.{AreHeadsOf, Head, IsSoundOffice, IsTellable, RepresentsUnit, Text, early}
@@ -20,7 +19,7 @@ pub returns-then-is_closed : goal.returns-then-is_closed
 returns-then-is_closed g c =
     let a = state g.S.Store c.args.tables.now in
     knows_by g.P.Places.represents g.P.Versioned.version (RepresentsUnit c.args.known.now c.args.unit c.args.way.now) (query.Page c.args.unit) a a (Text c.in_ok-text.text)
-    (looks_nowhere a)
+    looks_nowhere
     (λ clean s sound so it.
     answers_closed s sound c.args.unit c.args.known.now c.args.way.now c.in-Some._above.now c.in-Some.last.now so.office so.way_is so.shown c.in-Some.ensures.cases.0
     c.as_slice.result.now c.in_ok-head.head c.in_ok-text.text (c.as_slice.ensures.value ∙ c.in_ok-ids.ensures) c.in_ok-head.ensures (sym c.is_closed.ensures ∙ c.if-is_closed.true) c.in_ok-text.ensures)
@@ -40,24 +39,21 @@ returns-in_err-heads g c =
 pub returns-in_err-text-2 : goal.returns-in_err-text-2
 returns-in_err-text-2 g c =
     let a = state g.S.Store c.args.tables.now in
-    let b = state g.S.Store c.values_of_all.new.tables in
     let d = state g.S.Store c.heads_below.new.tables in
-    let e = c.from_residual-in_err-text-2.ensures in
     knows_short g.P.Places.represents g.P.Versioned.version (RepresentsUnit c.args.known.now c.args.unit c.args.way.now) (query.Page c.args.unit) a d c.from_residual-in_err-text-2.result
-    (same_fault c.from_residual-in_err-text-2.result fault.Memory e.0 e.1)
-    (looks_then a b d c.in_ok-told.ensures.answers.looks c.in_ok-heads.ensures.answers.looks)
+    (same_fault c.from_residual-in_err-text-2.ensures)
+    (looks_then c.in_ok-told.ensures.answers.looks c.in_ok-heads.ensures.answers.looks)
 
 pub returns : goal.returns
 returns g c =
     let a = state g.S.Store c.args.tables.now in
-    let b = state g.S.Store c.values_of_all.new.tables in
     let d = state g.S.Store c.heads_below.new.tables in
     let first = c.in_ok-told.ensures.answers in
     let last = c.in_ok-heads.ensures.answers in
-    knows_by g.P.Places.represents g.P.Versioned.version (RepresentsUnit c.args.known.now c.args.unit c.args.way.now) (query.Page c.args.unit) a d (Text c.in_ok-text-2.text) (looks_then a b d first.looks last.looks)
+    knows_by g.P.Places.represents g.P.Versioned.version (RepresentsUnit c.args.known.now c.args.unit c.args.way.now) (query.Page c.args.unit) a d (Text c.in_ok-text-2.text) (looks_then first.looks last.looks)
     (λ clean s sound so it.
-    let at_b = early b d _ last.looks.goes.on.crash clean in
-    let shown = still_shown g.P.Places.represents g.P.Versioned.version a b first.looks at_b s it in
+    let at_b = early last.looks.goes.on.crash clean in
+    let shown = still_shown g.P.Places.represents g.P.Versioned.version a (state g.S.Store c.values_of_all.new.tables) first.looks at_b s it in
     let units = first.answers at_b (office_of s) s.catalogue it.catalogue (tellable s sound) (heads_of s sound c.args.unit c.args.way.now so.way_is) in
     let heads = c.as_slice-2.ensures.value ∙ last.answers clean (office_of s) s.catalogue shown.catalogue in
     let head = c.in_ok-head.ensures ∙ ap (λ l. head_alone (repository_of c.args.known.now) l c.args.known.now.day c.in-Some.last.now) c.as_slice.ensures.value in

@@ -1,32 +1,27 @@
 use Rattle.std.proofs.Common.{◌≡◌, ◌++◌, ◌∷◌, [], length, take, map, sym, ap, subst, ◌∙◌, arith}
 use Rattle.public_queries.proofs.Common.{Database, Head, Represents, early, head_of, length-map, looks_nowhere}
-use Rattle.public_queries.proofs.Common.{looks_then, map-append, state, take_all, tells_full, tells_passed_later}
+use Rattle.public_queries.proofs.Common.{looks_then, map-append, take_all, tells_full, tells_passed_later, tells_well}
 use Rattle.public_queries.proofs.Common.{unit_values}
 use Rattle.public_queries.proofs.FoundUnits.{HeadAt, head_at}
 use Rattle.public_queries.proofs.pages.values_of_all.Goals as goal
 
 pub loop-head-init : goal.loop-head-init
 loop-head-init g c =
-    let a = state g.S.Store c.args.tables.now in
     record {
-      looks = looks_nowhere a;
+      looks = looks_nowhere;
       so_far = λ clean o k it tellable of. c.new-units.ensures.items;
     }
 
 pub loop-head-preserved : goal.loop-head-preserved
 loop-head-preserved g c =
-    let a = state g.S.Store c.args.tables.now in
-    let b = state g.S.Store c.loop-head.tables in
-    let d = state g.S.Store c.values_there.new.tables in
     let i = c.loop-head.head-index in
-    let head = c.head-item.result in
     let looked = c.loop-head.invariant.looks in
     let told = c.in_ok-values_there.ensures.answers in
     record {
-      looks = looks_then a b d looked told.looks;
+      looks = looks_then looked told.looks;
       so_far = λ clean o k it tellable of.
-          let at_b = early b d _ told.looks.goes.on.crash clean in
-          let here = subst (λ (h : Head). HeadAt k.forest of.units i h) (sym c.head-item.is) (head_at k.forest of.units c.args.way.now i head of.found of.are c.loop-head-test.true) in
+          let at_b = early told.looks.goes.on.crash clean in
+          let here = subst (λ (h : Head). HeadAt k.forest of.units i h) (sym c.head-item.is) (head_at k.forest of.units c.args.way.now i c.head-item.result of.found of.are c.loop-head-test.true) in
           let one = told.answers clean o k (subst (λ (db : Database). Represents g.P.Places.represents g.P.Versioned.version db o k) (sym (looked.same at_b)) it) tellable here.unit here.found in
           c.in_ok-push.ensures.items
           ∙ ap (λ l. l ++ c.in_ok-values_there.field-0 ∷ []) (c.loop-head.invariant.so_far at_b o k it tellable of)
@@ -38,26 +33,20 @@ loop-head-preserved g c =
 pub returns-in_err-values_there : goal.returns-in_err-values_there
 returns-in_err-values_there g c =
     let i = c.loop-head.head-index in
-    let looked = c.loop-head.invariant.looks in
     record {
-      answers = tells_passed_later _ c.from_residual.ensures looked c.in_err-values_there.ensures.answers.aborts (λ o k it may kept.
+      answers = tells_passed_later _ c.from_residual.ensures c.loop-head.invariant.looks c.in_err-values_there.ensures.answers.aborts (λ o k it may kept.
           let here = subst (λ (h : Head). HeadAt k.forest may.1.units i h) (sym c.head-item.is) (head_at k.forest may.1.units c.args.way.now i c.head-item.result may.1.found may.1.are c.loop-head-test.true) in
           c.in_err-values_there.ensures.answers.faults o k it (may.0, here.unit, here.found) kept);
     }
 
 pub returns-in_err-push : goal.returns-in_err-push
-returns-in_err-push g c = record { answers = tells_full c.from_residual-in_err-push.ensures (looks_then _ _ _ c.loop-head.invariant.looks c.in_ok-values_there.ensures.answers.looks) }
+returns-in_err-push g c = record { answers = tells_full c.from_residual-in_err-push.ensures (looks_then c.loop-head.invariant.looks c.in_ok-values_there.ensures.answers.looks) }
 
 pub returns : goal.returns
 returns g c =
     record {
-      answers = record {
-        answers = λ clean o k it tellable of.
-            let long : length c.args.way.now ≡ length of.units = ap length of.are ∙ length-map of.units head_of in
-            c.loop-head.invariant.so_far clean o k it tellable of
-            ∙ ap (map (unit_values k.containers)) (take_all c.loop-head.head-index of.units (omega (arith, long, c.loop-head-test.false)));
-        looks = c.loop-head.invariant.looks;
-        aborts = tt;
-        faults = λ o k it may kept clean free. tt;
-      };
+      answers = tells_well c.loop-head.invariant.looks (λ clean o k it tellable of.
+          let long : length c.args.way.now ≡ length of.units = ap length of.are ∙ length-map of.units head_of in
+          c.loop-head.invariant.so_far clean o k it tellable of
+          ∙ ap (map (unit_values k.containers)) (take_all c.loop-head.head-index of.units (omega (arith, long, c.loop-head-test.false))));
     }

@@ -1,6 +1,6 @@
 use Rattle.std.proofs.Common.{◌≡◌, Some, None, [], sym, ap, ◌∙◌}
 use Rattle.public_queries.specs.declared.visible_unit.Seen.{Seen}
-use Rattle.public_queries.proofs.Common.{Closed, Head, cut_after, head_of, option_map}
+use Rattle.public_queries.proofs.Common.{Closed, Head, cut_after, head_of, option_map, tells_well}
 use Rattle.public_queries.proofs.visible_unit.seen_closed.Goals as goal
 
 none_some : {X : Type 0} (x : X) → None ≡ Some x → ⊥
@@ -16,7 +16,7 @@ returns-in_default g c =
       answers = record {
         answers = λ clean o k it. tt;
         looks = tt;
-        aborts = cut_after _ _ told.looks.goes.on;
+        aborts = cut_after told.looks.goes.on;
         faults = λ o k it may kept clean free. absurd (none_some (head_of may.0) (sym c.in_default.is ∙ told.answers clean o k it ∙ ap (option_map head_of) may.2));
       };
     }
@@ -28,7 +28,7 @@ returns-in_default-until g c =
       answers = record {
         answers = λ clean o k it. tt;
         looks = tt;
-        aborts = cut_after _ _ told.looks.goes.on;
+        aborts = cut_after told.looks.goes.on;
         faults = λ o k it may kept clean free.
             let head = same c.in-Some.head (head_of may.0) (sym c.in-Some.is ∙ told.answers clean o k it ∙ ap (option_map head_of) may.2) in
             absurd (none_some may.1 (sym c.in_default-until.is ∙ ap (λ (h : Head). h.until) head ∙ may.3));
@@ -39,15 +39,10 @@ pub returns : goal.returns
 returns g c =
     let told = c.in_ok-head.ensures.answers in
     record {
-      answers = record {
-        answers = λ clean o k it u until found is.
-            let head = same c.in-Some.head (head_of u) (sym c.in-Some.is ∙ told.answers clean o k it ∙ ap (option_map head_of) found) in
-            let day = same c.in-Some-until.until until (sym c.in-Some-until.is ∙ ap (λ (h : Head). h.until) head ∙ is) in
-            ap (λ (h : Head). (let s : Seen = record { identifier = h.identifier; level = h.level; title = c.in_ok-new.field-0; body = Closed c.in-Some-until.until } in s)) head
-            ∙ ap (λ text. (let s : Seen = record { identifier = (head_of u).identifier; level = u.values.level; title = text; body = Closed c.in-Some-until.until } in s)) c.in_ok-new.ensures
-            ∙ ap (λ d. (let s : Seen = record { identifier = (head_of u).identifier; level = u.values.level; title = []; body = Closed d } in s)) day;
-        looks = told.looks;
-        aborts = tt;
-        faults = λ o k it may kept clean free. tt;
-      };
+      answers = tells_well told.looks (λ clean o k it u until found is.
+          let head = same c.in-Some.head (head_of u) (sym c.in-Some.is ∙ told.answers clean o k it ∙ ap (option_map head_of) found) in
+          let day = same c.in-Some-until.until until (sym c.in-Some-until.is ∙ ap (λ (h : Head). h.until) head ∙ is) in
+          ap (λ (h : Head). (let s : Seen = record { identifier = h.identifier; level = h.level; title = c.in_ok-new.field-0; body = Closed c.in-Some-until.until } in s)) head
+          ∙ ap (λ text. (let s : Seen = record { identifier = (head_of u).identifier; level = u.values.level; title = text; body = Closed c.in-Some-until.until } in s)) c.in_ok-new.ensures
+          ∙ ap (λ d. (let s : Seen = record { identifier = (head_of u).identifier; level = u.values.level; title = []; body = Closed d } in s)) day);
     }

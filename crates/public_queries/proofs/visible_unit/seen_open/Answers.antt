@@ -1,5 +1,5 @@
 use Rattle.std.proofs.Common.{◌≡◌, Some, None, sym, ap, ◌∙◌}
-use Rattle.public_queries.proofs.Common.{cut_after, option_map, seen_values, state, tells_passed}
+use Rattle.public_queries.proofs.Common.{cut_after, option_map, seen_values, tells_passed, tells_well}
 use Rattle.public_queries.proofs.AidUnits.{seen_read, values_read}
 use Rattle.public_queries.proofs.visible_unit.seen_open.Goals as goal
 
@@ -18,14 +18,12 @@ returns-in_err-found g c =
 
 pub returns-in_default : goal.returns-in_default
 returns-in_default g c =
-    let a = state g.S.Store c.args.tables.now in
-    let b = state g.S.Store c.values.new.tables in
     let told = c.in_ok-found.ensures.answers in
     record {
       answers = record {
         answers = λ clean o k it. tt;
         looks = tt;
-        aborts = cut_after a b told.looks.goes.on;
+        aborts = cut_after told.looks.goes.on;
         faults = λ o k it may kept clean free.
             absurd (none_some (values_read k.containers may.1)
             (sym c.in_default.is ∙ told.answers clean o k (record { version = g.P.Versioned.version; catalogue = it.catalogue; places = may.0.places })
@@ -37,13 +35,8 @@ pub returns : goal.returns
 returns g c =
     let told = c.in_ok-found.ensures.answers in
     record {
-      answers = record {
-        answers = λ clean o k it tellable u found.
-            let values = same c.in-Some.found (values_read k.containers u)
-            (sym c.in-Some.is ∙ told.answers clean o k (record { version = g.P.Versioned.version; catalogue = it.catalogue; places = tellable.places }) ∙ ap (option_map (values_read k.containers)) found) in
-            c.in_ok-seen_values.ensures ∙ ap seen_values values ∙ seen_read k.containers u;
-        looks = told.looks;
-        aborts = tt;
-        faults = λ o k it may kept clean free. tt;
-      };
+      answers = tells_well told.looks (λ clean o k it tellable u found.
+          let values = same c.in-Some.found (values_read k.containers u)
+          (sym c.in-Some.is ∙ told.answers clean o k (record { version = g.P.Versioned.version; catalogue = it.catalogue; places = tellable.places }) ∙ ap (option_map (values_read k.containers)) found) in
+          c.in_ok-seen_values.ensures ∙ ap seen_values values ∙ seen_read k.containers u);
     }

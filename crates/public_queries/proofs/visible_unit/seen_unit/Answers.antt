@@ -1,7 +1,7 @@
 use Rattle.std.proofs.Common.{sym, ap, ◌∙◌, arith}
 use Rattle.std.specs.Prelude.{find}
 use Rattle.public_queries.proofs.Common.{IsKept, Kept, Represents, cut_after, has_id, looks_nowhere, nodes, public_unit}
-use Rattle.public_queries.proofs.Common.{seen_of, state, tells_passed}
+use Rattle.public_queries.proofs.Common.{seen_of, tells_passed}
 use Rattle.public_queries.proofs.AidCalls.{tells_as}
 use Rattle.public_queries.proofs.AidUnits.{closed_until, seen_stub}
 use Rattle.public_queries.proofs.FoundUnits.{found_low}
@@ -9,14 +9,12 @@ use Rattle.public_queries.proofs.visible_unit.seen_unit.Goals as goal
 
 pub returns-in_err-number : goal.returns-in_err-number
 returns-in_err-number g c =
-    let a = state g.S.Store c.args.tables.now in
-    let great = c.in_err-number.ensures.great in
     record {
-      answers = tells_passed _ c.from_residual.ensures (cut_after a a (looks_nowhere a).goes.on)
+      answers = tells_passed _ c.from_residual.ensures (cut_after looks_nowhere.goes.on)
           (λ o k it may kept clean free.
           let low = found_low k may.1.0.0.id may.1.0.0 kept may.2.found in
           let id = ap (λ (x : Kept). x.id) may.3 in
-          absurd (omega (arith, low, id, great)));
+          absurd (omega (arith, low, id, c.in_err-number.ensures.great)));
     }
 
 pub returns-then-unit : goal.returns-then-unit

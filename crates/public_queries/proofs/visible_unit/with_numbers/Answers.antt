@@ -7,9 +7,7 @@ use Rattle.public_queries.proofs.visible_unit.with_numbers.Goals as goal
 
 pub returns : goal.returns
 returns c =
-    let numbers = c.args.numbers.now in
-    let boxes = c.args.boxes.now in
-    let all = YieldsList-end (YieldsList-from_zip (YieldsList-from_slice numbers (cc)) (YieldsList-from_slice boxes (cc))) c.loop-number.yielded c.loop-number.number-iterator c.loop-number.yielded_by c.next.result c.next.new.self c.in-None.is c.next.ensures.steps in
+    let all = YieldsList-end (YieldsList-from_zip (YieldsList-from_slice c.args.numbers.now (cc)) (YieldsList-from_slice c.args.boxes.now (cc))) c.loop-number.yielded c.loop-number.number-iterator c.loop-number.yielded_by c.next.result c.next.new.self c.in-None.is c.next.ensures.steps in
     c.loop-number.invariant
     ∙ sym (map-map (λ (housed : ℕ × BoxKey). (housed.0, housed.1.name)) (λ (housed : Bor ℕ × Bor BoxKey). (housed.0.now, housed.1.now)) c.loop-number.yielded)
     ∙ ap (map (λ (housed : ℕ × BoxKey). (housed.0, housed.1.name))) all.0

@@ -4,4 +4,4 @@ use Rattle.replies.proofs.ReplyWhole.{reply_whole}
 use Rattle.replies.proofs.reply_values.json_of.Goals as goal
 
 pub text_of-requires : goal.text_of-requires
-text_of-requires c = record { whole = ap has_float c.in_ok-value.ensures ∙ reply_whole c.args.reply.now }
+text_of-requires c = record { no_float = ap has_float c.in_ok-value.ensures ∙ reply_whole c.args.reply.now }

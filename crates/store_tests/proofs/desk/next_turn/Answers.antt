@@ -14,9 +14,9 @@ turned : {X E : Type 0} (v : Version) (a b d : State) (r : Result X E) → AreTa
     → (HasCleanDisk b → IsTrue a.in_transaction) → (HasCleanDisk b → Committed a b)
     → (HasCleanDisk d → OnOk r (Shows b d b.now b.committed true)) → OnOk r (InTransaction v d)
 turned v a b d (Ok x) are ab bd inside committed begun = λ clean.
-    let at_b = early b d _ bd clean in
+    let at_b = early bd clean in
     let it = begun clean in
-    (ap (λ (db : Database). db.schema) (it.now_is ∙ (committed at_b).now) ∙ are (early a b _ ab at_b) (inside at_b), it.mode)
+    (ap (λ (db : Database). db.schema) (it.now_is ∙ (committed at_b).now) ∙ are (early ab at_b) (inside at_b), it.mode)
 turned v a b d (Err e) are ab bd inside committed begun = tt
 
 pub returns : goal.returns

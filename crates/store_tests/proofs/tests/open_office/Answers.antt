@@ -16,19 +16,17 @@ use Rattle.store_tests.proofs.tests.open_office.Goals as goal
 -- a new office has our tables, and its transaction goes on
 inside_of : {X E : Type 0} (v : Version) (represents : Trees → Forest ℕ → Type 0) (old new : State) (r : Result X E) (o : OfficeRow) (c : Catalogue) → OnOk r (Continues old new) → (HasCleanDisk old → IsTrue old.in_transaction)
     → (HasCleanDisk new → OnOk r (Represents represents v new.now o c)) → OnOk r (InTransaction v new)
-inside_of v represents old new (Ok x) o c goes inside shown = λ clean. ((shown clean).catalogue.schema_is, (goes.within clean).mode ∙ inside (early old new _ goes.crash clean))
+inside_of v represents old new (Ok x) o c goes inside shown = λ clean. ((shown clean).catalogue.schema_is, (goes.within clean).mode ∙ inside (early goes.crash clean))
 inside_of v represents old new (Err e) o c goes inside shown = tt
 
 pub returns : goal.returns
 returns g c =
-    let a0 = state g.S.Store c.args.conn.now in
     let a1 = state g.S.Store c.begin.new.conn in
     let a2 = state g.S.Store c.create_desk.new.conn in
     let a3 = state g.S.Store c.create.new.conn in
-    let begun = c.in_ok-begin.ensures.begun in
     let making : IsMaking [] no_schema a1.now a1 = λ clean.
-    let it = begun clean in
-    (record { schema_is = ap (λ d. d.schema) it.now_is ∙ c.requires.blank (early a0 a1 _ c.begin.ensures.crash clean); kept = tt; empty = tt }, it.mode) in
+    let it = c.in_ok-begin.ensures.begun clean in
+    (record { schema_is = ap (λ d. d.schema) it.now_is ∙ c.requires.blank (early c.begin.ensures.crash clean); kept = tt; empty = tt }, it.mode) in
     let step = c.in_ok-create_desk.ensures.made a1.now making in
     let desk : IsMaking desk_tables desk_schema a2.now a2 = λ clean.
     let it = step.1 clean in

@@ -1,7 +1,7 @@
 use Rattle.std.proofs.Common.{◌≡◌, sym, ap, ◌∙◌, subst, Some}
 use Rattle.http_messages.specs.Router.{route_in}
-use Rattle.http_desk.proofs.Common.{IfOk, State, by_route, carried_out, meaning_of, option_map, path_of, request_in}
-use Rattle.http_desk.proofs.Common.{route_of}
+use Rattle.http_desk.specs.Purposes.{meaning_of}
+use Rattle.http_desk.proofs.Common.{IfOk, State, by_route, carried_out, option_map, path_of, request_in, route_of}
 use Rattle.http_desk.proofs.requests.Means.purpose.Goals as goal
 
 pub returns-in-Some-clause-means : goal.returns-in-Some-clause-means

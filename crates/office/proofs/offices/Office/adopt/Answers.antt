@@ -7,12 +7,10 @@ pub returns-in-None-clause-opens : goal.returns-in-None-clause-opens
 returns-in-None-clause-opens g c = rw c.of.ensures (adopted c.in-Ok.ensures.looks (sym c.fault_for.ensures ∙ c.in-None.is))
 
 pub returns-in-None-clause-sound : goal.returns-in-None-clause-sound
-returns-in-None-clause-sound g c =
-    rw c.of.ensures (adopted_sound c.in-Ok.ensures.looks (sym c.fault_for.ensures ∙ c.in-None.is) g.P.Places.represents g.met.P.CheckedPlaces.shows_said c.schema.ensures.live)
+returns-in-None-clause-sound g c = rw c.of.ensures (adopted_sound c.in-Ok.ensures.looks (sym c.fault_for.ensures ∙ c.in-None.is) g.P.Places.represents g.met.P.CheckedPlaces.shows_said c.schema.ensures.live)
 
 pub returns-in-None-clause-represents : goal.returns-in-None-clause-represents
-returns-in-None-clause-represents g c =
-    rw c.of.ensures (adopted_shown c.in-Ok.ensures.looks (sym c.fault_for.ensures ∙ c.in-None.is) g.P.Places.represents g.met.P.CheckedPlaces.shows_said c.schema.ensures.live)
+returns-in-None-clause-represents g c = rw c.of.ensures (adopted_shown c.in-Ok.ensures.looks (sym c.fault_for.ensures ∙ c.in-None.is) g.P.Places.represents g.met.P.CheckedPlaces.shows_said c.schema.ensures.live)
 
 pub returns-in-Err-clause-cause : goal.returns-in-Err-clause-cause
 returns-in-Err-clause-cause g c clean =

@@ -1,6 +1,7 @@
 use Rattle.std.proofs.Common.{[], ◌∷◌, rules, subst, sym}
 use Rattle.office_core.proofs.Texts.{always_sound_office}
-use Rattle.office.proofs.Common.{HasCleanDisk, IfOk, IsAtRest, IsIn, Reply, TakesStep, early, state}
+use Rattle.office_core.specs.declared.machine.Reply.{Reply}
+use Rattle.office.proofs.Common.{HasCleanDisk, IfOk, IsAtRest, IsIn, TakesStep, early, state}
 use Rattle.office.proofs.Machines.{applied_call}
 use Rattle.office.proofs.offices.Office.apply.Goals as goal
 use Rattle.office.proofs.offices.Office.apply.Goals.{in-Ok, in-Err}
@@ -25,10 +26,9 @@ returns-clause-call g c =
     let named = c.names_days_and_texts.ensures in
     let does = c.apply_to.ensures in
     let call = applied_call g.S.Store g.P.Places.represents g.P.Versioned.version c.self.inside.closed c.apply_to.new.closed c.args.command.now c.apply_to.result
-    (early (state g.S.Store c.self.inside.closed) (state g.S.Store c.apply_to.new.closed) _ does.crash) does.was_open does.kept does.steps
+    (early does.crash) does.was_open does.kept does.steps
     (λ s sound. always_sound_office s (c.args.command.now ∷ []) (named.days, tt) (named.texts, tt) sound) does.busy does.bytes in
     search (rules, call)
 
 pub returns-clause-rested : goal.returns-clause-rested
-returns-clause-rested g c =
-    subst (λ h. HasCleanDisk (state g.S.Store h) → IsAtRest g.P.Versioned.version (state g.S.Store h)) c.self.view_is c.self.invariant.rests
+returns-clause-rested g c = subst (λ h. HasCleanDisk (state g.S.Store h) → IsAtRest g.P.Versioned.version (state g.S.Store h)) c.self.view_is c.self.invariant.rests

@@ -20,5 +20,4 @@ returns-clause-found g c =
     command_found g.S.Store g.met.S.Durable.keeps c.args.self.now.office c.apply.new.self does.rested c.args.command does.crash c.apply.result does.kept does.steps
 
 pub returns-clause-doubt : goal.returns-clause-doubt
-returns-clause-doubt g c =
-    busy_found g.S.Store g.met.S.Durable.keeps c.args.self.now.office c.apply.new.self c.apply.ensures.rested c.args.command c.apply.ensures.crash c.apply.result
+returns-clause-doubt g c = busy_found g.S.Store g.met.S.Durable.keeps c.args.self.now.office c.apply.new.self c.apply.ensures.rested c.args.command c.apply.ensures.crash c.apply.result

@@ -15,5 +15,4 @@ pub returns-clause-busy : goal.returns-clause-busy
 returns-clause-busy g c = busy_told g.S.Store RepresentsSpanRows Second c.args.self.now.office c.ask.new.self c.ask.result c.ask.ensures.same
 
 pub returns-clause-found : goal.returns-clause-found
-returns-clause-found g c =
-    question_found g.S.Store g.met.S.Durable.keeps c.args.self.now.office c.ask.new.self c.ask.ensures.rested c.ask.ensures.crash
+returns-clause-found g c = question_found g.S.Store g.met.S.Durable.keeps c.args.self.now.office c.ask.new.self c.ask.ensures.rested c.ask.ensures.crash
