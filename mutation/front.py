@@ -52,9 +52,10 @@ class Fault:
 
     @property
     def group(self) -> str:
-        """The group in whose office it is planted; nothing if it has an office of its own."""
+        """The group in whose office it is planted; nothing if it has an office of its own, as where it changes what a zone
+        counts: nginx reads that only when it begins."""
         name = self.by.split(":")[0]
-        return name if ":" in self.by and name in GROUPS and self.by not in ONCE else ""
+        return name if ":" in self.by and name in GROUPS and self.by not in ONCE and "_zone" not in self.old else ""
 
     def plant(self, text: str) -> str:
         """The text of its file with the fault in it."""

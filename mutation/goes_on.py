@@ -23,7 +23,9 @@ import time
 
 from acceptance import client
 from acceptance.front import (
-    answers_of_front, approved_desk, catalogs, look_texts, run, server_limits, services, try_texts, unscripted, waits,
+    answers_of_front, approved_desk, approved_enhance, approved_styles, catalogs, look_texts, run, server_limits, services,
+    try_texts,
+    unscripted, waits,
 )
 from acceptance.front.asks import Asks
 from acceptance.front.browser import Browser, Page
@@ -40,6 +42,8 @@ CHANGES = [*unscripted.CHANGES, *RATES]
 CHANGING = {"orders", "collected", "vanishing"}  # parts of unscripted after which the office is another one
 STUCK, ENDLESS = 200, 40  # seconds, and of these of a processor, after which a part that has no servers is broken off
 PATIENCE, BEGINNING = 60, 240  # seconds that anything is waited for with a fault, and where an office begins
+LOOKED = "the page gives the same advice"
+HASTE = 15  # seconds, where nothing but scripts that loop for ever take as long
 
 
 class Unsure(Exception):
@@ -247,22 +251,63 @@ class Approved:
         self.desk.end()
 
 
+class Once(Approved):
+    """Pages that need no office; of each part it is seen once that without a fault all is as approved."""
+
+    def __init__(self, shown, compares):
+        self.shown, self.compares, self.known = shown, compares, set()
+
+    def prepare(self, parts):
+        """Plays without a fault what was not played so."""
+        for part in parts:
+            if part not in self.known and (failed := self.play(None, [part])):
+                raise Unsure(f"without a fault: {failed}")
+            self.known.add(part)
+
+    def compare(self, part, checks):
+        """Compares what one part shows."""
+        self.compares(checks, self.shown, part)
+
+    def end(self):
+        """Ends the browser."""
+        self.shown.end()
+
+
+def enhanced(_, folder):
+    """The readers' pages with their script."""
+    return Once(approved_enhance.Tab(clear(folder)), approved_enhance.compare)
+
+
+def styles(program, folder):
+    """The styles of pages that were looked at once."""
+    return Once(approved_styles.Styles(program, folder), approved_styles.compare)
+
+
 class Looks:
     """The modules of the import page that look at a file, beside record-office-look."""
 
     def __init__(self, program, folder):
         self.browser, self.office = Anew(folder / "profile"), Office.create(program, clear(folder / "office"))
         self.office.begin()
-        self.wanted = look_texts.told_by_shell()
+        self.told, self.page = look_texts.told_by_shell(), None
 
     def play(self, _, parts):
-        """Looks at each file."""
-        self.browser.begin_anew()
-        return failure(self.compare, "looks")
+        """Looks at each file: first at those that have noticed a fault. A page that has told nothing is not asked again."""
+        if not self.page:
+            self.browser.begin_anew()
+            self.page = self.browser.page(SIGNED_IN)
+        waits.settings.patience = HASTE
+        found = failure(self.compare, "looks")
+        waits.settings.patience = PATIENCE
+        if found and LOOKED in found[1]:
+            self.told.sort(key=lambda one: f"{LOOKED}: {look_texts.short(one[0])}: " not in found[1])
+        elif found:
+            self.page = None
+        return found
 
     def compare(self, checks):
         """Checks that the page says of each file what record-office-look does."""
-        look_texts.play_in_page(checks, self.browser.page(SIGNED_IN), self.office.staff, self.wanted)
+        look_texts.play_in_page(checks, self.page, self.office.staff, self.told)
 
     def end(self):
         """Ends the browser and the office."""
@@ -408,10 +453,10 @@ class Units:
         """Nothing was started."""
 
 
-KINDS = {"services": Units, "texts": Texts, "approved": Approved, "alone": Alone, "pages": Pages, "looks": Looks,
-         "readers": Readers, "servers": Servers, "fronts": Fronts}
+KINDS = {"services": Units, "texts": Texts, "approved": Approved, "enhanced": enhanced, "styles": styles, "alone": Alone,
+         "pages": Pages, "looks": Looks, "readers": Readers, "servers": Servers, "fronts": Fronts}
 
-BESIDES = {"texts", "approved"}
+BESIDES = {"texts", "approved", "enhanced", "styles"}
 
 
 class Worker:
@@ -451,7 +496,7 @@ class Worker:
         """Plants a fault, and plays parts. What failed after a wait, or before anything was compared, is played again
         without the fault: raises Unsure if that fails too."""
         player = self.player_of(kind)
-        if kind == "approved":
+        if hasattr(player, "prepare"):
             player.prepare(parts)
         found = self.planted(player, fault, parts)
         if fault and found and kind != "texts" and ("not within" in found[1] or "broke off" in found[1]):

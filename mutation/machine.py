@@ -61,10 +61,15 @@ GROUPS = {group: [f"{group}:{name}" for name in names.split()] for group, names 
     "refusals": "words rest",
     "journeys": "desk phone several_boxes collected refused_orders series tree contents_first without_container deep_unit "
                 "long_aid",
+    "enhanced": "every_page filters contents large_aid orders boxes collected lists refused keyboard",
     "search_pages": "box results more filters odd_texts phone ordering away",
     "translations": "catalogs choice words alone both_ways without_scripts unkeyed way_de",
     "desk": "today counter container readers card orders runs out units import differences old shell languages "
-                "many",
+                "many "
+                "room_counter room_prints room_slips room_queue room_cards "
+                "texts speech ways elements answers clicks going "
+                "file_drafts file_seen file_readers file_permits file_french file_lists file_cards file_old file_pages",
+    "styles": "readers desk",
     "access": "archives fonds order text_from_right_to_left closed finding_aid file changed help not_found list_of_orders "
               "found nothing_found today counter container label readers card ticket orders runs slip call_slips out units "
               "unit question held wrong_scan old_orders import differences signed_out"}.items()}
@@ -93,9 +98,10 @@ FOR_FILES = [(begin, names.split()) for begin, names in (
                  "search access:readers rules:heads translations:choice translations:words translations:alone "
                  "translations:way_de"),
     ("try/", "tries"), ("look/", "looks:approved looks:shell tries"), ("desk/look/", "looks first_year refusals:rest"),
-    ("desk/desk.css", "access:desk paper tickets translations:phone_de"),
-    ("public/public.css", "access:readers visit:hostile journeys"),
-    ("shared/base.css", "access paper visit:hostile journeys"),
+    ("desk/desk.css", "styles:desk access:desk paper tickets translations:phone_de"),
+    ("public/public.css", "styles:readers access:readers visit:hostile journeys"),
+    ("shared/base.css", "styles access paper visit:hostile journeys"),
+    ("public/enhance", "enhanced journeys visit search_pages access:readers translations:way_de"),
     ("public/", "journeys visit search_pages access:readers translations:way_de"),
     ("", "translations:catalogs day first_year refusals:rest neighbours registers:old_orders tries:page paper tickets "
          "access:desk translations:unkeyed translations:way_de"))]

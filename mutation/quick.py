@@ -36,7 +36,7 @@ RULES = [f"rules:{name}" for name in ("heads readers_limits own_answers staffs_l
 UNSCRIPTED = [f"unscripted:{name}" for name in ("units fonds aids lines languages statuses found_by_others contents level "
                                                 "orders collected questions large vanishing").split()]
 GOING_ON = {"looks", "readers", "servers"}  # kinds whose office is tried without a fault
-CERTAIN = {machine.NOTHING, "translations", "approved", "desk"}  # what these say of a fault needs no such trial
+CERTAIN = {machine.NOTHING, "translations", "approved", "desk", "enhanced", "styles"}  # what these say needs no such trial
 TRANSLATED = re.compile(r"readers/.*[.](py|html)$|(desk|shared)/.*[.](js|html)$")  # files with texts of the catalogs
 KINDS = ("services", "fronts", "servers", "readers", "alone", "looks", "pages", "")  # in the order in which they are played
 # For a file how it is played: the first that fits. Of other files nothing is quick.
@@ -48,63 +48,67 @@ HOW = [(begin, kind, parts) for begin, kind, parts in (
         ("offers", "tables readers"), ("answers", "tables readers"), ("index", "tables readers"),
         ("service", "inside tables readers"),
         ("texts", "inside readers tables"), ("orders", "inside readers"), ("aids", "inside readers"),
-        ("languages", "inside readers"), ("", "readers"))),
+        ("languages", "inside readers"), ("layouts", "inside readers"), ("", "readers"))),
     ("server/strangers", "fronts", ["limits:numbers"]), ("server/", "fronts", ["servers:approved"]))]
 
 
-# Of scripts: the parts of approved_desk.py that are played first.
+# Of sheets: the parts of approved_styles.py, which are played first.
+STYLES = {"desk/desk.css": ["styles:desk"], "public/public.css": ["styles:readers"],
+          "shared/base.css": ["styles:readers", "styles:desk"]}
+# Of scripts: the parts of approved_desk.py or approved_enhance.py that are played first.
 APPROVED = {file: [f"desk:{part}" for part in parts.split(",")] for file, parts in (line.split() for line in """\
-desk/barcode.js container,runs
-desk/card.js card
-desk/codes.js runs,many
-desk/container.js container
-desk/counter.js counter,many
-desk/days.js today,card,orders,old,many
-desk/differences.js differences
-desk/drafts.js import,many
-desk/import.js import,many
-desk/newest_unit.js import,many
-desk/night_copy.js import,differences
+desk/barcode.js room_prints
+desk/card.js card,room_cards
+desk/codes.js room_slips,runs,many
+desk/container.js container,room_cards
+desk/counter.js room_counter,counter,many
+desk/days.js room_queue,today,card,orders,old,many
+desk/differences.js differences,file_lists
+desk/drafts.js import,file_drafts,file_french,many
+desk/import.js import,differences,file_drafts,file_french,many
+desk/newest_unit.js import,file_drafts,many
+desk/night_copy.js import,differences,file_drafts
 desk/night_lists.js old
-desk/old.js old
-desk/same_boxes.js import,many
-desk/seen.js import
+desk/old.js old,file_old
+desk/same_boxes.js import,file_drafts,many
+desk/seen.js import,file_seen
 desk/kept.js orders,shell,many
-desk/looks.js counter,container,card,today,readers,runs,units,orders,import,old,many
-desk/main.js shell,languages,today,runs
-desk/names.js readers,card,container,orders,many
+desk/looks.js room_counter,room_cards,counter,container,card,today,readers,runs,units,orders,import,old,many
+desk/main.js file_pages,shell,languages,today,runs
+desk/names.js readers,card,container,room_cards,room_prints,orders,many
 desk/orders.js orders
-desk/out.js out
-desk/pace.js orders,units,readers,many
-desk/parts.js card,counter,runs,units,import
-desk/permits.js units,many
-desk/prints.js runs,container,card
-desk/reader_at_counter.js counter
-desk/readers.js readers,many
-desk/red.js today
-desk/removal.js units,many
-desk/runs.js runs,many
-desk/scans.js counter,container
-desk/slip.js runs
+desk/out.js out,room_slips
+desk/pace.js orders,units,readers,file_readers,file_permits,many
+desk/parts.js room_counter,room_cards,card,counter,runs,units,import
+desk/permits.js units,file_permits,many
+desk/prints.js room_prints,runs,container,card
+desk/reader_at_counter.js room_counter,counter
+desk/readers.js readers,file_readers,file_lists,many,file_cards
+desk/red.js room_cards,today
+desk/removal.js units,file_lists,many
+desk/runs.js room_slips,runs,many
+desk/scans.js counter,container,room_counter
+desk/slip.js room_slips,runs
 desk/sure.js today,units,old
-desk/today.js today
-desk/units.js units
-desk/waiting.js orders,many,runs
-shared/asking.js readers,orders,runs,units,many
-shared/dom.js container,today,units,runs,import
-shared/fields.js today,readers,units,counter,import,old
-shared/folding.js readers
-shared/form.js counter,shell,today,container
-shared/heads.js units
-shared/held.js today,shell
-shared/language.js languages,today,units,differences
-shared/limits.js readers,import
-shared/numbers.js readers,counter
-shared/refusals.js counter,shell,card,runs,import,readers
-shared/router.js shell,today
-shared/routes.js counter,card,readers,units,runs,shell,out,today,import
-shared/texts.js runs,units
+desk/today.js today,file_lists
+desk/units.js units,file_lists
+desk/waiting.js room_queue,orders,many,runs
+shared/asking.js ways,readers,orders,runs,units,many
+shared/dom.js elements,container,today,units,runs,import
+shared/fields.js elements,answers,today,readers,units,counter,import,old
+shared/folding.js texts,readers
+shared/form.js answers,clicks,counter,shell,today,container
+shared/heads.js texts,units
+shared/held.js ways,answers,today,shell
+shared/language.js speech,languages,today,units,differences
+shared/limits.js texts,readers,import
+shared/numbers.js texts,readers,counter
+shared/refusals.js texts,counter,shell,card,runs,import,readers
+shared/router.js going,shell,today
+shared/routes.js ways,counter,card,readers,units,runs,shell,out,today,import
+shared/texts.js texts,runs,units
 """.splitlines())}
+APPROVED["public/enhance.js"] = machine.GROUPS["enhanced"]
 # Of scripts whose places nobody has looked for (--covered): the parts that use a file most.
 PARTS_OF_SCRIPTS = {file: parts for file, *parts in map(str.split, """\
 desk/barcode.js first_year:slips paper
@@ -272,7 +276,9 @@ class Playing:
         begun = time.monotonic()
         try:
             found = worker.play("texts", fault, []) if TRANSLATED.match(fault.file) else None
-            found = found or (worker.play("approved", fault, APPROVED[fault.file]) if fault.file in APPROVED else None)
+            shown = "enhanced" if fault.file.startswith("public/") else "approved"
+            found = found or (worker.play(shown, fault, APPROVED[fault.file]) if fault.file in APPROVED else None)
+            found = found or (worker.play("styles", fault, STYLES[fault.file]) if fault.file in STYLES else None)
             found = found or (worker.play(kind, fault, parts) if parts else None)
         except trials.Late as late:
             print(f"{fault.fault}: NOT PLAYED: {late}", flush=True)
@@ -311,7 +317,7 @@ def main():
     words = machine.words_of_line()
     words.description = __doc__
     words.add_argument("--names", type=pathlib.Path, metavar="FILE", help="the names of the only faults that are played")
-    words.add_argument("--first", action="store_true", help="by texts and approved pages alone")
+    words.add_argument("--first", action="store_true", help="by texts, approved pages and styles alone")
     words.add_argument("--told", type=pathlib.Path, metavar="FILE", help="gets what came of each")
     given, faults, lock = words.parse_args(), made.all_faults(), threading.Lock()
     chosen = machine.choose(given, faults)
