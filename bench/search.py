@@ -10,6 +10,7 @@ one. With --rest 0, rounds ask without a pause."""
 import concurrent.futures
 import contextlib
 import http.client
+import itertools
 import json
 import multiprocessing
 import random
@@ -165,34 +166,43 @@ def questions(office, db, units):
 
 
 def search(office, turns, address, typed):
-    """How long a search takes, from the moment at which it is asked for."""
+    """How long a search takes, from the moment at which it is asked for; also one whose turn does not come in time."""
     began, query = time.perf_counter(), Query(read_typed(typed, LANGUAGE))
-    with (turns.turn(address, costly=is_costly(query.phrases)) as is_awaited,
-          contextlib.closing(index.open_index(office.index)) as db):
-        Finder(db, Asking(office.queue), query, is_awaited=is_awaited).find()
+    with contextlib.suppress(Late):
+        with (turns.turn(address, costly=is_costly(query.phrases)) as is_awaited,
+              contextlib.closing(index.open_index(office.index)) as db):
+            Finder(db, Asking(office.queue), query, is_awaited=is_awaited).find()
     return time.perf_counter() - began
 
 
-def crowd(office, units):
-    """Prints how long eight readers' searches take while somebody asks the worst question without a pause."""
+def crowd(office, units, pause):
+    """Prints a row: how long eight readers' searches take while somebody asks the worst question without a pause, if each
+    asks again so many seconds after an answer."""
     turns, over, chance = Turns(), threading.Event(), random.Random(3)
 
     def worst():
         """Asks it again and again."""
         while not over.is_set():
-            with contextlib.suppress(Late):
-                search(office, turns, "192.0.2.1", WORST)
+            search(office, turns, "192.0.2.1", WORST)
+
+    def reader(number):
+        """How long each of twenty searches of a reader takes, of which every second is for a rare word."""
+        took = []
+        for n in range(20):
+            time.sleep(pause * chance.uniform(.5, 1.5))
+            typed = rare(chance.randrange(units)) if n % 2 else WORDS[n * 2 % 40]
+            took.append(search(office, turns, f"192.0.2.{number}", typed))
+        return took
     strangers = [threading.Thread(target=worst) for _ in range(4)]
     for stranger in strangers:
         stranger.start()
     with concurrent.futures.ThreadPoolExecutor(8) as readers:
-        asked = [rare(chance.randrange(units)) if n % 2 else WORDS[n % 40] for n in range(160)]
-        times = sorted(readers.map(lambda n: search(office, turns, f"192.0.2.{2 + n % 8}", asked[n]), range(160)))
+        times = sorted(itertools.chain.from_iterable(readers.map(reader, range(2, 10))))
     over.set()
     for stranger in strangers:
         stranger.join()
     told = " / ".join(f"{times[int(len(times) * part)] * 1000:.0f}" for part in (.5, .95, .99))
-    print(f"\neight readers beside the worst question, ms: p50 / p95 / p99: {told}")
+    print(f"| {f'each {pause} s after an answer' if pause else 'without a pause'} | {told} |", flush=True)
 
 
 def measure(given, office):
@@ -207,7 +217,9 @@ def measure(given, office):
         print(f"{given.units} units in fonds of {given.fonds}; one aid: {aid(Asking(office.queue), 1)}")
         rounds(office, ask, db, given.units)
         questions(office, db, given.units)
-        crowd(office, given.units)
+        print("\n| eight readers beside the worst question, ms: p50 / p95 / p99 | |\n|---|---|")
+        for pause in (0, 1):
+            crowd(office, given.units, pause)
 
 
 def main():
