@@ -2,7 +2,8 @@
 use Rattle.std.proofs.Common.{◌≡◌, ◌∙◌, ℕ, zero, suc, ◌+◌, ◌<◌, ◌≤◌, Bool, true, false, List, [], ◌∷◌, length, map}
 use Rattle.std.proofs.Common.{take, get_or, refl, sym, ap, subst, arith}
 use Rattle.std.specs.Prelude.{◌&&◌}
-use Rattle.access.proofs.Common.{Mark, get_or-map, length-map, list_all}
+use Rattle.sqlite_trees.proofs.ListLemmas.{all-get_or}
+use Rattle.access.proofs.Common.{AllByRecursion, Mark, get_or-map, length-map, list_all}
 
 -- ---- one more of those that pass
 
@@ -41,12 +42,18 @@ all_of p (x ∷ xs) (suc i) high so = at (p x) so (all_of p xs i (omega (arith, 
 
 -- ---- the units of rows
 
-module _ (p : ℕ → Bool) (rows : List Mark) (i : ℕ) (d : Mark) (low : i < length rows) (answer : Bool) (here : answer ≡ p (get_or rows i d).id) where
+-- what is so of all rows is so of one of them
+pub so_of_one : (P : Mark → Type 0) (rows : List Mark) (i : ℕ) (one : Mark) → one ≡ get_or rows i one
+    → AllByRecursion P rows → i < length rows → P one
+so_of_one P rows i one is all low = subst P (sym is) (all-get_or P rows i one all low)
+
+module _ (p : ℕ → Bool) (rows : List Mark) (i : ℕ) (one : Mark) (is : one ≡ get_or rows i one) (low : i < length rows)
+    (answer : Bool) (here : answer ≡ p one.id) where
   abbrev ids : List ℕ
   ids = map (λ (row : Mark). row.id) rows
 
   at : answer ≡ p (get_or ids i 0)
-  at = here ∙ ap p (sym (get_or-map (λ (row : Mark). row.id) rows i d 0 low))
+  at = here ∙ ap (λ (row : Mark). p row.id) is ∙ ap p (sym (get_or-map (λ (row : Mark). row.id) rows i one 0 low))
 
   pub more_clean : answer ≡ true → list_all p (take i ids) ≡ true → list_all p (take (i + 1) ids) ≡ true
   more_clean held so_far =

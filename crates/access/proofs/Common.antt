@@ -21,7 +21,6 @@ pub use Rattle.std.specs.Prelude.{option_to_list, slice_get, slice_index_or, ⊤
 pub use Rattle.sqlite.specs.Held.{Held, state}
 pub use Rattle.sqlite.specs.State.{HasCleanDisk}
 pub use Rattle.sqlite.specs.Tree.{Trees}
-pub use Rattle.sqlite_trees.proofs.ListLemmas.{all-get_or}
 pub use Rattle.isad_core.specs.Boxes.{distinct, is_same_box}
 pub use Rattle.isad_core.specs.declared.values.BoxKey.{BoxKey}
 pub use Rattle.tree_core.proofs.EachLemmas.{branch-each, cut-each, has-each, path-each}
@@ -41,7 +40,6 @@ pub use Rattle.catalogue_core.specs.OpenMarks.{with_permit}
 pub use Rattle.catalogue_core.specs.UnitLookup.{has_unit}
 pub use Rattle.catalogue_core.specs.UnitMarks.{AreMarks, mark_of, names_container, without_number}
 pub use Rattle.catalogue_core.specs.Units.{Unit, has_id, is_later, is_unit_closed}
-pub use Rattle.office_tables.proofs.CallEnds.{excused_then, same_fault, tells_not}
 pub use Rattle.office_tables.proofs.Calls.{cut_after, cut_then, early, goes_then, looks_nowhere, looks_then}
 pub use Rattle.office_tables.proofs.Calls.{on_err_then, on_ok_then}
 pub use Rattle.office_tables.proofs.LookUps.{looks_full, looks_passed_later, looks_well}

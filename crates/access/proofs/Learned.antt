@@ -6,6 +6,7 @@ use Rattle.sqlite.specs.State.{State}
 use Rattle.sqlite_trees.specs.declared.store.Store as store
 use Rattle.desk_core.specs.DeskRows.{Desk}
 use Rattle.catalogue_core.specs.Bounds.{IsBounded, IsKept}
+use Rattle.office_tables.proofs.CallEnds.{excused_then, same_fault}
 use Rattle.office_tables.proofs.CallEnds as calls
 use Rattle.office_tables.proofs.Sparing.{spares_full}
 use Rattle.office_tables.proofs.StoreCalls as store_calls
@@ -21,9 +22,8 @@ use Rattle.refinement.proofs.Tellings.{looked_crash}
 use Rattle.refinement.specs.Representation.{office_of}
 use Rattle.access.proofs.Common.{CanBeJudged, Catalogue, Forest, HasCleanDisk, Held, HousingRow, IsAborted, IsErr}
 use Rattle.access.proofs.Common.{IsErrAnd, LeavesUnchanged, Represents, RepresentsHousings, RepresentsWhole, StoreFault}
-use Rattle.access.proofs.Common.{Trees, Unit, Version, cut_after, cut_then, each, early, excused_then, housing_row}
-use Rattle.access.proofs.Common.{looks_nowhere, looks_passed_later, looks_then, looks_well, on_err_then, on_ok_then}
-use Rattle.access.proofs.Common.{same_fault, state, tables, ⊤}
+use Rattle.access.proofs.Common.{Trees, Unit, Version, cut_after, cut_then, each, early, housing_row, looks_nowhere}
+use Rattle.access.proofs.Common.{looks_passed_later, looks_then, looks_well, on_err_then, on_ok_then, state, tables, ⊤}
 
 -- the steps changed nothing, and this is known of the model that the tables show
 pub record Learned {Stays Model : Type 0} (represents : Database → Stays → Model → Type 0) (a b : State) (fact : Stays → Model → Type 0) : Type 0 where

@@ -25,11 +25,12 @@ all_here p (u ∷ us) zero low all = (and_parts (p u) (list_all p us) all).0
 all_here p (u ∷ us) (suc i) low all = all_here p us i (omega (arith, low)) (and_parts (p u) (list_all p us) all).1
 
 -- the unit of one of these rows is known
-pub known_here : (known : BTreeMap ℕ (Option Attached)) (rows : List Mark) (i : ℕ) (d : Mark) → i < length rows
-    → are_known known rows ≡ true → is_unit_known known (get_or rows i d).id ≡ true
-known_here known rows i d low all =
+pub known_here : (known : BTreeMap ℕ (Option Attached)) (rows : List Mark) (i : ℕ) (one : Mark)
+    → one ≡ get_or rows i one → i < length rows → are_known known rows ≡ true → is_unit_known known one.id ≡ true
+known_here known rows i one is low all =
     let ids = map (λ (row : Mark). row.id) rows in
-    ap (is_unit_known known) (sym (get_or-map (λ (row : Mark). row.id) rows i d 0 low))
+    ap (λ (row : Mark). is_unit_known known row.id) is
+    ∙ ap (is_unit_known known) (sym (get_or-map (λ (row : Mark). row.id) rows i one 0 low))
     ∙ all_here (is_unit_known known) ids i (omega (arith, low, length-map rows (λ (row : Mark). row.id))) all
 
 -- nothing is told of what is not known

@@ -18,9 +18,9 @@ use crate::gate::first_closed;
 use crate::housed_units::{HousedUnit, containers_of_each, first_withheld, housed_unit, is_among};
 use catalogue_store::Places;
 use desk_store::{ContainerOrder, issued};
-use isad_core::Day;
+use isad_core::{Day, Number};
 use office_core::{Done, Refusal};
-use office_tables::{Number, StoreFault, Tables};
+use office_tables::{StoreFault, Tables};
 use sqlite::Alter;
 use std::alloc::{AllocError, Global};
 

@@ -13,7 +13,8 @@ use crate::housed_units::{HousedUnit, is_among};
 use catalogue_statements::containers::housed_in;
 use catalogue_store::Places;
 use desk_store::ContainerOrder;
-use office_tables::{Number, StoreFault, Tables};
+use isad_core::Number;
+use office_tables::{StoreFault, Tables};
 use sqlite::Alter;
 use std::alloc::{AllocError, Global};
 

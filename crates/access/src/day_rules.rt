@@ -19,7 +19,7 @@ ghost use Rattle.refinement.specs.AccessConditions.{CanBeJudged, RepresentsWhole
 use crate::gate::first_closed;
 use catalogue_store::Places;
 use desk_store::{ContainerOrder, TakenSeat, issued, seats};
-use isad_core::Day;
+use isad_core::{Day, Number};
 use office_tables::{StoreFault, Tables, Versioned};
 use sqlite::Alter;
 use std::alloc::{AllocError, Global};
@@ -59,7 +59,7 @@ fn are_too_many(alloc: Global, loans: &[ContainerOrder], hands: u32) -> Result<b
 }
 
 /// Whether a ticket has one of these seats. There are no more of them than seats in an office.
-fn has_seat(taken: &[TakenSeat], ticket: u64) -> bool
+fn has_seat(taken: &[TakenSeat], ticket: Number) -> bool
     ensures { result ≡ list_any (λ (seat : Taken). nat_eq ticket seat.ticket) taken.now }
 {
     taken.iter().any(|seat| ticket == seat.ticket)
@@ -70,7 +70,7 @@ fn lacks_seat(loans: &[ContainerOrder], taken: &[TakenSeat]) -> bool
     ensures { result ≡ list_any (λ (loan : Lent). not (list_any
         (λ (seat : Taken). nat_eq loan.ticket seat.ticket) taken.now)) loans.now }
 {
-    loans.iter().any(|loan| !has_seat(taken, loan.ticket.get()))
+    loans.iter().any(|loan| !has_seat(taken, loan.ticket))
 }
 
 /// Whether a reader who has one of these containers has no seat.

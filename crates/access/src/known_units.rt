@@ -25,8 +25,8 @@ ghost use Rattle.access.specs.Openness.{AreTheirs, allows, are_clean_for};
 use crate::openness::is_clean;
 use catalogue_store::{Attached, Places};
 use desk_store::{Permit, permits};
-use isad_core::Day;
-use office_tables::{Number, StoreFault, Tables};
+use isad_core::{Day, Number};
+use office_tables::{StoreFault, Tables};
 use sqlite::Alter;
 use std::alloc::{AllocError, Global};
 use std::collections::BTreeMap;
@@ -34,7 +34,7 @@ use visibility::Mark;
 
 /// Of each unit that is known, by its number: its marks, if it is withheld from a reader without permits, or none, if
 /// it is open to everybody.
-pub type KnownUnits = BTreeMap<u64, Option<Attached>>;
+pub type KnownUnits = BTreeMap<Number, Option<Attached>>;
 
 /// What is to be known of a unit with these marks.
 fn told_of(alloc: Global, marks: Attached, today: Day) -> Result<Option<Attached>, AllocError>
@@ -96,7 +96,7 @@ fn is_opened(
 fn is_unit_open(
     alloc: Global,
     known: &KnownUnits,
-    unit: u64,
+    unit: Number,
     permits: &[Permit],
     today: Day,
 ) -> Result<bool, AllocError>

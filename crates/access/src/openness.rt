@@ -17,8 +17,8 @@ ghost use Rattle.access.specs.Openness.{AreTheirs, TellsClean, allows, are_clean
 
 use catalogue_store::{Attached, Places, attached_marks};
 use desk_store::{Permit, permits};
-use isad_core::Day;
-use office_tables::{Number, StoreFault, Tables};
+use isad_core::{Day, Number};
+use office_tables::{StoreFault, Tables};
 use sqlite::Alter;
 use std::alloc::{AllocError, Global};
 use visibility::{Mark, clean_contents, clean_path, has_permit};
@@ -35,7 +35,7 @@ pub fn is_closed(until: Option<Day>, today: Day) -> bool
 }
 
 /// Whether one of these permits is for the unit and valid on this day.
-fn is_permitted(permits: &[Permit], unit: u64, today: Day) -> bool
+fn is_permitted(permits: &[Permit], unit: Number, today: Day) -> bool
     ensures { result ≡ allows today permits.now unit }
 {
     permits.iter().any(|permit| permit.unit == unit && today.number() <= permit.until.number())

@@ -19,7 +19,7 @@ pub use Rattle.sqlite.specs.Table.{Table}
 pub use Rattle.sqlite.specs.Tree.{IsAscending, IsTable, Trees, rowid}
 pub use Rattle.sqlite.specs.declared.types.Value.{Value}
 pub use Rattle.sqlite.specs.declared.types.Value.TheVariants.{Blob, Int, Null, Real, Text}
-pub use Rattle.sqlite_schema.specs.Rules.{Obeys, agree, are_typed, clashes, guards, has_computed}
+pub use Rattle.sqlite_schema.specs.Rules.{Obeys, agree, are_typed, clashes, guards, has_computed, passes}
 pub use Rattle.sqlite_schema.specs.declared.schema.Constraint.TheVariants.{Datatype, Unique}
 pub use Rattle.sqlite_trees.proofs.ListLemmas.{IsPermutation-filter, all_both, all_weaker, filter_all, filter_none}
 pub use Rattle.sqlite_trees.proofs.ListLemmas.{map-map}

@@ -9,6 +9,7 @@ ghost use Rattle.adoption.specs.DeskCheck.{DeskChecksTellTheCause};
 
 /// For tables with any cells whose office row is in order, the catalogue's check returns the first of the causes 1 to 5
 /// that holds.
+#[tactic(auto, using(crate::proofs::CauseLemmas::catalogue_told))]
 pub fn catalogue_checks_tell_the_cause()
     ensures { (version : Version) (db : Trees) → CatalogueChecksTellTheCause version db }
 {}

@@ -20,6 +20,7 @@ pub fn catalogue_rows_represent_the_catalogue<P: CheckedPlaces>()
 
 /// Tables of a live connection that stand in order and have none of the causes 1 to 9 also represent the desk of their
 /// rows. These rows have their keys.
+#[tactic(auto, using(crate::proofs::desk::DeskTables::desk_shown))]
 pub fn desk_rows_represent_the_desk()
     ensures { (version : Version) (db : Database) → RowsRepresentTheDesk version db }
 {}

@@ -8,8 +8,8 @@ ghost use Rattle.office_tables.specs.Schema.{schema};
 use crate::schema_comparison::Same;
 use catalogue_store::{OfficeRow, Places, create};
 use desk_store::create_desk;
-use isad_core::{Day, Text};
-use office_tables::{Number, StoreFault, begin};
+use isad_core::{Day, Number, Text};
+use office_tables::{StoreFault, begin};
 use sqlite::{Alter, Connection, MemStore};
 use std::alloc::Global;
 

@@ -23,6 +23,7 @@ use std::marker::PhantomData;
 
 /// The least of the desk's causes and the rules of the day that holds, or none. Assumes that none of the catalogue's
 /// causes holds.
+#[tactic(auto, using(crate::proofs::JudgmentEnds::passes, crate::proofs::JudgmentEnds::as_judged))]
 fn desk_cause<P: CheckedPlaces, S: Alter>(
     alloc: Global,
     tables: &mut Tables<P, S>,
@@ -42,6 +43,7 @@ fn desk_cause<P: CheckedPlaces, S: Alter>(
 }
 
 /// The least of the ten causes that holds for the rows, or none.
+#[tactic(auto, using(crate::proofs::JudgmentEnds::passes))]
 fn least_cause<P: CheckedPlaces, S: Alter>(
     alloc: Global,
     tables: &mut Tables<P, S>,
@@ -79,6 +81,7 @@ fn cause_inside<P: CheckedPlaces, S: Alter>(
 /// Judges what the tables are, inside a transaction, as those of an office of this version. Reads all of them, unless
 /// the verdict is found before, and changes nothing. If their rows do not stand in order, with ascending whole numbers,
 /// `Sound` and `Unsound` say only that the tables are this product's.
+#[tactic(auto, using(crate::proofs::JudgmentEnds::passes, crate::proofs::JudgmentEnds::is_full))]
 pub fn judge<P: CheckedPlaces, S: Alter>(
     alloc: Global,
     conn: &mut Connection<S>,

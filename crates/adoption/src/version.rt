@@ -45,6 +45,7 @@ fn other_version(own: u64, told: Option<u64>) -> Option<Verdict>
 /// The verdict on the tables by their version: `OldVersion` or `NewVersion` if it is another of ours than was expected,
 /// and `NoOffice` if the table `office` cannot be read or does not have exactly one row. None if the version is the
 /// expected one, or none of ours.
+#[tactic(auto, using(crate::proofs::JudgmentEnds::passes))]
 pub(crate) fn judge_version<P: Places, S: Alter>(
     conn: &mut Connection<S>,
 ) -> Result<Option<Verdict>, StoreFault>

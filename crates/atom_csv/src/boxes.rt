@@ -84,8 +84,8 @@ impl<'a> Kept<'a> {
     }
 }
 
-/// The containers of three columns: entry i of each column belongs to container i. A blank name makes
-/// no container, and each container counts once.
+/// The containers of three columns: entry i of each column belongs to container i. A blank name makes no container, a
+/// location or kind that is missing is empty, and each container counts once, at its first place.
 pub fn boxes<'a>(
     alloc: Global,
     names: &'a str,

@@ -21,9 +21,9 @@ pub enum Cause {
     Repeated,
     /// The parent is named only by a slug.
     Slug,
-    /// Too many rows come before it.
+    /// Its number is above 20001, where the header is row 1: a file may have 20000 rows below its header.
     TooManyRows,
-    /// A field that is read is too long.
+    /// A field that is read has more than 65535 bytes.
     TooLong,
     /// Its parent exists neither in the office nor in a row above it. `read_file` does not ask this.
     NoParent,
@@ -32,7 +32,7 @@ pub enum Cause {
 }
 
 impl Cause {
-    /// Its number, from 1 to 12.
+    /// Its number, from 1 to 12, in the order of the variants.
     pub fn number(self) -> u8
         ensures { result ≡ cause_number self }
     {

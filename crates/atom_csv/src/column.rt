@@ -96,7 +96,7 @@ impl Column {
         ]
     }
 
-    /// Its name in the header.
+    /// Its name in the header. Case matters.
     pub fn name(self) -> &'static str
         ensures { result.now ≡ column_name self }
     {
@@ -139,7 +139,7 @@ impl Column {
         }
     }
 
-    /// Whether it contains several entries, separated by bars.
+    /// Whether it may contain several entries, separated by bars. The other columns contain one text.
     pub fn is_split(self) -> bool
         ensures { result ≡ is_split self }
     {

@@ -13,7 +13,7 @@ pub struct Row {
     pub legacy: Text,
     /// The legacyId of its parent, if it names one.
     pub parent: Option<Text>,
-    /// Whether it is published. A row that does not say so is a draft.
+    /// Whether its `publicationStatus` is `Published`, in any ASCII case. Any other row is a draft.
     pub published: bool,
     /// The values of the description.
     pub values: Values,

@@ -81,8 +81,8 @@ fn is_long(header: &Header, row: &StringRecord) -> bool
 }
 
 impl Findings {
-    /// What is found in the record of this row. `stood` is the culture of the first row with its
-    /// legacyId, if there is one.
+    /// What is found in the record of this row. `stood` is the culture of the first row above with its legacyId, if
+    /// there is one. `number` is the row's number; the header is row 1.
     pub fn of(header: &Header, row: &StringRecord, stood: Option<&Text>, number: u32) -> Findings
         ensures { result ≡ findings header.now (trimmed_fields row.now) (option_map (λ t. t.now) stood.entry) number }
     {
@@ -98,7 +98,8 @@ impl Findings {
         }
     }
 
-    /// The lowest cause, if any.
+    /// The lowest cause for which the row is refused, if any. A blank row can only be refused for its number, and a
+    /// translation only for its number or its count of fields.
     pub fn lowest(self) -> Option<Cause>
         ensures lowest { result ≡ lowest (causes_of self) }
         ensures late { IfNone result (self.is_late ≡ false) }

@@ -96,7 +96,7 @@ impl<'a> Model for Header<'a> {
 }
 
 impl<'a> Header<'a> {
-    /// The header in a record.
+    /// The header in a record. Its names are without white space at their ends.
     pub fn of(alloc: Global, row: &'a StringRecord) -> Result<Header<'a>, AllocError>
         ensures { IfOk result (λ h. h ≡ trimmed_fields row.now) }
     {
@@ -105,7 +105,8 @@ impl<'a> Header<'a> {
         Ok(Header { names, places })
     }
 
-    /// The lowest cause in the header for which the file is refused, if any.
+    /// The lowest cause in the header for which the file is refused, if any: there is no `legacyId`, or a column that
+    /// is read occurs twice.
     pub fn cause(&self) -> Option<Cause>
         ensures { result ≡ lowest (header_causes self.now) }
     {
@@ -119,14 +120,15 @@ impl<'a> Header<'a> {
         None
     }
 
-    /// The field of a record in a column, without white space at its ends; empty if there is none.
+    /// The field of a record in a column, without white space at its ends; empty if the header lacks the column, or the
+    /// record the field.
     pub fn value<'r>(&self, column: Column, row: &'r StringRecord) -> &'r str
         ensures { result.now ≡ spec.value column self.now (trimmed_fields row.now) }
     {
         field_at(row, self.places[column as usize])
     }
 
-    /// The number of columns.
+    /// The number of columns, also of those that are not read.
     pub fn width(&self) -> usize
         ensures { result ≡ length self.now }
     {

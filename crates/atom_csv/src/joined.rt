@@ -48,7 +48,8 @@ fn add_told(text: &mut String, column: Column, value: &str) -> Result<(), AllocE
     }
 }
 
-/// The text of an element: the non-blank entries of its columns, in their order, joined.
+/// The text of an element: the non-blank entries of its columns, in their order, joined with `; `. A column that is not
+/// split is one entry. The text is empty if there are none.
 pub fn join_entries(
     alloc: Global,
     header: &Header,

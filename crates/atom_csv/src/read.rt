@@ -56,7 +56,8 @@ fn of_text(alloc: Global, text: &str) -> Result<File, FileFault>
 
 /// Reads AtoM's archival description CSV, in UTF-8, with or without a byte order mark.
 ///
-/// If the file is faulty, the error has the first row with a cause, and its lowest cause.
+/// If the file is faulty, the error has the first row with a cause, and its lowest cause. Row 0 is the whole file, and
+/// row 1 its header. Whether the parents exist, and how deep the rows lie, is not asked here.
 pub fn read_file(alloc: Global, bytes: &[u8]) -> Result<File, FileFault>
     // If it returns a file, it is the one that the bytes encode.
     ensures rows { IfOk result (λ f. file_of bytes.now ≡ Ok f) }

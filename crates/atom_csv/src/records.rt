@@ -8,7 +8,7 @@ ghost use Rattle.atom_csv.specs.Source.{IsReading, rows_left};
 use csv::{ErrorKind, Reader, ReaderBuilder, StringRecord};
 use std::alloc::{AllocError, Global};
 
-/// A reader of the records of a text, including the header. It skips one byte order mark.
+/// A reader of the records of a text, including the header. It skips one byte order mark. Records may differ in length.
 pub fn reader<'a>(alloc: Global, text: &'a str) -> Reader<&'a [u8]>
     ensures reading { IsReading result }
     ensures all { rows_left result ≡ csv_spec.records default_config (strip_bom text.now) }
@@ -19,7 +19,8 @@ pub fn reader<'a>(alloc: Global, text: &'a str) -> Reader<&'a [u8]>
         .from_reader(alloc, text.as_bytes())
 }
 
-/// Reads the next record into `row`, and returns whether there was one.
+/// Reads the next record into `row`, and returns whether there was one. If there was none, the contract does not say
+/// what `row` has.
 pub fn take_record(reader: &mut Reader<&[u8]>, row: &mut StringRecord) -> Result<bool, AllocError>
     requires { IsReading reader.old }
     ensures reading { IfOk result (λ found. found ≡ true → IsReading reader.new) }

@@ -110,8 +110,9 @@ impl Rows {
         }
     }
 
-    /// Adds the next record, which has this row number. If the record has a cause, returns the lowest
-    /// one.
+    /// Adds the next record, which has this row number: one more than that of the record before it, and 2 for the first
+    /// below the header. If the record has a cause, returns its row and the lowest one. After an error the contract
+    /// does not say what is kept.
     pub fn add(
         &mut self,
         alloc: Global,

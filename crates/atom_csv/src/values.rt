@@ -47,7 +47,8 @@ fn texts(
     Ok(texts)
 }
 
-/// The values of the description in a record.
+/// The values of the description in a record: its level, which may be empty, the text of each other element, or none if
+/// it is empty, and the containers.
 pub fn values(alloc: Global, header: &Header, row: &StringRecord) -> Result<Values, AllocError>
     ensures { IfOk result (λ v. v ≡ values_of header.now (trimmed_fields row.now)) }
 {

@@ -11,9 +11,9 @@ ghost use Rattle.access.specs.Gate.{AreAsked};
 use access::{loans_near, pass_gate_with};
 use catalogue_store::{Places, is_unit, remove_branch};
 use desk_store::ContainerOrder;
-use isad_core::Day;
+use isad_core::{Day, Number};
 use office_core::{Done, Refusal};
-use office_tables::{Number, StoreFault, Tables};
+use office_tables::{StoreFault, Tables};
 use sqlite::Alter;
 use std::alloc::Global;
 

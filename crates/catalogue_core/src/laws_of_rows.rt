@@ -14,24 +14,24 @@ ghost use Rattle.catalogue_core.specs.Intake.{is_changed, is_new, is_same, take,
 ghost use Rattle.catalogue_core.specs.CatalogueMerge.{Catalogue, merge};
 ghost use Rattle.catalogue_core.specs.EntryByRow.{CountsAlike, with_rows};
 
-/// Entering the rows one by one, each into the catalogue that the rows before it made, has the same
-/// result as merging all rows at once: the same units in the same places with the same numbers, or the
-/// same first fault. No two rows may have the same legacyId.
+/// Entering the rows one by one, each into the catalogue that the rows before it made, has the same result as merging
+/// all rows at once: the same catalogue, or the same first fault. The catalogue's units must be good, no container may
+/// occur twice in it, and no two rows may have the same legacyId.
 pub fn rows_one_by_one()
     ensures { (c : Catalogue) (source : Bytes) (rows : List Row) → AreGoodUnits c →
         distinct c.containers ≡ c.containers → AllDiffer (λ (a b : Row). bytes_eq a.legacy b.legacy) rows →
         with_rows source rows c ≡ merge c source rows }
 {}
 
-/// The same holds for every file that can be read, with the rows that it has.
+/// The same holds for every file that can be read, with the rows that it has, whose legacyIds always differ.
 pub fn files_row_by_row()
     ensures { (c : Catalogue) (source file : Bytes) (read : File) → file_of file ≡ Ok read → AreGoodUnits c →
         distinct c.containers ≡ c.containers → take c source file ≡ with_file read (with_rows source read.rows c) }
 {}
 
-/// If all rows can be placed, the counts of rows that change a unit, make one, or leave one as it was
-/// are the same, whether each row is judged when its turn comes or all rows are judged on the catalogue
-/// before them.
+/// If all rows can be placed, the counts of rows that change a unit, make one, or leave one as it was are the same,
+/// whether each row is judged when its turn comes or all rows are judged on the catalogue before them. The premises are
+/// those of `rows_one_by_one`.
 pub fn rows_count_alike()
     ensures changed { (c : Catalogue) (source : Bytes) (rows : List Row) → AreGoodUnits c →
         distinct c.containers ≡ c.containers → AllDiffer (λ (a b : Row). bytes_eq a.legacy b.legacy) rows →

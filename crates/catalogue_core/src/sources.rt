@@ -25,7 +25,7 @@ fn are_source_letters(name: &str) -> bool
     name.bytes().all(|b| is_source_letter(b))
 }
 
-/// Whether a name may be a source's: such letters, at least one, and no more than it may have.
+/// Whether a name may be a source's: 1 to 64 ASCII letters, digits, dots, underscores and hyphens.
 pub fn is_source(name: &str) -> bool
     ensures { result ≡ is_source_name name.now }
 {

@@ -24,7 +24,7 @@ ChangesOnly g touched before after r = HasCleanDisk (state g after) → OnOk r (
 abbrev pub FailsWithCause : {S X : Type 0} → store.Ghosts S → Held S → Held S → Result X StoreFault → Type 0
 FailsWithCause g before after r = FaultsHaveCause (state g before) (state g after) r
 
--- it succeeds only where the tables represent a model that it may take
+-- where the tables represent a model, it succeeds only if it may take this model
 abbrev pub AcceptsOnly : {S X Stays Model : Type 0} → store.Ghosts S → (Database → Stays → Model → Type 0) → Held S → Held S → Result X StoreFault → (Model → Type 0) → Type 0
 AcceptsOnly {S} {X} {Stays} {Model} g represents before after r may = HasCleanDisk (state g after) → (s : Stays) (m : Model) → represents (state g before).now s m → OnOk r (may m)
 

@@ -35,7 +35,7 @@ pub record RepresentsUnits (db : Trees) (f : Forest Unit) : Type 0 where
   pub rise : Rises by_number units
   pub are : IsPermutation (nodes f) units
 
--- the texts that are present, each with its place
+-- the texts that are present, each with its place, if the first of them all has the place k
 abbrev pub texts_from : ℕ → List (Option Bytes) → List (ℕ × Bytes)
 texts_from k [] = []
 texts_from k (None ∷ texts) = texts_from (k + 1) texts

@@ -1,4 +1,5 @@
-//! The statements on the catalogue's tables, each with the rows that it changes or returns.
+//! The statements on the catalogue's tables, each with the rows that it changes or returns. Each needs an open
+//! transaction, and without one fails with `StoreFault::Schema`.
 #![tactic(auto)]
 
 pub mod containers;

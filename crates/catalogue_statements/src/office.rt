@@ -16,8 +16,8 @@ ghost use Rattle.catalogue_statements.specs.Settings.{AreLegibleSettings};
 ghost use Rattle.catalogue_statements.specs.Representation.{RepresentsOffice};
 ghost use Rattle.catalogue_statements.specs.declared.office.OfficeRow.{OfficeRow};
 
-use isad_core::{Day, Text};
-use office_tables::{Number, StoreFault, Tables, Versioned, change, find_one};
+use isad_core::{Day, Number, Text};
+use office_tables::{StoreFault, Tables, Versioned, cell, change, find_one};
 use sqlite::Alter;
 use std::alloc::Global;
 
@@ -42,7 +42,7 @@ pub struct OfficeRow {
     pub next_unit: Number,
 }
 
-/// Writes the number of the next new unit.
+/// Writes the number of the next new unit into the office's row. All else in the row stays.
 pub fn set_next_unit<P: Versioned, S: Alter>(
     tables: &mut Tables<P, S>,
     next: Number,
@@ -60,11 +60,12 @@ pub fn set_next_unit<P: Versioned, S: Alter>(
     change(
         tables,
         "UPDATE office SET next_unit = ?1 WHERE one = 1",
-        &[next.cell()],
+        &[cell(next)],
     )
 }
 
-/// The row of the office, or none if there is no office.
+/// The row of the office, or none if there is no office. If its texts are not UTF-8, its day is none of the calendar,
+/// or a number does not fit its type, it may fail with `Schema`.
 pub fn find_office<P: Versioned, S: Alter>(
     alloc: Global,
     tables: &mut Tables<P, S>,
@@ -86,7 +87,7 @@ pub fn find_office<P: Versioned, S: Alter>(
     )
 }
 
-/// How many units there are.
+/// How many units there are. SQL counts up to 2^63 - 1.
 pub fn count_units<P: Versioned, S: Alter>(
     alloc: Global,
     tables: &mut Tables<P, S>,
@@ -100,7 +101,7 @@ pub fn count_units<P: Versioned, S: Alter>(
     Ok(units)
 }
 
-/// How many containers there are.
+/// How many containers there are. SQL counts up to 2^63 - 1.
 pub fn count_containers<P: Versioned, S: Alter>(
     alloc: Global,
     tables: &mut Tables<P, S>,

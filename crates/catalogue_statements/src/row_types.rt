@@ -5,13 +5,13 @@ ghost use Rattle.isad_core.specs.Days.{is_day_number};
 ghost use Rattle.sqlite.specs.declared.types.Value.TheVariants.{Int};
 
 use crate::office::OfficeRow;
-use isad_core::{Day, Text};
+use isad_core::{Day, Number, Text};
 use office_tables::from_row::FromRow;
-use office_tables::{Number, StoreFault};
+use office_tables::{StoreFault, number_at};
 use sqlite::Row;
-use std::marker::Model;
 
-/// Whether a unit is a draft, and the day on which its closure ends.
+/// Whether a unit is a draft, and the number of the first day on which its closure no longer holds, counted from
+/// 1970-01-01, which is 0; none if it has no closure.
 #[derive(Clone, Copy)]
 pub struct Status {
     pub draft: bool,
@@ -38,7 +38,8 @@ impl FromRow for Status {
     }
 }
 
-/// A unit's level, whether it is a draft, and the day on which its closure ends.
+/// A unit's level, whether it is a draft, and the first day on which its closure no longer holds, or none if it has no
+/// closure.
 #[derive(Drop)]
 pub struct Standing {
     pub level: Text,
@@ -46,7 +47,8 @@ pub struct Standing {
     pub until: Option<Day>,
 }
 
-/// The day with this number, if there is a number.
+/// The day with this number, or none if there is no number. Fails with `StoreFault::Schema` if no day of the calendar
+/// has it.
 fn day_of(number: Option<i32>) -> Result<Option<Day>, StoreFault>
     ensures value { IfOk result (λ day. day ≡ number) }
     ensures days { IfSome number (λ n. is_day_number n ≡ true) → IsOk result }
@@ -121,44 +123,8 @@ impl FromRow for Housing {
 
     fn read(row: &Row) -> Result<Housing, StoreFault> {
         Ok(Housing {
-            ord: row.get(0)?,
-            container: row.get(1)?,
-        })
-    }
-}
-
-/// The row of a unit in the table `link`: a link, whose numbers a table can keep.
-#[derive(Clone, Copy)]
-pub struct LinkRow {
-    pub id: Number,
-    pub parent: Option<Number>,
-    pub ord: u32,
-}
-
-impl Model for LinkRow {
-    ghost use Rattle.tree_core.specs.declared.rows.Link.{Link};
-
-    ghost Value = { Link };
-
-    ghost view = { λ row. record { id = row.id; parent = row.parent; ord = row.ord } };
-
-    ghost inverse = { λ link. record { id = link.id; parent = link.parent; ord = link.ord } };
-}
-
-impl FromRow for LinkRow {
-    ghost use Rattle.std.specs.Prelude.{pos, [], ◌∷◌, option_map, ◌<◌, ◌^◌};
-    ghost use Rattle.sqlite.specs.Values.{or_null};
-    ghost use Rattle.sqlite.specs.declared.types.Value.TheVariants.{Int};
-
-    ghost cells = { λ l. Int (pos l.id) ∷ or_null Int (option_map pos l.parent) ∷ Int (pos l.ord) ∷ [] };
-
-    ghost is_legible = { λ l. l.ord < 2 ^ 32 };
-
-    fn read(row: &Row) -> Result<LinkRow, StoreFault> {
-        Ok(LinkRow {
-            id: row.get(0)?,
-            parent: row.get(1)?,
-            ord: row.get(2)?,
+            ord: number_at(row, 0)?,
+            container: number_at(row, 1)?,
         })
     }
 }
@@ -184,7 +150,7 @@ impl FromRow for OfficeRow {
             hands: row.get(4)?,
             run_size: row.get(5)?,
             day,
-            next_unit: row.get(7)?,
+            next_unit: number_at(row, 7)?,
         })
     }
 }

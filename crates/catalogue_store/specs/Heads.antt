@@ -5,7 +5,7 @@ use Rattle.tree_core.specs.Forest.{Forest, nodes}
 use Rattle.catalogue_core.specs.Units.{Unit, has_id}
 use Rattle.catalogue_store.specs.declared.heads.Head.{Head}
 
--- the level, the identifier and the title of a unit, and who may see it
+-- the number, the level, the identifier and the title of a unit, whether it is a draft, and its closure
 abbrev pub head_of : Unit → Head
 head_of u = record {
   id = u.id;
@@ -16,6 +16,6 @@ head_of u = record {
   until = u.until;
 }
 
--- the head of the unit with this number, if there is one
+-- the head of the unit with this number, or none if there is no such unit
 abbrev pub head_at : Forest Unit → ℕ → Option Head
 head_at f unit = option_map head_of (find (has_id unit) (nodes f))

@@ -30,7 +30,7 @@ dock_fonds = record {
   until = None;
 }
 
--- a series below it: a draft, closed until the end of 2024, with its title and its extent
+-- a series below it: a draft, closed until 2024-12-31 (on that day it is open), with its title and its extent
 abbrev pub dock_series : Unit
 dock_series = record {
   id = 2;

@@ -17,14 +17,16 @@ ghost use Rattle.catalogue_core.specs.Units.{is_from};
 use crate::office::insert_office;
 use catalogue_statements::OfficeRow;
 use catalogue_statements::units::unit_number;
-use isad_core::Text;
+use isad_core::{Number, Text};
 use office_tables::table_creation::{create_containers, create_units};
-use office_tables::{Number, StoreFault, Tables, Versioned};
+use office_tables::{StoreFault, Tables, Versioned};
 use sqlite::{Alter, Connection};
 use std::alloc::Global;
 use tree_places::Places;
 
-/// Creates the catalogue's tables and the office's row. The desk's tables must already be there.
+/// Creates the catalogue's tables and the office's row. The catalogue has no units and no containers, and its next unit
+/// number is that of the row. The desk's tables must be there and no others, and keep their rows. A transaction must be
+/// open.
 pub fn create<P: Places, S: Alter>(
     conn: &mut Connection<S>,
     row: &OfficeRow,
@@ -45,7 +47,7 @@ pub fn create<P: Places, S: Alter>(
     insert_office::<P, S>(conn, row)
 }
 
-/// The number of the unit that has the number `legacy` in this source, or none if no unit has it.
+/// The number in this office of the unit that has the number `legacy` in this source, or none if no unit has it.
 pub fn known<P: Versioned, S: Alter>(
     alloc: Global,
     tables: &mut Tables<P, S>,

@@ -16,8 +16,8 @@ ghost use Rattle.catalogue_store.specs.Heads.{head_at, head_of};
 use catalogue_statements::elements::first_elements;
 use catalogue_statements::row_types::Element;
 use catalogue_statements::units::find_standing;
-use isad_core::{Day, Text};
-use office_tables::{Number, StoreFault, Tables};
+use isad_core::{Day, Number, Text};
+use office_tables::{StoreFault, Tables};
 use sqlite::Alter;
 use std::alloc::{AllocError, Global};
 use tree_places::Places;
@@ -30,7 +30,7 @@ pub struct Head {
     pub identifier: Text,
     pub title: Text,
     pub draft: bool,
-    /// The first day on which its closure no longer holds.
+    /// The first day on which its closure no longer holds, or none if it has no closure.
     pub until: Option<Day>,
 }
 
@@ -76,7 +76,7 @@ pub fn find_head<P: Places, S: Alter>(
     }))
 }
 
-/// The heads of these units, all of which must exist.
+/// The heads of these units, in their order. All of them must exist.
 fn heads_of<P: Places, S: Alter>(
     alloc: Global,
     tables: &mut Tables<P, S>,
@@ -97,7 +97,7 @@ fn heads_of<P: Places, S: Alter>(
     Ok(heads)
 }
 
-/// The heads of the units from a top down to this one. Empty if there is no such unit.
+/// The heads of the units on the path of this one, from its top down to itself. Empty if there is no such unit.
 pub fn path_heads<P: Places, S: Alter>(
     alloc: Global,
     tables: &mut Tables<P, S>,
@@ -110,7 +110,8 @@ pub fn path_heads<P: Places, S: Alter>(
     heads_of(alloc, tables, &units)
 }
 
-/// The heads of the units right below this one, or of the tops, in their order.
+/// The heads of the units right below this one, or of the tops if none is given, in their order. Empty if there is no
+/// such unit.
 pub fn heads_below<P: Places, S: Alter>(
     alloc: Global,
     tables: &mut Tables<P, S>,

@@ -14,13 +14,15 @@ ghost use Rattle.catalogue_store.specs.ImportEntries.{with_entered};
 use crate::descriptions::{clear, describe};
 use catalogue_statements::NewUnit;
 use catalogue_statements::units::{insert_unit, set_level};
-use isad_core::Values;
-use office_tables::{Number, StoreFault, Tables, Versioned};
+use isad_core::{Number, Values};
+use office_tables::{StoreFault, Tables, Versioned};
 use sqlite::Alter;
 use std::alloc::Global;
 
-/// Enters a new unit with its values, wherever its place is. New containers get the next numbers.
-/// The next unit number stays as it is.
+/// Enters a new unit with its values; its place is written by another call, below a parent that exists or among the
+/// tops. New containers get the next numbers, and the next unit number stays as it is. The catalogue must know the
+/// containers of all its units. If the number, or the number in the source, is taken, or if the values lack a place for
+/// one of the 25 texts or name a container twice, it may fail with `Schema`.
 pub fn enter_unit<P: Versioned, S: Alter>(
     alloc: Global,
     tables: &mut Tables<P, S>,
@@ -35,7 +37,9 @@ pub fn enter_unit<P: Versioned, S: Alter>(
     describe(alloc, tables, unit.id, unit.values)
 }
 
-/// Replaces the values of a known unit, wherever its place is. New containers get the next numbers.
+/// Replaces the values of a unit, which must exist: its level, texts and containers. All else of it stays. New
+/// containers get the next numbers, and known ones stay. The catalogue must know the containers of all its units. If
+/// the values lack a place for one of the 25 texts, or name a container twice, it may fail with `Schema`.
 pub fn enter_values<P: Versioned, S: Alter>(
     alloc: Global,
     tables: &mut Tables<P, S>,

@@ -12,8 +12,8 @@ ghost use Rattle.catalogue_store.specs.WorkedExamples.{settings, example_databas
 
 pub use catalogue_core::laws::open_by_marks;
 
-/// A catalogue of two units is within the limits, and tables represent it. So the premises of the
-/// clauses on a catalogue can be met.
+/// A catalogue of two units is within the limits, and tables represent it. It knows the containers of its units, which
+/// have a place for each text. So the premises of the clauses on a catalogue can be met.
 pub fn worked_catalogue()
     ensures kept { IsKept example_catalogue }
     ensures known { KnowsItsContainers example_catalogue }

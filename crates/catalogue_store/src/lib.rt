@@ -1,4 +1,6 @@
-//! The catalogue of an office, kept in tables: units, containers and places.
+//! The catalogue of an office, kept in tables: units, containers and places. The calls need an open transaction, and
+//! without one fail with `StoreFault::Schema`. If the catalogue is not within the limits of an office (`IsKept`), they
+//! may fail with `Schema`, too. After a fault the caller must roll back: a part may be done.
 #![tactic(auto)]
 
 mod branch_moves;

@@ -17,13 +17,14 @@ ghost use Rattle.catalogue_store.specs.Offices.{office_with_counts};
 use catalogue_statements::OfficeRow;
 use catalogue_statements::office::{count_containers, count_units, find_office};
 use office_tables::value::{day, number, words};
-use office_tables::{StoreFault, Tables};
+use office_tables::{StoreFault, Tables, cell};
 use sqlite::{Alter, Connection};
 use std::alloc::Global;
 use tree_places::Places;
 
-/// Adds the office's row, which has the number 1. Fails if there is a row with this number. Needs an open transaction
-/// over our tables. If the table is empty and no limit on steps is set, every fault has a cause.
+/// Adds the office's row, which has the number 1 and the version of `P`. Fails if there is a row with this number.
+/// Needs an open transaction over our tables. If the table is empty and no limit on steps is set, it fails only for
+/// want of memory or because of the disk. If it fails, every row is as it was, or the transaction was rolled back.
 pub fn insert_office<P: Places, S: Alter>(
     conn: &mut Connection<S>,
     row: &OfficeRow,
@@ -51,7 +52,7 @@ pub fn insert_office<P: Places, S: Alter>(
             number(u64::from(row.hands)),
             number(u64::from(row.run_size)),
             day(row.day),
-            row.next_unit.cell(),
+            cell(row.next_unit),
         ],
     )?;
     Ok(())
@@ -67,7 +68,9 @@ pub struct Office {
     pub containers: u64,
 }
 
-/// The settings, the day, the next unit number, and how many units and containers there are.
+/// The office's row (the settings, the day, the next unit number), and how many units and containers there are; SQL
+/// counts up to 2^63 - 1. If the row's texts are not UTF-8, its day is none of the calendar, or a number does not fit
+/// its type, it may fail with `Schema`.
 pub fn office_row<P: Places, S: Alter>(
     alloc: Global,
     tables: &mut Tables<P, S>,
@@ -88,7 +91,8 @@ pub fn office_row<P: Places, S: Alter>(
 }
 
 /// The office's row: the settings, the day and the next unit number. Unlike `office_row`, it counts neither units nor
-/// containers.
+/// containers. If the row's texts are not UTF-8, its day is none of the calendar, or a number does not fit its type, it
+/// may fail with `Schema`.
 pub fn settings<P: Places, S: Alter>(
     alloc: Global,
     tables: &mut Tables<P, S>,

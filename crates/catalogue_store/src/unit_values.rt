@@ -30,13 +30,13 @@ use catalogue_statements::containers::{find_container, housings_of};
 use catalogue_statements::elements::elements_of;
 use catalogue_statements::row_types::{Element, Housing};
 use catalogue_statements::units::find_level;
-use isad_core::{BoxKey, List, Text, Values};
-use office_tables::{Number, StoreFault, Tables, Versioned};
+use isad_core::{BoxKey, List, Number, Text, Values};
+use office_tables::{StoreFault, Tables, Versioned};
 use sqlite::Alter;
 use std::alloc::{AllocError, Global};
 use std::array;
 
-/// The values of a unit, and the numbers of its containers in its order.
+/// The values of a unit, and the numbers of its containers in the order in which the values name them.
 #[derive(Debug, PartialEq, Drop)]
 pub struct UnitValues {
     pub values: Values,
@@ -57,7 +57,8 @@ fn place_of(k: u64) -> Option<usize>
     }
 }
 
-/// The texts of these elements, each at the place of its element.
+/// The texts of these elements, each at the place of its element. Fails with `StoreFault::Schema` if the number of an
+/// element has no place.
 fn texts_by_element(elements: Vec<Element>) -> Result<[Option<Text>; 25], StoreFault>
     ensures value { (values : Description) → length values.texts ≡ 25
         → map (λ (e : Element). (e.k, e.value)) elements.items ≡ numbered_texts values
@@ -89,7 +90,7 @@ fn texts_of<P: Versioned, S: Alter>(
     texts_by_element(found)
 }
 
-/// The numbers of the containers in these rows.
+/// The numbers of the containers in these rows, in the order of the rows.
 fn numbers_in(alloc: Global, housings: &[Housing]) -> Result<List<Number>, AllocError>
     ensures { IfOk result (λ numbers. numbers ≡ map (λ (h : Housing). h.container) housings.now) }
 {
@@ -100,7 +101,7 @@ fn numbers_in(alloc: Global, housings: &[Housing]) -> Result<List<Number>, Alloc
     Ok(List(numbers))
 }
 
-/// The numbers of a unit's containers, in its order.
+/// The numbers of a unit's containers, in the unit's order.
 fn containers_of<P: Versioned, S: Alter>(
     alloc: Global,
     tables: &mut Tables<P, S>,
@@ -119,7 +120,7 @@ fn containers_of<P: Versioned, S: Alter>(
     Ok(numbers_in(alloc, &found)?)
 }
 
-/// The container with this number.
+/// The name, location and kind of the container with this number, which must be known.
 fn container_of<P: Versioned, S: Alter>(
     alloc: Global,
     tables: &mut Tables<P, S>,
@@ -140,7 +141,7 @@ fn container_of<P: Versioned, S: Alter>(
     Ok(key)
 }
 
-/// The containers with these numbers.
+/// The name, location and kind of each of the containers with these numbers, which must be known, in their order.
 fn boxes_of<P: Versioned, S: Alter>(
     alloc: Global,
     tables: &mut Tables<P, S>,
@@ -162,7 +163,9 @@ fn boxes_of<P: Versioned, S: Alter>(
     Ok(keys)
 }
 
-/// The values of a unit and the numbers of its containers, or none if no unit has this number.
+/// The values of the unit with this number, and the numbers of its containers in their order; none if there is no such
+/// unit. Each unit must have a place for each of the 25 texts. If the catalogue does not know the containers of all its
+/// units, it may fail with `Schema`.
 pub fn values<P: Versioned, S: Alter>(
     alloc: Global,
     tables: &mut Tables<P, S>,

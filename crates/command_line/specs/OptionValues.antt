@@ -16,7 +16,7 @@ abbrev pub IsOptionNumber : List Row → Text → ℕ → Type 0
 IsOptionNumber rows name n =
     (text : Text) × (one_of name rows ≡ Some text) × (digits_value 10 (without_leading_plus text) ≡ n)
 
--- the same for a day; there is none if the text is not a day of the calendar
+-- the same for a day; there is none if the text is not a day from 1900-01-01 to 9999-12-31, as YYYY-MM-DD
 abbrev pub IsDay : List Row → Text → Option ℤ → Type 0
 IsDay rows name day = (text : Text) × IsValue rows name text × (day_of text ≡ day)
 

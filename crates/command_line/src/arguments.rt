@@ -294,7 +294,7 @@ fn with_care<'a>(alloc: Global, program: Command<'a>) -> Result<Command<'a>, All
         .subcommand(migrate(alloc)?)
 }
 
-/// The program's command line.
+/// The program's command line: its commands, each with the rules of its options and files.
 pub fn record_office<'a>(alloc: Global) -> Result<Command<'a>, AllocError>
     ensures { IfOk result (λ c. app_of c ≡ program) }
 {

@@ -9,7 +9,7 @@ use clap::ArgMatches;
 use isad_core::{Day, Text};
 use std::alloc::{AllocError, Global};
 
-/// The value of an option or file that was given.
+/// The value of an option or file, which must have been given.
 pub fn value_of<'a>(found: &ArgMatches<'a>, name: &str) -> &'a str
     requires { HasText (rows_of (found_of found.now)) name.now }
     ensures { IsValue (rows_of (found_of found.now)) name.now result.now }
@@ -17,7 +17,7 @@ pub fn value_of<'a>(found: &ArgMatches<'a>, name: &str) -> &'a str
     found.get_str(name).unwrap()
 }
 
-/// The value of an option or file that was given, as a new text.
+/// The value of an option or file, which must have been given, as a new text.
 pub fn text(alloc: Global, found: &ArgMatches, name: &str) -> Result<Text, AllocError>
     requires { HasText (rows_of (found_of found.now)) name.now }
     ensures { IfOk result (IsValue (rows_of (found_of found.now)) name.now) }
@@ -39,7 +39,7 @@ pub fn optional_text(
     }
 }
 
-/// The value of an option that is a number.
+/// The value of an option that was given with a number from 0 to 4294967295.
 pub fn number(found: &ArgMatches, name: &str) -> u32
     requires { HasNumber (rows_of (found_of found.now)) name.now }
     ensures { IsOptionNumber (rows_of (found_of found.now)) name.now result }
@@ -47,7 +47,7 @@ pub fn number(found: &ArgMatches, name: &str) -> u32
     found.get_one(name).unwrap()
 }
 
-/// The port, which is 1 or more.
+/// The port that `--port` gives, from 1 to 65535.
 pub fn port(found: &ArgMatches) -> u16
     requires { HasNumberWithin 1 65535 (rows_of (found_of found.now)) (codes "port") }
     ensures value { IsOptionNumber (rows_of (found_of found.now)) (codes "port") result }
@@ -56,7 +56,7 @@ pub fn port(found: &ArgMatches) -> u16
     found.get_one("port").unwrap()
 }
 
-/// The number of connections, which is 1 or more, and no more than a server takes.
+/// The number of connections that `--connections` gives, from 1 to 10000.
 pub fn connections(found: &ArgMatches) -> u32
     requires { HasNumberWithin 1 most_connections (rows_of (found_of found.now)) (codes "connections") }
     ensures value { IsOptionNumber (rows_of (found_of found.now)) (codes "connections") result }
@@ -66,7 +66,7 @@ pub fn connections(found: &ArgMatches) -> u32
     found.get_one("connections").unwrap()
 }
 
-/// The day that an option gives, or none if it is not in the calendar.
+/// The day that an option gives as YYYY-MM-DD, or none if its text is not a day from 1900-01-01 to 9999-12-31.
 pub fn day(found: &ArgMatches, name: &str) -> Option<Day>
     requires { HasText (rows_of (found_of found.now)) name.now }
     ensures { IsDay (rows_of (found_of found.now)) name.now result }

@@ -7,7 +7,7 @@ pub fn worked_previews()
     ensures { Previews }
 {}
 
-/// Words of new offices: each setting is needed, and a number has limits.
+/// Words of new offices: each setting is needed, and its number must be from 0 to 4294967295 here.
 pub fn worked_offices()
     ensures { Offices }
 {}

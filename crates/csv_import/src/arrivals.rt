@@ -12,9 +12,10 @@ ghost use Rattle.csv_import.specs.KnownUnits.{KnowsUnits, TellsParent, TellsPare
 use crate::legacy::{UnitNumbers, kept_number, remember};
 use crate::pending_import::Import;
 use atom_csv::Row;
-use office_tables::{Number, StoreFault, known_number};
+use isad_core::Number;
+use office_tables::{StoreFault, number_after};
 use std::alloc::Global;
-use tree_places::NumberedArrival;
+use tree_core::Arrival;
 
 /// The number of a new row's parent, if it names one: that of a new row above it, or else of a
 /// catalogued unit.
@@ -38,7 +39,7 @@ fn arrival_of(
     numbers: &UnitNumbers,
     next: Number,
     row: &Row,
-) -> Option<NumberedArrival>
+) -> Option<Arrival>
     ensures answers { (c : Catalogue) (source : Bytes)
         → get_by_text catalogued.now row.now.legacy ≡ number_there c source row.now.legacy
         → TellsParentOfNew c source (get_by_text catalogued.now) row.now → (above : List RowTold)
@@ -49,16 +50,13 @@ fn arrival_of(
         return None;
     }
     let parent = parent_of(catalogued, numbers, row);
-    Some(NumberedArrival { unit: next, parent })
+    Some(Arrival { unit: next, parent })
 }
 
 /// The units that the rows of a file add, each with its parent, numbered from `import.next` on in file order.
 /// `import.catalogued` must tell which units of the rows, and which parents of new rows, are catalogued. Fails only for
 /// want of memory.
-pub(crate) fn arrivals(
-    alloc: Global,
-    import: &Import<'_>,
-) -> Result<Vec<NumberedArrival>, StoreFault>
+pub(crate) fn arrivals(alloc: Global, import: &Import<'_>) -> Result<Vec<Arrival>, StoreFault>
     ensures answers { IfOk result (λ arrivals. (c : Catalogue)
         → KnowsUnits c import.now.source.now import.now.rows.now (get_by_text import.now.catalogued.now)
         → arrivals.items ≡ arrivals_of c.forest import.now.source.now import.now.next import.now.rows.now) }
@@ -67,7 +65,7 @@ pub(crate) fn arrivals(
     let mut numbers = UnitNumbers::new(alloc);
     let mut arrivals = Vec::new(alloc);
     for row in import.rows {
-        let unit = known_number(import.next + arrivals.len() as u64)?;
+        let unit = number_after(import.next, arrivals.len() as u64)?;
         let brought = arrival_of(import.catalogued, &numbers, unit, row);
         if let Some(arrival) = brought {
             remember(&mut numbers, alloc, &row.legacy, unit)?;

@@ -25,18 +25,18 @@ use atom_csv::{File, FileFault, read_file};
 use catalogue_statements::office::{count_containers, count_units};
 use catalogue_store::{Places, settings};
 use isad_core::limits::{MOST_CONTAINERS, MOST_UNIT_NUMBERS, MOST_UNITS};
-use isad_core::{Day, Text};
+use isad_core::{Day, Number, Text};
 use office_core::{Done, Refusal};
 use office_tables::{StoreFault, Tables};
 use sqlite::Alter;
 use std::alloc::Global;
 
 /// Whether `new` more units fit besides so many, each with a number of its own from `next` on.
-fn has_space(units: u64, next: u64, new: u64) -> bool
+fn has_space(units: u64, next: Number, new: u64) -> bool
     ensures { result ≡ (nat_le (units + new) most_units && nat_le (next + new) (most_unit_numbers + 1)) }
 {
     let all = units.saturating_add(new);
-    let after = next.saturating_add(new);
+    let after = next.get().saturating_add(new);
     all <= MOST_UNITS && after <= MOST_UNIT_NUMBERS + 1
 }
 
@@ -45,16 +45,15 @@ fn next_with_room<P: Places, S: Alter>(
     alloc: Global,
     tables: &mut Tables<P, S>,
     new: u64,
-) -> Result<Option<u64>, StoreFault>
+) -> Result<Option<Number>, StoreFault>
     ensures answers { Answers S.Store (RepresentsSettings P.represents P.version) tables.old tables.new result
         within AreLegibleSettings gives λ c _ next. next ≡ spec.next_with_room new c }
     ensures low { IfOk result (λ next. IfSome next (λ number. number ≤ most_unit_numbers + 1)) }
 {
     let office = settings(alloc, tables)?;
     let units = count_units(alloc, tables)?;
-    let next = office.next_unit.get();
-    if has_space(units, next, new) {
-        return Ok(Some(next));
+    if has_space(units, office.next_unit, new) {
+        return Ok(Some(office.next_unit));
     }
     Ok(None)
 }

@@ -15,8 +15,8 @@ ghost use Rattle.csv_import.specs.KnownUnits.{IsAsked, KnowsAsked, KnowsUnits};
 use crate::legacy::{Legacies, UnitNumbers, kept_number, note, remember};
 use atom_csv::Row;
 use catalogue_store::{Places, known};
-use isad_core::Text;
-use office_tables::{Number, StoreFault, Tables};
+use isad_core::{Number, Text};
+use office_tables::{StoreFault, Tables};
 use sqlite::Alter;
 use std::alloc::Global;
 

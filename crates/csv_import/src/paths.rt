@@ -12,7 +12,8 @@ ghost use Rattle.office_tables.specs.Premises.{◌within◌gives◌};
 ghost use Rattle.catalogue_statements.specs.Representation.{Represents};
 
 use catalogue_store::Places;
-use office_tables::{Number, StoreFault, Tables};
+use isad_core::Number;
+use office_tables::{StoreFault, Tables};
 use sqlite::Alter;
 use std::alloc::Global;
 

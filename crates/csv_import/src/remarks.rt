@@ -21,9 +21,9 @@ ghost use Rattle.csv_import.specs.Remarks.{HasParent, HaveParents, HaveUnits, Is
 use atom_csv::Row;
 use catalogue_statements::units::find_level;
 use catalogue_store::Places;
-use isad_core::{Element, List, Values, is_blank, rank};
+use isad_core::{Element, List, Number, Values, is_blank, rank};
 use office_core::Remark;
-use office_tables::{Number, StoreFault, Tables};
+use office_tables::{StoreFault, Tables};
 use sqlite::Alter;
 use std::alloc::Global;
 

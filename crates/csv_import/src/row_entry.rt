@@ -26,11 +26,11 @@ use crate::pending_import::Import;
 use atom_csv::Row;
 use catalogue_statements::office::set_next_unit;
 use catalogue_store::{NewUnit, Places, enter_unit, enter_values, values as values_of};
-use isad_core::{Text, Values};
-use office_tables::{Number, StoreFault, Tables, known_number};
+use isad_core::{Number, Text, Values};
+use office_tables::{StoreFault, Tables, number_after};
 use sqlite::Alter;
 use std::alloc::Global;
-use tree_places::NumberedArrival;
+use tree_core::Arrival;
 
 /// How many rows of a file changed a unit, added one, or left one as it was.
 #[derive(Clone, Copy, Debug, PartialEq, Eq)]
@@ -176,7 +176,7 @@ fn enter_each<P: Places, S: Alter>(
     };
     for row in import.rows {
         let number = kept_number(import.catalogued, &row.legacy);
-        let next = known_number(import.next + counts.new)?;
+        let next = number_after(import.next, counts.new)?;
         let became = enter_row(alloc, tables, import.source, number, next, row)?;
         counts = count(counts, became);
     }
@@ -190,14 +190,13 @@ fn units_of(alloc: Global, import: &Import<'_>) -> Result<Vec<Number>, StoreFaul
     ensures faults { IfErr result (λ e. e ≡ StoreFault.Memory) }
 {
     let mut units = Vec::new(alloc);
-    let mut number = import.next;
+    let mut next = import.next;
     for row in import.rows {
         match kept_number(import.catalogued, &row.legacy) {
             Some(unit) => units.push(unit)?,
             None => {
-                let unit = known_number(number)?;
-                units.push(unit)?;
-                number += 1;
+                units.push(next)?;
+                next = number_after(next, 1)?;
             }
         }
     }
@@ -209,7 +208,7 @@ fn enter_with_places<P: Places, S: Alter>(
     alloc: Global,
     tables: &mut Tables<P, S>,
     import: &Import<'_>,
-    arrivals: &[NumberedArrival],
+    arrivals: &[Arrival],
 ) -> Result<Counts, StoreFault>
     ensures updates { Updates S.Store catalogue_trees (RepresentsNumbered P.represents P.version)
         tables.old tables.new result
@@ -219,7 +218,7 @@ fn enter_with_places<P: Places, S: Alter>(
 {
     P::add_all(alloc, tables, arrivals)?;
     let counts = enter_each(alloc, tables, import)?;
-    let next = known_number(import.next + counts.new)?;
+    let next = number_after(import.next, counts.new)?;
     set_next_unit(tables, next)?;
     Ok(counts)
 }

@@ -1,8 +1,8 @@
 -- The names that several proofs of this crate cite, passed on from one place. Declares nothing.
 pub use Rattle.std.proofs.lemmas.Bool.{and_parts, cases_Bool, cases_eq, eqb-true, false≢true, leb-false}
 pub use Rattle.std.proofs.lemmas.Bool.Decides.{nat_tests}
-pub use Rattle.std.proofs.lemmas.List.{append_assoc, length-append, length-map, map-append, take-append-drop, take-map}
-pub use Rattle.std.proofs.lemmas.List.{take_all, take_more, take_rest}
+pub use Rattle.std.proofs.lemmas.List.{append_assoc, get_or_default, length-append, length-map, take-append-drop}
+pub use Rattle.std.proofs.lemmas.List.{take-map, take_all, take_more, take_rest}
 pub use Rattle.std.proofs.lemmas.List.Sorted.{All-permutation, IsNonDecreasingBy-from_sort, IsPermutation-append_right}
 pub use Rattle.std.proofs.lemmas.List.Sorted.{IsPermutation-map, IsPermutation-sym, IsPermutation-trans}
 pub use Rattle.std.proofs.lemmas.List.Sorted.{list_any-IsPermutation}
@@ -14,14 +14,13 @@ pub use Rattle.sqlite.specs.Effect.{Database}
 pub use Rattle.sqlite.specs.Held.{Held, state}
 pub use Rattle.sqlite.specs.State.{HasCleanDisk}
 pub use Rattle.sqlite.specs.Tree.{Trees, rowid}
-pub use Rattle.isad_core.specs.Limits.{IsNumber, most_orders, most_permits, most_runs, most_tickets}
+pub use Rattle.isad_core.specs.Limits.{most_orders, most_permits, most_runs, most_tickets}
 pub use Rattle.tree_core.specs.Forest.{Forest, cut, nodes}
 pub use Rattle.desk_core.specs.Checks.{IssueFacts, issue_checks, leave_seat_checks, order_checks, take_seat_checks}
 pub use Rattle.desk_core.specs.Decisions.{is_desk, issue_facts, leave_seat_facts, order_facts, order_out}
 pub use Rattle.desk_core.specs.Decisions.{take_seat_facts}
 pub use Rattle.desk_core.specs.DeskRows.{HoldingRow, OrderRow, PermitRow, ReaderRow, RunLineRow, RunRow, SeatRow}
 pub use Rattle.desk_core.specs.DeskRows.{with_state}
-pub use Rattle.desk_core.specs.LegibleDesks.{IsLegible}
 pub use Rattle.desk_core.specs.Refusals.{first_that_holds}
 pub use Rattle.desk_core.specs.declared.reader.Limits.{Limits}
 pub use Rattle.desk_core.specs.declared.reader.Place.{Place}
@@ -32,8 +31,7 @@ pub use Rattle.desk_core.specs.declared.refusal.Refusal.TheVariants.{NothingToMo
 pub use Rattle.desk_core.specs.declared.refusal.Refusal.TheVariants.{UnknownContainer, UnknownOrder, UnknownTicket}
 pub use Rattle.desk_core.specs.declared.refusal.Refusal.TheVariants.{UnknownUnit}
 pub use Rattle.catalogue_core.specs.Members.{StandsIn}
-pub use Rattle.office_tables.proofs.Calls.{cut_after, cut_then, early, goes_nowhere, goes_then, looks_nowhere}
-pub use Rattle.office_tables.proofs.Calls.{looks_then}
+pub use Rattle.office_tables.proofs.Calls.{cut_then, early, goes_nowhere, goes_then, looks_nowhere, looks_then}
 pub use Rattle.office_tables.specs.Step.{Continues, Goes, IsAborted, LeavesUnchanged, OnlyTouches}
 pub use Rattle.office_tables.specs.Versions.{Version, version_number}
 pub use Rattle.desk_store.specs.Holdings.{at_desk_of, candidates_of, firsts_of, is_first_waiting, is_on_shelf}

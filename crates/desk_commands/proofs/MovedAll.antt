@@ -1,13 +1,12 @@
 -- Containers that go to one place, one after the other, in the rows of the desk.
 use Rattle.std.proofs.Common.{◌≡◌, ℕ, ◌<◌, ◌≤◌, get_or, Bool, true, false, cond, ◌||◌, nat_eq, List, [], ◌∷◌, ◌++◌, ◌+◌}
-use Rattle.std.proofs.Common.{length, take, zero, suc, refl, sym, ap, subst, ◌∙◌, arith}
+use Rattle.std.proofs.Common.{length, take, zero, suc, refl, sym, ap, subst, ◌∙◌}
 use Rattle.std.proofs.Math.Path.{fun_ext}
 use Rattle.desk_core.specs.DeskRows.{Desk}
-use Rattle.desk_store.proofs.MadeInTurn.{legible_place}
-use Rattle.desk_commands.proofs.Common.{AllByRecursion, HoldingRow, IsLegible, IsNumber, Order, Place, RepresentsDesk}
-use Rattle.desk_commands.proofs.Common.{State, Trees, all_placed, flipped, numbers_to, order_row, order_rows, placed_at}
-use Rattle.desk_commands.proofs.Common.{placed_to, rows_from, rows_of, standing, stands, state_number, take_more}
-use Rattle.desk_commands.proofs.Common.{update_at, with_all_placed, with_place}
+use Rattle.desk_commands.proofs.Common.{AllByRecursion, HoldingRow, Order, Place, RepresentsDesk, State, Trees}
+use Rattle.desk_commands.proofs.Common.{all_placed, flipped, numbers_to, order_row, order_rows, placed_at, placed_to}
+use Rattle.desk_commands.proofs.Common.{rows_from, rows_of, standing, stands, state_number, take_more, update_at}
+use Rattle.desk_commands.proofs.Common.{with_all_placed, with_place}
 
 -- ---- one container more
 
@@ -23,20 +22,10 @@ next_placed {db} p cs i d low it =
     subst (λ (l : List ℕ). RepresentsDesk db (with_all_placed p l d)) (sym (take_more cs i 0 low))
     (subst (λ (rows : List HoldingRow). RepresentsDesk db (record d { holdings = rows })) (sym (one_more_placed p (take i cs) (get_or cs i 0) d.holdings)) it)
 
-pub legible_all : (p : Place) (cs : List ℕ) (d : Desk) → AllByRecursion IsNumber cs → IsLegible d
-    → IsLegible (with_all_placed p cs d)
-legible_all p [] d small it = it
-legible_all p (c ∷ cs) d small it = legible_all p cs (with_place c p d) small.1 (legible_place c p d small.0 it)
-
 pub all_taken : {X : Type 0} (P : X → Type 0) (k : ℕ) (cs : List X) → AllByRecursion P cs → AllByRecursion P (take k cs)
 all_taken P zero cs h = tt
 all_taken P (suc k) [] h = tt
 all_taken P (suc k) (c ∷ cs) h = (h.0, all_taken P k cs h.1)
-
-pub each_of : (P : ℕ → Type 0) (cs : List ℕ) (k d : ℕ) → AllByRecursion P cs → k < length cs → P (get_or cs k d)
-each_of P [] k d h less = absurd (omega (arith, less))
-each_of P (c ∷ cs) zero d h less = h.0
-each_of P (c ∷ cs) (suc k) d h less = each_of P cs k d h.1 (omega (arith, less))
 
 -- ---- the rows of a state in which they stand there
 

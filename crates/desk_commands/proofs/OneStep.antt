@@ -3,6 +3,7 @@ use Rattle.std.proofs.Common.{◌≡◌, ℕ, List, Ok, Result, subst, sym}
 use Rattle.sqlite.specs.State as store
 use Rattle.sqlite_trees.specs.declared.store.Store as trees
 use Rattle.desk_core.specs.DeskRows.{Desk}
+use Rattle.desk_core.specs.LegibleDesks.{IsLegible}
 use Rattle.office_tables.proofs.Causes.{still_unlimited}
 use Rattle.office_tables.proofs.LaterCauses.{next_cause}
 use Rattle.office_tables.specs.Calls.{Answers, Updates}
@@ -10,10 +11,10 @@ use Rattle.office_tables.specs.Faults.{HasCause, IsUnlimited}
 use Rattle.office_tables.specs.declared.fault.StoreFault.{StoreFault}
 use Rattle.desk_store.specs.Storage.{IsLegibleStorage, RepresentsQueues, Storage}
 use Rattle.desk_commands.proofs.Common.{CarriesOut, CarriesOutStep, Command, Continues, Database, Forest, Goes}
-use Rattle.desk_commands.proofs.Common.{HasCleanDisk, Held, IsAborted, IsErr, IsErrAnd, IsLegible, IsSoundOffice}
-use Rattle.desk_commands.proofs.Common.{OnlyTouches, Reply, RepresentsDesk, RepresentsDeskAlone, RepresentsState}
-use Rattle.desk_commands.proofs.Common.{RepresentsWhole, State, Trees, Version, cut_then, desk_legible, does_pass}
-use Rattle.desk_commands.proofs.Common.{early, legible_storage, shows_storage, state, storage_of, tables, ⊤}
+use Rattle.desk_commands.proofs.Common.{HasCleanDisk, Held, IsAborted, IsErr, IsErrAnd, IsSoundOffice, OnlyTouches}
+use Rattle.desk_commands.proofs.Common.{Reply, RepresentsDesk, RepresentsDeskAlone, RepresentsState, RepresentsWhole}
+use Rattle.desk_commands.proofs.Common.{State, Trees, Version, cut_then, desk_legible, does_pass, early}
+use Rattle.desk_commands.proofs.Common.{legible_storage, shows_storage, state, storage_of, tables, ⊤}
 
 -- it went well
 pub does_well : {places : Trees → Forest ℕ → Type 0} {version : Version} {known : State → Type 0} {asked : Command} {a b : store.State} {reply : Reply}

@@ -9,13 +9,12 @@ use Rattle.office_tables.specs.Schema as schema
 use Rattle.office_core.specs.declared.command.Command.TheVariants as command
 use Rattle.office_core.specs.declared.done.Done.TheVariants as done
 use Rattle.desk_commands.proofs.Common.{AllByRecursion, CarriesOutStep, Database, Forest, HoldingRow, IsAscending}
-use Rattle.desk_commands.proofs.Common.{IsNumber, IsSoundOffice, NothingToMove, OnlyTouches, OrderRow, Out, Place}
-use Rattle.desk_commands.proofs.Common.{RepresentsDesk, RepresentsState, Shelf, State, Trees, Version, accepts}
-use Rattle.desk_commands.proofs.Common.{all_of_in, any_same, ascending-push, at_desk_of, cons_option, containers}
-use Rattle.desk_commands.proofs.Common.{flipped, goes_same, holding_row, idle, in_filter, in_numbers, is_desk, is_empty}
-use Rattle.desk_commands.proofs.Common.{is_idle, list_any, nat_lt, nat_tests, numbers_to, order_rows, reads_back}
-use Rattle.desk_commands.proofs.Common.{refusal, reshelved, reshelved_out, rows_of, some_and, tables, waits_for}
-use Rattle.desk_commands.proofs.Common.{with_all_placed}
+use Rattle.desk_commands.proofs.Common.{IsSoundOffice, NothingToMove, OnlyTouches, OrderRow, Out, Place, RepresentsDesk}
+use Rattle.desk_commands.proofs.Common.{RepresentsState, Shelf, State, Trees, Version, accepts, all_of_in, any_same}
+use Rattle.desk_commands.proofs.Common.{ascending-push, at_desk_of, cons_option, containers, flipped, goes_same}
+use Rattle.desk_commands.proofs.Common.{holding_row, idle, in_filter, in_numbers, is_desk, is_empty, is_idle, list_any}
+use Rattle.desk_commands.proofs.Common.{nat_lt, nat_tests, numbers_to, order_rows, reads_back, refusal, reshelved}
+use Rattle.desk_commands.proofs.Common.{reshelved_out, rows_of, some_and, tables, waits_for, with_all_placed}
 use Rattle.desk_commands.proofs.MovedAll.{AreWithin, all_moved, rows_stay}
 
 -- ---- whether an order waits for a container
@@ -112,10 +111,6 @@ module _ (version : Version) (s : State) (sound : IsSoundOffice s) where
 
   idle_within : AreWithin (length s.catalogue.containers) (idle s)
   idle_within = all_of_in (λ c. (1 ≤ c) × (c ≤ length s.catalogue.containers)) (idle s) (λ c k. in_numbers (length s.catalogue.containers) c (in_filter (is_idle s) (containers s) c k).0)
-
-  pub small_idle : AllByRecursion IsNumber (idle s)
-  small_idle = let few = sound.sound.containers.few in
-      all_of_in IsNumber (idle s) (λ c k. let within = (in_numbers (length s.catalogue.containers) c (in_filter (is_idle s) (containers s) c k).0).1 in omega (arith, within, few))
 
   pub nothing_idle : is_empty (idle s) ≡ true → refusal s command.Reshelve ≡ Some NothingToMove
   nothing_idle none = rw none refl

@@ -1,26 +1,18 @@
 -- A container that comes back, in the rows of the desk.
-use Rattle.std.proofs.Common.{◌≡◌, ℕ, true, false, List, [], ◌∷◌, Option, Some, None, Ok, refl, sym, ap, ◌∙◌, arith}
+use Rattle.std.proofs.Common.{◌≡◌, ℕ, true, false, List, [], ◌∷◌, Option, Some, None, Ok, refl, sym, ap, ◌∙◌}
 use Rattle.desk_core.specs.declared.reader.Place.TheVariants.{Desk}
 use Rattle.office_tables.specs.Schema as schema
 use Rattle.desk_store.specs.declared.orders.OrderState.TheVariants as states
-use Rattle.office_core.proofs.Places.{out_known, out_order}
+use Rattle.office_core.proofs.Places.{out_known}
 use Rattle.office_core.specs.declared.command.Command.TheVariants as command
 use Rattle.office_core.specs.declared.done.Done.TheVariants as done
-use Rattle.desk_commands.proofs.Common.{CarriesOutStep, Command, Database, Done, Forest, HoldingRow, IsNumber}
-use Rattle.desk_commands.proofs.Common.{IsSoundOffice, NotIssued, OnlyTouches, OrderRow, Out, Place, Refusal}
-use Rattle.desk_commands.proofs.Common.{RepresentsDesk, RepresentsState, Shelf, Standing, State, Trees}
-use Rattle.desk_commands.proofs.Common.{UnknownContainer, Version, accepts, container_of, handed_over, is_container}
-use Rattle.desk_commands.proofs.Common.{is_out, is_out_for, is_returned, is_some, numbered_within, only_returns}
-use Rattle.desk_commands.proofs.Common.{order_out, order_rows, place_after, refusal, returned, rows_moved, stands}
-use Rattle.desk_commands.proofs.Common.{stands_past, state_number, tables, unwrap_or, with_state}
-
--- the order that a container is out with is one of those that were placed
-pub small_order : (s : State) → IsSoundOffice s → (c o : ℕ) → s.place c ≡ Out o → IsNumber o
-small_order s sound c o out =
-    let it = out_order s c o sound.sound.desk.filed (ap order_out out) in
-    let within = numbered_within s.orders o (ap is_some it.1) in
-    let few = sound.sound.desk.orders.few in
-    omega (arith, within, few)
+use Rattle.desk_commands.proofs.Common.{CarriesOutStep, Command, Database, Done, Forest, HoldingRow, IsSoundOffice}
+use Rattle.desk_commands.proofs.Common.{NotIssued, OnlyTouches, OrderRow, Out, Place, Refusal, RepresentsDesk}
+use Rattle.desk_commands.proofs.Common.{RepresentsState, Shelf, Standing, State, Trees, UnknownContainer, Version}
+use Rattle.desk_commands.proofs.Common.{accepts, container_of, handed_over, is_container, is_out, is_out_for}
+use Rattle.desk_commands.proofs.Common.{is_returned, is_some, only_returns, order_out, order_rows, place_after, refusal}
+use Rattle.desk_commands.proofs.Common.{returned, rows_moved, stands, stands_past, state_number, tables, unwrap_or}
+use Rattle.desk_commands.proofs.Common.{with_state}
 
 module _ (places : Trees → Forest ℕ → Type 0) (version : Version) (s : State) (c : ℕ) where
   abbrev asked : Command

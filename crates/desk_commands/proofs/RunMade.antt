@@ -1,11 +1,9 @@
 -- A run that is made, in the rows of the desk.
-use Rattle.std.proofs.Common.{◌≡◌, ℕ, suc, true, false, cond, nat_eq, List, [], ◌∷◌, ◌++◌, length, map, Option, Some}
-use Rattle.std.proofs.Common.{None, Ok, Err, refl, sym, ap, subst, ◌∙◌}
+use Rattle.std.proofs.Common.{◌≡◌, ℕ, suc, true, false, cond, nat_eq, List, [], ◌∷◌, length, map, Option, Some, None}
+use Rattle.std.proofs.Common.{Ok, Err, refl, sym, ap, subst, ◌∙◌}
 use Rattle.std.proofs.Math.Path.{fun_ext}
 use Rattle.std.proofs.lemmas.List.Elements.{All-from_recursion, recursion_from_All}
 use Rattle.std.specs.Prelude.{ℤ}
-use Rattle.isad_core.proofs.DayLemmas.{is_day_number-true}
-use Rattle.isad_core.specs.Days.{IsDayNumber, is_day_number}
 use Rattle.desk_core.specs.DeskRows.{Desk as Rows}
 use Rattle.desk_core.specs.declared.reader.Place.TheVariants.{Desk}
 use Rattle.office_tables.specs.Schema as schema
@@ -14,14 +12,14 @@ use Rattle.desk_store.specs.Runs as stored
 use Rattle.office_core.specs.declared.command.Command.TheVariants as command
 use Rattle.office_core.specs.declared.done.Done.TheVariants as done
 use Rattle.desk_commands.specs.RunCreation.{open_orders, taken_by}
-use Rattle.desk_commands.proofs.Common.{All-permutation, AllByRecursion, CarriesOutStep, ContainerOrder, Database}
-use Rattle.desk_commands.proofs.Common.{Forest, Full, HoldingRow, IsLegible, IsNumberOf, IsPermutation}
-use Rattle.desk_commands.proofs.Common.{IsPermutation-sym, IsPermutation-trans, IsSoundOffice, Limits, NothingToMove}
-use Rattle.desk_commands.proofs.Common.{OnlyTouches, OrderRow, Place, RepresentsDesk, RepresentsState, RunLineRow}
-use Rattle.desk_commands.proofs.Common.{RunRow, State, Trees, Version, accepts, all_placed, fetched, fetched_out}
-use Rattle.desk_commands.proofs.Common.{firsts_of, goes_same, holding_rows, is_empty, limits_of, most_runs, nat_le}
-use Rattle.desk_commands.proofs.Common.{new_run, numbers_to, on_shelf, order_rows, orders_of_run, refusal, refuses}
-use Rattle.desk_commands.proofs.Common.{rows_of, run_line_rows, run_row, some_and, tables, with_all_placed, with_run}
+use Rattle.desk_commands.proofs.Common.{All-permutation, CarriesOutStep, ContainerOrder, Database, Forest, Full}
+use Rattle.desk_commands.proofs.Common.{HoldingRow, IsNumberOf, IsPermutation, IsPermutation-sym, IsPermutation-trans}
+use Rattle.desk_commands.proofs.Common.{IsSoundOffice, Limits, NothingToMove, OnlyTouches, OrderRow, Place}
+use Rattle.desk_commands.proofs.Common.{RepresentsDesk, RepresentsState, RunLineRow, RunRow, State, Trees, Version}
+use Rattle.desk_commands.proofs.Common.{accepts, all_placed, fetched, fetched_out, firsts_of, goes_same, holding_rows}
+use Rattle.desk_commands.proofs.Common.{is_empty, limits_of, most_runs, nat_le, new_run, numbers_to, on_shelf}
+use Rattle.desk_commands.proofs.Common.{order_rows, orders_of_run, refusal, refuses, rows_of, run_line_rows, run_row}
+use Rattle.desk_commands.proofs.Common.{some_and, tables, with_all_placed, with_run}
 use Rattle.desk_commands.proofs.Fetched.{as_many, brought, none_left, none_taken, one_left, same_lines, taken_within}
 use Rattle.desk_commands.proofs.MovedAll.{all_moved, rows_stay}
 use Rattle.desk_commands.proofs.Registered.{rows_end}
@@ -57,24 +55,6 @@ lines_moved db d ls same it = record {
   permit_tickets = it.permit_tickets;
 }
 
--- a desk with one run more can be read back
-pub legible_run : (k : Option ℕ) (day : ℤ) (os : List ContainerOrder) (d : Rows) → is_day_number day ≡ true
-    → IsLegible d → IsLegible (with_run k day os d)
-legible_run None day os d good it = it
-legible_run (Some n) day os d good it = record {
-  readers = it.readers;
-  seats = it.seats;
-  orders = it.orders;
-  holdings = it.holdings;
-  runs = one_more d.runs it.runs;
-  permits = it.permits;
-}
-  where
-    one_more : (rows : List RunRow) → AllByRecursion (λ (r : RunRow). is_day_number r.day ≡ true) rows
-        → AllByRecursion (λ (r : RunRow). is_day_number r.day ≡ true) (rows ++ record { id = n; day = day } ∷ [])
-    one_more [] h = (good, tt)
-    one_more (row ∷ rows) h = (h.0, one_more rows h.1)
-
 -- what a run takes, by the orders that were found of those that were told
 pub due_taken : (version : Version) (s : State) {limits : Limits} {waiting due : List ContainerOrder}
     → due ≡ open_orders s limits.run (on_shelf (tables version s).desk waiting) → limits ≡ limits_of s
@@ -86,9 +66,6 @@ due_taken version s {waiting = waiting} found allowed told =
     ∙ ap (open_orders s s.settings.run_size) (candidates_are (tables version s).desk)
 
 module _ (version : Version) (s : State) (sound : IsSoundOffice s) where
-  pub today_legible : (day : ℤ) → day ≡ s.day → is_day_number day ≡ true
-  today_legible day today = is_day_number-true day (subst IsDayNumber (sym today) sound.sound.days.today)
-
   abbrev taken : List ContainerOrder
   taken = taken_by version s
 

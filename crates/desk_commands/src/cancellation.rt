@@ -9,8 +9,9 @@ ghost use Rattle.refinement.specs.CommandSteps.{Performs, PerformsKnowing};
 
 use catalogue_store::Places;
 use desk_store::{OrderState, end_order, order};
+use isad_core::Number;
 use office_core::{Done, Refusal};
-use office_tables::{Number, StoreFault, Tables};
+use office_tables::{StoreFault, Tables};
 use sqlite::Alter;
 use std::alloc::Global;
 

@@ -18,9 +18,9 @@ use access::is_open_to;
 use catalogue_store::Places;
 use desk_core::{AtDesk, Limits, Place, Reader, known_container, may_issue};
 use desk_store::{OrderState, QueueHead, WaitingOrder, queue_head, ticket_holder};
-use isad_core::Day;
+use isad_core::{Day, Number};
 use office_core::{Done, Refusal};
-use office_tables::{Number, StoreFault, Tables};
+use office_tables::{StoreFault, Tables};
 use sqlite::Alter;
 use std::alloc::Global;
 
@@ -69,13 +69,7 @@ fn lend<P: Places, S: Alter>(
         (λ s. (refusal s (command.Issue container ticket) ≡ None) × (first_of (s.queue container) ≡ Some order))
         (command.Issue container ticket) tables.old tables.new result }
 {
-    hand_over(
-        tables,
-        container,
-        Place::Out(order.get()),
-        order,
-        OrderState::Out,
-    )?;
+    hand_over(tables, container, Place::Out(order), order, OrderState::Out)?;
     Ok(Ok(Done::Issue { order: order.get() }))
 }
 
@@ -104,7 +98,8 @@ fn issue_known<P: Places, S: Alter>(
 /// Issues a container to a reader, and tells the order's number. The container must be at the desk and open to the
 /// reader, the reader's order the first in its queue. The reader must have a valid ticket and a seat, and may hold one
 /// more container. Otherwise, also if the container is not known, the command is refused, by the first of
-/// `issue_checks` that does not hold. After a refusal the caller must roll the transaction back. `today` and `limits` must be the office's.
+/// `issue_checks` that does not hold. After a refusal the caller must roll the transaction back. `today` and `limits`
+/// must be the office's.
 pub fn issue<P: Places, S: Alter>(
     alloc: Global,
     tables: &mut Tables<P, S>,

@@ -13,9 +13,9 @@ use access::is_open_to;
 use catalogue_store::Places;
 use desk_core::{Ask, Limits, may_order};
 use desk_store::{LiveOrder, ReaderCard, append_order, reader};
-use isad_core::Day;
+use isad_core::{Day, Number};
 use office_core::{Done, Refusal};
-use office_tables::{Number, StoreFault, Tables, known_number};
+use office_tables::{StoreFault, Tables};
 use sqlite::Alter;
 use std::alloc::Global;
 
@@ -23,7 +23,7 @@ use std::alloc::Global;
 fn is_for_one(live: &[LiveOrder], container: Number) -> bool
     ensures { result ≡ list_any (λ (order : Live). nat_eq container order.container) live.now }
 {
-    live.iter().any(|order| container.get() == order.container)
+    live.iter().any(|order| container == order.container)
 }
 
 /// The facts that decide on an order for the container, besides the reader.
@@ -34,7 +34,7 @@ fn ask(card: &ReaderCard, container: Number, is_open: bool) -> Ask
         is_open,
         already: is_for_one(card.live.as_slice(), container),
         placed: card.placed,
-        orders: card.orders,
+        orders: u64::from(card.orders),
     }
 }
 
@@ -44,14 +44,13 @@ fn append<P: Places, S: Alter>(
     today: Day,
     ticket: Number,
     container: Number,
-    order: u64,
+    order: Number,
 ) -> Result<Result<Done, Refusal>, StoreFault>
     ensures { PerformsKnowing P.represents P.version S.Store (λ s. MayPlaceOrder s ticket container order today)
         (command.Order ticket container) tables.old tables.new result }
 {
-    let number = known_number(order)?;
-    append_order(tables, number, ticket, container, today)?;
-    Ok(Ok(Done::Order { order }))
+    append_order(tables, order, ticket, container, today)?;
+    Ok(Ok(Done::Order { order: order.get() }))
 }
 
 /// Places an order if the reader may place it. `is_open` is whether the container is open to the reader.
@@ -74,7 +73,13 @@ fn decide<P: Places, S: Alter>(
         &ask(card, container, is_open),
         limits,
     ) {
-        Ok(()) => append(tables, today, ticket, container, card.orders + 1),
+        Ok(()) => append(
+            tables,
+            today,
+            ticket,
+            container,
+            Number::from(card.orders + 1),
+        ),
         Err(why) => Ok(Err(why)),
     }
 }

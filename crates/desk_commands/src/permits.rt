@@ -10,9 +10,9 @@ ghost use Rattle.desk_commands.specs.Permits.{MayPermit, later_of, until_for};
 
 use catalogue_store::{Places, is_unit};
 use desk_store::{Permit, grant, is_registered, permits};
-use isad_core::{Day, limits};
+use isad_core::{Day, Number, limits};
 use office_core::{Done, Refusal};
-use office_tables::{Number, StoreFault, Tables};
+use office_tables::{StoreFault, Tables};
 use sqlite::Alter;
 use std::alloc::Global;
 
@@ -24,7 +24,7 @@ pub(crate) fn last_day(held: &[Permit], unit: Number) -> Option<Day>
     ensures { result ≡ until_for unit held.now }
 {
     held.iter()
-        .find(|permit| permit.unit == unit.get())
+        .find(|permit| permit.unit == unit)
         .map(|permit| permit.until)
 }
 

@@ -7,9 +7,9 @@ ghost use Rattle.refinement.specs.CommandSteps.{Performs, PerformsKnowing};
 
 use catalogue_store::Places;
 use desk_store::{is_registered, renew};
-use isad_core::Day;
+use isad_core::{Day, Number};
 use office_core::{Done, Refusal};
-use office_tables::{Number, StoreFault, Tables};
+use office_tables::{StoreFault, Tables};
 use sqlite::Alter;
 use std::alloc::Global;
 

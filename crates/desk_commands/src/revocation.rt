@@ -11,9 +11,9 @@ use crate::permits::last_day;
 use access::pass_gate_near;
 use catalogue_store::{Places, is_unit};
 use desk_store::{is_registered, permits, revoke};
-use isad_core::Day;
+use isad_core::{Day, Number};
 use office_core::{Done, Refusal};
-use office_tables::{Number, StoreFault, Tables};
+use office_tables::{StoreFault, Tables};
 use sqlite::Alter;
 use std::alloc::Global;
 

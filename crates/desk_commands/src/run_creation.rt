@@ -1,8 +1,6 @@
 //! Making runs, which bring containers to the desk.
 
 ghost use Rattle.std.specs.Prelude.{◌≡◌, ◌++◌, false, map, take, IfOk};
-ghost use Rattle.std.specs.List.{AllByRecursion};
-ghost use Rattle.isad_core.specs.Limits.{IsNumber};
 ghost use Rattle.desk_store.specs.Holdings.{on_shelf as those_on_shelf};
 ghost use Rattle.desk_store.specs.declared.container_orders.ContainerOrder.{ContainerOrder as Taken};
 ghost use Rattle.office_core.specs.Words.{is_empty};
@@ -22,7 +20,7 @@ use access::{OpenOrders, open_among};
 use catalogue_store::Places;
 use desk_core::{Limits, Place};
 use desk_store::{ContainerOrder, first_orders, on_shelf, record_run};
-use isad_core::Day;
+use isad_core::{Day, Number};
 use office_core::{Done, Refusal};
 use office_tables::{StoreFault, Tables};
 use sqlite::Alter;
@@ -59,8 +57,8 @@ fn found_and_open<P: Places, S: Alter>(
     Ok(due)
 }
 
-/// The first `most` of these orders whose containers are on the shelf and open to their readers. As many orders as a run
-/// takes are looked at first: often they are enough.
+/// The first `most` of these orders whose containers are on the shelf and open to their readers. As many orders as a
+/// run takes are looked at first: often they are enough.
 fn first_open<P: Places, S: Alter>(
     alloc: Global,
     tables: &mut Tables<P, S>,
@@ -84,15 +82,10 @@ fn first_open<P: Places, S: Alter>(
 }
 
 /// The containers of these orders.
-fn containers_of(alloc: Global, due: &[ContainerOrder]) -> Result<Vec<u64>, AllocError>
-    ensures theirs { IfOk result (λ all. all.items ≡ map (λ (o : Taken). o.container) due.now) }
-    ensures numbers { IfOk result (λ all. AllByRecursion IsNumber all.items) }
+fn containers_of(alloc: Global, due: &[ContainerOrder]) -> Result<Vec<Number>, AllocError>
+    ensures { IfOk result (λ all. all.items ≡ map (λ (o : Taken). o.container) due.now) }
 {
-    let mut all = Vec::new(alloc);
-    for order in due {
-        all.push(order.container.get())?;
-    }
-    Ok(all)
+    due.iter().map(|order| order.container).collect(alloc)
 }
 
 /// Records a run that takes these orders, and brings their containers to the desk.
@@ -100,9 +93,8 @@ fn bring<P: Places, S: Alter>(
     tables: &mut Tables<P, S>,
     today: Day,
     due: &[ContainerOrder],
-    containers: &[u64],
+    containers: &[Number],
 ) -> Result<Result<Done, Refusal>, StoreFault>
-    requires numbers { AllByRecursion IsNumber containers.now }
     requires theirs { containers.now ≡ map (λ (o : Taken). o.container) due.now }
     ensures { PerformsKnowing P.represents P.version S.Store
         (λ s. (today ≡ s.day) × (due.now ≡ taken_by P.version s) × (is_empty due.now ≡ false)) command.Run
@@ -111,7 +103,7 @@ fn bring<P: Places, S: Alter>(
     let Some(run) = record_run(tables, today, due)? else {
         return Ok(Err(Refusal::Full));
     };
-    move_all(tables, containers, Place::Desk)?;
+    move_all(tables, containers, &Place::Desk)?;
     Ok(Ok(Done::Run {
         run: run.get(),
         taken: due.len() as u64,

@@ -12,9 +12,9 @@ ghost use Rattle.desk_commands.specs.Seats.{MayLeave, MaySit};
 use catalogue_store::Places;
 use desk_core::{Limits, Reader, may_leave, may_sit};
 use desk_store::{TakenSeat, seats, set_seat, ticket_holder};
-use isad_core::Day;
+use isad_core::{Day, Number};
 use office_core::{Done, Refusal};
-use office_tables::{Number, StoreFault, Tables};
+use office_tables::{StoreFault, Tables};
 use sqlite::Alter;
 use std::alloc::{AllocError, Global};
 

@@ -11,7 +11,7 @@ use crate::emptiness::are_none;
 use catalogue_store::Places;
 use desk_core::{Place, pick_reshelve};
 use desk_store::at_desk;
-use isad_core::List;
+use isad_core::{List, Number};
 use office_core::{Done, Refusal};
 use office_tables::{StoreFault, Tables};
 use sqlite::Alter;
@@ -20,12 +20,12 @@ use std::alloc::Global;
 /// Moves these containers back to the shelf. They are known to be those at the desk that nobody waits for.
 fn shelve<P: Places, S: Alter>(
     tables: &mut Tables<P, S>,
-    containers: Vec<u64>,
+    containers: Vec<Number>,
 ) -> Result<Result<Done, Refusal>, StoreFault>
     ensures { PerformsKnowing P.represents P.version S.Store
         (λ s. (containers.items ≡ idle s) × (is_empty (idle s) ≡ false)) command.Reshelve tables.old tables.new result }
 {
-    move_all(tables, &containers, Place::Shelf)?;
+    move_all(tables, &containers, &Place::Shelf)?;
     Ok(Ok(Done::Reshelve {
         containers: List(containers),
     }))

@@ -20,8 +20,9 @@ pub struct AtDesk {
     pub is_open: bool,
 }
 
-/// May the container be issued to the ticket? `container` is `None` if it is not known. `reader` is
-/// `None` if the ticket was not given; such a ticket is not first in any queue.
+/// May the container be issued to the ticket? `container` is `None` if it is not known. `reader` is `None` if the
+/// ticket was not given; such a ticket is not first in any queue. The refusal is the first of these that holds:
+/// `UnknownContainer`, `NotAtDesk`, `NotFirst`, `TicketExpired`, `NotSeated`, `HandsFull`, `NotAvailable`.
 pub fn may_issue(
     container: Option<&AtDesk>,
     ticket: u64,

@@ -6,8 +6,8 @@ ghost use Rattle.desk_core.specs.Slips.{CountsCharacters, CountsPrintedCharacter
 ghost use Rattle.desk_core.specs.WorkedExamples.{WorkedRun, WorkedSlip};
 ghost use Rattle.desk_core.specs.declared.run.Candidate.{Candidate};
 
-/// What `run_of` takes is a run: no candidate that is left has a lower order number than one that is
-/// taken.
+/// What `run_of` takes is a run: as many candidates as it may, or all, by ascending order number. No candidate that is
+/// left has a lower order number than one that is taken.
 pub fn a_run_is_least()
     ensures { (candidates : List Candidate) (most : ℕ)
         → IsRun candidates (run_of candidates most) most }
@@ -24,8 +24,8 @@ pub fn reshelved_are_in_order()
     ensures { (containers : List ℕ) → IsInOrder nat_lt containers (in_order nat_lt containers) }
 {}
 
-/// The column widths of a slip count characters: the Unicode scalar values of a text, and those that
-/// are printed when it is put on one line.
+/// The column widths of a slip count characters: the Unicode scalar values of a text in UTF-8 and, when it is put on
+/// one line, those that are printed, where a CRLF counts once.
 pub fn places_count_characters()
     ensures kept { CountsCharacters }
     ensures printed { CountsPrintedCharacters }

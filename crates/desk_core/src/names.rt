@@ -14,7 +14,7 @@ fn is_printable(text: &str) -> bool
     text.bytes().all(|b| b >= b' ' && b != 127)
 }
 
-/// Whether a name may be a reader's: not too long, not blank, without control characters.
+/// Whether a name may be a reader's: 1 to 100 bytes, not only spaces, without the control characters of ASCII.
 pub fn is_name(name: &str) -> bool
     ensures { result ≡ is_reader_name name.now }
 {

@@ -24,7 +24,8 @@ pub struct Ask {
     pub orders: u64,
 }
 
-/// May the reader order the container?
+/// May the reader order the container? `reader` is `None` if the ticket was not given. The refusal is the first of
+/// these that holds: `UnknownTicket`, `TicketExpired`, `NotAvailable`, `AlreadyOrdered`, `DailyLimit`, `Full`.
 pub fn may_order(
     reader: Option<&Reader>,
     today: Day,

@@ -1,6 +1,6 @@
 //! Readers, places and limits.
 
-use isad_core::Day;
+use isad_core::{Day, Number};
 
 /// What the desk knows of the reader who has a ticket.
 #[derive(Debug, Clone, Copy, PartialEq, Eq)]
@@ -20,7 +20,7 @@ pub enum Place {
     Shelf,
     Desk,
     /// Out with a reader, by this order.
-    Out(u64),
+    Out(Number),
 }
 
 /// The limits of the reading room.

@@ -49,17 +49,17 @@ pub enum Refusal {
     IntoItself,
     /// A container that is out would no longer be open to its reader. It is the lowest such container.
     WithReader { container: u64 },
-    /// The first faulty row of a file, and its lowest cause.
+    /// The first faulty row of a file, and its lowest cause. Row 0 is the whole file, and row 1 its header.
     BadFile { row: u32, cause: u8 },
-    /// The limit is reached.
+    /// A limit of the office is reached, or an import would exceed one.
     Full,
     /// There is no container to move.
     NothingToMove,
-    /// A unit would lie too deep.
+    /// A unit that moves would lie too deep, or one below it.
     TooDeep,
     /// No such run was made.
     UnknownRun,
-    /// The name is not valid.
+    /// The name of the reader, or of the source, is not valid.
     BadName,
     /// The ticket has no permit for the unit.
     NoPermit,
@@ -139,7 +139,7 @@ impl Refusal {
     }
 }
 
-/// What was found of a container. A container of which nothing was found is not known.
+/// Returns what was found of a container. If nothing was found, refuses with `UnknownContainer`.
 pub fn known_container<T>(found: Option<T>) -> Result<T, Refusal>
     ensures refused { result_err result ≡ first_that_holds (checks_container (is_some found) ∷ []) }
     ensures found { IfOk result (λ it. found ≡ Some it) }

@@ -2,7 +2,7 @@
 ghost use Rattle.std.specs.Prelude.{◌≡◌, IfOk};
 ghost use Rattle.desk_core.specs.Runs.{idle_containers, reshelved_containers, run_of};
 
-use isad_core::Text;
+use isad_core::{Number, Text};
 use std::alloc::{AllocError, Global};
 
 /// A container that a run may take, with the first order that waits for it.
@@ -20,7 +20,7 @@ pub struct Candidate {
     pub kind: Text,
 }
 
-/// What a run of at most `max` containers takes: those with the lowest order numbers, in that order.
+/// What a run of at most `max` containers takes: those with the lowest order numbers, in the order of these numbers.
 pub fn pick_run(
     alloc: Global,
     candidates: &[Candidate],
@@ -38,9 +38,9 @@ pub fn pick_run(
     Ok(run)
 }
 
-/// The containers at the desk that no order waits for, ascending. `desk` has each container with
-/// whether an order waits for it.
-pub fn pick_reshelve(alloc: Global, desk: &[(u64, bool)]) -> Result<Vec<u64>, AllocError>
+/// The containers at the desk that no order waits for, ascending. `desk` has each container at the desk, in any order,
+/// with whether an order waits for it.
+pub fn pick_reshelve(alloc: Global, desk: &[(Number, bool)]) -> Result<Vec<Number>, AllocError>
     ensures { IfOk result (λ containers. containers.items ≡ reshelved_containers desk.now) }
 {
     let mut idle = not_waited_for(alloc, desk)?;
@@ -48,7 +48,7 @@ pub fn pick_reshelve(alloc: Global, desk: &[(u64, bool)]) -> Result<Vec<u64>, Al
     Ok(idle)
 }
 
-fn not_waited_for(alloc: Global, desk: &[(u64, bool)]) -> Result<Vec<u64>, AllocError>
+fn not_waited_for(alloc: Global, desk: &[(Number, bool)]) -> Result<Vec<Number>, AllocError>
     ensures { IfOk result (λ containers. containers.items ≡ idle_containers desk.now) }
 {
     desk.iter()

@@ -11,7 +11,9 @@ use crate::reader::{Limits, Reader};
 use crate::refusal::Refusal;
 use isad_core::Day;
 
-/// May the reader take a seat, and which one? `taken` has the taken seats, ascending.
+/// May the reader take a seat, and which one? It is the lowest that is free. `taken` has the taken seats, ascending.
+/// `reader` is `None` if the ticket was not given. The refusal is the first of these that holds: `UnknownTicket`,
+/// `TicketExpired`, `AlreadySeated`, `NoSeatFree`.
 pub fn may_sit(
     reader: Option<&Reader>,
     today: Day,
@@ -53,7 +55,8 @@ fn least_free_seat(taken: &[u32], seats: u32) -> Option<u32>
     if least <= seats { Some(least) } else { None }
 }
 
-/// May the reader leave the seat, and which seat becomes free?
+/// May the reader leave the seat, and which seat becomes free? `reader` is `None` if the ticket was not given. The
+/// refusal is the first of these that holds: `UnknownTicket`, `NotSeated`, `HoldsContainers`.
 pub fn may_leave(reader: Option<&Reader>) -> Result<u32, Refusal>
     ensures refused { result_err result
         ≡ first_that_holds (leave_seat_checks (leave_seat_facts (option_copied reader.entry))) }

@@ -9,8 +9,8 @@ use isad_core::{Day, Text, one_line};
 use std::alloc::{AllocError, Global};
 use std::cmp::Ordering;
 
-/// The text of a run's slip: a line with the run and its day, then a line for each container, in shelf
-/// order.
+/// The text of a run's slip: a line with the run and its day, then a line for each container, in shelf order: by
+/// location, name and kind, compared as stored, then by number.
 pub fn slip_text(
     alloc: Global,
     run: u64,

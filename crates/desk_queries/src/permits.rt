@@ -6,8 +6,9 @@ ghost use Rattle.refinement.specs.QueryAnswers.{Responds};
 use crate::json_values::{Told, list_text};
 use catalogue_store::Places;
 use desk_store::{Permit, is_registered, permits};
+use isad_core::Number;
 use office_core::{Answer, Refusal};
-use office_tables::{Number, StoreFault, Tables};
+use office_tables::{StoreFault, Tables};
 use replies::day_value;
 use serde_json::{Value, json};
 use sqlite::Alter;
@@ -20,7 +21,7 @@ impl Told for Permit {
 
     fn value(&self, alloc: Global) -> Result<Value, AllocError> {
         let until = day_value(alloc, self.until)?;
-        json!(in alloc; {"unit": self.unit, "until": until})
+        json!(in alloc; {"unit": self.unit.get(), "until": until})
     }
 }
 

@@ -14,9 +14,9 @@ use crate::json_values::{Told, values_of};
 use catalogue_store::Places;
 use desk_core::{Place, known_container};
 use desk_store::{ContainerQueue, WaitingOrder};
-use isad_core::List;
+use isad_core::{List, Number};
 use office_core::Answer;
-use office_tables::{Number, StoreFault, Tables};
+use office_tables::{StoreFault, Tables};
 use replies::text_of;
 use serde_json::{Value, json};
 use sqlite::Alter;
@@ -37,7 +37,7 @@ fn out_value(place: Place) -> Value
     ensures { view result ≡ or_null (option_map count (order_out place)) }
 {
     match place {
-        Place::Out(order) => Value::from(order),
+        Place::Out(order) => Value::from(order.get()),
         _ => Value::Null,
     }
 }

@@ -12,9 +12,9 @@ ghost use Rattle.desk_queries.specs.JsonValues.{card_data};
 use crate::json_values::{Told, values_of};
 use catalogue_store::Places;
 use desk_store::{LiveOrder, ReaderCard, reader};
-use isad_core::{Day, List};
+use isad_core::{Day, List, Number};
 use office_core::{Answer, Refusal};
-use office_tables::{Number, StoreFault, Tables};
+use office_tables::{StoreFault, Tables};
 use replies::{day_value, text_of};
 use serde_json::{Value, json};
 use sqlite::Alter;
@@ -34,7 +34,7 @@ impl Told for LiveOrder {
 
     fn value(&self, alloc: Global) -> Result<Value, AllocError> {
         let state = state_name(self.is_out);
-        json!(in alloc; {"container": self.container, "order": self.order, "state": state})
+        json!(in alloc; {"container": self.container.get(), "order": self.order.get(), "state": state})
     }
 }
 

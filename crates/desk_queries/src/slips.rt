@@ -5,9 +5,9 @@ ghost use Rattle.refinement.specs.QueryAnswers.{Responds};
 
 use catalogue_store::Places;
 use desk_core::slip_text;
-use isad_core::List;
+use isad_core::{List, Number};
 use office_core::{Answer, Refusal};
-use office_tables::{Number, StoreFault, Tables};
+use office_tables::{StoreFault, Tables};
 use sqlite::Alter;
 use std::alloc::Global;
 

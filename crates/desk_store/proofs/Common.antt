@@ -10,7 +10,7 @@ pub use Rattle.std.proofs.lemmas.Result.{IfOk-weaker}
 pub use Rattle.std.specs.Cmp.{IsTotalOrder, int_cmp_total, on_total, tied_itself}
 pub use Rattle.std.specs.List.{AllByRecursion, AllZip, cons_option, count_by, filter_map, list_all, list_any}
 pub use Rattle.std.specs.List.Sorted.{IsPermutation, IsSorted}
-pub use Rattle.std.specs.Ordering.{int_cmp, int_eq, is_eq, is_lt, match_ordering, nat_cmp, ordering_then}
+pub use Rattle.std.specs.Ordering.{int_cmp, int_eq, is_eq, is_lt, nat_cmp, ordering_then}
 pub use Rattle.std.specs.Prelude.{IfSome, IsOk, IsUtf8, is_some, nat_lt, option_map, slice_get, ⊤}
 pub use Rattle.sqlite.specs.Cast.{cast_row}
 pub use Rattle.sqlite.specs.Collation.TheVariants.{Binary}
@@ -36,7 +36,7 @@ pub use Rattle.sqlite_trees.proofs.ListLemmas.{all_weaker, ascending-filter, asc
 pub use Rattle.sqlite_value.specs.Keys.{ascending, plain}
 pub use Rattle.sqlite_value.specs.declared.keys.Key.{Key}
 pub use Rattle.isad_core.specs.Days.{is_day_number}
-pub use Rattle.isad_core.specs.Limits.{IsNumber, most_orders, most_runs, most_tickets}
+pub use Rattle.isad_core.specs.Limits.{most_orders, most_runs, most_tickets}
 pub use Rattle.isad_core.specs.declared.values.BoxKey.{BoxKey}
 pub use Rattle.desk_core.specs.DeskRows.{Desk, HoldingRow, OrderRow, PermitRow, ReaderRow, RunLineRow, RunRow, SeatRow}
 pub use Rattle.desk_core.specs.DeskRows.{with_state}
@@ -90,15 +90,15 @@ pub use Rattle.office_tables.specs.Step.{OnlyTouches, PutsRow, Spares}
 pub use Rattle.office_tables.specs.Versions.{First, Second, Version}
 pub use Rattle.office_tables.specs.declared.fault.StoreFault.{StoreFault}
 pub use Rattle.desk_store.specs.Holdings.{at_desk_of, candidates_of, firsts_of, is_first_waiting, is_on_shelf}
-pub use Rattle.desk_store.specs.Holdings.{issued_by, loan_by, on_shelf, placed_at, put_down, waits_for, with_place}
+pub use Rattle.desk_store.specs.Holdings.{issued_by, loan_by, on_shelf, put_down, waits_for, with_place}
 pub use Rattle.desk_store.specs.Orders.{IsAt, IsNextOrder, IsThere, holding_of, order_state_number, order_with}
 pub use Rattle.desk_store.specs.Orders.{queue_of, with_order, with_order_state}
 pub use Rattle.desk_store.specs.Permits.{HasUnitRow, MayHave, by_permitted_unit, desk_with_permit, desk_without_permit}
 pub use Rattle.desk_store.specs.Permits.{is_permit, permits_of, with_permit_row, without_permit}
 pub use Rattle.desk_store.specs.Readers.{card_of, has_not_ended, held_with, next_ticket, orders_not_ended, placed_on}
 pub use Rattle.desk_store.specs.Readers.{reader_with, renewed_readers, seat_of_ticket, ticket_holder, with_reader}
-pub use Rattle.desk_store.specs.Representation.{IsKnownPlace, IsLegible, IsLegibleReader, IsNumberOf, RepresentsDesk}
-pub use Rattle.desk_store.specs.Representation.{RepresentsDeskAlone}
+pub use Rattle.desk_store.specs.Representation.{IsKnownPlace, IsLegible, IsLegibleHolding, IsLegibleOrder}
+pub use Rattle.desk_store.specs.Representation.{IsLegibleReader, IsNumberOf, RepresentsDesk, RepresentsDeskAlone}
 pub use Rattle.desk_store.specs.Rows.{holding_cells, order_cells, reader_cells, run_cells, run_line_cells, seat_cells}
 pub use Rattle.desk_store.specs.RunCandidates.{is_earliest}
 pub use Rattle.desk_store.specs.Runs.{TakesEachOnce, line_of_run, lines_of, next_run, run_with, with_run}

@@ -14,15 +14,15 @@ use Rattle.office_tables.proofs.numbered.PutAgain.{put_gone}
 use Rattle.office_tables.specs.Schema as tables
 use Rattle.desk_store.proofs.Common.{AreByNumber, Binary, Chosen, Command, Compare, Delete, Desk, Eq, FaultsHaveCause}
 use Rattle.desk_store.proofs.Common.{Goes, HasCause, HasCleanDisk, HasRows, Held, HoldingRow, Holds, Insert, Int}
-use Rattle.desk_store.proofs.Common.{IsLegible, IsLive, IsUnlimited, IsWelcome, Leaves, Means, Null, OnlyTouches}
-use Rattle.desk_store.proofs.Common.{PutsRow, Ran, RepresentsDesk, RepresentsDeskAlone, Row, Shelf, State, StoreFault}
-use Rattle.desk_store.proofs.Common.{StoreUpdates, Term, Trees, Values, Version, ascending-filter, cast_int, cast_maybe}
-use Rattle.desk_store.proofs.Common.{cast_null, choosing, col, cut_then, delete_faults, delete_leaves, delete_only}
-use Rattle.desk_store.proofs.Common.{early, edit_of, goes_then, holding, holding_cells, insert_faults, insert_puts}
-use Rattle.desk_store.proofs.Common.{last_cause, last_touched, le_refl, list_any, lit, makes_well, number_welcome}
-use Rattle.desk_store.proofs.Common.{on_err_then, on_ok_then, only, op2, option_map, or_null, put_down, put_rises}
-use Rattle.desk_store.proofs.Common.{put_row, put_rows, references_fit, same_number, schema, state, still_unlimited}
-use Rattle.desk_store.proofs.Common.{touched_again, untouched_last, value_rows, with_place, ⊤}
+use Rattle.desk_store.proofs.Common.{IsLive, IsUnlimited, IsWelcome, Leaves, Means, Null, OnlyTouches, PutsRow, Ran}
+use Rattle.desk_store.proofs.Common.{RepresentsDesk, RepresentsDeskAlone, Row, Shelf, State, StoreFault, StoreUpdates}
+use Rattle.desk_store.proofs.Common.{Term, Trees, Values, Version, ascending-filter, cast_int, cast_maybe, cast_null}
+use Rattle.desk_store.proofs.Common.{choosing, col, cut_then, delete_faults, delete_leaves, delete_only, early, edit_of}
+use Rattle.desk_store.proofs.Common.{goes_then, holding, holding_cells, insert_faults, insert_puts, last_cause}
+use Rattle.desk_store.proofs.Common.{last_touched, le_refl, list_any, lit, makes_well, number_welcome, on_err_then}
+use Rattle.desk_store.proofs.Common.{on_ok_then, only, op2, option_map, or_null, put_down, put_rises, put_row, put_rows}
+use Rattle.desk_store.proofs.Common.{references_fit, same_number, schema, state, still_unlimited, touched_again}
+use Rattle.desk_store.proofs.Common.{untouched_last, value_rows, with_place, ⊤}
 use Rattle.desk_store.proofs.Frames.{with_holdings}
 
 -- ---- a container has no row any more
@@ -131,7 +131,7 @@ module _ {S : Type 0} (g : store.Ghosts S) (before mid : Held S) (n : ℕ) where
 
   module _ (goes : Goes a b) (rows : HasCleanDisk b → (xs : List HoldingRow) → Holds holding holding_cells a xs → AreByNumber (λ (x : HoldingRow). x.container) xs → HasRows tables.holding.tree (map holding_cells (without n xs)) a.now b.now)
       (only : HasCleanDisk b → OnlyTouches (tables.holding.tree ∷ []) a.now b.now) where
-    pub shelved : StoreUpdates g (tables.holding.tree ∷ []) RepresentsDeskAlone before mid (Ok (tt {0})) (λ _. ⊤) IsLegible (with_place n Shelf)
+    pub shelved : StoreUpdates g (tables.holding.tree ∷ []) RepresentsDeskAlone before mid (Ok (tt {0})) (λ _. ⊤) (λ _. ⊤) (with_place n Shelf)
     shelved = makes_well goes only (λ clean beside d shown may.
         let has = rows clean d.holdings shown.holdings shown.holdings_rise in
         with_holdings a.now b.now d shown _ has.only has.are (ascending-filter _ (λ (x : HoldingRow). not (nat_eq n x.container)) d.holdings shown.holdings_rise))
@@ -158,7 +158,7 @@ module _ {S : Type 0} (g : store.Ghosts S) (before mid : Held S) (n : ℕ) where
             ∙ ap (map holding_cells) (put_gone (λ (x : HoldingRow). x.container) here d.holdings shown.holdings_rise))
             (put_rises holding_cells (λ (x : HoldingRow). pos x.container) (λ _. refl) here d.holdings shown.holdings_rise)
 
-        pub placed : StoreUpdates g (tables.holding.tree ∷ []) RepresentsDeskAlone before after r (λ _. ⊤) IsLegible (λ d. record d { holdings = put_down here d.holdings })
+        pub placed : StoreUpdates g (tables.holding.tree ∷ []) RepresentsDeskAlone before after r (λ _. ⊤) (λ _. ⊤) (λ d. record d { holdings = put_down here d.holdings })
         placed = record {
           call = record {
             represents_updated = λ clean beside d shown may. on_ok_then r _ _ (λ put. moved clean put d shown) (puts clean);

@@ -3,14 +3,13 @@ use Rattle.std.proofs.Common.{◌≡◌, ◌≤◌, ℕ, pos, List, [], ◌∷�
 use Rattle.std.proofs.Common.{Option, Some, None, Result, IfOk, IfErr, nat_eq, refl, sym, ap, subst, ◌∙◌}
 use Rattle.sqlite.specs.Listing.{understood}
 use Rattle.sqlite_tied.specs.Compute.{everything}
-use Rattle.desk_store.specs.Representation.{IsLegibleOrder}
 use Rattle.desk_store.specs.declared.orders.OrderEntry.{OrderEntry}
 use Rattle.desk_store.specs.declared.orders.PlacedOrder.{PlacedOrder}
 use Rattle.desk_store.proofs.Common.{AllByRecursion, Binary, Command, Compare, Eq, Finds, HasCause, Holds, Int}
-use Rattle.desk_store.proofs.Common.{IsOrdered, IsThere, IsUnlimited, Means, Misses, OrderRow, Row, Select, State}
-use Rattle.desk_store.proofs.Common.{StoreFault, Term, Version, all_weaker, asking, by_one_int, col, is_day_number}
-use Rattle.desk_store.proofs.Common.{le_refl, only, op2, option_map, order_cells, order_state_number, orders}
-use Rattle.desk_store.proofs.Common.{same_number, schema, select_faults, select_finds}
+use Rattle.desk_store.proofs.Common.{IsLegibleOrder, IsOrdered, IsThere, IsUnlimited, Means, Misses, OrderRow, Row}
+use Rattle.desk_store.proofs.Common.{Select, State, StoreFault, Term, Version, all_weaker, asking, by_one_int, col}
+use Rattle.desk_store.proofs.Common.{is_day_number, le_refl, only, op2, option_map, order_cells, order_state_number}
+use Rattle.desk_store.proofs.Common.{orders, same_number, schema, select_faults, select_finds}
 use Rattle.desk_store.proofs.CardRows.{by_order, in_order}
 
 abbrev pub entry_of : OrderRow → OrderEntry

@@ -4,13 +4,12 @@ use Rattle.std.proofs.Common.{Some, None, Result, IfOk, IfErr, nat_eq, refl, sym
 use Rattle.sqlite.specs.Listing.{understood}
 use Rattle.sqlite_tied.specs.Compute.{everything}
 use Rattle.desk_core.specs.declared.reader.Place.TheVariants.{Desk as AtTheDesk}
-use Rattle.desk_store.specs.Representation.{IsLegibleHolding}
 use Rattle.desk_store.specs.declared.queues.PlaceEntry.{PlaceEntry}
 use Rattle.desk_store.proofs.Common.{AllByRecursion, Binary, Command, Compare, Eq, Finds, HasCause, HoldingRow, Holds}
-use Rattle.desk_store.proofs.Common.{Int, IsAt, IsKnownPlace, IsOrdered, IsUnlimited, Means, Misses, Out, Place, Row}
-use Rattle.desk_store.proofs.Common.{Select, Shelf, State, StoreFault, Term, Version, all_of, asking, by_one_int, col}
-use Rattle.desk_store.proofs.Common.{holding, holding_cells, le_refl, only, op2, option_map, or_null, same_number}
-use Rattle.desk_store.proofs.Common.{schema, select_faults, select_finds, ⊤}
+use Rattle.desk_store.proofs.Common.{Int, IsAt, IsKnownPlace, IsLegibleHolding, IsOrdered, IsUnlimited, Means, Misses}
+use Rattle.desk_store.proofs.Common.{Out, Place, Row, Select, Shelf, State, StoreFault, Term, Version, all_of, asking}
+use Rattle.desk_store.proofs.Common.{by_one_int, col, holding, holding_cells, le_refl, only, op2, option_map, or_null}
+use Rattle.desk_store.proofs.Common.{same_number, schema, select_faults, select_finds, ⊤}
 use Rattle.desk_store.proofs.CardRows.{in_order}
 use Rattle.desk_store.proofs.LoanRows.{by_container}
 

@@ -24,7 +24,7 @@ with_place c place d = record d { holdings = placed_at c place d.holdings }
 
 -- ---- containers that are with readers
 
--- the ticket of an order
+-- the ticket that placed an order, or none if there is no such order
 abbrev pub ticket_of : List OrderRow → ℕ → Option ℕ
 ticket_of orders o = option_map (λ (row : OrderRow). row.ticket) (find (λ (row : OrderRow). nat_eq o row.id) orders)
 
@@ -37,7 +37,7 @@ loan_by orders c held_by =
 abbrev pub issued_by : List OrderRow → HoldingRow → Option ContainerOrder
 issued_by orders h = loan_by orders h.container h.held_by
 
--- the containers that are with readers, by number
+-- the containers that are with readers, by number, each with its order and ticket
 abbrev pub issued_of : Desk → List ContainerOrder
 issued_of d = filter_map (issued_by d.orders) d.holdings
 

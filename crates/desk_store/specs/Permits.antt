@@ -11,7 +11,7 @@ use Rattle.office_tables.specs.Schema as tables
 use Rattle.desk_store.specs.Representation.{IsNumberOf}
 use Rattle.desk_store.specs.declared.reader_permits.Permit.{Permit}
 
--- the units for which a ticket has a permit, each with its last day
+-- the units for which a ticket has a permit, each with the last day on which it holds
 abbrev pub permits_of : ℕ → Desk → List Permit
 permits_of t d =
     map (λ (p : PermitRow). record { unit = p.unit; until = p.until }) (filter (λ (p : PermitRow). nat_eq t p.ticket) d.permits)

@@ -20,7 +20,7 @@ abbrev pub with_reader : Option ℕ → Bytes → ℤ → Desk → Desk
 with_reader None name until d = d
 with_reader (Some t) name until d = record d { readers = d.readers ++ record { ticket = t; name = name; until = until } ∷ [] }
 
--- the reader with the ticket
+-- the reader with the ticket, or none if the ticket was not given
 abbrev pub reader_with : ℕ → Desk → Option ReaderRow
 reader_with t d = find (λ (r : ReaderRow). nat_eq t r.ticket) d.readers
 
@@ -33,7 +33,7 @@ with_last_day t until d = record d { readers = renewed_readers t until d.readers
 
 -- ---- what is known about a ticket
 
--- the seat on which the ticket's reader sits
+-- the seat on which the ticket's reader sits, or none
 abbrev pub seat_of_ticket : ℕ → Desk → Option ℕ
 seat_of_ticket t d = option_map (λ (s : SeatRow). s.seat) (find (λ (s : SeatRow). nat_eq t s.ticket) d.seats)
 
@@ -47,7 +47,7 @@ orders_not_ended t d =
     map (λ (o : OrderRow). record { order = o.id; container = o.container; is_out = nat_eq o.state 2 })
     (filter (λ o. nat_eq t o.ticket && has_not_ended o) d.orders)
 
--- how many containers are out with the ticket
+-- how many containers are out with the ticket: one for each of its orders that is out
 abbrev pub held_with : ℕ → Desk → ℕ
 held_with t d = count_by (λ (o : OrderRow). nat_eq t o.ticket && nat_eq o.state 2) d.orders
 
@@ -60,7 +60,7 @@ abbrev pub ticket_holder : ℕ → Desk → Option Reader
 ticket_holder t d =
     option_map (λ (r : ReaderRow). record { ticket = t; until = r.until; seat = seat_of_ticket t d; held = held_with t d }) (reader_with t d)
 
--- the reader's card on a day
+-- the reader's card on a day, or none if the ticket was not given
 abbrev pub card_of : ℕ → ℤ → Desk → Option ReaderCard
 card_of t today d =
     option_map

@@ -24,7 +24,7 @@ with_run (Some n) day taken d =
 abbrev pub run_with : ℕ → Desk → Option RunRow
 run_with n d = find (λ (r : RunRow). nat_eq n r.id) d.runs
 
--- the lines of a run
+-- the lines of a run, in any order
 abbrev pub lines_of : ℕ → Desk → List RunLineRow
 lines_of n d = filter (λ l. nat_eq n l.run) d.run_lines
 

@@ -13,12 +13,12 @@ ghost use Rattle.office_tables.specs.RowNumbers.{AreCounted};
 ghost use Rattle.office_tables.specs.TableStatements.{LooksUp};
 ghost use Rattle.desk_store.specs.Storage.{RepresentsQueues, IsLegibleStorage, container_with};
 
-use isad_core::BoxKey;
-use office_tables::{Number, StoreFault, Tables, Versioned, find_one};
+use isad_core::{BoxKey, Number};
+use office_tables::{StoreFault, Tables, Versioned, cell, find_one};
 use sqlite::Alter;
 use std::alloc::Global;
 
-/// What is written on the container with this number, or none if no row has the number.
+/// What is written on the container with this number (name, location and kind), or none if no row has the number.
 fn find_box<P: Versioned, S: Alter>(
     alloc: Global,
     tables: &mut Tables<P, S>,
@@ -33,11 +33,11 @@ fn find_box<P: Versioned, S: Alter>(
         alloc,
         tables,
         "SELECT name, location, kind FROM container WHERE id = ?1 ORDER BY id",
-        &[container.cell()],
+        &[cell(container)],
     )
 }
 
-/// What is written on the container with this number, or none if the container is not known.
+/// What is written on the container with this number (name, location and kind), or none if the container is not known.
 pub(crate) fn box_of<P: Versioned, S: Alter>(
     alloc: Global,
     tables: &mut Tables<P, S>,
@@ -50,12 +50,12 @@ pub(crate) fn box_of<P: Versioned, S: Alter>(
     find_box(alloc, tables, container)
 }
 
-/// The number of the container with this number, or none. Nothing that is written on it is read.
+/// The number of the container with this number, or none if no row has it. Nothing that is written on it is read.
 fn find_container<P: Versioned, S: Alter>(
     alloc: Global,
     tables: &mut Tables<P, S>,
     container: Number,
-) -> Result<Option<u64>, StoreFault>
+) -> Result<Option<Number>, StoreFault>
     ensures { LooksUp S.Store (Holds schema.container numbered_container_cells) tables.old tables.new result
         when AreCounted (λ b. b.0) gives λ bs found. found ≡ option_map (λ (b : ℕ × BoxKey). b.0)
         (find (λ (b : ℕ × BoxKey). nat_eq container b.0) bs) }
@@ -64,7 +64,7 @@ fn find_container<P: Versioned, S: Alter>(
         alloc,
         tables,
         "SELECT id FROM container WHERE id = ?1 ORDER BY id",
-        &[container.cell()],
+        &[cell(container)],
     )
 }
 

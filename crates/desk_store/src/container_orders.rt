@@ -1,7 +1,8 @@
 //! Containers, each with an order for it.
 
+use isad_core::Number;
 use office_tables::from_row::FromRow;
-use office_tables::{Number, StoreFault};
+use office_tables::{StoreFault, number_at};
 use sqlite::Row;
 
 /// A container, an order for it, and the ticket that placed the order: a loan, what a run may take, or a line of a run.
@@ -22,9 +23,9 @@ impl FromRow for ContainerOrder {
 
     fn read(row: &Row) -> Result<ContainerOrder, StoreFault> {
         Ok(ContainerOrder {
-            container: row.get(0)?,
-            order: row.get(1)?,
-            ticket: row.get(2)?,
+            container: number_at(row, 0)?,
+            order: number_at(row, 1)?,
+            ticket: number_at(row, 2)?,
         })
     }
 }

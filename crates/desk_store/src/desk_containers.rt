@@ -13,12 +13,13 @@ ghost use Rattle.desk_store.specs.Representation.{RepresentsDeskAlone, IsLegible
 ghost use Rattle.office_tables.specs.RowNumbers.{AreByNumber};
 
 use crate::waiting_orders::is_awaited;
-use office_tables::{Number, StoreFault, Tables, Versioned, find};
+use isad_core::Number;
+use office_tables::{StoreFault, Tables, Versioned, find};
 use sqlite::Alter;
 use std::alloc::Global;
 
-/// The containers at the desk, by number. This reads the whole table, which has a row for each container
-/// that is not on the shelf.
+/// The containers at the desk, in ascending order of their numbers. This reads the whole table, which has a row for
+/// each container that is not on the shelf.
 fn desk_lines<P: Versioned, S: Alter>(
     alloc: Global,
     tables: &mut Tables<P, S>,
@@ -35,11 +36,12 @@ fn desk_lines<P: Versioned, S: Alter>(
     )
 }
 
-/// The containers at the desk, by number. The flag is true if an order waits for the container.
+/// The containers at the desk, in ascending order of their numbers. The flag is true if an order waits for the
+/// container. Containers out with readers are left out.
 pub fn at_desk<P: Versioned, S: Alter>(
     alloc: Global,
     tables: &mut Tables<P, S>,
-) -> Result<Vec<(u64, bool)>, StoreFault>
+) -> Result<Vec<(Number, bool)>, StoreFault>
     ensures answers { StoreAnswers S.Store RepresentsDeskAlone tables.old tables.new result
         within IsLegible gives λ _ d all. all.items ≡ at_desk_of d }
 {
@@ -47,7 +49,7 @@ pub fn at_desk<P: Versioned, S: Alter>(
     let mut told = Vec::new(alloc);
     for container in &containers {
         let awaited = is_awaited(tables, *container)?;
-        told.push((container.get(), awaited))?;
+        told.push((*container, awaited))?;
     }
     Ok(told)
 }

@@ -1,23 +1,23 @@
 //! Where containers are.
 
-ghost use Rattle.std.specs.Prelude.{◌≡◌, not, nat_eq, false, [], ◌∷◌, filter, IfSome};
+ghost use Rattle.std.specs.Prelude.{◌≡◌, not, nat_eq, false, [], ◌∷◌, filter};
 ghost use Rattle.std.specs.List.{list_any};
-ghost use Rattle.isad_core.specs.Limits.{IsNumber};
 ghost use Rattle.office_tables.specs.Calls.{StoreUpdates};
-ghost use Rattle.office_tables.specs.Premises.{◌when◌leaves◌, ◌within◌adds◌, ◌within◌gives◌};
+ghost use Rattle.office_tables.specs.Premises.{◌gives◌, ◌when◌leaves◌, ◌within◌adds◌};
 ghost use Rattle.office_tables.specs.Schema as schema;
 ghost use Rattle.office_tables.specs.TableStatements.{Puts, Thins};
-ghost use Rattle.desk_core.specs.Decisions.{order_out};
 ghost use Rattle.desk_store.specs.Holdings.{with_place};
 ghost use Rattle.desk_store.specs.Rows.{holding_cells};
-ghost use Rattle.desk_store.specs.Representation.{RepresentsDeskAlone, IsLegible};
+ghost use Rattle.desk_store.specs.Representation.{RepresentsDeskAlone};
 ghost use Rattle.office_tables.specs.RowNumbers.{AreByNumber};
 
 use desk_core::Place;
-use office_tables::{Number, StoreFault, Tables, Versioned, cell_or_null, change};
+use isad_core::Number;
+use office_tables::{StoreFault, Tables, Versioned, cell, cell_or_null, change};
 use sqlite::Alter;
 
-/// Deletes the row of a container, as if the container were on the shelf. The row is found by its number.
+/// Deletes the row of a container, if it has one, as if the container were on the shelf. The row is found by its
+/// number.
 fn clear_holding<P: Versioned, S: Alter>(
     tables: &mut Tables<P, S>,
     container: Number,
@@ -28,7 +28,7 @@ fn clear_holding<P: Versioned, S: Alter>(
     change(
         tables,
         "DELETE FROM holding WHERE container = ?1",
-        &[container.cell()],
+        &[cell(container)],
     )
 }
 
@@ -46,24 +46,24 @@ fn insert_holding<P: Versioned, S: Alter>(
     change(
         tables,
         "INSERT INTO holding (container, place, held_by) VALUES (?1, ?2, ?3)",
-        &[container.cell(), place.cell(), cell_or_null(held_by)],
+        &[cell(container), cell(place), cell_or_null(held_by)],
     )
 }
 
-/// Moves a container to a place. A container on the shelf has no row.
+/// Moves a container to a place: the shelf, where it has no row, the desk, or out with an order. Neither the container
+/// nor the order is looked up, and no state of an order is changed. After a fault the container may have no row.
 pub fn set_place<P: Versioned, S: Alter>(
     tables: &mut Tables<P, S>,
     container: Number,
     place: Place,
 ) -> Result<(), StoreFault>
-    requires known { IfSome (order_out place) IsNumber }
     ensures updates { StoreUpdates S.Store (schema.holding.tree ∷ []) RepresentsDeskAlone tables.old tables.new result
-        within IsLegible gives with_place container place }
+        gives with_place container place }
 {
     clear_holding(tables, container)?;
     match place {
         Place::Shelf => Ok(()),
         Place::Desk => insert_holding(tables, container, Number::from(1), None),
-        Place::Out(order) => insert_holding(tables, container, Number::from(2), Number::of(order)),
+        Place::Out(order) => insert_holding(tables, container, Number::from(2), Some(order)),
     }
 }

@@ -1,4 +1,6 @@
-//! The reading room's tables.
+//! The reading room's tables. The calls need an open transaction, and without one fail with `StoreFault::Schema`. If
+//! the desk is not legible (`IsLegible`), calls that read may fail with `Schema`, too. After a fault the caller must
+//! roll back: a part may be done.
 #![tactic(auto)]
 
 mod blank;

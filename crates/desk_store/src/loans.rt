@@ -13,8 +13,11 @@ ghost use Rattle.desk_store.specs.Representation.{RepresentsDeskAlone, IsLegible
 ghost use Rattle.office_tables.specs.RowNumbers.{AreByNumber, AreCounted};
 
 use crate::container_orders::ContainerOrder;
+use isad_core::Number;
 use office_tables::from_row::FromRow;
-use office_tables::{Number, StoreFault, Tables, Versioned, find, find_one};
+use office_tables::{
+    StoreFault, Tables, Versioned, cell, find, find_one, number_at, number_or_null_at,
+};
 use sqlite::{Alter, Row};
 use std::alloc::Global;
 
@@ -22,7 +25,7 @@ use std::alloc::Global;
 #[derive(Debug, Clone, Copy, PartialEq, Eq, Drop)]
 pub(crate) struct HoldingLine {
     pub container: Number,
-    /// The order that it is out with.
+    /// The order that it is out with, or none.
     pub held_by: Option<Number>,
 }
 
@@ -37,14 +40,14 @@ impl FromRow for HoldingLine {
 
     fn read(row: &Row) -> Result<HoldingLine, StoreFault> {
         Ok(HoldingLine {
-            container: row.get(0)?,
-            held_by: row.get(1)?,
+            container: number_at(row, 0)?,
+            held_by: number_or_null_at(row, 1)?,
         })
     }
 }
 
-/// The containers that are not on the shelf, by number. This reads the whole table, which has a row for
-/// each of them.
+/// The containers that are not on the shelf, in ascending order of their numbers. This reads the whole table, which has
+/// a row for each of them.
 pub(crate) fn holding_lines<P: Versioned, S: Alter>(
     alloc: Global,
     tables: &mut Tables<P, S>,
@@ -74,7 +77,7 @@ fn find_ticket<P: Versioned, S: Alter>(
         alloc,
         tables,
         "SELECT ticket FROM orders WHERE id = ?1 ORDER BY id",
-        &[order.cell()],
+        &[cell(order)],
     )
 }
 
@@ -90,7 +93,8 @@ fn holder_of<P: Versioned, S: Alter>(
     find_ticket(alloc, tables, order)
 }
 
-/// The loan of the container in this line, or none if the line has no order or there is no such order.
+/// The loan of the container in this line, with the order and the ticket that placed it, or none if the line has no
+/// order or there is no such order.
 fn loan_of<P: Versioned, S: Alter>(
     alloc: Global,
     tables: &mut Tables<P, S>,
@@ -112,7 +116,8 @@ fn loan_of<P: Versioned, S: Alter>(
     }))
 }
 
-/// The containers that are with readers, by number.
+/// The containers that are with readers, in ascending order of their numbers, each with the order that it is out with
+/// and the ticket that placed it. A row that names no order, or one that does not exist, is left out.
 pub fn issued<P: Versioned, S: Alter>(
     alloc: Global,
     tables: &mut Tables<P, S>,

@@ -48,7 +48,8 @@ fn set_day<P: Versioned, S: Alter>(tables: &mut Tables<P, S>, on: Day) -> Result
     )
 }
 
-/// Opens the desk on another day: all seats become free.
+/// Opens the desk on another day, whichever it is: writes it into the office's row, and all seats become free. Nothing
+/// else is changed. After a fault the seats may be free and the day the old one.
 pub fn open_day<P: Versioned, S: Alter>(
     tables: &mut Tables<P, S>,
     on: Day,

@@ -16,9 +16,9 @@ ghost use Rattle.desk_store.specs.Representation.{RepresentsDeskAlone, IsLegible
 ghost use Rattle.office_tables.specs.RowNumbers.{AreCounted};
 
 use crate::orders::OrderState;
-use isad_core::Day;
+use isad_core::{Day, Number};
 use office_tables::value::day;
-use office_tables::{Number, StoreFault, Tables, Versioned, change};
+use office_tables::{StoreFault, Tables, Versioned, cell, change};
 use sqlite::Alter;
 
 /// Inserts an order under a number that was not given yet. The order waits.
@@ -36,12 +36,13 @@ fn insert_order<P: Versioned, S: Alter>(
     change(
         tables,
         "INSERT INTO orders (id, ticket, container, day, state) VALUES (?1, ?2, ?3, ?4, 1)",
-        &[order.cell(), ticket.cell(), container.cell(), day(on)],
+        &[cell(order), cell(ticket), cell(container), day(on)],
     )
 }
 
-/// Places an order, which waits, under the number after the last. One more order must be allowed. If the call succeeds,
-/// it adds exactly this row, whatever the number, and however many orders there are.
+/// Places an order, which waits. `order` must be the number after the last, and there must be fewer than `MOST_ORDERS`
+/// orders. The ticket and the container are not looked up. If the call succeeds, it adds exactly this row, whatever the
+/// number, and however many orders there are.
 pub fn append_order<P: Versioned, S: Alter>(
     tables: &mut Tables<P, S>,
     order: Number,
@@ -59,7 +60,7 @@ pub fn append_order<P: Versioned, S: Alter>(
     insert_order(tables, order, ticket, container, on)
 }
 
-/// The number that represents a state in the table.
+/// The number that represents a state in the table: 1 waiting, 2 out, 3 done, 4 cancelled.
 fn number_of(next: OrderState) -> Number
     ensures { result ≡ order_state_number next }
 {
@@ -71,7 +72,7 @@ fn number_of(next: OrderState) -> Number
     }
 }
 
-/// Sets the state of an order, which is found by its number.
+/// Sets the state of an order, which is found by its number. If there is no such order, nothing is changed.
 fn set_state<P: Versioned, S: Alter>(
     tables: &mut Tables<P, S>,
     order: Number,
@@ -83,11 +84,12 @@ fn set_state<P: Versioned, S: Alter>(
     change(
         tables,
         "UPDATE orders SET state = ?1 WHERE id = ?2",
-        &[next.cell(), order.cell()],
+        &[cell(next), cell(order)],
     )
 }
 
-/// Sets the state of an order: any state is accepted, usually out, done or cancelled.
+/// Sets the state of an order: any state is accepted, usually out, done or cancelled. If there is no such order,
+/// nothing is changed.
 pub fn end_order<P: Versioned, S: Alter>(
     tables: &mut Tables<P, S>,
     order: Number,

@@ -15,9 +15,9 @@ ghost use Rattle.desk_store.specs.Rows.{order_cells};
 ghost use Rattle.desk_store.specs.Representation.{IsLegibleOrder, RepresentsDeskAlone, IsLegible};
 ghost use Rattle.office_tables.specs.RowNumbers.{AreCounted};
 
-use isad_core::Day;
+use isad_core::{Day, Number};
 use office_tables::from_row::FromRow;
-use office_tables::{Number, StoreFault, Tables, Versioned, find_one};
+use office_tables::{StoreFault, Tables, Versioned, cell, find_one, number_at};
 use sqlite::{Alter, Row};
 use std::alloc::Global;
 
@@ -33,8 +33,8 @@ pub enum OrderState {
 /// An order that was placed.
 #[derive(Debug, Clone, Copy, PartialEq, Eq)]
 pub struct PlacedOrder {
-    pub ticket: u64,
-    pub container: u64,
+    pub ticket: Number,
+    pub container: Number,
     /// When it was placed.
     pub day: Day,
     pub state: OrderState,
@@ -50,8 +50,8 @@ pub struct WaitingOrder {
 /// The row of an order, without its number.
 #[derive(Debug, Clone, Copy, PartialEq, Eq, Drop)]
 struct OrderEntry {
-    ticket: u64,
-    container: u64,
+    ticket: Number,
+    container: Number,
     day: Day,
     /// 1 waiting, 2 out, 3 done, 4 cancelled.
     state: u64,
@@ -72,8 +72,8 @@ impl FromRow for OrderEntry {
             return Err(StoreFault::Schema);
         };
         Ok(OrderEntry {
-            ticket: row.get(0)?,
-            container: row.get(1)?,
+            ticket: number_at(row, 0)?,
+            container: number_at(row, 1)?,
             day,
             state: row.get(3)?,
         })
@@ -96,7 +96,7 @@ fn find_order<P: Versioned, S: Alter>(
         alloc,
         tables,
         "SELECT ticket, container, day, state FROM orders WHERE id = ?1 ORDER BY id",
-        &[order.cell()],
+        &[cell(order)],
     )
 }
 
@@ -126,7 +126,8 @@ impl OrderEntry {
     }
 }
 
-/// The order with this number, or none if no such order was placed.
+/// The order with this number, or none if no such order was placed. If its day or its state is not a valid one, it may
+/// fail with `Schema`.
 pub fn order<P: Versioned, S: Alter>(
     alloc: Global,
     tables: &mut Tables<P, S>,

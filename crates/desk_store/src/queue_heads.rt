@@ -9,7 +9,8 @@ use crate::orders::WaitingOrder;
 use crate::queues::place_of;
 use crate::waiting_orders::first_for;
 use desk_core::Place;
-use office_tables::{Number, StoreFault, Tables, Versioned};
+use isad_core::Number;
+use office_tables::{StoreFault, Tables, Versioned};
 use sqlite::Alter;
 use std::alloc::Global;
 
@@ -17,12 +18,12 @@ use std::alloc::Global;
 #[derive(Debug, Clone, Copy, PartialEq, Eq)]
 pub struct QueueHead {
     pub place: Place,
-    /// The order with the least number of those that wait for it.
+    /// The order with the least number of those that wait for it, or none if none waits.
     pub first: Option<WaitingOrder>,
 }
 
-/// Where a container is, and the first order that waits for it; none if the container is not known. Neither what is
-/// written on the container nor any other order is read.
+/// Where a container is, and the order with the least number of those that wait for it, if one waits; none if the
+/// container is not known. Neither what is written on the container nor any other order is read.
 pub fn queue_head<P: Versioned, S: Alter>(
     alloc: Global,
     tables: &mut Tables<P, S>,

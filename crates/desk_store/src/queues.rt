@@ -17,9 +17,9 @@ use crate::container_labels::box_of;
 use crate::orders::WaitingOrder;
 use crate::waiting_orders::waiting_for;
 use desk_core::Place;
-use isad_core::{List, Text};
+use isad_core::{List, Number, Text};
 use office_tables::from_row::FromRow;
-use office_tables::{Number, StoreFault, Tables, Versioned, find_one};
+use office_tables::{StoreFault, Tables, Versioned, cell, find_one, number_or_null_at};
 use sqlite::{Alter, Row};
 use std::alloc::Global;
 
@@ -29,7 +29,7 @@ pub struct ContainerQueue {
     /// The name that is written on it.
     pub name: Text,
     pub place: Place,
-    /// The orders that wait for it, by number.
+    /// The orders that wait for it, in ascending order of their numbers.
     pub waiting: List<WaitingOrder>,
 }
 
@@ -38,8 +38,8 @@ pub struct ContainerQueue {
 struct PlaceEntry {
     /// 1 at the desk, 2 out.
     place: u64,
-    /// The order that it is out with.
-    held_by: Option<u64>,
+    /// The order that it is out with, or none.
+    held_by: Option<Number>,
 }
 
 impl FromRow for PlaceEntry {
@@ -54,7 +54,7 @@ impl FromRow for PlaceEntry {
     fn read(row: &Row) -> Result<PlaceEntry, StoreFault> {
         Ok(PlaceEntry {
             place: row.get(0)?,
-            held_by: row.get(1)?,
+            held_by: number_or_null_at(row, 1)?,
         })
     }
 }
@@ -91,11 +91,11 @@ fn find_place<P: Versioned, S: Alter>(
         alloc,
         tables,
         "SELECT place, held_by FROM holding WHERE container = ?1 ORDER BY container",
-        &[container.cell()],
+        &[cell(container)],
     )
 }
 
-/// Where a container is. A container without a row is on the shelf.
+/// Where a container is. A container without a row, even one that is not known, is on the shelf.
 pub(crate) fn place_of<P: Versioned, S: Alter>(
     alloc: Global,
     tables: &mut Tables<P, S>,
@@ -110,7 +110,8 @@ pub(crate) fn place_of<P: Versioned, S: Alter>(
     }
 }
 
-/// The name of a container, where it is, and the orders that wait for it; none if the container is not known.
+/// The name of a container, where it is, and the orders that wait for it, in ascending order of their numbers; none if
+/// the container is not known.
 pub fn queue<P: Versioned, S: Alter>(
     alloc: Global,
     tables: &mut Tables<P, S>,

@@ -17,17 +17,17 @@ ghost use Rattle.office_tables.specs.Permits.{permit_cells};
 ghost use Rattle.desk_store.specs.Representation.{RepresentsDeskAlone, IsLegible};
 ghost use Rattle.office_tables.specs.RowNumbers.{HasNumbered};
 
-use isad_core::Day;
+use isad_core::{Day, Number};
 use office_tables::from_row::FromRow;
 use office_tables::value::day;
-use office_tables::{Number, StoreFault, Tables, Versioned, change, find};
+use office_tables::{StoreFault, Tables, Versioned, cell, change, find, number_at};
 use sqlite::{Alter, Row};
 use std::alloc::Global;
 
 /// A permit for a unit, up to and including a day.
 #[derive(Debug, Clone, Copy, PartialEq, Eq, Drop)]
 pub struct Permit {
-    pub unit: u64,
+    pub unit: Number,
     pub until: Day,
 }
 
@@ -46,13 +46,14 @@ impl FromRow for Permit {
             return Err(StoreFault::Schema);
         };
         Ok(Permit {
-            unit: row.get(0)?,
+            unit: number_at(row, 0)?,
             until,
         })
     }
 }
 
-/// The permits of a ticket, in order of unit. They are found by the ticket, the first column of the primary key.
+/// The permits of a ticket, in ascending order of the units' numbers, whether they are still valid or not. Empty if it
+/// has none. They are found by the ticket, the first column of the primary key.
 pub fn permits<P: Versioned, S: Alter>(
     alloc: Global,
     tables: &mut Tables<P, S>,
@@ -65,11 +66,12 @@ pub fn permits<P: Versioned, S: Alter>(
         alloc,
         tables,
         "SELECT unit, until FROM permit WHERE ticket = ?1 ORDER BY ticket, unit",
-        &[ticket.cell()],
+        &[cell(ticket)],
     )
 }
 
-/// Adds a permit for a unit for which the ticket has none.
+/// Adds a permit for a unit, which must be catalogued, and for which the ticket has none. It holds up to the day,
+/// inclusive.
 fn insert_permit<P: Versioned, S: Alter>(
     tables: &mut Tables<P, S>,
     ticket: Number,
@@ -83,7 +85,7 @@ fn insert_permit<P: Versioned, S: Alter>(
     change(
         tables,
         "INSERT INTO permit (ticket, unit, until) VALUES (?1, ?2, ?3)",
-        &[ticket.cell(), unit.cell(), day(until)],
+        &[cell(ticket), cell(unit), day(until)],
     )
 }
 
@@ -99,12 +101,13 @@ fn clear_permit<P: Versioned, S: Alter>(
     change(
         tables,
         "DELETE FROM permit WHERE ticket = ?1 AND unit = ?2",
-        &[ticket.cell(), unit.cell()],
+        &[cell(ticket), cell(unit)],
     )
 }
 
-/// Gives a ticket a permit for a unit up to a day, in place of the one that it may have for this unit. No other permit
-/// is touched, whatever the ticket and the unit. The table refuses a unit that is not catalogued.
+/// Gives a ticket a permit for a unit up to a day, inclusive, in place of the one that it may have for this unit. No
+/// other permit is touched, whatever the ticket and the unit. The ticket must have been given, which is not checked.
+/// The table refuses a unit that is not catalogued. After a fault the ticket may have lost its permit for the unit.
 pub fn grant<P: Versioned, S: Alter>(
     tables: &mut Tables<P, S>,
     ticket: Number,
@@ -123,7 +126,7 @@ pub fn grant<P: Versioned, S: Alter>(
     insert_permit(tables, ticket, unit, until)
 }
 
-/// Revokes a ticket's permit for a unit, if it has one.
+/// Revokes a ticket's permit for a unit, if it has one; otherwise nothing is changed.
 pub fn revoke<P: Versioned, S: Alter>(
     tables: &mut Tables<P, S>,
     ticket: Number,

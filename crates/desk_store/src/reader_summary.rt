@@ -20,18 +20,18 @@ ghost use Rattle.office_tables.specs.RowNumbers.{AreCounted};
 use crate::readers::{NamedReader, find_reader};
 use crate::taken_seats::{TakenSeat, find_seat};
 use desk_core::Reader;
-use isad_core::{Day, List, Text};
+use isad_core::{Day, List, Number, Text};
 use office_tables::from_row::FromRow;
 use office_tables::value::day;
-use office_tables::{Number, StoreFault, Tables, Versioned, find, find_number};
+use office_tables::{StoreFault, Tables, Versioned, cell, find, find_number, number_at};
 use sqlite::{Alter, Row};
 use std::alloc::{AllocError, Global};
 
 /// An order that waits or is out.
 #[derive(Debug, Clone, Copy, PartialEq, Eq)]
 pub struct LiveOrder {
-    pub order: u64,
-    pub container: u64,
+    pub order: Number,
+    pub container: Number,
     /// True if it is out, false if it waits.
     pub is_out: bool,
 }
@@ -41,19 +41,19 @@ pub struct LiveOrder {
 pub struct ReaderCard {
     pub reader: Reader,
     pub name: Text,
-    /// The orders that wait or are out, by number.
+    /// The orders that wait or are out, in ascending order of their numbers.
     pub live: List<LiveOrder>,
     /// How many orders the ticket placed on the day, including those that have ended.
     pub placed: u32,
     /// How many orders all tickets have placed so far.
-    pub orders: u64,
+    pub orders: u32,
 }
 
 /// An order that has not ended, as its row shows it.
 #[derive(Debug, Clone, Copy, PartialEq, Eq, Drop)]
 pub(crate) struct OrderLine {
-    pub order: u64,
-    pub container: u64,
+    pub order: Number,
+    pub container: Number,
     /// 1 waiting, 2 out.
     pub state: u64,
 }
@@ -68,15 +68,15 @@ impl FromRow for OrderLine {
 
     fn read(row: &Row) -> Result<OrderLine, StoreFault> {
         Ok(OrderLine {
-            order: row.get(0)?,
-            container: row.get(1)?,
+            order: number_at(row, 0)?,
+            container: number_at(row, 1)?,
             state: row.get(2)?,
         })
     }
 }
 
-/// The orders of a ticket that wait or are out, by number. The index of the orders by ticket and state
-/// finds them, so orders that have ended are not read.
+/// The orders of a ticket that wait or are out, in ascending order of their numbers. The index of the orders by ticket
+/// and state finds them, so orders that have ended are not read.
 pub(crate) fn live_lines<P: Versioned, S: Alter>(
     alloc: Global,
     tables: &mut Tables<P, S>,
@@ -91,11 +91,12 @@ pub(crate) fn live_lines<P: Versioned, S: Alter>(
         alloc,
         tables,
         "SELECT id, container, state FROM orders WHERE ticket = ?1 AND state < 3 ORDER BY id",
-        &[ticket.cell()],
+        &[cell(ticket)],
     )
 }
 
 /// How many orders all tickets have placed so far. This is the greatest number of an order, in the table's last row.
+/// The orders must be numbered from 1, and be no more than `MOST_ORDERS`.
 pub(crate) fn last_order<P: Versioned, S: Alter>(
     tables: &mut Tables<P, S>,
 ) -> Result<u32, StoreFault>
@@ -110,8 +111,8 @@ pub(crate) fn last_order<P: Versioned, S: Alter>(
     )
 }
 
-/// How many orders a ticket placed on a day, including those that have ended. They are counted by the index
-/// of the orders by ticket and day, so orders of other days are not read.
+/// How many orders a ticket placed on a day, including those that have ended. There must be no more than `MOST_ORDERS`
+/// orders. They are counted by the index of the orders by ticket and day, so orders of other days are not read.
 pub(crate) fn placed_on<P: Versioned, S: Alter>(
     tables: &mut Tables<P, S>,
     ticket: Number,
@@ -124,7 +125,7 @@ pub(crate) fn placed_on<P: Versioned, S: Alter>(
     find_number(
         tables,
         "SELECT count(*) FROM orders WHERE ticket = ?1 AND day = ?2",
-        &[ticket.cell(), day(on)],
+        &[cell(ticket), day(on)],
     )
 }
 
@@ -135,7 +136,7 @@ struct TicketOrders {
     live: List<LiveOrder>,
     held: u32,
     placed: u32,
-    orders: u64,
+    orders: u32,
 }
 
 /// The orders in these rows.
@@ -154,7 +155,7 @@ fn live_in(alloc: Global, lines: &[OrderLine]) -> Result<List<LiveOrder>, AllocE
     Ok(List(live))
 }
 
-/// How many of the orders are out.
+/// How many of the orders are out. They must be fewer than 2^32.
 pub(crate) fn count_out(lines: &[OrderLine]) -> u32
     ensures { length lines.now < 2 ^ 32 → result ≡ count_by (λ o. nat_eq o.state 2) lines.now }
 {
@@ -162,7 +163,7 @@ pub(crate) fn count_out(lines: &[OrderLine]) -> u32
     u32::try_from(out).unwrap_or(u32::MAX)
 }
 
-/// The seat that is taken, if one is.
+/// The number of the seat that is taken, or none if none is.
 pub(crate) fn seat_in(taken: Option<TakenSeat>) -> Option<u32>
     ensures { result ≡ option_map (λ s. s.seat) taken }
 {
@@ -195,11 +196,12 @@ fn orders_of<P: Versioned, S: Alter>(
         live,
         held,
         placed,
-        orders: u64::from(orders),
+        orders,
     })
 }
 
-/// A reader's card on a day, or none if the ticket was not given.
+/// A reader's card on a day, which may be any day, or none if the ticket was not given. If a row is not legible, it may
+/// fail with `Schema`.
 pub fn reader<P: Versioned, S: Alter>(
     alloc: Global,
     tables: &mut Tables<P, S>,

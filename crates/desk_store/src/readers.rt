@@ -19,10 +19,10 @@ ghost use Rattle.desk_store.specs.Rows.{reader_cells};
 ghost use Rattle.desk_store.specs.Representation.{IsLegibleReader, RepresentsDesk, RepresentsDeskAlone, IsLegible};
 ghost use Rattle.office_tables.specs.RowNumbers.{AreCounted};
 
-use isad_core::{Day, Text, limits};
+use isad_core::{Day, Number, Text, limits};
 use office_tables::from_row::FromRow;
 use office_tables::value::{day, words};
-use office_tables::{Number, StoreFault, Tables, Versioned, change, find_number, find_one};
+use office_tables::{StoreFault, Tables, Versioned, cell, change, find_number, find_one};
 use sqlite::{Alter, Row};
 use std::alloc::Global;
 
@@ -58,7 +58,8 @@ impl FromRow for NamedReader {
     }
 }
 
-/// The reader with this ticket, or none. A ticket is the number of its row.
+/// The name of the reader who has this ticket, and its last day, or none if the ticket was not given. A ticket is the
+/// number of its row. If a row is not legible, it may fail with `Schema`.
 pub(crate) fn find_reader<P: Versioned, S: Alter>(
     alloc: Global,
     tables: &mut Tables<P, S>,
@@ -73,11 +74,12 @@ pub(crate) fn find_reader<P: Versioned, S: Alter>(
         alloc,
         tables,
         "SELECT name, until FROM reader WHERE ticket = ?1 ORDER BY ticket",
-        &[ticket.cell()],
+        &[cell(ticket)],
     )
 }
 
-/// How many tickets were given. This is the greatest ticket, in the table's last row.
+/// How many tickets were given. This is the greatest ticket, in the table's last row. Tickets must be numbered from 1,
+/// and be no more than `MOST_TICKETS`.
 fn last_ticket<P: Versioned, S: Alter>(tables: &mut Tables<P, S>) -> Result<u32, StoreFault>
     ensures { LooksUp S.Store (Holds schema.reader reader_cells) tables.old tables.new result
         when AreCounted (λ r. r.ticket) within (λ xs. AreCounted (λ r. r.ticket) xs × (length xs ≤ most_tickets))
@@ -104,11 +106,11 @@ fn insert_reader<P: Versioned, S: Alter>(
     change(
         tables,
         "INSERT INTO reader (ticket, name, until) VALUES (?1, ?2, ?3)",
-        &[ticket.cell(), words(name), day(until)],
+        &[cell(ticket), words(name), day(until)],
     )
 }
 
-/// Sets the last day of a ticket, which is found by its number.
+/// Sets the last day of a ticket, which is found by its number. If the ticket was not given, nothing is changed.
 fn set_last_day<P: Versioned, S: Alter>(
     tables: &mut Tables<P, S>,
     ticket: Number,
@@ -120,11 +122,12 @@ fn set_last_day<P: Versioned, S: Alter>(
     change(
         tables,
         "UPDATE reader SET until = ?2 WHERE ticket = ?1",
-        &[ticket.cell(), day(until)],
+        &[cell(ticket), day(until)],
     )
 }
 
-/// Sets the last day of a ticket. It may be earlier or later than before.
+/// Sets the last day of a ticket. It may be earlier or later than before. If the ticket was not given, nothing is
+/// changed.
 pub fn renew<P: Versioned, S: Alter>(
     tables: &mut Tables<P, S>,
     ticket: Number,
@@ -136,7 +139,7 @@ pub fn renew<P: Versioned, S: Alter>(
     set_last_day(tables, ticket, until)
 }
 
-/// The next ticket, or none if no ticket is left.
+/// The next ticket, or none if `MOST_TICKETS` were given.
 fn next_number<P: Versioned, S: Alter>(
     tables: &mut Tables<P, S>,
 ) -> Result<Option<Number>, StoreFault>
@@ -154,7 +157,8 @@ fn next_number<P: Versioned, S: Alter>(
     }
 }
 
-/// Adds a reader. Returns the new ticket, or none if no ticket is left.
+/// Adds a reader, with any name and last day. Returns the new ticket: the number after the last, or none if
+/// `MOST_TICKETS` were given, and then nothing is added.
 pub fn add_reader<P: Versioned, S: Alter>(
     tables: &mut Tables<P, S>,
     name: &Text,
@@ -172,7 +176,7 @@ pub fn add_reader<P: Versioned, S: Alter>(
     Ok(Some(ticket))
 }
 
-/// Whether a ticket was given.
+/// Whether a ticket was given, valid or not. If a row is not legible, it may fail with `Schema`.
 pub fn is_registered<P: Versioned, S: Alter>(
     alloc: Global,
     tables: &mut Tables<P, S>,

@@ -24,8 +24,8 @@ use sqlite::Alter;
 use std::alloc::{AllocError, Global};
 use std::collections::BTreeSet;
 
-/// The orders that wait, by number. The index of the orders by state and container finds them, so orders
-/// that have ended are not read.
+/// The orders that wait, in ascending order of their numbers. The index of the orders by state and container finds
+/// them, so orders that have ended are not read.
 fn waiting_orders<P: Versioned, S: Alter>(
     alloc: Global,
     tables: &mut Tables<P, S>,
@@ -43,7 +43,7 @@ fn waiting_orders<P: Versioned, S: Alter>(
     )
 }
 
-/// Adds the number of a container to the set. Returns whether it is new.
+/// Adds the number of a container to the set. Returns whether it was not in it before.
 fn keep(known: &mut BTreeSet<u64>, container: u64) -> Result<bool, AllocError>
     ensures new { IfOk result (λ new. new ≡ not (list_any (nat_eq container) known.old.keys)) }
     ensures kept { OnOk result ((c : ℕ)
@@ -68,8 +68,8 @@ fn firsts(alloc: Global, orders: &[ContainerOrder]) -> Result<Vec<ContainerOrder
     Ok(firsts)
 }
 
-/// The first order of each container for which one waits, wherever the container is, sorted by the numbers of
-/// these orders.
+/// The first order of each container for which one waits, wherever the container is, in ascending order of the numbers
+/// of these orders.
 pub fn first_orders<P: Versioned, S: Alter>(
     alloc: Global,
     tables: &mut Tables<P, S>,
@@ -101,7 +101,7 @@ fn is_known(known: &BTreeSet<u64>, container: u64) -> bool
     known.contains(&container)
 }
 
-/// The orders whose containers are not among these.
+/// The orders whose containers are not among these, in the same order.
 fn without(
     alloc: Global,
     known: &BTreeSet<u64>,
@@ -151,8 +151,8 @@ fn on_shelf_by_number<P: Versioned, S: Alter>(
     Ok(kept)
 }
 
-/// Those of these orders whose containers are on the shelf. The places of a few containers are found by their numbers;
-/// of many, all containers that are not on the shelf are read.
+/// Those of these orders whose containers are on the shelf, in the same order. The places of a few containers are found
+/// by their numbers; of many, all containers that are not on the shelf are read.
 pub fn on_shelf<P: Versioned, S: Alter>(
     alloc: Global,
     tables: &mut Tables<P, S>,

@@ -19,9 +19,9 @@ use crate::container_labels::box_of;
 use crate::container_orders::ContainerOrder;
 use crate::runs::{Brought, lines_with};
 use desk_core::Candidate;
-use isad_core::{Day, List};
+use isad_core::{Day, List, Number};
 use office_tables::from_row::FromRow;
-use office_tables::{Number, StoreFault, Tables, Versioned, find_one};
+use office_tables::{StoreFault, Tables, Versioned, cell, find_one};
 use sqlite::{Alter, Row};
 use std::alloc::Global;
 
@@ -63,11 +63,12 @@ fn find_day<P: Versioned, S: Alter>(
         alloc,
         tables,
         "SELECT day FROM run WHERE id = ?1 ORDER BY id",
-        &[run.cell()],
+        &[cell(run)],
     )
 }
 
-/// A line of a run, with what is written on its container.
+/// A line of a run, with what is written on its container. Fails with `StoreFault::Schema` if the container is not
+/// known.
 fn candidate<P: Versioned, S: Alter>(
     alloc: Global,
     tables: &mut Tables<P, S>,
@@ -89,7 +90,7 @@ fn candidate<P: Versioned, S: Alter>(
     })
 }
 
-/// These lines, each with what is written on its container.
+/// These lines, in their order, each with what is written on its container. The containers must be known.
 fn candidates_of<P: Versioned, S: Alter>(
     alloc: Global,
     tables: &mut Tables<P, S>,
@@ -107,8 +108,9 @@ fn candidates_of<P: Versioned, S: Alter>(
     Ok(told)
 }
 
-/// What a run brought: its day, and its lines, each with what is written on its container. Returns none if
-/// there was no such run.
+/// What a run brought: its day, and its lines, each with what is written on its container; none if there was no such
+/// run. The contract leaves the order of the lines open. If a container of a line is not known, it may fail with
+/// `Schema`.
 pub fn run<P: Versioned, S: Alter>(
     alloc: Global,
     tables: &mut Tables<P, S>,

@@ -76,8 +76,9 @@ fn make_desk<S: Alter>(conn: &mut Connection<S>) -> Result<(), StoreFault>
     create_permits(conn)
 }
 
-/// Creates the desk's tables in a store that is still empty. Any other store is left unchanged, and the call
-/// fails with `StoreFault::Schema`. The desk's tables must be created before the catalogue's.
+/// Creates the desk's tables, with no rows, in a store that is still empty; a transaction must be open. Any other store
+/// is left unchanged, and the call fails with `StoreFault::Schema`. The desk's tables must be created before the
+/// catalogue's.
 pub fn create_desk<S: Alter>(conn: &mut Connection<S>) -> Result<(), StoreFault>
     ensures there { ((state S.Store conn.old).now.schema ≡ no_schema → ⊥)
         → (result ≡ Err StoreFault.Schema) × (conn.new ≡ conn.old) }

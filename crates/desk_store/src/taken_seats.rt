@@ -17,8 +17,9 @@ ghost use Rattle.desk_store.specs.Representation.{RepresentsDeskAlone, IsLegible
 ghost use Rattle.office_tables.specs.RowNumbers.{AreByNumber};
 ghost use Rattle.desk_store.specs.declared.taken_seats.TakenSeat.{TakenSeat};
 
+use isad_core::Number;
 use office_tables::from_row::FromRow;
-use office_tables::{Number, StoreFault, Tables, Versioned, change, find, find_one};
+use office_tables::{StoreFault, Tables, Versioned, cell, change, find, find_one, number_at};
 use sqlite::{Alter, Row};
 use std::alloc::Global;
 
@@ -26,7 +27,7 @@ use std::alloc::Global;
 #[derive(Debug, Clone, Copy, PartialEq, Eq, Drop)]
 pub struct TakenSeat {
     pub seat: u32,
-    pub ticket: u64,
+    pub ticket: Number,
 }
 
 impl FromRow for TakenSeat {
@@ -40,12 +41,13 @@ impl FromRow for TakenSeat {
     fn read(row: &Row) -> Result<TakenSeat, StoreFault> {
         Ok(TakenSeat {
             seat: row.get(0)?,
-            ticket: row.get(1)?,
+            ticket: number_at(row, 1)?,
         })
     }
 }
 
-/// The seats that are taken, by number. This reads the whole table, which has a row for each of them.
+/// The seats that are taken, in ascending order of their numbers, each with its ticket. This reads the whole table,
+/// which has a row for each of them.
 pub fn seats<P: Versioned, S: Alter>(
     alloc: Global,
     tables: &mut Tables<P, S>,
@@ -61,7 +63,8 @@ pub fn seats<P: Versioned, S: Alter>(
     )
 }
 
-/// The seat of a ticket, or none. Seats are found by their tickets, which are unique.
+/// The seat of a ticket, or none if it has none. Seats are found by their tickets, which are unique. If the number of a
+/// seat does not fit 32 bits, it may fail with `Schema`.
 pub(crate) fn find_seat<P: Versioned, S: Alter>(
     alloc: Global,
     tables: &mut Tables<P, S>,
@@ -76,11 +79,11 @@ pub(crate) fn find_seat<P: Versioned, S: Alter>(
         alloc,
         tables,
         "SELECT seat, ticket FROM seat WHERE ticket = ?1 ORDER BY seat",
-        &[ticket.cell()],
+        &[cell(ticket)],
     )
 }
 
-/// Gives a free seat to a ticket that has none.
+/// Gives a free seat to a ticket that has none. If the seat is taken or the ticket has one, it may fail with `Schema`.
 fn insert_seat<P: Versioned, S: Alter>(
     tables: &mut Tables<P, S>,
     seat: Number,
@@ -94,11 +97,11 @@ fn insert_seat<P: Versioned, S: Alter>(
     change(
         tables,
         "INSERT INTO seat (seat, ticket) VALUES (?1, ?2)",
-        &[seat.cell(), ticket.cell()],
+        &[cell(seat), cell(ticket)],
     )
 }
 
-/// Frees a seat.
+/// Frees a seat, if it is taken.
 fn clear_seat<P: Versioned, S: Alter>(
     tables: &mut Tables<P, S>,
     seat: Number,
@@ -106,11 +109,11 @@ fn clear_seat<P: Versioned, S: Alter>(
     ensures { Thins S.Store schema.seat seat_cells tables.old tables.new result
         when AreByNumber (λ s. s.seat) leaves filter (λ s. not (nat_eq seat s.seat)) }
 {
-    change(tables, "DELETE FROM seat WHERE seat = ?1", &[seat.cell()])
+    change(tables, "DELETE FROM seat WHERE seat = ?1", &[cell(seat)])
 }
 
-/// Gives a free seat to a ticket, or frees the seat if `who` is none. The table refuses a seat that is taken, and a
-/// ticket that has a seat.
+/// Gives a free seat to a ticket, or frees the seat if `who` is none; to free a free seat changes nothing. The table
+/// refuses a seat that is taken, and a ticket that has a seat. Neither the seat nor the ticket is looked up elsewhere.
 pub fn set_seat<P: Versioned, S: Alter>(
     tables: &mut Tables<P, S>,
     seat: u32,

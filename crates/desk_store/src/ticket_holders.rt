@@ -10,12 +10,13 @@ use crate::reader_summary::{count_out, live_lines, seat_in};
 use crate::readers::find_reader;
 use crate::taken_seats::find_seat;
 use desk_core::Reader;
-use office_tables::{Number, StoreFault, Tables, Versioned};
+use isad_core::Number;
+use office_tables::{StoreFault, Tables, Versioned};
 use sqlite::Alter;
 use std::alloc::Global;
 
-/// The reader who has a ticket, with his seat and how many containers are out with him, or none if the
-/// ticket was not given.
+/// The reader who has a ticket, with the last day of the ticket, his seat, and how many containers are out with him;
+/// none if the ticket was not given. If a row is not legible, it may fail with `Schema`.
 pub fn ticket_holder<P: Versioned, S: Alter>(
     alloc: Global,
     tables: &mut Tables<P, S>,

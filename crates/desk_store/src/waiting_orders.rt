@@ -16,8 +16,9 @@ ghost use Rattle.desk_store.specs.Representation.{RepresentsDeskAlone, IsLegible
 ghost use Rattle.office_tables.specs.RowNumbers.{AreCounted};
 
 use crate::orders::WaitingOrder;
+use isad_core::Number;
 use office_tables::from_row::FromRow;
-use office_tables::{Number, StoreFault, Tables, Versioned, find, find_number, find_one};
+use office_tables::{StoreFault, Tables, Versioned, cell, find, find_number, find_one, number_at};
 use sqlite::{Alter, Row};
 use std::alloc::Global;
 
@@ -31,14 +32,14 @@ impl FromRow for WaitingOrder {
 
     fn read(row: &Row) -> Result<WaitingOrder, StoreFault> {
         Ok(WaitingOrder {
-            order: row.get(0)?,
-            ticket: row.get(1)?,
+            order: number_at(row, 0)?,
+            ticket: number_at(row, 1)?,
         })
     }
 }
 
-/// The orders that wait for a container, by number. The index of the orders by state and container finds
-/// them, in this order.
+/// The orders that wait for a container, in ascending order of their numbers. The index of the orders by state and
+/// container finds them, in this order.
 pub(crate) fn waiting_for<P: Versioned, S: Alter>(
     alloc: Global,
     tables: &mut Tables<P, S>,
@@ -53,12 +54,12 @@ pub(crate) fn waiting_for<P: Versioned, S: Alter>(
         alloc,
         tables,
         "SELECT id, ticket FROM orders WHERE state = 1 AND container = ?1 ORDER BY id",
-        &[container.cell()],
+        &[cell(container)],
     )
 }
 
-/// The first order that waits for a container: the one with the least number, or none. The same index finds it, and
-/// the orders behind it are not read.
+/// The first order that waits for a container: the one with the least number, or none if none waits. The same index
+/// finds it, and the orders behind it are not read.
 pub(crate) fn first_for<P: Versioned, S: Alter>(
     alloc: Global,
     tables: &mut Tables<P, S>,
@@ -73,11 +74,11 @@ pub(crate) fn first_for<P: Versioned, S: Alter>(
         alloc,
         tables,
         "SELECT id, ticket FROM orders WHERE state = 1 AND container = ?1 ORDER BY id LIMIT 1",
-        &[container.cell()],
+        &[cell(container)],
     )
 }
 
-/// How many orders wait for a container, counted by the same index.
+/// How many orders wait for a container, counted by the same index. There must be no more than `MOST_ORDERS` orders.
 fn count_waiting<P: Versioned, S: Alter>(
     tables: &mut Tables<P, S>,
     container: Number,
@@ -89,7 +90,7 @@ fn count_waiting<P: Versioned, S: Alter>(
     find_number(
         tables,
         "SELECT count(*) FROM orders WHERE state = 1 AND container = ?1",
-        &[container.cell()],
+        &[cell(container)],
     )
 }
 

@@ -16,9 +16,10 @@ use crate::previews::trees::plant;
 use atom_csv::{FileFault, Row, read_file};
 use std::alloc::Global;
 
-/// The finding aids that a file would give in an office that has nothing yet: those of all its
-/// published top units in file order, in one text. Its units are not counted against any limit except
-/// that on depth.
+/// The finding aids that a file would give in an office that has nothing yet: those of all its published top units in
+/// file order, in one text. Beyond the limits of a file, only the limit on depth is checked. The form of the two codes
+/// is not checked. If the file is refused, the error has the first row with a cause and its lowest cause or, if there
+/// is none, the first row that cannot be placed.
 pub fn preview(alloc: Global, file: &[u8], country: &str, repo: &str) -> Result<Vec<u8>, FileFault>
     ensures text { IfOk result (λ text.
         preview_of (record { country = country.now; repo = repo.now }) file.now ≡ Ok text.items) }

@@ -9,8 +9,8 @@ ghost use Rattle.office_tables.specs.Step.{InTransaction};
 use catalogue_store::{OfficeRow, Places, StoreFault, begin, create};
 use desk_store::{create_desk, is_blank};
 use integrity_checks::{CheckedPlaces, Placed};
-use isad_core::{Day, Text};
-use office_tables::{Number, Tables};
+use isad_core::{Day, Number, Text};
+use office_tables::Tables;
 use sqlite::types::ValueRef;
 use sqlite::{Alter, Connection};
 use std::alloc::Global;
@@ -80,7 +80,7 @@ fn listing(alloc: Global, placed: Option<Placed>) -> Result<String, Fail> {
         return Ok(text);
     };
     for unit in &placed.units {
-        write!(text, "{unit} ")?;
+        write!(text, "{} ", unit.get())?;
     }
     write!(text, "to {};", placed.height)?;
     Ok(text)

@@ -2,8 +2,9 @@
 
 use crate::offices::new_office;
 use catalogue_store::{LinkPlaces, Places, StoreFault};
+use isad_core::Number;
 use nested_sets::SpanPlaces;
-use office_tables::{Number, Tables};
+use office_tables::Tables;
 use sqlite::{Alter, Connection};
 use std::alloc::{AllocError, Global};
 use std::process::Abort;

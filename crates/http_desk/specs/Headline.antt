@@ -1,4 +1,4 @@
--- What holds for an office after any sessions over HTTP and any calls.
+-- What holds for an office after any sessions over HTTP and any calls whose commands name days of the calendar.
 use Rattle.std.specs.Prelude.{◌≡◌, ◌++◌, IsOk, List, Option, Some, None}
 use Rattle.std.specs.List.{AllByRecursion}
 use Rattle.std.specs.Io.KnownBytes.{Consumes, Appends}
@@ -78,14 +78,15 @@ pub record IsOneRun (s : State) (visits : List Visit) (new : State) : Type 0 whe
   pub office : AllByRecursion CallsNameTexts visits → IsSoundOffice s
       → (before later : List Command) → commands ≡ before ++ later → IsSoundOffice (machine.state_after s before)
 
--- Sessions and calls that lead from a sound state to another are one run.
+-- Sessions, and calls whose commands name days of the calendar, that lead from a sound state to another are one run.
 abbrev pub VisitsRunTheMachine : Type 0
 VisitsRunTheMachine =
     (s new : State) (visits : List Visit) → AllHappen s visits new → AllByRecursion CallsNameDays visits → IsSound s
     → IsOneRun s visits new
 
--- After any sessions and calls from a sound state on, the office represents the machine's state. If the last message or
--- call was a command that was accepted, the office is open.
+-- After any sessions, and any calls whose commands name days of the calendar, from a sound state on, the office
+-- represents the machine's state. If the last message or call was a command that was accepted, or if there was none and
+-- the office was open at first, it is open.
 abbrev pub TheHeadline : {M : Type 0} → (M → State → Type 0) → (M → Type 0) → (M → Type 0) → Type 0
 TheHeadline {M} represents is_intact is_open =
     (visits : List Visit) (old new : M) → AreVisits represents is_intact is_open old new visits

@@ -24,7 +24,7 @@ is_busy (Fails leave bare) = true
 abbrev pub was_busy : {s new : State} {input out : Bytes} {end : Ended} → Session s input out end new → Bool
 was_busy session = is_busy session.stops.last
 
--- no fault broke the session off
+-- no failed call and no bound on calls broke the session off
 abbrev pub HasEnded : Ended → Type 0
 HasEnded End = Unit {0}
 HasEnded Cut = Unit {0}
@@ -48,7 +48,7 @@ AreDetermined =
 
 -- ---- the bytes of a session of the public show only what is public
 
--- a GET under /public
+-- a GET below /public/
 pub record IsPublicGet (message : Message) : Type 0 where
   pub method : message.request.method ≡ codes "GET"
   pub below : Bytes

@@ -48,7 +48,7 @@ pub enum FoundBody {
     NoMemory,
 }
 
-/// How many bytes the body after this head has.
+/// How many bytes the body after this head has: 0 if the head gives no length.
 pub fn body_len(head: Head) -> usize
     ensures { result ≡ unwrap_or head.length 0 }
 {

@@ -23,8 +23,8 @@ impl OfficeCall {
     }
 
     /// Carries out one command: the reply, its JSON and the new state are those of the machine's step. After an
-    /// accepted command the office is open. If it is busy, its state is unchanged, but a crash may find the state after
-    /// this command.
+    /// accepted command the office is open; one that was shut stays shut. If it is busy, its state is unchanged, but a
+    /// crash may find the state after this command. All this holds as long as its store has returned what was written.
     pub fn apply<M: Machine>(self, office: &mut M, command: Command) -> Result<Reply, Busy>
         ensures intact { M.is_intact office.new → M.is_intact office.old }
         ensures was_open { M.is_intact office.new → M.is_open office.new → M.is_open office.old }
@@ -42,7 +42,8 @@ impl OfficeCall {
         office.apply(self.alloc, command)
     }
 
-    /// Answers one question: the answer is the machine's. The state is unchanged, also if the office is busy.
+    /// Answers one question: the answer is the machine's. The state is unchanged, also if the office is busy, and so is
+    /// what a crash may find. All this holds as long as its store has returned what was written.
     pub fn ask<M: Machine>(self, office: &mut M, query: Query) -> Result<Answer, Busy>
         ensures intact { M.is_intact office.new → M.is_intact office.old }
         ensures was_open { M.is_intact office.new → M.is_open office.new → M.is_open office.old }

@@ -17,9 +17,9 @@ use std::io::Write;
 pub enum Sent {
     /// All bytes were written and flushed.
     All,
-    /// A write or a flush failed, or a write took nothing.
+    /// A write or a flush failed, or a write took nothing. A front of the bytes, or all, was written.
     Failed,
-    /// The turns were used up.
+    /// The turns were used up. A front of the bytes, or all, was written.
     Bound,
 }
 
@@ -103,8 +103,9 @@ fn gather_or_send<W: Write>(
     }
 }
 
-/// Writes the pieces one after the other and flushes, in at most one turn for each byte and 16 more. Pieces that fit
-/// into one lot are written together.
+/// Writes the pieces one after the other and flushes, in at most one turn for each byte and 16 more: a turn is one
+/// write or flush, and an interrupted one counts. Pieces that fit into one lot are written together. The sum of all
+/// bytes and 16 must be below 2^64.
 pub fn send<W: Write>(writer: &mut Sink<'_, W>, pieces: &[&[u8]]) -> Sent
     requires { length (flat_map (λ p. p.now) pieces.now) + more_writes < 2 ^ 64 }
     ensures { SendsAsCalled (flat_map (λ p. p.now) pieces.now) writer.old writer.new result }

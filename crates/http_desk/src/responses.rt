@@ -162,8 +162,9 @@ impl<'b> Prepared<'b> {
     }
 }
 
-/// Removes the message from the front of the buffer and answers it. Its head is the first `size` bytes, and its body
-/// follows. If the office is busy, the contract does not say what is left in the buffer. The result borrows the buffer.
+/// Removes the message from the front of the buffer, which must have all of it, and answers it. Its head is the first
+/// `size` bytes, in which the parts of `head` must lie, and its body follows. If the office is busy, the contract does
+/// not say what is left in the buffer. The result borrows the buffer.
 pub fn prepare<'b, M: Machine>(
     means: &Means,
     office: &mut M,

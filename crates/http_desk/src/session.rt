@@ -34,7 +34,7 @@ use office_core::{Busy, Machine};
 use std::alloc::Global;
 use std::io::{Read, Write};
 
-/// How many messages of a session are answered at most.
+/// How many messages of a session are answered at most. The last answer closes the connection.
 pub const ANSWERS: u32 = 10_000;
 
 /// What comes next: `next` if all of the answer was sent, and otherwise the end of the session.
@@ -273,8 +273,9 @@ fn talk_with<R: Read, W: Write, M: Machine>(
     Ended::Closed
 }
 
-/// Answers the requests of one peer, one after the other. What was read is the input of a session, and what was written
-/// is its output. From the reader and the writer the caller can see how their calls went.
+/// Answers the requests of one peer, one after the other, at most 10000. What was read is the input of a session, and
+/// what was written is its output. From the reader and the writer the caller can see how their calls went. What is said
+/// of the office's state holds as long as its store has returned what was written.
 pub fn talk<R: Read, W: Write, M: Machine>(
     alloc: Global,
     reader: &mut Source<'_, R>,

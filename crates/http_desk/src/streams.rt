@@ -101,7 +101,7 @@ impl<'a, R: Read> Source<'a, R> {
         self.turns = CALLS;
     }
 
-    /// Whether the message may take one more read.
+    /// Whether a turn is left: one more read may be made of this message, or of the stream.
     pub fn has_turn(&self) -> bool
         ensures { result ≡ nat_lt 0 self.now.turns }
     {
@@ -122,7 +122,7 @@ impl<'a, R: Read> Source<'a, R> {
         self.interrupted
     }
 
-    /// How many reads were made.
+    /// How many reads were made, interrupted ones too. The count stops at 2^64 - 1.
     pub fn calls(&self) -> u64
         ensures { result ≡ self.now.calls }
     {
@@ -130,7 +130,7 @@ impl<'a, R: Read> Source<'a, R> {
     }
 
     /// One read, which takes a turn, of which one must be left. The bytes go to the front of `chunk`, which must not be
-    /// empty: 0 bytes mean that the input has ended.
+    /// empty: 0 bytes mean that the input has ended. An `Err` reads nothing.
     pub fn read(&mut self, chunk: &mut [u8]) -> Result<usize, Undone>
         requires turn { 0 < self.old.turns }
         requires room { 0 < length chunk.old }
@@ -234,7 +234,7 @@ impl<'a, W: Write> Sink<'a, W> {
         self.turns = CALLS as u64;
     }
 
-    /// Whether the text may take one more write or flush.
+    /// Whether a turn is left: one more write or flush may be made for this text.
     pub fn has_turn(&self) -> bool
         ensures { result ≡ nat_lt 0 self.now.turns }
     {
@@ -255,22 +255,22 @@ impl<'a, W: Write> Sink<'a, W> {
         self.interrupted
     }
 
-    /// Whether all that was written was flushed.
+    /// Whether all that was written was flushed. That is so if nothing was written yet.
     pub fn is_flushed(&self) -> bool
         ensures { result ≡ self.now.flushed }
     {
         self.flushed
     }
 
-    /// How many writes and flushes were made.
+    /// How many writes and flushes were made, interrupted ones too. The count stops at 2^64 - 1.
     pub fn calls(&self) -> u64
         ensures { result ≡ self.now.calls }
     {
         self.calls
     }
 
-    /// One write, which takes a turn, of which one must be left. Returns how many bytes of `piece`, which must not be
-    /// empty, it took. One that took none has failed.
+    /// One write, which takes a turn, of which one must be left. Returns how many bytes from the front of `piece`,
+    /// which must not be empty, it took. One that took none has failed. An `Err` writes nothing.
     pub fn write(&mut self, piece: &[u8]) -> Result<usize, Undone>
         requires turn { 0 < self.old.turns }
         requires some { 0 < length piece.now }
@@ -308,7 +308,7 @@ impl<'a, W: Write> Sink<'a, W> {
         }
     }
 
-    /// One flush, which takes a turn.
+    /// One flush, which takes a turn, of which one must be left.
     pub fn flush(&mut self) -> Result<(), Undone>
         requires { 0 < self.old.turns }
         ensures nothing { Appends self.old.bytes self.new.bytes [] }

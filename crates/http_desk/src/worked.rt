@@ -3,17 +3,17 @@ ghost use Rattle.http_desk.specs.WorkedExamples.{Answered};
 ghost use Rattle.http_desk.specs.WorkedRuns.{Carried};
 ghost use Rattle.http_desk.specs.WorkedSessions.{SessionsTalked};
 
-/// Answers, to the byte.
+/// Worked answers, to the byte.
 pub fn worked_answers()
     ensures { Answered }
 {}
 
-/// Whole sessions, to the byte.
+/// Worked sessions, to the byte.
 pub fn worked_sessions()
     ensures { SessionsTalked }
 {}
 
-/// What messages mean to the machine, and the commands of whole sessions.
+/// What worked messages mean to the machine, and the commands of two worked sessions.
 pub fn worked_runs()
     ensures { Carried }
 {}

@@ -70,7 +70,7 @@ pub struct AnswerView<'a> {
 }
 
 impl<'a> AnswerView<'a> {
-    /// The answer with the fixed body of this status, in JSON.
+    /// The answer with the fixed JSON body of this status, which is empty for `Fine` and `Conflict`.
     pub fn fixed_answer(status: Status) -> AnswerView<'a>
         ensures { answer_of_view result ≡ error status }
     {
@@ -82,12 +82,14 @@ impl<'a> AnswerView<'a> {
         }
     }
 
+    /// Its status.
     pub fn status(self) -> Status
         ensures { result ≡ (answer_of_view self.entry).status }
     {
         self.status
     }
 
+    /// Whether its body is a text, and not JSON.
     pub fn is_text(self) -> bool
         ensures { result ≡ (answer_of_view self.entry).is_text }
     {
@@ -106,13 +108,14 @@ impl<'a> AnswerView<'a> {
         }
     }
 
+    /// Its body, also where it is not written, as for HEAD.
     pub fn body(self) -> &'a [u8]
         ensures { result.now ≡ (answer_of_view self.entry).body }
     {
         self.body
     }
 
-    /// The body that is written; none if `bare` is true.
+    /// The body that is written; empty if `bare` is true, as for HEAD.
     pub fn written_body(self, bare: bool) -> &'a [u8]
         ensures { result.now ≡ body_text bare (answer_of_view self.entry) }
     {
@@ -154,7 +157,7 @@ pub fn code_of(status: Status) -> StatusCode
     }
 }
 
-/// The reason phrase behind the status code in the first line of an answer.
+/// The reason phrase behind the status code in the first line of an answer, at most 40 bytes.
 pub fn phrase(status: Status) -> &'static [u8]
     ensures phrase { result.now ≡ phrase_of status }
     ensures short { length result.now ≤ 40 }
@@ -172,7 +175,7 @@ pub fn phrase(status: Status) -> &'static [u8]
     }
 }
 
-/// The value of `Content-Type`: plain text, or else JSON.
+/// The value of `Content-Type`: that of plain text in UTF-8 if `is_text` is true, and otherwise that of JSON.
 pub fn type_of(is_text: bool) -> &'static [u8]
     ensures name { result.now ≡ type_name is_text }
     ensures short { length result.now ≤ 40 }
@@ -184,7 +187,7 @@ pub fn type_of(is_text: bool) -> &'static [u8]
     }
 }
 
-/// The line of the field that announces that the connection is closed; empty if it stays open.
+/// If `closing` is true, the line of the field that announces that the connection is closed; otherwise empty.
 pub fn close_line(closing: bool) -> &'static [u8]
     ensures line { result.now ≡ close_field closing }
     ensures short { length result.now ≤ 40 }

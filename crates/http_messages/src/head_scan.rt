@@ -73,7 +73,8 @@ fn place_after(place: HeadScanState, byte: u8) -> Option<HeadScanState>
     }
 }
 
-/// How much of a head the bytes contain, after those that led to this place.
+/// How much of a head the bytes contain, after those that led to this place. The bytes of a whole head are counted from
+/// the first of these bytes.
 pub fn scan_on(mut place: HeadScanState, bytes: &[u8]) -> Scan
     ensures { result ≡ scan_from place bytes.now }
 {

@@ -48,7 +48,7 @@ pub enum Judged {
     Accepted(Head),
 }
 
-/// The line that a head begins with.
+/// The line that a head begins with. `minor` is the minor number of its version of HTTP/1.
 #[derive(Clone, Copy, Debug, PartialEq, Eq)]
 pub struct Line {
     pub method: Span,
@@ -285,7 +285,7 @@ fn is_closing(minor: u8, close: bool) -> bool
     minor == 0 || close
 }
 
-/// Whether a method is HEAD, whose answers have no body.
+/// Whether a method is HEAD, whose answers have no body. Case matters.
 pub fn is_bare_method(method: &[u8]) -> bool
     ensures { result ≡ is_head method.now }
 {
@@ -410,7 +410,9 @@ fn weigh_fields(block: &[u8], fields: &[HeaderSpan], line: Line) -> Judged
     }
 }
 
-/// The verdict on the bytes of a head.
+/// The verdict on the bytes of a head, up to the empty line that ends it. Bytes that are not exactly one head, or one
+/// of more than 64 fields, are refused as a bad request, and not as a HEAD. If the head is accepted, its parts lie in
+/// `block`, and its body has at most 8388608 bytes.
 pub fn judge(block: &[u8]) -> Judged
     ensures judged { JudgesHead block.now (verdict_in block.now result) }
     ensures fit { IsFit block.now result }

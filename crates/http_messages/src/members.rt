@@ -315,7 +315,9 @@ fn value_of(alloc: Global, body: &[u8]) -> Result<Option<Value>, AllocError>
     }
 }
 
-/// The command whose members a body gives, or none if it does not give them.
+/// The command whose members a body gives. None if the body is not a JSON object in UTF-8, or a member is missing or of
+/// a wrong kind; only `branch` may be missing, and is then false. Other members are ignored, and of a member that
+/// occurs twice the last one counts.
 pub fn command_in(alloc: Global, form: Form, body: &[u8]) -> Result<Option<Command>, AllocError>
     ensures { IfOk result (λ o. o ≡ spec.command_in form body.now) }
 {

@@ -129,6 +129,7 @@ fn router_of(alloc: Global, lines: &[(&'static str, Leads)]) -> Result<Router<Le
 }
 
 impl Routes {
+    /// The table of all routes. Fails only for want of memory.
     pub fn new(alloc: Global) -> Result<Routes, AllocError> {
         let router = router_of(alloc, &TABLE)?;
         Ok(Routes { router })
@@ -144,7 +145,8 @@ impl Routes {
         }
     }
 
-    /// What a path leads to. None if no route has such a path, or it is not UTF-8.
+    /// What a path leads to. None if no route has such a path, it is not UTF-8, or a number in it is not 1 to 10
+    /// digits, the first not 0.
     pub fn route_of<'p>(&self, path: &'p [u8]) -> Option<Route<'p>>
         ensures { option_map route_in result ≡ spec.route_of path.now }
     {
@@ -168,7 +170,7 @@ pub fn is_post(route: Route<'_>) -> bool
     }
 }
 
-/// POST if `post` is true, and otherwise GET.
+/// The method POST if `post` is true, and otherwise GET.
 pub fn method_for(post: bool) -> Method
     ensures { result ≡ spec.method_name post }
 {

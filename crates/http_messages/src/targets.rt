@@ -49,7 +49,8 @@ fn without_origin(target: &[u8]) -> &[u8]
     }
 }
 
-/// The path of a target, or `/` if it is empty.
+/// The path of a target: what is before the first question mark, without `http://` and an authority. It is `/` if that
+/// is empty. Nothing is decoded.
 pub fn path_of(target: &[u8]) -> &[u8]
     ensures { result.now ≡ spec.path_of target.now }
 {

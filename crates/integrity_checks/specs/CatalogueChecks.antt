@@ -1,5 +1,5 @@
 -- Whether the catalogue's tables can be a catalogue's, whatever their cells are. Each table has one cause, which also
--- holds if some row of it cannot be read.
+-- holds if some row of it cannot be read. The tables `container` and `housing` share one.
 use Rattle.std.specs.Prelude.{ℕ, Bool, ◌||◌, cond, Option, Some, None}
 use Rattle.sqlite.specs.Tree.{Trees}
 use Rattle.office_tables.specs.Versions.{Version, encoding}
@@ -33,7 +33,7 @@ containers_are_defective version db = containers_are_unread db || containers_are
 
 -- ---- the first of them
 
--- why the tables cannot be a catalogue's, if `next` is the number of the next unit
+-- why the tables cannot be a catalogue's, if the next new unit gets the number `next`; none if they can
 abbrev pub catalogue_defect : Version → ℕ → Trees → Option CatalogueDefect
 catalogue_defect version next db =
     cond (places_are_defective (encoding version) db) (Some Places)

@@ -1,5 +1,5 @@
 -- Whether the reading room's tables can be a desk's, whatever their cells are. Each table has one cause, which also
--- holds if some row of it cannot be read.
+-- holds if some row of it cannot be read. The tables of readers, seats and permits share one, and so do those of runs.
 use Rattle.std.specs.Prelude.{ℕ, ℤ, Bool, ◌||◌, cond, List, filter_map, Option, Some, None}
 use Rattle.sqlite.specs.Order.{Row}
 use Rattle.sqlite.specs.Tree.{Trees}
@@ -64,6 +64,6 @@ defect_of_orders a db = cond (orders_are_defective a db) (Some Orders) (defect_o
 abbrev pub defect_of_desk : Around → Trees → Option DeskDefect
 defect_of_desk a db = cond (registration_is_defective a db) (Some Readers) (defect_of_orders a db)
 
--- why the tables cannot be those of a desk, in an office with these limits on this day
+-- why the tables cannot be those of a desk, in an office with these limits on this day; none if they can
 abbrev pub desk_defect : Limits → ℤ → Trees → Option DeskDefect
 desk_defect limits today db = defect_of_desk (around_in limits today db) db

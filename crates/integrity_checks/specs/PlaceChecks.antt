@@ -21,7 +21,7 @@ pub record AreUnitsPlaced (rows : PlaceRows) (units : List ℕ) : Type 0 where
   pub same : IsPermutation (place_numbers rows) units
   pub ascend : AreAscending units
 
--- what the check of the places finds: nothing if they are defective, otherwise the units that have one and their height
+-- what the check of the places finds: none if they are defective, otherwise the units that have one and their height
 pub record AreChecked (version : Version) (db : Trees) (found : Option Placed) : Type 0 where
   pub defect : is_none found ≡ places_are_defective (encoding version) db
   pub units : IfSome found (λ placed. AreUnitsPlaced (places_in (encoding version) db) placed.units.items)

@@ -54,7 +54,7 @@ is_element_answer cells = option_map_or is_good_value (element_in_answer cells) 
 
 -- ---- containers
 
--- the container has this number, and a name
+-- the container has this number, and a name that is not blank
 abbrev pub is_numbered : ℕ → ContainerRow → Bool
 is_numbered n row = nat_eq row.id n && not (is_blank_text row.name)
 

@@ -17,7 +17,8 @@ use office_tables::{StoreFault, Tables, Versioned};
 use sqlite::Alter;
 use std::alloc::Global;
 
-/// Whether the containers, and what is in them, can be a catalogue's. Assumes that each unit can be read.
+/// Whether the containers, and the rows of the units in them, can be read and can be a catalogue's. Assumes that each
+/// unit can be read.
 fn containers_are_good<P: Versioned, S: Alter>(
     tables: &mut Tables<P, S>,
 ) -> Result<bool, StoreFault>
@@ -44,9 +45,10 @@ fn check_contents<P: Versioned, S: Alter>(
     Ok(None)
 }
 
-/// The first part of the catalogue (places, units, elements, containers) of which a row cannot be read or whose rows no
-/// catalogue can have, or none. `next` is the number of the next unit. Reads all tables completely, unless a defect is
-/// found before. Holds no more at once than the places, or the numbers of the units.
+/// The first part of the catalogue, in the order places, units, elements, containers, of which a row cannot be read or
+/// whose rows no catalogue can have; none if there is no such part. `next` is the number that the next new unit gets.
+/// Reads all tables completely, unless a defect is found before. Holds no more at once than the places, or the numbers
+/// of the units.
 pub fn load_check<P: CheckedPlaces, S: Alter>(
     alloc: Global,
     tables: &mut Tables<P, S>,

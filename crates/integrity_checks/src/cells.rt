@@ -34,7 +34,7 @@ pub(crate) fn is_text(value: ValueRef<'_>) -> bool
     text_in(value).is_some()
 }
 
-/// Whether it is a text that is not blank.
+/// Whether the cell is a text in UTF-8 that is not blank.
 pub(crate) fn is_nonblank_text(value: ValueRef<'_>) -> bool
     ensures { result ≡ option_map_or (λ t. not (is_blank_text t)) (text_said (owned value.entry)) false }
 {
@@ -44,7 +44,7 @@ pub(crate) fn is_nonblank_text(value: ValueRef<'_>) -> bool
     }
 }
 
-/// Whether it is a text of at most `MOST_BYTES` bytes.
+/// Whether the cell is a text in UTF-8 of at most `MOST_BYTES` bytes.
 pub(crate) fn is_short(value: ValueRef<'_>) -> bool
     ensures { result ≡ option_map_or (λ t. nat_le (length t) most_bytes) (text_said (owned value.entry)) false }
 {
@@ -54,7 +54,7 @@ pub(crate) fn is_short(value: ValueRef<'_>) -> bool
     }
 }
 
-/// Whether it is a text that is well-formed as the name of a source.
+/// Whether the cell is a text in UTF-8 that is well-formed as the name of a source.
 pub(crate) fn is_source_text(value: ValueRef<'_>) -> bool
     ensures { result ≡ option_map_or is_source_name (text_said (owned value.entry)) false }
 {
@@ -64,7 +64,7 @@ pub(crate) fn is_source_text(value: ValueRef<'_>) -> bool
     }
 }
 
-/// Whether it is 0 for no, or 1 for yes.
+/// Whether the cell is the whole number 0 for no, or 1 for yes.
 pub(crate) fn is_flag(value: ValueRef<'_>) -> bool
     ensures { result ≡ is_some (flag_in (owned value.entry)) }
 {
@@ -74,7 +74,7 @@ pub(crate) fn is_flag(value: ValueRef<'_>) -> bool
     }
 }
 
-/// Whether it is null, or a day of the calendar.
+/// Whether the cell is null, or the number of a day of the calendar.
 pub(crate) fn is_day_or_null(value: ValueRef<'_>) -> bool
     ensures { result ≡ option_map_or is_some_day (or_null_in whole_said (owned value.entry)) false }
 {

@@ -6,6 +6,7 @@ ghost use Rattle.row_completeness.specs.WholePlaces.{RepresentsWhatItDescribes};
 ghost use Rattle.row_decoding.specs.Examinations.{Examines};
 ghost use Rattle.integrity_checks.specs.PlaceChecks.{AreChecked};
 
+use isad_core::Number;
 use office_tables::{StoreFault, Tables};
 use sqlite::Alter;
 use std::alloc::Global;
@@ -15,14 +16,15 @@ use tree_places::Places;
 #[derive(Drop)]
 pub struct Placed {
     /// Their numbers, ascending.
-    pub units: Vec<u64>,
+    pub units: Vec<Number>,
     /// The depth of the deepest unit. A top has depth 1. Without units it is 0.
     pub height: u64,
 }
 
 /// A way to store places that can check whether rows with any cells can be its own.
 pub trait CheckedPlaces: Places {
-    /// Reads the rows of the places. Returns none if no office can have them. Holds all rows while it runs.
+    /// Reads the rows of the places. Returns none if one cannot be read, or if no office can have them; otherwise the
+    /// units that have a place, and how deep they lie. Holds all rows while it runs.
     fn check<S: Alter>(
         alloc: Global,
         tables: &mut Tables<Self, S>,

@@ -11,7 +11,7 @@ use office_tables::{Gathering, StoreFault, Tables, Versioned, gather};
 use row_decoding::{cell, number_in};
 use sqlite::{Alter, Row};
 
-/// Whether the cells of a row are those of a container with this number.
+/// Whether the cells of a row are those of a container with this number and a name that is not blank.
 fn is_container(row: &Row, number: u64) -> bool
     ensures { result ≡ is_container_answer number row.now }
 {
@@ -47,8 +47,8 @@ impl Gathering for Containers {
     }
 }
 
-/// The number of containers; none if a row cannot be read, or if they are not numbered from 1 on, each with a name that
-/// is not blank, and no more than `MOST_CONTAINERS`. Reads the whole table, row by row.
+/// How many containers there are; none if a row cannot be read, or if they are not numbered from 1 on, each with a name
+/// that is not blank, and no more than `MOST_CONTAINERS`. Reads the whole table, row by row.
 pub(crate) fn count_if_numbered<P: Versioned, S: Alter>(
     tables: &mut Tables<P, S>,
 ) -> Result<Option<u64>, StoreFault>

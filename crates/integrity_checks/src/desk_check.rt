@@ -20,7 +20,9 @@ use row_decoding::orders;
 use sqlite::Alter;
 use std::alloc::Global;
 
-/// The first of the holdings and the runs that is defective with these orders, or none.
+/// The first of the holdings and the runs that is defective with these orders, or none. `around` must be what
+/// `surroundings` returns for these tables, and `orders` all rows of the table of orders, by number, each readable and
+/// found good.
 fn check_past<P: Versioned, S: Alter>(
     alloc: Global,
     tables: &mut Tables<P, S>,
@@ -39,7 +41,8 @@ fn check_past<P: Versioned, S: Alter>(
     Ok(None)
 }
 
-/// The first of the orders, the holdings and the runs that is defective, or none.
+/// The first of the orders, the holdings and the runs that is defective, or none. `around` must be what `surroundings`
+/// returns for these tables.
 fn check_orders<P: Versioned, S: Alter>(
     alloc: Global,
     tables: &mut Tables<P, S>,
@@ -56,7 +59,8 @@ fn check_orders<P: Versioned, S: Alter>(
     check_past(alloc, tables, around, &all.rows)
 }
 
-/// The first part that is defective, or none: the seats and the permits, then the orders and the rest.
+/// The first part that is defective, or none: the seats and the permits, then the orders and the rest. `around` must be
+/// what `surroundings` returns for these tables.
 fn check_cards<P: Versioned, S: Alter>(
     alloc: Global,
     tables: &mut Tables<P, S>,
@@ -73,9 +77,9 @@ fn check_cards<P: Versioned, S: Alter>(
     check_orders(alloc, tables, around)
 }
 
-/// The first part of the desk (readers with seats and permits, orders, holdings, runs) of which a row cannot be read or
-/// whose rows no desk of an office with these limits can have on this day, or none. Reads all tables completely, unless
-/// a defect is found before. Rows other than the readers' are held in memory.
+/// The first part of the desk, in the order readers with seats and permits, orders, holdings, runs, of which a row
+/// cannot be read or whose rows no desk of an office with these limits can have on this day; none if there is no such
+/// part. Reads all tables completely, unless a defect is found before. Rows other than the readers' are held in memory.
 pub fn load_check_desk<P: Versioned, S: Alter>(
     alloc: Global,
     tables: &mut Tables<P, S>,

@@ -3,7 +3,7 @@
 ghost use Rattle.std.specs.Prelude.{◌≡◌};
 ghost use Rattle.integrity_checks.specs.DeskChecks.{cause_of};
 
-/// The part of the desk whose rows no desk can have.
+/// The part of the desk of which a row cannot be read, or whose rows no desk can have.
 #[derive(Clone, Copy, Debug, PartialEq, Eq)]
 pub enum DeskDefect {
     /// Readers, seats or permits.
@@ -15,7 +15,7 @@ pub enum DeskDefect {
 }
 
 impl DeskDefect {
-    /// Its number among the ten causes for which an office's tables are refused.
+    /// Its number among the ten causes for which an office's tables are refused, from 6 to 9.
     pub fn cause(self) -> u8
         ensures { result ≡ cause_of self }
     {

@@ -20,8 +20,8 @@ use row_decoding::{container_numbers, holdings, permits, run_lines, runs, seats,
 use sqlite::Alter;
 use std::alloc::Global;
 
-/// Reads what the desk is checked against: the numbers of the units and of the containers, beside these limits, this
-/// day and the number of readers. `readers` must be what `count_if_registered` returned for these tables.
+/// Reads what the desk is checked against: which numbers units and containers have, beside these limits, this day and
+/// how many readers there are. `readers` must be what `count_if_registered` returned for these tables.
 pub(crate) fn surroundings<P: Versioned, S: Alter>(
     alloc: Global,
     tables: &mut Tables<P, S>,

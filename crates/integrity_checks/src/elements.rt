@@ -45,7 +45,8 @@ impl Gathering for Elements {
     }
 }
 
-/// Whether the elements can be a catalogue's. Assumes that each unit can be read. Reads the whole table, row by row.
+/// Whether the elements can be read and can be a catalogue's. Assumes that each unit can be read. Reads the whole
+/// table, row by row.
 pub(crate) fn elements_are_good<P: Versioned, S: Alter>(
     tables: &mut Tables<P, S>,
 ) -> Result<bool, StoreFault>

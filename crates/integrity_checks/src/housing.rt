@@ -18,7 +18,7 @@ struct Housed {
     container: u64,
 }
 
-/// The contents of a row, if its place and its container have numbers from 1 on.
+/// The contents of a row, if it can be read and its place and its container have numbers from 1 on; otherwise none.
 fn housed_in(row: &Row) -> Option<Housed>
     ensures { option_map row_of_housed result ≡ housing_in_answer row.now }
 {
@@ -93,8 +93,8 @@ impl Gathering for Housings {
     }
 }
 
-/// Whether what is in the containers can be a catalogue's. `containers` is their number. Assumes that each unit can be
-/// read. Reads the whole table, row by row.
+/// Whether the rows of the units in the containers can be read and can be a catalogue's. `containers` must be how many
+/// containers there are. Assumes that each unit can be read. Reads the whole table, row by row.
 pub(crate) fn housings_are_good<P: Versioned, S: Alter>(
     tables: &mut Tables<P, S>,
     containers: u64,

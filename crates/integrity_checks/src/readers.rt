@@ -16,7 +16,7 @@ use row_decoding::{cell, number_in};
 use sqlite::types::ValueRef;
 use sqlite::{Alter, Row};
 
-/// Whether it is a day of the calendar.
+/// Whether the cell is the number of a day of the calendar.
 fn is_day(value: ValueRef<'_>) -> bool
     ensures { result ≡ option_map_or is_day_number (whole_in (owned value.entry)) false }
 {
@@ -26,7 +26,7 @@ fn is_day(value: ValueRef<'_>) -> bool
     }
 }
 
-/// Whether it is a text, in UTF-8, and a name that a reader may have.
+/// Whether the cell is a text in UTF-8 and a name that a reader may have.
 fn is_name_text(value: ValueRef<'_>) -> bool
     ensures { result ≡ option_map_or is_name_of (text_in (owned value.entry)) false }
 {
@@ -39,7 +39,8 @@ fn is_name_text(value: ValueRef<'_>) -> bool
     }
 }
 
-/// Whether the cells of a row are those of a reader with this ticket.
+/// Whether the cells of a row are those of a reader with this ticket, a name that a reader may have, and a last day of
+/// the calendar.
 fn is_reader(row: &Row, ticket: u64) -> bool
     ensures { result ≡ is_reader_answer ticket row.now }
 {
@@ -75,8 +76,9 @@ impl Gathering for Readers {
     }
 }
 
-/// The number of readers; none if a row cannot be read, or if their tickets are not numbered from 1 on, each with a
-/// name and a last day, and no more than `MOST_TICKETS`. Reads the whole table, row by row.
+/// How many readers there are; none if a row cannot be read, or if their tickets are not numbered from 1 on, each with
+/// a name that a reader may have and a last day of the calendar, and no more than `MOST_TICKETS`. Reads the whole
+/// table, row by row.
 pub(crate) fn count_if_registered<P: Versioned, S: Alter>(
     tables: &mut Tables<P, S>,
 ) -> Result<Option<u64>, StoreFault>

@@ -8,9 +8,10 @@ ghost use Rattle.integrity_checks.specs.CatalogueJudgments.{JudgesUnits, are_goo
 
 use crate::ascending_numbers::Ascending;
 use crate::cells::{is_day_or_null, is_flag, is_nonblank_text, is_short, is_source_text};
+use isad_core::Number;
 use isad_core::limits::{self, MOST_DEEP};
 use office_tables::{Gathering, StoreFault, Tables, Versioned, gather};
-use row_decoding::{cell, number_in};
+use row_decoding::{cell, number_of};
 use sqlite::{Alter, Row};
 use std::alloc::Global;
 
@@ -29,11 +30,11 @@ fn is_described(row: &Row) -> bool
         && is_short(cell(row, 3))
 }
 
-/// The number of the unit in a row, if the rest of the row can be a unit's.
-fn described_in(row: &Row) -> Option<u64>
+/// The number of the unit in a row, if it is one from 0 on and the rest of the row can be a unit's; otherwise none.
+fn described_in(row: &Row) -> Option<Number>
     ensures { result ≡ described_in_answer row.now }
 {
-    let number = number_in(cell(row, 0))?;
+    let number = number_of(row, 0)?;
     if is_described(row) {
         Some(number)
     } else {
@@ -44,7 +45,7 @@ fn described_in(row: &Row) -> Option<u64>
 /// The units taken so far.
 #[derive(Drop)]
 struct Units {
-    numbers: Vec<u64>,
+    numbers: Vec<Number>,
     /// Each row has a number, and the rest of it can be a unit's.
     are_good: bool,
 }
@@ -65,14 +66,14 @@ impl Gathering for Units {
 }
 
 /// Whether all are below the next number.
-fn are_below(numbers: &[u64], next: u64) -> bool
+fn are_below(numbers: &[Number], next: u64) -> bool
     ensures { result ≡ list_all (λ n. nat_lt n next) numbers.now }
 {
-    numbers.iter().all(|number| *number < next)
+    numbers.iter().all(|number| number.get() < next)
 }
 
-/// Whether these are the numbers of the units that have a place, are below the next number and not too many, and no
-/// unit lies too deep.
+/// Whether these are the numbers of the units that have a place, each below the next number, and no more than
+/// `MOST_UNITS`, and no unit lies deeper than `MOST_DEEP`.
 fn are_good(units: &Ascending, places: &Ascending, height: u64, next: u64) -> bool
     ensures { result ≡ are_good_unit_numbers next places.now height units.now }
 {
@@ -84,7 +85,7 @@ fn are_good(units: &Ascending, places: &Ascending, height: u64, next: u64) -> bo
 }
 
 /// The same for numbers in any order.
-fn are_placed(numbers: Vec<u64>, placed: Vec<u64>, height: u64, next: u64) -> bool
+fn are_placed(numbers: Vec<Number>, placed: Vec<Number>, height: u64, next: u64) -> bool
     ensures { result ≡ are_good_unit_numbers next placed.items height numbers.items }
 {
     let units = Ascending::sorted(numbers);
@@ -92,13 +93,13 @@ fn are_placed(numbers: Vec<u64>, placed: Vec<u64>, height: u64, next: u64) -> bo
     are_good(&units, &places, height, next)
 }
 
-/// Whether the units can be a catalogue's. `placed` must be the units that have a place, in ascending order, `height`
-/// the depth of the deepest, and `next` is the number of the next unit. Reads the whole table, row by row. Holds the
-/// numbers while it runs.
+/// Whether the units can be read and can be a catalogue's. `placed` must be the numbers of the units that have a place,
+/// in ascending order, and `height` the depth of the deepest, which is 0 without units. `next` is the number that the
+/// next new unit gets. Reads the whole table, row by row. Holds the numbers while it runs.
 pub(crate) fn units_are_good<P: Versioned, S: Alter>(
     alloc: Global,
     tables: &mut Tables<P, S>,
-    placed: Vec<u64>,
+    placed: Vec<Number>,
     height: u64,
     next: u64,
 ) -> Result<bool, StoreFault>

@@ -24,7 +24,7 @@ digit b = if nat_lt b 48 || nat_lt 57 b then None else Some (b - 48)
 abbrev pub two_digits : ℕ → ℕ → Option ℕ
 two_digits high low = option_and_then (λ h. option_map (λ l. h * 10 + l) (digit low)) (digit high)
 
--- the calendar has this day
+-- the calendar has this day, in whatever year
 abbrev pub is_civil : ℕ → ℕ → ℕ → Bool
 is_civil year month day = nat_le 1 month && (nat_le month 12
     && (nat_le 1 day && nat_le day (days_in_month (pos year) month)))
@@ -35,7 +35,8 @@ number_of_date year month day =
     if is_civil year month day && is_day_number (days_from_civil (pos year) month day)
     then Some (days_from_civil (pos year) month day) else None
 
--- the number of the day that a text gives as YYYY-MM-DD, in ten bytes
+-- the number of the day that a text gives as YYYY-MM-DD, in ten bytes; none if it is not a day from 1900-01-01 to
+-- 9999-12-31
 abbrev pub day_of : Bytes → Option ℤ
 day_of (a ∷ b ∷ c ∷ d ∷ x ∷ e ∷ f ∷ y ∷ g ∷ h ∷ []) =
     if (x == 45) && (y == 45)

@@ -19,7 +19,7 @@ most_unit_numbers = MOST_UNIT_NUMBERS
 abbrev pub most_deep : ℕ
 most_deep = MOST_DEEP
 
--- the most bytes of a text in a file
+-- the most bytes of a field of a file that is read
 abbrev pub most_bytes : ℕ
 most_bytes = MOST_BYTES
 

@@ -10,7 +10,7 @@ use crate::print::{end_line, push_container, push_element, push_head_line, push_
 use crate::text::Text;
 use std::alloc::{AllocError, Global};
 
-/// The finding aid of units in walk order, each with its depth.
+/// The finding aid of these units, in their order: the lines of each, indented by its depth.
 pub fn aid_text(alloc: Global, units: &[Shown]) -> Result<Vec<u8>, AllocError>
     ensures { IfOk result (λ text. text.items ≡ aid units.now) }
 {

@@ -6,8 +6,8 @@ ghost use Rattle.isad_core.specs.Codes.{code_of};
 use crate::text::{Text, is_blank};
 use std::alloc::{AllocError, Global};
 
-/// The reference code of a unit (ISAD(G) 3.1.1). `ids` are the identifiers of the units from the top
-/// down to it. Blank identifiers are left out.
+/// The reference code of a unit (ISAD(G) 3.1.1), such as `GB 0999 HUL/1`. `ids` are the identifiers of the units from
+/// the top down to it. Blank identifiers are left out.
 pub fn join_code(alloc: Global, country: &str, repo: &str, ids: &[Text]) -> Result<Text, AllocError>
     ensures { IfOk result (λ code. code ≡ code_of country.now repo.now ids.now) }
 {

@@ -12,7 +12,8 @@ ghost use Rattle.isad_core.specs.Values.{line_elements, text_place};
 ghost use Rattle.isad_core.specs.WorkedExamples.{closed_series, fonds, series};
 ghost use Rattle.isad_core.specs.declared.element.Element.TheVariants.{Dates, Level, ReferenceCode, Title};
 
-/// A leap day has a number. A common year has no such day, and a date has exactly ten bytes.
+/// For instance, the leap day 2024-02-29 has the number 19782, the day 2023-02-29 has none, and a date of nine bytes
+/// has none.
 pub fn worked_days()
     ensures leap_day { day_of (codes "2024-02-29") ≡ Some (pos 19782) }
     ensures written { day_text (pos 19782) ≡ codes "2024-02-29" }
@@ -20,20 +21,20 @@ pub fn worked_days()
     ensures ten_bytes { day_of (codes "2024-2-29") ≡ None }
 {}
 
-/// Hyphens and case do not matter in a level, but spaces do.
+/// For instance, hyphens and case do not matter in these levels, but a space does.
 pub fn worked_ranks()
     ensures hyphen { rank_of (codes "Sub-series") ≡ Some 4 }
     ensures hyphens { rank_of (codes "-F-ile") ≡ Some 5 }
     ensures space { rank_of (codes "Sub series") ≡ None }
 {}
 
-/// A code contains the identifiers that are not blank.
+/// For instance, these codes contain the identifiers that are not blank.
 pub fn worked_codes()
     ensures two { code_of (codes "GB") (codes "0999") (codes "HUL" ∷ codes "1" ∷ []) ≡ codes "GB 0999 HUL/1" }
     ensures none { code_of (codes "GB") (codes "0999") (codes " " ∷ []) ≡ codes "GB 0999" }
 {}
 
-/// The aid of a fonds with a series, open and closed.
+/// The aid of a fonds with its series, and that of the series alone while it is closed.
 pub fn worked_aids()
     ensures open { aid (fonds ∷ series ∷ [])
         ≡ codes "GB 0999 HUL [Fonds] Hull Dock Company\n  GB 0999 HUL/1 [Series] Minutes\n" }

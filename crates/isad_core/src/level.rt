@@ -2,8 +2,8 @@
 ghost use Rattle.std.specs.Prelude.{◌≡◌};
 ghost use Rattle.isad_core.specs.Levels.{names_level, rank_of};
 
-/// The rank of a level: 1 for a fonds or a collection, down to 6 for an item. ASCII case and hyphens do
-/// not matter. Any other text is a level without a rank.
+/// The rank of a level: 1 for a fonds or a collection, 2 for a subfonds, 3 for a series, 4 for a subseries, 5 for a
+/// file and 6 for an item. ASCII case and hyphens do not matter. Any other text is a level without a rank: `None`.
 pub fn rank(level: &str) -> Option<u8>
     ensures { result ≡ rank_of level.now }
 {

@@ -12,7 +12,7 @@ pub const MOST_UNIT_NUMBERS: u64 = 100_000_000;
 /// The most units above one another, including the lowest.
 pub const MOST_DEEP: u64 = 64;
 
-/// The most bytes of a text in a file.
+/// The most bytes of a field of a file that is read.
 pub const MOST_BYTES: usize = 65_535;
 
 /// The most rows of a file below its header.

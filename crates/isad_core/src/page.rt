@@ -13,8 +13,8 @@ use crate::print::{
 use crate::text::Text;
 use std::alloc::{AllocError, Global};
 
-/// The page of a unit: its head line, its elements and those found above, the containers that it
-/// lies in, and the head line of each unit right below.
+/// The page of a unit: its head line, its elements and those found above, the containers that it lies in, and the
+/// number and the head line of each unit right below. Each has a line, in the order of the lists.
 pub fn page_text(alloc: Global, unit: &Page) -> Result<Vec<u8>, AllocError>
     ensures { IfOk result (λ text. text.items ≡ page unit.now) }
 {
@@ -92,7 +92,7 @@ fn push_unit(out: &mut Vec<u8>, number: u64, unit: &Shown) -> Result<(), AllocEr
     end_line(out)
 }
 
-/// A list of units: the number and the head line of each.
+/// A list of units: a line for each, with its number and its head line, in their order.
 pub fn list_text(alloc: Global, units: &[(u64, Shown)]) -> Result<Vec<u8>, AllocError>
     ensures { IfOk result (λ text. text.items ≡ flat_map numbered_line units.now) }
 {

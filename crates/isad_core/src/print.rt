@@ -1,4 +1,5 @@
-//! Prints the parts of a unit, appended to the bytes so far.
+//! Prints the parts of a unit, appended to the bytes so far. Each call fails only for want of memory, and then the
+//! contract does not say what `out` has: it may have a part.
 ghost use Rattle.std.specs.Prelude.{◌≡◌, ◌≤◌, ◌++◌, ◌∷◌, [], IfOk, OnOk, codes, decimal, length};
 ghost use Rattle.isad_core.specs.Days.{day_text};
 ghost use Rattle.isad_core.specs.PrintedDescriptions.{container_text, element_text, head_line, heading};
@@ -13,7 +14,7 @@ use crate::text::{Text, is_blank};
 use itoa::Buffer;
 use std::alloc::{AllocError, Global};
 
-/// Appends a text.
+/// Appends the bytes of a text.
 pub fn push(out: &mut Vec<u8>, text: &str) -> Result<(), AllocError>
     ensures { OnOk result (out.new.items ≡ out.old.items ++ text.now) }
 {
@@ -50,7 +51,7 @@ fn after(first: u8, others: &[u8]) -> &[u8]
     }
 }
 
-/// Appends a text on one line.
+/// Appends a text on one line: each CRLF, and each other CR or LF, becomes one space.
 pub fn push_one_line(out: &mut Vec<u8>, text: &str) -> Result<(), AllocError>
     ensures { OnOk result (out.new.items ≡ out.old.items ++ spec.one_line text.now) }
 {
@@ -71,7 +72,7 @@ pub fn one_line(alloc: Global, text: &str) -> Result<Vec<u8>, AllocError>
     Ok(out)
 }
 
-/// Appends a text on one line, or a dash if it is blank.
+/// Appends a text on one line, or a hyphen if it is blank.
 pub fn push_or_dash(out: &mut Vec<u8>, text: &str) -> Result<(), AllocError>
     ensures { OnOk result (out.new.items ≡ out.old.items ++ or_dash text.now) }
 {
@@ -82,7 +83,7 @@ pub fn push_or_dash(out: &mut Vec<u8>, text: &str) -> Result<(), AllocError>
     }
 }
 
-/// Appends two spaces for each step down.
+/// Appends two spaces for each of `depth` steps.
 #[tactic(auto, using(crate::proofs::PrintLemmas::indent_more))]
 pub fn push_indent(out: &mut Vec<u8>, depth: u64) -> Result<(), AllocError>
     ensures { OnOk result (out.new.items ≡ out.old.items ++ indent depth) }
@@ -93,7 +94,7 @@ pub fn push_indent(out: &mut Vec<u8>, depth: u64) -> Result<(), AllocError>
     Ok(())
 }
 
-/// Appends the end of a line.
+/// Appends a line feed.
 pub fn end_line(out: &mut Vec<u8>) -> Result<(), AllocError>
     ensures { OnOk result (out.new.items ≡ out.old.items ++ 10 ∷ []) }
 {
@@ -125,7 +126,8 @@ fn push_heading(out: &mut Vec<u8>, title: &str, body: &Body) -> Result<(), Alloc
     }
 }
 
-/// Appends the head line of a unit, without the end of the line.
+/// Appends the head line of a unit, without a line feed: its code, its level, and its title or, if it is closed, until
+/// when.
 pub fn push_head_line(out: &mut Vec<u8>, unit: &Shown) -> Result<(), AllocError>
     ensures { OnOk result (out.new.items ≡ out.old.items ++ head_line unit.now) }
 {
@@ -136,7 +138,7 @@ pub fn push_head_line(out: &mut Vec<u8>, unit: &Shown) -> Result<(), AllocError>
     push_heading(out, unit.title.as_str(), &unit.body)
 }
 
-/// Appends an element with its value.
+/// Appends the standard's number and name of an element, and its value on one line, without a line feed.
 pub fn push_element(out: &mut Vec<u8>, element: Element, value: &Text) -> Result<(), AllocError>
     ensures { OnOk result (out.new.items ≡ out.old.items ++ element_text element value.now) }
 {
@@ -147,7 +149,7 @@ pub fn push_element(out: &mut Vec<u8>, element: Element, value: &Text) -> Result
     push_one_line(out, value.as_str())
 }
 
-/// Appends a container with its name.
+/// Appends `Container`, its number, and its name on one line, without a line feed.
 pub fn push_container(out: &mut Vec<u8>, number: u64, name: &Text) -> Result<(), AllocError>
     ensures { OnOk result (out.new.items ≡ out.old.items ++ container_text number name.now) }
 {
@@ -157,7 +159,8 @@ pub fn push_container(out: &mut Vec<u8>, number: u64, name: &Text) -> Result<(),
     push_one_line(out, name.as_str())
 }
 
-/// Appends the code of the unit that a value is from, if it was found above.
+/// Appends `(from CODE)` after a space, with the code of the unit above that a value is from. For `None`, a value of
+/// the unit's own, it appends nothing.
 pub fn push_origin(out: &mut Vec<u8>, code: &Option<Text>) -> Result<(), AllocError>
     ensures { OnOk result (out.new.items ≡ out.old.items ++ origin code.now) }
 {

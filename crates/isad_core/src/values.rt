@@ -58,7 +58,7 @@ pub const LINE_ELEMENTS: [Element; 23] = [
 ];
 
 impl Values {
-    /// The text of an element other than the level.
+    /// The text of an element, or none if the unit has none. For the level it is always none.
     pub fn text(&self, element: Element) -> Option<&Text>
         ensures { option_copied result ≡ text_of element self.now }
     {
@@ -66,7 +66,8 @@ impl Values {
         self.texts[place].as_ref()
     }
 
-    /// The elements that have a line of their own, each with its text.
+    /// The elements that the unit has a text for and that have a line of their own, in the standard's order, each with
+    /// its text.
     pub fn lines(&self, alloc: Global) -> Result<List<(Element, Text)>, AllocError>
         ensures { IfOk result (λ lines. lines ≡ own_lines self.now) }
     {

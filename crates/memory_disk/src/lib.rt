@@ -12,7 +12,8 @@ use sqlite_disk::{Disk, Tally};
 use std::alloc::{AllocError, Global};
 use std::io;
 
-/// A file in memory. It returns what was written. A write, or a change of the length, fails only for want of memory.
+/// A file in memory. It returns what was written. A write, or a change of the length, fails only for want of memory,
+/// and a read only if it goes past the end.
 #[derive(Drop)]
 pub struct MemoryDisk {
     bytes: Vec<u8>,

@@ -2,12 +2,13 @@
 
 ghost use Rattle.std.specs.List.Sorted.{IsNonDecreasing};
 
+use crate::forests::numbers;
 use desk_core::{
     Ask, AtDesk, Candidate, Limits, Place, Reader, Refusal, may_issue, may_leave, may_order,
     may_sit, pick_reshelve, pick_run, slip_text,
 };
 use isad_core::limits::MOST_ORDERS;
-use isad_core::{Day, Text};
+use isad_core::{Day, Number, Text};
 use std::alloc::{AllocError, Global};
 use std::process::Abort;
 use std::test::Fail;
@@ -185,7 +186,9 @@ const FOR_BOB: Option<Container> = Some((Place::Desk, Some(2), true));
 
 const FOR_NOBODY: Option<Container> = Some((Place::Desk, None, true));
 
-const WITH_ANN: Option<Container> = Some((Place::Out(1), Some(2), true));
+fn with_ann() -> Option<Container> {
+    Some((Place::Out(Number::from(1)), Some(2), true))
+}
 
 const WITHHELD: Option<Container> = Some((Place::Desk, Some(1), false));
 
@@ -223,7 +226,7 @@ fn containers_are_issued_in_turn(rt: HostRuntime) {
         (FOR_ANN, 2, Some(BOB), Err(Refusal::NotFirst)),
         (FOR_ANN, 1, Some(ANN_STANDING), Err(Refusal::NotSeated)),
         (FOR_ANN, 1, Some(ANN), Ok(())),
-        (WITH_ANN, 2, Some(BOB), Err(Refusal::NotAtDesk)),
+        (with_ann(), 2, Some(BOB), Err(Refusal::NotAtDesk)),
         (FOR_BOB, 2, Some(BOB_SEATED), Ok(())),
         // a ticket that does not exist is first for no container
         (FOR_ANN, 1, None, Err(Refusal::NotFirst)),
@@ -315,6 +318,13 @@ fn a_run_takes_what_was_ordered_first(rt: HostRuntime) -> Result<(), Fail> {
     Ok(())
 }
 
+/// Containers at the desk, each with whether an order waits for it.
+fn desk_of(alloc: Global, rows: &[(u32, bool)]) -> Result<Vec<(Number, bool)>, AllocError> {
+    rows.iter()
+        .map(|&(container, waits)| (Number::from(container), waits))
+        .collect(alloc)
+}
+
 #[test]
 fn what_nobody_waits_for_goes_back(rt: HostRuntime) -> Result<(), Fail> {
     // container 1 came back, and an order waits for container 2
@@ -323,8 +333,9 @@ fn what_nobody_waits_for_goes_back(rt: HostRuntime) -> Result<(), Fail> {
         (&[(2, true)][..], &[][..]),
     ];
     for (desk, wanted) in cases {
-        let idle = pick_reshelve(rt.alloc(), desk)?;
-        assert_eq!(rt; idle.as_slice(), wanted);
+        let desk = desk_of(rt.alloc(), desk)?;
+        let idle = pick_reshelve(rt.alloc(), &desk)?;
+        assert_eq!(rt; idle.as_slice(), numbers(rt.alloc(), wanted)?.as_slice());
     }
     Ok(())
 }

@@ -2,19 +2,32 @@
 
 ghost use Rattle.std.specs.Prelude.{◌<◌, ◌^◌, vec_len};
 
-use std::alloc::AllocError;
+use isad_core::Number;
+use std::alloc::{AllocError, Global};
 use std::test::Fail;
 use tree_core::{
     Link, LinkFault, Span, SpanFault, check_links, check_spans, links, spans, spans_of_links,
 };
 use visibility::{Kept, Mark, clean_contents, clean_path, prune};
 
-const fn link(id: u64, parent: Option<u64>, ord: u32) -> Link {
-    Link { id, parent, ord }
+fn link(id: u32, parent: Option<u32>, ord: u32) -> Link {
+    Link {
+        id: Number::from(id),
+        parent: parent.map(Number::from),
+        ord,
+    }
 }
 
-const fn span(id: u64, lft: u32, rgt: u32) -> Span {
-    Span { id, lft, rgt }
+fn span(id: u32, lft: u32, rgt: u32) -> Span {
+    Span {
+        id: Number::from(id),
+        lft,
+        rgt,
+    }
+}
+
+pub(crate) fn numbers(alloc: Global, units: &[u32]) -> Result<Vec<Number>, AllocError> {
+    units.iter().map(|unit| Number::from(*unit)).collect(alloc)
 }
 
 /// Units 2 and 3 below unit 1, and unit 4.
@@ -38,10 +51,10 @@ fn links_are_read(rt: HostRuntime) -> Result<(), Fail> {
     let rows = worked_links();
     let numbered = spans_of_links(alloc, &rows)?;
     assert_eq!(rt; numbered.as_slice(), worked_spans().as_slice());
-    let path = links::path(alloc, &rows, 3)?;
-    assert_eq!(rt; path.as_slice(), [1, 3].as_slice());
-    let branch = links::branch(alloc, &rows, 1)?;
-    assert_eq!(rt; branch.as_slice(), [1, 2, 3].as_slice());
+    let path = links::path(alloc, &rows, Number::from(3))?;
+    assert_eq!(rt; path.as_slice(), numbers(alloc, &[1, 3])?.as_slice());
+    let branch = links::branch(alloc, &rows, Number::from(1))?;
+    assert_eq!(rt; branch.as_slice(), numbers(alloc, &[1, 2, 3])?.as_slice());
     Ok(())
 }
 
@@ -49,10 +62,10 @@ fn links_are_read(rt: HostRuntime) -> Result<(), Fail> {
 fn spans_are_read(rt: HostRuntime) -> Result<(), Fail> {
     let alloc = rt.alloc();
     let rows = worked_spans();
-    let path = spans::path(alloc, &rows, 3)?;
-    assert_eq!(rt; path.as_slice(), [1, 3].as_slice());
-    let branch = spans::branch(alloc, &rows, 1)?;
-    assert_eq!(rt; branch.as_slice(), [1, 2, 3].as_slice());
+    let path = spans::path(alloc, &rows, Number::from(3))?;
+    assert_eq!(rt; path.as_slice(), numbers(alloc, &[1, 3])?.as_slice());
+    let branch = spans::branch(alloc, &rows, Number::from(1))?;
+    assert_eq!(rt; branch.as_slice(), numbers(alloc, &[1, 2, 3])?.as_slice());
     Ok(())
 }
 
@@ -60,6 +73,7 @@ fn spans_are_read(rt: HostRuntime) -> Result<(), Fail> {
 fn units_lie_below_others(rt: HostRuntime) {
     let (link_rows, span_rows) = (worked_links(), worked_spans());
     for (unit, other, below) in [(3, 1, true), (3, 3, true), (1, 3, false)] {
+        let (unit, other) = (Number::from(unit), Number::from(other));
         assert_eq!(rt; links::is_below(&link_rows, unit, other), below);
         assert_eq!(rt; spans::is_below(&span_rows, unit, other), below);
     }
@@ -69,11 +83,11 @@ fn units_lie_below_others(rt: HostRuntime) {
 #[derive(Clone, Copy)]
 enum Change {
     /// Moves a unit below a parent, or to the top.
-    Move(u64, Option<u64>),
+    Move(u32, Option<u32>),
     /// Removes a unit, with all below it.
-    Cut(u64),
+    Cut(u32),
     /// Adds a new unit below a parent, or at the top.
-    Add(Option<u64>, u64),
+    Add(Option<u32>, u32),
 }
 
 impl Change {
@@ -81,9 +95,13 @@ impl Change {
         requires { vec_len rows.old < 2 ^ 30 }
     {
         match self {
-            Change::Move(unit, parent) => links::move_last(rows, unit, parent),
-            Change::Cut(unit) => links::cut(rows, unit),
-            Change::Add(parent, id) => links::add_last(rows, parent, id),
+            Change::Move(unit, parent) => {
+                links::move_last(rows, Number::from(unit), parent.map(Number::from))
+            }
+            Change::Cut(unit) => links::cut(rows, Number::from(unit)),
+            Change::Add(parent, id) => {
+                links::add_last(rows, parent.map(Number::from), Number::from(id))
+            }
         }
     }
 
@@ -91,9 +109,13 @@ impl Change {
         requires { vec_len rows.old < 2 ^ 30 }
     {
         match self {
-            Change::Move(unit, parent) => spans::move_last(rows, unit, parent),
-            Change::Cut(unit) => spans::cut(rows, unit),
-            Change::Add(parent, id) => spans::add_last(rows, parent, id),
+            Change::Move(unit, parent) => {
+                spans::move_last(rows, Number::from(unit), parent.map(Number::from))
+            }
+            Change::Cut(unit) => spans::cut(rows, Number::from(unit)),
+            Change::Add(parent, id) => {
+                spans::add_last(rows, parent.map(Number::from), Number::from(id))
+            }
         }
     }
 }
@@ -179,9 +201,10 @@ fn spans_move(rt: HostRuntime) -> Result<(), Fail> {
             [span(1, 1, 4), span(3, 2, 3), span(4, 5, 8), span(2, 6, 7)],
         ),
     ];
-    for ((unit, parent), wanted) in cases {
+    for (change, wanted) in &cases {
+        let (unit, parent) = *change;
         let mut rows = Vec::from_slice(rt.alloc(), &worked_spans())?;
-        spans::move_last(&mut rows, unit, parent)?;
+        spans::move_last(&mut rows, Number::from(unit), parent.map(Number::from))?;
         assert_eq!(rt; rows.as_slice(), wanted.as_slice(), "move {unit}");
     }
     Ok(())
@@ -245,9 +268,9 @@ fn spans_change_or_stay(rt: HostRuntime) -> Result<(), Fail> {
 }
 
 /// The mark of an open published unit without containers.
-const fn mark(id: u64, lft: u32, rgt: u32) -> Mark {
+fn mark(id: u32, lft: u32, rgt: u32) -> Mark {
     Mark {
-        id,
+        id: Number::from(id),
         lft,
         rgt,
         draft: false,
@@ -257,73 +280,75 @@ const fn mark(id: u64, lft: u32, rgt: u32) -> Mark {
     }
 }
 
-/// Unit 1 of the worked forest, in a container; unit 2, a draft in one; unit 3, closed until the day 19784; unit 4.
-fn marks() -> [Mark; 4] {
-    let unit = Mark {
+/// Unit 1 of the worked forest, in a container.
+fn unit() -> Mark {
+    Mark {
         boxed: true,
         ..mark(1, 1, 6)
-    };
-    let draft = Mark {
+    }
+}
+
+/// Unit 2, a draft in a container.
+fn draft() -> Mark {
+    Mark {
         boxed: true,
         draft: true,
         ..mark(2, 2, 3)
-    };
-    let closed = Mark {
-        until: Some(19784),
-        ..mark(3, 4, 5)
-    };
-    [unit, draft, closed, mark(4, 7, 8)]
+    }
 }
 
-const fn kept(id: u64, depth: u32, stub: bool) -> Kept {
-    Kept { id, depth, stub }
+/// Unit 3, closed until the day 19784.
+fn closed() -> Mark {
+    Mark {
+        until: Some(19784),
+        ..mark(3, 4, 5)
+    }
+}
+
+/// Unit 3, for a reader with a permit.
+fn permitted() -> Mark {
+    Mark {
+        permit: true,
+        ..closed()
+    }
+}
+
+fn kept(id: u32, depth: u32, stub: bool) -> Kept {
+    Kept {
+        id: Number::from(id),
+        depth,
+        stub,
+    }
 }
 
 #[test]
 fn marks_are_pruned(rt: HostRuntime) -> Result<(), Fail> {
     let wanted = [kept(1, 0, false), kept(3, 1, true), kept(4, 0, false)];
-    let told = prune(rt.alloc(), &marks(), 19783)?;
+    let marks = [unit(), draft(), closed(), mark(4, 7, 8)];
+    let told = prune(rt.alloc(), &marks, 19783)?;
     assert_eq!(rt; told.as_slice(), wanted.as_slice());
     Ok(())
 }
 
 #[test]
 fn paths_are_judged(rt: HostRuntime) {
-    let [unit, draft, closed, _] = marks();
-    let permitted = Mark {
-        permit: true,
-        ..closed
-    };
-    let cases = [
-        (&[][..], 19783, true),
-        (&[unit, closed][..], 19783, false),
-        (&[unit, closed][..], 19784, true),
-        (&[unit, permitted][..], 19783, true),
-        (&[draft, permitted][..], 19783, false),
-    ];
-    for (path, today, clean) in cases {
-        assert_eq!(rt; clean_path(path, today), clean);
-    }
+    let to_closed = [unit(), closed()];
+    assert!(rt; clean_path(&[], 19783));
+    assert!(rt; !clean_path(&to_closed, 19783));
+    assert!(rt; clean_path(&to_closed, 19784));
+    assert!(rt; clean_path(&[unit(), permitted()], 19783));
+    assert!(rt; !clean_path(&[draft(), permitted()], 19783));
 }
 
 /// The draft has containers of its own; the closed unit is in those of unit 1.
 #[test]
 fn contents_are_judged(rt: HostRuntime) {
-    let [unit, draft, closed, _] = marks();
-    let permitted = Mark {
-        permit: true,
-        ..closed
-    };
-    let cases = [
-        (&[][..], 19783, false, true),
-        (&[unit, draft, closed][..], 19783, false, false),
-        (&[unit, draft, closed][..], 19783, true, true),
-        (&[unit, draft, closed][..], 19784, false, true),
-        (&[unit, draft, permitted][..], 19783, false, true),
-    ];
-    for (contents, today, above, clean) in cases {
-        assert_eq!(rt; clean_contents(contents, today, above), clean);
-    }
+    let with_closed = [unit(), draft(), closed()];
+    assert!(rt; clean_contents(&[], 19783, false));
+    assert!(rt; !clean_contents(&with_closed, 19783, false));
+    assert!(rt; clean_contents(&with_closed, 19783, true));
+    assert!(rt; clean_contents(&with_closed, 19784, false));
+    assert!(rt; clean_contents(&[unit(), draft(), permitted()], 19783, false));
 }
 
 #[test]

@@ -2,11 +2,11 @@
 pub use Rattle.std.proofs.Math.Bool.{and-false}
 pub use Rattle.std.proofs.Math.Nat.{le_refl}
 pub use Rattle.std.proofs.lemmas.Bool.{and_parts, both_ways, cases_Bool, cases_eq, cases_lt, eq-eqb, eqb-true}
-pub use Rattle.std.proofs.lemmas.Bool.{false≢true, le-leb, le-ltb, leb-true, lt-leb, lt-ltb, ltb-true, ne_eqb, not-true}
-pub use Rattle.std.proofs.lemmas.Bool.{or_from, or_parts, or_right}
+pub use Rattle.std.proofs.lemmas.Bool.{false≢true, le-leb, le-ltb, leb-true, lt-leb, lt-ltb, ltb-false, ltb-true}
+pub use Rattle.std.proofs.lemmas.Bool.{ne_eqb, not-true, or_from, or_parts, or_right}
 pub use Rattle.std.proofs.lemmas.Bool.Decides.{nat_tests}
-pub use Rattle.std.proofs.lemmas.List.{drop_all, drop_more, get_or-map, length-map, length-reverse, map-append, map-id}
-pub use Rattle.std.proofs.lemmas.List.{map_more, reverse-append, take_all, take_more}
+pub use Rattle.std.proofs.lemmas.List.{drop_all, get_or-map, length-map, length-reverse, map-append, map-id, map_more}
+pub use Rattle.std.proofs.lemmas.List.{reverse-append, take_all}
 pub use Rattle.std.proofs.lemmas.List.Sorted.{IsNonDecreasingBy-from_all_adjacent, IsPermutation-append_comm}
 pub use Rattle.std.proofs.lemmas.List.Sorted.{IsPermutation-append_left, IsPermutation-cons, IsPermutation-filter_both}
 pub use Rattle.std.proofs.lemmas.List.Sorted.{IsPermutation-map, IsPermutation-refl, IsPermutation-sym}
@@ -18,9 +18,9 @@ pub use Rattle.std.specs.Cmp.{IsTotalOrder, int_cmp_total, on_total, then_total}
 pub use Rattle.std.specs.Int.{w32}
 pub use Rattle.std.specs.List.{AllByRecursion, dedup, dedup_from, list_all, list_any}
 pub use Rattle.std.specs.List.Sorted.{IsNonDecreasing, IsSorted}
-pub use Rattle.std.specs.Option.{option_eq, option_flatten}
-pub use Rattle.std.specs.Ordering.{int_cmp, is_eq, is_ge, is_lt, nat_cmp}
-pub use Rattle.std.specs.Prelude.{IsErr, ⊤}
+pub use Rattle.std.specs.Option.{option_flatten}
+pub use Rattle.std.specs.Ordering.{int_cmp, is_eq, is_ge, is_lt, nat_cmp, ord_max, ord_min}
+pub use Rattle.std.specs.Prelude.{IfSome, IsErr, ⊤}
 pub use Rattle.std.specs.declared.cmp.Ordering.TheVariants.{Greater}
 pub use Rattle.sqlite.specs.Cast.{cast_row}
 pub use Rattle.sqlite.specs.Change.{KeepsRows, created, indexed}
@@ -52,9 +52,9 @@ pub use Rattle.sqlite_trees.proofs.ListLemmas.{map-flat_map, map-map}
 pub use Rattle.sqlite_typing.specs.Types.{accepts_program}
 pub use Rattle.sqlite_value.specs.Keys.{ascending}
 pub use Rattle.sqlite_value.specs.declared.keys.Key.{Key}
-pub use Rattle.isad_core.specs.Limits.{IsNumber}
 pub use Rattle.tree_core.proofs.Adding.{Below, Beside, Here, absent, distinct_added, place}
 pub use Rattle.tree_core.proofs.Lists.{distinct_cons, eqb_comm, head_apart, is_among, list_any-map}
+pub use Rattle.tree_core.proofs.LoopItems.{item_left, item_made, item_taken}
 pub use Rattle.tree_core.proofs.NumberingWalk.{branch_none, ids-number}
 pub use Rattle.tree_core.proofs.SpanShifts.{distinct_cut, distinct_moved, find_number, inside_tree, number-put_last}
 pub use Rattle.tree_core.proofs.SpanShifts.{outside_cut, range, room_low, spans_branch, spans_path}
@@ -65,7 +65,6 @@ pub use Rattle.tree_core.specs.Shifts.{end_of, inside, is_inside, lowered, narro
 pub use Rattle.tree_core.specs.Shifts.{spread, start_of, widened}
 pub use Rattle.tree_core.specs.Spans.{RepresentsSpans, spans_from}
 pub use Rattle.tree_core.specs.Tops.{below_first, last_but_one, part_below, right_above, tops}
-pub use Rattle.tree_core.specs.declared.arrivals.Arrival.{Arrival}
 pub use Rattle.tree_core.specs.declared.rows.Span.{Span}
 pub use Rattle.visibility.specs.declared.marks.Mark.{Mark}
 pub use Rattle.catalogue_core.specs.Bounds.{IsBounded, IsKept, IsLegibleUnit}
@@ -76,9 +75,9 @@ pub use Rattle.catalogue_core.specs.UnitMarks.{without_number}
 pub use Rattle.catalogue_core.specs.Units.{Unit, has_id}
 pub use Rattle.office_tables.proofs.CallEnds.{excused_then, leaves_last, leaves_part, left_by, left_fault, left_well}
 pub use Rattle.office_tables.proofs.CallEnds.{making_last, making_not, making_then, same_fault}
-pub use Rattle.office_tables.proofs.Calls.{Knows, continues_then, cut_after, cut_then, early, goes_nowhere, goes_then}
-pub use Rattle.office_tables.proofs.Calls.{known_in, looks_nowhere, looks_then, on_err_then, on_ok_both, on_ok_then}
-pub use Rattle.office_tables.proofs.Calls.{still, stopped}
+pub use Rattle.office_tables.proofs.Calls.{Knows, continues_then, cut_then, early, goes_nowhere, goes_then, known_in}
+pub use Rattle.office_tables.proofs.Calls.{looks_nowhere, looks_then, on_err_then, on_ok_both, on_ok_then, still}
+pub use Rattle.office_tables.proofs.Calls.{stopped}
 pub use Rattle.office_tables.proofs.Casts.{cast_int, cast_null}
 pub use Rattle.office_tables.proofs.Causes.{failed_cause, none_refuse, read_cause, still_unlimited, sums_nothing}
 pub use Rattle.office_tables.proofs.Creations.{free, s5}
@@ -119,7 +118,7 @@ pub use Rattle.catalogue_statements.specs.Rows.{element_row, housing_row, office
 pub use Rattle.catalogue_statements.specs.declared.office.OfficeRow.{OfficeRow}
 pub use Rattle.tree_places.proofs.MarkForests.{ids_from, marks_bare, marks_from, part_in, path_ids, path_in}
 pub use Rattle.tree_places.specs.MarkLookUps.{HoldsHousings, Members}
-pub use Rattle.nested_sets.specs.Arrivals.{AreFree, FitsTable, found_before, key, rows_among, with_span_rows}
+pub use Rattle.nested_sets.specs.Arrivals.{AreFree, found_before, key, rows_among, with_span_rows}
 pub use Rattle.nested_sets.specs.AttachedRows.{AreFit, HoldsHousedRows, HoldsUnitAndHousingRows, by_house}
 pub use Rattle.nested_sets.specs.AttachedRows.{goes_with_row, goes_with_unit, is_in, numbered_cells, numbered_status}
 pub use Rattle.nested_sets.specs.AttachedRows.{paired, paired_mark, status_of}

@@ -3,7 +3,7 @@
 ghost use Rattle.std.specs.Prelude.{◌≡◌};
 ghost use Rattle.office.specs.NamedNumbers.{named};
 
-use office_tables::Number;
+use isad_core::Number;
 
 /// The number that a command or a question names, or 0 if it is 2^63 or greater. Nothing has such a number, and nothing
 /// has 0.

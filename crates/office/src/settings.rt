@@ -8,8 +8,7 @@ ghost use Rattle.office.specs.InitialSettings.{AreTaken, IsGood, founded};
 ghost use Rattle.refinement.specs.Representation.{office_of};
 
 use catalogue_statements::OfficeRow;
-use isad_core::{Day, Text, limits};
-use office_tables::Number;
+use isad_core::{Day, Number, Text, limits};
 use std::alloc::{AllocError, Global};
 use std::marker::Model;
 

@@ -6,7 +6,7 @@ use isad_core::{Day, List, Text};
 /// refused if a number in it names nothing.
 #[derive(Debug, PartialEq, Drop)]
 pub enum Command {
-    /// Begins a new day, which must be later than the current one.
+    /// Begins a new day, which must be later than the current one. All seats become free, and no container may be out.
     OpenDay {
         day: Day,
     },
@@ -60,7 +60,8 @@ pub enum Command {
     Cancel {
         order: u64,
     },
-    /// Fetches containers that are waited for from the shelf to the desk.
+    /// Fetches containers from the shelf to the desk: those with the lowest first orders whose readers they are open
+    /// to, as many as a run may take.
     Run,
     /// Takes the containers that nobody waits for from the desk back to the shelf.
     Reshelve,
@@ -73,7 +74,7 @@ pub enum Command {
     Return {
         container: u64,
     },
-    /// Gives a ticket a permit for a unit, with its last day. An existing permit keeps the later of the two days.
+    /// Gives a ticket a permit for a unit, with its last day. If it has one, that gets the later of the two days.
     Permit {
         ticket: u64,
         unit: u64,

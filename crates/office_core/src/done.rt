@@ -1,6 +1,6 @@
 //! The results of accepted commands.
 
-use isad_core::{Day, List};
+use isad_core::{Day, List, Number};
 
 /// A remark on a row of an imported file. It does not refuse the import.
 #[derive(Debug, Clone, Copy, PartialEq, Eq)]
@@ -65,7 +65,7 @@ pub enum Done {
         taken: u64,
     },
     Reshelve {
-        containers: List<u64>,
+        containers: List<Number>,
     },
     Issue {
         order: u64,

@@ -17,7 +17,7 @@ ghost use Rattle.office_core.specs.Laws.{ImportsAgain};
 ghost use Rattle.office_core.specs.GivenNumbers.{StaysNamed, Kind, GivenInOrder, StartsAtOne, NamesWhatCame};
 ghost use Rattle.office_core.specs.GivenNumbers.{ComesNew, EachIsUnits, NumbersRows};
 
-/// The reading room of a new office is sound, and it stays sound.
+/// The reading room of a new office is sound, whatever its settings and its day are, and a sound one stays sound.
 pub fn desk_stays_sound()
     ensures start { (settings : Settings) (day : ℤ) → IsSoundDesk (start settings day) }
     ensures on { (s : State) (commands : List Command) → IsSoundDesk s → IsSoundDesk (state_after s commands) }
@@ -35,12 +35,14 @@ pub fn orders_go_on()
         OrdersGoOn (state_after s commands) (step (state_after s commands) asked).0 }
 {}
 
-/// Each accepted `Issue` serves the first waiting order of its container.
+/// Each accepted `Issue` serves the waiting order of its container with the lowest number. That is the ticket's order,
+/// and is out afterwards.
 pub fn issues_the_first()
     ensures { (s : State) (commands : List Command) → IsSoundDesk s → IssuesTheFirst (state_after s commands) }
 {}
 
-/// Each container that is out is open, on that day, to the reader who has it.
+/// Each container that is out is open, on the day of the state, to the reader who has it. That reader has a seat, and
+/// no more containers than the settings allow.
 pub fn open_to_holders()
     ensures { (s : State) (commands : List Command) → IsSoundDesk s → OpenToHolders (state_after s commands) }
 {}
@@ -51,13 +53,13 @@ pub fn numbers_stay()
     ensures { (s : State) (commands : List Command) → IsSoundDesk s → StaysNamed s (state_after s commands) }
 {}
 
-/// The numbers of tickets, orders, runs, containers and units are given in order, from 1 on, each once.
+/// The numbers of tickets, orders, runs, containers and units are given in order, each once, in a new office from 1 on.
 pub fn given_in_order()
     ensures first { (kind : Kind) → StartsAtOne kind }
     ensures on { (kind : Kind) (s : State) (commands : List Command) → IsSoundDesk s → GivenInOrder kind s commands }
 {}
 
-/// The number in the reply is that of the new reader, order or run.
+/// The number in the reply to an accepted `Register`, `Order` or `Run` is that of the new reader, order or run.
 pub fn told_by_number()
     ensures { (s : State) (asked : Command) → NamesWhatCame s (step s asked).0 asked (step s asked).1 }
 {}
@@ -85,13 +87,14 @@ pub fn answered_from_the_published()
     ensures { (s : State) → AnswersAlike s (published_part s) }
 {}
 
-/// An accepted import that is repeated at once changes nothing, and its reply counts every row as unchanged.
+/// An accepted import that is repeated at once is accepted and changes nothing. Its reply counts every row as
+/// unchanged, with the same remarks and translations.
 pub fn imports_again()
     ensures { (s : State) → ImportsAgain s }
 {}
 
-/// A unit that a command adds has one of the unit numbers that the command gives, and each of these is a unit's. An
-/// import gives them to its new rows in the order of the file.
+/// A unit that a command adds has one of the unit numbers that the command gives. In a sound state each of these is a
+/// unit's, and an accepted import gives them to its new rows in the order of the file.
 pub fn units_come_new()
     ensures new { (s : State) (asked : Command) → ComesNew s (step s asked).0 }
     ensures each { (s : State) (asked : Command) → IsSound s → EachIsUnits s (step s asked).0 }
@@ -104,7 +107,7 @@ pub fn days_stay_days()
         AreGoodDays s → AreGoodDays (state_after s commands) }
 {}
 
-/// No command changes the settings.
+/// No command changes the settings of an office whose reading room is sound.
 pub fn settings_stay()
     ensures { (s : State) (asked : Command) → IsSoundDesk s → (step s asked).0.settings ≡ s.settings }
 {}
@@ -115,12 +118,14 @@ pub fn starts_sound()
         IsSound (start settings day) }
 {}
 
-/// An import leaves the units, the containers and the permits of a sound state sound, whatever the file contains.
+/// An import, accepted or refused, leaves the units, the containers and the permits of a sound state sound, whatever
+/// the file contains.
 pub fn imports_keep_the_catalogue()
     ensures { (s : State) → IsSound s → ImportsKeepTheCatalogue s }
 {}
 
-/// An accepted import removes no unit, and adds as many as its reply counts as new.
+/// In a sound state an accepted import removes no unit, and adds as many units and gives as many unit numbers as its
+/// reply counts as new.
 pub fn imports_bring_the_new()
     ensures { (s : State) → IsSound s → ImportsBringTheNew s }
 {}

@@ -21,13 +21,15 @@ pub fn readers_keep_what_they_have()
     ensures others { (s : State) (asked : Command) → may_withhold asked ≡ false → AsksForNone s asked }
 {}
 
-/// A row gets a remark exactly if the sentence of that remark is true of its unit, and never more than one.
+/// In an accepted import, a row gets a remark exactly if the sentence of that remark is true of its unit among the
+/// units after the import, and never more than one. The remarks are in the order of the rows.
 pub fn remarks_say_what_holds()
     ensures { (s : State) → RemarksOnRows s }
 {}
 
-/// The limits and the ranges of the settings are these numbers. A command that passes its earlier checks is refused as
-/// full (23) exactly if it would exceed a limit.
+/// The limits and the ranges of the settings are these numbers. A catalogue counts as too large exactly if it has too
+/// many units, unit numbers or containers. A command at the desk that passes its earlier checks is refused as full (23)
+/// exactly if it would exceed a limit: of tickets, orders, runs, or permits of a ticket.
 pub fn limits_are_these()
     ensures numbers { HasItsLimits }
     ensures settings { HasItsSettings }
@@ -35,7 +37,7 @@ pub fn limits_are_these()
     ensures desk { (s : State) → RefusesWhereFull s }
 {}
 
-/// What the public is shown is part of what the public may know, which is exactly what is published.
+/// Each unit that the public is shown is part of what the public may know, and that is exactly what is published.
 pub fn the_public_is_shown()
     ensures { (s : State) → ShowsThePublic s }
 {}

@@ -27,14 +27,15 @@ pub fn answers_are_of_their_time()
         ∷ all_told (state_after s (commands_of before)) later }
 {}
 
-/// An import may go row by row, starting from the catalogue before it. The result is that of merging all rows, with the
-/// same counts and remarks, or the same first fault.
+/// In a sound state, an import of a file that can be read may go row by row, starting from the catalogue before it. The
+/// result is that of merging all rows, with the same counts and remarks, or the same first fault.
 pub fn imports_row_by_row()
     ensures takes { (s : State) → IsSound s → TakesRowByRow s }
     ensures faults { (s : State) → IsSound s → FaultsRowByRow s }
 {}
 
-/// No setting is named as wrong exactly if all are good; otherwise the first wrong one is named.
+/// No setting is named as wrong exactly if all are good. In these two examples with several wrong ones, the first is
+/// named.
 pub fn settings_without_a_fault()
     ensures good { (settings : Settings) → wrong_setting settings ≡ None → AreGoodSettings settings }
     ensures none { (settings : Settings) → AreGoodSettings settings → wrong_setting settings ≡ None }

@@ -24,7 +24,8 @@ pub fn new_offices_are_sound()
         IsSoundOffice (start settings day) }
 {}
 
-/// An office that is sound with its texts stays so over every list of commands that name days and texts.
+/// An office that is sound with its texts stays so over every list of commands, if their days are days of the calendar
+/// and the readers' names in them are UTF-8.
 pub fn offices_stay_sound()
     ensures { (s : State) (commands : List Command) → AllByRecursion NamesDays commands →
         AllByRecursion NamesTexts commands → IsSoundOffice s → IsSoundOffice (state_after s commands) }

@@ -17,7 +17,7 @@ pub struct Reply {
     pub json: List<u8>,
 }
 
-/// Why the office cannot answer now. What it stores did not change.
+/// Why the office cannot answer now. Its state is unchanged, but after a command a crash may find the state after that.
 #[derive(Debug, Clone, Copy, PartialEq, Eq)]
 pub enum Busy {
     /// There is not enough memory.
@@ -42,8 +42,9 @@ pub trait Machine {
     /// If a failure of the disk has shut its store, a crash finds this state, or that after one of these commands.
     ghost recovers: { Self → List Command → State → Type 0 };
 
-    /// Carries out one command. After an accepted command the office is open; an office that was shut stays shut. On
-    /// `Busy` the state is unchanged, but a crash may find the state after this command.
+    /// Carries out one command: the reply, its JSON and the new state are those of the machine's step. After an
+    /// accepted command the office is open; an office that was shut stays shut. On `Busy` the state is unchanged, but a
+    /// crash may find the state after this command. All this holds as long as the store has returned what was written.
     fn apply(&mut self, alloc: Global, command: Command) -> Result<Reply, Busy>
         ensures intact { is_intact self.new → is_intact self.old }
         ensures was_open { is_intact self.new → is_open self.new → is_open self.old }
@@ -58,7 +59,8 @@ pub trait Machine {
         ensures doubt { OnErr result (is_intact self.new → (s : State) → represents self.old s →
             (asked : List Command) → recovers self.old asked s → recovers self.new (command ∷ asked) s) };
 
-    /// Answers one question. The state is unchanged, also on `Busy`, and so is what a crash may find.
+    /// Answers one question: the answer is the machine's. The state is unchanged, also on `Busy`, and so is what a
+    /// crash may find. All this holds as long as the store has returned what was written.
     fn ask(&mut self, alloc: Global, query: Query) -> Result<Answer, Busy>
         ensures intact { is_intact self.new → is_intact self.old }
         ensures was_open { is_intact self.new → is_open self.new → is_open self.old }

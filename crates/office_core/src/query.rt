@@ -3,10 +3,10 @@
 use desk_core::Refusal;
 use isad_core::List;
 
-/// A question. It changes nothing. The first three are the public's.
+/// A question. It changes nothing. The first three are the public's, and are answered from what is published.
 #[derive(Debug, Clone, Copy, PartialEq, Eq)]
 pub enum Query {
-    /// The units at the top.
+    /// The published units at the top.
     Fonds,
     /// The finding aid of a unit.
     Aid { unit: u64 },

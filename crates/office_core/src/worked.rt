@@ -1,4 +1,5 @@
-//! Examples of the rules in small offices, worked out by hand.
+//! Examples of the rules in small offices, worked out by hand. Each is a row: commands, with the replies or the answers
+//! that they must lead to.
 
 ghost use Rattle.office_core.specs.WorkedReplies as row;
 ghost use Rattle.office_core.specs.WorkedAnswers as answers;
@@ -44,7 +45,8 @@ pub fn worked_rows()
     ensures placed { row.Placed }
 {}
 
-/// In a sound office a ticket may have permits for the maximum number of units, and no more.
+/// In a sound office a ticket has permits for the maximum number of units. It gets no other one until one is revoked,
+/// but a later day for one that it has.
 pub fn worked_permits()
     ensures { row.MostPermits }
 {}
@@ -97,7 +99,7 @@ pub fn worked_shown_rows()
     ensures told_apart { shown.ToldApart }
 {}
 
-/// If several refusals apply at once, the reply is the first in the command's list.
+/// In these rows several refusals apply at once, and the reply is the first in the command's list.
 pub fn worked_checks()
     ensures order_in_turn { turn.OrderInTurn }
     ensures issue_in_turn { turn.IssueInTurn }

@@ -21,7 +21,7 @@ pub record IsOurQuery (sql : List ℕ) (s : State) : Type 0 where
   pub command : Command
   pub here : HasCleanDisk s → (v : Version) × (s.now.schema ≡ schema v) × IsTrue s.in_transaction × Means v sql count command
 
--- The text is a query. With the tables of this version it means this command.
+-- The text is known. With the tables of this version it means this command.
 pub record IsQuery (version : Version) (sql : List ℕ) : Type 0 where
   pub count : ℕ
   pub command : Command
@@ -41,7 +41,7 @@ pub record Finds {A : Type 0} (cells : A → Row) (sql : List ℕ) (params : Row
   pub shown : Shown sql params old new rows
   pub are : (xs : List A) → rows ≡ map cells xs → found ≡ xs
 
--- this is the number in the first row that the query shows, or 0
+-- this is the number in the first row that the query shows, or 0 if it shows no row
 pub record FindsFirst (sql : List ℕ) (params : Row) (old new : State) (found : ℕ) : Type 0 where
   pub rows : List Row
   pub shown : Shown sql params old new rows

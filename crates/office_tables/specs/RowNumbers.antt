@@ -14,7 +14,7 @@ AreCountedFrom number n (row ∷ rows) = (number row ≡ n) × AreCountedFrom nu
 abbrev pub AreCounted : {R : Type 0} → (R → ℕ) → List R → Type 0
 AreCounted number = AreCountedFrom number 1
 
--- the rows are in order of their numbers
+-- the rows are in ascending order of their numbers, none of them twice
 abbrev pub AreByNumber : {R : Type 0} → (R → ℕ) → List R → Type 0
 AreByNumber number = Rises (λ a b. int_cmp (pos (number a)) (pos (number b)))
 

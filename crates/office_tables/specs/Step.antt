@@ -31,7 +31,7 @@ pub record GoesOn (old new : State) : Type 0 where
   pub committed : new.committed ≡ old.committed
   pub mode : new.in_transaction ≡ old.in_transaction
 
--- the transaction has ended, and the database is as the last commit left it
+-- the transaction has ended, and the database is as the last commit left it, unless the store is shut
 pub record IsBack (old new : State) : Type 0 where
   pub was_open : IsTrue new.is_open → IsTrue old.is_open
   pub now : IsTrue new.is_open → new.now ≡ old.committed

@@ -7,7 +7,7 @@ use Rattle.office_tables.specs.Step.{IsBack}
 abbrev pub IsStopped : State → State → Type 0
 IsStopped old new = IsUnchanged old new ⊎ IsRolledBack old new
 
--- what the connection saw is committed, and no transaction is open
+-- what the connection saw is committed, and no transaction is open any more
 pub record Committed (old new : State) : Type 0 where
   pub was_open : IsTrue old.is_open
   pub is_open : IsTrue new.is_open

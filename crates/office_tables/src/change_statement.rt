@@ -9,7 +9,8 @@ use crate::fault::StoreFault;
 use sqlite::types::ValueRef;
 use sqlite::{Alter, Connection};
 
-/// Runs one of our statements that change rows.
+/// Runs one of our statements that change rows (INSERT, UPDATE or DELETE). While the disk is clean, a transaction over
+/// our tables must be open. If it fails, every row is as it was, or the transaction was rolled back.
 pub fn change<S: Alter>(
     conn: &mut Connection<S>,
     sql: &str,

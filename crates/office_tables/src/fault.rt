@@ -12,7 +12,8 @@ pub enum StoreFault {
     Memory,
     /// The store's disk failed, or an earlier failure had shut the store.
     Disk,
-    /// The tables are not an office's, or tables that are to be made are already there.
+    /// The tables are not an office's, a row or a number does not fit them, no transaction is open or one is open
+    /// already, or tables that are to be made are already there.
     Schema,
 }
 

@@ -5,8 +5,8 @@ ghost use Rattle.std.specs.List.{AllByRecursion};
 ghost use Rattle.sqlite.specs.declared.types.Value.TheVariants.{Int};
 
 use crate::fault::StoreFault;
-use crate::number::Number;
-use isad_core::{BoxKey, Text};
+use crate::number::{number_at, number_or_null_at};
+use isad_core::{BoxKey, Number, Text};
 use sqlite::Row;
 use std::alloc::Global;
 use tree_core::Link;
@@ -18,9 +18,12 @@ pub trait FromRow {
     /// The cells that represent it.
     ghost cells: { Self → Row };
 
-    /// Its cells can be read. If a type does not define this, nothing is promised.
+    /// The record is legible: if a row has its cells, reading it fails only for want of memory. A type that does not
+    /// define this promises nothing about faults but that none is `Disk`.
     ghost is_legible: { Self → Type 0 } = { λ _. ⊥ };
 
+    /// Reads a row. If the row has the cells of a record, the result is that record, and if that is legible, the only
+    /// fault is `Memory`. No fault is `Disk`.
     fn read(row: &Row) -> Result<Self, StoreFault>
     where
         Self: Sized,
@@ -65,7 +68,7 @@ impl FromRow for Number {
     ghost is_legible = { λ _. ⊤ };
 
     fn read(row: &Row) -> Result<Number, StoreFault> {
-        Ok(row.get(0)?)
+        number_at(row, 0)
     }
 }
 
@@ -79,7 +82,7 @@ impl FromRow for Option<Number> {
     ghost is_legible = { λ _. ⊤ };
 
     fn read(row: &Row) -> Result<Option<Number>, StoreFault> {
-        Ok(row.get(0)?)
+        number_or_null_at(row, 0)
     }
 }
 
@@ -125,14 +128,15 @@ impl FromRow for Link {
 
     fn read(row: &Row) -> Result<Link, StoreFault> {
         Ok(Link {
-            id: row.get(0)?,
-            parent: row.get(1)?,
+            id: number_at(row, 0)?,
+            parent: number_or_null_at(row, 1)?,
             ord: row.get(2)?,
         })
     }
 }
 
-/// Reads all rows that a query returned.
+/// Reads all rows that a query returned, in their order. If each has the cells of a legible record, the only fault is
+/// `Memory`. No fault is `Disk`.
 pub fn read_all<T: FromRow + Drop>(alloc: Global, rows: &[Row]) -> Result<Vec<T>, StoreFault>
     ensures value { (xs : List T) → rows.now ≡ map T.cells xs → IfOk result (λ all. all.items ≡ xs) }
     ensures faults { (xs : List T) → rows.now ≡ map T.cells xs → AllByRecursion T.is_legible xs
@@ -146,7 +150,8 @@ pub fn read_all<T: FromRow + Drop>(alloc: Global, rows: &[Row]) -> Result<Vec<T>
     Ok(all)
 }
 
-/// The number in the first row, or 0 if there is no row.
+/// The number in the first row, or 0 if there is no row. Each row must have one cell, with a number from 0 on. If all
+/// these numbers are below 2^32, the only fault is `Memory`. No fault is `Disk`.
 pub fn first_or_zero(rows: &[Row]) -> Result<u32, StoreFault>
     ensures value { (xs : List ℕ) → rows.now ≡ map (λ n. Int (pos n) ∷ []) xs
         → IfOk result (λ n. n ≡ slice_index_or xs 0 0) }

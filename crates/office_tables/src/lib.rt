@@ -15,7 +15,7 @@ pub mod value;
 mod versions;
 
 pub use fault::StoreFault;
-pub use number::{Number, cell_or_null, known_number};
+pub use number::{cell, cell_or_null, number_after, number_at, number_or_null_at};
 pub use streamed_rows::Gathering;
 pub use table_creation::{create_index, create_table};
 pub use table_statements::{change, find, find_number, find_one, gather};

@@ -1,114 +1,75 @@
-//! Numbers that a table can keep.
+//! Numbers in rows, and as parameters of statements.
 
-ghost use Rattle.std.specs.Prelude.{◌≡◌, ◌^◌, ◌≤◌, pos, Some, None, option_map, IfSome, IfOk, IfErr};
+ghost use Rattle.std.specs.Prelude.{◌≡◌, ◌+◌, ◌<◌, ◌≤◌, ◌^◌, ℕ, Option, pos, length, option_map, IfOk, IfErr, IsOk};
 ghost use Rattle.sqlite.specs.Value.{owned};
+ghost use Rattle.sqlite.specs.Order.{column};
 ghost use Rattle.sqlite.specs.Values.{or_null};
 ghost use Rattle.sqlite.specs.declared.types.Value.TheVariants.{Int};
-ghost use Rattle.isad_core.specs.Limits.{IsNumber};
 
 use crate::fault::StoreFault;
-use sqlite::types::{FromSql, FromSqlError, ValueRef};
-use std::alloc::Global;
-use std::marker::Model;
+use isad_core::Number;
+use sqlite::Row;
+use sqlite::types::ValueRef;
 
-/// The number of a unit, a container, a ticket, an order or a run, or a place: below 2^63, so that a table can keep it.
-#[derive(Debug, Clone, Copy, PartialEq, Eq, PartialOrd, Ord, Drop)]
-pub struct Number {
-    value: u64,
-}
-
-impl Model for Number {
-    ghost use Rattle.std.specs.Prelude.{ℕ};
-    ghost use Rattle.isad_core.specs.Limits.{IsNumber};
-
-    ghost Value = { ℕ };
-
-    ghost view = { λ n. n.value };
-
-    ghost invariant = { λ n. IsNumber n.value };
-
-    ghost inverse = { λ n. record { value = n } };
-}
-
-impl Number {
-    /// None if it is 2^63 or greater: nothing has such a number.
-    pub fn of(n: u64) -> Option<Number>
-        ensures same { IfSome result (λ number. number ≡ n) }
-        ensures none { result ≡ None → 2 ^ 63 ≤ n }
-        ensures some { IsNumber n → result ≡ Some n }
-    {
-        if n < 1 << 63 {
-            Some(Number { value: n })
-        } else {
-            None
-        }
-    }
-
-    pub fn get(self) -> u64
-        ensures same { result ≡ self }
-        ensures small { IsNumber self }
-    {
-        self.value
-    }
-
-    /// As a parameter of a statement.
-    pub fn cell<'a>(self) -> ValueRef<'a>
-        ensures { owned result ≡ Int (pos self) }
-    {
-        ValueRef::Int(self.value as i64)
-    }
-}
-
-/// The number of something that sound tables have. Fails with `StoreFault::Schema` if it is 2^63 or greater.
-pub fn known_number(n: u64) -> Result<Number, StoreFault>
-    ensures same { IfOk result (λ number. number ≡ n) }
-    ensures great { IfErr result (λ _. 2 ^ 63 ≤ n) }
+/// The number that is greater than this one by `further`. Fails, with `StoreFault::Schema`, if that is 2^63 or greater,
+/// and only then.
+pub fn number_after(number: Number, further: u64) -> Result<Number, StoreFault>
+    ensures same { IfOk result (λ next. next ≡ number + further) }
+    ensures great { IfErr result (λ _. 2 ^ 63 ≤ number + further) }
     ensures fair { IfErr result (λ e. e ≡ StoreFault.Schema) }
 {
-    match Number::of(n) {
+    match number.plus(further) {
+        Some(next) => Ok(next),
+        None => Err(StoreFault::Schema),
+    }
+}
+
+/// The number as a parameter of a statement.
+pub fn cell<'a>(number: Number) -> ValueRef<'a>
+    ensures { owned result ≡ Int (pos number) }
+{
+    ValueRef::Int(number.get() as i64)
+}
+
+/// The number as a parameter of a statement, or NULL for none.
+pub fn cell_or_null<'a>(number: Option<Number>) -> ValueRef<'a>
+    ensures { owned result ≡ or_null Int (option_map pos number) }
+{
+    match number {
+        Some(number) => cell(number),
+        None => ValueRef::Null,
+    }
+}
+
+/// The number in the column at this place; places count from 0. Fails with `StoreFault::Schema` if there is no such
+/// column, or anything else in it than a whole number from 0 on.
+pub fn number_at(row: &Row, at: usize) -> Result<Number, StoreFault>
+    ensures value { IfOk result (λ n. column row.now at ≡ Int (pos n)) }
+    ensures known { (n : ℕ) → at < length row.now → column row.now at ≡ Int (pos n) → IsOk result }
+    ensures fair { IfErr result (λ e. e ≡ StoreFault.Schema) }
+{
+    let ValueRef::Int(n) = row.get_ref(at)? else {
+        return Err(StoreFault::Schema);
+    };
+    if n < 0 {
+        return Err(StoreFault::Schema);
+    }
+    match Number::of(n as u64) {
         Some(number) => Ok(number),
         None => Err(StoreFault::Schema),
     }
 }
 
-/// As a parameter of a statement; none is NULL.
-pub fn cell_or_null<'a>(n: Option<Number>) -> ValueRef<'a>
-    ensures { owned result ≡ or_null Int (option_map pos n) }
+/// The number in the column at this place, or none if NULL is in it; places count from 0. Fails with
+/// `StoreFault::Schema` if there is no such column, or anything else in it than NULL or a whole number from 0 on.
+pub fn number_or_null_at(row: &Row, at: usize) -> Result<Option<Number>, StoreFault>
+    ensures value { IfOk result (λ n. column row.now at ≡ or_null Int (option_map pos n)) }
+    ensures known { (n : Option ℕ) → at < length row.now → column row.now at ≡ or_null Int (option_map pos n)
+        → IsOk result }
+    ensures fair { IfErr result (λ e. e ≡ StoreFault.Schema) }
 {
-    match n {
-        Some(n) => n.cell(),
-        None => ValueRef::Null,
+    if let ValueRef::Null = row.get_ref(at)? {
+        return Ok(None);
     }
-}
-
-impl From<u32> for Number {
-    ghost use Rattle.std.specs.Prelude.{◌≡◌};
-
-    ghost from_gives = { λ n number. number ≡ n };
-
-    fn from(n: u32) -> Number {
-        Number {
-            value: u64::from(n),
-        }
-    }
-}
-
-impl FromSql for Number {
-    ghost use Rattle.std.specs.Prelude.{◌≡◌, ℕ, pos};
-    ghost use Rattle.sqlite.specs.Values.{narrow_refusal};
-    ghost use Rattle.sqlite.specs.declared.types.Value.TheVariants.{Int};
-
-    ghost reads_as = { λ v n. v ≡ Int (pos n) };
-
-    ghost is_readable = { λ v. (n : ℕ) × (v ≡ Int (pos n)) };
-
-    ghost refusal = { narrow_refusal };
-
-    fn column_result(_: Global, value: ValueRef<'_>) -> Result<Number, FromSqlError> {
-        match value {
-            ValueRef::Int(n) if n >= 0 => Ok(Number { value: n as u64 }),
-            ValueRef::Int(_) => Err(FromSqlError::OutOfRange),
-            _ => Err(FromSqlError::InvalidType),
-        }
-    }
+    Ok(Some(number_at(row, at)?))
 }

@@ -13,7 +13,9 @@ use sqlite::types::ValueRef;
 use sqlite::{Alter, Connection};
 use std::alloc::Global;
 
-/// The records that one of our queries returns.
+/// The records in the rows that one of our queries returns, in their order. While the disk is clean, a transaction over
+/// our tables must be open. If the rows are those of legible records, it fails only if the query does, or for want of
+/// memory. No row is changed, but a failure may have rolled the transaction back.
 pub fn find<T: FromRow + Drop, S: Alter>(
     alloc: Global,
     conn: &mut Connection<S>,
@@ -33,7 +35,10 @@ pub fn find<T: FromRow + Drop, S: Alter>(
     read_all(alloc, &rows)
 }
 
-/// The first of the records that one of our queries returns, or none if it returns none.
+/// The record in the first row that one of our queries returns, or none if it returns no row. All rows are read. While
+/// the disk is clean, a transaction over our tables must be open. If the rows are those of legible records, it fails
+/// only if the query does, or for want of memory. No row is changed, but a failure may have rolled the transaction
+/// back.
 pub fn find_one<T: FromRow + Drop, S: Alter>(
     alloc: Global,
     conn: &mut Connection<S>,
@@ -53,7 +58,10 @@ pub fn find_one<T: FromRow + Drop, S: Alter>(
     Ok(found.into_iter().next())
 }
 
-/// The number in the first row that one of our queries returns, or 0 if it returns none.
+/// The number in the first row that one of our queries returns, or 0 if it returns no row, if each row has one cell,
+/// with a number from 0 on. While the disk is clean, a transaction over our tables must be open. If all these numbers
+/// are below 2^32, it fails only if the query does, or for want of memory. No row is changed, but a failure may have
+/// rolled the transaction back.
 pub fn find_number<S: Alter>(
     conn: &mut Connection<S>,
     sql: &str,

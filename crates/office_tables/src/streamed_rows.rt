@@ -18,7 +18,8 @@ pub trait Gathering {
     /// It is what these rows come to, in this order.
     ghost holds: { List Row → Self → Type 0 };
 
-    /// Takes one more row.
+    /// Takes one more row, after those that were taken before. Fails only with `StoreFault::Memory`; what was gathered
+    /// is then unknown.
     fn take(&mut self, row: &Row) -> Result<(), StoreFault>
         ensures takes { (rows : List Row) → holds rows self.old
             → OnOk result (holds (rows ++ row.now ∷ []) self.new) }
@@ -49,7 +50,9 @@ fn take_rows<G: Gathering + Drop, S: Alter>(
     Err(StoreFault::Memory)
 }
 
-/// Runs one of our queries, which has no parameters, and returns what its rows come to.
+/// Runs one of our queries, which has no parameters, and returns what its rows come to. `start` must be what no rows
+/// come to. While the disk is clean, a transaction over our tables must be open. No row is changed, but a failure may
+/// have rolled the transaction back.
 pub(crate) fn gather<G: Gathering + Drop, S: Alter>(
     conn: &mut Connection<S>,
     sql: &str,

@@ -14,7 +14,9 @@ ghost use Rattle.office_tables.specs.Step.{Continues, IsAborted};
 use crate::fault::StoreFault;
 use sqlite::{Alter, Connection};
 
-/// Makes one table.
+/// Makes the table that the text defines, with no rows, after those that are there. The text must be one whole CREATE
+/// TABLE statement without parameters that the tables made so far allow (`DefinesTable`), and a transaction must be
+/// open. It then fails only for want of memory or because of the disk.
 pub fn create_table<S: Alter>(conn: &mut Connection<S>, text: &str) -> Result<(), StoreFault>
     ensures made { (there : List Table) (start : Database) (before after : Schema)
         → IsMaking there before start (state S.Store conn.old) → DefinesTable there before text.now after
@@ -36,7 +38,9 @@ pub fn create_table<S: Alter>(conn: &mut Connection<S>, text: &str) -> Result<()
     Ok(())
 }
 
-/// Makes one index.
+/// Makes the index that the text defines, on one of the tables that were made in this transaction, which have no rows.
+/// The text must be one whole CREATE INDEX statement without parameters that the tables made so far allow
+/// (`DefinesIndex`), and a transaction must be open. It then fails only for want of memory or because of the disk.
 pub fn create_index<S: Alter>(conn: &mut Connection<S>, text: &str) -> Result<(), StoreFault>
     ensures made { (there : List Table) (start : Database) (before after : Schema)
         → IsMaking there before start (state S.Store conn.old) → DefinesIndex there before text.now after
@@ -60,7 +64,8 @@ pub fn create_index<S: Alter>(conn: &mut Connection<S>, text: &str) -> Result<()
     Ok(())
 }
 
-/// Makes the tables of the office, the units and their elements.
+/// Makes the tables of the office, the units and their elements, with no rows. The desk's tables must be there and no
+/// others, and a transaction must be open. It then fails only for want of memory or because of the disk.
 pub fn create_units<S: Alter>(conn: &mut Connection<S>) -> Result<(), StoreFault>
     ensures made { (start : Database) → IsMaking desk_tables desk_schema start (state S.Store conn.old)
         → OnOk result (Continues (state S.Store conn.old) (state S.Store conn.new)
@@ -88,8 +93,9 @@ pub fn create_units<S: Alter>(conn: &mut Connection<S>) -> Result<(), StoreFault
     )
 }
 
-/// Makes the tables of the containers and of the units in them. Those of the desk and of the units must be there, since they
-/// are made in the order of `catalogue_schema`.
+/// Makes the tables of the containers and of the units in them, with no rows. The desk's tables and those of
+/// `create_units` must be there and no others, and a transaction must be open. It then fails only for want of memory or
+/// because of the disk.
 pub fn create_containers<S: Alter>(conn: &mut Connection<S>) -> Result<(), StoreFault>
     ensures made { (start : Database) → IsMaking desk_tables unit_schema start (state S.Store conn.old)
         → OnOk result (Continues (state S.Store conn.old) (state S.Store conn.new)

@@ -19,7 +19,8 @@ use sqlite::Alter;
 use sqlite::types::ValueRef;
 use std::alloc::Global;
 
-/// Runs one of our statements that change rows. Outside a transaction it fails with `StoreFault::Schema`.
+/// Runs one of our statements that change rows (INSERT, UPDATE or DELETE). If it fails, every row is as it was, or the
+/// transaction was rolled back. Outside a transaction it fails with `StoreFault::Schema`.
 pub fn change<P: Versioned, S: Alter>(
     tables: &mut Tables<P, S>,
     sql: &str,
@@ -39,7 +40,8 @@ pub fn change<P: Versioned, S: Alter>(
     change_statement::change(&mut tables.conn, sql, params)
 }
 
-/// The records that one of our queries returns. Outside a transaction it fails with `StoreFault::Schema`.
+/// The records in the rows that one of our queries returns, in their order. If the rows are those of legible records,
+/// it fails only if the query does, or for want of memory. Outside a transaction it fails with `StoreFault::Schema`.
 pub fn find<T: FromRow + Drop, P: Versioned, S: Alter>(
     alloc: Global,
     tables: &mut Tables<P, S>,
@@ -60,8 +62,9 @@ pub fn find<T: FromRow + Drop, P: Versioned, S: Alter>(
     query::find(alloc, &mut tables.conn, sql, params)
 }
 
-/// The first of the records that one of our queries returns, or none if it returns none. Outside a transaction it fails
-/// with `StoreFault::Schema`.
+/// The record in the first row that one of our queries returns, or none if it returns no row. All rows are read: if
+/// they are those of legible records, it fails only if the query does, or for want of memory. Outside a transaction it
+/// fails with `StoreFault::Schema`.
 pub fn find_one<T: FromRow + Drop, P: Versioned, S: Alter>(
     alloc: Global,
     tables: &mut Tables<P, S>,
@@ -82,8 +85,9 @@ pub fn find_one<T: FromRow + Drop, P: Versioned, S: Alter>(
     query::find_one(alloc, &mut tables.conn, sql, params)
 }
 
-/// The number in the first row that one of our queries returns, or 0 if it returns none. Outside a transaction it fails
-/// with `StoreFault::Schema`.
+/// The number in the first row that one of our queries returns, or 0 if it returns no row. Each row must have one cell,
+/// with a number from 0 on. If all these numbers are below 2^32, it fails only if the query does, or for want of
+/// memory. Outside a transaction it fails with `StoreFault::Schema`.
 pub fn find_number<P: Versioned, S: Alter>(
     tables: &mut Tables<P, S>,
     sql: &str,
@@ -102,8 +106,9 @@ pub fn find_number<P: Versioned, S: Alter>(
     query::find_number(&mut tables.conn, sql, params)
 }
 
-/// What the rows of one of our queries come to, taken one by one. The query has no parameters. Outside a transaction it
-/// fails with `StoreFault::Schema`.
+/// What the rows of one of our queries come to, taken one by one. The query has no parameters, and `start` must be what
+/// no rows come to. It fails only if the query does, or for want of memory. Outside a transaction it fails with
+/// `StoreFault::Schema`.
 pub fn gather<G: Gathering + Drop, P: Versioned, S: Alter>(
     tables: &mut Tables<P, S>,
     sql: &str,

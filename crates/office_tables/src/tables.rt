@@ -1,6 +1,6 @@
 //! The tables of an office: closed, or lent while a transaction is open.
 
-ghost use Rattle.std.specs.Prelude.{◌≡◌, true, OnOk, OnErr, IfErr, IfOk, IsTrue};
+ghost use Rattle.std.specs.Prelude.{◌≡◌, false, true, OnOk, OnErr, IfErr, IfOk, IsTrue};
 ghost use Rattle.std.specs.Borrow.{sem};
 ghost use Rattle.sqlite.specs.Held.{state};
 ghost use Rattle.sqlite.specs.State.{HasCleanDisk, Shows, Survives};
@@ -37,7 +37,8 @@ impl<P: Versioned, S: Alter> Model for Tables<P, S> {
 }
 
 impl<P: Versioned, S: Alter> Tables<P, S> {
-    /// The tables of this connection, in the transaction that is open.
+    /// The tables of this connection. While its disk is clean, it must have the tables of this version, and a
+    /// transaction must be open.
     pub fn inside(conn: Connection<S>) -> Tables<P, S>
         requires { InTransaction P.version (state S.Store conn) }
         ensures { result ≡ conn }
@@ -48,7 +49,7 @@ impl<P: Versioned, S: Alter> Tables<P, S> {
         }
     }
 
-    /// The connection, which is given back.
+    /// Gives the connection back. While its disk is clean and a transaction is open, it has the tables of this version.
     pub fn into_connection(self) -> Connection<S>
         ensures same { result ≡ self }
         ensures kept { AreTables P.version (state S.Store result) }
@@ -74,7 +75,8 @@ impl<P: Versioned, S: Alter> Model for Closed<P, S> {
 }
 
 impl<P: Versioned, S: Alter> Closed<P, S> {
-    /// The tables of this connection.
+    /// The tables of this connection. If its disk is clean and a transaction is open, they must be those of this
+    /// version.
     pub fn of(conn: Connection<S>) -> Closed<P, S>
         requires { AreTables P.version (state S.Store conn) }
         ensures { result ≡ conn }
@@ -87,7 +89,7 @@ impl<P: Versioned, S: Alter> Closed<P, S> {
         }
     }
 
-    /// The connection, which is given back.
+    /// Gives the connection back.
     pub fn into_connection(self) -> Connection<S>
         ensures { result ≡ self }
     {
@@ -96,10 +98,14 @@ impl<P: Versioned, S: Alter> Closed<P, S> {
         conn
     }
 
-    /// Begins a transaction, and lends the tables.
+    /// Begins a transaction, and lends the tables, which must be those of this version. Fails if one is already open;
+    /// if none is, it fails only for want of memory or because of the disk. After a fault nothing was done, or
+    /// everything since the last commit was rolled back.
     pub fn begin(&mut self) -> Result<&mut Tables<P, S>, StoreFault>
         requires rests { HasCleanDisk (state S.Store self.old) → IsTrue (state S.Store self.old).is_open
             → (state S.Store self.old).now.schema ≡ schema P.version }
+        ensures outside { IfOk result (λ tables. HasCleanDisk (state S.Store tables.now)
+            → (state S.Store self.old).in_transaction ≡ false) }
         ensures begun { IfOk result (λ tables. HasCleanDisk (state S.Store tables.now)
             → Shows (state S.Store self.old) (state S.Store tables.now) (state S.Store self.old).now
             (state S.Store self.old).committed true) }
@@ -112,8 +118,12 @@ impl<P: Versioned, S: Alter> Closed<P, S> {
         Ok(tables)
     }
 
-    /// Commits what was done.
+    /// Commits what was done, and ends the transaction. Fails if none is open; if one is, it fails only for want of
+    /// memory or because of the disk. After a fault nothing was done, or everything since the last commit was rolled
+    /// back. A crash finds what was committed before, or all of it.
     pub fn commit(&mut self) -> Result<(), StoreFault>
+        ensures inside { HasCleanDisk (state S.Store self.new)
+            → OnOk result (IsTrue (state S.Store self.old).in_transaction) }
         ensures committed { HasCleanDisk (state S.Store self.new)
             → OnOk result (Committed (state S.Store self.old) (state S.Store self.new)) }
         ensures stopped { HasCleanDisk (state S.Store self.new)
@@ -127,7 +137,8 @@ impl<P: Versioned, S: Alter> Closed<P, S> {
         transaction::commit(&mut tables.conn)
     }
 
-    /// Rolls back what was done, whether the transaction is still open or not.
+    /// Rolls back what was done since the last commit, whether the transaction is still open or not. Afterwards none is
+    /// open. A failure is ignored.
     pub fn roll_back(&mut self)
         ensures ended { HasCleanDisk (state S.Store self.new)
             → IsEnded (state S.Store self.old) (state S.Store self.new) }

@@ -10,7 +10,8 @@ ghost use Rattle.office_tables.specs.Transactions.{Committed, IsStopped};
 use crate::fault::StoreFault;
 use sqlite::{Alter, Connection};
 
-/// Begins a transaction. Fails if one is already open.
+/// Begins a transaction. Fails if one is already open; if none is, it fails only for want of memory or because of the
+/// disk. After a fault nothing was done, or everything since the last commit was rolled back.
 pub fn begin<S: Alter>(conn: &mut Connection<S>) -> Result<(), StoreFault>
     ensures outside { HasCleanDisk (state S.Store conn.new)
         → OnOk result ((state S.Store conn.old).in_transaction ≡ false) }
@@ -27,7 +28,9 @@ pub fn begin<S: Alter>(conn: &mut Connection<S>) -> Result<(), StoreFault>
     Ok(())
 }
 
-/// Commits the transaction that is open. A crash finds what was committed before, or all of it.
+/// Commits the transaction that is open, and ends it. Fails if none is open; if one is, it fails only for want of
+/// memory or because of the disk. After a fault nothing was done, or everything since the last commit was rolled back.
+/// A crash finds what was committed before, or all of it.
 pub fn commit<S: Alter>(conn: &mut Connection<S>) -> Result<(), StoreFault>
     ensures inside { HasCleanDisk (state S.Store conn.new)
         → OnOk result (IsTrue (state S.Store conn.old).in_transaction) }
@@ -44,7 +47,8 @@ pub fn commit<S: Alter>(conn: &mut Connection<S>) -> Result<(), StoreFault>
     Ok(())
 }
 
-/// Rolls the transaction back, and ignores a failure.
+/// Rolls the transaction back, if one is open, and ignores a failure. Afterwards none is open, and the database is as
+/// the last commit left it, or the store is shut.
 pub fn roll_back<S: Alter>(conn: &mut Connection<S>)
     ensures back { HasCleanDisk (state S.Store conn.new) → IsTrue (state S.Store conn.old).in_transaction
         → IsBack (state S.Store conn.old) (state S.Store conn.new) }

@@ -76,7 +76,7 @@ module _ {D : Type 0} (g : Ghosts D) (image : Image) where
     pub left : HasLeft after files
     pub stays : AreAsFound g image files
 
-  -- whatever database there was before a check, the files hold it afterwards
+  -- the tables of whatever database there was before a check, the files hold afterwards
   abbrev pub ACheckChangesNothing : Type 0
   ACheckChangesNothing =
       (judged : Option OpenFault) (files : Files D) → WasJudgedAsFound judged files → HaveCleanDisk g files

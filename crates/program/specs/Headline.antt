@@ -22,8 +22,9 @@ use Rattle.office_tables.specs.Versions.{Second}
 use Rattle.program.specs.ClosedFiles.{HasLeft, HaveCleanDisk, HoldState}
 use Rattle.program.specs.OpenedFiles.{HoldsOffice, IsFound}
 
--- For a new office in the engine's store in memory, after any sessions and calls: the machine has carried out the commands among them, from
--- the state in which the office began, and the rules are kept at each point.
+-- For a new office in the engine's store in memory, after any sessions, and any calls whose commands name days of the
+-- calendar: the machine has carried out the commands among them, from the state in which the office began, and the
+-- rules are kept at each point.
 abbrev pub TheHeadlineInMemory : Type 0
 TheHeadlineInMemory =
     (founding : Founding) (visits : List Visit) (old new : Held MemStore)
@@ -34,9 +35,9 @@ TheHeadlineInMemory =
     → (t : State) × is_shown over_memory RepresentsSpanRows Second new t × IsOneRun (founded founding) visits t
 
 module _ {D : Type 0} (g : Ghosts D) where
-  -- The same for a new office in the store of files. If the last message or call was a command that was accepted, the
-  -- tables are those of the machine's state. They are so after anything else, too, unless a failed write had shut the
-  -- office.
+  -- The same for a new office in the store of files. If the last message or call was a command that was accepted, or if
+  -- there was none and the office was open at first, the tables are those of the machine's state. They are so after
+  -- anything else, too, unless a failed write had shut the office.
   abbrev pub TheHeadlineOfATrial : Type 0
   TheHeadlineOfATrial =
       (founding : Founding) (visits : List Visit) (old new : Held (FileStore D g))
@@ -50,9 +51,10 @@ module _ {D : Type 0} (g : Ghosts D) where
       → RepresentsState RepresentsSpanRows Second (file_state new).now t))
 
 module _ {D : Type 0} (g : Ghosts D) (image : Image) where
-  -- The same for an office that a file held when it was opened, and that is closed again. If the last message or call
-  -- was a command that was accepted, the file then holds the office in the machine's state. It also does so after
-  -- anything else, unless a failure of the disk had shut the office.
+  -- The same for a sound office that a file held when it was opened, and that is closed again, if the disk has returned
+  -- what was written. If the last message or call was a command that was accepted, the file and its log then hold the
+  -- office in the machine's state. They also do so after anything else, unless a failure of the disk had shut the
+  -- office.
   abbrev pub TheHeadlineInAFile : Type 0
   TheHeadlineInAFile =
       (s : State) (visits : List Visit) (old new : Held (FileStore D g)) (files : Files D)

@@ -189,9 +189,9 @@ module _ {D : Type 0} (g : Ghosts D) (image : Image) where
       (source : Bytes) (done : Done) (files : Files D) (it : HasTakenIn source (Ok done) files) → HaveCleanDisk g files
       → (s : State) → HoldsOffice image s → IsSoundOffice s → HoldState g files (step s (Import source it.file)).0
 
-  -- After a session the office is open if the last message was a command that was accepted. After another message, a
-  -- failure of the disk may have shut it. Then a crash leaves only the office as the session left it, or after the
-  -- command of its last message, if 503 was answered to that.
+  -- If the last message of a session was a command that was accepted, or if the office is still open, the files hold it
+  -- as the session left it. Otherwise a failure of the disk has shut it. Then a crash leaves only the office as the
+  -- session left it, or after the command of its last message, if 503 was answered to that.
   abbrev pub WhatWasSaidIsHeld : Type 0
   WhatWasSaidIsHeld =
       (reader reader_after out out_after : Stream) (end : Ended) (files : Files D)

@@ -17,12 +17,12 @@ HaveMade number old new = (old.calls + number ≤ new.calls) ⊎ (18446744073709
 abbrev pub StreamFails : ℕ → Stream → Stream → Type 0
 StreamFails most old new = (new.failed ≡ true) ⊎ HaveMade most old new
 
--- the text was written, everything is flushed if it was before, and no call has failed
+-- the text was written, everything is flushed if it was before, and no call has failed since
 abbrev pub Prints : List ℕ → Stream → Stream → Type 0
 Prints text old new =
     Appends old.bytes new.bytes text × (old.flushed ≡ true → new.flushed ≡ true) × (new.failed ≡ old.failed)
 
--- a front of the text was written, before the stream failed
+-- a front of the text, or all of it, was written before the stream failed
 abbrev pub PrintsPart : List ℕ → Stream → Stream → Type 0
 PrintsPart text old new =
     ((front : List ℕ) × IsFront front text × Appends old.bytes new.bytes front) × StreamFails most_calls old new

@@ -63,7 +63,7 @@ abbrev pub fault_of_settings : SettingsFault → TaskFault
 fault_of_settings wrong.Memory = fault.Memory
 fault_of_settings _ = fault.Settings
 
--- The day is not in the calendar; or it is, but a setting is not within its limits.
+-- The text of the day is not a day from 1900-01-01 to 9999-12-31; or it is, but a setting is not within its limits.
 abbrev pub AreRefused : List Row → TaskFault → Type 0
 AreRefused rows fault.Memory = Unit {0}
 AreRefused rows (fault.Words text) = ⊥
@@ -84,7 +84,8 @@ AreNoCodes rows fault.Settings =
 abbrev pub TakesSettings : Text → Type 0
 TakesSettings name = (name ≡ codes "init") ⊎ (name ≡ codes "trial")
 
--- the words name a command whose values are refused with this fault
+-- the words name a command whose values are refused with this fault: `preview` for its codes, `init` and `trial` for
+-- their settings and their day
 abbrev pub IsRefusedIn : Option (Text × List Row) → TaskFault → Type 0
 IsRefusedIn None why = ⊥
 IsRefusedIn (Some m) why = ((m.0 ≡ codes "preview") × AreNoCodes m.1 why) ⊎ (TakesSettings m.0 × AreRefused m.1 why)

@@ -287,8 +287,10 @@ fn do_task<S: Start, R: Read, W: Write, P: Port>(
     }
 }
 
-/// Performs the task that the words name, with these streams as standard input and output. Only `serve` uses the port.
-/// `S` gives what the files held before. Returns what became of the store: a store that was opened is closed.
+/// Performs the task that the words after the program's name describe, with these streams as standard input and output.
+/// If they describe none, that is the fault, and nothing is read, printed or opened. After a fault of a task, a part of
+/// its text may have been printed. Only `serve` uses the port. `S` gives what the files held before. Returns what
+/// became of the store: a store that was opened is closed.
 pub fn run<S: Start, R: Read, W: Write, P: Port>(
     rt: &HostRuntime,
     alloc: Global,

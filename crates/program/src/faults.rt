@@ -18,26 +18,27 @@ pub enum Break {
     Read,
     /// A write or a flush failed.
     Write,
-    /// Too many calls were made for one message.
+    /// All reads that one message may take were made, or all writes and flushes that one text may take.
     Bound,
 }
 
 /// Why a command was not done.
 #[derive(Debug, Drop)]
 pub enum Fault {
-    /// It was refused. The text is the line of the refusal.
+    /// It was refused. The text is the line of the refusal, with its line feed.
     Refused(Text),
     /// A check found no sound office of this version, and printed that on standard output.
     NotSound,
     /// The command line is not valid. The text explains why.
     Words(Text),
-    /// A day is not in the calendar.
+    /// The day is not one from 1900-01-01 to 9999-12-31, as YYYY-MM-DD.
     Date,
-    /// A setting is not within its limits.
+    /// A number of the settings is not within its limits, or the code of a country or repository has a wrong form.
     Settings,
-    /// A file or a standard stream could not be read or written.
+    /// A file or a standard stream could not be read or written, or the file of a store was not found, or could not be
+    /// made, for example because it exists.
     File,
-    /// The store could not be opened, read or written.
+    /// The store could not be opened, read or written, or holds no sound office of this version.
     Store,
     /// A port could not be bound, or a connection could not be accepted.
     Net,
@@ -48,8 +49,8 @@ pub enum Fault {
 }
 
 impl Fault {
-    /// The exit status: 1 for a refusal and for a check that found no sound office, 2 for a command line that is not
-    /// valid, 3 for all else.
+    /// The exit status: 1 for a refusal and for a check that found no sound office, 2 for words, a day or settings that
+    /// are not valid, 3 for all else.
     pub fn status(&self) -> u8
         ensures { result ≡ exit_status self.now }
     {
@@ -60,7 +61,8 @@ impl Fault {
         }
     }
 
-    /// What is printed on standard error.
+    /// What is printed on standard error: the text of `Refused` or `Words`, nothing for `NotSound`, and otherwise the
+    /// fixed line of the fault.
     pub fn message(&self) -> &str
         ensures { result.now ≡ message_of self.now }
     {
@@ -82,7 +84,8 @@ impl Fault {
     }
 }
 
-/// The line of a refusal: its number, its name, and the row and cause or the container that it names.
+/// The line of a refusal: `refused`, its number, its name, the row and cause or the container that it names, if it
+/// names one, and a line feed.
 pub fn refusal_line(alloc: Global, why: Refusal) -> Result<Text, AllocError>
     ensures { IfOk result (λ t. t ≡ line_of_refusal why) }
 {

@@ -57,7 +57,7 @@ pub enum FailedOpening<S: Drop, D: Disk + Drop> {
 }
 
 impl<S: Drop, D: Disk + Drop> FailedOpening<S, D> {
-    /// Why the store could not be opened.
+    /// Why the store could not be opened. For a file that is too short, this is `Unopened`.
     pub fn why(&self) -> FileFault
         ensures { result ≡ reason_of self.now }
     {
@@ -124,8 +124,9 @@ fn log_of(rt: &HostRuntime, path: &str) -> Result<String, AllocError> {
     format!(in rt.alloc(); "{path}-wal")
 }
 
-/// Makes a new file with a store that has no tables. Fails if the file or its log exists, or if another process makes
-/// the file at the same time. If no store can be opened on the file, it is deleted again.
+/// Makes a new file and opens a store on it. Fails with `Absent` if the file or its log exists, or if another process
+/// makes the file at the same time. If no store can be opened on the file, it is deleted again. The contract tells the
+/// tables only by what `S` says that the file holds: that a new file is empty is the system's part.
 pub fn make<S: Start>(
     rt: &HostRuntime,
     path: &str,
@@ -163,7 +164,8 @@ pub fn unmake(rt: &HostRuntime, path: &str) {
 /// The fewest bytes of a store: the smallest page of a database.
 const FEWEST_BYTES: u64 = 512;
 
-/// Opens an existing file, with the store in it. A file that is too short for a store stays as it is, with its log.
+/// Opens an existing file, with the store in it. Fails with `Absent` if nothing is found at the path. A file of fewer
+/// than 512 bytes is too short for a store, and stays as it is, with its log.
 pub fn find<S: Start>(
     rt: &HostRuntime,
     path: &str,

@@ -20,8 +20,9 @@ use sqlite::Alter;
 use std::alloc::Global;
 use std::io::Write;
 
-/// Imports a file into the office with one command, which is one step of the machine. A refusal is a reply. If the
-/// office is busy, that is the fault, and its tables are unchanged.
+/// Imports a file into the office with one command, which is one step of the machine. A refusal is a reply; after an
+/// accepted import the store is open. If the office is busy, the fault is `Memory` or `Store`, and its tables are
+/// unchanged. If a failure of the disk shuts the store, a crash may find the office before or after the import.
 pub fn take_in<P: Places, S: Alter>(
     alloc: Global,
     office: &mut Office<P, S>,
@@ -51,8 +52,9 @@ pub fn take_in<P: Places, S: Alter>(
     Ok(office.apply(alloc, &import)?)
 }
 
-/// Prints the JSON of an accepted reply as a line. A refusal is not printed, but returned as a fault with its line.
-/// `reply.json` must be the JSON of `reply.done`.
+/// Prints the JSON of an accepted reply as a line. If standard output fails, the fault is `File`, and a front of the
+/// line was printed. A refusal is not printed, but returned as a fault with its line, or as `Memory` if there is no
+/// memory for that. `reply.json` must be the JSON of `reply.done`.
 pub fn tell_reply<W: Write>(alloc: Global, reply: Reply, out: &mut Sink<'_, W>) -> Result<(), Fault>
     requires { reply.json ≡ reply_text reply.done }
     ensures done { OnOk result (ReplyPrinted reply.done out.old out.new) }

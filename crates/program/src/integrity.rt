@@ -24,8 +24,9 @@ use sqlite_disk::Disk;
 use std::alloc::Global;
 use std::io::Write;
 
-/// Returns why no office of version 2 can be opened on the store, or none if its tables are a sound office's. They are
-/// unchanged. The connection is given back, with no transaction open.
+/// Returns why no office of version 2 can be opened on the store, or none if its tables are those of a sound office of
+/// version 2. They are unchanged, unless a failure of the disk has shut the store. No transaction may be open, and the
+/// connection must not limit the steps of a statement. It is given back, with no transaction open.
 pub fn judge<S: Alter>(alloc: Global, conn: Connection<S>) -> (Option<OpenFault>, Connection<S>)
     requires outside { HasCleanDisk (state S.Store conn) → (state S.Store conn).in_transaction ≡ false }
     requires unlimited { IsUnlimited (state S.Store conn) }
@@ -45,7 +46,8 @@ pub fn judge<S: Alter>(alloc: Global, conn: Connection<S>) -> (Option<OpenFault>
 }
 
 /// Opens the store in a file, and closes it as it was found. Returns why no office of version 2 can be opened on its
-/// tables, or none if they are a sound office's, with the closed files.
+/// tables, or none if they are those of a sound office of version 2, with the closed files. If the store cannot be
+/// opened, the error has why.
 pub fn judge_file<S: Start>(
     rt: &HostRuntime,
     alloc: Global,
@@ -60,8 +62,10 @@ pub fn judge_file<S: Start>(
     Ok((judged, close(conn)))
 }
 
-/// Prints the verdict `sound`, `old version` or `not sound`, the last with its cause, and fails with `NotSound` unless
-/// it is `sound`. Any other fault of an opening is returned, and nothing is printed.
+/// Prints the verdict `sound`, `old version` or `not sound`, the last with the number of its cause, and fails with
+/// `NotSound` unless it is `sound`. If standard output fails, the fault is `File`, and a front of the line was printed.
+/// If there is no memory for the line, it is `Memory`. After any other fault of an opening nothing is printed, and the
+/// fault is `Memory` or `Store`.
 pub fn tell_judgment<W: Write>(
     alloc: Global,
     judged: Option<OpenFault>,

@@ -15,40 +15,47 @@ use memory_disk::MemoryDisk;
 use sqlite::{FileFrom, Start};
 use sqlite_disk::Disk;
 
-/// The tables of a sound office that are found in a file represent the state that was left there.
+/// If a file and its log hold an office of version 2 in a state, and the tables found there are judged to be a sound
+/// office's, these tables represent that state.
 pub fn a_file_opens_in_the_state_that_was_left()
     ensures { (image : Image) (s : State) (found : Database) → IsInTheStateThatWasLeft image s found }
 {}
 
-/// After any sessions, and calls that name days of the calendar, a new office in the engine's store in memory is in the
-/// machine's state after the commands among them, and the rules are kept at each point. Such a store is never shut.
+/// After any sessions, and any calls whose commands name days of the calendar, a new office in the engine's store in
+/// memory is in the machine's state after the commands among them, and the rules are kept at each point. Its tables
+/// always represent that state: such a store is never shut.
+#[tactic(auto, using(crate::proofs::HeadlineLemmas::in_memory))]
 pub fn the_headline_in_memory()
     ensures { TheHeadlineInMemory }
 {}
 
-/// After any sessions and calls, the new office of a trial is in the machine's state after the commands among them,
-/// unless a failed write has shut it, and the rules are kept at each point. After a command that was accepted as the
-/// last message or call, it is not shut.
+/// After any sessions, and any calls whose commands name days of the calendar, the new office of a trial is in the
+/// machine's state after the commands among them, and the rules are kept at each point. Its tables represent that
+/// state, unless a failed write has shut it. They do so in any case if the last message or call was a command that was
+/// accepted, or if there was none and the office was open at first.
 pub fn the_headline_of_a_trial()
     ensures { TheHeadlineOfATrial ⟦<MemoryDisk as Disk>⟧ }
 {}
 
-/// Any sessions and calls with an office that a file held bring the machine from the office's state to another by the
-/// commands among them, and the rules are kept at each point. When the office is closed, the file holds it in that
-/// state, if the last message or call was a command that was accepted, or if no failure of the disk had shut it.
+/// Any sessions, and any calls whose commands name days of the calendar, with a sound office that a file held bring the
+/// machine from the office's state to another by the commands among them, and the rules are kept at each point. When
+/// the office is closed, the file and its log hold it in that state, if the last message or call was a command that was
+/// accepted, or if no failure of the disk had shut it. The premise is that the disk has returned what was written.
 pub fn the_headline_in_a_file<S: Start>()
     ensures { TheHeadlineInAFile ⟦<FileFrom<S> as Disk>⟧ (image_at S.Start) }
 {}
 
-/// A check changes nothing: the file holds what it held.
+/// A check changes nothing: the file and its log hold the tables that they held, if the disk has returned what was
+/// written.
 pub fn a_check_changes_nothing<S: Start>()
     ensures { ACheckChangesNothing ⟦<FileFrom<S> as Disk>⟧ (image_at S.Start) }
 {}
 
-/// After `init`, the file holds the new office. After an import that was accepted, a session, some connections or a
-/// migration, it holds the office in the state that this led to from the state that the file held before. If a failure
-/// of the disk had shut the office in a session or connections, a crash leaves only that state, or the state after one
-/// command more; and if it had shut a store in which no office was made, only no office, or the new one.
+/// After `init`, an accepted import or a migration, the file and its log hold the office in the state that this led to,
+/// if the disk has returned what was written, and if an office that was opened was sound. So they do after a session or
+/// connections, if the last message was an accepted command, or if no failure of the disk had shut the office. If one
+/// had, a crash leaves only that state, or the state after one command that was answered 503. If one had shut a store
+/// in which no office was made, a crash leaves only what it could leave before, or the new office.
 pub fn what_was_done_is_in_the_file<S: Start>()
     ensures made { WhatWasMadeIsHeld ⟦<FileFrom<S> as Disk>⟧ (image_at S.Start) }
     ensures not_made { WhatWasNotMadeIsLeft ⟦<FileFrom<S> as Disk>⟧ (image_at S.Start) }
@@ -58,8 +65,10 @@ pub fn what_was_done_is_in_the_file<S: Start>()
     ensures brought_over { WhatWasBroughtOverIsHeld ⟦<FileFrom<S> as Disk>⟧ (image_at S.Start) }
 {}
 
-/// Runs on one store are one list of commands to one machine: each finds the office as the runs before it left it, and
-/// adds its commands to theirs. A run that could not copy its log into the file, as it closed it, is left out.
+/// Runs on one store are one list of commands to one machine: each finds the office as the runs before it left it, also
+/// after a crash between them, and adds its commands to theirs. The list begins with a sound office that was found,
+/// made or migrated. What a run finds is not said if the run before it could not copy its log into the file as it
+/// closed it.
 pub fn runs_are_one_machine<S: Start>()
     ensures found { (image : Image) (s : State) → BeginsAsFound image s }
     ensures made { BeginsAsMade ⟦<FileFrom<S> as Disk>⟧ (image_at S.Start) }

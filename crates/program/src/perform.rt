@@ -16,10 +16,10 @@ use sqlite_disk::Disk;
 use std::alloc::Global;
 use std::io::{Read, Write};
 
-/// Performs one command with these streams as standard input, output and error. Only `serve` uses the port. Returns the
-/// exit status, and what became of the store: its file and its log are closed. The two may have held anything before:
-/// `S` gives their content. The status is 0 if the command was done; otherwise it is that of the fault, whose message
-/// is written on standard error.
+/// Performs the command of the words after the program's name, with these streams as standard input, output and error.
+/// Only `serve` uses the port. Returns the exit status, and what became of the store: if it was opened, its file and
+/// its log are closed. The two may have held anything before: `S` gives their content. The status is 0 if the command
+/// was done; otherwise it is 1 to 3, by the fault, whose message is written on standard error as far as that takes it.
 pub fn perform<S: Start, R: Read, W: Write, E: Write, P: Port>(
     rt: &HostRuntime,
     alloc: Global,
@@ -44,7 +44,7 @@ pub fn perform<S: Start, R: Read, W: Write, E: Write, P: Port>(
 }
 
 /// Prints on standard error why a command was not done, and returns the exit status. The status is the same whether
-/// or not standard error takes the text.
+/// standard error takes the text, or fails after a front of it.
 pub fn tell<E: Write>(fault: &Fault, err: &mut Sink<'_, E>) -> u8
     ensures status { result ≡ exit_status fault.now }
     ensures told { Tells err.old err.new (message_of fault.now) }

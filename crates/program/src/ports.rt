@@ -19,11 +19,11 @@ pub trait Port {
     /// What is known of it and its connections. By default nothing is, as for a port of the system.
     ghost history: { Self → Option History } = { λ _. None };
 
-    /// Binds it to this number, and listens. Returns false if that fails.
+    /// Binds it to this number, and listens. Returns false if that fails; what is known of it then stays the same.
     fn listen(&mut self, rt: &HostRuntime, number: u16) -> bool
         ensures { history self.new ≡ after_binding result (history self.old) number };
 
-    /// Takes the next connection. Returns none if that fails.
+    /// Takes the next connection. Returns none if that fails, which is counted.
     fn take(&mut self) -> Option<(Self::Reader, Self::Writer)>
         ensures none { IfNone result (history self.new ≡ after_failing (history self.old)) }
         ensures taken { IfSome result (λ it. history self.new
@@ -38,7 +38,7 @@ pub trait Port {
     )
         ensures { history self.new ≡ after_leaving (history self.old) reader.now writer.now ended };
 
-    /// Closes the port.
+    /// Closes the port. What is known of it stays the same.
     fn shut(&mut self)
         ensures { history self.new ≡ history self.old };
 }

@@ -15,7 +15,8 @@ use std::fs::File;
 use std::io::{Read, Write};
 use std::rt::Files;
 
-/// Reads the file at this path.
+/// Reads the file at this path. The fault is `Memory`, or `Failed` if it cannot be opened or read. There is no
+/// contract.
 pub fn file_bytes<F: Files>(rt: &F, alloc: Global, path: &Text) -> Result<Vec<u8>, ReadFault> {
     match File::open(rt, path.as_str()) {
         Ok(mut file) => read_to_end(alloc, &mut Source::new(&mut file)),
@@ -52,8 +53,9 @@ fn refused_file(alloc: Global, fault: FileFault) -> Fault
     }
 }
 
-/// Prints the finding aids of a file, or of standard input if there is no path. If it cannot be read or is refused,
-/// nothing is printed; a refusal is a fault with its line.
+/// Prints the finding aids of a file, or of standard input if there is no path. If it cannot be read or is refused, or
+/// there is no memory, nothing is printed; a refusal is a fault with its line. If standard output fails, a front of the
+/// text was printed. The contract does not say what was read at a path.
 pub fn print_preview<F: Files, R: Read, W: Write>(
     rt: &F,
     alloc: Global,

@@ -51,8 +51,9 @@ fn serve_one<P: Port, M: Machine>(
     }
 }
 
-/// Serves this number of connections, one after the other. Stops and returns false if one could not be taken. Each
-/// one that is taken has a session, and counts however that ends. The port is closed as soon as the last is taken.
+/// Serves this number of connections, one after the other, and returns true. Stops and returns false if one could not
+/// be taken; those before it were served. Each one that is taken has a session, and counts however that ends. The port
+/// is closed as soon as the last is taken; the contract does not say so.
 pub fn serve<P: Port, M: Machine>(
     alloc: Global,
     port: &mut P,

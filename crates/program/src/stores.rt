@@ -46,7 +46,9 @@ fn open_fault<S: Start>(failed: FailedOpeningFrom<S>) -> (Fault, Outcome<S>)
     (Fault::from(failed.why()), StoreOutcome::Unopened(failed))
 }
 
-/// Makes a new office in a file that does not exist yet. If that fails, a file that was made is deleted again.
+/// Makes a new office in a file that does not exist yet, with these settings and their day. The fault is `File` if the
+/// file cannot be made, for example because it exists, `Memory`, or else `Store`. If it fails, a file that was made is
+/// deleted again.
 pub fn make_office<S: Start>(
     rt: &HostRuntime,
     store: &Text,
@@ -94,8 +96,8 @@ pub fn open_office<S: Start>(
     }
 }
 
-/// Closes the file of an office. The file then holds the office's tables, unless a failure of the disk had shut the
-/// office: in that case it holds what a crash might have left.
+/// Closes the file of an office. The file, or else its log, then holds the office's tables, if the disk has returned
+/// what was written. If a failure of the disk had shut the office, the two hold what a crash might have left.
 pub fn close_office<S: Start>(office: KeptOffice<S>) -> ClosedFiles<S>
     ensures { HasLeft office result }
 {

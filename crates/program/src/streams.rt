@@ -1,8 +1,9 @@
 //! Reads a stream to its end, and writes whole texts.
 //!
-//! At most 4294967295 reads are made of a stream, and as many writes. An interrupted call counts and
-//! is tried again. If more calls would be needed, the stream has failed. Flushes are counted
-//! separately.
+//! At most 4294967295 reads are made of a whole stream. For one text, at most as many writes are made, and then at most
+//! as many flushes, which are counted apart. An interrupted call counts and is tried again. If more calls would be
+//! needed, the stream has failed. The contracts say that it fails no earlier; they do not say that no more calls are
+//! made.
 ghost use Rattle.std.specs.Prelude.{◌≡◌, ◌+◌, ◌++◌, ℕ, List, [], true, IfErr, IfOk, OnErr, OnOk, codes};
 ghost use Rattle.std.specs.Io.KnownBytes.{Appends, Consumes, IsAtEnd};
 ghost use Rattle.http_desk.specs.Streams.{most_calls};
@@ -39,14 +40,16 @@ pub struct WriteFault;
 /// How many bytes one read asks for.
 const CHUNK: usize = 65_536;
 
-/// How many reads of a stream are made at most, and how many writes or flushes.
+/// How many reads are made at most of a whole stream, how many writes at most for one text, and how many flushes at
+/// most after these, counted apart: each is 4294967295.
 pub fn most_calls() -> u32
     ensures { result ≡ most_calls }
 {
     u32::MAX
 }
 
-/// Reads a stream to its end.
+/// Reads a stream to its end. If a read fails, or more than `most_calls` reads would be needed, the fault is `Failed`.
+/// After a fault, a front of the stream was read and is lost.
 pub fn read_to_end<R: Read>(alloc: Global, reader: &mut Source<'_, R>) -> Result<Vec<u8>, ReadFault>
     // The bytes are all that the reader had left.
     ensures bytes { IfOk result (λ v. Consumes reader.old.bytes reader.new.bytes v.items) }
@@ -60,8 +63,8 @@ pub fn read_to_end<R: Read>(alloc: Global, reader: &mut Source<'_, R>) -> Result
 }
 
 /// Reads a stream to its end in at most `reads` reads. An interrupted read counts, and so does the one that finds the
-/// end. If these do not suffice, the fault is `Failed`. Replaces the turns that the reader had left, as `begin_stream`
-/// does. That no more reads are made is only tested.
+/// end. If these do not suffice, or a read fails, the fault is `Failed`; a front of the stream was then read. Replaces
+/// the turns that the reader had left, as `begin_stream` does. That no more reads are made is only tested.
 pub fn read_within<R: Read>(
     alloc: Global,
     reader: &mut Source<'_, R>,
@@ -87,7 +90,8 @@ pub fn read_within<R: Read>(
     Err(ReadFault::Failed)
 }
 
-/// Writes the bytes and flushes. Makes no call if there are no bytes.
+/// Writes the bytes and flushes. Makes no call if there are no bytes. After a fault a front of them, or all, was
+/// written.
 pub fn write_whole<W: Write>(writer: &mut Sink<'_, W>, bytes: &[u8]) -> Result<(), WriteFault>
     ensures whole { OnOk result (Prints bytes.now writer.old writer.new) }
     ensures part { OnErr result (PrintsPart bytes.now writer.old writer.new) }
@@ -99,7 +103,8 @@ pub fn write_whole<W: Write>(writer: &mut Sink<'_, W>, bytes: &[u8]) -> Result<(
     flush(writer)
 }
 
-/// Writes the bytes and a line feed, whose writes are counted together, and flushes.
+/// Writes the bytes and a line feed, whose writes are counted together, and flushes. After a fault a front of this
+/// text, or all of it, was written.
 pub fn write_line<W: Write>(writer: &mut Sink<'_, W>, bytes: &[u8]) -> Result<(), WriteFault>
     ensures whole { OnOk result (Prints (bytes.now ++ codes "\n") writer.old writer.new) }
     ensures part { OnErr result (PrintsPart (bytes.now ++ codes "\n") writer.old writer.new) }
@@ -108,8 +113,8 @@ pub fn write_line<W: Write>(writer: &mut Sink<'_, W>, bytes: &[u8]) -> Result<()
     flush(writer)
 }
 
-/// Writes the bytes and a line feed in at most `writes` writes in all, without a flush. After a fault a front of them
-/// was written.
+/// Writes the bytes and a line feed in at most `writes` writes in all, without a flush. An interrupted write counts.
+/// After a fault a front of this text was written. The contract does not say that no more writes are made.
 pub fn line_within<W: Write>(
     writer: &mut Sink<'_, W>,
     bytes: &[u8],
@@ -128,7 +133,8 @@ pub fn line_within<W: Write>(
 }
 
 /// Writes the bytes in at most `writes` writes, without a flush, and returns how many of these are left. An interrupted
-/// write counts. After a fault a front of the bytes was written.
+/// write counts. After a fault a front of the bytes was written. The contract does not say that no more writes are
+/// made.
 pub fn write_within<W: Write>(
     writer: &mut Sink<'_, W>,
     bytes: &[u8],

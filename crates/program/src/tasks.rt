@@ -47,9 +47,9 @@ pub enum Task {
     Serve {
         /// The path of the file that keeps the office.
         store: Text,
-        /// The port.
+        /// The port, from 1 to 65535.
         port: u16,
-        /// How many connections are served.
+        /// How many connections are served, from 1 to 10000.
         connections: u32,
     },
     /// Checks whether the office is sound.
@@ -73,7 +73,7 @@ pub enum TaskFault {
     Words(Text),
     /// The text is not a day from 1900-01-01 to 9999-12-31, as YYYY-MM-DD.
     Date,
-    /// A setting is not within its limits.
+    /// A number of the settings is not within its limits, or the code of a country or repository has a wrong form.
     Settings,
 }
 

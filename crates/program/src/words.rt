@@ -151,7 +151,9 @@ fn words_fault(alloc: Global, error: &Error) -> TaskFault
     }
 }
 
-/// The task that the words after the program's name describe. A request for help is refused as not valid.
+/// The task that the words after the program's name describe. Words that the command does not take, also a request for
+/// help, are refused with `Words`. Values that are taken may still be refused: with `Date` a day that is not from
+/// 1900-01-01 to 9999-12-31, and with `Settings` numbers out of their limits and codes of a wrong form.
 pub fn task(alloc: Global, words: &[String]) -> Result<Task, TaskFault>
     // The task is the subcommand of the matches that `clap` has for these words, with their values.
     ensures named { IfOk result (IsTaskOf (subcommand_of program (map string_bytes words.now))) }
@@ -180,7 +182,7 @@ pub fn arguments<R: Env + AllocGlobal>(rt: &R, alloc: Global) -> Result<Vec<Stri
     }
 }
 
-/// The command takes the words of a preview. It does not take an empty command line or a request for help.
+/// The command takes these words of a preview. It takes neither an empty command line nor `--help` alone.
 pub fn previews_are_taken()
     ensures preview { takes program (codes "preview"
         ∷ codes "--country" ∷ codes "GB" ∷ codes "--repo" ∷ codes "0999" ∷ codes "a.csv" ∷ []) ≡ true }

@@ -164,8 +164,8 @@ impl Write for Page {
 }
 
 /// A port with a queue of clients, each with the text that it sends. The answers to all clients go to one pipe, with a
-/// bar after each client. It notes the number that it was bound to, and counts the clients that were taken and left. Once
-/// it is shut, none can be taken.
+/// bar after each client. It notes the number that it was bound to, and counts the clients that were taken and left.
+/// Once it is shut, none can be taken.
 #[derive(Drop)]
 pub struct Queue<'a> {
     clients: &'a [&'a str],

@@ -180,13 +180,11 @@ drop_past [] (suc i) h = refl
 drop_past (x ∷ xs) zero h = absurd (omega (arith, h))
 drop_past (x ∷ xs) (suc i) h = drop_past xs i (omega (arith, h))
 
-abbrev no_row : Kept
-no_row = record { id = 0; depth = 0; stub = false }
-
 -- the unit that the row at an index tells
-pub row_at : (day : ℤ) (c : Catalogue) (public_walk : List Kept) (rows : List Walked) (i : ℕ)
-    → KeepsUnits day c public_walk rows → i < length public_walk
-    → Here kept_from_walk (IsOf day c) rows i (get_or public_walk i no_row)
-row_at day c public_walk rows i it low =
+pub row_at : (day : ℤ) (c : Catalogue) (public_walk : List Kept) (rows : List Walked) (i : ℕ) (row : Kept)
+    → row ≡ get_or public_walk i row → KeepsUnits day c public_walk rows → i < length public_walk
+    → Here kept_from_walk (IsOf day c) rows i row
+row_at day c public_walk rows i row is it low =
     let long = ap length it.told ∙ length-map rows kept_from_walk in
-    here_at kept_from_walk (IsOf day c) rows i (get_or public_walk i no_row) no_row it.each (omega (arith, long, low)) (ap (λ l. get_or l i no_row) it.told)
+    here_at kept_from_walk (IsOf day c) rows i row row it.each (omega (arith, long, low))
+    (is ∙ ap (λ l. get_or l i row) it.told)

@@ -1,5 +1,5 @@
 -- The names that several proofs of this crate cite, passed on from one place. Declares nothing.
-pub use Rattle.std.proofs.lemmas.Bool.{cases_lt, eqb-true, false≢true}
+pub use Rattle.std.proofs.lemmas.Bool.{eqb-true, false≢true}
 pub use Rattle.std.proofs.lemmas.List.{length-append, length-map, map-append, reverse-append, take_all, take_more}
 pub use Rattle.std.specs.List.{AllByRecursion, cons_option, flat_map, list_any}
 pub use Rattle.std.specs.Prelude.{IfOk, IsErr, IsErrAnd, codes, filter_map, int_lt, option_map, reverse, unwrap_or, ℤ}
@@ -20,7 +20,7 @@ pub use Rattle.tree_core.specs.Forest.{Empty, Forest, HasDistinctIds, Node, each
 pub use Rattle.tree_core.specs.Tops.{below_first, part_below, tops}
 pub use Rattle.visibility.specs.declared.marks.Kept.{Kept}
 pub use Rattle.desk_core.specs.declared.refusal.Refusal.TheVariants.{UnknownUnit}
-pub use Rattle.catalogue_core.proofs.EachOf.{all_append, all_split, some_found}
+pub use Rattle.catalogue_core.proofs.EachOf.{all_append, all_split}
 pub use Rattle.catalogue_core.proofs.PublicPaths.{known_of, number_known}
 pub use Rattle.catalogue_core.specs.Aids.{Repository, identifier_of, numbered_boxes, shown_below, shown_unit}
 pub use Rattle.catalogue_core.specs.Bounds.{IsKept}

@@ -1,13 +1,11 @@
 -- Units that are found by their numbers, and heads of such units.
-use Rattle.std.proofs.Common.{◌≡◌, ℕ, zero, suc, ◌+◌, ◌<◌, ◌^◌, Bool, true, false, cond, List, [], ◌∷◌, ◌++◌, length}
-use Rattle.std.proofs.Common.{take, get_or, Some, refl, sym, ap, subst, ◌∙◌, arith, nat_eq, eq-eqb, inl, inr}
+use Rattle.std.proofs.Common.{◌≡◌, ℕ, zero, suc, ◌+◌, ◌<◌, Bool, true, false, cond, List, [], ◌∷◌, ◌++◌, length, take}
+use Rattle.std.proofs.Common.{get_or, Some, refl, sym, ap, subst, ◌∙◌, arith, nat_eq, eq-eqb}
 use Rattle.std.specs.List.{IsDistinct, find}
 use Rattle.std.specs.Prelude.{map}
 use Rattle.tree_core.proofs.Lists.{eqb_comm}
-use Rattle.catalogue_store.proofs.UnitsThere.{no_unit}
-use Rattle.public_queries.proofs.Common.{AllByRecursion, Catalogue, Empty, Forest, Head, IsKept, Node, Unit, all_split}
-use Rattle.public_queries.proofs.Common.{cases_lt, false≢true, has, has_id, head_of, length-map, nodes, path}
-use Rattle.public_queries.proofs.Common.{some_found}
+use Rattle.public_queries.proofs.Common.{AllByRecursion, Empty, Forest, Head, Node, Unit, all_split, has, has_id}
+use Rattle.public_queries.proofs.Common.{head_of, length-map, nodes, path}
 
 pub path_all : (P : Unit → Type 0) (is : Unit → Bool) (f : Forest Unit) → AllByRecursion P (nodes f)
     → AllByRecursion P (path is f)
@@ -35,13 +33,6 @@ pub found_each : (xs : List Unit) → IsDistinct nat_eq (map (λ (u : Unit). u.i
 unfolding IsDistinct
 found_each [] d = tt
 found_each (y ∷ ys) d = (ap (λ b. cond b (Some y) (find (has_id y.id) ys)) (eq-eqb y.id y.id refl), found_later y ys ys d.0 (found_each ys d.1))
-
--- what is found of a catalogue that is kept has a number that a table can keep
-pub found_low : (c : Catalogue) (n : ℕ) (u : Unit) → IsKept c → find (has_id n) (nodes c.forest) ≡ Some u → n < 2 ^ 63
-found_low c n u kept found = elim (cases_lt n (2 ^ 63)) [
-  | inl low ↦ low
-  | inr high ↦ absurd (false≢true (no_unit c n high kept ∙ some_found (has_id n) (nodes c.forest) u found))
-]
 
 -- the head at an index is that of a unit that is found by the head's number
 pub record HeadAt (f : Forest Unit) (us : List Unit) (i : ℕ) (head : Head) : Type 0 where

@@ -11,7 +11,8 @@ ghost use Rattle.catalogue_statements.specs.Representation.{Represents};
 ghost use Rattle.public_queries.specs.OwnRows.{is_no_draft};
 
 use catalogue_store::{Places, find_head};
-use office_tables::{Number, StoreFault, Tables};
+use isad_core::Number;
+use office_tables::{StoreFault, Tables};
 use sqlite::Alter;
 use std::alloc::Global;
 

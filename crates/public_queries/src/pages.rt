@@ -23,9 +23,9 @@ use crate::path_heads::{identifiers, shows_last};
 use crate::path_values::with_codes;
 use access::is_closed;
 use catalogue_store::{Head, OfficeRow, Places, UnitValues, heads_below, path_heads, values};
-use isad_core::{List, Shown, Text};
+use isad_core::{List, Number, Shown, Text};
 use office_core::{Answer, Refusal};
-use office_tables::{Number, StoreFault, Tables};
+use office_tables::{StoreFault, Tables};
 use sqlite::Alter;
 use std::alloc::{AllocError, Global};
 

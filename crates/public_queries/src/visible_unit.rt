@@ -14,8 +14,8 @@ ghost use Rattle.public_queries.specs.KnownPaths.{IsTellable};
 
 use crate::path_values::text_or_empty;
 use catalogue_store::{Places, UnitValues, find_head, values};
-use isad_core::{Body, BoxKey, Day, Element, List, Text};
-use office_tables::{Number, StoreFault, Tables, known_number};
+use isad_core::{Body, BoxKey, Day, Element, List, Number, Text};
+use office_tables::{StoreFault, Tables};
 use sqlite::Alter;
 use std::alloc::{AllocError, Global};
 use visibility::Kept;
@@ -120,10 +120,9 @@ pub(crate) fn seen_unit<P: Places, S: Alter>(
         gives λ _ c seen. IsTellable c → (row : Walked) → IsOf today c row → unit ≡ kept_from_walk row
         → seen ≡ seen_of c.containers (public_unit row.0) }
 {
-    let number = known_number(unit.id)?;
     if unit.stub {
-        seen_closed(alloc, tables, number)
+        seen_closed(alloc, tables, unit.id)
     } else {
-        seen_open(alloc, tables, number)
+        seen_open(alloc, tables, unit.id)
     }
 }

@@ -18,7 +18,7 @@ pub fn day_value(alloc: Global, day: Day) -> Result<Value, AllocError>
     json!(in alloc; text)
 }
 
-/// The bytes of a JSON value. Its numbers must be whole, and fit 64 bits.
+/// The bytes of a JSON value, without white space between its parts. Its numbers must be whole, and fit 64 bits.
 pub fn text_of(alloc: Global, value: &Value) -> Result<List<u8>, AllocError>
     requires no_float { has_float (view value.now) ≡ false }
     ensures { IfOk result (λ text. text ≡ compact_text (view value.now)) }

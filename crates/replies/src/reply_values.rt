@@ -7,18 +7,18 @@ ghost use Rattle.office_core.specs.Json.{refusal_json, remark_json, reply_json, 
 ghost use Rattle.office_core.specs.declared.done.Done.TheVariants as done;
 
 use crate::json_values::{day_value, text_of};
-use isad_core::{Day, List};
+use isad_core::{Day, List, Number};
 use office_core::{Done, Refusal, Remark};
 use serde_json::{Value, json};
 use std::alloc::{AllocError, Global};
 
 /// The JSON array of these numbers.
-fn numbers_value(alloc: Global, numbers: &[u64]) -> Result<Value, AllocError>
+fn numbers_value(alloc: Global, numbers: &[Number]) -> Result<Value, AllocError>
     ensures { IfOk result (λ v. view v ≡ list (map count numbers.now)) }
 {
     let mut values = Vec::new(alloc);
     for number in numbers {
-        values.push(Value::from(*number))?;
+        values.push(Value::from(number.get()))?;
     }
     Ok(Value::Array(values))
 }
@@ -52,7 +52,7 @@ fn number_object(alloc: Global, key: &str, number: u64) -> Result<Value, AllocEr
 }
 
 /// A JSON object with a list of numbers under one key.
-fn list_object(alloc: Global, key: &str, numbers: &[u64]) -> Result<Value, AllocError>
+fn list_object(alloc: Global, key: &str, numbers: &[Number]) -> Result<Value, AllocError>
     ensures { IfOk result (λ v. view v ≡ fields ((key.now, list (map count numbers.now)) ∷ [])) }
 {
     let values = numbers_value(alloc, numbers)?;

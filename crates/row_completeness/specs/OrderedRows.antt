@@ -13,6 +13,6 @@ pub record StandsInOrder (rows : List Row) : Type 0 where
   pub rise : IsTable rows
   pub numbers : AllByRecursion (λ (row : Row). IsTrue (is_int (rowid row))) rows
 
--- the rows of each table have whole numbers in ascending order
+-- the rows of each table have whole numbers in ascending order, none of them twice
 abbrev pub StandInOrder : Database → Type 0
 StandInOrder db = AllByRecursion (λ (table : Table). StandsInOrder (db.trees table.tree)) db.schema.tables

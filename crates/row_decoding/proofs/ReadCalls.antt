@@ -5,7 +5,7 @@ use Rattle.office_tables.proofs.CallEnds.{read_well, read_cut}
 use Rattle.office_tables.proofs.Calls.{early, looks_then}
 use Rattle.office_tables.specs.Query.{Reads}
 use Rattle.office_tables.specs.Step.{LeavesUnchanged}
-use Rattle.office_tables.specs.declared.fault.StoreFault.{StoreFault}
+use Rattle.row_decoding.proofs.Common.{StoreFault}
 
 -- the tables are as they were
 pub same_trees : (a b : State) → LeavesUnchanged a b → HasCleanDisk b → b.now.trees ≡ a.now.trees

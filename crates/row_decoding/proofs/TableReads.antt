@@ -29,10 +29,9 @@ use Rattle.office_tables.specs.Query.{IsQuery, Reads, FoundInside, Gathers, Stop
 use Rattle.office_tables.specs.Schema.{schema}
 use Rattle.office_tables.specs.StatementMeaning.{Means}
 use Rattle.office_tables.specs.Versions.{Version}
-use Rattle.office_tables.specs.declared.fault.StoreFault.{StoreFault}
 use Rattle.row_decoding.specs.Examinations.{Examines}
 use Rattle.row_decoding.specs.declared.decoded_rows.Gathered.{Gathered}
-use Rattle.row_decoding.proofs.Common.{AreGathered, IsTable, Row, cons_option, has_unread}
+use Rattle.row_decoding.proofs.Common.{AreGathered, IsTable, Row, StoreFault, cons_option, has_unread}
 
 pub same_rows : {A : Type 0} (xs : List A) → xs ≡ map (λ x. x) xs
 same_rows [] = refl

@@ -38,7 +38,7 @@ run_line_in_answer cells = read_run_line (Null ∷ column cells 0 ∷ column cel
 abbrev pub permit_in_answer : Row → Option PermitRow
 permit_in_answer cells = read_permit (Null ∷ column cells 0 ∷ column cells 1 ∷ column cells 2 ∷ [])
 
--- the number of a row whose key is a number
+-- the number of a row, if its key is a number from 0 on
 abbrev pub read_number : Row → Option ℕ
 read_number row = number_in (column row 0)
 

@@ -26,7 +26,7 @@ then_by number second a b = nat_lt (number a) (number b) || (nat_eq (number a) (
 
 -- ---- the catalogue
 
--- links by unit, spans by their first number
+-- links by unit, spans by their first number and then by unit
 abbrev pub places_in : TreeEncoding → Trees → PlaceRows
 places_in Links db = LinkRows (in_order (by (λ (row : Link). row.id)) (filter_map read_link (db tables.link.tree)))
 places_in Spans db =

@@ -18,12 +18,13 @@ pub trait FromCells {
     /// The type of the record in the definitions.
     ghost Told: { Type 0 };
 
+    /// The record as the definitions have it.
     ghost told: { Self → Told };
 
     /// The record in the cells of a row of the query, or none if they contain no such record.
     ghost says: { Row → Option Told };
 
-    /// Reads a row. Returns none if it cannot be read.
+    /// Reads a row of the query. Returns none if its cells contain no such record.
     fn read(row: &Row) -> Option<Self>
     where
         Self: Sized,
@@ -63,8 +64,9 @@ fn no_rows<R>(alloc: Global) -> Gathered<R>
     }
 }
 
-/// Reads the rows of a query, as far as they can be read. The query must be one with a known meaning. Outside a
-/// transaction it fails with `StoreFault::Schema`.
+/// Reads the rows of a query that can be read, in its order, and whether all can be. The query must be one with a known
+/// meaning and without parameters. A row that cannot be read is no fault. Outside a transaction it fails with
+/// `StoreFault::Schema`.
 pub fn read_rows<R: FromCells + Drop, P: Versioned, S: Alter>(
     alloc: Global,
     tables: &mut Tables<P, S>,

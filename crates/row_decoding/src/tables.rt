@@ -163,7 +163,7 @@ impl FromCells for RunLineRow {
     }
 }
 
-/// Reads the seats, in any order.
+/// Reads the taken seats that can be read, in any order, and tells whether all can be.
 pub fn seats<P: Versioned, S: Alter>(
     alloc: Global,
     tables: &mut Tables<P, S>,
@@ -174,7 +174,7 @@ pub fn seats<P: Versioned, S: Alter>(
     read_rows(alloc, tables, "SELECT seat, ticket FROM seat")
 }
 
-/// Reads the permits, in any order.
+/// Reads the permits that can be read, in any order, and tells whether all can be.
 pub fn permits<P: Versioned, S: Alter>(
     alloc: Global,
     tables: &mut Tables<P, S>,
@@ -185,7 +185,7 @@ pub fn permits<P: Versioned, S: Alter>(
     read_rows(alloc, tables, "SELECT ticket, unit, until FROM permit")
 }
 
-/// Reads the orders, by number.
+/// Reads the orders that can be read, in ascending order of their numbers, and tells whether all can be.
 pub fn orders<P: Versioned, S: Alter>(
     alloc: Global,
     tables: &mut Tables<P, S>,
@@ -200,7 +200,8 @@ pub fn orders<P: Versioned, S: Alter>(
     )
 }
 
-/// Reads the holdings, in any order.
+/// Reads the rows of `holding` that can be read, one for each container that is not on the shelf, in any order, and
+/// tells whether all can be.
 pub fn holdings<P: Versioned, S: Alter>(
     alloc: Global,
     tables: &mut Tables<P, S>,
@@ -215,7 +216,7 @@ pub fn holdings<P: Versioned, S: Alter>(
     )
 }
 
-/// Reads the runs, by number.
+/// Reads the runs that can be read, in ascending order of their numbers, and tells whether all can be.
 pub fn runs<P: Versioned, S: Alter>(
     alloc: Global,
     tables: &mut Tables<P, S>,
@@ -225,7 +226,7 @@ pub fn runs<P: Versioned, S: Alter>(
     read_rows(alloc, tables, "SELECT id, day FROM run ORDER BY id")
 }
 
-/// Reads the lines of the runs, in any order.
+/// Reads the lines of the runs that can be read, in any order, and tells whether all can be.
 pub fn run_lines<P: Versioned, S: Alter>(
     alloc: Global,
     tables: &mut Tables<P, S>,
@@ -240,7 +241,8 @@ pub fn run_lines<P: Versioned, S: Alter>(
     )
 }
 
-/// Reads the numbers of the units, in any order.
+/// Reads the numbers of the rows of units, in any order, and tells whether each is one from 0 on. No other cell is
+/// read.
 pub fn unit_numbers<P: Versioned, S: Alter>(
     alloc: Global,
     tables: &mut Tables<P, S>,
@@ -250,7 +252,8 @@ pub fn unit_numbers<P: Versioned, S: Alter>(
     read_rows(alloc, tables, "SELECT id FROM unit")
 }
 
-/// Reads the numbers of the containers, in any order.
+/// Reads the numbers of the rows of containers, in any order, and tells whether each is one from 0 on. No other cell is
+/// read.
 pub fn container_numbers<P: Versioned, S: Alter>(
     alloc: Global,
     tables: &mut Tables<P, S>,

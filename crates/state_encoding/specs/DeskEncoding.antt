@@ -121,6 +121,6 @@ pub record ReadsBack (s : State) : Type 0 where
 
 -- ---- what commands do to the rows of orders
 
--- an accepted Issue sets one row of orders to out, and changes no other row of that table
+-- an accepted Issue sets the row of the order in its reply to out, and changes no other row of orders
 pub record OneRowChanges (s : State) : Type 0 where
   pub issue : (c t o : ℕ) → (step s (command.Issue c t)).1 ≡ Ok (done.Issue o) → order_rows (step s (command.Issue c t)).0 ≡ with_state o 2 (order_rows s)

@@ -10,8 +10,9 @@ pub fn sound_desks_pass()
     ensures { (version : Version) (s : State) → SoundTablesPass version s }
 {}
 
-/// If the catalogue is good, rows that meet the keys and have none of these causes describe a sound desk, and they
-/// are exactly the rows of that desk.
+/// If the containers are numbered from 1 and differ, and each unit has a place, then desk rows that meet their keys and
+/// have none of these causes describe a sound desk, with days of the calendar and permits for units that exist, and
+/// they are exactly the rows of that desk.
 pub fn passing_desks_are_sound()
     ensures { (version : Version) (t : OfficeRows) → PassingRowsAreSound version t }
 {}

@@ -17,12 +17,13 @@ ghost use Rattle.catalogue_core.specs.CatalogueRows.{LinkRows, SpanRows, places_
 ghost use Rattle.state_encoding.specs.OfficeRows.{OfficeRows, SaysAllButUnits, state_of, tables};
 ghost use Rattle.office_core.specs.Soundness.{IsSound};
 
-/// The rows of a state with a sound desk describe all of that state except its units, in either version.
+/// The rows of a state with a sound desk describe all of that state except its forest of units, in either version.
 pub fn rows_read_back()
     ensures { (version : Version) (s : State) → IsSoundDesk s → SaysAllButUnits version s }
 {}
 
-/// An accepted `Issue` sets the state of one row of `orders` to out, and changes no other row of that table.
+/// If the desk is sound, an accepted `Issue` sets the state of the row of the order in its reply to out, and changes no
+/// other row of `orders`.
 pub fn one_row_changes()
     ensures { (s : State) → IsSoundDesk s → OneRowChanges s }
 {}

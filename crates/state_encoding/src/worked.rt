@@ -5,7 +5,7 @@ ghost use Rattle.state_encoding.specs.WorkedCells as cell_causes;
 ghost use Rattle.state_encoding.specs.WorkedDeskCauses as desk_causes;
 ghost use Rattle.state_encoding.specs.WorkedReading as tables;
 
-/// The rows of a small office describe the state that they represent, in both versions.
+/// For instance, the rows of a small office describe the state that they represent, in both versions.
 pub fn worked_tables()
     ensures { tables.ReadAgain }
 {}
@@ -20,7 +20,7 @@ pub fn worked_desk_causes()
     ensures { desk_causes.DeskCausesTold }
 {}
 
-/// A row with a cell that its column cannot have cannot be read, so the cause of its table holds.
+/// For instance, a row with a cell that its column cannot have cannot be read, so the cause of its table holds.
 pub fn worked_cell_causes()
     ensures { cell_causes.CellCausesTold }
 {}

@@ -15,8 +15,8 @@ use desk_store::{
     issued, on_shelf, open_day, order, permits, queue, reader, record_run, renew, revoke, run,
     seats, set_place, set_seat, ticket_holder,
 };
-use isad_core::{Day, Text};
-use office_tables::{Number, Tables, roll_back};
+use isad_core::{Day, Number, Text};
+use office_tables::{Tables, roll_back};
 use sqlite::{Alter, Connection};
 use std::alloc::Global;
 use std::process::Abort;
@@ -73,7 +73,7 @@ fn take_seats<S: Alter>(
     set_seat(tables, 2, Some(Number::from(1)))?;
     set_seat(tables, 1, None)?;
     for taken in &seats(alloc, tables)? {
-        let (seat, ticket) = (taken.seat, taken.ticket);
+        let (seat, ticket) = (taken.seat, taken.ticket.get());
         write!(text, "{seat} {ticket}\n")?;
     }
     Ok(())
@@ -90,7 +90,7 @@ fn place_orders<S: Alter>(
     add_order(tables, 2, 1, 2, 1)?;
     end_order(tables, Number::from(1), OrderState::Out)?;
     set_place(tables, Number::from(2), Place::Desk)?;
-    set_place(tables, Number::from(1), Place::Out(1))
+    set_place(tables, Number::from(1), Place::Out(Number::from(1)))
 }
 
 /// Ann's card on the second day, and that nobody has ticket 9.
@@ -105,7 +105,8 @@ fn read_card<S: Alter>(
         let (held, placed, orders) = (card.reader.held, card.placed, card.orders);
         write!(text, "{held} {placed} {orders}\n")?;
         for live in card.live.as_slice() {
-            let (order, container, is_out) = (live.order, live.container, live.is_out);
+            let (order, container) = (live.order.get(), live.container.get());
+            let is_out = live.is_out;
             write!(text, "{order} {container} {is_out}\n")?;
         }
     }
@@ -210,7 +211,7 @@ fn grant_permits<S: Alter>(
     grant(tables, Number::from(1), Number::from(2), day_after(9)?)?;
     revoke(tables, Number::from(1), Number::from(1))?;
     for permit in &permits(alloc, tables, Number::from(1))? {
-        let (unit, until) = (permit.unit, permit.until.number());
+        let (unit, until) = (permit.unit.get(), permit.until.number());
         write!(text, "{unit} {until}\n")?;
     }
     Ok(())
@@ -230,7 +231,7 @@ fn pick_run<S: Alter>(
     set_place(tables, Number::from(3), Place::Desk)?;
     show_candidates(alloc, tables, text)?;
     for &(container, awaited) in &at_desk(alloc, tables)? {
-        write!(text, "{container} {awaited}\n")?;
+        write!(text, "{} {awaited}\n", container.get())?;
     }
     let is_unknown = queue(alloc, tables, Number::from(1))?.is_none();
     let is_unmade = run(alloc, tables, Number::from(1))?.is_none();

@@ -6,7 +6,7 @@ use visibility::Mark;
 /// A line of marks: of each unit the number, whether it names containers, whether it is a draft, and its closure.
 pub(crate) fn show_marks(text: &mut String, marks: &[Mark]) -> Result<(), StoreFault> {
     for mark in marks {
-        let (id, boxed, draft) = (mark.id, mark.boxed, mark.draft);
+        let (id, boxed, draft) = (mark.id.get(), mark.boxed, mark.draft);
         let until = mark.until.unwrap_or(0);
         write!(text, " {id} {boxed} {draft} {until}")?;
     }
@@ -27,7 +27,7 @@ fn show_numbers(text: &mut String, marks: &[Mark]) -> Result<(), StoreFault> {
         None => 0,
     };
     for mark in marks {
-        let id = mark.id;
+        let id = mark.id.get();
         let (from, to) = (
             mark.lft.saturating_sub(start),
             mark.rgt.saturating_sub(start),
@@ -41,7 +41,7 @@ fn show_numbers(text: &mut String, marks: &[Mark]) -> Result<(), StoreFault> {
 /// The same without `boxed`, which has no meaning for a unit that a container is attached to, nor above it.
 pub(crate) fn show_statuses(text: &mut String, marks: &[Mark]) -> Result<(), StoreFault> {
     for mark in marks {
-        let (id, draft) = (mark.id, mark.draft);
+        let (id, draft) = (mark.id.get(), mark.draft);
         let until = mark.until.unwrap_or(0);
         write!(text, " {id} {draft} {until}")?;
     }
@@ -53,7 +53,7 @@ pub(crate) fn show_statuses(text: &mut String, marks: &[Mark]) -> Result<(), Sto
 /// `boxed` has no meaning.
 pub(crate) fn show_branch(text: &mut String, marks: &[Mark]) -> Result<(), StoreFault> {
     if let Some((own, below)) = marks.split_first() {
-        let (id, draft) = (own.id, own.draft);
+        let (id, draft) = (own.id.get(), own.draft);
         write!(text, " {id} {draft}:")?;
         show_marks(text, below)?;
     }

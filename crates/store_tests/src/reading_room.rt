@@ -5,8 +5,8 @@ use crate::tests::{Query, new_office, show_rows};
 use catalogue_store::{LinkPlaces, NewUnit, StoreFault, add_unit, commit};
 use desk_core::{Place, slip_text};
 use desk_store::{ContainerOrder, OrderState, end_order, queue, record_run, run, set_place};
-use isad_core::{BoxKey, List, Text, Values};
-use office_tables::{Number, Tables};
+use isad_core::{BoxKey, List, Number, Text, Values};
+use office_tables::Tables;
 use sqlite::{Alter, Connection};
 use std::alloc::{AllocError, Global};
 use std::array;
@@ -61,6 +61,16 @@ pub(crate) fn furnish<S: Alter>(
     register(alloc, tables, "Ann", text)
 }
 
+/// Where a container is.
+fn show_place(place: Place, text: &mut String) -> Result<(), StoreFault> {
+    match place {
+        Place::Shelf => text.push_str(" shelf")?,
+        Place::Desk => text.push_str(" desk")?,
+        Place::Out(order) => write!(text, " out {}", order.get())?,
+    }
+    Ok(())
+}
+
 /// Who waits for a container, and where it is.
 fn show_queue<S: Alter>(
     alloc: Global,
@@ -73,11 +83,7 @@ fn show_queue<S: Alter>(
         return Ok(());
     };
     text.push_str(known.name.as_str())?;
-    match known.place {
-        Place::Shelf => text.push_str(" shelf")?,
-        Place::Desk => text.push_str(" desk")?,
-        Place::Out(order) => write!(text, " out {order}")?,
-    }
+    show_place(known.place, text)?;
     for waiting in known.waiting.as_slice() {
         let (order, ticket) = (waiting.order.get(), waiting.ticket.get());
         write!(text, " {order}:{ticket}")?;
@@ -125,7 +131,7 @@ fn lend<S: Alter>(
     set_place(
         tables,
         Number::from(container),
-        Place::Out(u64::from(order)),
+        Place::Out(Number::from(order)),
     )
 }
 

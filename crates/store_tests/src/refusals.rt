@@ -5,8 +5,9 @@ use crate::tests::{
     show_rows, values_of,
 };
 use catalogue_store::{LinkPlaces, Places, StoreFault, move_unit, replace_values};
+use isad_core::Number;
 use nested_sets::SpanPlaces;
-use office_tables::{Number, Tables};
+use office_tables::Tables;
 use sqlite::{Alter, Connection};
 use std::alloc::Global;
 use std::process::Abort;

@@ -13,9 +13,9 @@ use catalogue_store::{
     path_marks, remove_branch, replace_values, set_closure, set_status, values,
 };
 use desk_store::{create_desk, is_blank};
-use isad_core::{BoxKey, Day, List, Text, Values};
+use isad_core::{BoxKey, Day, List, Number, Text, Values};
 use nested_sets::SpanPlaces;
-use office_tables::{Number, Tables};
+use office_tables::Tables;
 use sqlite::{Alter, Connection, Row};
 use std::alloc::{AllocError, Global};
 use std::array;

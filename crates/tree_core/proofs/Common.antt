@@ -5,10 +5,9 @@ pub use Rattle.std.proofs.lemmas.Bool.{cases_Bool, cases_eq, cases_lt, cases_ord
 pub use Rattle.std.proofs.lemmas.Bool.{false≢true, le-leb, le-ltb, leb-false, lt-leb, lt-ltb, ltb-false, ltb-true}
 pub use Rattle.std.proofs.lemmas.Bool.{ne_eqb, not-false, or_cases, or_from, or_parts, or_right}
 pub use Rattle.std.proofs.lemmas.Bool.Decides.{nat_tests}
-pub use Rattle.std.proofs.lemmas.Grind.{common_steps, flat_map-append}
-pub use Rattle.std.proofs.lemmas.List.{drop_all, get_or-map, get_or_append_left, get_or_default, get_or_push}
-pub use Rattle.std.proofs.lemmas.List.{length-map, length-reverse, map-append, map-id, reverse-append, take_all}
-pub use Rattle.std.proofs.lemmas.List.{take_more}
+pub use Rattle.std.proofs.lemmas.List.{drop_all, drop_more, get_or-map, get_or_append_left, get_or_default, get_or_push}
+pub use Rattle.std.proofs.lemmas.List.{length-map, length-reverse, map-append, map-id, map_more, reverse-append}
+pub use Rattle.std.proofs.lemmas.List.{take_all, take_more}
 pub use Rattle.std.proofs.lemmas.List.Elements.{All-append, All-cons, All-drop, All-from_recursion, All-nil, All-take}
 pub use Rattle.std.proofs.lemmas.List.Elements.{filter-append, recursion_from_All}
 pub use Rattle.std.proofs.lemmas.List.Folds.{find-append, list_any-append}
@@ -27,7 +26,7 @@ pub use Rattle.std.proofs.lemmas.Map.Keys.{IsDistinct-IsPermutation, IsDistinct-
 pub use Rattle.std.specs.List.{All, AllByRecursion, AllWithin, Contains, count_by, find, flat_map, insert, list_any}
 pub use Rattle.std.specs.List.{prefix_len, sum_by}
 pub use Rattle.std.specs.List.Sorted.{IsNonDecreasing, IsNonDecreasingBy, IsPartitionPoint, IsPartitionedBy}
-pub use Rattle.std.specs.Option.{option_cmp, option_eq, option_map_or}
+pub use Rattle.std.specs.Option.{option_cmp, option_eq, option_map_or, unwrap_or}
 pub use Rattle.std.specs.Ordering.{is_eq, is_lt, ordering_reverse, ordering_then}
 pub use Rattle.tree_core.specs.ArrivalParents.{AreParents, IsForestRow, MayGrow, first_numbers, is_named_as_parent}
 pub use Rattle.tree_core.specs.ArrivalParents.{puts_below}

@@ -1,4 +1,5 @@
 pub mod Common
+pub mod LoopItems
 pub mod Lists
 pub mod LinkPaths
 pub mod Adding

@@ -1,12 +1,13 @@
 -- Lists in which nothing stands twice.
 use Rattle.std.proofs.Common.{◌≡◌, ℕ, suc, ◌<◌, ◌≤◌, Bool, true, false, ◌||◌, List, [], ◌∷◌, Option, Some, None, length}
-use Rattle.std.proofs.Common.{refl, sym, ap, ◌∙◌, nat_eq, inl, inr, arith, get_or, drop, drop-cons}
+use Rattle.std.proofs.Common.{refl, sym, ap, ◌∙◌, nat_eq, inl, inr, arith, get_or, drop}
 use Rattle.std.specs.List.{IsDistinct}
 use Rattle.std.specs.List.Sorted.{IsPermutation}
 use Rattle.tree_core.proofs.Common.{AllByRecursion, IsDistinct-IsPermutation, IsNonDecreasing, IsPermutation-sym}
 use Rattle.tree_core.proofs.Common.{cases_Bool, cases_eq, drop_all, eq-eqb, false≢true, list_any, ne_eqb, option_eq}
 use Rattle.tree_core.proofs.Common.{or_from, or_parts, repeats}
 use Rattle.tree_core.proofs.Lists.{In}
+use Rattle.tree_core.proofs.LoopItems.{item_left}
 
 none_of_all : {X : Type 0} (e : X → X → Bool) (x : X) (ys : List X) → AllByRecursion (λ y. e x y ≡ false) ys
     → list_any (e x) ys ≡ false
@@ -81,11 +82,11 @@ adjacent-rising [] up = refl
 adjacent-rising (x ∷ xs) up = let r = rises (x ∷ xs) up in adjacent_after x xs r.0 r.1
 
 -- ---- the loop over rising ids
-pub twice_here : (last : Option ℕ) (xs : List ℕ) (i : ℕ) → i < length xs
-    → option_eq nat_eq last (Some (get_or xs i 0)) ≡ true → adjacent_from last (drop i xs) ≡ adjacent_from None xs
+pub twice_here : (last : Option ℕ) (xs : List ℕ) (i x : ℕ) → i < length xs → x ≡ get_or xs i x
+    → option_eq nat_eq last (Some x) ≡ true → adjacent_from last (drop i xs) ≡ adjacent_from None xs
     → IsNonDecreasing xs → true ≡ repeats nat_eq xs
-twice_here last xs i lt here so_far up =
-    let now : adjacent_from last (drop i xs) ≡ true = ap (adjacent_from last) (drop-cons xs i 0 lt) ∙ rw here refl in
+twice_here last xs i x lt is here so_far up =
+    let now : adjacent_from last (drop i xs) ≡ true = ap (adjacent_from last) (item_left xs i x lt is) ∙ rw here refl in
     sym now ∙ so_far ∙ adjacent-rising xs up
 
 pub twice_nowhere : (last : Option ℕ) (xs : List ℕ) (i : ℕ) → length xs ≤ i

@@ -19,11 +19,9 @@ pub use Rattle.sqlite.specs.Tree.{Trees, put_row}
 pub use Rattle.sqlite_rules.proofs.ListLemmas.{all_from, all_has, has_filtered, has_kept, some_from, some_has}
 pub use Rattle.sqlite_rules.specs.Lists.{Has}
 pub use Rattle.sqlite_trees.proofs.ListLemmas.{IsPermutation-filter, all-append, all-get_or, all-permutation}
-pub use Rattle.sqlite_trees.proofs.ListLemmas.{all_from_map, all_weaker, ascending-filter, ascending-map}
-pub use Rattle.isad_core.specs.Limits.{IsNumber, most_units}
+pub use Rattle.sqlite_trees.proofs.ListLemmas.{all_weaker, ascending-filter, ascending-map}
 pub use Rattle.tree_core.proofs.Adding.{Below, Beside, Here, absent, count, count-cons, eqb_flip, is_below, place}
 pub use Rattle.tree_core.proofs.Adding.{siblings-add}
-pub use Rattle.tree_core.proofs.EachLemmas.{has-each, nodes-each, path-each, size-each, tree-each}
 pub use Rattle.tree_core.proofs.LastPlaces.{last_shown}
 pub use Rattle.tree_core.proofs.LinkPaths.{Parts, has-links, has_beside, has_child, holds, ids-rows_below, links_none}
 pub use Rattle.tree_core.proofs.LinkPaths.{other_id, parts, path_none, path_to, upwards_more}
@@ -46,10 +44,9 @@ pub use Rattle.office_tables.proofs.CallEnds.{leaves_part, making_last, making_n
 pub use Rattle.office_tables.proofs.Calls.{cut_after, early, goes_nowhere, goes_then, looks_nowhere, looks_then}
 pub use Rattle.office_tables.proofs.Calls.{on_ok_then}
 pub use Rattle.office_tables.proofs.LinkFaults.{few_links, low_places, places_below}
-pub use Rattle.office_tables.proofs.LookUps.{Hands, looks_full, looks_ill, looks_known, looks_not, looks_passed}
-pub use Rattle.office_tables.proofs.LookUps.{looks_passed_later, looks_well}
+pub use Rattle.office_tables.proofs.LookUps.{Hands, looks_full, looks_ill, looks_passed, looks_passed_later, looks_well}
 pub use Rattle.office_tables.proofs.Rows.{had, has_map, map_has}
-pub use Rattle.office_tables.proofs.Sparing.{own_fault, spares_full, spares_known}
+pub use Rattle.office_tables.proofs.Sparing.{spares_full, spares_known}
 pub use Rattle.office_tables.proofs.StoreCalls.{makes_last, makes_none, makes_not, makes_well, tells_cut, tells_last}
 pub use Rattle.office_tables.proofs.StoreCalls.{tells_not, tells_well}
 pub use Rattle.office_tables.specs.Order.{Rises}
@@ -62,5 +59,4 @@ pub use Rattle.catalogue_statements.specs.Representation.{RepresentsUnits, housi
 pub use Rattle.catalogue_statements.specs.Rows.{HousingRow, by_housing, by_number, by_place, counted_from, link_row}
 pub use Rattle.tree_places.specs.Attachments.{AreAttached, AreAttachedMarks, IsOfMarked, named_by}
 pub use Rattle.tree_places.specs.LastPlaces.{KnowsLast, last_known, taken_below}
-pub use Rattle.tree_places.specs.LinkForests.{HoldsForest}
 pub use Rattle.tree_places.specs.declared.links.Task.TheVariants.{Close, Open}

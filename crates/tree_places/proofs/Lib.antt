@@ -1,6 +1,5 @@
 pub mod Common
 pub mod AttachedMarks
-pub mod BareRows
 pub mod ContainerUnits
 pub mod BoundLemmas
 pub mod Children

@@ -1,10 +1,10 @@
 -- Why reading marks fails: never for the units of a catalogue within its limits.
-use Rattle.std.proofs.Common.{◌≡◌, ℕ, ◌<◌, ◌^◌, List, map, find, length, get_or, Some, None, option_map, nat_eq, sym}
-use Rattle.std.proofs.Common.{ap, subst, ◌∙◌, arith}
+use Rattle.std.proofs.Common.{◌≡◌, ℕ, ◌<◌, List, map, find, length, get_or, Some, None, option_map, nat_eq, sym, ap}
+use Rattle.std.proofs.Common.{◌∙◌, arith}
 use Rattle.catalogue_statements.specs.declared.row_types.Status.{Status}
 use Rattle.tree_places.proofs.Common.{AllByRecursion, Catalogue, Forest, Has, IsKept, IsLegibleUnit, IsPermutation-sym}
-use Rattle.tree_places.proofs.Common.{RepresentsUnits, Span, Trees, Unit, all-get_or, all-permutation, all_from_map}
-use Rattle.tree_places.proofs.Common.{all_has, get_or-map, had, length-map, nodes, nodes-each}
+use Rattle.tree_places.proofs.Common.{RepresentsUnits, Span, Trees, Unit, all-get_or, all-permutation, get_or-map, had}
+use Rattle.tree_places.proofs.Common.{length-map, nodes}
 use Rattle.tree_places.proofs.MarkReads.{blank_unit, found_unit}
 
 -- ---- the units of a catalogue
@@ -12,14 +12,6 @@ use Rattle.tree_places.proofs.MarkReads.{blank_unit, found_unit}
 pub legible_units : (db : Trees) (c : Catalogue) (at : RepresentsUnits db c.forest) → IsKept c
     → AllByRecursion IsLegibleUnit at.units
 legible_units db c at kept = all-permutation IsLegibleUnit (nodes c.forest) at.units at.are kept.units
-
-low_ids : (c : Catalogue) → IsKept c → AllByRecursion (λ (u : Unit). u.id < 2 ^ 63) (nodes c.forest)
-low_ids c kept =
-    all_from_map (λ (id : ℕ). id < 2 ^ 63) (λ (u : Unit). u.id) (nodes c.forest)
-    (subst (AllByRecursion (λ (id : ℕ). id < 2 ^ 63)) (nodes-each (λ (u : Unit). u.id) c.forest) kept.places.low)
-
-pub low_id : (c : Catalogue) → IsKept c → (u : Unit) → Has (nodes c.forest) u → u.id < 2 ^ 63
-low_id c kept u there = all_has (λ (u : Unit). u.id < 2 ^ 63) (nodes c.forest) u (low_ids c kept) there
 
 -- ---- a unit's status
 
@@ -38,15 +30,16 @@ status_there db f at id u there same none =
 -- ---- the units of some rows
 
 -- the unit of a row
-pub unit_at : (f : Forest Unit) (spans : List Span) (units : List Unit) (i : ℕ) (d : Span)
+pub unit_at : (f : Forest Unit) (spans : List Span) (units : List Unit) (i : ℕ) (s : Span)
     → AllByRecursion (Has (nodes f)) units → map (λ (s : Span). s.id) spans ≡ map (λ (u : Unit). u.id) units
-    → i < length spans
-    → (u : Unit) × Has (nodes f) u × ((get_or spans i d).id ≡ u.id)
-unit_at f spans units i d all same low =
+    → i < length spans → s ≡ get_or spans i s
+    → (u : Unit) × Has (nodes f) u × (s.id ≡ u.id)
+unit_at f spans units i s all same low here =
     let low' : i < length units =
     omega (arith, length-map spans (λ (s : Span). s.id), ap length same, length-map units (λ (u : Unit). u.id)) in
     let u = get_or units i blank_unit in (
       u,
       all-get_or (Has (nodes f)) units i blank_unit all low',
-      sym (get_or-map (λ (s : Span). s.id) spans i d 0 low) ∙ ap (λ l. get_or l i 0) same ∙ get_or-map (λ (u : Unit). u.id) units i blank_unit 0 low',
+      ap (λ (x : Span). x.id) here ∙ sym (get_or-map (λ (s : Span). s.id) spans i s 0 low)
+          ∙ ap (λ l. get_or l i 0) same ∙ get_or-map (λ (u : Unit). u.id) units i blank_unit 0 low',
     )

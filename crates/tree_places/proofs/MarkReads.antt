@@ -108,15 +108,17 @@ next_mark f spans units i d all same low =
           ∙ sym (ap (λ l. marks_at l (take (i + 1) units)) (take_more spans i d low) ∙ ap (marks_at (take i spans ++ s ∷ [])) (take_more units i blank_unit low')),
     )
 
-pub mark_more : (f : Forest Unit) (spans : List Span) (units : List Unit) (i : ℕ) (d : Span) (mark : Mark) (marks more : List Mark)
+pub mark_more : (f : Forest Unit) (spans : List Span) (units : List Unit) (i : ℕ) (s : Span) (mark : Mark)
+    (marks more : List Mark)
     → AllByRecursion (Has (nodes f)) units → map (λ (s : Span). s.id) spans ≡ map (λ (u : Unit). u.id) units
-    → i < length spans
-    → ((u : Unit) → Has (nodes f) u → (get_or spans i d).id ≡ u.id → mark ≡ mark_at (get_or spans i d) u)
+    → i < length spans → s ≡ get_or spans i s
+    → ((u : Unit) → Has (nodes f) u → s.id ≡ u.id → mark ≡ mark_at s u)
     → marks ≡ marks_at (take i spans) (take i units) → more ≡ marks ++ mark ∷ []
     → more ≡ marks_at (take (i + 1) spans) (take (i + 1) units)
-mark_more f spans units i d mark marks more all same low answers so_far pushed =
-    let next = next_mark f spans units i d all same low in
-    pushed ∙ ap₂ (λ l m. l ++ m ∷ []) so_far (answers next.0 next.1 next.2) ∙ next.3
+mark_more f spans units i s mark marks more all same low here answers so_far pushed =
+    let next = next_mark f spans units i s all same low in
+    let answer = answers next.0 next.1 (ap (λ (x : Span). x.id) here ∙ next.2) in
+    pushed ∙ ap₂ (λ l m. l ++ m ∷ []) so_far (answer ∙ ap (λ (x : Span). mark_at x next.0) here) ∙ next.3
 
 pub all_marks : (spans : List Span) (units : List Unit) (i : ℕ)
     → map (λ (s : Span). s.id) spans ≡ map (λ (u : Unit). u.id) units → length spans ≤ i

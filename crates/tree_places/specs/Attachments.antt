@@ -19,7 +19,7 @@ pub record AreAttached (c : Catalogue) (container : ℕ) (units : List Unit) : T
 abbrev pub named_by : Catalogue → ℕ → List ℕ
 named_by c container = map (λ (u : Unit). u.id) (filter (names_container c.containers container) (nodes c.forest))
 
--- the marks of the units that name the container, one for each, in some order
+-- the marks of the units that name the container, one for each, in some order; `tells` says what each of them tells
 abbrev pub AreAttachedMarks : (Catalogue → Mark → Type 0) → Catalogue → ℕ → List Mark → Type 0
 AreAttachedMarks tells c container marks =
     IsPermutation (named_by c container) (map (λ (mark : Mark). mark.id) marks) × AllByRecursion (tells c) marks

@@ -10,11 +10,12 @@ ghost use Rattle.catalogue_statements.specs.Representation.{RepresentsUnits, Rep
 ghost use Rattle.tree_places.specs.Attachments.{AreAttached};
 
 use catalogue_statements::containers::housed_in;
-use office_tables::{Number, StoreFault, Tables, Versioned};
+use isad_core::Number;
+use office_tables::{StoreFault, Tables, Versioned};
 use sqlite::Alter;
 use std::alloc::Global;
 
-/// The units that name a container among their own, each once, in order of their numbers.
+/// The units that name a container among their own, each once, in order of their numbers. Empty if none does.
 pub fn attached_units<P: Versioned, S: Alter>(
     alloc: Global,
     tables: &mut Tables<P, S>,

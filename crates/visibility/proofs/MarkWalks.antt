@@ -1,7 +1,7 @@
 -- Walks over marks with bounds up to which they skip.
 use Rattle.std.proofs.Common.{if◌then◌else◌, ◌≡◌, ℕ, ℤ, suc, ◌+◌, ◌-◌, ◌*◌, ◌<◌, ◌≤◌, Bool, true, false, not, cond}
-use Rattle.std.proofs.Common.{◌&&◌, ◌||◌, List, [], ◌∷◌, ◌++◌, None, length, max, refl, sym, ap, ◌∙◌, nat_lt, arith}
-use Rattle.std.proofs.Common.{map, append_assoc, append-nil, inl, inr, get_or, drop, drop-cons}
+use Rattle.std.proofs.Common.{◌&&◌, ◌||◌, List, [], ◌∷◌, ◌++◌, length, max, refl, sym, ap, ◌∙◌, nat_lt, arith, map}
+use Rattle.std.proofs.Common.{append_assoc, append-nil, inl, inr, get_or, drop, drop-cons}
 use Rattle.std.proofs.Math.Bool.{and-true, and_assoc, or-false, or-true}
 use Rattle.std.proofs.lemmas.Bool.{cases_Bool, cond-false, le-ltb, lt-ltb}
 use Rattle.std.proofs.lemmas.List.{drop_all, map-append}
@@ -13,9 +13,6 @@ use Rattle.visibility.specs.Marks.{is_closed, withholds, IsNumbered, contents_pa
 use Rattle.visibility.specs.Visibility.{sharing_paths, public}
 use Rattle.visibility.specs.declared.marks.Kept.{Kept}
 use Rattle.visibility.specs.declared.marks.Mark.{Mark}
-
-abbrev pub blank : Mark
-blank = record { id = 0; lft = 0; rgt = 0; draft = false; until = None; boxed = false; permit = false }
 
 -- ---- the containers above
 -- the loop over marks, as a function of the marks that are left
@@ -259,16 +256,17 @@ contents_clean today above unit below =
 
 -- ---- the steps of the loop, where T is the day as calls have it
 -- a mark that is not clean
-pub stops : (today T : ℤ) (above w : Bool) (ms : List Mark) (i skip opened : ℕ) (d : Mark) (k : ℕ) (f : Forest Mark)
-    → T ≡ today → i < length ms → skip ≤ (get_or ms i d).lft → (get_or ms i d).boxed ≡ false
-    → w ≡ (above || nat_lt (get_or ms i d).lft opened) → false ≡ is_clean T w (get_or ms i d)
+pub stops : (today T : ℤ) (above w : Bool) (ms : List Mark) (i skip opened : ℕ) (m : Mark) (k : ℕ) (f : Forest Mark)
+    → T ≡ today → i < length ms → m ≡ get_or ms i m → skip ≤ m.lft → m.boxed ≡ false
+    → w ≡ (above || nat_lt m.lft opened) → false ≡ is_clean T w m
     → clean_from T above skip opened (drop i ms) ≡ clean_from T above 0 0 ms → IsNumbered k f → ms ≡ nodes f
     → false ≡ clean_below today above f
-stops today T above w ms i skip opened d k f same l le b is bad so_far n e =
-    let m = get_or ms i d in
+stops today T above w ms i skip opened m k f same l item le b is bad so_far n e =
     let here : clean_from T above skip opened (m ∷ drop (suc i) ms) ≡ false =
     rw (le-ltb m.lft skip le, b) (ap (λ x. is_clean T x m && clean_from T above skip (if m.permit then max opened m.rgt else opened) (drop (suc i) ms)) (sym is) ∙ ap (λ x. x && clean_from T above skip (if m.permit then max opened m.rgt else opened) (drop (suc i) ms)) (sym bad)) in
-    sym here ∙ ap (clean_from T above skip opened) (sym (drop-cons ms i d l)) ∙ so_far ∙ ap (clean_from T above 0 0) e ∙ clean_all T above k f n ∙ ap (λ t. clean_below t above f) same
+    let rest : m ∷ drop (suc i) ms ≡ drop i ms =
+    ap (λ x. x ∷ drop (suc i) ms) item ∙ sym (drop-cons ms i m l) in
+    sym here ∙ ap (clean_from T above skip opened) rest ∙ so_far ∙ ap (clean_from T above 0 0) e ∙ clean_all T above k f n ∙ ap (λ t. clean_below t above f) same
 
 pub passes_all : (today T : ℤ) (above : Bool) (ms : List Mark) (i skip opened k : ℕ) (f : Forest Mark) → T ≡ today
     → length ms ≤ i → clean_from T above skip opened (drop i ms) ≡ clean_from T above 0 0 ms → IsNumbered k f
@@ -389,9 +387,9 @@ kept_done today T ms start i skip k (Node m c o) rows same le so_far n e first =
     ∙ ap (λ j. kept_from T j 0 0 (nodes (Node m c o))) (first m c o refl ∙ n.0) ∙ kept_all T k (Node m c o) n
     ∙ ap (λ t. public_walk t (Node m c o)) same
 
-pub first_number : (ms : List Mark) (f : Forest Mark) → ms ≡ nodes f → (m : Mark) (c o : Forest Mark) → f ≡ Node m c o
-    → (get_or ms 0 blank).lft ≡ m.lft
-first_number ms f e m c o is = ap (λ (xs : List Mark). (get_or xs 0 blank).lft) (e ∙ ap nodes is)
+pub first_number : (ms : List Mark) (d : Mark) (f : Forest Mark) → ms ≡ nodes f → (m : Mark) (c o : Forest Mark)
+    → f ≡ Node m c o → (get_or ms 0 d).lft ≡ m.lft
+first_number ms d f e m c o is = ap (λ (xs : List Mark). (get_or xs 0 d).lft) (e ∙ ap nodes is)
 
 pub kept_none : (today : ℤ) (ms : List Mark) (f : Forest Mark) → length ms ≡ 0 → ms ≡ nodes f → [] ≡ public_walk today f
 kept_none today ms Empty z e = refl

@@ -9,7 +9,8 @@ ghost use Rattle.visibility.specs.Visibility.{sharing};
 ghost use Rattle.visibility.specs.WorkedMarks.{example_marks, kept_row};
 ghost use Rattle.visibility.specs.declared.marks.Mark.{Mark};
 
-/// Which units share a unit's containers, and when nothing in a container is withheld.
+/// Which paths are checked for a unit's contents, which units share the containers above them, and when a unit's path
+/// and contents are clean. For the first two, no two units may have the same id.
 pub fn contents()
     // The paths that are checked are those of the unit and of the units below it that share its
     // containers.

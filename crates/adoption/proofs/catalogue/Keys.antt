@@ -4,7 +4,6 @@ use Rattle.std.proofs.Common.{nat_eq, sym, ap₂, subst, ◌∙◌, arith}
 use Rattle.std.proofs.Math.Bool.{and_comm}
 use Rattle.std.proofs.lemmas.Map.Keys.{IsDistinct-IsPermutation}
 use Rattle.std.specs.List.{IsDistinct}
-use Rattle.sqlite_schema.specs.Rules.{passes}
 use Rattle.sqlite_value.specs.Keys.{first_key}
 use Rattle.tree_core.specs.declared.rows.Link.{Link}
 use Rattle.tree_core.specs.declared.rows.Span.{Span}
@@ -18,7 +17,7 @@ use Rattle.adoption.proofs.Common.{HousingRow, IsPermutation-map, IsWholeTable, 
 use Rattle.adoption.proofs.Common.{Rises, Row, Second, Table, Unique, UnitRow, Version, agree, all_weaker, and_parts}
 use Rattle.adoption.proofs.Common.{by, clashes, column, distinct_numbers, distinct_pairs, encoding, eqb_comm, in_order}
 use Rattle.adoption.proofs.Common.{in_order-permutation, int_cmp, is_housed_alike, is_named_alike, is_null}
-use Rattle.adoption.proofs.Common.{is_same_container, is_same_element, is_same_place, keys_differ, not-true}
+use Rattle.adoption.proofs.Common.{is_same_container, is_same_element, is_same_place, keys_differ, not-true, passes}
 use Rattle.adoption.proofs.Common.{place_numbers, places_in, plain, read_container, read_element, read_housing}
 use Rattle.adoption.proofs.Common.{read_link, read_pairs, read_span, read_unit, rows_in, rows_rise, schema}
 use Rattle.adoption.proofs.Common.{stay_in_order, then_by}
@@ -34,11 +33,7 @@ unfolding first_key
 unit_key a b x y is said =
     let p = unit_parts a x is in
     let q = unit_parts b y said in
-    let s = p.source in
-    let t = q.source in
-    let l = p.legacy in
-    let m = q.legacy in
-    rw (s, t, l, m) (both (same_bytes x.source y.source) (same_bytes x.legacy y.legacy))
+    rw (p.source, q.source, p.legacy, q.legacy) (both (same_bytes x.source y.source) (same_bytes x.legacy y.legacy))
 
 element_key : (a b : Row) (x y : ElementRow) → read_element a ≡ Some x → read_element b ≡ Some y
     → agree plain (1 ∷ 2 ∷ []) a (1 ∷ 2 ∷ []) b ≡ is_same_element x y
@@ -46,11 +41,8 @@ unfolding first_key
 element_key a b x y is said =
     let p = element_parts a x is in
     let q = element_parts b y said in
-    let s = p.unit in
-    let t = q.unit in
-    let l = p.k in
-    let m = q.k in
-    rw (s, t, l, m) (both (same_number x.unit y.unit ∙ eqb_comm y.unit x.unit) (same_number x.k y.k ∙ eqb_comm y.k x.k))
+    rw (p.unit, q.unit, p.k, q.k)
+    (both (same_number x.unit y.unit ∙ eqb_comm y.unit x.unit) (same_number x.k y.k ∙ eqb_comm y.k x.k))
 
 container_key : (a b : Row) (x y : ContainerRow) → read_container a ≡ Some x → read_container b ≡ Some y
     → agree plain (2 ∷ 3 ∷ 4 ∷ []) a (2 ∷ 3 ∷ 4 ∷ []) b ≡ is_same_container x y
@@ -58,13 +50,8 @@ unfolding first_key
 container_key a b x y is said =
     let p = container_parts a x is in
     let q = container_parts b y said in
-    let s = p.name in
-    let t = q.name in
-    let l = p.location in
-    let m = q.location in
-    let j = p.kind in
-    let k = q.kind in
-    rw (s, t, l, m, j, k) (ap₂ ◌&&◌ (same_bytes x.name y.name) (both (same_bytes x.location y.location) (same_bytes x.kind y.kind)))
+    rw (p.name, q.name, p.location, q.location, p.kind, q.kind)
+    (ap₂ ◌&&◌ (same_bytes x.name y.name) (both (same_bytes x.location y.location) (same_bytes x.kind y.kind)))
 
 place_key : (a b : Row) (x y : HousingRow) → read_housing a ≡ Some x → read_housing b ≡ Some y
     → agree plain (1 ∷ 2 ∷ []) a (1 ∷ 2 ∷ []) b ≡ is_same_place x y
@@ -72,11 +59,8 @@ unfolding first_key
 place_key a b x y is said =
     let p = housing_parts a x is in
     let q = housing_parts b y said in
-    let s = p.unit in
-    let t = q.unit in
-    let l = p.ord in
-    let m = q.ord in
-    rw (s, t, l, m) (both (same_number x.unit y.unit ∙ eqb_comm y.unit x.unit) (same_number x.ord y.ord ∙ eqb_comm y.ord x.ord))
+    rw (p.unit, q.unit, p.ord, q.ord)
+    (both (same_number x.unit y.unit ∙ eqb_comm y.unit x.unit) (same_number x.ord y.ord ∙ eqb_comm y.ord x.ord))
 
 once_key : (a b : Row) (x y : HousingRow) → read_housing a ≡ Some x → read_housing b ≡ Some y
     → agree plain (3 ∷ 1 ∷ []) a (3 ∷ 1 ∷ []) b ≡ is_housed_alike x y
@@ -84,11 +68,9 @@ unfolding first_key
 once_key a b x y is said =
     let p = housing_parts a x is in
     let q = housing_parts b y said in
-    let s = p.unit in
-    let t = q.unit in
-    let l = p.container in
-    let m = q.container in
-    rw (s, t, l, m) (both (same_number x.container y.container ∙ eqb_comm y.container x.container) (same_number x.unit y.unit ∙ eqb_comm y.unit x.unit)
+    rw (p.unit, q.unit, p.container, q.container)
+    (both (same_number x.container y.container ∙ eqb_comm y.container x.container)
+    (same_number x.unit y.unit ∙ eqb_comm y.unit x.unit)
     ∙ and_comm (nat_eq x.container y.container) (nat_eq x.unit y.unit))
 
 -- no two rows that are read have one key

@@ -49,14 +49,7 @@ unit_parts row u h =
 pub is_unit : (row : Row) (u : UnitRow) → read_unit row ≡ Some u → IsKeyed 7 row → row ≡ unit_cells u
 is_unit row u h fit =
     let it = unit_parts row u h in
-    let id = it.id in
-    let key = fit.1 in
-    let source = it.source in
-    let legacy = it.legacy in
-    let level = it.level in
-    let draft = it.draft in
-    let until = it.until in
-    whole_row 7 row fit.0 ∙ rw (id, key, source, legacy, level, draft, until) refl
+    whole_row 7 row fit.0 ∙ rw (it.id, fit.1, it.source, it.legacy, it.level, it.draft, it.until) refl
 
 -- ---- elements
 
@@ -81,10 +74,7 @@ pub is_element : (row : Row) (e : ElementRow) (n : ℤ) → read_element row ≡
     → IsNumbered 4 row → row ≡ element_cells (n, e)
 is_element row e n h number fit =
     let it = element_parts row e h in
-    let unit = it.unit in
-    let k = it.k in
-    let value = it.value in
-    whole_row 4 row fit.0 ∙ rw (number, unit, k, value) refl
+    whole_row 4 row fit.0 ∙ rw (number, it.unit, it.k, it.value) refl
 
 -- ---- containers
 
@@ -113,12 +103,7 @@ pub is_container : (row : Row) (c : ContainerRow) → read_container row ≡ Som
     → row ≡ container_cells c
 is_container row c h fit =
     let it = container_parts row c h in
-    let id = it.id in
-    let key = fit.1 in
-    let name = it.name in
-    let location = it.location in
-    let kind = it.kind in
-    whole_row 5 row fit.0 ∙ rw (id, key, name, location, kind) refl
+    whole_row 5 row fit.0 ∙ rw (it.id, fit.1, it.name, it.location, it.kind) refl
 
 -- ---- what lies in them
 
@@ -144,10 +129,7 @@ pub is_housing : (row : Row) (l : HousingRow) (n : ℤ) → read_housing row ≡
     → IsNumbered 4 row → row ≡ housing_cells (n, l)
 is_housing row l n h number fit =
     let it = housing_parts row l h in
-    let unit = it.unit in
-    let ord = it.ord in
-    let container = it.container in
-    whole_row 4 row fit.0 ∙ rw (number, unit, ord, container) refl
+    whole_row 4 row fit.0 ∙ rw (number, it.unit, it.ord, it.container) refl
 
 -- ---- the office
 
@@ -198,15 +180,5 @@ office_parts row o h =
 pub is_office : (row : Row) (o : OfficeRow) → read_office row ≡ Some o → IsKeyed 11 row → row ≡ office_cells o
 is_office row o h fit =
     let it = office_parts row o h in
-    let one = it.one in
-    let key = fit.1 in
-    let version = it.version in
-    let country = it.country in
-    let repo = it.repo in
-    let seats = it.seats in
-    let daily = it.daily in
-    let hands = it.hands in
-    let run_size = it.run_size in
-    let day = it.day in
-    let next = it.next_unit in
-    whole_row 11 row fit.0 ∙ rw (one, key, version, country, repo, seats, daily, hands, run_size, day, next) refl
+    whole_row 11 row fit.0 ∙ rw (it.one, fit.1, it.version, it.country, it.repo)
+    (rw (it.seats, it.daily, it.hands, it.run_size, it.day, it.next_unit) refl)

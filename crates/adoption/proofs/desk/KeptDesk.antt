@@ -3,7 +3,6 @@
 use Rattle.std.proofs.Common.{◌≡◌, ℕ, length, List, [], ◌∷◌, true, false, not, ◌&&◌, inl, inr, IsTrue, filter_map}
 use Rattle.std.proofs.Common.{nat_eq, refl, sym, ap, subst, ◌∙◌, arith}
 use Rattle.sqlite_catalog.specs.Listing.{automatic}
-use Rattle.sqlite_schema.specs.Rules.{passes}
 use Rattle.sqlite_schema.specs.declared.schema.Index.{Index}
 use Rattle.catalogue_core.specs.Members.{StandsIn}
 use Rattle.office_tables.specs.Schema as tables
@@ -12,7 +11,7 @@ use Rattle.adoption.proofs.Common.{AllByRecursion, AreInOrder, Datatype, Desk, H
 use Rattle.adoption.proofs.Common.{MeetsDeskKeys, Obeys, OrderRow, PermitRow, ReaderRow, Row, RunLineRow, RunRow}
 use Rattle.adoption.proofs.Common.{SeatRow, Table, Trees, Unique, Version, all_both, all_weaker, and_parts, clashes}
 use Rattle.adoption.proofs.Common.{eq-eqb, false≢true, guards, holding_cells, is_int, is_null, not-true, order_cells}
-use Rattle.adoption.proofs.Common.{permit_cells, read_holding, read_order, read_permit, read_reader, read_run}
+use Rattle.adoption.proofs.Common.{passes, permit_cells, read_holding, read_order, read_permit, read_reader, read_run}
 use Rattle.adoption.proofs.Common.{read_run_line, read_seat, reader_cells, rowid, rows_in, run_cells, run_line_cells}
 use Rattle.adoption.proofs.Common.{schema, seat_cells, test_in, then_by}
 use Rattle.adoption.proofs.catalogue.Rules.{IsKeyed, IsNumbered, rows_keyed}

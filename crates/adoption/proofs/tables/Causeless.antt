@@ -66,18 +66,10 @@ module _ (version : Version) (db : Trees) where
   abbrev t : OfficeRows
   t = rows_in version db
 
-  none_holds : catalogue_cell_cause version db ≡ None → of_desk (cell_cause version db) ≡ None
-      → NoneOfNine
-      (has_unread read_office (db tables.office.tree) || office_is_bad version t)
-      (places_are_unread (encoding version) db || places_are_bad (encoding version) t.catalogue)
-      (has_unread read_unit (db tables.unit.tree) || units_are_bad t.office.next_unit t.catalogue)
-      (has_unread read_element (db tables.element.tree) || elements_are_bad t.catalogue)
-      ((has_unread read_container (db tables.container.tree) || has_unread read_housing (db tables.housing.tree)) || containers_are_bad t.catalogue)
-      ((has_unread read_reader (db tables.reader.tree) || (has_unread read_seat (db tables.seat.tree) || has_unread read_permit (db tables.permit.tree))) || readers_are_bad (around t) t.desk)
-      (has_unread read_order (db tables.orders.tree) || orders_are_bad (around t) t.desk)
-      (has_unread read_holding (db tables.holding.tree) || holdings_are_bad (around t) t.desk)
-      ((has_unread read_run (db tables.run.tree) || has_unread read_run_line (db tables.run_line.tree)) || runs_are_bad (around t) t.desk)
-  none_holds first desk =
+  pub are_passed : catalogue_cell_cause version db ≡ None → of_desk (cell_cause version db) ≡ None
+      → ArePassed version db
+  are_passed first desk =
+      let it =
       none_of_nine
       (has_unread read_office (db tables.office.tree) || office_is_bad version t)
       (places_are_unread (encoding version) db || places_are_bad (encoding version) t.catalogue)
@@ -89,12 +81,7 @@ module _ (version : Version) (db : Trees) where
       (has_unread read_holding (db tables.holding.tree) || holdings_are_bad (around t) t.desk)
       ((has_unread read_run (db tables.run.tree) || has_unread read_run_line (db tables.run_line.tree)) || runs_are_bad (around t) t.desk)
       (false || day_is_broken t)
-      first desk
-
-  pub are_passed : catalogue_cell_cause version db ≡ None → of_desk (cell_cause version db) ≡ None
-      → ArePassed version db
-  are_passed first desk =
-      let it = none_holds first desk in
+      first desk in
       let office = or_parts (has_unread read_office (db tables.office.tree)) (office_is_bad version t) it.one in
       let places = or_parts (places_are_unread (encoding version) db) (places_are_bad (encoding version) t.catalogue) it.two in
       let units = or_parts (has_unread read_unit (db tables.unit.tree)) (units_are_bad t.office.next_unit t.catalogue) it.three in

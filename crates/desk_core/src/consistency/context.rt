@@ -4,8 +4,8 @@ ghost use Rattle.isad_core.specs.Words.{is_between};
 
 use crate::consistency::number_set::Numbers;
 
-/// The office's settings and day, its units and containers, and the number of readers. The readers have
-/// the tickets from 1 on.
+/// The office's settings and day (a day number from 1970-01-01), its units and containers, and the number of readers.
+/// The readers have the tickets from 1 on.
 #[derive(Drop)]
 pub struct Around {
     pub seats: u64,

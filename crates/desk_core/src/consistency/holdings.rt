@@ -13,8 +13,8 @@ use crate::consistency::rows::{HoldingRow, OrderRow};
 use crate::consistency::tally::Tally;
 use std::alloc::{AllocError, Global};
 
-/// Whether the holdings are those of a desk with these orders. The orders must be good. The holdings
-/// may come in any order.
+/// Whether the holdings are those of a desk with these orders. The orders must be good: if they are not, the contract
+/// says nothing. The holdings may come in any order.
 pub fn are_good_holdings(
     alloc: Global,
     around: &Around,

@@ -19,7 +19,8 @@ pub(crate) fn are_numbered(numbers: &[u64]) -> bool
     true
 }
 
-/// The order with this number. The orders must be numbered from 1.
+/// The order at this place, counted from 1, or none if there is none: the one with this number, if the orders are
+/// numbered from 1.
 pub(crate) fn nth_order(orders: &[OrderRow], number: u64) -> Option<OrderRow>
     ensures { result ≡ nth_order orders.now number }
 {

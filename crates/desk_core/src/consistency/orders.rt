@@ -21,9 +21,9 @@ use std::alloc::{AllocError, Global};
 /// The most orders that may ever be placed.
 const MOST_ORDERS: usize = limits::MOST_ORDERS as usize;
 
-/// Whether the orders are those of a desk: they are numbered from 1, each is valid by itself, no ticket
-/// placed more on a day than it may, and no ticket has two orders for one container that wait or are
-/// out. Takes about n log n steps, whatever the order of tickets and days.
+/// Whether the orders are those of a desk: they are numbered from 1 in their order and at most 10000000, each is valid
+/// by itself, no ticket placed more on a day than it may, and no ticket has two orders for one container that wait or
+/// are out. Takes about n log n steps, whatever the order of tickets and days.
 pub fn are_good_orders(
     alloc: Global,
     around: &Around,

@@ -19,8 +19,8 @@ use std::alloc::{AllocError, Global};
 /// The most runs that may ever be made.
 const MOST_RUNS: usize = limits::MOST_RUNS as usize;
 
-/// Whether the runs and their lines are those of a desk with these orders. The orders must be good. The
-/// lines may come in any order.
+/// Whether the runs and their lines are those of a desk with these orders. The orders must be good: if they are not,
+/// the contract says nothing. The lines may come in any order.
 pub fn are_good_runs(
     alloc: Global,
     around: &Around,

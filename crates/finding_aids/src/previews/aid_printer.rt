@@ -42,7 +42,8 @@ impl<'a> Printer<'a> {
         })
     }
 
-    /// Prints trees below units with these identifiers.
+    /// Appends the finding aids of trees that lie below units with these identifiers. The depths must be 64 at most.
+    /// After an error the contract does not say what `out` and `ids` have.
     pub fn print_trees(
         &self,
         out: &mut Vec<u8>,

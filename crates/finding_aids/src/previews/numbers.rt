@@ -15,7 +15,7 @@ use std::collections::BTreeMap;
 /// The number of each container, by its name, its location and its kind.
 pub type Numbers<'a> = BTreeMap<(&'a str, &'a str, &'a str), u64>;
 
-/// The numbers of the containers of rows, from 1, in the order in which they first appear.
+/// The numbers of the containers of rows, from 1, in the order in which they first appear. Each container has one.
 pub fn number_boxes(alloc: Global, rows: &[Row]) -> Result<Numbers<'_>, AllocError>
     ensures { IfOk result (λ numbers. AreNumbered (flat_map (λ row. row.values.boxes) rows.now) numbers) }
 {
@@ -26,7 +26,7 @@ pub fn number_boxes(alloc: Global, rows: &[Row]) -> Result<Numbers<'_>, AllocErr
     Ok(numbers)
 }
 
-/// The number of a container, if it has one.
+/// The number of a container, or none if no row names it.
 pub fn number_of<'a>(numbers: &Numbers<'a>, container: &'a BoxKey) -> Option<u64>
     ensures { result ≡ mapped_number numbers.now container.now }
 {

@@ -31,9 +31,9 @@ pub struct RowPosition {
 /// The index of the last row with each legacyId.
 type Known = BTreeMap<String, usize>;
 
-/// The place of each row, below the nearest row above it that has its parent's legacyId. If some row
-/// has no place, returns the first such row: its parent's row does not exist, or the row would lie too
-/// deep.
+/// The place of each row, in their order, below the nearest row above it that has its parent's legacyId. If some row
+/// has no place, returns the first such row with its cause: 11 if its parent's row does not exist above it, or 12 if
+/// the row would lie deeper than 64.
 pub fn place_rows(alloc: Global, rows: &[Row]) -> Result<Vec<RowPosition>, FileFault>
     ensures none_bad { IfOk result (λ places. faults rows.now ≡ []) }
     ensures places { IfOk result (λ places. ArePlaced rows.now places.items) }

@@ -30,7 +30,8 @@ struct Slot<'a> {
     children: Vec<Tree<'a>>,
 }
 
-/// The published trees of a file's rows, without what lies below a draft.
+/// The published trees of a file's rows, without drafts and what lies below them. `places` must be the places of the
+/// rows, in their order.
 pub fn plant<'a>(
     alloc: Global,
     rows: &'a [Row],

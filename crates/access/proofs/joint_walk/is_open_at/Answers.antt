@@ -1,6 +1,7 @@
 use Rattle.std.proofs.Common.{◌≡◌, ◌<◌, ℤ, true, List, Option, get_or, length, sym, ap, subst, ◌∙◌, arith, Vec, Global}
-use Rattle.access.proofs.Common.{AreAttachedMarks, AreTold, ContainerOrder, IfSome, Mark, all-get_or, are_known}
-use Rattle.access.proofs.Common.{looks_nowhere, opens, slice_get-get_or}
+use Rattle.sqlite_trees.proofs.ListLemmas.{all-get_or}
+use Rattle.access.proofs.Common.{AreAttachedMarks, AreTold, ContainerOrder, IfSome, Mark, are_known, looks_nowhere}
+use Rattle.access.proofs.Common.{opens, slice_get-get_or}
 use Rattle.access.proofs.JointWalks.{zip_at}
 use Rattle.access.proofs.Learned.{ends_by, learned_looks}
 use Rattle.access.proofs.joint_walk.is_open_at.Goals as goal

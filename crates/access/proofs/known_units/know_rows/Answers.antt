@@ -1,6 +1,6 @@
-use Rattle.std.proofs.Common.{◌≡◌, true, map, refl, sym, subst, ◌∙◌, arith}
-use Rattle.access.proofs.Common.{Mark, all-get_or, has_unit, is_unit_known, length-map, looks_then}
-use Rattle.access.proofs.AllPass.{all_of, more_clean}
+use Rattle.std.proofs.Common.{◌≡◌, true, get_or, map, refl, sym, ap, subst, ◌∙◌, arith}
+use Rattle.access.proofs.Common.{Mark, has_unit, is_unit_known, length-map, looks_then}
+use Rattle.access.proofs.AllPass.{all_of, more_clean, so_of_one}
 use Rattle.access.proofs.Learned.{learned_more, learned_nothing, learned_so, store_ends_so, store_fault, store_full}
 use Rattle.access.proofs.TellingUnits.{known_more, told_more}
 use Rattle.access.proofs.known_units.know_rows.Goals as goal
@@ -19,9 +19,11 @@ loop-row-init g c =
 pub loop-row-preserved-then-contains_key : goal.loop-row-preserved-then-contains_key
 loop-row-preserved-then-contains_key g c =
     let before = c.loop-row.invariant in
+    let row : Mark = c.row-item.result in
     record {
       learned = before.learned;
-      known = more_clean (is_unit_known c.loop-row.known) c.args.rows.now c.loop-row.row-index _ c.loop-row-test.true c.contains_key.result c.contains_key.ensures c.if-contains_key.true before.known;
+      known = more_clean (is_unit_known c.loop-row.known) c.args.rows.now c.loop-row.row-index row c.row-item.is
+          c.loop-row-test.true c.contains_key.result c.contains_key.ensures c.if-contains_key.true before.known;
     }
 
 pub returns-in_err-marks : goal.returns-in_err-marks
@@ -29,7 +31,8 @@ returns-in_err-marks g c =
     record {
       answers = store_fault c.from_residual.ensures c.loop-row.invariant.learned c.in_err-marks.ensures.answers (λ _ k so all kept. (
         (
-          all-get_or (g.P.Places.tells k) c.args.rows.now c.loop-row.row-index _ all c.loop-row-test.true,
+          so_of_one (g.P.Places.tells k) c.args.rows.now c.loop-row.row-index c.row-item.result c.row-item.is all
+              c.loop-row-test.true,
           subst (g.P.Places.knows_way k)
               (sym c.deref.ensures.value) (so all).0,
         ),
@@ -59,19 +62,25 @@ pub loop-row-preserved : goal.loop-row-preserved
 loop-row-preserved g c =
     let rows = c.args.rows.now in
     let i = c.loop-row.row-index in
+    let row : Mark = c.row-item.result in
+    let is : row ≡ get_or rows i row = c.row-item.is in
     let low = c.loop-row-test.true in
     let before = c.loop-row.invariant in
     let updates = c.in_ok-insert.ensures.updates.0 in
     record {
       learned = learned_so (learned_more before.learned c.in_ok-marks.ensures.answers.call) (λ _ k so all.
-          let own = so.now (all-get_or (g.P.Places.tells k) rows i _ all low) (subst (g.P.Places.knows_way k) (sym c.deref.ensures.value) (so.before all).0) in
+          let own = so.now (so_of_one (g.P.Places.tells k) rows i row is all low)
+          (subst (g.P.Places.knows_way k) (sym c.deref.ensures.value) (so.before all).0) in
           let same = c.in_ok-path.ensures.items_if_clones_equal (λ x y h. h) ∙ c.deref-in-loop-row.ensures.value in (
             subst (g.P.Places.knows_way k) (sym same) own.1,
             λ there told.
-                told_more c.loop-row.known c.insert.new.self _ c.in_ok-told.told updates c.args.today k.forest ((so.before all).1 there told)
-                (c.in_ok-told.ensures k.forest _ (all-get_or (λ (row : Mark). has_unit k.forest row.id ≡ true) rows i _ there low) own.0),
+                told_more c.loop-row.known c.insert.new.self row.id c.in_ok-told.told updates c.args.today k.forest
+                ((so.before all).1 there told)
+                (c.in_ok-told.ensures k.forest _
+                (so_of_one (λ (m : Mark). has_unit k.forest m.id ≡ true) rows i row is there low) own.0),
           ));
-      known = known_more c.loop-row.known c.insert.new.self _ c.in_ok-told.told updates rows i _ low refl before.known;
+      known = known_more c.loop-row.known c.insert.new.self row.id c.in_ok-told.told updates rows i row low
+          (ap (λ (m : Mark). m.id) is) before.known;
     }
 
 pub returns : goal.returns

@@ -2,11 +2,8 @@ use Rattle.std.proofs.Common.{◌≡◌, Some, sym, ap, subst, ◌∙◌}
 use Rattle.row_decoding.proofs.ReadCalls.{before}
 use Rattle.adoption.proofs.Common.{AreGoodTables, Database, day_is_broken, looks_then, own_row_of, rows_in, state}
 use Rattle.adoption.proofs.CauseLemmas.{told_desk, good_tables, broken_day, kept_day}
-use Rattle.adoption.proofs.JudgmentEnds.{as_judged, judged, passes, passes_later, still_known}
+use Rattle.adoption.proofs.JudgmentEnds.{judged, passes_later, still_known}
 use Rattle.adoption.proofs.verdicts.desk_cause.Goals as goal
-
-pub returns-in_err-defect : goal.returns-in_err-defect
-returns-in_err-defect g c = passes c.from_residual.ensures (as_judged c.in_err-defect.ensures) (λ _. tt)
 
 pub returns-in-Some : goal.returns-in-Some
 returns-in-Some g c = judged c.in_ok-defect.ensures.reads.looks (λ clean known.

@@ -1,19 +1,13 @@
 use Rattle.std.proofs.Common.{◌≡◌, sym, ap, subst, ◌∙◌}
 use Rattle.row_decoding.proofs.ReadCalls.{before}
 use Rattle.adoption.proofs.Common.{Database, IsVersionVerdict, StandInOrder, cell_cause, looks_then, state}
-use Rattle.adoption.proofs.JudgmentEnds.{is_full, judged, passes, passes_later, still_known}
+use Rattle.adoption.proofs.JudgmentEnds.{judged, passes_later, still_known}
 use Rattle.adoption.proofs.verdicts.judge.Goals as goal
-
-pub returns-in_err-verdict : goal.returns-in_err-verdict
-returns-in_err-verdict g c = passes c.from_residual.ensures c.in_err-verdict.ensures (λ _. tt)
 
 pub returns-in-Some : goal.returns-in-Some
 returns-in-Some g c =
     let one = c.in_ok-verdict.ensures in
     judged one.reads.looks (λ clean. subst (IsVersionVerdict g.P.Versioned.version (state g.S.Store c.args.conn.now).now) c.in-Some.is (one.answers clean))
-
-pub returns-in_err-are_ours : goal.returns-in_err-are_ours
-returns-in_err-are_ours g c = is_full c.from_residual-in_err-are_ours.ensures c.in_err-are_ours.ensures.memory c.in_ok-verdict.ensures.reads.looks
 
 pub returns-then-not-branch : goal.returns-then-not-branch
 returns-then-not-branch g c =

@@ -3,11 +3,8 @@ use Rattle.integrity_checks.proofs.ExaminationEnds.{earlier, still}
 use Rattle.adoption.proofs.Common.{Database, HasCleanDisk, HasGoodCatalogueTables, StandInOrder, cell_cause, looks_then}
 use Rattle.adoption.proofs.Common.{own_row_of, state}
 use Rattle.adoption.proofs.CauseLemmas.{no_own_row, told_catalogue, fine_catalogue}
-use Rattle.adoption.proofs.JudgmentEnds.{as_judged, judged, judged_last, passes, passes_later, still_known}
+use Rattle.adoption.proofs.JudgmentEnds.{as_judged, judged, judged_last, passes_later, still_known}
 use Rattle.adoption.proofs.verdicts.least_cause.Goals as goal
-
-pub returns-in_err-own : goal.returns-in_err-own
-returns-in_err-own g c = passes c.from_residual.ensures c.in_err-own.ensures (λ _. tt)
 
 pub returns-in_default : goal.returns-in_default
 returns-in_default g c =

@@ -1,12 +1,9 @@
 use Rattle.std.proofs.Common.{◌≡◌, inl, inr, rules, length, slice_index_or, sym, ap, ap₂, subst, ◌∙◌}
 use Rattle.adoption.proofs.Common.{AreVersions, IsVersionVerdict, ShowsVersions, column, number_in, state}
 use Rattle.adoption.proofs.Common.{verdict_of_version, version_number}
-use Rattle.adoption.proofs.JudgmentEnds.{judged, passes}
+use Rattle.adoption.proofs.JudgmentEnds.{judged}
 use Rattle.adoption.proofs.VersionLemmas.{one_row, version_judged}
 use Rattle.adoption.proofs.version.judge_version.Goals as goal
-
-pub returns-in_err-rows : goal.returns-in_err-rows
-returns-in_err-rows g c = passes c.from_residual.ensures c.in_err-rows.ensures (λ _. tt)
 
 pub returns-in_default : goal.returns-in_default
 returns-in_default g c =

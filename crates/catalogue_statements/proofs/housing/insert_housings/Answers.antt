@@ -23,13 +23,13 @@ loop-key-preserved g c =
     let key = c.key-item.result in
     let seen = take i told in
     let invariant = c.loop-key.invariant in
-    let did = rw c.in_ok-next.ensures.same at c.in_ok-house.ensures in
+    let did = rw c.in_ok-place.ensures.same at c.in_ok-house.ensures in
     let last = did.leaves.goes in
     let low : i < length told = subst (λ (l : List BoxKey). i < length l) c.as_slice-key-items.ensures c.loop-key-test.true in
     let taken : take (i + 1) told ≡ seen ++ key ∷ [] =
     take_more told i key low ∙ ap (λ b. seen ++ b ∷ []) (sym (c.key-item.is ∙ ap (λ (l : List BoxKey). get_or l i key) c.as_slice-key-items.ensures)) in
     let place : c.loop-key.place ≡ length seen = invariant.0 ∙ sym (length-take-le i told (omega (arith, low))) in (
-      ap (λ n. n + 1) invariant.0,
+      c.in_ok-place.ensures.same ∙ ap (λ n. n + 1) invariant.0,
       (
         goes_then invariant.1.0 last,
         (
@@ -50,7 +50,7 @@ loop-key-preserved g c =
 pub loop-key-init : goal.loop-key-init
 loop-key-init g c =
     let a = state g.S.Store c.args.tables.now in (
-      refl,
+      c.from-place.ensures,
       (
         goes_nowhere,
         (
@@ -72,7 +72,7 @@ returns-in_err-house g c =
     let seen = take i told in
     let invariant = c.loop-key.invariant in
     let so_far = invariant.1 in
-    let failed = rw c.in_ok-next.ensures.same at c.in_err-house.ensures in
+    let failed = rw c.in_ok-place.ensures.same at c.in_err-house.ensures in
     writes_cut c.in_err-house.field-0.0 c.from_residual-in_err-house.ensures so_far.0 so_far.1.0 failed.leaves.aborts failed.leaves.spares
     (λ before held at room.
     let none = room.2 in
@@ -85,15 +85,12 @@ returns-in_err-house g c =
     let number_free = housing_number unit i held.boxes told key held.rows housed.0 at.apart low housed.2 none (not_seen told i key low is room.1) in
     failed.faults (record { boxes = now; rows = housed.0 }) housed.1 (here, place_free, number_free))
 
-pub returns-in_err-next : goal.returns-in_err-next
-returns-in_err-next g c =
+pub returns-in_err-place : goal.returns-in_err-place
+returns-in_err-place g c =
     let so_far = c.loop-key.invariant.1 in
-    let failed = c.in_err-next.ensures in
-    writes_unknown c.in_err-next.field-0.0 c.from_residual.ensures failed.fair so_far.0 so_far.1.0
+    let failed = c.in_err-place.ensures in
+    writes_unknown c.in_err-place.field-0.0 c.from_residual.ensures failed.fair so_far.0 so_far.1.0
     (λ clean held at room. let great = failed.great in omega (arith, great, c.loop-key.invariant.0, c.as_slice-key-items.type_inv, c.loop-key-test.true))
-
-pub overflow_add-place : goal.overflow_add-place
-overflow_add-place g c = omega (arith, c.loop-key.invariant.0, c.as_slice-key-items.type_inv, c.loop-key-test.true)
 
 pub returns : goal.returns
 returns g c =

@@ -15,7 +15,12 @@ pub returns-in_err-next : goal.returns-in_err-next
 returns-in_err-next g c =
     let e = c.in_err-next.field-0.0 in
     let looked = looks_nowhere in
-    record { updates = makes_not (same_fault c.from_residual.ensures ∙ ap Err c.in_err-next.ensures.fair) (cut_after looked.goes.on) (spares_known looked) (λ o k it may kept clean free. let small = kept.2 in absurd (omega (arith, small, c.get.ensures.same, c.in_err-next.ensures.great))) }
+    record {
+      updates = makes_not (same_fault c.from_residual.ensures ∙ ap Err c.in_err-next.ensures.fair)
+          (cut_after looked.goes.on) (spares_known looked)
+          (λ o k it may kept clean free.
+          let small = kept.2 in absurd (omega (arith, small, c.in_err-next.ensures.great)));
+    }
 
 pub returns-in_err-insert_unit : goal.returns-in_err-insert_unit
 returns-in_err-insert_unit g c =
@@ -87,7 +92,7 @@ returns g c =
     let r = c.set_next_unit.result in
     let added = c.in_ok-add.ensures.updates in
     let described = c.in_ok-describe.ensures in
-    let numbered = rw (c.in_ok-next.ensures.same, c.get.ensures.same) at c.set_next_unit.ensures in
+    let numbered = rw c.in_ok-next.ensures.same at c.set_next_unit.ensures in
     let went = goes_then (goes_then c.in_ok-insert_unit.ensures.leaves.goes added.goes) described.leaves.goes in
     record {
       updates = record {

@@ -1,4 +1,4 @@
-use Rattle.std.proofs.Common.{sym, ◌∙◌}
+use Rattle.std.proofs.Common.{refl, sym, ◌∙◌}
 use Rattle.csv_import.proofs.Common.{early, looks_then, tells_passed_later}
 use Rattle.csv_import.proofs.Counting.{next_told, number_within}
 use Rattle.csv_import.proofs.Tellings.{tells_so}
@@ -15,10 +15,13 @@ returns-then-has_space-clause-answers g c =
     let counted = c.in_ok-units.ensures in
     tells_so (looks_then office.looks counted.reads.looks) (λ clean k o it.
     let at_b = early counted.reads.looks.goes.on.crash clean in
-    next_told c.args.new c.in_ok-units.units c.get-next.result it (office.answers at_b k o it) c.get-next.ensures.same (office.looks.same at_b) (counted.answers clean) c.has_space.ensures c.if-has_space.true)
+    next_told c.args.new c.in_ok-units.units c.in_ok-office.office.next_unit it (office.answers at_b k o it) refl
+    (office.looks.same at_b) (counted.answers clean) c.has_space.ensures c.if-has_space.true)
 
 pub returns-then-has_space-clause-low : goal.returns-then-has_space-clause-low
-returns-then-has_space-clause-low g c = number_within c.in_ok-units.units c.get-next.result c.args.new (sym c.has_space.ensures ∙ c.if-has_space.true)
+returns-then-has_space-clause-low g c =
+    number_within c.in_ok-units.units c.in_ok-office.office.next_unit c.args.new
+    (sym c.has_space.ensures ∙ c.if-has_space.true)
 
 pub returns-clause-answers : goal.returns-clause-answers
 returns-clause-answers g c =
@@ -26,4 +29,5 @@ returns-clause-answers g c =
     let counted = c.in_ok-units.ensures in
     tells_so (looks_then office.looks counted.reads.looks) (λ clean k o it.
     let at_b = early counted.reads.looks.goes.on.crash clean in
-    next_told c.args.new c.in_ok-units.units c.get-next.result it (office.answers at_b k o it) c.get-next.ensures.same (office.looks.same at_b) (counted.answers clean) c.has_space.ensures c.if-has_space.false)
+    next_told c.args.new c.in_ok-units.units c.in_ok-office.office.next_unit it (office.answers at_b k o it) refl
+    (office.looks.same at_b) (counted.answers clean) c.has_space.ensures c.if-has_space.false)

@@ -4,6 +4,7 @@ use Rattle.csv_import.proofs.row_entry.units_of.Given as goal
 
 abbrev pub invariant-loop-row : goal.invariant-loop-row
 invariant-loop-row l = record {
-  few : l.number ≤ l.import.next + l.row-index;
-  so_far : units_from (get_by_text l.import.catalogued.now) l.import.next l.import.rows.now ≡ l.units.items ++ units_from (get_by_text l.import.catalogued.now) l.number (drop l.row-index l.import.rows.now);
+  few : l.next ≤ l.import.next + l.row-index;
+  so_far : units_from (get_by_text l.import.catalogued.now) l.import.next l.import.rows.now
+      ≡ l.units.items ++ units_from (get_by_text l.import.catalogued.now) l.next (drop l.row-index l.import.rows.now);
 }

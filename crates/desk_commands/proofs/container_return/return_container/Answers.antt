@@ -1,9 +1,9 @@
-use Rattle.std.proofs.Common.{ap, sym, ◌∙◌}
+use Rattle.std.proofs.Common.{sym}
 use Rattle.desk_core.proofs.UnknownContainers.{nothing_found}
-use Rattle.desk_commands.proofs.Common.{Place, does_then, is_refused, is_some, order_out, shows_storage, storage_of}
+use Rattle.desk_commands.proofs.Common.{does_then, is_refused, shows_storage, storage_of}
 use Rattle.desk_commands.proofs.HeadTold.{none_queued, queued_at}
 use Rattle.desk_commands.proofs.OneStep.{storage_passed}
-use Rattle.desk_commands.proofs.Returned.{in_house, not_issued, unknown_container}
+use Rattle.desk_commands.proofs.Returned.{unknown_container}
 use Rattle.desk_commands.proofs.container_return.return_container.Goals as goal
 
 pub returns-in_err-found : goal.returns-in_err-found
@@ -18,20 +18,11 @@ returns-in-Err g c =
     let headed = told.answers clean tt (storage_of v s) (shows_storage v s g.P.Places.represents _ sound it) in
     unknown_container g.P.Places.represents v s c.args.container c.in-Err.why none.1 (none_queued s c.args.container v headed none.0))
 
-pub returns-in_default : goal.returns-in_default
-returns-in_default g c =
+pub returns-in-Ok : goal.returns-in-Ok
+returns-in-Ok g c =
     let v = g.P.Versioned.version in
     let told = c.in_ok-found.ensures.answers in
-    let head = c.in-Ok.head in
-    is_refused told.looks (λ clean s sound so it.
+    does_then told.looks c.return_from.ensures (λ clean s sound so it.
     let headed = told.answers clean tt (storage_of v s) (shows_storage v s g.P.Places.represents _ sound it) in
-    let queued = queued_at s c.args.container v sound head headed c.in-Ok.ensures.found in
-    not_issued g.P.Places.represents v s c.args.container queued.known (ap (λ (p : Place). is_some (order_out p)) (sym queued.is_at) ∙ in_house head.place c.in_default.not-Out))
-
-pub returns : goal.returns
-returns g c =
-    let v = g.P.Versioned.version in
-    let told = c.in_ok-found.ensures.answers in
-    does_then told.looks c.take_back.ensures (λ clean s sound so it.
-    let headed = told.answers clean tt (storage_of v s) (shows_storage v s g.P.Places.represents _ sound it) in
-    sym (queued_at s c.args.container v sound c.in-Ok.head headed c.in-Ok.ensures.found).is_at ∙ c.in-Out.is)
+    let queued = queued_at s c.args.container v sound c.in-Ok.head headed c.in-Ok.ensures.found in
+    (queued.known, sym queued.is_at))

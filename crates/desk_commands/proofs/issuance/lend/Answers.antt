@@ -3,13 +3,10 @@ use Rattle.desk_commands.proofs.Issued.{issues}
 use Rattle.desk_commands.proofs.OneStep.{desk_made}
 use Rattle.desk_commands.proofs.issuance.lend.Goals as goal
 
-pub hand_over-requires : goal.hand_over-requires
-hand_over-requires g c = record { known = rw c.get.ensures.same c.get.ensures.small }
-
 pub returns-in_err-hand_over : goal.returns-in_err-hand_over
 returns-in_err-hand_over g c = let made = c.in_err-hand_over.ensures.updates in desk_passed _ c.from_residual.ensures made.aborts made.faults
 
 pub returns : goal.returns
 returns g c =
-    rw c.get-2.ensures.same (desk_made (rw c.get.ensures.same at c.in_ok-hand_over.ensures.updates) (λ s sound so it. tt) (λ s sound so it schema only put.
+    rw c.get.ensures.same (desk_made c.in_ok-hand_over.ensures.updates (λ s sound so it. tt) (λ s sound so it schema only put.
     issues g.P.Places.represents g.P.Versioned.version s c.args.container c.args.ticket sound g.met.P.Places.shows_same _ _ c.args.order so.0 so.1 it schema only put))

@@ -6,11 +6,8 @@ use Rattle.desk_commands.proofs.Common.{RepresentsDesk, TakesEachOnce, desk_legi
 use Rattle.desk_commands.proofs.Common.{next_run, state, tables, with_all_placed, with_run}
 use Rattle.desk_commands.proofs.Fetched.{taken_once}
 use Rattle.desk_commands.proofs.OneStep.{does_pass_later, does_well}
-use Rattle.desk_commands.proofs.RunMade.{legible_run, runs_out, runs_with, today_legible}
+use Rattle.desk_commands.proofs.RunMade.{runs_out, runs_with}
 use Rattle.desk_commands.proofs.run_creation.bring.Goals as goal
-
-pub move_all-requires : goal.move_all-requires
-move_all-requires g c = record { known = tt }
 
 pub returns-in_err-run : goal.returns-in_err-run
 returns-in_err-run g c =
@@ -32,8 +29,7 @@ returns-in_err-move_all g c =
     let moved = c.in_err-move_all.ensures.updates in
     does_pass_later _ c.from_residual-in_err-move_all.ensures made.goes.on moved.aborts (λ s sound so it at_b.
     let desk = (tables v s).desk in
-    let legible = legible_run (next_run desk) c.args.today c.args.due.now desk (today_legible v s sound c.args.today so.0) (desk_legible v s sound) in
-    moved.faults tt (with_run (next_run desk) c.args.today c.args.due.now desk) (made.represents_updated at_b tt desk it.desk tt) c.requires.numbers legible)
+    moved.faults tt (with_run (next_run desk) c.args.today c.args.due.now desk) (made.represents_updated at_b tt desk it.desk tt) tt tt)
 
 pub returns : goal.returns
 returns g c =
@@ -49,7 +45,7 @@ returns g c =
     let desk = (tables v s).desk in
     let at_b = early moved.goes.on.crash clean in
     let put = with_run (next_run desk) c.args.today c.args.due.now desk in
-    let placed = moved.represents_updated clean tt put (made.represents_updated at_b tt desk it.desk tt) c.requires.numbers in
+    let placed = moved.represents_updated clean tt put (made.represents_updated at_b tt desk it.desk tt) tt in
     runs_with v s sound g.P.Places.represents g.met.P.Places.shows_same a.now d.now c.args.today c.args.due.now c.in-Some.run' so.0 so.1 so.2
     (sym c.in-Some.is ∙ c.in_ok-run.ensures.number at_b desk it.desk) it (goes.schema clean)
     (touched_again touched a.now b.now d.now (touched_wider (schema.run.tree ∷ schema.run_line.tree ∷ []) touched a.now b.now refl (made.only at_b)) (touched_wider (schema.holding.tree ∷ []) touched b.now d.now refl (moved.only clean)))

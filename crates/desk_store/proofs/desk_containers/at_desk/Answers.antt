@@ -33,7 +33,7 @@ loop-container-preserved g c =
           let told = c.in_ok-awaited.ensures.answers.answers clean tt desk (shown_on RepresentsDeskAlone looked before desk shown) in
           let here = c.container-item.is ∙ any_default c.deref-container-items.result.now c.loop-container.container-index c.container-item.result 0 c.loop-container-test.true in
           c.in_ok-push.ensures.items
-          ∙ ap (λ n. c.loop-container.told.items ++ (n, c.in_ok-awaited.awaited) ∷ []) (c.get.ensures.same ∙ here)
+          ∙ ap (λ n. c.loop-container.told.items ++ (n, c.in_ok-awaited.awaited) ∷ []) here
           ∙ told_more desk.orders c.deref-container-items.result.now c.loop-container.container-index c.loop-container.told.items c.in_ok-awaited.awaited c.loop-container-test.true
           (c.loop-container.invariant.so_far before desk shown) (told ∙ ap (λ n. list_any (waits_for n) desk.orders) here);
     }

@@ -1,8 +1,6 @@
-use Rattle.std.proofs.Common.{◌≡◌, Some, None, Ok, [], ◌∷◌, sym, subst}
-use Rattle.desk_core.specs.Decisions.{order_out}
+use Rattle.std.proofs.Common.{Some, None, Ok, [], ◌∷◌, sym, subst}
 use Rattle.office_tables.specs.Schema as tables
-use Rattle.desk_store.proofs.Common.{IfSome, IsLegible, IsNumber, Place, RepresentsDeskAlone, StoreUpdates, with_place}
-use Rattle.desk_store.proofs.Common.{⊤}
+use Rattle.desk_store.proofs.Common.{Place, RepresentsDeskAlone, StoreUpdates, with_place, ⊤}
 use Rattle.desk_store.proofs.HoldingWrites.{placed, shelved}
 use Rattle.desk_store.proofs.holdings.set_place.Goals as goal
 
@@ -10,7 +8,7 @@ pub returns-in-Shelf : goal.returns-in-Shelf
 returns-in-Shelf g c =
     let e = c.in_ok-clear_holding.ensures in
     record {
-      updates = subst (λ (place : Place). StoreUpdates g.S.Store (tables.holding.tree ∷ []) RepresentsDeskAlone c.args.tables.now c.clear_holding.new.tables (Ok (tt {0})) (λ _. ⊤) IsLegible (with_place c.args.container place)) (sym c.in-Shelf.is)
+      updates = subst (λ (place : Place). StoreUpdates g.S.Store (tables.holding.tree ∷ []) RepresentsDeskAlone c.args.tables.now c.clear_holding.new.tables (Ok (tt {0})) (λ _. ⊤) (λ _. ⊤) (with_place c.args.container place)) (sym c.in-Shelf.is)
           (shelved g.S.Store c.args.tables.now c.clear_holding.new.tables c.args.container e.leaves.goes e.rows e.only);
     }
 
@@ -19,16 +17,15 @@ returns-in-Desk g c =
     let e = c.in_ok-clear_holding.ensures in
     let f = rw c.from.ensures at c.insert_holding.ensures in
     record {
-      updates = subst (λ (place : Place). StoreUpdates g.S.Store (tables.holding.tree ∷ []) RepresentsDeskAlone c.args.tables.now c.insert_holding.new.tables c.insert_holding.result (λ _. ⊤) IsLegible (with_place c.args.container place)) (sym c.in-Desk.is)
+      updates = subst (λ (place : Place). StoreUpdates g.S.Store (tables.holding.tree ∷ []) RepresentsDeskAlone c.args.tables.now c.insert_holding.new.tables c.insert_holding.result (λ _. ⊤) (λ _. ⊤) (with_place c.args.container place)) (sym c.in-Desk.is)
           (placed g.S.Store c.args.tables.now c.clear_holding.new.tables c.args.container e.leaves.goes e.rows e.only c.insert_holding.new.tables 1 None c.insert_holding.result f.leaves f.puts f.faults);
     }
 
 pub returns-in-Out : goal.returns-in-Out
 returns-in-Out g c =
     let e = c.in_ok-clear_holding.ensures in
-    let by_number : c.of.result ≡ Some c.in-Out.order = c.of.ensures.some (subst (λ (place : Place). IfSome (order_out place) IsNumber) c.in-Out.is c.requires.known) in
-    let f = rw (c.from-in-Out.ensures, by_number) at c.insert_holding-in-Out.ensures in
+    let f = rw c.from-in-Out.ensures at c.insert_holding-in-Out.ensures in
     record {
-      updates = subst (λ (place : Place). StoreUpdates g.S.Store (tables.holding.tree ∷ []) RepresentsDeskAlone c.args.tables.now c.insert_holding-in-Out.new.tables c.insert_holding-in-Out.result (λ _. ⊤) IsLegible (with_place c.args.container place)) (sym c.in-Out.is)
+      updates = subst (λ (place : Place). StoreUpdates g.S.Store (tables.holding.tree ∷ []) RepresentsDeskAlone c.args.tables.now c.insert_holding-in-Out.new.tables c.insert_holding-in-Out.result (λ _. ⊤) (λ _. ⊤) (with_place c.args.container place)) (sym c.in-Out.is)
           (placed g.S.Store c.args.tables.now c.clear_holding.new.tables c.args.container e.leaves.goes e.rows e.only c.insert_holding-in-Out.new.tables 2 (Some c.in-Out.order) c.insert_holding-in-Out.result f.leaves f.puts f.faults);
     }

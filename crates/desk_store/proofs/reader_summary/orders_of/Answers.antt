@@ -28,6 +28,6 @@ returns g c =
           let few = subst (λ (l : List OrderLine). length l < 2 ^ 32) (sym read) (few_lines c.args.ticket d shown.few_orders) in
           let held = c.count_out-held.ensures few ∙ ap (count_by (λ (l : OrderLine). nat_eq l.state 2)) read ∙ out_of_lines c.args.ticket d.orders in
           let placed = c.in_ok-placed.ensures.answers at_p d.orders shown_b.orders shown_b.few_orders in
-          let orders = c.from.ensures ∙ c.in_ok-orders.ensures.answers clean d.orders shown_p.orders (shown_p.few_orders, shown_p.order_numbers) in
+          let orders = c.in_ok-orders.ensures.answers clean d.orders shown_p.orders (shown_p.few_orders, shown_p.order_numbers) in
           rw (live, held, placed, orders) refl);
     }

@@ -11,7 +11,8 @@ returns-in_err-seen g c =
     record {
       answers = tells_passed_later _ c.from_residual.ensures c.loop-unit.invariant.looks last.aborts
           (λ o k it may kept.
-          let here = row_at c.args.known.now.day k c.args.kept.now may.1 c.loop-unit.unit-index may.2 c.loop-unit-test.true in
+          let here = row_at c.args.known.now.day k c.args.kept.now may.1 c.loop-unit.unit-index c.unit-item.result
+          c.unit-item.is may.2 c.loop-unit-test.true in
           last.faults o k it (may.0, here.item, here.holds, here.is) kept);
     }
 
@@ -33,7 +34,8 @@ loop-unit-preserved g c =
       so_far = λ clean o k it tellable rows keeps.
           let before = early last.looks.goes.on.crash clean in
           let shown = subst (λ (db : Database). Represents g.P.Places.represents g.P.Versioned.version db o k) (sym (c.loop-unit.invariant.looks.same before)) it in
-          let here = row_at c.args.known.now.day k c.args.kept.now rows i keeps c.loop-unit-test.true in
+          let here = row_at c.args.known.now.day k c.args.kept.now rows i c.unit-item.result c.unit-item.is keeps
+          c.loop-unit-test.true in
           let seen = last.answers clean o k shown tellable here.item here.holds here.is in
           let cut : c.truncate.new.self.items ≡ take (base + here.item.1) ids = c.truncate.ensures.items ∙ ap (λ n. take (base + n) ids) (ap (λ (x : Kept). x.depth) here.is) in
           let so_far = c.loop-unit.invariant.so_far before o k it tellable rows keeps ∙ ap (λ l. c.loop-unit.out.items ++ aid (along at k.containers base ids l)) here.left in

@@ -1,25 +1,12 @@
-use Rattle.std.proofs.Common.{sym, ap, ◌∙◌, arith}
+use Rattle.std.proofs.Common.{sym, ap, ◌∙◌}
 use Rattle.std.specs.Prelude.{find}
-use Rattle.public_queries.proofs.Common.{IsKept, Kept, Represents, cut_after, has_id, looks_nowhere, nodes, public_unit}
-use Rattle.public_queries.proofs.Common.{seen_of, tells_passed}
+use Rattle.public_queries.proofs.Common.{IsKept, Kept, Represents, has_id, nodes, public_unit, seen_of}
 use Rattle.public_queries.proofs.AidCalls.{tells_as}
 use Rattle.public_queries.proofs.AidUnits.{closed_until, seen_stub}
-use Rattle.public_queries.proofs.FoundUnits.{found_low}
 use Rattle.public_queries.proofs.visible_unit.seen_unit.Goals as goal
-
-pub returns-in_err-number : goal.returns-in_err-number
-returns-in_err-number g c =
-    record {
-      answers = tells_passed _ c.from_residual.ensures (cut_after looks_nowhere.goes.on)
-          (λ o k it may kept clean free.
-          let low = found_low k may.1.0.0.id may.1.0.0 kept may.2.found in
-          let id = ap (λ (x : Kept). x.id) may.3 in
-          absurd (omega (arith, low, id, c.in_err-number.ensures.great)));
-    }
 
 pub returns-then-unit : goal.returns-then-unit
 returns-then-unit g c =
-    let closed = rw c.in_ok-number.ensures.same at c.seen_closed.ensures in
     record {
       answers = tells_as g.S.Store (Represents g.P.Places.represents g.P.Versioned.version) IsKept c.args.tables.now c.seen_closed.new.tables c.seen_closed.result _ _ _ _
           (λ k may.
@@ -31,12 +18,11 @@ returns-then-unit g c =
           let until = closed_until c.args.today row.0.0 (sym of.stub ∙ stub) in
           told row.0.0 until.0 (ap (λ n. find (has_id n) (nodes k.forest)) (ap (λ (x : Kept). x.id) is) ∙ of.found) until.1
           ∙ sym (ap (λ b. seen_of k.containers (public_unit (row.0.0, b))) stub ∙ seen_stub k.containers row.0.0 until.0 until.1))
-          closed.answers;
+          c.seen_closed.ensures.answers;
     }
 
 pub returns-else-unit : goal.returns-else-unit
 returns-else-unit g c =
-    let open_now = rw c.in_ok-number.ensures.same at c.seen_open.ensures in
     record {
       answers = tells_as g.S.Store (Represents g.P.Places.represents g.P.Versioned.version) IsKept c.args.tables.now c.seen_open.new.tables c.seen_open.result _ _ _ _
           (λ k may. (may.0, may.1.0.0, ap (λ n. find (has_id n) (nodes k.forest)) (ap (λ (x : Kept). x.id) may.3) ∙ may.2.found))
@@ -44,5 +30,5 @@ returns-else-unit g c =
           let stub = sym (ap (λ (x : Kept). x.stub) is) ∙ c.if-unit.false in
           told tellable row.0.0 (ap (λ n. find (has_id n) (nodes k.forest)) (ap (λ (x : Kept). x.id) is) ∙ of.found)
           ∙ sym (ap (λ b. seen_of k.containers (public_unit (row.0.0, b))) stub))
-          open_now.answers;
+          c.seen_open.ensures.answers;
     }
