@@ -6,7 +6,7 @@ set -euo pipefail
 top=$(cd "$(dirname "$0")/.." && pwd)
 case "${1:-}" in
 desk) needs="isad_core desk_core anyhow" ;;
-forests) needs="tree_core" ;;
+forests) needs="isad_core tree_core visibility" ;;
 tables) needs="isad_core tree_core catalogue_core office_tables catalogue_statements catalogue_store desk_store sqlite" ;;
 reading_room) needs="isad_core tree_core desk_core catalogue_core office_tables catalogue_statements catalogue_store integrity_checks desk_store sqlite" ;;
 office) needs="isad_core desk_core catalogue_store nested_sets integrity_checks office_core office sqlite" ;;
