@@ -10,8 +10,8 @@ whose text another edit of the round changes. What a round did not refuse is tri
 An edit outside any function (a constant, a definition) is always tried by itself, and is refused if any function or lemma of
 the crate is.
 
-The copy uses the work that `rt check` kept in out/, so check the crate first. With --over, tools/check.sh checks
-over the libraries that are there and does not test whether they are current; that saves minutes in the upper crates.
+The copy uses the work that `rt check` kept in out/, so check the crate first. With --over, tools/check.sh checks the
+edited functions alone, over the libraries that are there, and does not test whether they are current: run `rt ci` first.
 Verdicts: `refused`, `PROVED` (the contracts let the wrong body through), `unreadable` (its text is gone, or the result
 does not compile). The last line has the counts; the exit status is 1 if one is proved or unreadable, or if none was
 tried.
@@ -41,6 +41,8 @@ FAILED = re.compile(r"not proved|no proof")
 OF_OTHERS = re.compile(r"(?:not proved|no proof)[:;] it (?:calls|passes)")
 LEMMA = re.compile(r"^(?:\./)?(proofs/\S+?):\d+:\d+: error", re.M)
 NAMES = r"has no field|is not in scope|has no `|was not admitted"
+NO_FUNCTION = "has no function"
+SEVERAL = re.compile(r"several functions are named `([^`]+)`: help: write one of (.*)")
 UNREAD = re.compile(r"^(?:\./)?((?:src|specs)/\S+?):\d+:\d+: (error.*)$", re.M)
 
 
@@ -124,10 +126,11 @@ def round_of(edits, folder):
 
 
 class Bench:
-    """A copy of a crate and of what it depends on, with the work that its last check kept."""
+    """A copy of a crate, with the work that its last check kept, and with what it depends on: copied, or over the
+    libraries that are there linked."""
 
-    def __init__(self, crate, room, words, said):
-        self.crate, self.said, self.folder = crate, said, f"{room}/crates/{crate}"
+    def __init__(self, crate, room, words, said, is_over):
+        self.crate, self.said, self.folder, self.is_over = crate, said, f"{room}/crates/{crate}", is_over
         self.words = [it.format(room=room, crate=crate) for it in words]
         crates = Path(TOP, "crates.txt").read_text(encoding="utf-8")
         lines = [it for it in crates.splitlines(keepends=True) if re.match(r"\w+", it)]
@@ -138,10 +141,9 @@ class Bench:
             if name in below and name not in wanted:
                 wanted.add(name)
                 queue.extend(below[name])
+        os.mkdir(f"{room}/crates")
         for name in sorted(wanted):
-            leave = [] if name == crate else ["incremental"]
-            leave = shutil.ignore_patterns("must-fail", *leave)
-            shutil.copytree(f"{TOP}/crates/{name}", f"{room}/crates/{name}", ignore=leave)
+            self.put(name, f"{room}/crates/{name}")
         with open(f"{room}/crates.txt", "w", encoding="utf-8") as out:
             out.writelines(it for it in lines if re.match(r"\w+", it)[0] in wanted)
         os.mkdir(f"{room}/tools")
@@ -149,17 +151,47 @@ class Bench:
         if os.path.isfile(f"{TOP}/HANDLES"):
             shutil.copy(f"{TOP}/HANDLES", room)
 
+    def put(self, name, folder):
+        """Copies a crate, or links it."""
+        if self.is_over and name != self.crate:
+            os.symlink(f"{TOP}/crates/{name}", folder)
+            return
+        leave = [] if name == self.crate else ["incremental"]
+        shutil.copytree(f"{TOP}/crates/{name}", folder, ignore=shutil.ignore_patterns("must-fail", *leave))
+
     def check(self, edits):
         """The output of a check of the crate with these edits; afterwards the texts are as they were."""
         texts = apply_edits(edits, self.folder)
         before = {path: Path(self.folder, path).read_text(encoding="utf-8") for path in texts}
         try:
             self.write(texts)
-            ran = subprocess.run(self.words, cwd=self.folder, stdin=subprocess.DEVNULL, capture_output=True, text=True)
-            self.keep(f"=== {' '.join(it.name for it in edits)}\n{ran.stdout}{ran.stderr}\n")
-            return ran.stdout + ran.stderr
+            said = self.check_functions(edits)
+            self.keep(f"=== {' '.join(it.name for it in edits)}\n{said}\n")
+            return said
         finally:
             self.write(before)
+
+    def check_functions(self, edits):
+        """What a check of the edited functions says; of all functions where one of them cannot be checked alone."""
+        if not self.is_over or any(it.is_alone() for it in edits):
+            return self.run([])
+        functions = {it.key: it for edit in edits for it in edit.functions}
+        names = {key: it.name for key, it in functions.items()}
+        said = self.run(sorted(set(names.values())))
+        while several := SEVERAL.search(said):
+            whole = re.findall(r"`([^`]+)`", several[2])
+            of_name = [key for key in names if names[key] == several[1]]
+            names |= {key: next(filter(functions[key].line.fullmatch, whole), "") for key in of_name}
+            if not of_name or "" in names.values():
+                return self.run([])
+            said = self.run(sorted(set(names.values())))
+        return self.run([]) if NO_FUNCTION in said else said
+
+    def run(self, names):
+        """What a check says, of these functions or of all."""
+        words = [*self.words, *[word for name in names for word in ("--only", name)]]
+        ran = subprocess.run(words, cwd=self.folder, stdin=subprocess.DEVNULL, capture_output=True, text=True)
+        return ran.stdout + ran.stderr
 
     def keep(self, said):
         """Adds what a check said to the file of the crate, if it is to be kept."""
@@ -246,7 +278,7 @@ def main():
     words = argparse.ArgumentParser(prog="edits.py", description=__doc__.split("\n")[0])
     words.add_argument("--dry", action="store_true", help="only look whether each edit's text stands once in its file")
     words.add_argument("--gate", action="store_true", help="the edits of crates/CRATE/must-fail")
-    words.add_argument("--over", action="store_true", help="check over the libraries that are there")
+    words.add_argument("--over", action="store_true", help="the edited functions, over the libraries that are there")
     words.add_argument("--jobs", type=int, default=1, help="the processors of one check")
     words.add_argument("--said", metavar="FOLDER", help="keep what each check said there")
     words.add_argument("names", nargs="*", metavar="CRATE | CRATE/EDIT", help="those of a crate, or one edit")
@@ -264,7 +296,7 @@ def main():
         edits = [Edit(f"{of(crate)}/{it}", crate, f"{TOP}/crates/{crate}") for it in files]
         print(f"{crate}: {len(edits)} edits", flush=True)
         with tempfile.TemporaryDirectory(prefix="edits-") as room:
-            try_edits(Bench(crate, room, check, given.said), edits)
+            try_edits(Bench(crate, room, check, given.said, given.over), edits)
         for edit in edits:
             print(f"{verdicts.add(edit.verdict):10} {crate}/{edit.name}: {edit.why[:200]}", flush=True)
     print(verdicts.line())
