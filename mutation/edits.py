@@ -176,16 +176,23 @@ class Bench:
         if not self.is_over or any(it.is_alone() for it in edits):
             return self.run([])
         functions = {it.key: it for edit in edits for it in edit.functions}
-        names = {key: it.name for key, it in functions.items()}
+        said = self.run_alone(functions, {key: "::".join(filter(None, key[1:])) for key in functions})
+        if NO_FUNCTION in said:
+            said = self.run_alone(functions, {key: it.name for key, it in functions.items()})
+        told = [at[1] for at in TOLD.finditer(said)]
+        return said if all(any(map(it.line.match, told)) for it in functions.values()) else self.run([])
+
+    def run_alone(self, functions, names):
+        """What a check says of functions that have these names. Of several functions of a name it takes the edited one."""
         said = self.run(sorted(set(names.values())))
         while several := SEVERAL.search(said):
             whole = re.findall(r"`([^`]+)`", several[2])
             of_name = [key for key in names if names[key] == several[1]]
             names |= {key: next(filter(functions[key].line.fullmatch, whole), "") for key in of_name}
             if not of_name or "" in names.values():
-                return self.run([])
+                break
             said = self.run(sorted(set(names.values())))
-        return self.run([]) if NO_FUNCTION in said else said
+        return said
 
     def run(self, names):
         """What a check says, of these functions or of all."""
