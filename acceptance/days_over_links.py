@@ -16,8 +16,8 @@ HERE = Path(__file__).resolve().parent
 TEXTS = HERE.parent / "crates" / "office_tests" / "src" / "day_texts.rt"
 HEAD = """\
 //! Days of an office. Of each there are the name, the requests, the answers, and what the program says at its end, with
-//! a byte 1F after each of them but the last. A byte 1E is between two days. `acceptance/days_over_links.py` writes this
-//! file from `acceptance/days`.
+//! a byte 1F after each of them but the last. A byte 1E is between two days. `acceptance/days_over_links.py` writes
+//! this file from `acceptance/days`.
 
 """
 SHOWN = {"\n": "\\n", "\r": "\\r", "\t": "\\t", '"': '\\"', "\\": "\\\\"}

@@ -27,11 +27,11 @@ pub use Rattle.tree_core.proofs.EachLemmas.{branch-each, cut-each, has-each, pat
 pub use Rattle.tree_core.proofs.LinkPaths.{has_beside, has_child, other_id, parts, path_none}
 pub use Rattle.tree_core.proofs.Lists.{any_agree, eqb_comm, is_among, list_any-map}
 pub use Rattle.tree_core.specs.Forest.{Empty, Forest, HasDistinctIds, Node, branch, cut, each, has, nodes, path, tree}
-pub use Rattle.visibility.specs.Marks.{IsNumbered, contents_paths, is_closed, withholds}
+pub use Rattle.visibility.specs.Marks.{IsNumbered, contents_paths, is_closed, is_later, withholds}
 pub use Rattle.visibility.specs.declared.marks.Mark.{Mark}
 pub use Rattle.desk_core.specs.Decisions.{order_out}
 pub use Rattle.desk_core.specs.DeskRows.{HoldingRow, OrderRow, PermitRow, SeatRow}
-pub use Rattle.catalogue_core.proofs.EachOf.{all_append, all_filtered, all_split}
+pub use Rattle.catalogue_core.proofs.EachOf.{all_append, all_filtered, all_split, all_true}
 pub use Rattle.catalogue_core.specs.CatalogueMerge.{Catalogue, box_number}
 pub use Rattle.catalogue_core.specs.ContainerContents.{containers_of, housed_below, is_some_there, is_withheld_from}
 pub use Rattle.catalogue_core.specs.ContainerContents.{own_or, paths_below}
@@ -39,7 +39,7 @@ pub use Rattle.catalogue_core.specs.OpenMarks.{is_clean_by_marks, is_clean_for, 
 pub use Rattle.catalogue_core.specs.OpenMarks.{with_permit}
 pub use Rattle.catalogue_core.specs.UnitLookup.{has_unit}
 pub use Rattle.catalogue_core.specs.UnitMarks.{AreMarks, mark_of, names_container, without_number}
-pub use Rattle.catalogue_core.specs.Units.{Unit, has_id, is_later, is_unit_closed}
+pub use Rattle.catalogue_core.specs.Units.{Unit, has_id, is_unit_closed}
 pub use Rattle.office_tables.proofs.Calls.{cut_after, cut_then, early, goes_then, looks_nowhere, looks_then}
 pub use Rattle.office_tables.proofs.Calls.{on_err_then, on_ok_then}
 pub use Rattle.office_tables.proofs.LookUps.{looks_full, looks_passed_later, looks_well}
@@ -49,7 +49,6 @@ pub use Rattle.office_tables.specs.declared.fault.StoreFault.{StoreFault}
 pub use Rattle.catalogue_statements.specs.Representation.{Represents, RepresentsHousings, housing_places}
 pub use Rattle.catalogue_statements.specs.Representation.{numbered_containers}
 pub use Rattle.catalogue_statements.specs.Rows.{HousingRow, counted_from, housing_row}
-pub use Rattle.catalogue_statements.specs.declared.row_types.Housing.{Housing}
 pub use Rattle.tree_places.specs.Attachments.{AreAttachedMarks}
 pub use Rattle.tree_places.specs.declared.attached.Attached.{Attached}
 pub use Rattle.desk_store.proofs.ToldCalls.{ends_well}
@@ -68,9 +67,8 @@ pub use Rattle.refinement.specs.AccessConditions.{CanBeJudged, RepresentsWhole}
 pub use Rattle.access.specs.DayRules.{are_against_rules, breaks_day_rules, has_no_row, has_too_many, is_against_rules}
 pub use Rattle.access.specs.DayRules.{is_without_seat, number_occurs_more_than}
 pub use Rattle.access.specs.Gate.{AreAsked, AreEnough, HoldNothingOfBranch, IsHoused, IsWithheldAt, OthersAreOpen}
-pub use Rattle.access.specs.Gate.{Withholds, first_closed, gate_reply, has_housing_row, is_closed_to, is_named_near}
-pub use Rattle.access.specs.Gate.{is_on_path, is_one_of, is_withheld_in, names_some, near, nearest, says_so}
-pub use Rattle.access.specs.Gate.{unless_refused}
+pub use Rattle.access.specs.Gate.{Withholds, first_closed, gate_reply, is_closed_to, is_named_near, is_on_path}
+pub use Rattle.access.specs.Gate.{is_one_of, is_withheld_in, names_some, near, nearest, says_so, unless_refused}
 pub use Rattle.access.specs.KnownUnits.{AreRowsOfEach, AreTold, AreUnitsKnown, AreWalked, TellsWithholding, are_known}
 pub use Rattle.access.specs.KnownUnits.{is_unit_known, open_ones}
 pub use Rattle.access.specs.Openness.{AreTheirs, allows, are_clean_for, is_same_row}

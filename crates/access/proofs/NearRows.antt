@@ -1,15 +1,15 @@
 -- The containers that the units near a unit name, as they are read from rows.
-use Rattle.std.proofs.Common.{◌≡◌, ℕ, ◌+◌, ◌<◌, Bool, true, false, cond, not, List, [], ◌∷◌, ◌++◌, length, map, filter}
-use Rattle.std.proofs.Common.{take, get_or, nat_eq, refl, sym, ap, ap₂, subst, ◌∙◌, arith}
+use Rattle.std.proofs.Common.{◌≡◌, ℕ, ◌+◌, ◌<◌, Bool, true, false, cond, List, [], ◌∷◌, ◌++◌, length, map, filter, take}
+use Rattle.std.proofs.Common.{get_or, nat_eq, refl, sym, ap, ap₂, subst, ◌∙◌}
 use Rattle.std.specs.Prelude.{◌&&◌, ◌||◌, IsPermutation, Option, Some, None}
 use Rattle.catalogue_core.proofs.DistinctLists.{all_so}
-use Rattle.access.proofs.Common.{AllByRecursion, BoxKey, Empty, Forest, Housing, HousingRow, Node, RepresentsHousings}
-use Rattle.access.proofs.Common.{Trees, Unit, all_append, all_split, any_agree, append-nil, box_number, branch}
-use Rattle.access.proofs.Common.{counted_from, eqb_comm, filter_more, has, has_housing_row, has_id, housing_places}
-use Rattle.access.proofs.Common.{is_one_of, is_some_there, last_or, list_any, list_any-IsPermutation, list_any-append}
-use Rattle.access.proofs.Common.{list_any-map, names_container, names_some, nat_tests, near, nearest, nodes}
-use Rattle.access.proofs.Common.{numbered_containers, option_map, option_to_list, or-false, path, says_so, take_more}
-use Rattle.access.proofs.Common.{tree}
+use Rattle.catalogue_statements.specs.declared.row_types.Housing.{Housing}
+use Rattle.access.proofs.Common.{AllByRecursion, AreMarks, BoxKey, Empty, Forest, HousingRow, Mark, Node}
+use Rattle.access.proofs.Common.{RepresentsHousings, Trees, Unit, all_append, all_split, all_true, any_agree}
+use Rattle.access.proofs.Common.{append-nil, box_number, branch, counted_from, eqb_comm, has, has_id, housing_places}
+use Rattle.access.proofs.Common.{is_one_of, last_or, list_any, list_any-IsPermutation, list_any-append, list_any-map}
+use Rattle.access.proofs.Common.{mark_of, names_container, names_some, near, nearest, nodes, numbered_containers}
+use Rattle.access.proofs.Common.{option_map, option_to_list, or-false, path, says_so, take_more, tree, without_number}
 
 -- ---- lists
 
@@ -52,19 +52,6 @@ one_more xs n i units found named low before here =
     list_any-append (λ m. nat_eq m n) found named
     ∙ ap₂ ◌||◌ before (here ∙ sym (or-false (told (get_or units i 0))))
     ∙ sym (ap (list_any told) (take_more units i 0 low) ∙ list_any-append told (take i units) (get_or units i 0 ∷ []))
-
-ended : {X : Type 0} (x : X) (b : Bool) (found : Option X) (xs : List X)
-    → last_or found (xs ++ cond b (x ∷ []) []) ≡ cond b (Some x) (last_or found xs)
-ended x true found [] = refl
-ended x true found (y ∷ xs) = ended x true (Some y) xs
-ended x false found xs = ap (last_or found) (append-nil xs)
-
--- the last that is so, with one more
-pub last_more : (is : ℕ → Bool) (units : List ℕ) (i : ℕ) → i < length units
-    → last_or None (filter is (take (i + 1) units)) ≡ cond (is (get_or units i 0)) (Some (get_or units i 0)) (last_or None (filter is (take i units)))
-last_more is units i low =
-    ap (last_or None) (filter_more is units i 0 low)
-    ∙ ended (get_or units i 0) (is (get_or units i 0)) None (filter is (take i units))
 
 -- ---- the units near a unit
 
@@ -130,6 +117,18 @@ last_of_others g p q found (x ∷ xs) all =
     at true taken left = taken
     at false taken left = left
 
+-- what the last boxed mark of a path tells is told by the last unit that names some container
+last_boxed : (told : ℕ → Bool) (way : List Unit) (marks : List Mark) → AreMarks way marks
+    → list_any (λ (mark : Mark). told mark.id) (option_to_list (last_or None (filter (λ (mark : Mark). mark.boxed) marks))) ≡ list_any (λ (unit : Unit). told unit.id) (option_to_list (last_or None (filter names_some way)))
+last_boxed told way marks are =
+    let boxed = λ (mark : Mark). mark.boxed in
+    let of_mark = λ (mark : Mark). told mark.id in
+    sym (list_any-map of_mark without_number (option_to_list (last_or None (filter boxed marks))))
+    ∙ ap (list_any of_mark) (sym (last_of_others without_number boxed boxed None marks (all_true (λ mark. boxed mark ≡ boxed mark) (λ mark. refl) marks))
+    ∙ ap (λ l. option_to_list (last_or None (filter boxed l))) are
+    ∙ last_of_others mark_of boxed names_some None way (all_true (λ unit. names_some unit ≡ names_some unit) (λ unit. refl) way))
+    ∙ list_any-map of_mark mark_of (option_to_list (last_or None (filter names_some way)))
+
 -- ---- what the rows of the units near it say
 
 module _ (db : Trees) (f : Forest Unit) (containers : List BoxKey) (shown : RepresentsHousings db f containers) (n : ℕ) where
@@ -167,59 +166,11 @@ module _ (db : Trees) (f : Forest Unit) (containers : List BoxKey) (shown : Repr
       → list_any (λ u. list_any (says_so n u) shown.housings) (map (λ (unit : Unit). unit.id) (branch (has_id u) f)) ≡ list_any (names_container containers n) (branch (has_id u) f)
   branch_named u = all_said (branch (has_id u) f) (all_branch IsSaid (has_id u) f each_said)
 
-  pub nearest_named : (u : ℕ)
-      → list_any (λ u. list_any (says_so n u) shown.housings) (map (λ (unit : Unit). unit.id) (nearest u f)) ≡ list_any (names_container containers n) (nearest u f)
-  nearest_named u = all_said (nearest u f) (all_last IsSaid names_some None (path (has_id u) f) tt (all_path IsSaid (has_id u) f each_said))
-
--- ---- which unit has containers of its own
-
-some_counted : (k : ℕ) (boxes : List BoxKey) → list_any (λ _. true) (counted_from k boxes) ≡ is_some_there boxes
-some_counted k [] = refl
-some_counted k (b ∷ boxes) = refl
-
-some_filtered : {X : Type 0} (p : X → Bool) (xs : List X) → list_any (λ _. true) (filter p xs) ≡ list_any p xs
-some_filtered p [] = refl
-some_filtered p (x ∷ xs) = at (p x) (some_filtered p xs)
-  where
-    at : (b : Bool) → list_any (λ _. true) (filter p xs) ≡ list_any p xs
-        → list_any (λ _. true) (cond b (x ∷ filter p xs) (filter p xs)) ≡ (b || list_any p xs)
-    at true e = refl
-    at false e = e
-
-pub some_told : {X Y : Type 0} (f : X → Y) (xs : List X) → not (nat_eq (length (map f xs)) 0) ≡ list_any (λ _. true) xs
-some_told f [] = refl
-some_told f (x ∷ xs) = grind (arith, nat_tests)
-
--- the rows of a unit are none where no row is of the unit
-pub rows_of_unit : (xs ys : List HousingRow) (unit : ℕ)
-    → IsPermutation (filter (λ (h : HousingRow). nat_eq unit h.unit) xs) ys → has_housing_row xs unit ≡ list_any (λ _. true) ys
-rows_of_unit xs ys unit same =
-    sym (some_filtered (λ (h : HousingRow). nat_eq unit h.unit) xs)
-    ∙ list_any-IsPermutation (λ _. true) (filter (λ (h : HousingRow). nat_eq unit h.unit) xs) ys same
-
-module _ (db : Trees) (f : Forest Unit) (containers : List BoxKey) (shown : RepresentsHousings db f containers) where
-  own_cell : HousingRow → ℕ × ℕ
-  own_cell h = (h.ord, h.container)
-
-  HasRows : Unit → Type 0
-  HasRows unit = has_housing_row shown.housings unit.id ≡ names_some unit
-
-  has_rows : (unit : Unit) → IsPermutation (numbered_containers containers unit.values) (housing_places unit.id shown.housings)
-      → HasRows unit
-  unfolding own_cell HasRows
-  has_rows unit same =
-      let mine : HousingRow → Bool = λ (h : HousingRow). nat_eq unit.id h.unit in
-      sym (some_filtered mine shown.housings)
-      ∙ sym (list_any-map (λ _. true) own_cell (filter mine shown.housings))
-      ∙ sym (list_any-IsPermutation (λ _. true) (numbered_containers containers unit.values) (housing_places unit.id shown.housings) same)
-      ∙ list_any-map (λ _. true) (λ (box : ℕ × BoxKey). (let c : ℕ × ℕ = (box.0, box_number containers box.1) in c)) (counted_from 1 unit.values.boxes)
-      ∙ some_counted 1 unit.values.boxes
-
-  -- the last of a path that has rows is the last that names some
-  pub last_with_rows : (u : ℕ)
-      → option_to_list (last_or None (filter (has_housing_row shown.housings) (map (λ (unit : Unit). unit.id) (path (has_id u) f)))) ≡ map (λ (unit : Unit). unit.id) (option_to_list (last_or None (filter names_some (path (has_id u) f))))
-  unfolding HasRows
-  last_with_rows u =
-      let each_has : AllByRecursion HasRows (nodes f) =
-      all_so (λ (unit : Unit). IsPermutation (numbered_containers containers unit.values) (housing_places unit.id shown.housings)) HasRows has_rows (nodes f) shown.are in
-      last_of_others (λ (unit : Unit). unit.id) (has_housing_row shown.housings) names_some None (path (has_id u) f) (all_path HasRows (has_id u) f each_has)
+  -- the rows of the last boxed mark of its path name the containers in which a unit lies
+  pub nearest_named : (u : ℕ) (marks : List Mark) → AreMarks (path (has_id u) f) marks
+      → list_any (λ (mark : Mark). list_any (says_so n mark.id) shown.housings) (option_to_list (last_or None (filter (λ (mark : Mark). mark.boxed) marks))) ≡ list_any (names_container containers n) (nearest u f)
+  nearest_named u marks are =
+      let told = λ (unit : ℕ). list_any (says_so n unit) shown.housings in
+      last_boxed told (path (has_id u) f) marks are
+      ∙ sym (list_any-map told (λ (unit : Unit). unit.id) (nearest u f))
+      ∙ all_said (nearest u f) (all_last IsSaid names_some None (path (has_id u) f) tt (all_path IsSaid (has_id u) f each_said))

@@ -108,21 +108,6 @@ module _ (permitted : ℕ → Bool) (day : ℤ) (way : List Unit) (marks : List 
       (ap₂ (λ a b. a && not (false || b)) (any_mark (is_mark_closed day) (is_mark_closed day) (is_unit_closed day) (λ mark. refl) (λ unit. told unit.until))
       (any_mark (λ mark. mark.permit) (λ mark. permitted mark.id) (λ unit. permitted unit.id) (λ mark. refl) (λ unit. refl)))
 
--- the units of marks
-pub ids_of_marks : (way : List Unit) (marks : List Mark) → AreMarks way marks
-    → map (λ (mark : Mark). mark.id) marks ≡ map (λ (unit : Unit). unit.id) way
-ids_of_marks way marks are =
-    sym (read marks) ∙ ap (map (λ (mark : Mark). mark.id)) are ∙ told_of way
-  where
-    read : (marks : List Mark)
-        → map (λ (mark : Mark). mark.id) (map without_number marks) ≡ map (λ (mark : Mark). mark.id) marks
-    read [] = refl
-    read (mark ∷ marks) = ap (λ l. mark.id ∷ l) (read marks)
-
-    told_of : (way : List Unit) → map (λ (mark : Mark). mark.id) (map mark_of way) ≡ map (λ (unit : Unit). unit.id) way
-    told_of [] = refl
-    told_of (unit ∷ way) = ap (λ l. unit.id ∷ l) (told_of way)
-
 -- ---- what is out
 
 opened_not : (b : Bool) → (b ≡ true → ⊥) → not b ≡ true

@@ -88,10 +88,6 @@ is_on_path u s other = list_any (nat_eq u) (path (nat_eq other) (each (λ (unit 
 abbrev pub says_so : ℕ → ℕ → HousingRow → Bool
 says_so n unit h = nat_eq unit h.unit && nat_eq h.container n
 
--- a row says that the unit names some container
-abbrev pub has_housing_row : List HousingRow → ℕ → Bool
-has_housing_row housings unit = list_any (λ (h : HousingRow). nat_eq unit h.unit) housings
-
 -- ---- a unit in its containers
 
 -- these are the containers in which the unit lies, and the marks of its path

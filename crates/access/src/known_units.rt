@@ -1,6 +1,6 @@
-//! What is known of the units in which containers lie. Whether a unit is withheld from a reader without permits does not
-//! depend on the reader, so it is found once for all of them. Permits only open more, and decide only where a unit is
-//! withheld from such a reader.
+//! What is known of the units in which containers lie. Whether a unit is withheld from a reader without permits does
+//! not depend on the reader, so it is found once for all of them. Permits only open more, and decide only where a unit
+//! is withheld from such a reader.
 
 ghost use Rattle.std.specs.Prelude.{◌≡◌, ℕ, IfErr, IfOk, Some, int_le, filter, true};
 ghost use Rattle.std.specs.List.{AllByRecursion};

@@ -7,7 +7,7 @@ ghost use Rattle.sqlite.specs.State.{HasCleanDisk};
 ghost use Rattle.catalogue_core.specs.OpenMarks.{is_opened_above, with_permit};
 ghost use Rattle.office_core.specs.State.{opens};
 ghost use Rattle.catalogue_core.specs.Bounds.{IsKept};
-ghost use Rattle.catalogue_core.specs.Units.{is_later};
+ghost use Rattle.visibility.specs.Marks.{is_later};
 ghost use Rattle.catalogue_statements.specs.Representation.{Represents};
 ghost use Rattle.office_tables.specs.Calls.{Answers, StoreAnswers};
 ghost use Rattle.office_tables.specs.Faults.{BlamesDisk};
@@ -28,10 +28,7 @@ use visibility::{Mark, clean_contents, clean_path, has_permit};
 pub fn is_closed(until: Option<Day>, today: Day) -> bool
     ensures { result ≡ is_later today until }
 {
-    match until {
-        None => false,
-        Some(until) => today.number() < until.number(),
-    }
+    visibility::is_closed(until.map(|until| until.number()), today.number())
 }
 
 /// Whether one of these permits is for the unit and valid on this day.

@@ -12,10 +12,10 @@ use isad_core::{BoxKey, List, Text};
 use std::alloc::{AllocError, Global};
 use std::collections::BTreeSet;
 
-// The containers that are known already, by name, location and kind.
+/// The containers that are known already, by name, location and kind.
 type Known<'a> = BTreeSet<(&'a str, &'a str, &'a str)>;
 
-// Keeps a container, and returns whether it is new.
+/// Keeps a container, and returns whether it is new.
 fn keep<'a>(
     known: &mut Known<'a>,
     name: &'a str,
@@ -30,7 +30,7 @@ fn keep<'a>(
     Ok(is_new)
 }
 
-// The entry at a place, or a blank one if there is none.
+/// The entry at a place, or a blank one if there is none.
 fn entry_at<'a>(entries: &[&'a str], i: usize) -> &'a str
     ensures { result.now ≡ spec.entry_at (borrowed_fields entries.now) i }
 {
@@ -47,7 +47,7 @@ fn box_key(alloc: Global, name: &str, location: &str, kind: &str) -> Result<BoxK
     })
 }
 
-// The containers so far.
+/// The containers so far.
 #[derive(Drop)]
 struct Kept<'a> {
     known: Known<'a>,
@@ -61,7 +61,7 @@ impl<'a> Kept<'a> {
     ghost use Rattle.atom_csv.specs.Fields.{has_no_bytes};
     ghost use Rattle.atom_csv.specs.KnownContainers.{HoldsContainers, box_with};
 
-    // Adds a container, unless its name is blank or it was added before.
+    /// Adds a container, unless its name is blank or it was added before.
     fn add(
         &mut self,
         alloc: Global,

@@ -14,7 +14,7 @@ use csv::StringRecord;
 use isad_core::Text;
 use isad_core::limits::{MOST_BYTES, MOST_ROWS};
 
-// The last row that is accepted. The header is row 1.
+/// The last row that is accepted. The header is row 1.
 const LAST_ROW: u32 = MOST_ROWS + 1;
 
 /// What is found in a record.
@@ -30,7 +30,7 @@ pub struct Findings {
     pub is_long: bool,
 }
 
-// Whether each field is blank.
+/// Whether each field is blank.
 fn is_blank(row: &StringRecord) -> bool
     ensures { result ≡ fields.is_blank (trimmed_fields row.now) }
 {
@@ -42,8 +42,7 @@ fn is_blank(row: &StringRecord) -> bool
     true
 }
 
-// Whether a record is a translation. `stood` is the culture of the first row with its legacyId, if
-// there is one.
+/// Whether a record is a translation. `stood` is the culture of the first row with its legacyId, if there is one.
 fn is_translation(header: &Header, row: &StringRecord, stood: Option<&Text>) -> bool
     ensures { result ≡ spec.is_translation header.now (trimmed_fields row.now) (option_map (λ t. t.now) stood.entry) }
 {
@@ -63,7 +62,7 @@ fn has_other_width(header: &Header, row: &StringRecord) -> bool
     row.len() != header.width()
 }
 
-// Whether a record names its parent only by a slug.
+/// Whether a record names its parent only by a slug.
 fn has_slug_alone(header: &Header, row: &StringRecord) -> bool
     ensures { result ≡ spec.has_slug_alone header.now (trimmed_fields row.now) }
 {
@@ -71,7 +70,7 @@ fn has_slug_alone(header: &Header, row: &StringRecord) -> bool
         && header.value(Column::ParentId, row).is_empty()
 }
 
-// Whether a field that is read is too long.
+/// Whether a field that is read is too long.
 fn is_long(header: &Header, row: &StringRecord) -> bool
     ensures { result ≡ spec.is_long header.now (trimmed_fields row.now) }
 {

@@ -13,7 +13,7 @@ use csv::StringRecord;
 use std::alloc::{AllocError, Global};
 use std::marker::Model;
 
-// The fields of a record, without white space at their ends.
+/// The fields of a record, without white space at their ends.
 fn names(alloc: Global, row: &StringRecord) -> Result<Vec<&str>, AllocError>
     ensures { IfOk result (λ v. borrowed_fields v.items ≡ trimmed_fields row.now) }
 {
@@ -24,28 +24,28 @@ fn names(alloc: Global, row: &StringRecord) -> Result<Vec<&str>, AllocError>
     Ok(names)
 }
 
-// The index of the first column with this name.
+/// The index of the first column with this name.
 fn place(header: &[&str], name: &str) -> Option<usize>
     ensures { result ≡ position (λ field. is_column_name name.now field.now) header.now }
 {
     header.iter().position(|field| *field == name)
 }
 
-// Whether a column has this name.
+/// Whether a column has this name.
 fn has(header: &[&str], name: &str) -> bool
     ensures { result ≡ list_any (λ field. is_column_name name.now field.now) header.now }
 {
     header.iter().any(|field| *field == name)
 }
 
-// How many columns have this name.
+/// How many columns have this name.
 fn count(header: &[&str], name: &str) -> usize
     ensures { result ≡ count_by (λ field. is_column_name name.now field.now) header.now }
 {
     header.iter().filter(|field| **field == name).count()
 }
 
-// Whether a column that is read occurs twice.
+/// Whether a column that is read occurs twice.
 fn has_twice(header: &[&str]) -> bool
     ensures { result ≡ list_any (λ column.
         nat_lt 1 (count_by (λ field. is_column_name (column_name column) field.now) header.now)) columns }
@@ -55,7 +55,7 @@ fn has_twice(header: &[&str]) -> bool
         .any(|column| count(header, column.name()) > 1)
 }
 
-// The index of each column that is read.
+/// The index of each column that is read.
 fn places(alloc: Global, header: &[&str]) -> Result<Vec<Option<usize>>, AllocError>
     ensures { IfOk result (λ v. v.items
         ≡ map (λ column. position (λ field. is_column_name (column_name column) field.now) header.now) columns) }
@@ -66,7 +66,7 @@ fn places(alloc: Global, header: &[&str]) -> Result<Vec<Option<usize>>, AllocErr
         .collect(alloc)
 }
 
-// The field of a record at an index, without white space at its ends; empty if there is none.
+/// The field of a record at an index, without white space at its ends; empty if there is none.
 fn field_at<'r>(row: &'r StringRecord, place: Option<usize>) -> &'r str
     ensures { result.now ≡ field_at_place place (trimmed_fields row.now) }
 {

@@ -12,7 +12,7 @@ use csv::StringRecord;
 use isad_core::Element;
 use std::alloc::{AllocError, Global};
 
-// Adds an entry to those before it. An empty entry adds nothing.
+/// Adds an entry to those before it. An empty entry adds nothing.
 fn add(text: &mut String, entry: &str) -> Result<(), AllocError>
     ensures { OnOk result (string_bytes text.new ≡ with_entry (string_bytes text.old) entry.now) }
 {
@@ -26,7 +26,7 @@ fn add(text: &mut String, entry: &str) -> Result<(), AllocError>
     Ok(())
 }
 
-// Adds the entries of a split column.
+/// Adds the entries of a split column.
 fn add_entries(text: &mut String, value: &str) -> Result<(), AllocError>
     ensures { OnOk result (string_bytes text.new ≡ fold with_entry (string_bytes text.old) (entries value.now)) }
 {
@@ -36,7 +36,7 @@ fn add_entries(text: &mut String, value: &str) -> Result<(), AllocError>
     Ok(())
 }
 
-// Adds the entries of a split column, or the one text of another column.
+/// Adds the entries of a split column, or the one text of another column.
 fn add_told(text: &mut String, column: Column, value: &str) -> Result<(), AllocError>
     ensures { OnOk result (string_bytes text.new
         ≡ fold with_entry (string_bytes text.old) (told_by column value.now)) }

@@ -95,8 +95,8 @@ pub fn a_fonds_and_a_series()
         }) }
 {}
 
-/// In a file that is read, no legacyId is blank or occurs twice, no text and no name of a container is
-/// blank, and no container occurs twice in a row.
+/// In a file that is read, no legacyId is blank or occurs twice, no text and no name of a container is blank, and no
+/// container occurs twice in a row.
 pub fn a_file_is_sound()
     ensures { (bytes : Bytes) (file : File) → file_of bytes ≡ Ok file → HasProperRows file }
 {}

@@ -10,6 +10,7 @@ mod findings;
 mod header;
 mod joined;
 pub mod laws;
+mod legacy;
 mod read;
 mod records;
 mod rows;
@@ -18,4 +19,5 @@ mod values;
 
 pub use cause::Cause;
 pub use file::{File, FileFault, Row};
+pub use legacy::remember;
 pub use read::read_file;

@@ -14,7 +14,7 @@ use crate::rows::Rows;
 use csv::{Reader, StringRecord};
 use std::alloc::Global;
 
-// Reads the records below the header.
+/// Reads the records below the header.
 fn below(alloc: Global, header: &Header, reader: &mut Reader<&[u8]>) -> Result<File, FileFault>
     requires { IsReading reader.old }
     ensures rows { IfOk result (λ f. spec.file_below header.now (map (map trimmed) (rows_left reader.old)) ≡ Ok f) }
@@ -34,7 +34,7 @@ fn below(alloc: Global, header: &Header, reader: &mut Reader<&[u8]>) -> Result<F
     })
 }
 
-// Reads the records of a text.
+/// Reads the records of a text.
 fn of_text(alloc: Global, text: &str) -> Result<File, FileFault>
     ensures rows { IfOk result (λ f. spec.of_records (spec.records_of text.now) ≡ Ok f) }
     ensures bad { IfErr result (λ e. IfBad e (λ at cause.

@@ -1,9 +1,8 @@
 //! The rows below a header.
 ghost use Rattle.std.specs.Prelude.{◌≡◌, ◌≤◌, if◌then◌else◌, codes, option_map};
-ghost use Rattle.std.specs.Prelude.{IfOk, OnOk, None, Some};
+ghost use Rattle.std.specs.Prelude.{IfOk, None};
 ghost use Rattle.std.specs.BTreeMap.{get_by_text};
-ghost use Rattle.std.specs.Str.{bytes_eq, str_eq_ignore_ascii_case};
-ghost use Rattle.isad_core.specs.Texts.{Bytes};
+ghost use Rattle.std.specs.Str.{str_eq_ignore_ascii_case};
 ghost use Rattle.atom_csv.specs.Fields.{trimmed_fields, has_no_bytes};
 ghost use Rattle.atom_csv.specs.Values.{nonblank};
 ghost use Rattle.atom_csv.specs.FileContents as spec;
@@ -12,13 +11,14 @@ use crate::column::Column;
 use crate::file::{FileFault, Row};
 use crate::findings::Findings;
 use crate::header::Header;
+use crate::legacy::remember;
 use crate::values::values;
 use csv::StringRecord;
 use isad_core::{List, Text};
 use std::alloc::{AllocError, Global};
 use std::collections::BTreeMap;
 
-// A text, or `None` if it is empty.
+/// A text, or `None` if it is empty.
 fn optional(alloc: Global, text: &str) -> Result<Option<Text>, AllocError>
     ensures { IfOk result (λ t. t ≡ nonblank text.now) }
 {
@@ -34,7 +34,7 @@ fn is_published(status: &str) -> bool
     status.eq_ignore_ascii_case("Published")
 }
 
-// The row that a record describes.
+/// The row that a record describes.
 fn row_of(
     alloc: Global,
     header: &Header,
@@ -52,10 +52,10 @@ fn row_of(
     })
 }
 
-// The culture of the first row with each legacyId.
+/// The culture of the first row with each legacyId.
 type Cultures = BTreeMap<String, Text>;
 
-// The culture of the first row with this legacyId. A blank legacyId has none.
+/// The culture of the first row with this legacyId. A blank legacyId has none.
 fn culture_of<'a>(cultures: &'a Cultures, id: &str) -> Option<&'a Text>
     ensures { option_map (λ t. t.now) result ≡ (if has_no_bytes id.now then None else get_by_text cultures.now id.now) }
 {
@@ -63,22 +63,6 @@ fn culture_of<'a>(cultures: &'a Cultures, id: &str) -> Option<&'a Text>
         return None;
     }
     cultures.get(id)
-}
-
-// Remembers the culture of a row.
-#[tactic(auto, using(std::proofs::lemmas::Map::Text::text_keys))]
-fn remember(
-    cultures: &mut Cultures,
-    alloc: Global,
-    id: &str,
-    culture: &str,
-) -> Result<(), AllocError>
-    ensures { OnOk result ((q : Bytes) → get_by_text cultures.new q
-        ≡ (if bytes_eq q id.now then Some culture.now else get_by_text cultures.old q)) }
-{
-    let key = String::from_str(alloc, id)?;
-    cultures.insert(key, Text::new(alloc, culture)?)?;
-    Ok(())
 }
 
 /// The rows and translations of the records so far.
@@ -142,9 +126,10 @@ impl Rows {
             self.translations += 1;
             return Ok(());
         }
-        let culture = header.value(Column::Culture, row);
-        remember(&mut self.cultures, alloc, id, culture)?;
-        self.rows.push(row_of(alloc, header, row, number)?)?;
+        let culture = Text::new(alloc, header.value(Column::Culture, row))?;
+        let described = row_of(alloc, header, row, number)?;
+        remember(&mut self.cultures, alloc, &described.legacy, culture)?;
+        self.rows.push(described)?;
         Ok(())
     }
 }

@@ -13,7 +13,7 @@ use isad_core::{Element, LINE_ELEMENTS, Text, Values};
 use std::alloc::{AllocError, Global};
 use std::array;
 
-// The text of an element, or `None` if it is empty.
+/// The text of an element, or `None` if it is empty.
 fn optional(
     alloc: Global,
     header: &Header,
@@ -29,7 +29,7 @@ fn optional(
     Ok(Some(Text(text)))
 }
 
-// The texts of all elements other than the level: code and title first, then those with a line of their own.
+/// The texts of all elements other than the level: code and title first, then those with a line of their own.
 fn texts(
     alloc: Global,
     header: &Header,

@@ -9,6 +9,7 @@ pub use Rattle.sqlite.specs.Tree.{Trees}
 pub use Rattle.tree_core.proofs.EachLemmas.{branch-each, cut-each, has-each}
 pub use Rattle.tree_core.specs.Forest.{Empty, Forest, HasDistinctIds, Node, branch, cut, each, has, has_place, join}
 pub use Rattle.tree_core.specs.Forest.{move_last, nodes, path, put_below, size, tree}
+pub use Rattle.visibility.specs.Marks.{IsNumbered, is_later}
 pub use Rattle.catalogue_core.proofs.DistinctLists.{all_so}
 pub use Rattle.catalogue_core.proofs.EachOf.{all_append, all_filtered, all_split}
 pub use Rattle.catalogue_core.proofs.GoodChanges.{CanMove, cut_good, each_good, move_good, move_same}
@@ -17,7 +18,7 @@ pub use Rattle.catalogue_core.specs.GoodCatalogues.{IsSomeDay}
 pub use Rattle.catalogue_core.specs.LegibleCatalogues.{HasLegibleTexts, IsLegibleCatalogue}
 pub use Rattle.catalogue_core.specs.Moves.{depth_after, height, is_into_itself, with_moved}
 pub use Rattle.catalogue_core.specs.UnitLookup.{has_unit}
-pub use Rattle.catalogue_core.specs.Units.{Unit, has_id, is_later, is_unit_closed}
+pub use Rattle.catalogue_core.specs.Units.{Unit, has_id, is_unit_closed}
 pub use Rattle.office_tables.specs.Step.{OnlyTouches}
 pub use Rattle.office_tables.specs.Versions.{Version}
 pub use Rattle.catalogue_statements.specs.Representation.{Represents}

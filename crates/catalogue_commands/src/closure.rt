@@ -2,7 +2,7 @@
 
 ghost use Rattle.std.specs.Prelude.{◌≡◌, true};
 ghost use Rattle.catalogue_core.specs.UnitLookup.{has_unit};
-ghost use Rattle.catalogue_core.specs.Units.{is_later};
+ghost use Rattle.visibility.specs.Marks.{is_later};
 ghost use Rattle.catalogue_core.specs.GoodCatalogues.{IsSomeDay};
 ghost use Rattle.office_core.specs.declared.command.Command.TheVariants as command;
 ghost use Rattle.refinement.specs.CommandSteps.{PerformsKnowing};
@@ -26,8 +26,8 @@ fn lasts_beyond(until: &Option<Day>, today: Day) -> bool
     }
 }
 
-/// Closes a unit that exists or ends its closure, or refuses if this would close a container to the
-/// reader who has it. A closure that is not in force today closes none.
+/// Closes a unit that exists or ends its closure, or refuses if this would close a container to the reader who has it.
+/// A closure that is not in force today closes none.
 fn close_known<P: Places, S: Alter>(
     alloc: Global,
     tables: &mut Tables<P, S>,

@@ -35,8 +35,7 @@ fn remove_beside<P: Places, S: Alter>(
     pass_gate_with(alloc, tables, today, loans, Done::Remove { units })
 }
 
-/// Removes a unit that exists and all below it, or refuses if this would close a container to the
-/// reader who has it.
+/// Removes a unit that exists and all below it, or refuses if this would close a container to the reader who has it.
 fn remove_known<P: Places, S: Alter>(
     alloc: Global,
     tables: &mut Tables<P, S>,

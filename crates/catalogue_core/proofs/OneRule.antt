@@ -132,7 +132,7 @@ module _ (day : ℤ) where
   -- ---- the units that are told, and the stubs
 
   stub_is : (u : Unit) (b : Bool) → C u ≡ true → is_told (stub_of u u.until) ≡ false
-  stub_is u b = elim u.until as (λ o. Rattle.catalogue_core.specs.Units.is_later day o ≡ true → is_told (stub_of u o) ≡ false) [ None ↦ λ e. absurd (false≢true e) | Some until ↦ λ e. refl ]
+  stub_is u b = elim u.until as (λ o. Rattle.visibility.specs.Marks.is_later day o ≡ true → is_told (stub_of u o) ≡ false) [ None ↦ λ e. absurd (false≢true e) | Some until ↦ λ e. refl ]
 
   alone_is : (w : List Unit) (u : Unit)
       → is_closed_alone day (w ++ u ∷ []) ≡ (not (list_any D w || D u) && (not (list_any C w) && (list_any C w || C u)))

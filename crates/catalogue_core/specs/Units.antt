@@ -1,8 +1,9 @@
 -- Units of description: their records, how they are identified, and when they are closed.
-use Rattle.std.specs.Prelude.{ℕ, ℤ, Bool, false, ◌&&◌, nat_eq, int_lt, Option, Some, None}
+use Rattle.std.specs.Prelude.{ℕ, ℤ, Bool, ◌&&◌, nat_eq, Option}
 use Rattle.std.specs.Str.{bytes_eq}
 use Rattle.isad_core.specs.Texts.{Bytes}
 use Rattle.isad_core.specs.declared.values.Values.{Values}
+use Rattle.visibility.specs.Marks.{is_later}
 
 pub record Unit : Type 0 where
   pub id : ℕ  -- its number in this office
@@ -19,11 +20,6 @@ has_id id unit = nat_eq id unit.id
 -- the unit is the one with this number in this source
 abbrev pub is_from : Bytes → Bytes → Unit → Bool
 is_from source legacy unit = bytes_eq unit.source source && bytes_eq unit.legacy legacy
-
--- a closure until a day ends on that day
-abbrev pub is_later : ℤ → Option ℤ → Bool
-is_later today None = false
-is_later today (Some until) = int_lt today until
 
 abbrev pub is_unit_closed : ℤ → Unit → Bool
 is_unit_closed today unit = is_later today unit.until

@@ -39,8 +39,8 @@ pub fn values_are_of_the_nearest()
     ensures { LinesAreNearest }
 {}
 
-/// What is published of a unit, by the drafts and closures on its path, is exactly what the forest that
-/// the public may know contains.
+/// What is published of a unit, by the drafts and closures on its path, is exactly what the forest that the public may
+/// know contains.
 pub fn the_published_stands_in_public()
     ensures published { PublishedInPublic }
     ensures public { PublicIsPublished }

@@ -1,5 +1,4 @@
-//! Laws about a file's rows that are entered one by one. Each function does nothing: its contract is
-//! the law.
+//! Laws about a file's rows that are entered one by one. Each function does nothing: its contract is the law.
 
 ghost use Rattle.std.specs.Prelude.{◌≡◌, List, Ok};
 ghost use Rattle.std.specs.Str.{bytes_eq};

@@ -42,7 +42,6 @@ pub use Rattle.sqlite_rules.proofs.ListLemmas.{some_has, test_from, test_has}
 pub use Rattle.sqlite_rules.specs.Lists.{Has}
 pub use Rattle.sqlite_schema.specs.Rules.{Keeps, Obeys, Refers, agree, has_null, has_parent, is_held, is_key_of}
 pub use Rattle.sqlite_schema.specs.Rules.{parent_key, references_fit}
-pub use Rattle.sqlite_schema.specs.declared.program.Program.{Program}
 pub use Rattle.sqlite_sql.specs.declared.ops.BinaryOp.TheVariants.{Arith, Compare, Is}
 pub use Rattle.sqlite_sql.specs.declared.ops.CompareOp.TheVariants.{Eq, Gt, Le}
 pub use Rattle.sqlite_trees.proofs.ListLemmas.{IsPermutation-filter, all-append, all-filter, all-get_or, all-map}
@@ -77,6 +76,7 @@ pub use Rattle.office_tables.proofs.Causes.{cause_then, counts_always, none_refu
 pub use Rattle.office_tables.proofs.Causes.{sums_nothing}
 pub use Rattle.office_tables.proofs.Fresh.{any_mapped}
 pub use Rattle.office_tables.proofs.InsertCauses.{IsWelcome, insert_cause, values_typed}
+pub use Rattle.office_tables.proofs.KnownStatements.{known_change, known_query}
 pub use Rattle.office_tables.proofs.LookUps.{Hands, looks_full, looks_ill, looks_not, looks_passed, looks_well}
 pub use Rattle.office_tables.proofs.Puts.{fresh_key, has_at, not_falling, not_taken, put_more, put_rises, put_rows}
 pub use Rattle.office_tables.proofs.Queries.{asking, choosing, chosen, plain_query}
@@ -109,13 +109,12 @@ pub use Rattle.office_tables.specs.Faults.{FaultsHaveCause, HasCause, IsUnlimite
 pub use Rattle.office_tables.specs.Order.{IsOrdered, Rises}
 pub use Rattle.office_tables.specs.OrderedInsertion.{put_by}
 pub use Rattle.office_tables.specs.Permits.{permit_cells}
-pub use Rattle.office_tables.specs.Query.{Finds, FindsFirst, FoundInside, Misses}
+pub use Rattle.office_tables.specs.Query.{Finds, FindsFirst, FoundInside, IsQuery, Misses}
 pub use Rattle.office_tables.specs.RowNumbers.{HasNumbered, HoldsNumbered}
 pub use Rattle.office_tables.specs.Schema.{container, element, housing, link, office, permit, place_table, schema}
 pub use Rattle.office_tables.specs.Schema.{to_unit, unit}
 pub use Rattle.office_tables.specs.StatementMeaning.{Means}
-pub use Rattle.office_tables.specs.Step.{Goes, HasRows, Holds, IsAborted, IsSame, LeavesUnchanged, OnlyTouches, PutsRow}
-pub use Rattle.office_tables.specs.Step.{Spares}
+pub use Rattle.office_tables.specs.Step.{Goes, HasRows, Holds, IsAborted, LeavesUnchanged, OnlyTouches, PutsRow, Spares}
 pub use Rattle.office_tables.specs.TableStatements.{Changes, LooksUp}
 pub use Rattle.office_tables.specs.Versions.{First, Second, Version, encoding, version_number}
 pub use Rattle.office_tables.specs.declared.fault.StoreFault.{StoreFault}

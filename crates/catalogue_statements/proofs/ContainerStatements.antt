@@ -4,21 +4,22 @@ use Rattle.std.proofs.Common.{IfOk, IfErr, Ordering, nat_eq, refl, sym, ap, ap‚Ç
 use Rattle.std.specs.Bool.{‚ä§}
 use Rattle.sqlite.specs.Listing.{understood}
 use Rattle.sqlite.specs.Source.TheVariants.{Values}
+use Rattle.sqlite_schema.specs.declared.program.Program.{Program}
 use Rattle.sqlite_tied.specs.Compute.{everything}
 use Rattle.sqlite_value.specs.Keys.{first_key}
 use Rattle.isad_core.specs.LegibleValues.{IsLegibleBox}
 use Rattle.office_tables.proofs.Limits.{limited_query, first_answers}
 use Rattle.catalogue_statements.proofs.Common.{AllByRecursion, Binary, BoxKey, Chosen, Command, Compare, Eq, Finds}
 use Rattle.catalogue_statements.proofs.Common.{HasCause, Holds, IfOk-weaker, Insert, Int, IsLive, IsOrdered}
-use Rattle.catalogue_statements.proofs.Common.{IsUnlimited, IsWelcome, Key, Means, Misses, Null, Program, PutsRow, Ran}
-use Rattle.catalogue_statements.proofs.Common.{Row, Select, Shown, State, StoreFault, Term, Text, Version, agree}
-use Rattle.catalogue_statements.proofs.Common.{all_caused, all_of, any_mapped, ascending, asking, both, by_container}
-use Rattle.catalogue_statements.proofs.Common.{by_one_int, cast_int, cast_null, col, container, edit_of, end, inner}
-use Rattle.catalogue_statements.proofs.Common.{insert_faults, insert_puts, int_cmp, is_same_box, kept_all, key_cmp}
-use Rattle.catalogue_statements.proofs.Common.{le_refl, list_any, lit, map-map, none_refuse, number_welcome}
-use Rattle.catalogue_statements.proofs.Common.{numbered_container_cells, only, op2, plain, read_cause, reads_as}
-use Rattle.catalogue_statements.proofs.Common.{same_bytes, same_number, schema, select_faults, select_finds}
-use Rattle.catalogue_statements.proofs.Common.{sums_nothing, take-map, then-Equal, value_cmp-Int, value_rows}
+use Rattle.catalogue_statements.proofs.Common.{IsUnlimited, IsWelcome, Key, Means, Misses, Null, PutsRow, Ran, Row}
+use Rattle.catalogue_statements.proofs.Common.{Select, Shown, State, StoreFault, Term, Text, Version, agree, all_caused}
+use Rattle.catalogue_statements.proofs.Common.{all_of, any_mapped, ascending, asking, both, by_container, by_one_int}
+use Rattle.catalogue_statements.proofs.Common.{cast_int, cast_null, col, container, edit_of, end, inner, insert_faults}
+use Rattle.catalogue_statements.proofs.Common.{insert_puts, int_cmp, is_same_box, kept_all, key_cmp, le_refl, list_any}
+use Rattle.catalogue_statements.proofs.Common.{lit, map-map, none_refuse, number_welcome, numbered_container_cells}
+use Rattle.catalogue_statements.proofs.Common.{only, op2, plain, read_cause, reads_as, same_bytes, same_number, schema}
+use Rattle.catalogue_statements.proofs.Common.{select_faults, select_finds, sums_nothing, take-map, then-Equal}
+use Rattle.catalogue_statements.proofs.Common.{value_cmp-Int, value_rows}
 
 -- a container under its number
 abbrev Numbered : Type 0

@@ -1,23 +1,19 @@
--- The statements on the office's row, and the counts: what their texts mean, what they leave or tell, and why they fail.
-use Rattle.std.proofs.Common.{◌≡◌, ℕ, pos, List, [], ◌∷◌, length, map, drop, codes, slice_get, true, false, Equal}
-use Rattle.std.proofs.Common.{Option, Some, Result, Ok, OnOk, IfOk, IfErr, refl, ap, ◌∙◌}
-use Rattle.std.proofs.lemmas.Bool.{both_ways}
-use Rattle.std.specs.Bool.{⊤}
+-- The statements on the office's row: what their texts mean, what they leave or tell, and why they fail. What the texts
+-- of the counts mean.
+use Rattle.std.proofs.Common.{◌≡◌, ℕ, pos, List, [], ◌∷◌, map, drop, codes, true, false, Equal, Result, OnOk, IfOk}
+use Rattle.std.proofs.Common.{IfErr, refl, ap, ◌∙◌}
 use Rattle.sqlite.specs.Listing.{understood}
 use Rattle.sqlite_tied.specs.Compute.{everything}
-use Rattle.office_tables.proofs.Counts.{summary_query, count_rows, counts}
-use Rattle.office_tables.specs.RowCounts.{cap}
+use Rattle.catalogue_statements.specs.CountQuery.{CountsRows}
 use Rattle.catalogue_statements.specs.Settings.{AreLegibleSettings}
-use Rattle.catalogue_statements.proofs.Common.{Binary, Command, Compare, Eq, Finds, FoundInside, HasCause, HasRows}
-use Rattle.catalogue_statements.proofs.Common.{IfOk-weaker, Int, IsLive, IsUnlimited, Key, Means, Misses, Null}
-use Rattle.catalogue_statements.proofs.Common.{OfficeRow, OnlyTouches, Program, Ran, Row, Select, Shown, State}
-use Rattle.catalogue_statements.proofs.Common.{StoreFault, Table, Term, Update, Version, accepts_program, all_caused}
-use Rattle.catalogue_statements.proofs.Common.{ascending, asking, by_one_int, cast_int, cast_null, cast_row, caused}
-use Rattle.catalogue_statements.proofs.Common.{choosing, col, container, counts_always, end, found_in, inner, kept_all}
-use Rattle.catalogue_statements.proofs.Common.{le_refl, lit, none_refuse, office, office_kept, office_row}
-use Rattle.catalogue_statements.proofs.Common.{one_permutation, only, op2, read_cause, reads_as, same_number, schema}
-use Rattle.catalogue_statements.proofs.Common.{select_faults, select_finds, settings_of_row, unit, update_faults}
-use Rattle.catalogue_statements.proofs.Common.{update_leaves, update_only, version_number}
+use Rattle.catalogue_statements.proofs.Common.{Binary, Command, Compare, Eq, Finds, HasCause, HasRows, IfOk-weaker, Int}
+use Rattle.catalogue_statements.proofs.Common.{IsLive, IsUnlimited, Key, Means, Misses, Null, OfficeRow, OnlyTouches}
+use Rattle.catalogue_statements.proofs.Common.{Ran, Row, Select, State, StoreFault, Term, Update, Version, ascending}
+use Rattle.catalogue_statements.proofs.Common.{asking, by_one_int, cast_int, cast_null, cast_row, choosing, col}
+use Rattle.catalogue_statements.proofs.Common.{container, le_refl, lit, office, office_kept, office_row}
+use Rattle.catalogue_statements.proofs.Common.{one_permutation, only, op2, same_number, schema, select_faults}
+use Rattle.catalogue_statements.proofs.Common.{select_finds, settings_of_row, unit, update_faults, update_leaves}
+use Rattle.catalogue_statements.proofs.Common.{update_only, version_number}
 
 -- what a row of the table tells: the version, and the rest
 abbrev Telling : Type 0
@@ -118,58 +114,16 @@ module _ (old new : State) (v : Version) (has : old.now.schema ≡ schema v) (ve
 
 -- ---- how many there are
 
-abbrev pub counting : Table → Program
-counting table = record { lets = []; body = summary_query (inner table.tree end) [] count_rows }
-
-abbrev pub number_cells : ℕ → Row
-number_cells n = Int (pos n) ∷ []
-
-module _ (old new : State) (v : Version) {A : Type 0} (table : Table) (row : A → Row) (xs : List A) (stored : old.now.trees table.tree ≡ map row xs)
-    (sql : List ℕ) (means : Means v sql 0 (Select (counting table) (codes "count(*)" ∷ []))) where
-  -- what the query shows first, and why it fails
-  abbrev Found : Option ℕ → Type 0
-  Found first = (all : List ℕ) × Finds number_cells sql [] old new all × (first ≡ slice_get all 0)
-
-  abbrev Missed : StoreFault → Type 0
-  Missed = Misses number_cells (λ _. ⊤) sql [] old new
-
-  counted : old.now.schema ≡ schema v → (rows : List Row) → Shown sql [] old new rows
-      → rows ≡ map number_cells (cap (length xs) ∷ [])
-  counted has rows shown =
-      let read = reads_as sql [] old new (schema v) has (Select (counting table) (codes "count(*)" ∷ [])) means.is means.plain means.unlisted rows shown in
-      counts table.tree [] old.now.trees [] row xs (λ _. true) stored (λ _. refl) rows (read.answer Null) ∙ ap (λ l. (Int (pos (cap (length l))) ∷ []) ∷ []) (kept_all xs)
-
-  -- the first number is the count
-  pub count_told : (first : Option ℕ) → FoundInside v old Found Missed (Ok first) → first ≡ Some (cap (length xs))
-  count_told first ran =
-      let it = found_in old first ran in
-      let found = it.1.1 in
-      it.1.2 ∙ ap (λ (l : List ℕ). slice_get l 0) (found.are (cap (length xs) ∷ []) (counted it.0 found.rows found.shown))
-
-  pub count_caused : (r : Result (Option ℕ) StoreFault) → FoundInside v old Found Missed r
-      → accepts_program (schema v) [] (summary_query (inner table.tree end) [] count_rows) [] ≡ true → IsUnlimited old
-      → IfErr r (HasCause old new)
-  count_caused r ran accepted free = caused old new r ran (λ it.
-      all_caused number_cells (λ _. ⊤) sql [] old new r it.2
-      (read_cause sql [] old new (schema v) it.0 (counting table) (codes "count(*)" ∷ []) means.is means.plain means.whole means.unlisted (λ db e refused. none_refuse refused (λ t. both_ways _ t accepted) (counts_always _ _)) free)
-      (λ rows shown. (cap (length xs) ∷ [], counted it.0 rows shown, (tt, tt))))
-
 abbrev pub count_units_text : List ℕ
 count_units_text = codes "SELECT count(*) FROM unit"
 
-abbrev pub count_units_command : Command
-count_units_command = Select (counting unit) (codes "count(*)" ∷ [])
-
-pub count_units_means : (v : Version) → Means v count_units_text 0 count_units_command
+pub counts_units : (v : Version) → CountsRows v unit count_units_text
 unfolding understood everything
-count_units_means v = record { is = refl; plain = (refl, refl); whole = (le_refl _, refl, refl); unlisted = refl }
+counts_units v = record { means = record { is = refl; plain = (refl, refl); whole = (le_refl _, refl, refl); unlisted = refl }; typed = refl }
 
 abbrev pub count_containers_text : List ℕ
 count_containers_text = codes "SELECT count(*) FROM container"
 
-abbrev pub count_containers_command : Command
-count_containers_command = Select (counting container) (codes "count(*)" ∷ [])
-
-pub count_containers_means : (v : Version) → Means v count_containers_text 0 count_containers_command
+pub counts_containers : (v : Version) → CountsRows v container count_containers_text
 unfolding understood everything
-count_containers_means v = record { is = refl; plain = (refl, refl); whole = (le_refl _, refl, refl); unlisted = refl }
+counts_containers v = record { means = record { is = refl; plain = (refl, refl); whole = (le_refl _, refl, refl); unlisted = refl }; typed = refl }

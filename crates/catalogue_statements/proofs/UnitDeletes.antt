@@ -12,6 +12,7 @@ use Rattle.sqlite_rules.specs.Action.{works, Work, pairs, loses, Settles, is_chi
 use Rattle.sqlite_rules.specs.Calls.{ids_of}
 use Rattle.sqlite_rules.specs.declared.action.Deed.TheVariants.{Delete}
 use Rattle.sqlite_schema.specs.Names.{same_name}
+use Rattle.sqlite_schema.specs.declared.program.Program.{Program}
 use Rattle.sqlite_schema.specs.declared.schema.Keys.TheVariants.{Enforced}
 use Rattle.sqlite_tied.specs.Compute.{everything}
 use Rattle.sqlite_value.specs.Keys.{joined, first_key}
@@ -21,12 +22,12 @@ use Rattle.office_tables.proofs.Updates.{deletes_rows}
 use Rattle.office_tables.specs.Schema as tables
 use Rattle.catalogue_statements.proofs.Common.{AllByRecursion, Answers, AreRemoved, Binary, Command, Compare, Database}
 use Rattle.catalogue_statements.proofs.Common.{DeletedWith, ElementRow, Eq, Executes, Given, HasNumbered, HousingRow}
-use Rattle.catalogue_statements.proofs.Common.{Int, IsPermutation, IsPlain, Null, OnlyTouches, PermitRow, Program}
-use Rattle.catalogue_statements.proofs.Common.{Rises, Row, State, Table, Trees, Unit, Version, by_number, cases_Bool}
-use Rattle.catalogue_statements.proofs.Common.{cells_of_unit, choosing, chosen, col, column, command_of, deleted_with}
-use Rattle.catalogue_statements.proofs.Common.{edit_of, element, element_row, eq-eqb, eqb-true, has_rowid, housing}
-use Rattle.catalogue_statements.proofs.Common.{housing_row, is_true, list_any, mode_of, one_permutation, only, op2}
-use Rattle.catalogue_statements.proofs.Common.{permit, permit_alone, permit_cells, plain, row_at, runs_as, same_nat}
+use Rattle.catalogue_statements.proofs.Common.{Int, IsPermutation, IsPlain, Null, OnlyTouches, PermitRow, Rises, Row}
+use Rattle.catalogue_statements.proofs.Common.{State, Table, Trees, Unit, Version, by_number, cases_Bool, cells_of_unit}
+use Rattle.catalogue_statements.proofs.Common.{choosing, chosen, col, column, command_of, deleted_with, edit_of}
+use Rattle.catalogue_statements.proofs.Common.{element, element_row, eq-eqb, eqb-true, has_rowid, housing, housing_row}
+use Rattle.catalogue_statements.proofs.Common.{is_true, list_any, mode_of, one_permutation, only, op2, permit}
+use Rattle.catalogue_statements.proofs.Common.{permit_alone, permit_cells, plain, row_at, runs_as, same_nat}
 use Rattle.catalogue_statements.proofs.Common.{same_number, schema, statement_of, taken_by, those_left, to_unit}
 use Rattle.catalogue_statements.proofs.Common.{touched, touched_then, touched_wider, unit, unit_tables, without_records}
 use Rattle.catalogue_statements.proofs.ElementStatements.{element_alone}

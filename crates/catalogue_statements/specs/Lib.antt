@@ -8,3 +8,4 @@ pub mod DescriptionRows
 pub mod Settings
 pub mod Values
 pub mod Standings
+pub mod CountQuery

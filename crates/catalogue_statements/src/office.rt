@@ -3,14 +3,17 @@
 ghost use Rattle.std.specs.Prelude.{◌≡◌, [], ◌∷◌, length, Some, OnOk, IfOk};
 ghost use Rattle.sqlite.specs.Held.{state};
 ghost use Rattle.sqlite.specs.State.{HasCleanDisk};
+ghost use Rattle.sqlite.specs.Table.{Table};
 ghost use Rattle.office_tables.specs.Premises.{◌gives◌};
 ghost use Rattle.office_tables.specs.Versions.{Version};
 ghost use Rattle.office_tables.specs.ChangeStatement.{Leaves};
+ghost use Rattle.office_tables.specs.Query.{IsQuery};
 ghost use Rattle.office_tables.specs.RowCounts.{cap};
 ghost use Rattle.office_tables.specs.Schema as schema;
 ghost use Rattle.office_tables.specs.Step.{Holds, HasRows};
 ghost use Rattle.office_tables.specs.TableStatements.{LooksUp};
 ghost use Rattle.catalogue_statements.specs.CallClauses.{ChangesOnly, FailsWithCause, OnlyReads};
+ghost use Rattle.catalogue_statements.specs.CountQuery.{CountsRows};
 ghost use Rattle.catalogue_statements.specs.Rows.{numbered_container_cells, office_row as row_of_office, cells_of_unit};
 ghost use Rattle.catalogue_statements.specs.Settings.{AreLegibleSettings};
 ghost use Rattle.catalogue_statements.specs.Representation.{RepresentsOffice};
@@ -87,6 +90,23 @@ pub fn find_office<P: Versioned, S: Alter>(
     )
 }
 
+/// The number that a query shows that counts the rows of a table.
+fn count<P: Versioned, S: Alter>(
+    alloc: Global,
+    tables: &mut Tables<P, S>,
+    sql: &str,
+) -> Result<u64, StoreFault>
+    requires { IsQuery P.version sql.now }
+    ensures { (table : Table) → CountsRows P.version table sql.now
+        → LooksUp S.Store (Holds table (λ row. row)) tables.old tables.new result
+        gives λ rows number. number ≡ cap (length rows) }
+{
+    let Some(number) = find_one(alloc, tables, sql, &[])? else {
+        return Err(StoreFault::Schema);
+    };
+    Ok(number)
+}
+
 /// How many units there are. SQL counts up to 2^63 - 1.
 pub fn count_units<P: Versioned, S: Alter>(
     alloc: Global,
@@ -95,10 +115,7 @@ pub fn count_units<P: Versioned, S: Alter>(
     ensures { LooksUp S.Store (Holds schema.unit cells_of_unit) tables.old tables.new result
         gives λ xs units. units ≡ cap (length xs) }
 {
-    let Some(units) = find_one(alloc, tables, "SELECT count(*) FROM unit", &[])? else {
-        return Err(StoreFault::Schema);
-    };
-    Ok(units)
+    count(alloc, tables, "SELECT count(*) FROM unit")
 }
 
 /// How many containers there are. SQL counts up to 2^63 - 1.
@@ -109,8 +126,5 @@ pub fn count_containers<P: Versioned, S: Alter>(
     ensures { LooksUp S.Store (Holds schema.container numbered_container_cells) tables.old tables.new result
         gives λ xs containers. containers ≡ cap (length xs) }
 {
-    let Some(containers) = find_one(alloc, tables, "SELECT count(*) FROM container", &[])? else {
-        return Err(StoreFault::Schema);
-    };
-    Ok(containers)
+    count(alloc, tables, "SELECT count(*) FROM container")
 }

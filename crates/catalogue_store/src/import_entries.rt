@@ -1,5 +1,4 @@
-//! Units that are entered separately from their places: the places of all new units of a file are
-//! added at once.
+//! Units that are entered separately from their places: the places of all new units of a file are added at once.
 
 ghost use Rattle.std.specs.Prelude.{ℕ, Option};
 ghost use Rattle.office_tables.specs.Premises.{◌when◌within◌gives◌};

@@ -21,8 +21,7 @@ pub fn worked_catalogue()
     ensures shown { Represents RepresentsLinkRows First example_database settings example_catalogue }
 {}
 
-/// A catalogue that knows its containers still knows them after a unit is added or gets other
-/// values.
+/// A catalogue that knows its containers still knows them after a unit is added or gets other values.
 pub fn containers_known()
     ensures added { (c : Catalogue) (parent : Option ℕ) (unit : Described) → KnowsItsContainers c
         → KnowsItsContainers (with_unit parent unit c) }

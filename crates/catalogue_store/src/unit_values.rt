@@ -43,8 +43,8 @@ pub struct UnitValues {
     pub containers: List<Number>,
 }
 
-/// The place among the texts of the element with this number. The numbers are 1 to 26 without 4,
-/// the level. Any other number has no place.
+/// The place among the texts of the element with this number. The numbers are 1 to 26 without 4, the level. Any other
+/// number has no place.
 fn place_of(k: u64) -> Option<usize>
     ensures place { IfSome result (λ place. k ≡ number_of_place place) }
     ensures small { IfSome result (λ place. place < 25) }

@@ -15,12 +15,12 @@ use clap::{Arg, Command, value_parser};
 use isad_core::limits::MOST_CONNECTIONS;
 use std::alloc::{AllocError, Global};
 
-// The text at the end of the program's help.
+/// The text at the end of the program's help.
 const EXITS: &str =
     "Exit status: 0 done; 1 refused, not sound or old version; 2 invalid arguments, date or settings;
 3 a fault of a file, the store, a port, a session or memory. Details are on standard error.";
 
-// `--name <VALUE>`, which is required.
+/// `--name <VALUE>`, which is required.
 fn option<'a>(alloc: Global, name: &'a str, value: &'a str, help: &'a str) -> Arg<'a>
     ensures rule { rule_of result ≡ wanted_option name.entry.now }
     ensures local { result.global ≡ false }
@@ -32,7 +32,7 @@ fn option<'a>(alloc: Global, name: &'a str, value: &'a str, help: &'a str) -> Ar
         .help(help)
 }
 
-// `--name <NUMBER>`, a number that fits in 32 bits, which is required.
+/// `--name <NUMBER>`, a number that fits in 32 bits, which is required.
 fn number<'a>(alloc: Global, name: &'a str, help: &'a str) -> Arg<'a>
     ensures rule { rule_of result ≡ wanted_number name.entry.now }
     ensures local { result.global ≡ false }
@@ -40,7 +40,7 @@ fn number<'a>(alloc: Global, name: &'a str, help: &'a str) -> Arg<'a>
     option(alloc, name, "NUMBER", help).value_parser(value_parser!(u32))
 }
 
-// `--port <PORT>`, a number from 1 to 65535, which is required.
+/// `--port <PORT>`, a number from 1 to 65535, which is required.
 fn port<'a>(alloc: Global) -> Arg<'a>
     ensures rule { rule_of result ≡ wanted_within (codes "port") 1 65535 }
     ensures local { result.global ≡ false }
@@ -50,7 +50,7 @@ fn port<'a>(alloc: Global) -> Arg<'a>
     ).range(1..))
 }
 
-// `--connections <NUMBER>`, a number from 1 to as many as a server takes, which is required.
+/// `--connections <NUMBER>`, a number from 1 to as many as a server takes, which is required.
 fn connections<'a>(alloc: Global) -> Arg<'a>
     ensures rule { rule_of result ≡ wanted_within (codes "connections") 1 most_connections }
     ensures local { result.global ≡ false }
@@ -64,7 +64,7 @@ fn connections<'a>(alloc: Global) -> Arg<'a>
     .value_parser(value_parser!(u32).range(1..=i64::from(MOST_CONNECTIONS)))
 }
 
-// `--store <STORE>`, which is required.
+/// `--store <STORE>`, which is required.
 fn store<'a>(alloc: Global) -> Arg<'a>
     ensures rule { rule_of result ≡ store_option }
     ensures local { result.global ≡ false }
@@ -72,7 +72,7 @@ fn store<'a>(alloc: Global) -> Arg<'a>
     option(alloc, "store", "STORE", "The file that holds the office")
 }
 
-// A file, which is optional.
+/// A file, which is optional.
 fn file<'a>(alloc: Global) -> Arg<'a>
     ensures rule { rule_of result ≡ optional_file }
     ensures local { result.global ≡ false }
@@ -82,7 +82,7 @@ fn file<'a>(alloc: Global) -> Arg<'a>
     )
 }
 
-// A file, which is required.
+/// A file, which is required.
 fn given_file<'a>(alloc: Global) -> Arg<'a>
     ensures rule { rule_of result ≡ wanted_file }
     ensures local { result.global ≡ false }
@@ -92,7 +92,7 @@ fn given_file<'a>(alloc: Global) -> Arg<'a>
         .help("The CSV file, in UTF-8, at most 20000 rows")
 }
 
-// The command with the repository's options.
+/// The command with the repository's options.
 fn with_repository<'a>(alloc: Global, command: Command<'a>) -> Result<Command<'a>, AllocError>
     ensures shape { IfOk result (λ c. shape_of c ≡ with_rules repository_options (shape_of command.entry)) }
     ensures local { (out-Command command.entry).has_globals ≡ false
@@ -113,7 +113,7 @@ fn with_repository<'a>(alloc: Global, command: Command<'a>) -> Result<Command<'a
         ))
 }
 
-// The command with the options of the reading room: its seats, and how many orders a reader may place per day.
+/// The command with the options of the reading room: its seats, and how many orders a reader may place per day.
 fn with_room<'a>(alloc: Global, command: Command<'a>) -> Result<Command<'a>, AllocError>
     ensures shape { IfOk result (λ c. shape_of c ≡ with_rules room_options (shape_of command.entry)) }
     ensures local { (out-Command command.entry).has_globals ≡ false
@@ -128,7 +128,7 @@ fn with_room<'a>(alloc: Global, command: Command<'a>) -> Result<Command<'a>, All
         ))
 }
 
-// The command with the options of the desk: how many containers a reader may have, and how many a run may fetch.
+/// The command with the options of the desk: how many containers a reader may have, and how many a run may fetch.
 fn with_desk<'a>(alloc: Global, command: Command<'a>) -> Result<Command<'a>, AllocError>
     ensures shape { IfOk result (λ c. shape_of c ≡ with_rules desk_options (shape_of command.entry)) }
     ensures local { (out-Command command.entry).has_globals ≡ false
@@ -143,7 +143,7 @@ fn with_desk<'a>(alloc: Global, command: Command<'a>) -> Result<Command<'a>, All
         .arg(number(alloc, "run", "Containers that one run may fetch, 1 to 100"))
 }
 
-// The command with the settings of an office, and the day on which it opens.
+/// The command with the settings of an office, and the day on which it opens.
 fn with_settings<'a>(alloc: Global, command: Command<'a>) -> Result<Command<'a>, AllocError>
     ensures shape { IfOk result (λ c. shape_of c ≡ with_rules settings_options (shape_of command.entry)) }
     ensures local { (out-Command command.entry).has_globals ≡ false
@@ -204,7 +204,7 @@ fn import<'a>(alloc: Global) -> Result<Command<'a>, AllocError>
         .arg(given_file(alloc))
 }
 
-// A command on an office in a file, without more options.
+/// A command on an office in a file, without more options.
 fn on_store<'a>(alloc: Global, name: &'a str, about: &'a str) -> Result<Command<'a>, AllocError>
     ensures shape { IfOk result (λ c. shape_of c ≡ store_command name.entry.now) }
     ensures local { IfOk result (λ c. (out-Command c).has_globals ≡ false) }
@@ -252,7 +252,7 @@ fn migrate<'a>(alloc: Global) -> Result<Command<'a>, AllocError>
     )
 }
 
-// The program without its commands.
+/// The program without its commands.
 fn base_command<'a>(alloc: Global) -> Result<Command<'a>, AllocError>
     ensures { IfOk result (λ c. app_of c ≡ bare_program) }
 {
@@ -265,7 +265,7 @@ fn base_command<'a>(alloc: Global) -> Result<Command<'a>, AllocError>
         .bin_name("record_office")
 }
 
-// Adds the commands that need no store, and the one that makes it.
+/// Adds the commands that need no store, and the one that makes it.
 fn with_new<'a>(alloc: Global, program: Command<'a>) -> Result<Command<'a>, AllocError>
     ensures { IfOk result (λ c. app_of c ≡ with_commands new_commands (app_of program.entry)) }
 {
@@ -275,7 +275,7 @@ fn with_new<'a>(alloc: Global, program: Command<'a>) -> Result<Command<'a>, Allo
         .subcommand(trial(alloc)?)
 }
 
-// Adds the commands that work on an office in a file.
+/// Adds the commands that work on an office in a file.
 fn with_work<'a>(alloc: Global, program: Command<'a>) -> Result<Command<'a>, AllocError>
     ensures { IfOk result (λ c. app_of c ≡ with_commands work_commands (app_of program.entry)) }
 {
@@ -285,7 +285,7 @@ fn with_work<'a>(alloc: Global, program: Command<'a>) -> Result<Command<'a>, All
         .subcommand(serve(alloc)?)
 }
 
-// Adds the commands that look after an office's file.
+/// Adds the commands that look after an office's file.
 fn with_care<'a>(alloc: Global, program: Command<'a>) -> Result<Command<'a>, AllocError>
     ensures { IfOk result (λ c. app_of c ≡ with_commands care_commands (app_of program.entry)) }
 {

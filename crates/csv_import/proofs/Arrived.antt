@@ -4,8 +4,8 @@ use Rattle.std.proofs.Common.{get_or, length, length-append, append_assoc, appen
 use Rattle.std.proofs.Common.{ap, ◌∙◌, subst, arith}
 use Rattle.csv_import.proofs.Common.{Arrival, Bytes, Catalogue, Forest, KnowsNumbers, KnowsUnits, Row, TellsParentOfNew}
 use Rattle.csv_import.proofs.Common.{Unit, arrival_at, arrivals_from, arrivals_of, bytes_eq, drop_all, drop_more}
-use Rattle.csv_import.proofs.Common.{is_known, new_of, number_there, option_and_then, or_there, parent_number}
-use Rattle.csv_import.proofs.KnownUnits.{row_told}
+use Rattle.csv_import.proofs.Common.{is_known, is_some, new_of, number_there, option_and_then, or_there, parent_number}
+use Rattle.csv_import.proofs.KnownUnits.{known_here, row_told}
 
 module _ (f : Forest Unit) (source : Bytes) (next : ℕ) where
   -- the rest of the rows is to be looked at; of the others it is told what they bring
@@ -79,6 +79,23 @@ module _ {f : Forest Unit} {source : Bytes} {next : ℕ} where
   all_told {numbers = numbers} {told = told} {all = all} i here behind =
       let it = subst (AreTold f source next numbers told all) (drop_all i all behind) here in
       sym (it.are ∙ append-nil told)
+
+-- ---- what a row brings, by the number that is kept for it
+
+module _ (c : Catalogue) (source : Bytes) (row : Row) {kept : Option ℕ} (is : kept ≡ number_there c source row.legacy) (n : ℕ) (above : List Row) where
+  abbrev brings : Bool → Option ℕ → Option Arrival
+  brings known parent = cond known None (Some (record { unit = n; parent = parent }))
+
+  abbrev parent_here : Option ℕ
+  parent_here = option_and_then (parent_number c.forest source n above) row.parent
+
+  pub none_here : {unit : ℕ} → kept ≡ Some unit → None ≡ arrival_at c.forest source n above row
+  none_here some = sym (ap (λ b. brings b parent_here) (known_here c source row is refl (ap is_some some)))
+
+  pub one_here : {parent : Option ℕ} → kept ≡ None → parent ≡ parent_here
+      → Some (record { unit = n; parent = parent }) ≡ arrival_at c.forest source n above row
+  one_here none at_parent =
+      ap (brings false) at_parent ∙ sym (ap (λ b. brings b parent_here) (known_here c source row is refl (ap is_some none)))
 
 -- ---- the row at its turn, as it is told what it brings by the number that comes next
 

@@ -3,6 +3,8 @@ use Rattle.std.proofs.Common.{◌≡◌, ℕ, ℤ, Bool, true, false, cond, ◌�
 use Rattle.std.proofs.Common.{Result, Ok, Err, refl, sym, ap, subst, ◌∙◌}
 use Rattle.sqlite.specs.State as store
 use Rattle.sqlite_trees.specs.declared.store.Store as kept_in
+use Rattle.atom_csv.specs.Causes.{cause_number}
+use Rattle.atom_csv.specs.declared.cause.Cause.{Cause}
 use Rattle.desk_core.specs.declared.refusal.Refusal.{Refusal}
 use Rattle.catalogue_statements.specs.Settings.{AreLegibleSettings}
 use Rattle.desk_store.specs.Representation.{RepresentsDesk}
@@ -28,7 +30,7 @@ use Rattle.csv_import.proofs.Common.{HasNumberedUnits, HaveUnits, Held, IsAborte
 use Rattle.csv_import.proofs.Common.{KnowsUnits, LeavesUnchanged, OfficeRow, Remark, Reply, Represents}
 use Rattle.csv_import.proofs.Common.{RepresentsEntering, RepresentsLegible, RepresentsNumbered, RepresentsSettings}
 use Rattle.csv_import.proofs.Common.{RepresentsState, Row, StoreFault, Trees, Updates, Version, accepted, after}
-use Rattle.csv_import.proofs.Common.{catalogue_after, catalogue_trees, counts_of, cut_then, does_then, early}
+use Rattle.csv_import.proofs.Common.{by_number, catalogue_after, catalogue_trees, counts_of, cut_then, does_then, early}
 use Rattle.csv_import.proofs.Common.{excused_then, file_of, first_that_holds, gate, goes_then, has_room, import_outcome}
 use Rattle.csv_import.proofs.Common.{is_refused, is_source, le-ltb, ltb-false, most_containers, nat_lt, next_with_room}
 use Rattle.csv_import.proofs.Common.{number_there, office_of, office_settings, on_err_then, on_ok_then, plan_of}
@@ -242,12 +244,12 @@ IsPlaced today source file numbers new s =
     (today ≡ s.day) × (is_source source ≡ true) × CanBePlaced source file new s × KnowsUnits s.catalogue source file.rows numbers
 
 -- the plan was made of the rows as they are told
-planned_so : {places : Trees → Forest ℕ → Type 0} {version : Version} {today : ℤ} {source : Bytes} (file : File) {numbers : Bytes → Option ℕ} {rows : List Row} {plan : Planned} (a b : store.State)
+planned_so : {places : Trees → Forest ℕ → Type 0} {version : Version} {today : ℤ} {source : Bytes} (file : File) {numbers : Bytes → Option ℕ} {rows : List Row} (plan : Planned) (a b : store.State)
     → rows ≡ file.rows
-    → (HasCleanDisk b → (o : OfficeRow) (k : Catalogue) → Represents places version a.now o k → AreGoodUnits k → (q : Bytes) → KnowsUnits k q rows numbers → plan ≡ plan_of k.forest q rows)
+    → (HasCleanDisk b → (o : OfficeRow) (k : Catalogue) → Represents places version a.now o k → AreGoodUnits k → (q : Bytes) → KnowsUnits k q rows numbers → by_number plan ≡ plan_of k.forest q rows)
     → HasCleanDisk b → (s : State) → IsSoundOffice s → IsLookedUp today source file numbers s
-    → RepresentsState places version a.now s → plan ≡ plan_of s.catalogue.forest source file.rows
-planned_so {source = source} file {numbers = numbers} a b same planned clean s sound so it =
+    → RepresentsState places version a.now s → by_number plan ≡ plan_of s.catalogue.forest source file.rows
+planned_so {source = source} file {numbers = numbers} plan a b same planned clean s sound so it =
     planned clean (office_of s) s.catalogue it.catalogue sound.sound.units source (subst (λ (rs : List Row). KnowsUnits s.catalogue source rs numbers) (sym same) so.2) ∙ ap (plan_of s.catalogue.forest source) same
 
 module _ {places : Trees → Forest ℕ → Type 0} {version : Version} {today : ℤ} {source bytes : Bytes} {file : File} (read : file_of bytes ≡ Ok file) {numbers : Bytes → Option ℕ} {rows : List Row} (same : rows ≡ file.rows) {a b : store.State} (looked : LeavesUnchanged a b) where
@@ -258,16 +260,16 @@ module _ {places : Trees → Forest ℕ → Type 0} {version : Version} {today :
   when_known result_of last = does_then looked last (λ clean s sound so it.
       (so.0, so.1, subst (λ (rs : List Row). KnowsUnits s.catalogue source rs numbers) same (result_of clean (office_of s) s.catalogue (entering_of version a.now (office_of s) s.catalogue it.catalogue.catalogue) sound.sound.units)))
 
-  module _ {plan : Planned} (planned : HasCleanDisk b → (o : OfficeRow) (k : Catalogue) → Represents places version a.now o k → AreGoodUnits k → (q : Bytes) → KnowsUnits k q rows numbers → plan ≡ plan_of k.forest q rows) where
+  module _ {plan : Planned} (planned : HasCleanDisk b → (o : OfficeRow) (k : Catalogue) → Represents places version a.now o k → AreGoodUnits k → (q : Bytes) → KnowsUnits k q rows numbers → by_number plan ≡ plan_of k.forest q rows) where
     pub when_placed : {new : ℕ} {c : store.State} {r : Result Reply StoreFault} → plan ≡ plans.Fits new
         → CarriesOut places version (IsPlaced today source file numbers new) (command.Import source bytes) b c r
         → CarriesOut places version (IsLookedUp today source file numbers) (command.Import source bytes) a c r
-    when_placed {new = new} is last = does_then looked last (λ clean s sound so it. (so.0, so.1, fits_planned s source file new (sym is ∙ planned_so file a b same planned clean s sound so it), so.2))
+    when_placed {new = new} is last = does_then looked last (λ clean s sound so it. (so.0, so.1, fits_planned s source file new (sym (ap by_number is) ∙ planned_so file plan a b same planned clean s sound so it), so.2))
 
-    pub refused_row : {row cause : ℕ} → plan ≡ plans.Faulty row cause
-        → CarriesOut places version (IsLookedUp today source file numbers) (command.Import source bytes) a b (Ok (Err (BadFile row cause)))
-    refused_row {row} {cause} is =
-        is_refused looked (λ clean s sound so it. faulty s source bytes file read sound so.1 row cause (sym is ∙ planned_so file a b same planned clean s sound so it))
+    pub refused_row : {row number : ℕ} {cause : Cause} → plan ≡ plans.Faulty row cause → number ≡ cause_number cause
+        → CarriesOut places version (IsLookedUp today source file numbers) (command.Import source bytes) a b (Ok (Err (BadFile row number)))
+    refused_row {row} {number} is numbered =
+        is_refused looked (λ clean s sound so it. faulty s source bytes file read sound so.1 row number (ap (λ n. Err (row, n)) numbered ∙ sym (ap by_number is) ∙ planned_so file plan a b same planned clean s sound so it))
 
   module _ {new : ℕ} {found : Option ℕ} (result_of : HasCleanDisk b → (k : Catalogue) (o : OfficeRow) → RepresentsSettings places version a.now k o → found ≡ next_with_room new k) where
     pub when_roomy : {next : ℕ} {c : store.State} {r : Result Reply StoreFault} → found ≡ Some next

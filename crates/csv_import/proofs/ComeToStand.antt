@@ -172,12 +172,12 @@ may_join source rows next c it =
     (all.can, omega (arith, many, same, is, few))
 
 -- the units that rows bring
-module _ {source : Bytes} {rows : List Row} {numbers : Bytes → Option ℕ} {next : ℕ} {arrivals : List Arrival} {c : Catalogue} (bring : BringUnits source rows numbers next arrivals c) where
+module _ {source : Bytes} {rows : List Row} {numbers : Bytes → Option ℕ} {next : ℕ} {units : List ℕ} {arrivals : List Arrival} {c : Catalogue} (bring : BringUnits source rows numbers next units arrivals c) where
   pub brought_join : MayJoin arrivals (ids c.forest)
-  brought_join = subst (λ l. MayJoin l (ids c.forest)) (sym bring.units) (may_join source rows next c bring.come)
+  brought_join = subst (λ l. MayJoin l (ids c.forest)) (sym bring.new) (may_join source rows next c bring.come)
 
   pub brought_stand : added arrivals (ids c.forest) ≡ ids (catalogue_after source rows c).forest
-  brought_stand = ap (λ l. added l (ids c.forest)) bring.units ∙ (come_to_stand source rows next c bring.come).ends
+  brought_stand = ap (λ l. added l (ids c.forest)) bring.new ∙ (come_to_stand source rows next c bring.come).ends
 
   pub brought_kept : IsKept c
   brought_kept =

@@ -5,12 +5,15 @@ pub use Rattle.std.proofs.lemmas.Bool.{or_parts, or_right}
 pub use Rattle.std.proofs.lemmas.List.{at_drop_all, drop_all, drop_more, get_or-map, length-map, length_push, take_all}
 pub use Rattle.std.proofs.lemmas.List.{take_more}
 pub use Rattle.std.proofs.lemmas.List.Sorted.{IsPermutation-refl, length_permutation}
+pub use Rattle.std.proofs.lemmas.Slice.Zip.{zip_end, zip_turn}
 pub use Rattle.std.specs.BTreeMap.{get_by_text}
 pub use Rattle.std.specs.BTreeSet.{contains_text}
+pub use Rattle.std.specs.Iterator.Adapters.{zip_first, zip_second}
 pub use Rattle.std.specs.List.{AllByRecursion, cons_option, enumerate_from, flat_map, list_all, list_any}
 pub use Rattle.std.specs.Option.{option_eq, option_map_or, option_to_list}
 pub use Rattle.std.specs.Prelude.{IfOk, IfSome, IsErr, IsErrAnd, IsOk, count_by, filter, filter_map, find, is_some}
 pub use Rattle.std.specs.Prelude.{nat_le, nat_lt, option_and_then, option_map, slice_get, unwrap_or, ⊤, ◌==◌}
+pub use Rattle.std.specs.Slice.Iter.{iter_rest}
 pub use Rattle.std.specs.Str.{bytes_eq}
 pub use Rattle.sqlite.specs.Effect.{Database}
 pub use Rattle.sqlite.specs.Held.{Held, state}
@@ -95,6 +98,6 @@ pub use Rattle.csv_import.specs.Remarks.{HasEntered, HasItsUnit, HasParent, Have
 pub use Rattle.csv_import.specs.Remarks.{number_above}
 pub use Rattle.csv_import.specs.RowEntry.{CanEnter, RepresentsEntering, RepresentsLegible, boxes_named, catalogue_after}
 pub use Rattle.csv_import.specs.RowEntry.{counts_of, or_as_before}
-pub use Rattle.csv_import.specs.RowPlan.{KnowsDepths, as_plan, at_depth, new_of, or_there, placing_of, plan_of}
-pub use Rattle.csv_import.specs.Turns.{AreToCome, IsTurn, IsTurnOf, MayChange, MayCome, count_entry, entry_of}
+pub use Rattle.csv_import.specs.RowPlan.{KnowsDepths, at_depth, by_number, new_of, or_there, placing_of, plan_of}
+pub use Rattle.csv_import.specs.Turns.{AreToCome, IsTurn, IsTurnOfUnit, MayChange, MayCome, count_entry, entry_of}
 pub use Rattle.csv_import.specs.declared.row_entry.Counts.{Counts}

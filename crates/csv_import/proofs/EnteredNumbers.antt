@@ -1,12 +1,12 @@
 -- The numbers of rows' units, once the rows are entered.
-use Rattle.std.proofs.Common.{◌≡◌, ℕ, ◌+◌, Bool, true, false, not, cond, List, [], ◌∷◌, map, Option, Some, None, refl}
-use Rattle.std.proofs.Common.{sym, ap, ap₂, ◌∙◌, subst}
+use Rattle.std.proofs.Common.{◌≡◌, ℕ, ◌+◌, true, false, cond, List, [], ◌∷◌, map, Option, Some, None, refl, sym, ap}
+use Rattle.std.proofs.Common.{ap₂, ◌∙◌, subst}
 use Rattle.catalogue_core.proofs.EachOf.{none_found}
 use Rattle.csv_import.proofs.Common.{AllByRecursion, AreToCome, Bytes, Catalogue, IsTurn, Row, TellsUnits, Unit}
-use Rattle.csv_import.proofs.Common.{and_from, and_then, bytes_eq, catalogue_after, is_from, is_new, is_some, new_at}
-use Rattle.csv_import.proofs.Common.{new_unit, nodes, number_there, option_map, or_as_before, other_way, placed_added}
-use Rattle.csv_import.proofs.Common.{same_text, units_from, unwrap_or, with_rows}
-use Rattle.csv_import.proofs.KnownUnits.{is_known_by, known_still, number_still, valued_still}
+use Rattle.csv_import.proofs.Common.{and_from, and_then, bytes_eq, catalogue_after, is_from, is_new, new_at, new_unit}
+use Rattle.csv_import.proofs.Common.{nodes, number_there, option_map, or_as_before, other_way, placed_added, same_text}
+use Rattle.csv_import.proofs.Common.{units_from, unwrap_or, with_rows}
+use Rattle.csv_import.proofs.KnownUnits.{counts_new, known_still, number_still, valued_still}
 use Rattle.csv_import.proofs.OneRow.{entered_known, entered_new, may_come, none_there}
 use Rattle.csv_import.proofs.RowsToCome.{one_entered}
 
@@ -75,16 +75,10 @@ units_told source (row ∷ rows) next c numbers come told =
     let first = entered_first source row rows next c come in
     let after = catalogue_after source (row ∷ []) c in
     let on = next + cond (is_new c.forest source row) 1 0 in
-    let new : ◌≡◌ {A = ℕ} (cond (is_new c.forest source row) 1 0) (cond (is_some (numbers row.legacy)) 0 1) =
-    ap {B = ℕ} (λ (b : Bool). cond (not b) 1 0) (sym (is_known_by c source row) ∙ ap is_some (sym told.0))
-    ∙ flipped (is_some (numbers row.legacy)) in
+    let new = counts_new c source row told.0 in
     ap₂ (λ o os. o ∷ os)
     (ap (λ o. Some (unwrap_or o next)) told.0 ∙ (sym (its_number source row next c it.turn)
     ∙ (sym (rest_still source rows on after row.legacy (rest_comes source row rows next c come) (turned row.legacy rows come.told.once.0)) ∙ ap (λ d. number_there d source row.legacy) (sym first))))
     (ap (λ n. map Some (units_from numbers (next + n) rows)) (sym new)
     ∙ (units_told source rows on after numbers (rest_comes source row rows next c come) (known_still source row rows next c numbers come told.1)
     ∙ ap (λ d. map (λ (r : Row). number_there d source r.legacy) rows) (sym first)))
-  where
-    flipped : (b : Bool) → ◌≡◌ {A = ℕ} (cond (not b) 1 0) (cond b 0 1)
-    flipped true = refl
-    flipped false = refl

@@ -1,17 +1,20 @@
 -- The units of a file's rows and their parents, known by their numbers in the source, and known still as rows are entered.
 use Rattle.std.proofs.Common.{◌≡◌, ℕ, Bool, true, false, not, cond, ◌&&◌, ◌||◌, ◌<◌, ◌≤◌, ◌+◌, ◌++◌, length, get_or}
-use Rattle.std.proofs.Common.{List, [], ◌∷◌, Option, Some, None, append_assoc, arith, refl, sym, ap, ◌∙◌, subst}
+use Rattle.std.proofs.Common.{List, [], ◌∷◌, Option, Some, None, append_assoc, arith, refl, sym, ap, ap₂, ◌∙◌, subst}
+use Rattle.std.proofs.Common.{min, suc}
 use Rattle.std.specs.Prelude.{drop, take}
 use Rattle.catalogue_core.proofs.EachOf.{none_found}
 use Rattle.csv_import.specs.declared.row_entry.Entry.{Entry}
 use Rattle.csv_import.proofs.Common.{AllByRecursion, AreToCome, Bytes, Catalogue, Counts, IfSome, IsAsked, IsTurn}
-use Rattle.csv_import.proofs.Common.{IsTurnOf, KnowsAsked, KnowsUnits, Row, TellsParentOfNew, TellsUnits, Unit, Values}
-use Rattle.csv_import.proofs.Common.{alike_each, all-get_or, all_append, all_so, bytes_eq, catalogue_after}
-use Rattle.csv_import.proofs.Common.{catalogued_unit, count_entry, drop_more, entry_of, false≢true, find, has_id}
-use Rattle.csv_import.proofs.Common.{is_from, is_known, is_some, new_at, new_unit, nodes, number_there, one_text}
-use Rattle.csv_import.proofs.Common.{option_map, same_added, some_found, take_all, take_more, units_from, unwrap_or}
-use Rattle.csv_import.proofs.Common.{with_new, with_values}
-use Rattle.csv_import.proofs.OneRow.{entered_known, entered_new}
+use Rattle.csv_import.proofs.Common.{IsTurnOfUnit, KnowsAsked, KnowsUnits, Row, TellsParentOfNew, TellsUnits, Unit}
+use Rattle.csv_import.proofs.Common.{Values, alike_each, all-get_or, all_append, all_so, and_then, bytes_eq}
+use Rattle.csv_import.proofs.Common.{catalogue_after, catalogued_unit, count_entry, drop_more, entry_of, false≢true}
+use Rattle.csv_import.proofs.Common.{find, has_id, is_from, is_known, is_new, is_some, le-ltb, lt-ltb, nat_lt, new_at}
+use Rattle.csv_import.proofs.Common.{new_unit, nodes, number_there, one_text, option_map, or_as_before, same_added}
+use Rattle.csv_import.proofs.Common.{some_found, take_all, take_more, units_from, unwrap_or, with_new, with_rows}
+use Rattle.csv_import.proofs.Common.{with_values}
+use Rattle.csv_import.proofs.OneRow.{entered_known, entered_new, was_given}
+use Rattle.csv_import.proofs.Pairs.{ArePair}
 use Rattle.csv_import.proofs.RowsToCome.{AllCome, HaveCome, all_come, at_end, from_here, next_comes, none_come}
 use Rattle.csv_import.proofs.RowsToCome.{one_entered}
 
@@ -258,38 +261,96 @@ module _ (numbers : Bytes → Option ℕ) (rows : List Row) (i n : ℕ) (items :
 
 -- ---- rows that are entered one after another
 
+-- a row is new where no number is known for its unit
+pub counts_new : (c : Catalogue) (source : Bytes) (row : Row) {o : Option ℕ} → o ≡ number_there c source row.legacy
+    → ◌≡◌ {A = ℕ} (cond (is_new c.forest source row) 1 0) (cond (is_some o) 0 1)
+counts_new c source row {o} is =
+    ap {B = ℕ} (λ (b : Bool). cond (not b) 1 0) (sym (is_known_by c source row) ∙ ap is_some (sym is))
+    ∙ flipped (is_some o)
+  where
+    flipped : (b : Bool) → ◌≡◌ {A = ℕ} (cond (not b) 1 0) (cond b 0 1)
+    flipped true = refl
+    flipped false = refl
+
+-- a catalogued unit has a number below the first new one
+below_first : (o : Option ℕ) (unit first new : ℕ) → unit ≡ unwrap_or o (first + new) → IfSome o (λ id. id < first)
+    → nat_lt unit first ≡ is_some o
+below_first None unit first new is given = le-ltb unit first (omega (arith, is))
+below_first (Some id) unit first new is given = lt-ltb unit first (omega (arith, is, given))
+
+-- the unit at this index, and those after it
+unit_here : (numbers : Bytes → Option ℕ) (rows : List Row) (units : List ℕ) (i n : ℕ) {row : Row} {unit : ℕ}
+    → ArePair rows units i row unit → drop i units ≡ units_from numbers n (drop i rows)
+    → (unit ≡ unwrap_or (numbers row.legacy) n) × (drop (i + 1) units ≡ units_from numbers (n + cond (is_some (numbers row.legacy)) 0 1) (drop (i + 1) rows))
+unit_here numbers rows units i n {row} {unit} pair are =
+    let these : unit ∷ drop (i + 1) units ≡ units_from numbers n (row ∷ drop (i + 1) rows) =
+    sym (drop_more units i unit pair.within ∙ ap (λ u. u ∷ drop (i + 1) units) (sym pair.second))
+    ∙ (are ∙ ap (units_from numbers n) (drop_more rows i row pair.low ∙ ap (λ (r : Row). r ∷ drop (i + 1) rows) (sym pair.first))) in
+    (ap (λ l. get_or l 0 unit) these, ap (drop 1) these)
+
+length_units : (numbers : Bytes → Option ℕ) (n : ℕ) (rows : List Row)
+    → length (units_from numbers n rows) ≡ length rows
+length_units numbers n [] = refl
+length_units numbers n (row ∷ rows) =
+    ap suc (length_units numbers (n + cond (is_some (numbers row.legacy)) 0 1) rows)
+
 -- those before this index are entered, and it is told still which units the others have
-pub record AreComing (source : Bytes) (rows : List Row) (numbers : Bytes → Option ℕ) (next i : ℕ) (counts : Counts) (c d : Catalogue) : Type 0 where
+pub record AreComing (source : Bytes) (rows : List Row) (numbers : Bytes → Option ℕ) (units : List ℕ) (next i : ℕ) (counts : Counts) (c d : Catalogue) : Type 0 where
   pub come : HaveCome source rows (drop i rows) next counts c d
   pub told : TellsUnits d source (drop i rows) numbers
+  pub each : drop i units ≡ units_from numbers (next + counts.new) (drop i rows)
 
-pub first_comes : {source : Bytes} {rows : List Row} {numbers : Bytes → Option ℕ} {next : ℕ} {c : Catalogue}
-    → AreToCome source rows next c → TellsUnits c source rows numbers
-    → AreComing source rows numbers next 0 (record { changed = 0; new = 0; same = 0 }) c c
-first_comes {source} {rows} {numbers} {next} {c} come told =
-    record { come = none_come source rows next c come; told = told }
+pub first_comes : {source : Bytes} {rows : List Row} {numbers : Bytes → Option ℕ} {units : List ℕ} {next : ℕ} {c : Catalogue}
+    → AreToCome source rows next c → TellsUnits c source rows numbers → units ≡ units_from numbers next rows
+    → AreComing source rows numbers units next 0 (record { changed = 0; new = 0; same = 0 }) c c
+first_comes {source} {rows} {numbers} {units} {next} {c} come told each = record {
+  come = none_come source rows next c come;
+  told = told;
+  each = (let same : next ≡ next + 0 = omega arith in each ∙ ap (λ n. units_from numbers n rows) same);
+}
 
-module _ {source : Bytes} {rows : List Row} {numbers : Bytes → Option ℕ} {next i : ℕ} {counts : Counts} {c d : Catalogue} (coming : AreComing source rows numbers next i counts c d) where
+module _ {source : Bytes} {rows : List Row} {numbers : Bytes → Option ℕ} {units : List ℕ} {next i : ℕ} {counts : Counts} {c d : Catalogue} (coming : AreComing source rows numbers units next i counts c d) {row : Row} {unit : ℕ} (pair : ArePair rows units i row unit) where
   -- the row at this index has its turn, with the number that is told of it
-  pub its_turn : {row : Row} {number : Option ℕ} → i < length rows → row ≡ get_or rows i row → number ≡ numbers row.legacy
-      → IsTurnOf source row number (next + counts.new) d
-  its_turn {row} low is given =
-      let have = from_here source rows next counts c d i row low (sym is) coming.come in
-      let told = told_here d source rows numbers i row low (sym is) coming.told in
-      ((one_entered source row (drop (i + 1) rows) (next + counts.new) d have.come).turn, given ∙ told.0)
-
-  -- it is entered, and then come the others
-  pub others_come : {row : Row} {became : Entry} {after : Counts} → i < length rows → row ≡ get_or rows i row
-      → became ≡ entry_of (catalogued_unit d.forest source row) row.values → after ≡ count_entry became counts
-      → AreComing source rows numbers next (i + 1) after c (catalogue_after source (row ∷ []) d)
-  others_come {row} {became} {after} low is does counted =
-      let rest = drop (i + 1) rows in
-      let have = from_here source rows next counts c d i row low (sym is) coming.come in
-      let told = told_here d source rows numbers i row low (sym is) coming.told in
+  pub its_turn : AreToCome source rows next c → TellsUnits c source rows numbers
+      → IsTurnOfUnit source row next unit d
+  its_turn come told =
+      let have = from_here source rows next counts c d i row pair.low (sym pair.first) coming.come in
+      let here = told_here d source rows numbers i row pair.low (sym pair.first) coming.told in
+      let turn = (one_entered source row (drop (i + 1) rows) (next + counts.new) d have.come).turn in
+      let is = (unit_here numbers rows units i (next + counts.new) pair coming.each).0 in
+      let known : numbers row.legacy ≡ number_there c source row.legacy =
+      subst (λ (r : Row). numbers r.legacy ≡ number_there c source r.legacy) (sym pair.first) (all-get_or (λ (r : Row). numbers r.legacy ≡ number_there c source r.legacy) rows i row told pair.low) in
+      let given = subst (λ n. IfSome (number_there c source row.legacy) (λ id. id < n)) (sym come.number) (was_given c source row.legacy come.units) in
       record {
-        come = subst (λ (n : Counts). HaveCome source rows rest next n c (catalogue_after source (row ∷ []) d)) (sym counted) (next_comes source rows row rest next counts c d became have does);
-        told = known_still source row rest (next + counts.new) d numbers have.come told.1;
+        turn = subst (λ n. IsTurn source row n d) turn.number turn;
+        unit_is = is ∙ ap₂ unwrap_or here.0 turn.number;
+        known = below_first (numbers row.legacy) unit next counts.new is (subst (λ o. IfSome o (λ id. id < next)) (sym known) given) ∙ ap is_some here.0;
       }
 
-  pub all_entered : AreToCome source rows next c → length rows ≤ i → AllCome source rows next counts c d
-  all_entered come behind = all_come source rows next counts c d come (at_end source rows next counts c d i behind coming.come)
+  -- it is entered, and then come the others
+  pub others_come : {became : Entry} {after : Counts} {later : ℕ} → later ≡ i + 1
+      → became ≡ entry_of (catalogued_unit d.forest source row) row.values → after ≡ count_entry became counts
+      → AreComing source rows numbers units next later after c (catalogue_after source (row ∷ []) d)
+  others_come {became} {after} goes does counted =
+      let rest = drop (i + 1) rows in
+      let have = from_here source rows next counts c d i row pair.low (sym pair.first) coming.come in
+      let here = told_here d source rows numbers i row pair.low (sym pair.first) coming.told in
+      let one = one_entered source row rest (next + counts.new) d have.come in
+      let come = subst (λ (n : Counts). HaveCome source rows rest next n c (catalogue_after source (row ∷ []) d)) (sym counted) (next_comes source rows row rest next counts c d became have does) in
+      let made : (catalogue_after source (row ∷ []) d).next ≡ one.after.next =
+      ap (λ r. (or_as_before d (and_then (with_rows source []) r)).next) one.placed in
+      let sum : next + counts.new + cond (is_some (numbers row.legacy)) 0 1 ≡ next + after.new =
+      omega (arith, come.come.number, made, one.rest.number, counts_new d source row here.0) in
+      subst (λ n. AreComing source rows numbers units next n after c (catalogue_after source (row ∷ []) d)) (sym goes)
+      (record {
+        come = come;
+        told = known_still source row rest (next + counts.new) d numbers have.come here.1;
+        each = (unit_here numbers rows units i (next + counts.new) pair coming.each).1 ∙ ap (λ n. units_from numbers n rest) sum;
+      })
+
+module _ {source : Bytes} {rows : List Row} {numbers : Bytes → Option ℕ} {units : List ℕ} {next i : ℕ} {counts : Counts} {c d : Catalogue} (coming : AreComing source rows numbers units next i counts c d) where
+  pub all_entered : AreToCome source rows next c → units ≡ units_from numbers next rows
+      → i ≡ min (length rows) (length units) → AllCome source rows next counts c d
+  all_entered come each last =
+      let long = ap length each ∙ length_units numbers next rows in
+      all_come source rows next counts c d come (at_end source rows next counts c d i (omega (arith, last, long)) coming.come)

@@ -1,19 +1,21 @@
 -- A row that is placed: its unit is there, or comes below a parent that is.
 use Rattle.std.proofs.Common.{◌≡◌, ◌<◌, ◌≤◌, ℕ, Bool, true, false, cond, ◌&&◌, ◌||◌, ◌+◌, length, inl, inr, List, []}
-use Rattle.std.proofs.Common.{◌∷◌, Option, Some, None, Ok, refl, sym, ap, ap₂, ◌∙◌, subst, arith}
+use Rattle.std.proofs.Common.{◌∷◌, Option, Some, None, Ok, refl, sym, ap, ap₂, ◌∙◌, subst, arith, is_lt, nat_cmp, Less}
+use Rattle.std.proofs.Common.{Equal, Greater}
 use Rattle.std.specs.Prelude.{map}
 use Rattle.catalogue_core.proofs.EachOf.{none_found}
 use Rattle.catalogue_core.specs.UnitLookup.{FindsUnit}
 use Rattle.catalogue_store.specs.UnitValues.{values_of_unit}
 use Rattle.catalogue_store.specs.declared.unit_values.UnitValues.{UnitValues}
 use Rattle.csv_import.specs.declared.row_entry.Entry.TheVariants as entry
-use Rattle.csv_import.proofs.Common.{AllByRecursion, AreGoodUnits, AreWhole, Bytes, Catalogue, IsGoodRow, IsTurn}
-use Rattle.csv_import.proofs.Common.{MayChange, MayCome, Row, Unit, Values, all_of_found, and_parts, and_then}
-use Rattle.csv_import.proofs.Common.{box_number, catalogue_after, cause_at, depth_there, each_there, entry_of, eqb-true}
-use Rattle.csv_import.proofs.Common.{false≢true, find, find_none, found_numbers, has, has_id, has_place, is_from}
-use Rattle.csv_import.proofs.Common.{list_any, ne_eqb, new_at, new_unit, nodes, number_there, option_and_then}
-use Rattle.csv_import.proofs.Common.{option_map, or_as_before, or_cases, or_parts, path, same_values, some_found}
-use Rattle.csv_import.proofs.Common.{unless_cause, with_new, with_row_at, with_rows, with_values}
+use Rattle.csv_import.proofs.Common.{AllByRecursion, AreGoodUnits, AreWhole, Bytes, Catalogue, IfSome, IsGoodRow}
+use Rattle.csv_import.proofs.Common.{IsTurn, IsTurnOfUnit, MayChange, MayCome, Row, Unit, Values, all_of_found}
+use Rattle.csv_import.proofs.Common.{and_parts, and_then, box_number, catalogue_after, cause_at, depth_there}
+use Rattle.csv_import.proofs.Common.{each_there, entry_of, eqb-true, false≢true, find, find_none, found_numbers, has}
+use Rattle.csv_import.proofs.Common.{has_id, has_place, is_from, is_some, list_any, nat_lt, ne_eqb, new_at, new_unit}
+use Rattle.csv_import.proofs.Common.{nodes, number_there, option_and_then, option_map, or_as_before, or_cases, or_parts}
+use Rattle.csv_import.proofs.Common.{path, same_values, some_found, unless_cause, unwrap_or, with_new, with_row_at}
+use Rattle.csv_import.proofs.Common.{with_rows, with_values}
 
 -- ---- the unit with a number in a source
 
@@ -152,6 +154,45 @@ module _ {source : Bytes} {row : Row} {next : ℕ} {c : Catalogue} (turn : IsTur
       };
       place = record { knows = turn.knows; place = parent_there row.parent none_against };
     }
+
+-- ---- a row of a unit with a number
+
+its_own : (o : Option ℕ) (unit next : ℕ) → unit ≡ unwrap_or o next → is_some o ≡ true → o ≡ Some unit
+its_own None unit next is some = absurd (false≢true some)
+its_own (Some id) unit next is some = ap Some (sym is)
+
+the_next : (o : Option ℕ) (unit next : ℕ) → unit ≡ unwrap_or o next → is_some o ≡ false → (o ≡ None) × (next ≡ unit)
+the_next None unit next is none = (refl, sym is)
+the_next (Some id) unit next is none = absurd (false≢true (sym none))
+
+compared : (less same : Bool) → is_lt (cond less Less (cond same Equal Greater)) ≡ less
+compared true same = refl
+compared false true = refl
+compared false false = refl
+
+module _ {source : Bytes} {row : Row} {first unit : ℕ} {c : Catalogue} (it : IsTurnOfUnit source row first unit c) {low : Bool} (told : low ≡ is_lt (nat_cmp unit first)) where
+  known_where : {b : Bool} → low ≡ b → is_some (number_there c source row.legacy) ≡ b
+  known_where here = sym it.known ∙ (sym (told ∙ compared (nat_lt unit first) _) ∙ here)
+
+  pub turn_known : low ≡ true → number_there c source row.legacy ≡ Some unit
+  turn_known here =
+      its_own (number_there c source row.legacy) unit c.next it.unit_is (known_where here)
+
+  pub turn_new : low ≡ false → (number_there c source row.legacy ≡ None) × IsTurn source row unit c
+  turn_new here =
+      let so = the_next (number_there c source row.legacy) unit c.next it.unit_is (known_where here) in
+      (so.0, subst (λ n. IsTurn source row n c) so.1 it.turn)
+
+-- a catalogued unit has a number that was given
+pub was_given : (c : Catalogue) (source legacy : Bytes) → AreGoodUnits c
+    → IfSome (number_there c source legacy) (λ id. id < c.next)
+was_given c source legacy good = at (find (is_from source legacy) (nodes c.forest)) refl
+  where
+    at : (r : Option Unit) → find (is_from source legacy) (nodes c.forest) ≡ r
+        → IfSome (option_map (λ (u : Unit). u.id) r) (λ id. id < c.next)
+    at None f = tt
+    at (Some v) f =
+        (all_of_found (λ (u : Unit). (1 ≤ u.id) × (u.id < c.next)) (is_from source legacy) (nodes c.forest) v f good.given).1
 
 -- the values of a unit that is there
 pub record IsValued (c : Catalogue) (id : ℕ) : Type 0 where

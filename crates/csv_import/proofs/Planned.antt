@@ -2,11 +2,14 @@
 use Rattle.std.proofs.Common.{◌≡◌, ℕ, suc, ◌+◌, ◌<◌, ◌≤◌, Bool, true, false, not, cond, List, [], ◌∷◌, ◌++◌, drop}
 use Rattle.std.proofs.Common.{length, Option, Some, None, refl, sym, ap, ap₂, subst, ◌∙◌, get_or, arith}
 use Rattle.std.proofs.lemmas.Slice.Eq.{bytes_eq-Decides}
+use Rattle.atom_csv.specs.Causes.{cause_number}
+use Rattle.atom_csv.specs.declared.cause.Cause.{Cause}
+use Rattle.atom_csv.specs.declared.cause.Cause.TheVariants.{NoParent, TooDeep}
 use Rattle.csv_import.specs.declared.row_plan.Placing.{Placing}
 use Rattle.csv_import.specs.declared.row_plan.Placing.TheVariants as placing
 use Rattle.csv_import.specs.declared.row_plan.Planned.TheVariants as planned
 use Rattle.csv_import.proofs.Common.{Bytes, Catalogue, Forest, KnowsDepths, KnowsUnits, Row, TellsParentOfNew, Unit}
-use Rattle.csv_import.proofs.Common.{as_plan, at_depth, bytes_eq, cause_at, depth_under, drop_all, drop_more}
+use Rattle.csv_import.proofs.Common.{at_depth, by_number, bytes_eq, cause_at, depth_under, drop_all, drop_more}
 use Rattle.csv_import.proofs.Common.{faults_below, is_known, most_deep, nat_lt, new_of, number_there, option_map}
 use Rattle.csv_import.proofs.Common.{option_to_list, or_first, or_there, placing_of, plan_of}
 use Rattle.csv_import.proofs.KnownUnits.{row_told}
@@ -48,7 +51,7 @@ module _ (f : Forest Unit) (source : Bytes) where
       at false None h = absurd (cc)
       at false (Some d) h = deep (nat_lt most_deep d) h
         where
-          deep : (k : Bool) → placing.Known ≡ cond k (placing.Faulty 12) (placing.Fits (suc d)) → false ≡ true
+          deep : (k : Bool) → placing.Known ≡ cond k (placing.Faulty TooDeep) (placing.Fits (suc d)) → false ≡ true
           deep true h = absurd (cc)
           deep false h = absurd (cc)
 
@@ -69,7 +72,7 @@ module _ (f : Forest Unit) (source : Bytes) where
       at false (Some d) i j h = deep (nat_lt most_deep d) refl h
         where
           deep : (b : Bool) → nat_lt most_deep d ≡ b
-              → placing.Fits k ≡ cond b (placing.Faulty 12) (placing.Fits (suc d))
+              → placing.Fits k ≡ cond b (placing.Faulty TooDeep) (placing.Fits (suc d))
               → (d : ℕ) × ComesAt above row d × (k ≡ suc d)
           deep true t h = absurd (cc)
           deep false t h = (d, record { come = i; depth = j; fits = t }, cc)
@@ -84,19 +87,19 @@ module _ (f : Forest Unit) (source : Bytes) where
   told_cause row above rest cause e =
       ap (λ (o : Option ℕ). option_to_list (option_map (λ cause. (row.row, cause)) o) ++ faults_below f source (row ∷ above) rest) e
 
-  cause_so : (above : List Row) (row : Row) (cause : ℕ) → placing.Faulty cause ≡ placing_of f source above row
-      → (is_known f source row ≡ false) × (cause_at (depth_under f source row.parent above) ≡ Some cause)
+  cause_so : (above : List Row) (row : Row) (cause : Cause) → placing.Faulty cause ≡ placing_of f source above row
+      → (is_known f source row ≡ false) × (cause_at (depth_under f source row.parent above) ≡ Some (cause_number cause))
   cause_so above row cause e = at (is_known f source row) (depth_under f source row.parent above) e
     where
       at : (b : Bool) (o : Option ℕ) → placing.Faulty cause ≡ cond b placing.Known (at_depth o)
-          → (b ≡ false) × (cause_at o ≡ Some cause)
+          → (b ≡ false) × (cause_at o ≡ Some (cause_number cause))
       at true o h = absurd (cc)
-      at false None h = (refl, (let same : cause ≡ 11 = cc in ap Some (sym same)))
+      at false None h = (refl, (let same : cause ≡ NoParent = cc in ap (λ k. Some (cause_number k)) (sym same)))
       at false (Some d) h = deep (nat_lt most_deep d) h
         where
-          deep : (k : Bool) → placing.Faulty cause ≡ cond k (placing.Faulty 12) (placing.Fits (suc d))
-              → (false ≡ false) × (cond k (Some 12) None ≡ Some cause)
-          deep true h = (refl, (let same : cause ≡ 12 = cc in ap Some (sym same)))
+          deep : (k : Bool) → placing.Faulty cause ≡ cond k (placing.Faulty TooDeep) (placing.Fits (suc d))
+              → (false ≡ false) × (cond k (Some 12) None ≡ Some (cause_number cause))
+          deep true h = (refl, (let same : cause ≡ TooDeep = cc in ap (λ k. Some (cause_number k)) (sym same)))
           deep false h = absurd (cc)
 
 -- ---- one row after another
@@ -149,22 +152,22 @@ module _ {f : Forest Unit} {source : Bytes} where
 
   -- ---- the end
 
-  pub ends_faulty : {below : Bytes → Option ℕ} {new : ℕ} {all rest : List Row} {row : Row} {cause : ℕ}
+  pub ends_faulty : {below : Bytes → Option ℕ} {new : ℕ} {all rest : List Row} {row : Row} {cause : Cause}
       → (it : IsPlanned f source below new all (row ∷ rest)) → placing.Faulty cause ≡ placing_of f source it.above row
-      → planned.Faulty row.row cause ≡ plan_of f source all
+      → by_number (planned.Faulty row.row cause) ≡ plan_of f source all
   ends_faulty {all = all} {rest = rest} {row = row} {cause = cause} it e =
       let so = cause_so f source it.above row cause e in
-      let first : faults_below f source [] (new_of f source all) ≡ (row.row, cause) ∷ faults_below f source (row ∷ it.above) (new_of f source rest) =
-      it.faults ∙ (ap (faults_below f source it.above) (new_first f source row rest so.0) ∙ told_cause f source row it.above (new_of f source rest) (Some cause) so.1) in
-      sym (ap (λ (faults : List (ℕ × ℕ)). as_plan (or_first faults (length (new_of f source all)))) first)
+      let first : faults_below f source [] (new_of f source all) ≡ (row.row, cause_number cause) ∷ faults_below f source (row ∷ it.above) (new_of f source rest) =
+      it.faults ∙ (ap (faults_below f source it.above) (new_first f source row rest so.0) ∙ told_cause f source row it.above (new_of f source rest) (Some (cause_number cause)) so.1) in
+      sym (ap (λ (faults : List (ℕ × ℕ)). or_first faults (length (new_of f source all))) first)
 
   -- all rows are behind
   pub ends_well : {below : Bytes → Option ℕ} {new : ℕ} {all : List Row} (i : ℕ)
-      → IsPlanned f source below new all (drop i all) → length all ≤ i → planned.Fits new ≡ plan_of f source all
+      → IsPlanned f source below new all (drop i all) → length all ≤ i → by_number (planned.Fits new) ≡ plan_of f source all
   ends_well {below = below} {new = new} {all = all} i here behind =
       let it = subst (IsPlanned f source below new all) (drop_all i all behind) here in
       let many : length (new_of f source all) ≡ new = (let n = it.count in omega (arith, n)) in
-      sym (ap₂ (λ (faults : List (ℕ × ℕ)) n. as_plan (or_first faults n)) it.faults many)
+      sym (ap₂ (λ (faults : List (ℕ × ℕ)) n. or_first faults n) it.faults many)
 
 -- ---- the row at its turn, as it was placed
 

@@ -1,14 +1,13 @@
 -- Files that are refused before a row of them is entered.
 use Rattle.std.proofs.Common.{◌≡◌, ℕ, ◌+◌, Bool, true, false, ◌||◌, List, [], ◌∷◌, length, Some, Ok, Err, refl, sym, ap}
-use Rattle.std.proofs.Common.{ap₂, ◌∙◌, arith}
-use Rattle.std.specs.Prelude.{None}
+use Rattle.std.proofs.Common.{◌∙◌, arith}
+use Rattle.std.specs.Prelude.{None, Result}
 use Rattle.catalogue_core.proofs.UnitsAfter.{length-numbered}
 use Rattle.office_core.specs.State.{State}
 use Rattle.office_core.specs.declared.command.Command.TheVariants as command
-use Rattle.csv_import.specs.declared.row_plan.Planned.TheVariants as planned
 use Rattle.csv_import.proofs.Common.{BadFile, BadName, Bytes, CanBePlaced, Catalogue, File, Full, IsSoundOffice, Taken}
-use Rattle.csv_import.proofs.Common.{and_from, as_plan, bad_file, false≢true, faults_below, file_of, first_that_holds}
-use Rattle.csv_import.proofs.Common.{gate, has_room, intake_of, is_full, is_source, le-leb, ltb-false, merged}
+use Rattle.csv_import.proofs.Common.{and_from, bad_file, false≢true, faults_below, file_of, first_that_holds, gate}
+use Rattle.csv_import.proofs.Common.{has_room, intake_of, is_full, is_source, le-leb, ltb-false, merged}
 use Rattle.csv_import.proofs.Common.{most_containers, most_unit_numbers, most_units, nat_le, nat_lt, new_of}
 use Rattle.csv_import.proofs.Common.{numbered_from, or_first, plan_of, refusal, size, take_rows, too_much, unless, when}
 use Rattle.csv_import.proofs.Common.{with_file, with_import}
@@ -30,6 +29,9 @@ pub bad : (s : State) (source bytes : Bytes) (row cause : ℕ) → is_source sou
     → file_of bytes ≡ Err (row, cause) → refusal s (command.Import source bytes) ≡ Some (BadFile row cause)
 bad s source bytes row cause named e = refused_bad s source bytes row cause named (taken_bad s source bytes row cause e)
 
+same_fault : (fault other : ℕ × ℕ) → ◌≡◌ {A = Result ℕ (ℕ × ℕ)} (Err fault) (Err other) → fault ≡ other
+same_fault fault other e = cc
+
 module _ (s : State) (source bytes : Bytes) (file : File) (read : file_of bytes ≡ Ok file) where
   abbrev faults : List (ℕ × ℕ)
   faults = faults_below s.catalogue.forest source [] (new_of s.catalogue.forest source file.rows)
@@ -43,18 +45,15 @@ module _ (s : State) (source bytes : Bytes) (file : File) (read : file_of bytes 
 
   -- a row cannot be placed
   pub faulty : IsSoundOffice s → is_source source ≡ true → (row cause : ℕ)
-      → planned.Faulty row cause ≡ plan_of s.catalogue.forest source file.rows
+      → Err (row, cause) ≡ plan_of s.catalogue.forest source file.rows
       → refusal s (command.Import source bytes) ≡ Some (BadFile row cause)
   faulty sound named row cause e = refused_bad s source bytes row cause named (taken_as ∙ at faults e)
     where
       at : (found : List (ℕ × ℕ))
-          → planned.Faulty row cause ≡ as_plan (or_first found (length (new_of s.catalogue.forest source file.rows)))
+          → Err (row, cause) ≡ or_first found (length (new_of s.catalogue.forest source file.rows))
           → with_file file (or_first found made) ≡ Err (row, cause)
       at [] h = absurd (cc)
-      at ((r, k) ∷ later) h =
-          let same_row : row ≡ r = cc in
-          let same_cause : cause ≡ k = cc in
-          ap₂ (λ a b. (let t : Taken = Err (a, b) in t)) (sym same_row) (sym same_cause)
+      at (fault ∷ later) h = ap (λ p. (let t : Taken = Err p in t)) (sym (same_fault (row, cause) fault h))
 
   -- there is no room for the new units
   pub full : IsSoundOffice s → is_source source ≡ true → (new : ℕ) → CanBePlaced source file new s
@@ -85,13 +84,13 @@ module _ (s : State) (source bytes : Bytes) (file : File) (read : file_of bytes 
 
 -- all of its rows can be placed
 pub fits_planned : (s : State) (source : Bytes) (file : File) (new : ℕ)
-    → planned.Fits new ≡ plan_of s.catalogue.forest source file.rows → CanBePlaced source file new s
+    → Ok new ≡ plan_of s.catalogue.forest source file.rows → CanBePlaced source file new s
 fits_planned s source file new e =
     at (faults_below s.catalogue.forest source [] (new_of s.catalogue.forest source file.rows)) refl e
   where
     at : (found : List (ℕ × ℕ))
         → faults_below s.catalogue.forest source [] (new_of s.catalogue.forest source file.rows) ≡ found
-        → planned.Fits new ≡ as_plan (or_first found (length (new_of s.catalogue.forest source file.rows)))
+        → Ok new ≡ or_first found (length (new_of s.catalogue.forest source file.rows))
         → CanBePlaced source file new s
     at [] f h = record { faults = f; new_is = cc }
     at ((r, k) ∷ later) f h = absurd (cc)

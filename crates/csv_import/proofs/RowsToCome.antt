@@ -14,8 +14,8 @@ use Rattle.csv_import.proofs.Common.{count_entry, count_rows, counts_of, depth_t
 use Rattle.csv_import.proofs.Common.{drop_more, entry_of, find, flat_map, has, has_id, if_ok, is_changed, is_from}
 use Rattle.csv_import.proofs.Common.{is_new, is_same, join, kept_within, knows, merge, new_at, new_unit, nodes}
 use Rattle.csv_import.proofs.Common.{option_map, option_map_or, or_as_before, put_below, row_by_row, same_values, size}
-use Rattle.csv_import.proofs.Common.{size-each, some_found, unless_cause, with_new, with_row, with_row_at, with_rows}
-use Rattle.csv_import.proofs.Common.{with_values}
+use Rattle.csv_import.proofs.Common.{size-each, some_found, units_from, unless_cause, with_new, with_row, with_row_at}
+use Rattle.csv_import.proofs.Common.{with_rows, with_values}
 use Rattle.csv_import.proofs.GoodMerges.{legible_with, merged_boxes_are, merged_days, merged_good}
 
 -- ---- a row counts once
@@ -326,10 +326,10 @@ pub to_come : {source : Bytes} {rows : List Row} {numbers : Bytes → Option ℕ
 to_come {source} {rows} {numbers} {next} {c} it =
     subst (λ n. AreToCome source rows n c) (sym it.number) (all_to_come source rows c it.can)
 
-pub are_brought : {source : Bytes} {rows : List Row} {numbers : Bytes → Option ℕ} {next : ℕ} {arrivals : List Arrival} {c : Catalogue}
-    → IsReady source rows numbers next c → arrivals ≡ arrivals_of c.forest source next rows
-    → BringUnits source rows numbers next arrivals c
-are_brought it are = record { come = to_come it; known = it.known.each; units = are }
+pub are_brought : {source : Bytes} {rows : List Row} {numbers : Bytes → Option ℕ} {next : ℕ} {units : List ℕ} {arrivals : List Arrival} {c : Catalogue}
+    → IsReady source rows numbers next c → units ≡ units_from numbers next rows
+    → arrivals ≡ arrivals_of c.forest source next rows → BringUnits source rows numbers next units arrivals c
+are_brought it each new = record { come = to_come it; known = it.known.each; each = each; new = new }
 
 -- ---- going through a list
 

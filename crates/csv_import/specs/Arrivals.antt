@@ -6,7 +6,7 @@ use Rattle.tree_core.specs.Forest.{Forest}
 use Rattle.tree_core.specs.declared.arrivals.Arrival.{Arrival}
 use Rattle.catalogue_core.specs.CatalogueMerge.{Catalogue, New, is_known, parent_number, numbered_from}
 use Rattle.catalogue_core.specs.Units.{Unit}
-use Rattle.csv_import.specs.KnownUnits.{KnowsUnits, TellsUnits}
+use Rattle.csv_import.specs.KnownUnits.{KnowsUnits, TellsUnits, units_from}
 use Rattle.csv_import.specs.RowEntry.{CanEnter}
 use Rattle.csv_import.specs.RowPlan.{new_of, or_there}
 use Rattle.csv_import.specs.Turns.{AreToCome}
@@ -41,8 +41,9 @@ pub record IsReady (source : Bytes) (rows : List Row) (numbers : Bytes → Optio
   pub known : KnowsUnits c source rows numbers
   pub number : next ≡ c.next
 
--- the rows are still to be entered, and these are the units that they add to those that are catalogued
-pub record BringUnits (source : Bytes) (rows : List Row) (numbers : Bytes → Option ℕ) (next : ℕ) (arrivals : List Arrival) (c : Catalogue) : Type 0 where
+-- the rows are still to be entered; these are their units, and those that they add to the catalogued ones
+pub record BringUnits (source : Bytes) (rows : List Row) (numbers : Bytes → Option ℕ) (next : ℕ) (units : List ℕ) (arrivals : List Arrival) (c : Catalogue) : Type 0 where
   pub come : AreToCome source rows next c
   pub known : TellsUnits c source rows numbers
-  pub units : arrivals ≡ arrivals_of c.forest source next rows
+  pub each : units ≡ units_from numbers next rows
+  pub new : arrivals ≡ arrivals_of c.forest source next rows

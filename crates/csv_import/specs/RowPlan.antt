@@ -21,20 +21,21 @@ use Rattle.csv_import.specs.declared.row_plan.Planned.TheVariants as plan
 abbrev pub new_of : Forest Unit → Bytes → List Row → List Row
 new_of f source rows = filter (is_new f source) rows
 
-abbrev pub as_plan : Result ℕ (ℕ × ℕ) → Planned
-as_plan (Ok new) = plan.Fits new
-as_plan (Err (row, cause)) = plan.Faulty row cause
+-- what a plan tells, with the number of the cause
+abbrev pub by_number : Planned → Result ℕ (ℕ × ℕ)
+by_number (plan.Fits new) = Ok new
+by_number (plan.Faulty row cause) = Err (row, cause_number cause)
 
 -- how many rows are new, or the first of them that cannot be placed, and why
-abbrev pub plan_of : Forest Unit → Bytes → List Row → Planned
-plan_of f source rows = as_plan (or_first (faults_below f source [] (new_of f source rows)) (length (new_of f source rows)))
+abbrev pub plan_of : Forest Unit → Bytes → List Row → Result ℕ (ℕ × ℕ)
+plan_of f source rows = or_first (faults_below f source [] (new_of f source rows)) (length (new_of f source rows))
 
 -- ---- one row
 
 -- how a new row at this depth is placed, or why it cannot be
 abbrev pub at_depth : Option ℕ → Placing
-at_depth None = placing.Faulty (cause_number NoParent)
-at_depth (Some depth) = if nat_lt most_deep depth then placing.Faulty (cause_number TooDeep) else placing.Fits (suc depth)
+at_depth None = placing.Faulty NoParent
+at_depth (Some depth) = if nat_lt most_deep depth then placing.Faulty TooDeep else placing.Fits (suc depth)
 
 -- how a row is placed: `above` has the new rows above it in the file, the nearest first
 abbrev pub placing_of : Forest Unit → Bytes → List Row → Row → Placing

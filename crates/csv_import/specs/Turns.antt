@@ -1,5 +1,6 @@
 -- One row of a file, when its turn comes.
-use Rattle.std.specs.Prelude.{◌≡◌, ◌<◌, ◌+◌, ◌^◌, ℕ, true, cond, length, List, Option, Some, None, Ok}
+use Rattle.std.specs.Prelude.{◌≡◌, ◌<◌, ◌+◌, ◌^◌, ℕ, true, cond, is_some, length, nat_lt, List, Option, Some, None, Ok}
+use Rattle.std.specs.Prelude.{unwrap_or}
 use Rattle.std.specs.List.{AllByRecursion}
 use Rattle.isad_core.specs.Boxes.{distinct}
 use Rattle.isad_core.specs.Texts.{Bytes}
@@ -42,9 +43,12 @@ pub record IsTurn (source : Bytes) (row : Row) (next : ℕ) (c : Catalogue) : Ty
   pub after : Catalogue
   pub placed : with_row source row c ≡ Ok after
 
--- the same, and the row's unit has this number, or none
-abbrev pub IsTurnOf : Bytes → Row → Option ℕ → ℕ → Catalogue → Type 0
-IsTurnOf source row number next c = IsTurn source row next c × (number ≡ number_there c source row.legacy)
+-- The row can be placed, and this is its unit: the one that is catalogued, or else the next. Only a catalogued one has a
+-- number below the first new one.
+pub record IsTurnOfUnit (source : Bytes) (row : Row) (first unit : ℕ) (c : Catalogue) : Type 0 where
+  pub turn : IsTurn source row c.next c
+  pub unit_is : unit ≡ unwrap_or (number_there c source row.legacy) c.next
+  pub known : nat_lt unit first ≡ is_some (number_there c source row.legacy)
 
 -- the unit exists, and may get these values
 pub record MayChange (unit : ℕ) (values : Values) (c : Catalogue) : Type 0 where

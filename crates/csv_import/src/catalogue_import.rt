@@ -118,7 +118,10 @@ fn import_read<P: Places, S: Alter>(
     let catalogued = known_units(alloc, tables, source, rows)?;
     let new = match plan(alloc, tables, &catalogued, rows)? {
         Planned::Fits { new } => new,
-        Planned::Faulty { row, cause } => return Ok(Err(Refusal::BadFile { row, cause })),
+        Planned::Faulty { row, cause } => {
+            let cause = cause.number();
+            return Ok(Err(Refusal::BadFile { row, cause }));
+        }
     };
     let Some(next) = next_with_room(alloc, tables, new)? else {
         return Ok(Err(Refusal::Full));

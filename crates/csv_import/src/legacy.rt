@@ -1,6 +1,6 @@
 //! What is kept about units and rows, by their numbers in their source.
 
-ghost use Rattle.std.specs.Prelude.{◌≡◌, ◌||◌, if◌then◌else◌, not, IfOk, OnOk, Some};
+ghost use Rattle.std.specs.Prelude.{◌≡◌, ◌||◌, not, IfOk, OnOk};
 ghost use Rattle.std.specs.BTreeMap.{get_by_text};
 ghost use Rattle.std.specs.BTreeSet.{contains_text};
 ghost use Rattle.std.specs.Str.{bytes_eq};
@@ -24,22 +24,6 @@ pub(crate) fn kept_number(kept: &UnitNumbers, legacy: &Text) -> Option<Number>
     ensures { result ≡ get_by_text kept.now legacy.now }
 {
     kept.get(legacy.as_str()).copied()
-}
-
-/// Keeps a number or a depth for a unit or row.
-#[tactic(auto, using(std::proofs::lemmas::Map::Text::text_keys))]
-pub(crate) fn remember<V: Drop>(
-    kept: &mut BTreeMap<String, V>,
-    alloc: Global,
-    legacy: &Text,
-    value: V,
-) -> Result<(), AllocError>
-    ensures { OnOk result ((q : Bytes) → get_by_text kept.new q
-        ≡ (if bytes_eq q legacy.now then Some value else get_by_text kept.old q)) }
-{
-    let key = String::from_str(alloc, legacy.as_str())?;
-    kept.insert(key, value)?;
-    Ok(())
 }
 
 /// Adds a number in a source to those that were noted, and returns whether it is new among them.

@@ -12,8 +12,8 @@ ghost use Rattle.office_tables.specs.Premises.{◌within◌gives◌};
 ghost use Rattle.csv_import.specs.RowEntry.{RepresentsEntering};
 ghost use Rattle.csv_import.specs.KnownUnits.{IsAsked, KnowsAsked, KnowsUnits};
 
-use crate::legacy::{Legacies, UnitNumbers, kept_number, note, remember};
-use atom_csv::Row;
+use crate::legacy::{Legacies, UnitNumbers, kept_number, note};
+use atom_csv::{Row, remember};
 use catalogue_store::{Places, known};
 use isad_core::{Number, Text};
 use office_tables::{StoreFault, Tables};

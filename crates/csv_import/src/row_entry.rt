@@ -1,8 +1,7 @@
 //! The rows of a file, entered into the tables of a catalogue.
 
 ghost use Rattle.std.specs.Prelude.{◌≡◌, ◌+◌, ◌<◌, ◌≤◌, ◌^◌, [], ◌∷◌, find, length, map, None, Some};
-ghost use Rattle.std.specs.Prelude.{IfOk, IfErr};
-ghost use Rattle.std.specs.BTreeMap.{get_by_text};
+ghost use Rattle.std.specs.Prelude.{IfOk};
 ghost use Rattle.sqlite.specs.Held.{state};
 ghost use Rattle.sqlite.specs.State.{HasCleanDisk};
 ghost use Rattle.tree_core.specs.Forest.{nodes};
@@ -15,13 +14,12 @@ ghost use Rattle.catalogue_statements.specs.Representation.{RepresentsNumbered, 
 ghost use Rattle.catalogue_statements.specs.declared.office.OfficeRow.{OfficeRow};
 ghost use Rattle.office_tables.specs.Calls.{Updates};
 ghost use Rattle.office_tables.specs.Premises.{◌when◌gives◌};
-ghost use Rattle.csv_import.specs.PendingImport.{AreNext, Brings, ReadsCatalogue, IsPending, counted_in, imported};
+ghost use Rattle.csv_import.specs.PendingImport.{AreNext, Brings, ReadsCatalogue, IsPending, IsTurnOf, counted_in};
+ghost use Rattle.csv_import.specs.PendingImport.{imported};
 ghost use Rattle.csv_import.specs.RowEntry.{RepresentsEntering, RepresentsLegible, catalogue_after};
-ghost use Rattle.csv_import.specs.KnownUnits.{units_from};
-ghost use Rattle.csv_import.specs.Turns.{IsTurnOf, MayChange, MayCome, count_entry, entry_of};
+ghost use Rattle.csv_import.specs.Turns.{MayChange, MayCome, count_entry, entry_of};
 
-use crate::arrivals::arrivals;
-use crate::legacy::kept_number;
+use crate::arrivals::{FileUnits, number_units};
 use crate::pending_import::Import;
 use atom_csv::Row;
 use catalogue_statements::office::set_next_unit;
@@ -112,26 +110,25 @@ fn enter_new<P: Places, S: Alter>(
     Ok(Entry::New)
 }
 
-/// Enters a row. Its unit gets the row's values if it has a number, and otherwise is added with the
-/// next number.
+/// Enters a row. Its unit, which has this number, gets the row's values if it is catalogued, and otherwise is added. The
+/// numbers from `import.next` on are those of new units.
 fn enter_row<P: Places, S: Alter>(
     alloc: Global,
     tables: &mut Tables<P, S>,
-    source: &Text,
-    number: Option<Number>,
-    next: Number,
+    import: &Import<'_>,
+    unit: Number,
     row: &Row,
 ) -> Result<Entry, StoreFault>
     ensures updates { Updates S.Store described_trees (RepresentsEntering P.version) tables.old tables.new result
-        when IsTurnOf source.now row.now number next gives catalogue_after source.now (row.now ∷ []) }
-    ensures told { ReadsCatalogue S.Store (RepresentsEntering P.version) (IsTurnOf source.now row.now number next)
-        tables.old
-        tables.new result (λ c entry. entry ≡ entry_of (catalogued_unit c.forest source.now row.now) row.now.values) }
+        when IsTurnOf import.now row.now unit gives catalogue_after import.now.source.now (row.now ∷ []) }
+    ensures told { ReadsCatalogue S.Store (RepresentsEntering P.version) (IsTurnOf import.now row.now unit)
+        tables.old tables.new result
+        (λ c entry. entry ≡ entry_of (catalogued_unit c.forest import.now.source.now row.now) row.now.values) }
 {
-    match number {
-        Some(unit) => enter_known(alloc, tables, unit, &row.values),
-        None => enter_new(alloc, tables, source, next, row),
+    if unit < import.next {
+        return enter_known(alloc, tables, unit, &row.values);
     }
+    enter_new(alloc, tables, import.source, unit, row)
 }
 
 /// The counts with one more row.
@@ -155,16 +152,17 @@ fn count(counts: Counts, became: Entry) -> Counts
     }
 }
 
-/// Enters the rows one after another. The places of new units are entered separately.
+/// Enters the rows, whose units are `units`, one after another. The places of new units are entered separately.
 fn enter_each<P: Places, S: Alter>(
     alloc: Global,
     tables: &mut Tables<P, S>,
     import: &Import<'_>,
+    units: &[Number],
 ) -> Result<Counts, StoreFault>
     ensures updates { Updates S.Store described_trees (RepresentsEntering P.version) tables.old tables.new result
-        when AreNext import.now gives imported import.now }
-    ensures counts { ReadsCatalogue S.Store (RepresentsEntering P.version) (AreNext import.now) tables.old tables.new
-        result
+        when AreNext import.now units.now gives imported import.now }
+    ensures counts { ReadsCatalogue S.Store (RepresentsEntering P.version) (AreNext import.now units.now)
+        tables.old tables.new result
         (λ c counts. (counts ≡ counted_in c import.now)
         × (import.now.next + counts.new ≡ (imported import.now c).next)) }
     ensures few { IfOk result (λ counts. counts.new ≤ length import.now.rows.now) }
@@ -174,50 +172,30 @@ fn enter_each<P: Places, S: Alter>(
         new: 0,
         same: 0,
     };
-    for row in import.rows {
-        let number = kept_number(import.catalogued, &row.legacy);
-        let next = number_after(import.next, counts.new)?;
-        let became = enter_row(alloc, tables, import.source, number, next, row)?;
+    for (row, unit) in import.rows.iter().zip(units) {
+        let became = enter_row(alloc, tables, import, *unit, row)?;
         counts = count(counts, became);
     }
     Ok(counts)
 }
 
-/// The units of the rows in their order: those that are catalogued, and new ones.
-fn units_of(alloc: Global, import: &Import<'_>) -> Result<Vec<Number>, StoreFault>
-    ensures units { IfOk result (λ units. units.items
-        ≡ units_from (get_by_text import.now.catalogued.now) import.now.next import.now.rows.now) }
-    ensures faults { IfErr result (λ e. e ≡ StoreFault.Memory) }
-{
-    let mut units = Vec::new(alloc);
-    let mut next = import.next;
-    for row in import.rows {
-        match kept_number(import.catalogued, &row.legacy) {
-            Some(unit) => units.push(unit)?,
-            None => {
-                units.push(next)?;
-                next = number_after(next, 1)?;
-            }
-        }
-    }
-    Ok(units)
-}
-
-/// Enters the rows, and the places of the units that they add, all places at once.
+/// Enters the rows, whose units are `units`, and the places of the units that they add, all places at once.
 fn enter_with_places<P: Places, S: Alter>(
     alloc: Global,
     tables: &mut Tables<P, S>,
     import: &Import<'_>,
+    units: &[Number],
     arrivals: &[Arrival],
 ) -> Result<Counts, StoreFault>
     ensures updates { Updates S.Store catalogue_trees (RepresentsNumbered P.represents P.version)
         tables.old tables.new result
-        when Brings import.now arrivals.now gives imported import.now }
-    ensures counts { ReadsCatalogue S.Store (RepresentsNumbered P.represents P.version) (Brings import.now arrivals.now)
+        when Brings import.now units.now arrivals.now gives imported import.now }
+    ensures counts { ReadsCatalogue S.Store (RepresentsNumbered P.represents P.version)
+        (Brings import.now units.now arrivals.now)
         tables.old tables.new result (λ c counts. counts ≡ counted_in c import.now) }
 {
     P::add_all(alloc, tables, arrivals)?;
-    let counts = enter_each(alloc, tables, import)?;
+    let counts = enter_each(alloc, tables, import, units)?;
     let next = number_after(import.next, counts.new)?;
     set_next_unit(tables, next)?;
     Ok(counts)
@@ -239,8 +217,7 @@ pub(crate) fn enter_rows<P: Places, S: Alter>(
         result (λ c made. (made.counts ≡ counted_in c import.now) × (map Some made.units.items
         ≡ map (λ row. number_there (imported import.now c) import.now.source.now row.legacy) import.now.rows.now)) }
 {
-    let arrivals = arrivals(alloc, import)?;
-    let units = units_of(alloc, import)?;
-    let counts = enter_with_places(alloc, tables, import, &arrivals)?;
+    let FileUnits { units, arrivals } = number_units(alloc, import)?;
+    let counts = enter_with_places(alloc, tables, import, &units, &arrivals)?;
     Ok(Outcome { counts, units })
 }

@@ -12,12 +12,12 @@ ghost use Rattle.office_tables.specs.Premises.{◌within◌gives◌};
 ghost use Rattle.catalogue_statements.specs.Representation.{Represents};
 ghost use Rattle.catalogue_core.specs.EntryByRow.{number_there};
 ghost use Rattle.csv_import.specs.KnownUnits.{KnowsUnits, TellsParent, TellsParentOfNew};
-ghost use Rattle.csv_import.specs.RowPlan.{KnowsDepths, at_depth, placing_of, plan_of};
+ghost use Rattle.csv_import.specs.RowPlan.{KnowsDepths, at_depth, by_number, placing_of, plan_of};
 
 use crate::ancestor_depths::depths_below_many;
-use crate::legacy::{DepthsBelow, UnitNumbers, kept_number, remember};
+use crate::legacy::{DepthsBelow, UnitNumbers, kept_number};
 use crate::paths::path_of;
-use atom_csv::{Cause, Row};
+use atom_csv::{Cause, Row, remember};
 use catalogue_store::Places;
 use isad_core::limits::MOST_DEEP;
 use office_tables::{StoreFault, Tables};
@@ -30,7 +30,7 @@ pub(crate) enum Planned {
     /// All of them can be placed, and this many are new.
     Fits { new: u64 },
     /// The first row that cannot be placed, and why.
-    Faulty { row: u32, cause: u8 },
+    Faulty { row: u32, cause: Cause },
 }
 
 /// How a row is placed.
@@ -41,7 +41,7 @@ enum Placing {
     /// It is new, and a row right below it would lie this deep.
     Fits { below: u64 },
     /// It cannot be placed, for this cause.
-    Faulty { cause: u8 },
+    Faulty { cause: Cause },
 }
 
 /// How deep a new row lies: 1 for a top; none if its parent does not exist. The path of a catalogued parent is read
@@ -82,10 +82,10 @@ fn placing_at(depth: Option<u64>) -> Placing
 {
     match depth {
         None => Placing::Faulty {
-            cause: Cause::NoParent.number(),
+            cause: Cause::NoParent,
         },
         Some(depth) if depth > MOST_DEEP => Placing::Faulty {
-            cause: Cause::TooDeep.number(),
+            cause: Cause::TooDeep,
         },
         Some(depth) => Placing::Fits { below: depth + 1 },
     }
@@ -126,7 +126,7 @@ pub(crate) fn plan<P: Places, S: Alter>(
     ensures answers { Answers S.Store (Represents P.represents P.version) tables.old tables.new result
         within IsKept
         gives λ _ c told. AreGoodUnits c → (source : Bytes) → KnowsUnits c source rows.now (get_by_text catalogued.now)
-        → told ≡ plan_of c.forest source rows.now }
+        → by_number told ≡ plan_of c.forest source rows.now }
 {
     let mut depths = depths_below_many(alloc, tables, rows, catalogued)?;
     let mut new = 0;

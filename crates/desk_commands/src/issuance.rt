@@ -51,7 +51,7 @@ fn decide(
         head: ticket_of(head.first),
         is_open,
     };
-    may_issue(Some(&asked), ticket.get(), who.as_ref(), today, limits)?;
+    may_issue(&asked, ticket.get(), who.as_ref(), today, limits)?;
     match head.first {
         Some(first) => Ok(first.order),
         None => Err(Refusal::NotFirst),

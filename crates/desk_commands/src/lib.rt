@@ -1,5 +1,5 @@
-//! The commands of the reading room over an office's tables, each within a transaction. If a command is
-//! refused, the caller rolls the transaction back.
+//! The commands of the reading room over an office's tables, each within a transaction. If a command is refused, the
+//! caller rolls the transaction back.
 #![tactic(auto)]
 
 mod cancellation;

@@ -1,5 +1,4 @@
-//! Checks whether rows that were read from the desk's tables are those of a desk. It reads no tables
-//! itself.
+//! Checks whether rows that were read from the desk's tables are those of a desk. It reads no tables itself.
 //!
 //! The rows may come from anywhere and hold any numbers.
 

@@ -1,5 +1,5 @@
 //! May a container be issued to a ticket?
-ghost use Rattle.std.specs.Prelude.{◌≡◌};
+ghost use Rattle.std.specs.Prelude.{◌≡◌, Some};
 ghost use Rattle.std.specs.Result.{result_err};
 ghost use Rattle.std.specs.Option.{option_copied};
 ghost use Rattle.desk_core.specs.Checks.{issue_checks};
@@ -7,7 +7,7 @@ ghost use Rattle.desk_core.specs.Decisions.{issue_facts};
 ghost use Rattle.desk_core.specs.Refusals.{first_that_holds};
 
 use crate::reader::{Limits, Place, Reader};
-use crate::refusal::{Refusal, known_container};
+use crate::refusal::Refusal;
 use isad_core::Day;
 
 /// What decides an issue, besides the reader.
@@ -20,11 +20,11 @@ pub struct AtDesk {
     pub is_open: bool,
 }
 
-/// May the container be issued to the ticket? `container` is `None` if it is not known. `reader` is `None` if the
-/// ticket was not given; such a ticket is not first in any queue. The refusal is the first of these that holds:
-/// `UnknownContainer`, `NotAtDesk`, `NotFirst`, `TicketExpired`, `NotSeated`, `HandsFull`, `NotAvailable`.
+/// May the container be issued to the ticket? The container is known: `known_container` refuses any other. `reader` is
+/// `None` if the ticket was not given; such a ticket is not first in any queue. The refusal is the first of these that
+/// holds: `NotAtDesk`, `NotFirst`, `TicketExpired`, `NotSeated`, `HandsFull`, `NotAvailable`.
 pub fn may_issue(
-    container: Option<&AtDesk>,
+    container: &AtDesk,
     ticket: u64,
     reader: Option<&Reader>,
     today: Day,
@@ -32,9 +32,8 @@ pub fn may_issue(
 ) -> Result<(), Refusal>
     ensures { result_err result
         ≡ first_that_holds (issue_checks
-        (issue_facts (option_copied container.entry) ticket (option_copied reader.entry) today limits.now)) }
+        (issue_facts (Some container.now) ticket (option_copied reader.entry) today limits.now)) }
 {
-    let container = known_container(container)?;
     if container.place != Place::Desk {
         return Err(Refusal::NotAtDesk);
     }

@@ -48,6 +48,7 @@ pub use Rattle.office_tables.proofs.Calls.{looks_nowhere, looks_then, on_err_the
 pub use Rattle.office_tables.proofs.Casts.{bound_maybe, cast_int, cast_maybe, cast_null}
 pub use Rattle.office_tables.proofs.Causes.{none_refuse, read_cause, still_unlimited, sums_nothing}
 pub use Rattle.office_tables.proofs.InsertCauses.{IsWelcome}
+pub use Rattle.office_tables.proofs.KnownStatements.{known_change, known_query}
 pub use Rattle.office_tables.proofs.LaterCauses.{last_cause, next_cause}
 pub use Rattle.office_tables.proofs.Puts.{has_at, put_rises, put_rows}
 pub use Rattle.office_tables.proofs.Queries.{asking, choosing}

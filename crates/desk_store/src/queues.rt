@@ -60,8 +60,8 @@ impl FromRow for PlaceEntry {
 }
 
 impl PlaceEntry {
-    /// Decodes the place. Fails with `StoreFault::Schema` if there is no such place, or if the container is out
-    /// without an order.
+    /// Decodes the place. Fails with `StoreFault::Schema` if there is no such place, or if the container is out without
+    /// an order.
     fn place(&self) -> Result<Place, StoreFault>
         ensures place { IfOk result
             (IsAt (Some (record { container = 0; place = self.now.place; held_by = self.now.held_by }))) }

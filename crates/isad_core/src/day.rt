@@ -30,8 +30,8 @@ impl Model for Day {
 }
 
 impl Day {
-    /// Parses a date in the ISO 8601 form YYYY-MM-DD, exactly ten bytes. Returns `None` if the text has
-    /// another form, if the calendar has no such day, or if the day is out of range.
+    /// Parses a date in the ISO 8601 form YYYY-MM-DD, exactly ten bytes. Returns `None` if the text has another form,
+    /// if the calendar has no such day, or if the day is out of range.
     pub fn parse(text: &str) -> Option<Day>
         ensures { result ≡ day_of text.now }
     {

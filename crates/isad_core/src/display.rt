@@ -31,8 +31,8 @@ pub enum Body {
     Closed(Day),
 }
 
-/// The page of one unit. A value that was found above comes with the code of the unit that has it. If
-/// the unit is closed, the three lists are empty.
+/// The page of one unit. A value that was found above comes with the code of the unit that has it. If the unit is
+/// closed, the three lists are empty.
 #[derive(Debug, PartialEq, Drop)]
 pub struct Page {
     pub head: Shown,

@@ -109,8 +109,8 @@ impl Element {
         }
     }
 
-    /// Whether a unit that lacks it takes it from the nearest unit above that has it. What is common to
-    /// the parts is given once, at the highest level that it fits (ISAD(G) 2.4).
+    /// Whether a unit that lacks it takes it from the nearest unit above that has it. What is common to the parts is
+    /// given once, at the highest level that it fits (ISAD(G) 2.4).
     pub fn found_above(self) -> bool
         ensures { result ≡ is_found_above self }
     {

@@ -1,5 +1,5 @@
-//! The definitions applied to days, codes, aids and elements worked by hand, each in the contract of a
-//! function that does nothing.
+//! The definitions applied to days, codes, aids and elements worked by hand, each in the contract of a function that
+//! does nothing.
 ghost use Rattle.std.specs.Prelude.{◌≡◌, ◌∷◌, [], None, Some, codes, drop, false, filter_map, pos};
 ghost use Rattle.std.specs.List.{list_any, range_with_len};
 ghost use Rattle.isad_core.specs.Codes.{code_of};
@@ -41,8 +41,8 @@ pub fn worked_aids()
     ensures closed { aid (closed_series ∷ []) ≡ codes "  GB 0999 HUL/1 [Series] closed until 2024-03-02\n" }
 {}
 
-/// Each element other than the level has its own place among the texts, in the standard's order. Each
-/// element outside the head line has a line.
+/// Each element other than the level has its own place among the texts, in the standard's order. Each element outside
+/// the head line has a line.
 pub fn all_elements()
     ensures places { filter_map text_place elements ≡ range_with_len 0 25 }
     ensures lines { elements ≡ ReferenceCode ∷ Title ∷ Dates ∷ Level ∷ drop 1 line_elements }

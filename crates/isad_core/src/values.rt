@@ -29,8 +29,7 @@ pub struct Values {
     pub boxes: List<BoxKey>,
 }
 
-/// The elements that have a line of their own, in the standard's order. Code, title and level are in
-/// the head line.
+/// The elements that have a line of their own, in the standard's order. Code, title and level are in the head line.
 pub const LINE_ELEMENTS: [Element; 23] = [
     Element::Dates,
     Element::Extent,

@@ -84,7 +84,7 @@ impl Disk for MemoryDisk {
         Ok(())
     }
 
-    // The bytes are those that were written, so they have the digest that the caller kept.
+    /// The bytes are those that were written, so they have the digest that the caller kept.
     fn read_checked(&mut self, _key: u64, _want: u64, at: usize, buf: &mut [u8]) -> io::Result<()> {
         self.read_at(at, buf)
     }
@@ -104,7 +104,7 @@ impl Disk for MemoryDisk {
     }
 }
 
-// Counts a call that found no memory.
+/// Counts a call that found no memory.
 fn count(outcome: Result<(), AllocError>, faults: &mut u64) -> io::Result<()>
     ensures variant { is_ok result ≡ is_ok outcome }
     ensures kind { finds_no_room result ≡ false }
@@ -117,7 +117,7 @@ fn count(outcome: Result<(), AllocError>, faults: &mut u64) -> io::Result<()>
     Ok(())
 }
 
-// Makes a file longer, by zeros, or shorter.
+/// Makes a file longer, by zeros, or shorter.
 fn resize(file: &mut Vec<u8>, len: usize) -> Result<(), AllocError>
     ensures len { OnOk result (length file.new.items ≡ len) }
     ensures others { Cut len file.old.items file.new.items }
@@ -125,7 +125,7 @@ fn resize(file: &mut Vec<u8>, len: usize) -> Result<(), AllocError>
     file.resize(len, 0)
 }
 
-// Writes into a file, and makes it longer where the bytes end behind it.
+/// Writes into a file, and makes it longer where the bytes end behind it.
 fn overwrite(file: &mut Vec<u8>, at: usize, bytes: &[u8]) -> Result<(), AllocError>
     ensures written { OnOk result (Holds file.new.items at bytes.now) }
     ensures others { Torn at (length bytes.now) file.old.items file.new.items }

@@ -180,43 +180,33 @@ const BOB_SEATED: Ticket = (2, NEW_YEARS_EVE, Some(2), 0);
 /// Where a container is, the ticket that is first for it, and whether it is open.
 type Container = (Place, Option<u64>, bool);
 
-const FOR_ANN: Option<Container> = Some((Place::Desk, Some(1), true));
+const FOR_ANN: Container = (Place::Desk, Some(1), true);
 
-const FOR_BOB: Option<Container> = Some((Place::Desk, Some(2), true));
+const FOR_BOB: Container = (Place::Desk, Some(2), true);
 
-const FOR_NOBODY: Option<Container> = Some((Place::Desk, None, true));
+const FOR_NOBODY: Container = (Place::Desk, None, true);
 
-fn with_ann() -> Option<Container> {
-    Some((Place::Out(Number::from(1)), Some(2), true))
+fn with_ann() -> Container {
+    (Place::Out(Number::from(1)), Some(2), true)
 }
 
-const WITHHELD: Option<Container> = Some((Place::Desk, Some(1), false));
-
-fn at_desk(container: Option<Container>) -> Option<AtDesk> {
-    let (place, head, is_open) = container?;
-    Some(AtDesk {
-        place,
-        head,
-        is_open,
-    })
-}
+const WITHHELD: Container = (Place::Desk, Some(1), false);
 
 /// Whether this container may be issued today to this ticket of this reader.
 fn issue(
     rt: &impl Abort,
-    container: Option<Container>,
+    container: Container,
     ticket: u64,
     holder: Option<Ticket>,
 ) -> Result<(), Refusal> {
-    let container = at_desk(container);
+    let (place, head, is_open) = container;
+    let container = AtDesk {
+        place,
+        head,
+        is_open,
+    };
     let reader = reader(rt, holder);
-    may_issue(
-        container.as_ref(),
-        ticket,
-        reader.as_ref(),
-        day(rt, TODAY),
-        &LIMITS,
-    )
+    may_issue(&container, ticket, reader.as_ref(), day(rt, TODAY), &LIMITS)
 }
 
 #[test]
@@ -230,7 +220,6 @@ fn containers_are_issued_in_turn(rt: HostRuntime) {
         (FOR_BOB, 2, Some(BOB_SEATED), Ok(())),
         // a ticket that does not exist is first for no container
         (FOR_ANN, 1, None, Err(Refusal::NotFirst)),
-        (None, 1, Some(ANN), Err(Refusal::UnknownContainer)),
         (FOR_NOBODY, 1, Some(ANN), Err(Refusal::NotFirst)),
         // of several refusals, the reply is the first
         (FOR_ANN, 1, Some(ANN_FULL), Err(Refusal::HandsFull)),

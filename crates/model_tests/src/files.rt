@@ -16,7 +16,7 @@ fn fault(alloc: Global, bytes: &[u8]) -> Option<FileFault> {
     read_file(alloc, bytes).err()
 }
 
-// The number of the element whose text stands at a place: the level has none.
+/// The number of the element whose text stands at a place: the level has none.
 fn element(place: usize) -> usize {
     if place < 3 {
         place.saturating_add(1)
@@ -44,7 +44,7 @@ fn show_row(line: &mut String, row: &Row) -> Result<(), AllocError> {
     line.push_str("\n")
 }
 
-// A file as text: a line for each row, and the number of translations.
+/// A file as text: a line for each row, and the number of translations.
 fn listing(alloc: Global, file: &File) -> Result<String, AllocError> {
     let mut text = String::new(alloc);
     for row in file.rows.as_slice() {
@@ -181,7 +181,7 @@ fn files_are_told(rt: HostRuntime) -> Result<(), Fail> {
     Ok(())
 }
 
-// The result of reading the first n bytes of the file of a fonds and a series.
+/// The result of reading the first n bytes of the file of a fonds and a series.
 fn prefix_says(n: usize) -> &'static str {
     match n {
         0 => "row 1 cause 2",
@@ -214,7 +214,7 @@ fn every_prefix_is_told(rt: HostRuntime) -> Result<(), Fail> {
     Ok(())
 }
 
-// Rows whose last field is a text of `length` bytes between spaces.
+/// Rows whose last field is a text of `length` bytes between spaces.
 fn with_last(alloc: Global, rows: &str, length: usize) -> Result<String, AllocError> {
     let mut text = String::from_str(alloc, rows)?;
     text.push(' ')?;

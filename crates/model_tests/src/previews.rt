@@ -5,7 +5,7 @@ use finding_aids::preview;
 use std::alloc::{AllocError, Global};
 use std::test::Fail;
 
-// The finding aids of a file in the record office 0999 of GB, or its fault.
+/// The finding aids of a file in the record office 0999 of GB, or its fault.
 fn preview_text(alloc: Global, file: &[u8]) -> Result<Vec<u8>, AllocError> {
     match preview(alloc, file, "GB", "0999") {
         Ok(text) => Ok(text),
@@ -183,7 +183,7 @@ fn the_first_fault_is_told(rt: HostRuntime) -> Result<(), Fail> {
     Ok(())
 }
 
-// A file of `units` units, each below the one before.
+/// A file of `units` units, each below the one before.
 fn chain(alloc: Global, units: u32) -> Result<String, AllocError> {
     let mut text = String::from_str(alloc, "legacyId,parentId,publicationStatus\n1,,Published\n")?;
     for unit in 1..units {
@@ -193,7 +193,7 @@ fn chain(alloc: Global, units: u32) -> Result<String, AllocError> {
     Ok(text)
 }
 
-// The finding aid of such a chain: each unit is indented by two spaces more than the one above.
+/// The finding aid of such a chain: each unit is indented by two spaces more than the one above.
 fn ladder(alloc: Global, units: u32) -> Result<String, AllocError> {
     let mut text = String::new(alloc);
     let mut indent = String::new(alloc);
@@ -205,7 +205,7 @@ fn ladder(alloc: Global, units: u32) -> Result<String, AllocError> {
     Ok(text)
 }
 
-// The preview of such a chain.
+/// The preview of such a chain.
 fn told_of_chain(alloc: Global, units: u32) -> Result<Vec<u8>, AllocError> {
     let file = chain(alloc, units)?;
     preview_text(alloc, file.as_bytes())

@@ -201,7 +201,7 @@ fn head_of(alloc: Global, size: usize) -> Result<Vec<u8>, AllocError> {
     Ok(head)
 }
 
-// A head may have 16,384 bytes.
+/// A head may have 16,384 bytes.
 #[test]
 fn long_heads(rt: HostRuntime) -> Result<(), Fail> {
     for size in 16_381..16_388usize {
@@ -226,7 +226,7 @@ fn after_lines(alloc: Global, lines: usize, then: &[u8]) -> Result<Vec<u8>, Allo
     Ok(input)
 }
 
-// The empty lines before a head count.
+/// The empty lines before a head count.
 #[test]
 fn empty_lines(rt: HostRuntime) -> Result<(), Fail> {
     for lines in [0usize, 1, 16_345, 16_346, 16_383, 16_384] {
@@ -396,7 +396,7 @@ fn ten_cut(
     Ok(())
 }
 
-// Ten messages that end, or whose reader fails, after any number of bytes.
+/// Ten messages that end, or whose reader fails, after any number of bytes.
 #[test]
 fn ten_messages(rt: HostRuntime) -> Result<(), Fail> {
     let input = ten(rt.alloc())?;
@@ -431,7 +431,7 @@ const COMMANDS: [&[u8]; 18] = [
     b"POST /desk/revoke HTTP/1.1\r\nHost: x\r\nContent-Length: 21\r\n\r\n{\"ticket\":1,\"unit\":1}",
 ];
 
-// Every command fifty times, in one session.
+/// Every command fifty times, in one session.
 #[test]
 fn fifty_rounds(rt: HostRuntime) -> Result<(), Fail> {
     let mut input = Vec::new(rt.alloc());
@@ -451,8 +451,8 @@ fn fifty_rounds(rt: HostRuntime) -> Result<(), Fail> {
     Ok(())
 }
 
-// Whichever request for memory is refused, what the office has answered is written whole. Then comes 503, unless the
-// input has ended. `mutation/faults/tables.sh` refuses each request in turn, also those after an answer.
+/// Whichever request for memory is refused, what the office has answered is written whole. Then comes 503, unless the
+/// input has ended. `mutation/faults/tables.sh` refuses each request in turn, also those after an answer.
 #[test]
 fn refused_memory(rt: HostRuntime) -> Result<(), Fail> {
     let mut desk = Noting { answers: 0 };
@@ -479,7 +479,7 @@ fn refused_memory(rt: HostRuntime) -> Result<(), Fail> {
     Ok(())
 }
 
-// Over a slice and a vector of std, and over `&mut` of them.
+/// Over a slice and a vector of std, and over `&mut` of them.
 #[test]
 fn streams_of_std(rt: HostRuntime) -> Result<(), Fail> {
     let mut desk = Counter { tickets: 0 };

@@ -33,7 +33,7 @@ const ANN: &[u8] = b"{\"name\":\"Ann\",\"until\":\"2024-12-31\"}";
 
 const LEAVE: &[u8] = b"HTTP/1.1 100 Continue\r\n\r\n";
 
-// Whatever pieces the input comes in, even if each read is first interrupted.
+/// Whatever pieces the input comes in, even if each read is first interrupted.
 #[test]
 fn two_requests(rt: HostRuntime) -> Result<(), Fail> {
     for piece in 1..40usize {
@@ -55,7 +55,7 @@ fn two_requests(rt: HostRuntime) -> Result<(), Fail> {
     Ok(())
 }
 
-// A reader that fails after some bytes: messages that came completely before are answered.
+/// A reader that fails after some bytes: messages that came completely before are answered.
 #[test]
 fn a_reader_that_fails(rt: HostRuntime) -> Result<(), Fail> {
     for n in 0..79usize {
@@ -80,7 +80,7 @@ fn a_reader_that_fails(rt: HostRuntime) -> Result<(), Fail> {
     Ok(())
 }
 
-// A writer that takes some bytes, and then fails or takes none.
+/// A writer that takes some bytes, and then fails or takes none.
 #[test]
 fn a_narrow_writer(rt: HostRuntime) -> Result<(), Fail> {
     for room in 0..240usize {
@@ -99,7 +99,7 @@ fn a_narrow_writer(rt: HostRuntime) -> Result<(), Fail> {
     Ok(())
 }
 
-// After a failed write, no later message is acted on.
+/// After a failed write, no later message is acted on.
 #[test]
 fn a_message_after_a_fault(rt: HostRuntime) -> Result<(), Fail> {
     let mut desk = Counter { tickets: 0 };
@@ -111,7 +111,7 @@ fn a_message_after_a_fault(rt: HostRuntime) -> Result<(), Fail> {
     Ok(())
 }
 
-// Two registrations in one piece: the second is acted on only once the first is answered.
+/// Two registrations in one piece: the second is acted on only once the first is answered.
 #[test]
 fn two_registrations_in_one_piece(rt: HostRuntime) -> Result<(), Fail> {
     for room in 0..166usize {
@@ -126,7 +126,7 @@ fn two_registrations_in_one_piece(rt: HostRuntime) -> Result<(), Fail> {
     Ok(())
 }
 
-// The number of calls for a message is bounded: of a reader, and of a writer in addition to the answer's length.
+/// The number of calls for a message is bounded: of a reader, and of a writer in addition to the answer's length.
 #[test]
 fn calls_without_end(rt: HostRuntime) -> Result<(), Fail> {
     let mut desk = Counter { tickets: 0 };
@@ -149,7 +149,7 @@ fn calls_without_end(rt: HostRuntime) -> Result<(), Fail> {
     Ok(())
 }
 
-// An interruption at a write or a flush of one answer takes nothing from another: each is 120 writes and a flush.
+/// An interruption at a write or a flush of one answer takes nothing from another: each is 120 writes and a flush.
 #[test]
 fn an_interruption_at_each_call(rt: HostRuntime) -> Result<(), Fail> {
     for once in 1..243u64 {
@@ -168,8 +168,8 @@ fn an_interruption_at_each_call(rt: HostRuntime) -> Result<(), Fail> {
     Ok(())
 }
 
-// After an interruption of the first answer, the second has as many calls as it would have without: its 120 bytes and
-// 16 more. The first takes 122 calls.
+/// After an interruption of the first answer, the second has as many calls as it would have without: its 120 bytes and
+/// 16 more. The first takes 122 calls.
 #[test]
 fn calls_without_end_after_an_interruption(rt: HostRuntime) -> Result<(), Fail> {
     for once in [1u64, 60, 120, 121] {
@@ -186,7 +186,7 @@ fn calls_without_end_after_an_interruption(rt: HostRuntime) -> Result<(), Fail> 
     Ok(())
 }
 
-// The same for reads: the first message takes two, of which one is interrupted.
+/// The same for reads: the first message takes two, of which one is interrupted.
 #[test]
 fn reads_without_end_after_an_interruption(rt: HostRuntime) -> Result<(), Fail> {
     let mut desk = Counter { tickets: 0 };
@@ -200,7 +200,7 @@ fn reads_without_end_after_an_interruption(rt: HostRuntime) -> Result<(), Fail> 
     Ok(())
 }
 
-// Leave to send a body is flushed before any byte of the body is read; a flush that is interrupted is tried again.
+/// Leave to send a body is flushed before any byte of the body is read; a flush that is interrupted is tried again.
 #[test]
 fn leave_before_the_body(rt: HostRuntime) -> Result<(), Fail> {
     for shy in 0..15u32 {
@@ -231,8 +231,8 @@ fn leave_before_the_body(rt: HostRuntime) -> Result<(), Fail> {
     Ok(())
 }
 
-// The number of calls for the leave to send a body is bounded too: its 25 bytes and 16 more, however much of it was
-// taken.
+/// The number of calls for the leave to send a body is bounded too: its 25 bytes and 16 more, however much of it was
+/// taken.
 #[test]
 fn leave_without_end(rt: HostRuntime) -> Result<(), Fail> {
     for room in [0usize, 10, 25] {
@@ -250,7 +250,7 @@ fn leave_without_end(rt: HostRuntime) -> Result<(), Fail> {
     Ok(())
 }
 
-// An answer that fits into one lot with its head is one write, and any other is two.
+/// An answer that fits into one lot with its head is one write, and any other is two.
 #[test]
 fn few_writes(rt: HostRuntime) -> Result<(), Fail> {
     for size in [0usize, 40, 999, 1900, 1959, 1960, 2048, 5000, 300_000] {
@@ -273,7 +273,7 @@ fn few_writes(rt: HostRuntime) -> Result<(), Fail> {
     Ok(())
 }
 
-// The 10,000th answer closes the connection, and says so.
+/// The 10,000th answer closes the connection, and says so.
 #[test]
 fn the_last_answer(rt: HostRuntime) -> Result<(), Fail> {
     let mut desk = Counter { tickets: 0 };
@@ -369,7 +369,7 @@ fn worked_sessions(rt: HostRuntime) -> Result<(), Fail> {
     Ok(())
 }
 
-// The same, with the input split into two parts at every position.
+/// The same, with the input split into two parts at every position.
 #[test]
 fn sessions_in_two_parts(rt: HostRuntime) -> Result<(), Fail> {
     for case in &CASES {

@@ -81,6 +81,7 @@ pub use Rattle.office_tables.proofs.Calls.{stopped}
 pub use Rattle.office_tables.proofs.Casts.{cast_int, cast_null}
 pub use Rattle.office_tables.proofs.Causes.{failed_cause, none_refuse, read_cause, still_unlimited, sums_nothing}
 pub use Rattle.office_tables.proofs.Creations.{free, s5}
+pub use Rattle.office_tables.proofs.KnownStatements.{known_change, known_query}
 pub use Rattle.office_tables.proofs.LookUps.{Hands, if_handed, looks_full, looks_ill, looks_known, looks_last}
 pub use Rattle.office_tables.proofs.LookUps.{looks_passed, looks_passed_later, looks_well}
 pub use Rattle.office_tables.proofs.Puts.{fresh_key, put_more, put_rises, put_rows}

@@ -21,11 +21,6 @@ module _ {S : Type 0} (g : trees.Ghosts S) (before after : Held S) where
   abbrev new : State
   new = state g after
 
-  -- It ends the transaction without a commit, whether one is open or not.
-  pub record RollsBack : Type 0 where
-    pub ended : HasCleanDisk new → IsEnded old new
-    pub crash : Survives old new (λ _. ⊥)
-
   -- It commits what was done. If that fails, the transaction has ended without a commit. A crash finds what was
   -- committed before, or all of it.
   pub record Commits {X : Type 0} (r : Result X StoreFault) : Type 0 where

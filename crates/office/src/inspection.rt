@@ -6,10 +6,9 @@ ghost use Rattle.sqlite.specs.State.{HasCleanDisk};
 ghost use Rattle.office.specs.Inspection.{ConfirmsOpen, Inspects};
 ghost use Rattle.office.specs.Transactions.{IsBetweenTransactions};
 
-use crate::transactions::take_back;
 use adoption::{Verdict, judge};
 use integrity_checks::CheckedPlaces;
-use office_tables::{StoreFault, begin};
+use office_tables::{StoreFault, begin, roll_back};
 use sqlite::{Alter, Connection};
 use std::alloc::Global;
 
@@ -25,7 +24,7 @@ fn judge_apart<P: CheckedPlaces, S: Alter>(
     let _ = conn.is_autocommit();
     begin(conn)?;
     let verdict = judge::<P, S>(alloc, conn);
-    take_back(conn);
+    roll_back(conn);
     verdict
 }
 

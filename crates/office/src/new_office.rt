@@ -6,11 +6,11 @@ ghost use Rattle.office_tables.specs.Schema.{no_schema};
 ghost use Rattle.office.specs.NewOffice.{AwaitsTables, Founds, MakesTables};
 ghost use Rattle.office.specs.Transactions.{IsBetweenTransactions};
 
-use crate::transactions::{keep, take_back};
+use crate::transactions::keep;
 use catalogue_statements::OfficeRow;
 use catalogue_store::{Places, create};
 use desk_store::create_desk;
-use office_tables::{StoreFault, begin};
+use office_tables::{StoreFault, begin, roll_back};
 use sqlite::{Alter, Connection};
 
 /// Makes the tables of a new office inside the transaction. There must be no tables yet.
@@ -39,7 +39,7 @@ pub(crate) fn found<P: Places, S: Alter>(
     let _ = conn.is_autocommit();
     begin(conn)?;
     if let Err(fault) = make_tables::<P, S>(conn, row) {
-        take_back(conn);
+        roll_back(conn);
         return Err(fault);
     }
     keep(conn)

@@ -1,24 +1,17 @@
 //! How the transaction of a command ends.
 
-ghost use Rattle.office.specs.Transactions.{Commits, RollsBack, Settles};
+ghost use Rattle.office.specs.Transactions.{Commits, Settles};
 
 use office_core::Reply;
 use office_tables::{Closed, StoreFault, Versioned, commit, roll_back};
 use sqlite::{Alter, Connection};
-
-/// Rolls back what was done, whether the transaction is still open or not.
-pub(crate) fn take_back<S: Alter>(conn: &mut Connection<S>)
-    ensures { RollsBack S.Store conn.old conn.new }
-{
-    roll_back(conn);
-}
 
 /// Commits what was done. If that fails, it is rolled back.
 pub(crate) fn keep<S: Alter>(conn: &mut Connection<S>) -> Result<(), StoreFault>
     ensures { Commits S.Store conn.old conn.new result }
 {
     if let Err(fault) = commit(conn) {
-        take_back(conn);
+        roll_back(conn);
         return Err(fault);
     }
     Ok(())

@@ -60,7 +60,7 @@ pub use Rattle.catalogue_core.specs.PublishedUnits.{IsPublished, boxes_told, ide
 pub use Rattle.catalogue_core.specs.Sources.{is_between, is_source}
 pub use Rattle.catalogue_core.specs.Statuses.{chosen, is_chosen}
 pub use Rattle.catalogue_core.specs.UnitLookup.{has_unit}
-pub use Rattle.catalogue_core.specs.Units.{Unit, has_id, is_from, is_later, is_unit_closed}
+pub use Rattle.catalogue_core.specs.Units.{Unit, has_id, is_from, is_unit_closed}
 pub use Rattle.office_core.specs.GivenNumbers.{AreNumberedUnits, ComesNew, Containers, EachIsUnits, GivenInOrder}
 pub use Rattle.office_core.specs.GivenNumbers.{IsThatUnit, Kind, NamesStay, NamesWhatCame, NumbersRows, Orders, Runs}
 pub use Rattle.office_core.specs.GivenNumbers.{StartsAtOne, StaysNamed, Tickets, Units, all_given, given_numbers}

@@ -1,11 +1,11 @@
 -- An office that keeps nothing but what is published answers the public alike.
 use Rattle.std.proofs.Common.{◌≡◌, ℤ, Bool, true, false, cond, Option, Some, None, refl, sym, ap, ap₂, ◌∙◌}
+use Rattle.visibility.specs.Marks.{is_later}
 use Rattle.visibility.specs.Visibility.{public}
 use Rattle.catalogue_core.proofs.PublicPaths.{drafts, known_of, known_where}
 use Rattle.office_core.proofs.Common.{AnswersAlike, BoxKey, Empty, Forest, Node, State, Unit, all_true, box_number}
-use Rattle.office_core.proofs.Common.{boxes_told, each, false≢true, flat_map, is_later, is_unit_closed, nodes}
-use Rattle.office_core.proofs.Common.{public_forest, public_of, public_unit, published_forest, published_part}
-use Rattle.office_core.proofs.Common.{published_unit, stub_of}
+use Rattle.office_core.proofs.Common.{boxes_told, each, false≢true, flat_map, is_unit_closed, nodes, public_forest}
+use Rattle.office_core.proofs.Common.{public_of, public_unit, published_forest, published_part, published_unit, stub_of}
 use Rattle.office_core.proofs.NoLeak.{answers_alike}
 
 module _ (day : ℤ) where

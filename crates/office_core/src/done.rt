@@ -7,8 +7,7 @@ use isad_core::{Day, List, Number};
 pub enum Remark {
     /// The unit's level belongs above that of the unit right above it (ISAD(G) 2.1).
     LevelTooHigh { row: u32 },
-    /// The unit is a top, and lacks one of the elements that are essential for international exchange
-    /// (ISAD(G) I.12).
+    /// The unit is a top, and lacks one of the elements that are essential for international exchange (ISAD(G) I.12).
     LacksEssential { row: u32 },
 }
 

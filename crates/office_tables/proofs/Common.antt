@@ -89,12 +89,12 @@ pub use Rattle.sqlite_value.proofs.OrderLemmas.{then-Equal, value_cmp-Int, value
 pub use Rattle.sqlite_value.proofs.OrderLemmas.{value_cmp-apart, value_cmp_total}
 pub use Rattle.sqlite_value.specs.Keys.{ascending}
 pub use Rattle.sqlite_value.specs.declared.keys.Key.{Key}
-pub use Rattle.office_tables.specs.ChangeStatement.{IsOurs, IsOutside, Leaves, LeavesOr, Ran}
+pub use Rattle.office_tables.specs.ChangeStatement.{IsChange, IsOurs, IsOutside, Leaves, LeavesOr, Ran}
 pub use Rattle.office_tables.specs.Creation.{DefinesIndex, DefinesTable, HasMade, IsFreeName, IsMaking, LeavesMaking}
 pub use Rattle.office_tables.specs.Faults.{BlamesDisk, FaultsHaveCause, HasOuterCause, IsUnlimited, fault_of}
 pub use Rattle.office_tables.specs.Order.{IsOrdered, Rises}
 pub use Rattle.office_tables.specs.OrderedInsertion.{put_by}
-pub use Rattle.office_tables.specs.Query.{Finds, FindsFirst, Gathers, IsOurQuery, Misses, Reads, StopsShort}
+pub use Rattle.office_tables.specs.Query.{Finds, FindsFirst, Gathers, IsOurQuery, IsQuery, Misses, Reads, StopsShort}
 pub use Rattle.office_tables.specs.RowNumbers.{AreCounted, AreCountedFrom, HasNumbered, HoldsNumbered}
 pub use Rattle.office_tables.specs.Schema.{container, desk_schema, desk_tables, element, housing, index, link, office}
 pub use Rattle.office_tables.specs.Schema.{permit, schema, seat, unit}

@@ -43,3 +43,4 @@ pub mod LookUps
 pub mod StoreCalls
 pub mod statements
 pub mod TwoTables
+pub mod KnownStatements

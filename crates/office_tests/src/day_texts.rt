@@ -1,6 +1,6 @@
 //! Days of an office. Of each there are the name, the requests, the answers, and what the program says at its end, with
-//! a byte 1F after each of them but the last. A byte 1E is between two days. `acceptance/days_over_links.py` writes this
-//! file from `acceptance/days`.
+//! a byte 1F after each of them but the last. A byte 1E is between two days. `acceptance/days_over_links.py` writes
+//! this file from `acceptance/days`.
 
 pub(crate) const DAYS: &str = "\
     bodies\x1f\

@@ -32,7 +32,7 @@ use sqlite_disk::Disk;
 use std::alloc::Global;
 use std::io::{Read, Write};
 
-// Makes a new office in a file.
+/// Makes a new office in a file.
 fn init<S: Start>(
     rt: &HostRuntime,
     store: &Text,
@@ -49,7 +49,7 @@ fn init<S: Start>(
     }
 }
 
-// Imports a file of descriptions into the office in a file. The descriptions are read before the office is opened.
+/// Imports a file of descriptions into the office in a file. The descriptions are read before the office is opened.
 fn import<S: Start, W: Write>(
     rt: &HostRuntime,
     alloc: Global,
@@ -80,7 +80,7 @@ fn import<S: Start, W: Write>(
     }
 }
 
-// Answers requests on the office in a file.
+/// Answers requests on the office in a file.
 fn talk<S: Start, R: Read, W: Write>(
     rt: &HostRuntime,
     alloc: Global,
@@ -103,7 +103,7 @@ fn talk<S: Start, R: Read, W: Write>(
     (talked, StoreOutcome::Closed(close_office(office)))
 }
 
-// Listens on the port of this number, and prints that it does.
+/// Listens on the port of this number, and prints that it does.
 fn listen<P: Port, W: Write>(
     rt: &HostRuntime,
     alloc: Global,
@@ -123,7 +123,7 @@ fn listen<P: Port, W: Write>(
     Ok(())
 }
 
-// Serves an office on the port of this number. Prints that it listens as soon as the port is bound.
+/// Serves an office on the port of this number. Prints that it listens as soon as the port is bound.
 fn serve_on_port<P: Port, M: Machine, W: Write>(
     rt: &HostRuntime,
     alloc: Global,
@@ -153,7 +153,7 @@ fn serve_on_port<P: Port, M: Machine, W: Write>(
     }
 }
 
-// Serves the office in a file.
+/// Serves the office in a file.
 fn serve_store<S: Start, P: Port, W: Write>(
     rt: &HostRuntime,
     alloc: Global,
@@ -178,7 +178,7 @@ fn serve_store<S: Start, P: Port, W: Write>(
     (served, StoreOutcome::Closed(close_office(office)))
 }
 
-// Checks whether the office in a file is sound, and prints the verdict.
+/// Checks whether the office in a file is sound, and prints the verdict.
 fn check<S: Start, W: Write>(
     rt: &HostRuntime,
     alloc: Global,
@@ -203,7 +203,7 @@ fn check<S: Start, W: Write>(
     }
 }
 
-// Prints that an office was migrated.
+/// Prints that an office was migrated.
 fn tell_migration<W: Write>(out: &mut Sink<'_, W>) -> Result<(), Fault>
     ensures done { OnOk result (Prints migrated_line out.old out.new) }
     ensures fault { IfErr result (LineFails migrated_line out.old out.new) }
@@ -212,7 +212,7 @@ fn tell_migration<W: Write>(out: &mut Sink<'_, W>) -> Result<(), Fault>
     Ok(())
 }
 
-// Migrates the office in a file from version 1 to version 2.
+/// Migrates the office in a file from version 1 to version 2.
 fn migrate<S: Start, W: Write>(
     rt: &HostRuntime,
     alloc: Global,
@@ -240,7 +240,7 @@ fn migrate<S: Start, W: Write>(
     }
 }
 
-// Performs a task.
+/// Performs a task.
 fn do_task<S: Start, R: Read, W: Write, P: Port>(
     rt: &HostRuntime,
     alloc: Global,

@@ -86,7 +86,7 @@ pub type FileStoreFrom<S> = FileStore<FileFrom<S>>;
 /// Why a store in a file could not be opened. `S` gives what the file held before.
 pub type FailedOpeningFrom<S> = FailedOpening<S, FileFrom<S>>;
 
-// The reason that an error gives.
+/// The reason that an error gives.
 fn reason_of(error: &Error) -> FileFault
     ensures { result ≡ reason_of_error error.now }
 {
@@ -96,7 +96,7 @@ fn reason_of(error: &Error) -> FileFault
     }
 }
 
-// Opens the file.
+/// Opens the file.
 fn open<S: Start>(
     rt: &HostRuntime,
     path: &str,
@@ -119,7 +119,7 @@ fn open<S: Start>(
     }
 }
 
-// The path of the log that lies beside a file.
+/// The path of the log that lies beside a file.
 fn log_of(rt: &HostRuntime, path: &str) -> Result<String, AllocError> {
     format!(in rt.alloc(); "{path}-wal")
 }

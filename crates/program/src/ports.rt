@@ -65,7 +65,7 @@ pub struct LocalPort {
     client: Option<TcpStream>,
 }
 
-// The address that a server listens on.
+/// The address that a server listens on.
 fn here(port: u16) -> SocketAddr
     ensures { IsHere port result }
 {
@@ -129,8 +129,8 @@ impl Port for LocalPort {
     }
 }
 
-// Makes each write be sent at once, and each read or write fail if it waits too long. If the system refuses an option,
-// the connection is served all the same.
+/// Makes each write be sent at once, and each read or write fail if it waits too long. If the system refuses an option,
+/// the connection is served all the same.
 fn set_up(stream: &TcpStream) {
     let patience = Some(Duration::from_secs(PATIENCE));
     let _ = stream.set_nodelay(true);
@@ -138,8 +138,8 @@ fn set_up(stream: &TcpStream) {
     let _ = stream.set_write_timeout(patience);
 }
 
-// Shuts down the writing side, and reads and discards what still arrives, so that the last answer reaches the client:
-// a system resets a connection that is closed with unread bytes (RFC 9112, 9.6).
+/// Shuts down the writing side, and reads and discards what still arrives, so that the last answer reaches the client:
+/// a system resets a connection that is closed with unread bytes (RFC 9112, 9.6).
 fn close(stream: &TcpStream) {
     let patience = Some(Duration::from_millis(LAST_PATIENCE));
     if stream.shutdown(Shutdown::Write).is_err() || stream.set_read_timeout(patience).is_err() {

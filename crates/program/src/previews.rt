@@ -24,7 +24,7 @@ pub fn file_bytes<F: Files>(rt: &F, alloc: Global, path: &Text) -> Result<Vec<u8
     }
 }
 
-// Reads the file at this path, or standard input if there is no path.
+/// Reads the file at this path, or standard input if there is no path.
 fn read_file<F: Files, R: Read>(
     rt: &F,
     alloc: Global,
@@ -43,7 +43,7 @@ fn read_file<F: Files, R: Read>(
     }
 }
 
-// The fault of a file that gives no finding aids.
+/// The fault of a file that gives no finding aids.
 fn refused_file(alloc: Global, fault: FileFault) -> Fault
     ensures { RefusesFile fault result }
 {

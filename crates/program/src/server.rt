@@ -7,7 +7,7 @@ use http_desk::streams::{Sink, Source};
 use office::Machine;
 use std::alloc::Global;
 
-// Holds a session with the client of a connection, and leaves the connection.
+/// Holds a session with the client of a connection, and leaves the connection.
 fn answer<P: Port, M: Machine>(
     alloc: Global,
     port: &mut P,
@@ -26,8 +26,8 @@ fn answer<P: Port, M: Machine>(
     port.leave(&source, &sink, ended);
 }
 
-// Serves one connection, which counts however it ends. Returns false if none could be taken. If it is the last, the
-// port is closed before the session.
+/// Serves one connection, which counts however it ends. Returns false if none could be taken. If it is the last, the
+/// port is closed before the session.
 fn serve_one<P: Port, M: Machine>(
     alloc: Global,
     port: &mut P,

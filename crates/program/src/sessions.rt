@@ -13,7 +13,7 @@ use office::{Machine, Settings};
 use std::alloc::Global;
 use std::io::{Read, Write};
 
-// The result of a session: a fault if it broke off.
+/// The result of a session: a fault if it broke off.
 fn after(ended: Ended) -> Result<(), Fault>
     ensures well { OnOk result (EndsWell ended) }
     ensures broken { IfErr result (λ f. (broken : Break) × (f ≡ Fault.Session broken) × (ended ≡ ended_by broken)) }

@@ -34,11 +34,11 @@ pub type KeptOffice<S> = Office<SpanPlaces, FileStoreFrom<S>>;
 /// The office of a trial. It has the store of an office in a file, over a disk in memory.
 pub type TrialOffice = Office<SpanPlaces, FileStore<MemoryDisk>>;
 
-// A random number marks what a log holds, so that an opening after a crash takes nothing old for new. No opening finds
-// the log of a trial, so any number will do.
+/// A random number marks what a log holds, so that an opening after a crash takes nothing old for new. No opening finds
+/// the log of a trial, so any number will do.
 const TRIAL_SEED: u64 = 1;
 
-// The fault of a store that could not be opened.
+/// The fault of a store that could not be opened.
 fn open_fault<S: Start>(failed: FailedOpeningFrom<S>) -> (Fault, Outcome<S>)
     requires { CouldNotOpen ⟦<FileFrom<S> as Disk>⟧ (image_at S.Start) failed }
     ensures { IsUnopened (image_at S.Start) result.1 result.0 }

@@ -167,7 +167,7 @@ pub fn write_within<W: Write>(
     }
 }
 
-// Flushes what was written.
+/// Flushes what was written.
 fn flush<W: Write>(writer: &mut Sink<'_, W>) -> Result<(), WriteFault>
     ensures nothing { Appends writer.old.bytes writer.new.bytes [] }
     ensures flushed { OnOk result (writer.new.flushed ≡ true) }

@@ -20,10 +20,10 @@ use std::alloc::{AllocError, Global};
 use std::rt::Env;
 use std::{env, io};
 
-// The message of `clap` for words that are not UTF-8.
+/// The message of `clap` for words that are not UTF-8.
 const NO_TEXT: &str = "error: invalid UTF-8 was detected in one or more arguments\n";
 
-// The settings with which an office begins. The day is checked first.
+/// The settings with which an office begins. The day is checked first.
 #[tactic(auto, using(crate::proofs::GivenSettings::taken_are, crate::proofs::GivenSettings::refused_are))]
 fn settings(alloc: Global, found: &ArgMatches) -> Result<Settings, TaskFault>
     requires { HasSettings (rows_of (found_of found.now)) }
@@ -54,7 +54,7 @@ fn settings(alloc: Global, found: &ArgMatches) -> Result<Settings, TaskFault>
     }
 }
 
-// A preview. The codes are checked like those of an office.
+/// A preview. The codes are checked like those of an office.
 fn preview(alloc: Global, found: &ArgMatches) -> Result<Task, TaskFault>
     requires country { HasText (rows_of (found_of found.now)) (codes "country") }
     requires repo { HasText (rows_of (found_of found.now)) (codes "repo") }
@@ -73,7 +73,7 @@ fn preview(alloc: Global, found: &ArgMatches) -> Result<Task, TaskFault>
     })
 }
 
-// A new office in a file. The settings are checked before the path is read.
+/// A new office in a file. The settings are checked before the path is read.
 fn init(alloc: Global, found: &ArgMatches) -> Result<Task, TaskFault>
     requires store { HasText (rows_of (found_of found.now)) (codes "store") }
     requires settings { HasSettings (rows_of (found_of found.now)) }
@@ -85,7 +85,7 @@ fn init(alloc: Global, found: &ArgMatches) -> Result<Task, TaskFault>
     Ok(Task::Init { store, settings })
 }
 
-// An import into the office in a file.
+/// An import into the office in a file.
 fn import(alloc: Global, found: &ArgMatches) -> Result<Task, AllocError>
     requires { HasImport (rows_of (found_of found.now)) }
     ensures { IfOk result (IsTask (codes "import") (rows_of (found_of found.now))) }
@@ -97,7 +97,7 @@ fn import(alloc: Global, found: &ArgMatches) -> Result<Task, AllocError>
     })
 }
 
-// A server of the office in a file.
+/// A server of the office in a file.
 fn serve(alloc: Global, found: &ArgMatches) -> Result<Task, AllocError>
     requires { HasServer (rows_of (found_of found.now)) }
     ensures { IfOk result (IsTask (codes "serve") (rows_of (found_of found.now))) }
@@ -109,7 +109,7 @@ fn serve(alloc: Global, found: &ArgMatches) -> Result<Task, AllocError>
     })
 }
 
-// The task that a command and its matches name.
+/// The task that a command and its matches name.
 fn named_task(alloc: Global, name: &str, found: &ArgMatches) -> Result<Task, TaskFault>
     requires { HasNeeds name.now (rows_of (found_of found.now)) }
     ensures named { IfOk result (IsTask name.now (rows_of (found_of found.now))) }
@@ -137,7 +137,7 @@ fn named_task(alloc: Global, name: &str, found: &ArgMatches) -> Result<Task, Tas
     }
 }
 
-// The fault of words that `clap` refused, with its text.
+/// The fault of words that `clap` refused, with its text.
 fn words_fault(alloc: Global, error: &Error) -> TaskFault
     ensures words { IsWords result → kind_of error.now ≡ ErrorKind.OutOfMemory → ⊥ }
     ensures others { (m : Option (Word × List Row)) → AreRefusedFor m result }
@@ -172,8 +172,8 @@ pub fn task(alloc: Global, words: &[String]) -> Result<Task, TaskFault>
     }
 }
 
-/// The words after the program's name. Words that are not UTF-8 are refused like any others that the command does
-/// not take.
+/// The words after the program's name. Words that are not UTF-8 are refused like any others that the command does not
+/// take.
 pub fn arguments<R: Env + AllocGlobal>(rt: &R, alloc: Global) -> Result<Vec<String>, TaskFault> {
     match env::args(rt) {
         Ok(words) => Ok(words.skip(1).collect(alloc)?),

@@ -25,7 +25,7 @@ const TICKET_1: &str =
 const TICKET_2: &str =
     "HTTP/1.1 200 OK\r\nContent-Type: application/json\r\nContent-Length: 12\r\n\r\n{\"ticket\":2}";
 
-// The path of a file for a test, which does not exist yet.
+/// The path of a file for a test, which does not exist yet.
 fn new_path(rt: &HostRuntime, alloc: Global, name: &str) -> Result<String, Fail> {
     let folder = env::temp_dir(rt)?;
     let path = folder.join(alloc, name)?;
@@ -34,7 +34,7 @@ fn new_path(rt: &HostRuntime, alloc: Global, name: &str) -> Result<String, Fail>
     Ok(path)
 }
 
-// Removes a test's file and its log, if they exist.
+/// Removes a test's file and its log, if they exist.
 fn forget(rt: &HostRuntime, alloc: Global, path: &str) -> Result<(), Fail> {
     let _ = fs::remove_file(rt, path);
     let log = format!(in alloc; "{path}-wal")?;
@@ -42,7 +42,7 @@ fn forget(rt: &HostRuntime, alloc: Global, path: &str) -> Result<(), Fail> {
     Ok(())
 }
 
-// Makes an office in this file.
+/// Makes an office in this file.
 fn make_office<R: Abort + Host>(rt: &R, alloc: Global, store: &str) -> Result<(), Fail> {
     let words = format!(in alloc; "init --store {store} {SETTINGS}")?;
     let out = Page::new(Vec::new(alloc));
@@ -50,8 +50,8 @@ fn make_office<R: Abort + Host>(rt: &R, alloc: Global, store: &str) -> Result<()
     expect(rt, alloc, words.as_str(), reader, out, (0, b"", ""))
 }
 
-// Performs the words over this port and output, with nothing to read, and expects this exit status, this output and
-// this text on standard error.
+/// Performs the words over this port and output, with nothing to read, and expects this exit status, this output and
+/// this text on standard error.
 fn serves<R: Abort + Host>(
     rt: &R,
     alloc: Global,
@@ -66,8 +66,8 @@ fn serves<R: Abort + Host>(
     expect_over(rt, alloc, words, reader, out, port, wanted)
 }
 
-// `serve` takes as many clients as it was asked for, or as many as come, in turn, and leaves each of them. A client sees
-// what those before it changed.
+/// `serve` takes as many clients as it was asked for, or as many as come, in turn, and leaves each of them. A client sees
+/// what those before it changed.
 #[test]
 fn clients_are_taken_and_left(rt: HostRuntime) -> Result<(), Fail> {
     let alloc = rt.alloc();
@@ -102,8 +102,8 @@ fn clients_are_taken_and_left(rt: HostRuntime) -> Result<(), Fail> {
     forget(&rt, alloc, store)
 }
 
-// No client is taken by a server that has no office, cannot bind its port or cannot print that it listens, nor by
-// another command.
+/// No client is taken by a server that has no office, cannot bind its port or cannot print that it listens, nor by
+/// another command.
 #[test]
 fn no_client_is_taken(rt: HostRuntime) -> Result<(), Fail> {
     let alloc = rt.alloc();

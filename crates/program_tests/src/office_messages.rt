@@ -4,11 +4,11 @@ use crate::fakes::{Page, Pieces};
 use crate::tests::{FONDS, TRIAL, expect};
 use std::test::Fail;
 
-// The list of fonds of an office that has none, as an answer after which the connection is closed.
+/// The list of fonds of an office that has none, as an answer after which the connection is closed.
 const NO_FONDS: &str =
     "HTTP/1.1 200 OK\r\nContent-Type: text/plain; charset=utf-8\r\nContent-Length: 0\r\nConnection: close\r\n\r\n";
 
-// The head of an import of the first worked file, a question for the fonds twice, and the answers.
+/// The head of an import of the first worked file, a question for the fonds twice, and the answers.
 const IMPORT: &str = "POST /desk/import/a HTTP/1.1\r\nHost: x\r\nContent-Length: 144\r\n\r\n";
 
 const TWICE: &str =
@@ -20,7 +20,7 @@ const IMPORTED: &str =
 const FONDS_TWICE: &str =
     "HTTP/1.1 200 OK\r\nContent-Type: text/plain; charset=utf-8\r\nContent-Length: 40\r\n\r\n1 GB 0999 HUL [Fonds] Hull Dock Company\nHTTP/1.1 200 OK\r\nContent-Type: text/plain; charset=utf-8\r\nContent-Length: 40\r\n\r\n1 GB 0999 HUL [Fonds] Hull Dock Company\n";
 
-// The input ends or fails within two questions of 39 bytes each. Each answer has 120 bytes.
+/// The input ends or fails within two questions of 39 bytes each. Each answer has 120 bytes.
 #[test]
 fn inputs_end_and_fail(rt: HostRuntime) -> Result<(), Fail> {
     let alloc = rt.alloc();
@@ -46,7 +46,7 @@ fn inputs_end_and_fail(rt: HostRuntime) -> Result<(), Fail> {
     Ok(())
 }
 
-// The output takes only the first `n` bytes of three answers of 149, 120 and 120 bytes; or it fails to flush.
+/// The output takes only the first `n` bytes of three answers of 149, 120 and 120 bytes; or it fails to flush.
 #[test]
 fn outputs_fail(rt: HostRuntime) -> Result<(), Fail> {
     let alloc = rt.alloc();
@@ -63,8 +63,8 @@ fn outputs_fail(rt: HostRuntime) -> Result<(), Fail> {
     expect(&rt, alloc, TRIAL, Pieces::of(said.as_bytes()), out, wanted)
 }
 
-// An answer of 98 bytes may take 114 writes. If every other write is interrupted and the rest take one byte each, that
-// is 57 bytes.
+/// An answer of 98 bytes may take 114 writes. If every other write is interrupted and the rest take one byte each, that
+/// is 57 bytes.
 #[test]
 fn outputs_are_bounded(rt: HostRuntime) -> Result<(), Fail> {
     let alloc = rt.alloc();

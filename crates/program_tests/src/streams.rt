@@ -7,8 +7,8 @@ use program::streams::{
 };
 use std::test::Fail;
 
-// Three bytes and the end take eight reads, four of them interrupted. Three bytes take six writes, and so do two
-// bytes and a line feed.
+/// Three bytes and the end take eight reads, four of them interrupted. Three bytes take six writes, and so do two bytes
+/// and a line feed.
 #[test]
 fn calls_are_counted(rt: HostRuntime) -> Result<(), Fail> {
     for reads in 0..10u32 {
@@ -31,7 +31,7 @@ fn calls_are_counted(rt: HostRuntime) -> Result<(), Fail> {
     Ok(())
 }
 
-// A stream that is interrupted a hundred thousand times is read and written all the same.
+/// A stream that is interrupted a hundred thousand times is read and written all the same.
 #[test]
 fn interruptions_are_endured(rt: HostRuntime) -> Result<(), Fail> {
     assert_eq!(rt; most_calls(), 4_294_967_295);

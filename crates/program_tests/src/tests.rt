@@ -8,7 +8,7 @@ use std::alloc::Global;
 use std::process::Abort;
 use std::test::Fail;
 
-// The first worked file, and what its preview prints.
+/// The first worked file, and what its preview prints.
 pub const FONDS: &str =
     "legacyId,parentId,identifier,title,levelOfDescription,publicationStatus\n1,,HUL,Hull Dock Company,Fonds,Published\n2,1,1,Minutes,Series,Published\n";
 
@@ -21,7 +21,7 @@ const PREVIEW: &str = "preview --country GB --repo 0999";
 pub const TRIAL: &str =
     "trial --country GB --repo 0999 --seats 2 --daily 3 --hands 1 --run 2 --day 2024-03-01";
 
-// The runtime of a test.
+/// The runtime of a test.
 pub trait Host {
     fn host(&self) -> &HostRuntime;
 }
@@ -32,7 +32,7 @@ impl Host for HostRuntime {
     }
 }
 
-// The words of a text.
+/// The words of a text.
 fn words_of(alloc: Global, text: &str) -> Result<Vec<String>, Fail> {
     let mut words = Vec::new(alloc);
     for word in text.split_whitespace() {
@@ -41,7 +41,7 @@ fn words_of(alloc: Global, text: &str) -> Result<Vec<String>, Fail> {
     Ok(words)
 }
 
-// Performs the words over streams, and expects this exit status, this output and this text on standard error.
+/// Performs the words over streams, and expects this exit status, this output and this text on standard error.
 pub fn expect<R: Abort + Host>(
     rt: &R,
     alloc: Global,
@@ -54,7 +54,7 @@ pub fn expect<R: Abort + Host>(
     expect_over(rt, alloc, words, reader, out, &mut port, wanted)
 }
 
-// The same over a port.
+/// The same over a port.
 pub fn expect_over<R: Abort + Host>(
     rt: &R,
     alloc: Global,

@@ -18,6 +18,7 @@ pub use Rattle.isad_core.specs.declared.values.BoxKey.{BoxKey}
 pub use Rattle.tree_core.proofs.EachLemmas.{has-each, nodes-each, size-each}
 pub use Rattle.tree_core.specs.Forest.{Empty, Forest, HasDistinctIds, Node, each, has, nodes, path, size, tree, walk}
 pub use Rattle.tree_core.specs.Tops.{below_first, part_below, tops}
+pub use Rattle.visibility.specs.Marks.{is_later, public_walk}
 pub use Rattle.visibility.specs.declared.marks.Kept.{Kept}
 pub use Rattle.desk_core.specs.declared.refusal.Refusal.TheVariants.{UnknownUnit}
 pub use Rattle.catalogue_core.proofs.EachOf.{all_append, all_split}
@@ -30,7 +31,7 @@ pub use Rattle.catalogue_core.specs.Pages.{coded_below, has_public_number, neare
 pub use Rattle.catalogue_core.specs.Pages.{page_boxes, page_line, page_of, pages_side_by_side, public_number, tops_text}
 pub use Rattle.catalogue_core.specs.Pages.{with_codes}
 pub use Rattle.catalogue_core.specs.PublicForest.{PublicUnit, Told, public_of, public_unit, stub_of}
-pub use Rattle.catalogue_core.specs.Units.{Unit, has_id, is_later, is_unit_closed}
+pub use Rattle.catalogue_core.specs.Units.{Unit, has_id, is_unit_closed}
 pub use Rattle.office_tables.proofs.CallEnds.{excused_then, same_fault, tells_well}
 pub use Rattle.office_tables.proofs.Calls.{cut_after, cut_then, early, looks_nowhere, looks_then, on_err_then}
 pub use Rattle.office_tables.proofs.Calls.{on_ok_then}

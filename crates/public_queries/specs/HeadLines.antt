@@ -8,7 +8,7 @@ use Rattle.isad_core.specs.declared.display.Body.{Body}
 use Rattle.isad_core.specs.declared.display.Body.TheVariants.{Full, Closed}
 use Rattle.isad_core.specs.declared.display.Shown.{Shown}
 use Rattle.catalogue_core.specs.Aids.{Repository}
-use Rattle.catalogue_core.specs.Units.{is_later}
+use Rattle.visibility.specs.Marks.{is_later}
 use Rattle.catalogue_statements.specs.declared.office.OfficeRow.{OfficeRow}
 use Rattle.catalogue_store.specs.declared.heads.Head.{Head}
 

@@ -1,5 +1,5 @@
-//! The public's questions over an office's tables, each within a transaction: the tops, the page of a
-//! unit, and its finding aid.
+//! The public's questions over an office's tables, each within a transaction: the tops, the page of a unit, and its
+//! finding aid.
 #![tactic(auto)]
 
 mod aids;

@@ -14,8 +14,7 @@ use std::alloc::{AllocError, Global};
 /// An element with its text, and the code of the unit above where it was found, if any.
 type Line = (Element, Text, Option<Text>);
 
-/// The number and the name of a container, and the code of the unit above where it was found, if
-/// any.
+/// The number and the name of a container, and the code of the unit above where it was found, if any.
 type Boxed = (u64, Text, Option<Text>);
 
 /// The value of the nearest of these units that has one.
@@ -106,8 +105,7 @@ fn nearest_boxes(alloc: Global, units: &[OnPath]) -> Result<List<Boxed>, AllocEr
     Ok(List::new(alloc))
 }
 
-/// The containers of the first of these units, or else those of the nearest unit above it that has
-/// some.
+/// The containers of the first of these units, or else those of the nearest unit above it that has some.
 fn nearest_containers(alloc: Global, units: &[OnPath]) -> Result<List<Boxed>, AllocError>
     ensures { IfOk result (λ boxes. boxes ≡ housed_lines units.now) }
 {

@@ -43,8 +43,8 @@ pub fn tables_describe_the_state()
     ensures { (version : Version) (s : State) → IsSound s → state_of (tables version s) ≡ s }
 {}
 
-/// Rows of the catalogue's tables that meet the keys and have none of the causes 1 to 5 describe a sound catalogue,
-/// and they are its rows, table by table, up to their order.
+/// Rows of the catalogue's tables that meet the keys and have none of the causes 1 to 5 describe a sound catalogue, and
+/// they are its rows, table by table, up to their order.
 pub fn rows_describe_the_catalogue()
     ensures { (version : Version) (t : OfficeRows) → SaysTheCatalogue version t }
 {}

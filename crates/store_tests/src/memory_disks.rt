@@ -4,8 +4,8 @@ use memory_disk::MemoryDisk;
 use sqlite_disk::Disk;
 use std::test::Fail;
 
-// A write behind the end fills what lies between with zeros. A file can be made shorter and longer again. Nothing is
-// read beyond its end.
+/// A write behind the end fills what lies between with zeros. A file can be made shorter and longer again. Nothing is
+/// read beyond its end.
 #[test]
 fn what_is_written_is_read(rt: HostRuntime) -> Result<(), Fail> {
     let mut disk = MemoryDisk::new(rt.alloc());

@@ -5,13 +5,14 @@ use Rattle.visibility.specs.declared.marks.Kept.{Kept}
 use Rattle.tree_core.specs.Forest.{Forest, Empty, Node, size, walk}
 use Rattle.visibility.specs.Visibility.{is_withheld, sharing_paths, public}
 
+-- a closure until a day ends on that day
+abbrev pub is_later : ℤ → Option ℤ → Bool
+is_later today None = false
+is_later today (Some until) = int_lt today until
+
 -- whether it is closed today, that is, until a later day
 abbrev pub is_closed : ℤ → Mark → Bool
-is_closed today mark = is_later mark.until
-  where
-    is_later : Option ℤ → Bool
-    is_later None = false
-    is_later (Some until) = int_lt today until
+is_closed today mark = is_later today mark.until
 
 -- whether the marks of a path withhold its last unit today; `above` is whether the reader has a permit further up
 abbrev pub withholds : ℤ → Bool → List Mark → Bool

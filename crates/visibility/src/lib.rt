@@ -5,4 +5,4 @@
 pub mod laws;
 mod marks;
 
-pub use marks::{Kept, Mark, clean_contents, clean_path, has_permit, prune};
+pub use marks::{Kept, Mark, clean_contents, clean_path, has_permit, is_closed, prune};

@@ -26,8 +26,8 @@ fn runs_over<K: Ord + Copy>(keys: &[K], most: u64) -> bool
     false
 }
 
-/// The start of the run of equal keys that contains the key at `i`. `first` is the start of the run of
-/// the key before it.
+/// The start of the run of equal keys that contains the key at `i`. `first` is the start of the run of the key before
+/// it.
 fn first_alike<K: Ord>(keys: &[K], first: usize, i: usize) -> usize
     requires before { first ≤ i }
     requires within { i < length keys.now }

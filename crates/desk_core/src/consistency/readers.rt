@@ -27,8 +27,8 @@ fn seats_are_fit(around: &Around, seats: &[SeatRow]) -> bool
     seats.iter().all(|row| is_given(row.seat, around.seats) && is_given(row.ticket, around.readers))
 }
 
-/// Whether each permit is a reader's, for a unit that exists, until a day of the calendar, and no
-/// ticket has more permits than it may. They may come in any order.
+/// Whether each permit is a reader's, for a unit that exists, until a day of the calendar, and no ticket has more
+/// permits than it may. They may come in any order.
 pub fn are_good_permits(
     alloc: Global,
     around: &Around,

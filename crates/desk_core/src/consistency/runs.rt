@@ -42,8 +42,7 @@ pub fn are_good_runs(
     Ok(are_fit(around, &tally, runs))
 }
 
-/// Whether these numbers count from 1, the runs are not too many, and each line is of a run and of an
-/// order.
+/// Whether these numbers count from 1, the runs are not too many, and each line is of a run and of an order.
 fn are_plain(orders: &[OrderRow], numbers: &[u64], runs: &[RunRow], lines: &[RunLineRow]) -> bool
     ensures { result ≡ (are_numbered_from (λ n. n) 1 numbers.now
         && (nat_le (length runs.now) most_runs
@@ -67,8 +66,7 @@ fn runs_of(alloc: Global, lines: &[RunLineRow]) -> Result<Vec<u64>, AllocError>
     lines.iter().map(|line| line.run).collect(alloc)
 }
 
-/// Whether each run is of a day that is not after today, with at least one line and no more than it may
-/// have.
+/// Whether each run is of a day that is not after today, with at least one line and no more than it may have.
 fn are_fit(around: &Around, lines: &Tally, runs: &[RunRow]) -> bool
     ensures { result ≡ list_all (is_fit_run_of around.now lines.now) runs.now }
 {

@@ -1,19 +1,17 @@
 //! The places of a file's rows.
-ghost use Rattle.std.specs.Prelude.{◌≡◌, ◌≤◌, ◌∷◌, [], if◌then◌else◌};
-ghost use Rattle.std.specs.Prelude.{IfOk, IfErr, OnOk, Some, option_copied};
+ghost use Rattle.std.specs.Prelude.{◌≡◌, ◌≤◌, ◌∷◌, []};
+ghost use Rattle.std.specs.Prelude.{IfOk, IfErr, Some, option_copied};
 ghost use Rattle.std.specs.BTreeMap.{get_by_text};
 ghost use Rattle.std.specs.List.{All};
-ghost use Rattle.std.specs.Str.{bytes_eq};
 ghost use Rattle.isad_core.specs.Limits.{most_deep};
-ghost use Rattle.isad_core.specs.Texts.{Bytes};
 ghost use Rattle.atom_csv.specs.Causes.{cause_number};
 ghost use Rattle.atom_csv.specs.ReadProgress.{IfBad};
 ghost use Rattle.finding_aids.specs.Places.{ArePlaced, faults};
 ghost use Rattle.finding_aids.specs.Places as spec;
 
-use atom_csv::{Cause, FileFault, Row};
+use atom_csv::{Cause, FileFault, Row, remember};
 use isad_core::{Text, limits};
-use std::alloc::{AllocError, Global};
+use std::alloc::Global;
 use std::collections::BTreeMap;
 
 /// The greatest depth of a unit; a top has depth 1.
@@ -97,15 +95,4 @@ fn place_at(places: &[RowPosition], index: usize) -> Option<RowPosition>
         parent: Some(index),
         depth: above.depth + 1,
     })
-}
-
-/// Remembers the index of a row.
-#[tactic(auto, using(std::proofs::lemmas::Map::Text::text_keys))]
-fn remember(known: &mut Known, alloc: Global, legacy: &Text, index: usize) -> Result<(), AllocError>
-    ensures { OnOk result ((q : Bytes) → get_by_text known.new q
-        ≡ (if bytes_eq q legacy.now then Some index else get_by_text known.old q)) }
-{
-    let key = String::from_str(alloc, legacy.as_str())?;
-    known.insert(key, index)?;
-    Ok(())
 }

@@ -1,6 +1,7 @@
 use Rattle.std.proofs.Common.{ap, ◌∙◌}
 use Rattle.std.specs.Prelude.{map}
-use Rattle.access.proofs.Common.{Housing, is_one_of, looks_full, looks_nowhere}
+use Rattle.catalogue_statements.specs.declared.row_types.Housing.{Housing}
+use Rattle.access.proofs.Common.{is_one_of, looks_full, looks_nowhere}
 use Rattle.access.proofs.Learned.{learned_look, look_ends_so, look_fault}
 use Rattle.access.proofs.NearRows.{of_unit}
 use Rattle.access.proofs.housed_units.containers_of.Goals as goal

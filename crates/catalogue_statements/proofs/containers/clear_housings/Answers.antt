@@ -1,12 +1,11 @@
 use Rattle.std.proofs.Common.{refl}
-use Rattle.catalogue_statements.proofs.Common.{thins_numbered}
-use Rattle.catalogue_statements.proofs.HousingStatements.{clear_housings_command, clear_housings_means}
-use Rattle.catalogue_statements.proofs.HousingStatements.{clear_housings_leaves, clear_housings_only}
-use Rattle.catalogue_statements.proofs.HousingStatements.{clear_housings_faults}
+use Rattle.catalogue_statements.proofs.Common.{known_change, thins_numbered}
+use Rattle.catalogue_statements.proofs.HousingStatements.{clear_housings_means, clear_housings_leaves}
+use Rattle.catalogue_statements.proofs.HousingStatements.{clear_housings_only, clear_housings_faults}
 use Rattle.catalogue_statements.proofs.containers.clear_housings.Goals as goal
 
 pub change-requires : goal.change-requires
-change-requires g c = record { count = 1; command = clear_housings_command; changes = refl; means = clear_housings_means g.P.Versioned.version }
+change-requires g c = known_change (clear_housings_means g.P.Versioned.version) refl
 
 pub returns : goal.returns
 returns g c =

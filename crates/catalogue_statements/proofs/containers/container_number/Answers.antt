@@ -1,11 +1,11 @@
 use Rattle.std.proofs.Common.{Ok, [], slice_get, ap, ◌∙◌}
-use Rattle.catalogue_statements.proofs.Common.{IfOk-weaker, looks_up}
-use Rattle.catalogue_statements.proofs.ContainerStatements.{container_number_command, container_number_means}
-use Rattle.catalogue_statements.proofs.ContainerStatements.{container_number_finds, container_number_faults}
+use Rattle.catalogue_statements.proofs.Common.{IfOk-weaker, known_query, looks_up}
+use Rattle.catalogue_statements.proofs.ContainerStatements.{container_number_means, container_number_finds}
+use Rattle.catalogue_statements.proofs.ContainerStatements.{container_number_faults}
 use Rattle.catalogue_statements.proofs.containers.container_number.Goals as goal
 
 pub find_one-requires : goal.find_one-requires
-find_one-requires g c = record { count = 3; command = container_number_command; means = container_number_means g.P.Versioned.version }
+find_one-requires g c = known_query (container_number_means g.P.Versioned.version)
 
 pub returns : goal.returns
 returns g c =

@@ -1,11 +1,11 @@
 use Rattle.std.proofs.Common.{Ok, [], slice_get, ap, ◌∙◌}
-use Rattle.catalogue_statements.proofs.Common.{IfOk-weaker, looks_up}
-use Rattle.catalogue_statements.proofs.ContainerStatements.{find_container_command, find_container_means}
-use Rattle.catalogue_statements.proofs.ContainerStatements.{find_container_finds, find_container_faults}
+use Rattle.catalogue_statements.proofs.Common.{IfOk-weaker, known_query, looks_up}
+use Rattle.catalogue_statements.proofs.ContainerStatements.{find_container_means, find_container_finds}
+use Rattle.catalogue_statements.proofs.ContainerStatements.{find_container_faults}
 use Rattle.catalogue_statements.proofs.containers.find_container.Goals as goal
 
 pub find_one-requires : goal.find_one-requires
-find_one-requires g c = record { count = 1; command = find_container_command; means = find_container_means g.P.Versioned.version }
+find_one-requires g c = known_query (find_container_means g.P.Versioned.version)
 
 pub returns : goal.returns
 returns g c =

@@ -1,9 +1,9 @@
-use Rattle.catalogue_statements.proofs.Common.{looks_up}
-use Rattle.catalogue_statements.proofs.HousingStatements.{housed_command, housed_means, housed_finds, housed_faults}
+use Rattle.catalogue_statements.proofs.Common.{known_query, looks_up}
+use Rattle.catalogue_statements.proofs.HousingStatements.{housed_means, housed_finds, housed_faults}
 use Rattle.catalogue_statements.proofs.containers.housed_in.Goals as goal
 
 pub find-requires : goal.find-requires
-find-requires g c = record { count = 1; command = housed_command; means = housed_means g.P.Versioned.version }
+find-requires g c = known_query (housed_means g.P.Versioned.version)
 
 pub returns : goal.returns
 returns g c =

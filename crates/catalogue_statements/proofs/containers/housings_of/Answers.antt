@@ -1,10 +1,9 @@
-use Rattle.catalogue_statements.proofs.Common.{looks_up}
-use Rattle.catalogue_statements.proofs.HousingStatements.{housings_command, housings_means, of_unit_finds}
-use Rattle.catalogue_statements.proofs.HousingStatements.{of_unit_faults}
+use Rattle.catalogue_statements.proofs.Common.{known_query, looks_up}
+use Rattle.catalogue_statements.proofs.HousingStatements.{housings_means, of_unit_finds, of_unit_faults}
 use Rattle.catalogue_statements.proofs.containers.housings_of.Goals as goal
 
 pub find-requires : goal.find-requires
-find-requires g c = record { count = 1; command = housings_command; means = housings_means g.P.Versioned.version }
+find-requires g c = known_query (housings_means g.P.Versioned.version)
 
 pub returns : goal.returns
 returns g c =

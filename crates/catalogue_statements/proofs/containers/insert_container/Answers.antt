@@ -1,11 +1,11 @@
 use Rattle.std.proofs.Common.{refl}
-use Rattle.catalogue_statements.proofs.Common.{puts_row}
-use Rattle.catalogue_statements.proofs.ContainerStatements.{insert_container_command, insert_container_means}
-use Rattle.catalogue_statements.proofs.ContainerStatements.{insert_container_puts, insert_container_faults}
+use Rattle.catalogue_statements.proofs.Common.{known_change, puts_row}
+use Rattle.catalogue_statements.proofs.ContainerStatements.{insert_container_means, insert_container_puts}
+use Rattle.catalogue_statements.proofs.ContainerStatements.{insert_container_faults}
 use Rattle.catalogue_statements.proofs.containers.insert_container.Goals as goal
 
 pub change-requires : goal.change-requires
-change-requires g c = record { count = 4; command = insert_container_command; changes = refl; means = insert_container_means g.P.Versioned.version }
+change-requires g c = known_change (insert_container_means g.P.Versioned.version) refl
 
 pub returns : goal.returns
 returns g c =

@@ -1,11 +1,11 @@
 use Rattle.std.proofs.Common.{refl}
-use Rattle.catalogue_statements.proofs.Common.{puts_numbered}
-use Rattle.catalogue_statements.proofs.HousingStatements.{insert_housing_command, insert_housing_means}
-use Rattle.catalogue_statements.proofs.HousingStatements.{insert_housing_puts, insert_housing_faults}
+use Rattle.catalogue_statements.proofs.Common.{known_change, puts_numbered}
+use Rattle.catalogue_statements.proofs.HousingStatements.{insert_housing_means, insert_housing_puts}
+use Rattle.catalogue_statements.proofs.HousingStatements.{insert_housing_faults}
 use Rattle.catalogue_statements.proofs.containers.insert_housing.Goals as goal
 
 pub change-requires : goal.change-requires
-change-requires g c = record { count = 3; command = insert_housing_command; changes = refl; means = insert_housing_means g.P.Versioned.version }
+change-requires g c = known_change (insert_housing_means g.P.Versioned.version) refl
 
 pub returns : goal.returns
 returns g c =

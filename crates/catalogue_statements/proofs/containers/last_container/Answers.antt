@@ -1,7 +1,7 @@
 use Rattle.std.proofs.Common.{◌≡◌, ℕ, Ok, List, [], ◌∷◌, map, take, slice_get, refl, ap, ◌∙◌}
-use Rattle.catalogue_statements.proofs.Common.{BoxKey, IfOk-weaker, looks_up}
-use Rattle.catalogue_statements.proofs.ContainerStatements.{last_container_command, last_container_means}
-use Rattle.catalogue_statements.proofs.ContainerStatements.{last_container_finds, last_container_faults}
+use Rattle.catalogue_statements.proofs.Common.{BoxKey, IfOk-weaker, known_query, looks_up}
+use Rattle.catalogue_statements.proofs.ContainerStatements.{last_container_means, last_container_finds}
+use Rattle.catalogue_statements.proofs.ContainerStatements.{last_container_faults}
 use Rattle.catalogue_statements.proofs.containers.last_container.Goals as goal
 
 first_of_one : (xs : List ℕ) → slice_get (take 1 xs) 0 ≡ slice_get xs 0
@@ -9,7 +9,7 @@ first_of_one [] = refl
 first_of_one (x ∷ xs) = refl
 
 pub find_one-requires : goal.find_one-requires
-find_one-requires g c = record { count = 0; command = last_container_command; means = last_container_means g.P.Versioned.version }
+find_one-requires g c = known_query (last_container_means g.P.Versioned.version)
 
 pub returns : goal.returns
 returns g c =

@@ -1,12 +1,11 @@
 use Rattle.std.proofs.Common.{refl}
-use Rattle.catalogue_statements.proofs.Common.{thins_numbered}
-use Rattle.catalogue_statements.proofs.ElementStatements.{clear_elements_command, clear_elements_means}
-use Rattle.catalogue_statements.proofs.ElementStatements.{clear_elements_leaves, clear_elements_only}
-use Rattle.catalogue_statements.proofs.ElementStatements.{clear_elements_faults}
+use Rattle.catalogue_statements.proofs.Common.{known_change, thins_numbered}
+use Rattle.catalogue_statements.proofs.ElementStatements.{clear_elements_means, clear_elements_leaves}
+use Rattle.catalogue_statements.proofs.ElementStatements.{clear_elements_only, clear_elements_faults}
 use Rattle.catalogue_statements.proofs.elements.clear_elements.Goals as goal
 
 pub change-requires : goal.change-requires
-change-requires g c = record { count = 1; command = clear_elements_command; changes = refl; means = clear_elements_means g.P.Versioned.version }
+change-requires g c = known_change (clear_elements_means g.P.Versioned.version) refl
 
 pub returns : goal.returns
 returns g c =

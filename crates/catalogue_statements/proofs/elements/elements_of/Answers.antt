@@ -1,10 +1,9 @@
-use Rattle.catalogue_statements.proofs.Common.{looks_up}
-use Rattle.catalogue_statements.proofs.ElementStatements.{elements_command, elements_means, elements_found}
-use Rattle.catalogue_statements.proofs.ElementStatements.{elements_faults}
+use Rattle.catalogue_statements.proofs.Common.{known_query, looks_up}
+use Rattle.catalogue_statements.proofs.ElementStatements.{elements_means, elements_found, elements_faults}
 use Rattle.catalogue_statements.proofs.elements.elements_of.Goals as goal
 
 pub find-requires : goal.find-requires
-find-requires g c = record { count = 1; command = elements_command; means = elements_means g.P.Versioned.version }
+find-requires g c = known_query (elements_means g.P.Versioned.version)
 
 pub returns : goal.returns
 returns g c =

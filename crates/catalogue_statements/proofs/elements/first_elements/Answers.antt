@@ -1,9 +1,9 @@
-use Rattle.catalogue_statements.proofs.Common.{looks_up}
-use Rattle.catalogue_statements.proofs.ElementStatements.{first_command, first_means, first_found, first_faults}
+use Rattle.catalogue_statements.proofs.Common.{known_query, looks_up}
+use Rattle.catalogue_statements.proofs.ElementStatements.{first_means, first_found, first_faults}
 use Rattle.catalogue_statements.proofs.elements.first_elements.Goals as goal
 
 pub find-requires : goal.find-requires
-find-requires g c = record { count = 2; command = first_command; means = first_means g.P.Versioned.version }
+find-requires g c = known_query (first_means g.P.Versioned.version)
 
 pub returns : goal.returns
 returns g c =

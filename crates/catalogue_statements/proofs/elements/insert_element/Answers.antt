@@ -1,11 +1,11 @@
 use Rattle.std.proofs.Common.{refl}
-use Rattle.catalogue_statements.proofs.Common.{puts_numbered}
-use Rattle.catalogue_statements.proofs.ElementStatements.{insert_element_command, insert_element_means}
-use Rattle.catalogue_statements.proofs.ElementStatements.{insert_element_puts, insert_element_faults}
+use Rattle.catalogue_statements.proofs.Common.{known_change, puts_numbered}
+use Rattle.catalogue_statements.proofs.ElementStatements.{insert_element_means, insert_element_puts}
+use Rattle.catalogue_statements.proofs.ElementStatements.{insert_element_faults}
 use Rattle.catalogue_statements.proofs.elements.insert_element.Goals as goal
 
 pub change-requires : goal.change-requires
-change-requires g c = record { count = 3; command = insert_element_command; changes = refl; means = insert_element_means g.P.Versioned.version }
+change-requires g c = known_change (insert_element_means g.P.Versioned.version) refl
 
 pub returns : goal.returns
 returns g c =

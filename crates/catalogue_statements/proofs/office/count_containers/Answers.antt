@@ -1,20 +1,10 @@
-use Rattle.std.proofs.Common.{refl}
-use Rattle.office_tables.specs.Schema as tables
-use Rattle.catalogue_statements.proofs.Common.{numbered_container_cells}
-use Rattle.catalogue_statements.proofs.CountCalls.{counts_none, counts_not, counts_well}
-use Rattle.catalogue_statements.proofs.OfficeStatements.{count_containers_command, count_containers_means}
+use Rattle.catalogue_statements.proofs.Common.{container, numbered_container_cells}
+use Rattle.catalogue_statements.proofs.CountCalls.{known, records_counted}
+use Rattle.catalogue_statements.proofs.OfficeStatements.{counts_containers}
 use Rattle.catalogue_statements.proofs.office.count_containers.Goals as goal
 
-pub find_one-requires : goal.find_one-requires
-find_one-requires g c = record { count = 0; command = count_containers_command; means = count_containers_means g.P.Versioned.version }
-
-pub returns-in_err-containers : goal.returns-in_err-containers
-returns-in_err-containers g c =
-    let failed = c.in_err-containers.ensures in
-    counts_not _ tables.container numbered_container_cells _ (count_containers_means _) _ c.from_residual.ensures failed.reads.aborts failed.reads.spares failed.ran refl
-
-pub returns-in_default : goal.returns-in_default
-returns-in_default g c = let counted = c.in_ok-containers.ensures in counts_none _ tables.container numbered_container_cells _ (count_containers_means _) counted.reads.looks counted.ran c.in_default.is
+pub count-requires : goal.count-requires
+count-requires g c = known (counts_containers g.P.Versioned.version)
 
 pub returns : goal.returns
-returns g c = let counted = c.in_ok-containers.ensures in counts_well _ tables.container numbered_container_cells _ (count_containers_means _) counted.reads.looks counted.ran c.in-Some.is
+returns g c = records_counted container numbered_container_cells c.count.result (c.count.ensures container (counts_containers g.P.Versioned.version))

@@ -1,11 +1,10 @@
 use Rattle.std.proofs.Common.{Ok, List, [], slice_get, ap, ◌∙◌}
-use Rattle.catalogue_statements.proofs.Common.{IfOk-weaker, OfficeRow, answered, caused, state}
-use Rattle.catalogue_statements.proofs.OfficeStatements.{office_is_command, office_is_means, office_is_finds}
-use Rattle.catalogue_statements.proofs.OfficeStatements.{office_is_faults}
+use Rattle.catalogue_statements.proofs.Common.{IfOk-weaker, OfficeRow, answered, caused, known_query, state}
+use Rattle.catalogue_statements.proofs.OfficeStatements.{office_is_means, office_is_finds, office_is_faults}
 use Rattle.catalogue_statements.proofs.office.find_office.Goals as goal
 
 pub find_one-requires : goal.find_one-requires
-find_one-requires g c = record { count = 0; command = office_is_command; means = office_is_means g.P.Versioned.version }
+find_one-requires g c = known_query (office_is_means g.P.Versioned.version)
 
 pub returns-clause-row : goal.returns-clause-row
 returns-clause-row g c clean version o stored =

@@ -1,11 +1,11 @@
 use Rattle.std.proofs.Common.{refl}
-use Rattle.catalogue_statements.proofs.Common.{caused, done, state}
-use Rattle.catalogue_statements.proofs.OfficeStatements.{set_next_command, set_next_means, set_next_leaves}
-use Rattle.catalogue_statements.proofs.OfficeStatements.{set_next_only, set_next_faults}
+use Rattle.catalogue_statements.proofs.Common.{caused, done, known_change, state}
+use Rattle.catalogue_statements.proofs.OfficeStatements.{set_next_means, set_next_leaves, set_next_only}
+use Rattle.catalogue_statements.proofs.OfficeStatements.{set_next_faults}
 use Rattle.catalogue_statements.proofs.office.set_next_unit.Goals as goal
 
 pub change-requires : goal.change-requires
-change-requires g c = record { count = 1; command = set_next_command; changes = refl; means = set_next_means g.P.Versioned.version }
+change-requires g c = known_change (set_next_means g.P.Versioned.version) refl
 
 pub returns-clause-rows : goal.returns-clause-rows
 returns-clause-rows g c clean version o stored =

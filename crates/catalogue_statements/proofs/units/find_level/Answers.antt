@@ -1,11 +1,12 @@
 use Rattle.std.proofs.Common.{Ok, refl, ◌∷◌, [], slice_get, ap, ◌∙◌}
-use Rattle.catalogue_statements.proofs.Common.{IfOk-weaker, IsLegibleUnit, IsUtf8, Text, Unit, all_weaker, looks_up}
-use Rattle.catalogue_statements.proofs.UnitQueries.{level_text, level_columns, level_names, level_means, level_command}
-use Rattle.catalogue_statements.proofs.UnitQueries.{numbered_finds, numbered_faults}
+use Rattle.catalogue_statements.proofs.Common.{IfOk-weaker, IsLegibleUnit, IsUtf8, Text, Unit, all_weaker, known_query}
+use Rattle.catalogue_statements.proofs.Common.{looks_up}
+use Rattle.catalogue_statements.proofs.UnitQueries.{level_text, level_columns, level_names, level_means, numbered_finds}
+use Rattle.catalogue_statements.proofs.UnitQueries.{numbered_faults}
 use Rattle.catalogue_statements.proofs.units.find_level.Goals as goal
 
 pub find_one-requires : goal.find_one-requires
-find_one-requires g c = record { count = 1; command = level_command; means = level_means g.P.Versioned.version }
+find_one-requires g c = known_query (level_means g.P.Versioned.version)
 
 pub returns : goal.returns
 returns g c =

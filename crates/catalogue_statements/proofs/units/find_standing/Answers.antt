@@ -4,14 +4,14 @@ use Rattle.office_tables.specs.Flags.{flag}
 use Rattle.catalogue_statements.specs.Standings.{standing_of}
 use Rattle.catalogue_statements.specs.declared.row_types.Standing.{Standing}
 use Rattle.catalogue_statements.proofs.Common.{IfOk-weaker, IfSome, Int, IsLegibleUnit, IsUtf8, Text, Unit, all_weaker}
-use Rattle.catalogue_statements.proofs.Common.{ascending-filter, by_number, first_shown, has_id, looks_up, only_order}
-use Rattle.catalogue_statements.proofs.Common.{or_null}
+use Rattle.catalogue_statements.proofs.Common.{ascending-filter, by_number, first_shown, has_id, known_query, looks_up}
+use Rattle.catalogue_statements.proofs.Common.{only_order, or_null}
 use Rattle.catalogue_statements.proofs.UnitQueries.{standing_text, standing_columns, standing_names, standing_means}
-use Rattle.catalogue_statements.proofs.UnitQueries.{standing_command, numbered_finds, numbered_faults, by_number_total}
+use Rattle.catalogue_statements.proofs.UnitQueries.{numbered_finds, numbered_faults, by_number_total}
 use Rattle.catalogue_statements.proofs.units.find_standing.Goals as goal
 
 pub find_one-requires : goal.find_one-requires
-find_one-requires g c = record { count = 1; command = standing_command; means = standing_means g.P.Versioned.version }
+find_one-requires g c = known_query (standing_means g.P.Versioned.version)
 
 pub returns : goal.returns
 returns g c =

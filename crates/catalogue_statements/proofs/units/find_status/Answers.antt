@@ -3,18 +3,17 @@ use Rattle.std.specs.Int.{w32}
 use Rattle.office_tables.specs.Flags.{flag}
 use Rattle.catalogue_statements.specs.declared.row_types.Status.{Status}
 use Rattle.catalogue_statements.proofs.Common.{IfOk-weaker, IfSome, Int, IsLegibleUnit, Unit, all_weaker}
-use Rattle.catalogue_statements.proofs.Common.{ascending-filter, by_number, first_shown, has_id, looks_up, only_order}
-use Rattle.catalogue_statements.proofs.Common.{or_null}
+use Rattle.catalogue_statements.proofs.Common.{ascending-filter, by_number, first_shown, has_id, known_query, looks_up}
+use Rattle.catalogue_statements.proofs.Common.{only_order, or_null}
 use Rattle.catalogue_statements.proofs.UnitQueries.{status_text, status_columns, status_names, status_means}
-use Rattle.catalogue_statements.proofs.UnitQueries.{status_command, numbered_finds, numbered_faults, until_fits}
-use Rattle.catalogue_statements.proofs.UnitQueries.{by_number_total}
+use Rattle.catalogue_statements.proofs.UnitQueries.{numbered_finds, numbered_faults, until_fits, by_number_total}
 use Rattle.catalogue_statements.proofs.units.find_status.Goals as goal
 
 abbrev status : Unit → Status
 status u = record { draft = u.draft; until = u.until }
 
 pub find_one-requires : goal.find_one-requires
-find_one-requires g c = record { count = 1; command = status_command; means = status_means g.P.Versioned.version }
+find_one-requires g c = known_query (status_means g.P.Versioned.version)
 
 pub returns : goal.returns
 returns g c =

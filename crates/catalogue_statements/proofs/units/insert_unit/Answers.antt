@@ -1,12 +1,11 @@
 use Rattle.std.proofs.Common.{refl}
 use Rattle.catalogue_statements.specs.NewUnit.{unit_of}
-use Rattle.catalogue_statements.proofs.Common.{puts_row}
-use Rattle.catalogue_statements.proofs.UnitWrites.{insert_unit_command, insert_unit_means, insert_unit_puts}
-use Rattle.catalogue_statements.proofs.UnitWrites.{insert_unit_faults}
+use Rattle.catalogue_statements.proofs.Common.{known_change, puts_row}
+use Rattle.catalogue_statements.proofs.UnitWrites.{insert_unit_means, insert_unit_puts, insert_unit_faults}
 use Rattle.catalogue_statements.proofs.units.insert_unit.Goals as goal
 
 pub change-requires : goal.change-requires
-change-requires g c = record { count = 5; command = insert_unit_command; changes = refl; means = insert_unit_means g.P.Versioned.version }
+change-requires g c = known_change (insert_unit_means g.P.Versioned.version) refl
 
 pub returns : goal.returns
 returns g c =

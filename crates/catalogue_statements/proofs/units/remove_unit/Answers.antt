@@ -1,13 +1,13 @@
 use Rattle.std.proofs.Common.{refl}
 use Rattle.office_tables.proofs.RowWrites.{ran_well, ran_badly}
-use Rattle.catalogue_statements.proofs.Common.{caused, done, state}
-use Rattle.catalogue_statements.proofs.UnitDeletes.{remove_unit_text, remove_unit_command, remove_unit_it}
-use Rattle.catalogue_statements.proofs.UnitDeletes.{remove_unit_removes, remove_unit_only, the_one}
+use Rattle.catalogue_statements.proofs.Common.{caused, done, known_change, state}
+use Rattle.catalogue_statements.proofs.UnitDeletes.{remove_unit_text, remove_unit_it, remove_unit_removes}
+use Rattle.catalogue_statements.proofs.UnitDeletes.{remove_unit_only, the_one}
 use Rattle.catalogue_statements.proofs.UnitFaults.{remove_unit_means, remove_unit_cause}
 use Rattle.catalogue_statements.proofs.units.remove_unit.Goals as goal
 
 pub change-requires : goal.change-requires
-change-requires g c = record { count = 1; command = remove_unit_command; changes = refl; means = remove_unit_means g.P.Versioned.version }
+change-requires g c = known_change (remove_unit_means g.P.Versioned.version) refl
 
 pub returns-clause-removes : goal.returns-clause-removes
 returns-clause-removes g c clean xs stored up there =

@@ -1,11 +1,10 @@
 use Rattle.std.proofs.Common.{refl}
-use Rattle.catalogue_statements.proofs.Common.{changes}
-use Rattle.catalogue_statements.proofs.UnitWrites.{set_level_command, set_level_means, set_level_leaves, set_level_only}
-use Rattle.catalogue_statements.proofs.UnitWrites.{set_level_faults}
+use Rattle.catalogue_statements.proofs.Common.{changes, known_change}
+use Rattle.catalogue_statements.proofs.UnitWrites.{set_level_means, set_level_leaves, set_level_only, set_level_faults}
 use Rattle.catalogue_statements.proofs.units.set_level.Goals as goal
 
 pub change-requires : goal.change-requires
-change-requires g c = record { count = 2; command = set_level_command; changes = refl; means = set_level_means g.P.Versioned.version }
+change-requires g c = known_change (set_level_means g.P.Versioned.version) refl
 
 pub returns : goal.returns
 returns g c =

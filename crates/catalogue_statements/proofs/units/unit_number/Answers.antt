@@ -1,11 +1,11 @@
 use Rattle.std.proofs.Common.{Ok, [], slice_get, ap, ◌∙◌}
 use Rattle.std.specs.Bool.{⊤}
-use Rattle.catalogue_statements.proofs.Common.{IfOk-weaker, Unit, all_of, looks_up}
-use Rattle.catalogue_statements.proofs.UnitQueries.{from_command, from_means, from_finds, from_faults}
+use Rattle.catalogue_statements.proofs.Common.{IfOk-weaker, Unit, all_of, known_query, looks_up}
+use Rattle.catalogue_statements.proofs.UnitQueries.{from_means, from_finds, from_faults}
 use Rattle.catalogue_statements.proofs.units.unit_number.Goals as goal
 
 pub find_one-requires : goal.find_one-requires
-find_one-requires g c = record { count = 2; command = from_command; means = from_means g.P.Versioned.version }
+find_one-requires g c = known_query (from_means g.P.Versioned.version)
 
 pub returns : goal.returns
 returns g c =

@@ -22,7 +22,7 @@ returns-in_err-new g c bytes read =
 pub returns-in-Faulty : goal.returns-in-Faulty
 returns-in-Faulty g c bytes read =
     when_known read c.as_slice-rows.ensures c.in_ok-catalogued.ensures.answers.looks c.in_ok-catalogued.ensures.answers.answers
-    (refused_row read c.as_slice-rows.ensures c.in_ok-new.ensures.answers.looks c.in_ok-new.ensures.answers.answers c.in-Faulty.is)
+    (refused_row read c.as_slice-rows.ensures c.in_ok-new.ensures.answers.looks c.in_ok-new.ensures.answers.answers c.in-Faulty.is c.number-cause.ensures)
 
 pub returns-in_err-next : goal.returns-in_err-next
 returns-in_err-next g c bytes read =

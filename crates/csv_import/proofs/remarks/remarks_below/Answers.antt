@@ -1,8 +1,6 @@
 use Rattle.std.proofs.Common.{[], ◌++◌, Option, append-nil, ap, length, sym, ◌∙◌}
-use Rattle.std.proofs.lemmas.Slice.Zip.{zip_turn, zip_end}
-use Rattle.std.specs.Iterator.Adapters.{zip_first, zip_second}
-use Rattle.std.specs.Slice.Iter.{iter_rest}
-use Rattle.csv_import.proofs.Common.{Remark, length_push, looks_then, option_to_list, tells_full, tells_passed_later}
+use Rattle.csv_import.proofs.Common.{Remark, iter_rest, length_push, looks_then, option_to_list, tells_full}
+use Rattle.csv_import.proofs.Common.{tells_passed_later, zip_end, zip_first, zip_second, zip_turn}
 use Rattle.csv_import.proofs.Pairs.{both_begin, pair_of}
 use Rattle.csv_import.proofs.RightAbove.{one_remarked, parent_at, told_all}
 use Rattle.csv_import.proofs.Tellings.{tells_so, told_later}

@@ -17,7 +17,7 @@ returns-in_err-counts-clause-updates g c =
     let placed = c.in_ok-add_all.ensures.updates in
     let made = c.in_err-counts.ensures.updates in
     makes_passed_later _ c.from_residual-in_err-counts.ensures c.add_all.new.tables placed.goes.on made.aborts (λ o k it may kept at_b.
-    made.faults (counted o k) k (placed_first b.now o it (placed.only at_b) (placed.goes.schema at_b)) (may.come, may.known) tt)
+    made.faults (counted o k) k (placed_first b.now o it (placed.only at_b) (placed.goes.schema at_b)) (may.come, may.known, may.each) tt)
 
 pub returns-in_err-next-clause-updates : goal.returns-in_err-next-clause-updates
 returns-in_err-next-clause-updates g c =
@@ -50,8 +50,8 @@ returns-clause-updates g c =
     let at_d = early went.on.crash clean in
     let at_b = early told.goes.on.crash at_d in
     let first = placed_first b.now o it (placed.only at_b) (placed.goes.schema at_b) in
-    let second = told.represents_updated at_d (counted o k) k first (may.come, may.known) in
-    let number = (c.in_ok-counts.ensures.counts at_d (counted o k) k first (may.come, may.known)).1 in
+    let second = told.represents_updated at_d (counted o k) k first (may.come, may.known, may.each) in
+    let number = (c.in_ok-counts.ensures.counts at_d (counted o k) k first (may.come, may.known, may.each)).1 in
     let office = wrote.rows clean g.P.Versioned.version (counted o k) second.office in
     let stand = subst (g.P.Places.represents b.now.trees) (brought_stand may) (placed.represents_updated at_b tt (ids k.forest) it.shown (brought_join may)) in
     counted_last d.now e.now o k (catalogue_after c.args.import.now.source.now c.args.import.now.rows.now k) second office (went.schema clean) number
@@ -63,4 +63,4 @@ returns-clause-counts g c clean o k it may =
     let at_d = early c.in_ok-set_next_unit.ensures.leaves.goes.on.crash clean in
     let at_b = early c.in_ok-counts.ensures.updates.goes.on.crash at_d in
     let first = placed_first (state g.S.Store c.add_all.new.tables).now o it (placed.only at_b) (placed.goes.schema at_b) in
-    (c.in_ok-counts.ensures.counts at_d (counted o k) k first (may.come, may.known)).0
+    (c.in_ok-counts.ensures.counts at_d (counted o k) k first (may.come, may.known, may.each)).0

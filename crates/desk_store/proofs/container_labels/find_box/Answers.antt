@@ -1,11 +1,11 @@
 use Rattle.std.proofs.Common.{Ok, [], map, filter, nat_eq, ap, ◌∙◌}
-use Rattle.desk_store.proofs.Common.{IfOk-weaker, ascending-filter, counted_rises, first_shown, looks_up, only_order}
-use Rattle.desk_store.proofs.BoxRows.{Numbered, box_command, box_means, box_finds, box_faults, by_number}
-use Rattle.desk_store.proofs.BoxRows.{by_number_total}
+use Rattle.desk_store.proofs.Common.{IfOk-weaker, ascending-filter, counted_rises, first_shown, known_query, looks_up}
+use Rattle.desk_store.proofs.Common.{only_order}
+use Rattle.desk_store.proofs.BoxRows.{Numbered, box_means, box_finds, box_faults, by_number, by_number_total}
 use Rattle.desk_store.proofs.container_labels.find_box.Goals as goal
 
 pub find_one-requires : goal.find_one-requires
-find_one-requires g c = record { count = 1; command = box_command; means = box_means g.P.Versioned.version }
+find_one-requires g c = known_query (box_means g.P.Versioned.version)
 
 pub returns : goal.returns
 returns g c =

@@ -1,11 +1,11 @@
 use Rattle.std.proofs.Common.{Ok, [], map, filter, nat_eq, ap, ◌∙◌}
-use Rattle.desk_store.proofs.Common.{IfOk-weaker, ascending-filter, counted_rises, first_shown, looks_up, only_order}
-use Rattle.desk_store.proofs.BoxRows.{Numbered, number_command, number_means, number_finds, number_faults, by_number}
-use Rattle.desk_store.proofs.BoxRows.{by_number_total}
+use Rattle.desk_store.proofs.Common.{IfOk-weaker, ascending-filter, counted_rises, first_shown, known_query, looks_up}
+use Rattle.desk_store.proofs.Common.{only_order}
+use Rattle.desk_store.proofs.BoxRows.{Numbered, number_means, number_finds, number_faults, by_number, by_number_total}
 use Rattle.desk_store.proofs.container_labels.find_container.Goals as goal
 
 pub find_one-requires : goal.find_one-requires
-find_one-requires g c = record { count = 1; command = number_command; means = number_means g.P.Versioned.version }
+find_one-requires g c = known_query (number_means g.P.Versioned.version)
 
 pub returns : goal.returns
 returns g c =

@@ -1,11 +1,11 @@
 use Rattle.std.proofs.Common.{map, filter, nat_eq, ap, ◌∙◌}
-use Rattle.desk_store.proofs.Common.{HoldingRow, IfOk-weaker, ascending-filter, looks_up, only_order}
+use Rattle.desk_store.proofs.Common.{HoldingRow, IfOk-weaker, ascending-filter, known_query, looks_up, only_order}
 use Rattle.desk_store.proofs.LoanRows.{by_container, by_container_total}
-use Rattle.desk_store.proofs.ReshelvingRows.{desk_command, desk_means, desk_finds, desk_faults}
+use Rattle.desk_store.proofs.ReshelvingRows.{desk_means, desk_finds, desk_faults}
 use Rattle.desk_store.proofs.desk_containers.desk_lines.Goals as goal
 
 pub find-requires : goal.find-requires
-find-requires g c = record { count = 0; command = desk_command; means = desk_means g.P.Versioned.version }
+find-requires g c = known_query (desk_means g.P.Versioned.version)
 
 pub returns : goal.returns
 returns g c =

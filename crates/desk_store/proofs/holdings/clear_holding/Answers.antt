@@ -1,11 +1,11 @@
 use Rattle.std.proofs.Common.{refl}
-use Rattle.desk_store.proofs.Common.{thins}
-use Rattle.desk_store.proofs.HoldingWrites.{clear_holding_command, clear_holding_means, clear_holding_leaves}
-use Rattle.desk_store.proofs.HoldingWrites.{clear_holding_only, clear_holding_faults}
+use Rattle.desk_store.proofs.Common.{known_change, thins}
+use Rattle.desk_store.proofs.HoldingWrites.{clear_holding_means, clear_holding_leaves, clear_holding_only}
+use Rattle.desk_store.proofs.HoldingWrites.{clear_holding_faults}
 use Rattle.desk_store.proofs.holdings.clear_holding.Goals as goal
 
 pub change-requires : goal.change-requires
-change-requires g c = record { count = 1; command = clear_holding_command; changes = refl; means = clear_holding_means g.P.Versioned.version }
+change-requires g c = known_change (clear_holding_means g.P.Versioned.version) refl
 
 pub returns : goal.returns
 returns g c =

@@ -1,11 +1,10 @@
 use Rattle.std.proofs.Common.{pos, refl}
-use Rattle.desk_store.proofs.Common.{bound_maybe, option_map, puts_row}
-use Rattle.desk_store.proofs.HoldingWrites.{insert_holding_command, insert_holding_means, insert_holding_puts}
-use Rattle.desk_store.proofs.HoldingWrites.{insert_holding_faults}
+use Rattle.desk_store.proofs.Common.{bound_maybe, known_change, option_map, puts_row}
+use Rattle.desk_store.proofs.HoldingWrites.{insert_holding_means, insert_holding_puts, insert_holding_faults}
 use Rattle.desk_store.proofs.holdings.insert_holding.Goals as goal
 
 pub change-requires : goal.change-requires
-change-requires g c = record { count = 3; command = insert_holding_command; changes = refl; means = insert_holding_means g.P.Versioned.version }
+change-requires g c = known_change (insert_holding_means g.P.Versioned.version) refl
 
 pub returns : goal.returns
 returns g c =

@@ -1,12 +1,12 @@
 use Rattle.std.proofs.Common.{Ok, [], map, filter, nat_eq, ap, ◌∙◌}
-use Rattle.desk_store.proofs.Common.{IfOk-weaker, OrderRow, ascending-filter, counted_rises, first_shown, looks_up}
-use Rattle.desk_store.proofs.Common.{only_order}
+use Rattle.desk_store.proofs.Common.{IfOk-weaker, OrderRow, ascending-filter, counted_rises, first_shown, known_query}
+use Rattle.desk_store.proofs.Common.{looks_up, only_order}
 use Rattle.desk_store.proofs.CardRows.{by_order, by_order_total}
-use Rattle.desk_store.proofs.LoanRows.{tickets_command, tickets_means, tickets_finds, tickets_faults}
+use Rattle.desk_store.proofs.LoanRows.{tickets_means, tickets_finds, tickets_faults}
 use Rattle.desk_store.proofs.loans.find_ticket.Goals as goal
 
 pub find_one-requires : goal.find_one-requires
-find_one-requires g c = record { count = 1; command = tickets_command; means = tickets_means g.P.Versioned.version }
+find_one-requires g c = known_query (tickets_means g.P.Versioned.version)
 
 pub returns : goal.returns
 returns g c =

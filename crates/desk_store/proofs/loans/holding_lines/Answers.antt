@@ -1,11 +1,11 @@
 use Rattle.std.proofs.Common.{map, ap, subst, ◌∙◌}
-use Rattle.desk_store.proofs.Common.{IfOk-weaker, IsPermutation, kept_all, looks_up, only_order}
-use Rattle.desk_store.proofs.LoanRows.{lines_command, lines_means, lines_finds, lines_faults, line_of, by_container}
+use Rattle.desk_store.proofs.Common.{IfOk-weaker, IsPermutation, kept_all, known_query, looks_up, only_order}
+use Rattle.desk_store.proofs.LoanRows.{lines_means, lines_finds, lines_faults, line_of, by_container}
 use Rattle.desk_store.proofs.LoanRows.{by_container_total}
 use Rattle.desk_store.proofs.loans.holding_lines.Goals as goal
 
 pub find-requires : goal.find-requires
-find-requires g c = record { count = 0; command = lines_command; means = lines_means g.P.Versioned.version }
+find-requires g c = known_query (lines_means g.P.Versioned.version)
 
 pub returns : goal.returns
 returns g c =

@@ -1,10 +1,10 @@
 use Rattle.std.proofs.Common.{refl}
-use Rattle.desk_store.proofs.Common.{thins}
-use Rattle.desk_store.proofs.OpeningRows.{free_command, free_means, free_leaves, free_only, free_faults}
+use Rattle.desk_store.proofs.Common.{known_change, thins}
+use Rattle.desk_store.proofs.OpeningRows.{free_means, free_leaves, free_only, free_faults}
 use Rattle.desk_store.proofs.office_day.free_seats.Goals as goal
 
 pub change-requires : goal.change-requires
-change-requires g c = record { count = 0; command = free_command; changes = refl; means = free_means g.P.Versioned.version }
+change-requires g c = known_change (free_means g.P.Versioned.version) refl
 
 pub returns : goal.returns
 returns g c =

@@ -1,10 +1,10 @@
 use Rattle.std.proofs.Common.{refl}
-use Rattle.desk_store.proofs.Common.{caused, done, state}
-use Rattle.desk_store.proofs.OpeningRows.{set_day_command, set_day_means, set_day_leaves, set_day_only, set_day_faults}
+use Rattle.desk_store.proofs.Common.{caused, done, known_change, state}
+use Rattle.desk_store.proofs.OpeningRows.{set_day_means, set_day_leaves, set_day_only, set_day_faults}
 use Rattle.desk_store.proofs.office_day.set_day.Goals as goal
 
 pub change-requires : goal.change-requires
-change-requires g c = record { count = 1; command = set_day_command; changes = refl; means = set_day_means g.P.Versioned.version }
+change-requires g c = known_change (set_day_means g.P.Versioned.version) refl
 
 pub returns-clause-rows : goal.returns-clause-rows
 returns-clause-rows g c clean o stored =

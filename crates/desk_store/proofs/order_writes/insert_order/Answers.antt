@@ -1,11 +1,10 @@
 use Rattle.std.proofs.Common.{refl}
-use Rattle.desk_store.proofs.Common.{puts_row}
-use Rattle.desk_store.proofs.OrderWrites.{insert_order_command, insert_order_means, insert_order_puts}
-use Rattle.desk_store.proofs.OrderWrites.{insert_order_faults}
+use Rattle.desk_store.proofs.Common.{known_change, puts_row}
+use Rattle.desk_store.proofs.OrderWrites.{insert_order_means, insert_order_puts, insert_order_faults}
 use Rattle.desk_store.proofs.order_writes.insert_order.Goals as goal
 
 pub change-requires : goal.change-requires
-change-requires g c = record { count = 4; command = insert_order_command; changes = refl; means = insert_order_means g.P.Versioned.version }
+change-requires g c = known_change (insert_order_means g.P.Versioned.version) refl
 
 pub returns : goal.returns
 returns g c =

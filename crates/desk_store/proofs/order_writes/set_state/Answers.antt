@@ -1,11 +1,10 @@
 use Rattle.std.proofs.Common.{refl}
-use Rattle.desk_store.proofs.Common.{changes}
-use Rattle.desk_store.proofs.OrderWrites.{set_state_command, set_state_means, set_state_leaves, set_state_only}
-use Rattle.desk_store.proofs.OrderWrites.{set_state_faults}
+use Rattle.desk_store.proofs.Common.{changes, known_change}
+use Rattle.desk_store.proofs.OrderWrites.{set_state_means, set_state_leaves, set_state_only, set_state_faults}
 use Rattle.desk_store.proofs.order_writes.set_state.Goals as goal
 
 pub change-requires : goal.change-requires
-change-requires g c = record { count = 2; command = set_state_command; changes = refl; means = set_state_means g.P.Versioned.version }
+change-requires g c = known_change (set_state_means g.P.Versioned.version) refl
 
 pub returns : goal.returns
 returns g c =

@@ -1,13 +1,12 @@
 use Rattle.std.proofs.Common.{Ok, [], map, filter, nat_eq, ap, ◌∙◌}
-use Rattle.desk_store.proofs.Common.{IfOk-weaker, OrderRow, ascending-filter, counted_rises, first_shown, looks_up}
-use Rattle.desk_store.proofs.Common.{only_order}
+use Rattle.desk_store.proofs.Common.{IfOk-weaker, OrderRow, ascending-filter, counted_rises, first_shown, known_query}
+use Rattle.desk_store.proofs.Common.{looks_up, only_order}
 use Rattle.desk_store.proofs.CardRows.{by_order, by_order_total}
-use Rattle.desk_store.proofs.OrderReads.{find_order_command, find_order_means, find_order_finds, find_order_faults}
-use Rattle.desk_store.proofs.OrderReads.{entry_of}
+use Rattle.desk_store.proofs.OrderReads.{find_order_means, find_order_finds, find_order_faults, entry_of}
 use Rattle.desk_store.proofs.orders.find_order.Goals as goal
 
 pub find_one-requires : goal.find_one-requires
-find_one-requires g c = record { count = 1; command = find_order_command; means = find_order_means g.P.Versioned.version }
+find_one-requires g c = known_query (find_order_means g.P.Versioned.version)
 
 pub returns : goal.returns
 returns g c =

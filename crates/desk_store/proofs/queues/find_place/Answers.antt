@@ -1,11 +1,12 @@
 use Rattle.std.proofs.Common.{Ok, [], map, filter, nat_eq, ap, ◌∙◌}
-use Rattle.desk_store.proofs.Common.{HoldingRow, IfOk-weaker, ascending-filter, first_shown, looks_up, only_order}
+use Rattle.desk_store.proofs.Common.{HoldingRow, IfOk-weaker, ascending-filter, first_shown, known_query, looks_up}
+use Rattle.desk_store.proofs.Common.{only_order}
 use Rattle.desk_store.proofs.LoanRows.{by_container, by_container_total}
-use Rattle.desk_store.proofs.PlaceRows.{place_command, place_means, place_finds, place_faults, place_entry}
+use Rattle.desk_store.proofs.PlaceRows.{place_means, place_finds, place_faults, place_entry}
 use Rattle.desk_store.proofs.queues.find_place.Goals as goal
 
 pub find_one-requires : goal.find_one-requires
-find_one-requires g c = record { count = 1; command = place_command; means = place_means g.P.Versioned.version }
+find_one-requires g c = known_query (place_means g.P.Versioned.version)
 
 pub returns : goal.returns
 returns g c =

@@ -1,11 +1,11 @@
 use Rattle.std.proofs.Common.{refl}
-use Rattle.desk_store.proofs.Common.{thins_numbered}
-use Rattle.desk_store.proofs.PermitRows.{clear_permit_command, clear_permit_means, clear_permit_leaves}
-use Rattle.desk_store.proofs.PermitRows.{clear_permit_only, clear_permit_faults}
+use Rattle.desk_store.proofs.Common.{known_change, thins_numbered}
+use Rattle.desk_store.proofs.PermitRows.{clear_permit_means, clear_permit_leaves, clear_permit_only}
+use Rattle.desk_store.proofs.PermitRows.{clear_permit_faults}
 use Rattle.desk_store.proofs.reader_permits.clear_permit.Goals as goal
 
 pub change-requires : goal.change-requires
-change-requires g c = record { count = 2; command = clear_permit_command; changes = refl; means = clear_permit_means g.P.Versioned.version }
+change-requires g c = known_change (clear_permit_means g.P.Versioned.version) refl
 
 pub returns : goal.returns
 returns g c =

@@ -1,11 +1,10 @@
 use Rattle.std.proofs.Common.{refl}
-use Rattle.desk_store.proofs.Common.{PermitRow, puts_numbered}
-use Rattle.desk_store.proofs.PermitRows.{insert_permit_command, insert_permit_means, insert_permit_puts}
-use Rattle.desk_store.proofs.PermitRows.{insert_permit_faults}
+use Rattle.desk_store.proofs.Common.{PermitRow, known_change, puts_numbered}
+use Rattle.desk_store.proofs.PermitRows.{insert_permit_means, insert_permit_puts, insert_permit_faults}
 use Rattle.desk_store.proofs.reader_permits.insert_permit.Goals as goal
 
 pub change-requires : goal.change-requires
-change-requires g c = record { count = 3; command = insert_permit_command; changes = refl; means = insert_permit_means g.P.Versioned.version }
+change-requires g c = known_change (insert_permit_means g.P.Versioned.version) refl
 
 pub returns : goal.returns
 returns g c =

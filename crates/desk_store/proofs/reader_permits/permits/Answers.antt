@@ -1,12 +1,13 @@
 use Rattle.std.proofs.Common.{sym, subst}
 use Rattle.office_tables.specs.Schema as tables
-use Rattle.desk_store.proofs.Common.{IfOk-weaker, IsOrdered, answered, by_permitted_unit, caused, permits_of, state}
+use Rattle.desk_store.proofs.Common.{IfOk-weaker, IsOrdered, answered, by_permitted_unit, caused, known_query}
+use Rattle.desk_store.proofs.Common.{permits_of, state}
 use Rattle.desk_store.proofs.PermitCalls.{told_ordered}
-use Rattle.desk_store.proofs.PermitRows.{permits_command, permits_means, permits_finds, permits_faults}
+use Rattle.desk_store.proofs.PermitRows.{permits_means, permits_finds, permits_faults}
 use Rattle.desk_store.proofs.reader_permits.permits.Goals as goal
 
 pub find-requires : goal.find-requires
-find-requires g c = record { count = 1; command = permits_command; means = permits_means g.P.Versioned.version }
+find-requires g c = known_query (permits_means g.P.Versioned.version)
 
 pub returns : goal.returns
 returns g c =

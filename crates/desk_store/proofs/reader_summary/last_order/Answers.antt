@@ -1,9 +1,9 @@
-use Rattle.desk_store.proofs.Common.{looks_up}
-use Rattle.desk_store.proofs.CardRows.{last_order_command, last_order_means, last_order_finds, last_order_faults}
+use Rattle.desk_store.proofs.Common.{known_query, looks_up}
+use Rattle.desk_store.proofs.CardRows.{last_order_means, last_order_finds, last_order_faults}
 use Rattle.desk_store.proofs.reader_summary.last_order.Goals as goal
 
 pub find_number-requires : goal.find_number-requires
-find_number-requires g c = record { count = 0; command = last_order_command; means = last_order_means g.P.Versioned.version }
+find_number-requires g c = known_query (last_order_means g.P.Versioned.version)
 
 pub returns : goal.returns
 returns g c =

@@ -1,12 +1,11 @@
 use Rattle.std.proofs.Common.{map, filter, nat_eq, ◌&&◌, ap, ◌∙◌}
-use Rattle.desk_store.proofs.Common.{IfOk-weaker, OrderRow, ascending-filter, counted_rises, has_not_ended, looks_up}
-use Rattle.desk_store.proofs.Common.{only_order}
-use Rattle.desk_store.proofs.CardRows.{live_command, live_means, live_finds, live_faults, line_of, by_order}
-use Rattle.desk_store.proofs.CardRows.{by_order_total}
+use Rattle.desk_store.proofs.Common.{IfOk-weaker, OrderRow, ascending-filter, counted_rises, has_not_ended, known_query}
+use Rattle.desk_store.proofs.Common.{looks_up, only_order}
+use Rattle.desk_store.proofs.CardRows.{live_means, live_finds, live_faults, line_of, by_order, by_order_total}
 use Rattle.desk_store.proofs.reader_summary.live_lines.Goals as goal
 
 pub find-requires : goal.find-requires
-find-requires g c = record { count = 1; command = live_command; means = live_means g.P.Versioned.version }
+find-requires g c = known_query (live_means g.P.Versioned.version)
 
 pub returns : goal.returns
 returns g c =

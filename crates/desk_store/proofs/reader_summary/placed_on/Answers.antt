@@ -1,9 +1,9 @@
-use Rattle.desk_store.proofs.Common.{looks_up}
-use Rattle.desk_store.proofs.CardRows.{placed_command, placed_means, placed_finds, placed_faults}
+use Rattle.desk_store.proofs.Common.{known_query, looks_up}
+use Rattle.desk_store.proofs.CardRows.{placed_means, placed_finds, placed_faults}
 use Rattle.desk_store.proofs.reader_summary.placed_on.Goals as goal
 
 pub find_number-requires : goal.find_number-requires
-find_number-requires g c = record { count = 2; command = placed_command; means = placed_means g.P.Versioned.version }
+find_number-requires g c = known_query (placed_means g.P.Versioned.version)
 
 pub returns : goal.returns
 returns g c =

@@ -1,12 +1,12 @@
 use Rattle.std.proofs.Common.{Ok, [], map, filter, nat_eq, ap, ◌∙◌}
-use Rattle.desk_store.proofs.Common.{IfOk-weaker, ReaderRow, ascending-filter, counted_rises, first_shown, looks_up}
-use Rattle.desk_store.proofs.Common.{only_order}
-use Rattle.desk_store.proofs.ReaderRows.{find_reader_command, find_reader_means, find_reader_finds, find_reader_faults}
-use Rattle.desk_store.proofs.ReaderRows.{named, by_ticket, by_ticket_total}
+use Rattle.desk_store.proofs.Common.{IfOk-weaker, ReaderRow, ascending-filter, counted_rises, first_shown, known_query}
+use Rattle.desk_store.proofs.Common.{looks_up, only_order}
+use Rattle.desk_store.proofs.ReaderRows.{find_reader_means, find_reader_finds, find_reader_faults, named, by_ticket}
+use Rattle.desk_store.proofs.ReaderRows.{by_ticket_total}
 use Rattle.desk_store.proofs.readers.find_reader.Goals as goal
 
 pub find_one-requires : goal.find_one-requires
-find_one-requires g c = record { count = 1; command = find_reader_command; means = find_reader_means g.P.Versioned.version }
+find_one-requires g c = known_query (find_reader_means g.P.Versioned.version)
 
 pub returns : goal.returns
 returns g c =

@@ -1,11 +1,10 @@
 use Rattle.std.proofs.Common.{refl}
-use Rattle.desk_store.proofs.Common.{puts_row}
-use Rattle.desk_store.proofs.ReaderRows.{insert_reader_command, insert_reader_means, insert_reader_puts}
-use Rattle.desk_store.proofs.ReaderRows.{insert_reader_faults}
+use Rattle.desk_store.proofs.Common.{known_change, puts_row}
+use Rattle.desk_store.proofs.ReaderRows.{insert_reader_means, insert_reader_puts, insert_reader_faults}
 use Rattle.desk_store.proofs.readers.insert_reader.Goals as goal
 
 pub change-requires : goal.change-requires
-change-requires g c = record { count = 3; command = insert_reader_command; changes = refl; means = insert_reader_means g.P.Versioned.version }
+change-requires g c = known_change (insert_reader_means g.P.Versioned.version) refl
 
 pub returns : goal.returns
 returns g c =

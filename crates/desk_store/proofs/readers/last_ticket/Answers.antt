@@ -1,9 +1,9 @@
-use Rattle.desk_store.proofs.Common.{looks_up}
-use Rattle.desk_store.proofs.ReaderRows.{last_ticket_command, last_ticket_means, last_ticket_finds, last_ticket_faults}
+use Rattle.desk_store.proofs.Common.{known_query, looks_up}
+use Rattle.desk_store.proofs.ReaderRows.{last_ticket_means, last_ticket_finds, last_ticket_faults}
 use Rattle.desk_store.proofs.readers.last_ticket.Goals as goal
 
 pub find_number-requires : goal.find_number-requires
-find_number-requires g c = record { count = 0; command = last_ticket_command; means = last_ticket_means g.P.Versioned.version }
+find_number-requires g c = known_query (last_ticket_means g.P.Versioned.version)
 
 pub returns : goal.returns
 returns g c =

@@ -1,11 +1,11 @@
 use Rattle.std.proofs.Common.{refl}
-use Rattle.desk_store.proofs.Common.{changes}
-use Rattle.desk_store.proofs.ReaderRows.{set_last_day_command, set_last_day_means, set_last_day_leaves}
-use Rattle.desk_store.proofs.ReaderRows.{set_last_day_only, set_last_day_faults}
+use Rattle.desk_store.proofs.Common.{changes, known_change}
+use Rattle.desk_store.proofs.ReaderRows.{set_last_day_means, set_last_day_leaves, set_last_day_only}
+use Rattle.desk_store.proofs.ReaderRows.{set_last_day_faults}
 use Rattle.desk_store.proofs.readers.set_last_day.Goals as goal
 
 pub change-requires : goal.change-requires
-change-requires g c = record { count = 2; command = set_last_day_command; changes = refl; means = set_last_day_means g.P.Versioned.version }
+change-requires g c = known_change (set_last_day_means g.P.Versioned.version) refl
 
 pub returns : goal.returns
 returns g c =

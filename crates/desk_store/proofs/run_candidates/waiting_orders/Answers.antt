@@ -1,11 +1,12 @@
 use Rattle.std.proofs.Common.{map, filter, nat_eq, ap, ◌∙◌}
-use Rattle.desk_store.proofs.Common.{IfOk-weaker, OrderRow, ascending-filter, counted_rises, looks_up, only_order}
+use Rattle.desk_store.proofs.Common.{IfOk-weaker, OrderRow, ascending-filter, counted_rises, known_query, looks_up}
+use Rattle.desk_store.proofs.Common.{only_order}
 use Rattle.desk_store.proofs.CardRows.{by_order, by_order_total}
-use Rattle.desk_store.proofs.PickingRows.{all_command, all_means, all_finds, all_faults, first_of}
+use Rattle.desk_store.proofs.PickingRows.{all_means, all_finds, all_faults, first_of}
 use Rattle.desk_store.proofs.run_candidates.waiting_orders.Goals as goal
 
 pub find-requires : goal.find-requires
-find-requires g c = record { count = 0; command = all_command; means = all_means g.P.Versioned.version }
+find-requires g c = known_query (all_means g.P.Versioned.version)
 
 pub returns : goal.returns
 returns g c =

@@ -1,11 +1,11 @@
 use Rattle.std.proofs.Common.{Ok, [], map, filter, nat_eq, ap, ◌∙◌}
-use Rattle.desk_store.proofs.Common.{IfOk-weaker, RunRow, ascending-filter, counted_rises, first_shown, looks_up}
-use Rattle.desk_store.proofs.Common.{only_order}
-use Rattle.desk_store.proofs.BroughtRows.{day_command, day_means, day_finds, day_faults, day_of, by_run, by_run_total}
+use Rattle.desk_store.proofs.Common.{IfOk-weaker, RunRow, ascending-filter, counted_rises, first_shown, known_query}
+use Rattle.desk_store.proofs.Common.{looks_up, only_order}
+use Rattle.desk_store.proofs.BroughtRows.{day_means, day_finds, day_faults, day_of, by_run, by_run_total}
 use Rattle.desk_store.proofs.run_lines.find_day.Goals as goal
 
 pub find_one-requires : goal.find_one-requires
-find_one-requires g c = record { count = 1; command = day_command; means = day_means g.P.Versioned.version }
+find_one-requires g c = known_query (day_means g.P.Versioned.version)
 
 pub returns : goal.returns
 returns g c =

@@ -1,10 +1,10 @@
 use Rattle.std.proofs.Common.{refl}
-use Rattle.desk_store.proofs.Common.{line_of_run, puts_numbered}
-use Rattle.desk_store.proofs.RunRows.{insert_line_command, insert_line_means, insert_line_puts, insert_line_faults}
+use Rattle.desk_store.proofs.Common.{known_change, line_of_run, puts_numbered}
+use Rattle.desk_store.proofs.RunRows.{insert_line_means, insert_line_puts, insert_line_faults}
 use Rattle.desk_store.proofs.runs.insert_line.Goals as goal
 
 pub change-requires : goal.change-requires
-change-requires g c = record { count = 4; command = insert_line_command; changes = refl; means = insert_line_means g.P.Versioned.version }
+change-requires g c = known_change (insert_line_means g.P.Versioned.version) refl
 
 pub returns : goal.returns
 returns g c =

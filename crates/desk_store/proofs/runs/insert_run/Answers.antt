@@ -1,10 +1,10 @@
 use Rattle.std.proofs.Common.{refl}
-use Rattle.desk_store.proofs.Common.{puts_row}
-use Rattle.desk_store.proofs.RunRows.{insert_run_command, insert_run_means, insert_run_puts, insert_run_faults}
+use Rattle.desk_store.proofs.Common.{known_change, puts_row}
+use Rattle.desk_store.proofs.RunRows.{insert_run_means, insert_run_puts, insert_run_faults}
 use Rattle.desk_store.proofs.runs.insert_run.Goals as goal
 
 pub change-requires : goal.change-requires
-change-requires g c = record { count = 2; command = insert_run_command; changes = refl; means = insert_run_means g.P.Versioned.version }
+change-requires g c = known_change (insert_run_means g.P.Versioned.version) refl
 
 pub returns : goal.returns
 returns g c =

@@ -1,9 +1,9 @@
-use Rattle.desk_store.proofs.Common.{looks_up}
-use Rattle.desk_store.proofs.RunRows.{last_run_command, last_run_means, last_run_finds, last_run_faults}
+use Rattle.desk_store.proofs.Common.{known_query, looks_up}
+use Rattle.desk_store.proofs.RunRows.{last_run_means, last_run_finds, last_run_faults}
 use Rattle.desk_store.proofs.runs.last_run.Goals as goal
 
 pub find_number-requires : goal.find_number-requires
-find_number-requires g c = record { count = 0; command = last_run_command; means = last_run_means g.P.Versioned.version }
+find_number-requires g c = known_query (last_run_means g.P.Versioned.version)
 
 pub returns : goal.returns
 returns g c =

@@ -1,9 +1,9 @@
-use Rattle.desk_store.proofs.Common.{looks_up}
-use Rattle.desk_store.proofs.RunRows.{lines_with_command, lines_with_means, lines_with_finds, lines_with_faults}
+use Rattle.desk_store.proofs.Common.{known_query, looks_up}
+use Rattle.desk_store.proofs.RunRows.{lines_with_means, lines_with_finds, lines_with_faults}
 use Rattle.desk_store.proofs.runs.lines_with.Goals as goal
 
 pub find-requires : goal.find-requires
-find-requires g c = record { count = 1; command = lines_with_command; means = lines_with_means g.P.Versioned.version }
+find-requires g c = known_query (lines_with_means g.P.Versioned.version)
 
 pub returns : goal.returns
 returns g c =

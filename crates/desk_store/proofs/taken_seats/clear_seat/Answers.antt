@@ -1,11 +1,10 @@
 use Rattle.std.proofs.Common.{refl}
-use Rattle.desk_store.proofs.Common.{thins}
-use Rattle.desk_store.proofs.SeatRows.{clear_seat_command, clear_seat_means, clear_seat_leaves, clear_seat_only}
-use Rattle.desk_store.proofs.SeatRows.{clear_seat_faults}
+use Rattle.desk_store.proofs.Common.{known_change, thins}
+use Rattle.desk_store.proofs.SeatRows.{clear_seat_means, clear_seat_leaves, clear_seat_only, clear_seat_faults}
 use Rattle.desk_store.proofs.taken_seats.clear_seat.Goals as goal
 
 pub change-requires : goal.change-requires
-change-requires g c = record { count = 1; command = clear_seat_command; changes = refl; means = clear_seat_means g.P.Versioned.version }
+change-requires g c = known_change (clear_seat_means g.P.Versioned.version) refl
 
 pub returns : goal.returns
 returns g c =

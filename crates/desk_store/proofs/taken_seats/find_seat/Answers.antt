@@ -1,11 +1,12 @@
 use Rattle.std.proofs.Common.{Ok, [], map, filter, nat_eq, ap, ◌∙◌}
-use Rattle.desk_store.proofs.Common.{IfOk-weaker, SeatRow, ascending-filter, first_shown, looks_up, only_order}
-use Rattle.desk_store.proofs.SeatRows.{find_seat_command, find_seat_means, find_seat_finds, find_seat_faults, taken}
-use Rattle.desk_store.proofs.SeatRows.{by_seat, by_seat_total}
+use Rattle.desk_store.proofs.Common.{IfOk-weaker, SeatRow, ascending-filter, first_shown, known_query, looks_up}
+use Rattle.desk_store.proofs.Common.{only_order}
+use Rattle.desk_store.proofs.SeatRows.{find_seat_means, find_seat_finds, find_seat_faults, taken, by_seat}
+use Rattle.desk_store.proofs.SeatRows.{by_seat_total}
 use Rattle.desk_store.proofs.taken_seats.find_seat.Goals as goal
 
 pub find_one-requires : goal.find_one-requires
-find_one-requires g c = record { count = 1; command = find_seat_command; means = find_seat_means g.P.Versioned.version }
+find_one-requires g c = known_query (find_seat_means g.P.Versioned.version)
 
 pub returns : goal.returns
 returns g c =

@@ -1,10 +1,10 @@
 use Rattle.std.proofs.Common.{refl}
-use Rattle.desk_store.proofs.Common.{puts_row}
-use Rattle.desk_store.proofs.SeatRows.{insert_seat_command, insert_seat_means, insert_seat_puts, insert_seat_faults}
+use Rattle.desk_store.proofs.Common.{known_change, puts_row}
+use Rattle.desk_store.proofs.SeatRows.{insert_seat_means, insert_seat_puts, insert_seat_faults}
 use Rattle.desk_store.proofs.taken_seats.insert_seat.Goals as goal
 
 pub change-requires : goal.change-requires
-change-requires g c = record { count = 2; command = insert_seat_command; changes = refl; means = insert_seat_means g.P.Versioned.version }
+change-requires g c = known_change (insert_seat_means g.P.Versioned.version) refl
 
 pub returns : goal.returns
 returns g c =

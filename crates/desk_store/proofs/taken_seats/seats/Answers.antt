@@ -1,11 +1,11 @@
 use Rattle.std.proofs.Common.{map, ap, subst, ◌∙◌}
-use Rattle.desk_store.proofs.Common.{IfOk-weaker, IsPermutation, answered, caused, kept_all, only_order, state}
-use Rattle.desk_store.proofs.SeatRows.{seats_command, seats_means, seats_finds, seats_faults, taken, by_seat}
-use Rattle.desk_store.proofs.SeatRows.{by_seat_total}
+use Rattle.desk_store.proofs.Common.{IfOk-weaker, IsPermutation, answered, caused, kept_all, known_query, only_order}
+use Rattle.desk_store.proofs.Common.{state}
+use Rattle.desk_store.proofs.SeatRows.{seats_means, seats_finds, seats_faults, taken, by_seat, by_seat_total}
 use Rattle.desk_store.proofs.taken_seats.seats.Goals as goal
 
 pub find-requires : goal.find-requires
-find-requires g c = record { count = 0; command = seats_command; means = seats_means g.P.Versioned.version }
+find-requires g c = known_query (seats_means g.P.Versioned.version)
 
 pub returns : goal.returns
 returns g c =

@@ -1,9 +1,9 @@
-use Rattle.desk_store.proofs.Common.{looks_up}
-use Rattle.desk_store.proofs.WaitingRows.{count_command, count_means, waiting_count_finds, waiting_count_faults}
+use Rattle.desk_store.proofs.Common.{known_query, looks_up}
+use Rattle.desk_store.proofs.WaitingRows.{count_means, waiting_count_finds, waiting_count_faults}
 use Rattle.desk_store.proofs.waiting_orders.count_waiting.Goals as goal
 
 pub find_number-requires : goal.find_number-requires
-find_number-requires g c = record { count = 1; command = count_command; means = count_means g.P.Versioned.version }
+find_number-requires g c = known_query (count_means g.P.Versioned.version)
 
 pub returns : goal.returns
 returns g c =

@@ -1,13 +1,12 @@
 use Rattle.std.proofs.Common.{Ok, List, [], map, filter, take, refl, sym, ap, ◌∙◌}
-use Rattle.desk_store.proofs.Common.{IfOk-weaker, OrderRow, ascending-filter, counted_rises, first_shown, looks_up}
-use Rattle.desk_store.proofs.Common.{only_order, slice_get, take-map, waits_for}
+use Rattle.desk_store.proofs.Common.{IfOk-weaker, OrderRow, ascending-filter, counted_rises, first_shown, known_query}
+use Rattle.desk_store.proofs.Common.{looks_up, only_order, slice_get, take-map, waits_for}
 use Rattle.desk_store.proofs.CardRows.{by_order, by_order_total}
-use Rattle.desk_store.proofs.WaitingRows.{first_command, first_means, first_finds, first_faults, first_taken}
-use Rattle.desk_store.proofs.WaitingRows.{waiting_of}
+use Rattle.desk_store.proofs.WaitingRows.{first_means, first_finds, first_faults, first_taken, waiting_of}
 use Rattle.desk_store.proofs.waiting_orders.first_for.Goals as goal
 
 pub find_one-requires : goal.find_one-requires
-find_one-requires g c = record { count = 1; command = first_command; means = first_means g.P.Versioned.version }
+find_one-requires g c = known_query (first_means g.P.Versioned.version)
 
 pub returns : goal.returns
 returns g c =

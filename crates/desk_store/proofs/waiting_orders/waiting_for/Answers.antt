@@ -1,12 +1,12 @@
 use Rattle.std.proofs.Common.{map, filter, ap, ◌∙◌}
-use Rattle.desk_store.proofs.Common.{IfOk-weaker, OrderRow, ascending-filter, counted_rises, looks_up, only_order}
-use Rattle.desk_store.proofs.Common.{waits_for}
+use Rattle.desk_store.proofs.Common.{IfOk-weaker, OrderRow, ascending-filter, counted_rises, known_query, looks_up}
+use Rattle.desk_store.proofs.Common.{only_order, waits_for}
 use Rattle.desk_store.proofs.CardRows.{by_order, by_order_total}
-use Rattle.desk_store.proofs.WaitingRows.{waiting_command, waiting_means, waiting_finds, waiting_faults, waiting_of}
+use Rattle.desk_store.proofs.WaitingRows.{waiting_means, waiting_finds, waiting_faults, waiting_of}
 use Rattle.desk_store.proofs.waiting_orders.waiting_for.Goals as goal
 
 pub find-requires : goal.find-requires
-find-requires g c = record { count = 1; command = waiting_command; means = waiting_means g.P.Versioned.version }
+find-requires g c = known_query (waiting_means g.P.Versioned.version)
 
 pub returns : goal.returns
 returns g c =

@@ -1,12 +1,12 @@
 use Rattle.std.proofs.Common.{◌∙◌, List, map, OnOk, refl, ap, subst, sym}
 use Rattle.office_tables.specs.Schema as tables
-use Rattle.nested_sets.proofs.Common.{HasRows, Second, VersionedRow, changes_in, in_version_2, state, versioned_cells}
-use Rattle.nested_sets.proofs.Version.{set_version_command, set_version_means, set_version_leaves, set_version_only}
-use Rattle.nested_sets.proofs.Version.{set_version_faults}
+use Rattle.nested_sets.proofs.Common.{HasRows, Second, VersionedRow, changes_in, in_version_2, known_change, state}
+use Rattle.nested_sets.proofs.Common.{versioned_cells}
+use Rattle.nested_sets.proofs.Version.{set_version_means, set_version_leaves, set_version_only, set_version_faults}
 use Rattle.nested_sets.proofs.migration_statements.set_version.Goals as goal
 
 pub change-requires : goal.change-requires
-change-requires g c = record { count = 1; command = set_version_command; changes = refl; means = set_version_means }
+change-requires g c = known_change set_version_means refl
 
 pub returns : goal.returns
 returns g c =

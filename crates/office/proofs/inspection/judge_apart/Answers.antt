@@ -24,19 +24,19 @@ returns g c =
     let old = state g.S.Store c.args.conn.now in
     let begun = state g.S.Store c.begin.new.conn in
     let judged = state g.S.Store c.judge-verdict.new.conn in
-    let new = state g.S.Store c.take_back.new.conn in
+    let new = state g.S.Store c.roll_back.new.conn in
     let told = c.judge-verdict.ensures in
     record {
       answers = λ clean.
-          let clean_judged = early c.take_back.ensures.crash clean in
+          let clean_judged = early c.roll_back.ensures.crash clean in
           let clean_begun = early told.reads.crash clean_judged in
           subst (λ (db : Database). IfOk c.judge-verdict.result (IsVerdict g.P.Versioned.version db)) (c.in_ok-begin.ensures.begun clean_begun).now_is (told.answers clean_judged);
       back = search rules;
       disk = λ clean.
-          let clean_judged = early c.take_back.ensures.crash clean in
+          let clean_judged = early c.roll_back.ensures.crash clean in
           let clean_begun = early told.reads.crash clean_judged in
           if_err_then c.judge-verdict.result (BlamesDisk begun judged) (BlamesDisk old new)
-          (blames_outside old begun judged new c.begin.ensures.crash.counts c.take_back.ensures.crash.counts (c.in_ok-begin.ensures.begun clean_begun).is_open)
+          (blames_outside old begun judged new c.begin.ensures.crash.counts c.roll_back.ensures.crash.counts (c.in_ok-begin.ensures.begun clean_begun).is_open)
           (told.disk clean_judged);
       faults = search rules;
       crash = search rules;

@@ -75,9 +75,9 @@ returns-clause-told c = λ above at h.
     let none = sym (ap (λ f. f.stood) found_is ∙ ap is_some stood_is) ∙ new.1 in
     record {
       none = none_step header above x stood n h.none stood_is at is;
-      rows = c.in_ok-push.ensures.ok ∙ (ap (λ (rs : List Row). rs ++ c.in_ok-row_of.field-0 ∷ []) h.rows ∙ (ap (λ (r : Row). rows header above ++ r ∷ []) c.in_ok-row_of.ensures
+      rows = c.in_ok-push.ensures.ok ∙ (ap (λ (rs : List Row). rs ++ c.in_ok-described.described ∷ []) h.rows ∙ (ap (λ (r : Row). rows header above ++ r ∷ []) c.in_ok-described.ensures
           ∙ sym (rows_kept header above x n (ap₂ (λ a b. a || b) blank again) at)));
       translations = h.translations ∙ sym (translations_step header above x false (ap₂ (λ a b. not a && b) blank again) ∙ add-zero _);
-      known = knows_new header above x get (get_by_text c.remember.new.cultures) h.known there none
-          (λ q. c.in_ok-remember.ensures q ∙ ap₂ (λ (a b : Bytes). if bytes_eq q a then Some b else get q) c.value-id.ensures c.value-culture.ensures);
+      known = knows_new header above x get (get_by_text c.remember.new.kept) h.known there none
+          (λ q. c.in_ok-remember.ensures q ∙ ap₂ (λ (a b : Bytes). if bytes_eq q a then Some b else get q) (ap (λ (r : Row). r.legacy) c.in_ok-described.ensures) (c.in_ok-culture.ensures ∙ c.value.ensures));
     }

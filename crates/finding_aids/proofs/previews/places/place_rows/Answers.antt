@@ -37,5 +37,5 @@ loop-index-preserved c =
     rw (← c.as_slice.ensures.value, ← c.as_ref.ensures.value) (sym c.place_of.ensures ∙ c.in-Some.is) in
     let count : length (take i rows) ≡ i = length-take-le i rows (omega arith) in
     rw (rows_to rows i x within c.index-rows-index.is, c.in_ok-push.ensures.items)
-    (placing_more (take i rows) x (get_by_text c.loop-index.known) (get_by_text c.remember.new.known) c.loop-index.places.items c.in-Some.place
+    (placing_more (take i rows) x (get_by_text c.loop-index.known) (get_by_text c.remember.new.kept) c.loop-index.places.items c.in-Some.place
     c.loop-index.invariant found c.if-place-gt-MAX_DEPTH.false (rw count c.in_ok-remember.ensures))
