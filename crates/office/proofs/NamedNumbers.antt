@@ -4,13 +4,14 @@ use Rattle.std.proofs.Common.{Err, [], ◌||◌, refl, sym, ap, subst, ◌∙◌
 use Rattle.std.proofs.lemmas.Bool.{cases_Bool, eqb-true, false≢true, ltb-false}
 use Rattle.std.proofs.lemmas.Result.{IfOk-weaker}
 use Rattle.std.specs.List.{AllByRecursion, list_any}
-use Rattle.std.specs.Prelude.{Result}
+use Rattle.std.specs.Prelude.{Result, map}
 use Rattle.sqlite.specs.State as store
 use Rattle.desk_core.specs.Decisions.{is_desk}
 use Rattle.desk_core.specs.Refusals.{Check, first_that_holds, known_container, unless, when}
 use Rattle.desk_core.specs.declared.refusal.Refusal.TheVariants as refusal
 use Rattle.catalogue_core.specs.UnitLookup.{has_unit}
 use Rattle.catalogue_core.specs.Units.{Unit, has_id}
+use Rattle.catalogue_store.specs.Heads.{head_of}
 use Rattle.office_core.proofs.Words.{numbered_within}
 use Rattle.office_core.specs.Queries.{answer, known_json, run_answer}
 use Rattle.office_core.specs.Rules.{Reply}
@@ -21,7 +22,9 @@ use Rattle.office_core.specs.declared.query.Answer.TheVariants.{Unknown}
 use Rattle.office_core.specs.declared.query.Query.TheVariants as query
 use Rattle.refinement.specs.CommandSteps.{CarriesOut, CarriesOutStep}
 use Rattle.public_queries.proofs.AidAnswers.{far_off}
-use Rattle.public_queries.proofs.PageAnswers.{far}
+use Rattle.public_queries.proofs.PageAnswers.{hidden}
+use Rattle.public_queries.proofs.Standing.{nowhere}
+use Rattle.public_queries.specs.HeadLines.{shows_last}
 use Rattle.public_queries.specs.InformedAnswers.{AnswersKnowing}
 use Rattle.office.specs.NamedNumbers.{asks_named, named, of_named}
 use Rattle.office.proofs.Common.{Answer, Command, Database, Forest, IsSoundOffice, Order, Query, Refusal}
@@ -221,10 +224,15 @@ module _ (s : State) (sound : IsSoundOffice s) where
       ∙ unit_same (λ n. step s (command.Revoke t n)) _
       (λ n none. refused_step s (command.Revoke t n) _ (second_holds (is_ticket s t) (has_unit s.catalogue.forest n) refusal.UnknownTicket refusal.UnknownUnit _ none)) u
 
+  -- there is no such unit
+  no_page : (u : ℕ) → has_unit s.catalogue.forest u ≡ false → Unknown refusal.UnknownUnit ≡ answer s (query.Page u)
+  no_page u none =
+      hidden s sound u (ap (λ (way : List Unit). shows_last s.day (map head_of way)) (nowhere (has_id u) s.catalogue.forest none).0)
+
   pub answer_named : (asked : Query) → answer s (asks_named asked) ≡ answer s asked
   answer_named query.Fonds = refl
   answer_named (query.Aid u) = unit_same (λ n. answer s (query.Aid n)) _ (λ n none. sym (far_off s sound n none)) u
-  answer_named (query.Page u) = unit_same (λ n. answer s (query.Page n)) _ (λ n none. sym (far s sound n none)) u
+  answer_named (query.Page u) = unit_same (λ n. answer s (query.Page n)) _ (λ n none. sym (no_page n none)) u
   answer_named (query.ReaderOrders t) =
       ticket_same (λ n. answer s (query.ReaderOrders n)) _ (λ n none. ap (known_json refusal.UnknownTicket) (none_left _ (nth s.readers n) none)) t
   answer_named (query.Queue c) =

@@ -1,5 +1,6 @@
 -- What the office answers when it is asked for a finding aid, by the path of the unit in the whole forest.
 use Rattle.std.proofs.Common.{◌≡◌, ℕ, true, false, cond, List, [], ◌∷◌, refl, sym, ap, ap₂, ◌∙◌, map}
+use Rattle.catalogue_core.specs.Aids.{shown_below}
 use Rattle.office_core.specs.State.{State}
 use Rattle.office_core.specs.declared.query.Query.TheVariants as query
 use Rattle.refinement.proofs.Judged.{distinct_ids}
@@ -7,7 +8,7 @@ use Rattle.public_queries.proofs.Common.{Empty, Forest, HasDistinctIds, IsSoundO
 use Rattle.public_queries.proofs.Common.{Unit, Unknown, UnknownUnit, above_last, aid, aid_of, answer, before_last, each}
 use Rattle.public_queries.proofs.Common.{has, has_id, has_public_number, head_identifiers, head_of, is_unit_closed}
 use Rattle.public_queries.proofs.Common.{known_of, office_knows, office_of, office_places, path, press, public_forest}
-use Rattle.public_queries.proofs.Common.{public_of, repository_of, shown_below, shows_last, tree, ℤ}
+use Rattle.public_queries.proofs.Common.{public_of, repository_of, shows_last, tree, ℤ}
 use Rattle.public_queries.proofs.AidPrinted.{id_same}
 use Rattle.public_queries.proofs.Standing.{Finds, nowhere, seen}
 

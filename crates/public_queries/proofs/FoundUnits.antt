@@ -1,11 +1,11 @@
--- Units that are found by their numbers, and heads of such units.
+-- Units that are found by their numbers.
 use Rattle.std.proofs.Common.{◌≡◌, ℕ, zero, suc, ◌+◌, ◌<◌, Bool, true, false, cond, List, [], ◌∷◌, ◌++◌, length, take}
 use Rattle.std.proofs.Common.{get_or, Some, refl, sym, ap, subst, ◌∙◌, arith, nat_eq, eq-eqb}
 use Rattle.std.specs.List.{IsDistinct, find}
 use Rattle.std.specs.Prelude.{map}
 use Rattle.tree_core.proofs.Lists.{eqb_comm}
-use Rattle.public_queries.proofs.Common.{AllByRecursion, Empty, Forest, Head, Node, Unit, all_split, has, has_id}
-use Rattle.public_queries.proofs.Common.{head_of, length-map, nodes, path}
+use Rattle.public_queries.proofs.Common.{AllByRecursion, Empty, Forest, Node, Unit, all_split, has, has_id, length-map}
+use Rattle.public_queries.proofs.Common.{nodes, path}
 
 pub path_all : (P : Unit → Type 0) (is : Unit → Bool) (f : Forest Unit) → AllByRecursion P (nodes f)
     → AllByRecursion P (path is f)
@@ -34,21 +34,21 @@ unfolding IsDistinct
 found_each [] d = tt
 found_each (y ∷ ys) d = (ap (λ b. cond b (Some y) (find (has_id y.id) ys)) (eq-eqb y.id y.id refl), found_later y ys ys d.0 (found_each ys d.1))
 
--- the head at an index is that of a unit that is found by the head's number
-pub record HeadAt (f : Forest Unit) (us : List Unit) (i : ℕ) (head : Head) : Type 0 where
+-- the number at an index is that of a unit that is found by it
+pub record UnitAt (f : Forest Unit) (us : List Unit) (i id : ℕ) : Type 0 where
   pub unit : Unit
-  pub found : find (has_id head.id) (nodes f) ≡ Some unit
+  pub found : find (has_id id) (nodes f) ≡ Some unit
   pub next : take (i + 1) us ≡ take i us ++ unit ∷ []
 
-pub head_at : (f : Forest Unit) (us : List Unit) (heads : List Head) (i : ℕ) (d : Head)
-    → AllByRecursion (λ (u : Unit). find (has_id u.id) (nodes f) ≡ Some u) us → heads ≡ map head_of us
-    → i < length heads → HeadAt f us i (get_or heads i d)
-head_at f us heads i d found are within =
-    subst (λ (head : Head). HeadAt f us i head) (ap (λ (l : List Head). get_or l i d) (sym are))
-    (at us i found (let long : length heads ≡ length us = ap length are ∙ length-map us head_of in omega (arith, long, within)))
+pub unit_at : (f : Forest Unit) (us : List Unit) (ids : List ℕ) (i d : ℕ)
+    → AllByRecursion (λ (u : Unit). find (has_id u.id) (nodes f) ≡ Some u) us → ids ≡ map (λ (u : Unit). u.id) us
+    → i < length ids → UnitAt f us i (get_or ids i d)
+unit_at f us ids i d found are within =
+    subst (UnitAt f us i) (ap (λ (l : List ℕ). get_or l i d) (sym are))
+    (at us i found (let long : length ids ≡ length us = ap length are ∙ length-map us (λ (u : Unit). u.id) in omega (arith, long, within)))
   where
     at : (us : List Unit) (i : ℕ) → AllByRecursion (λ (u : Unit). find (has_id u.id) (nodes f) ≡ Some u) us
-        → i < length us → HeadAt f us i (get_or (map head_of us) i d)
+        → i < length us → UnitAt f us i (get_or (map (λ (u : Unit). u.id) us) i d)
     at [] i found h = absurd (omega (arith, h))
     at (u ∷ us) zero found h = record { unit = u; found = found.0; next = refl }
     at (u ∷ us) (suc i) found h =

@@ -1,14 +1,13 @@
 -- Units of which the head line alone is printed: their heads tell as much as what the public may know of them.
-use Rattle.std.proofs.Common.{◌≡◌, ℕ, Bool, true, false, cond, List, [], ◌∷◌, ◌++◌, Option, Some, None, refl, sym, ap}
-use Rattle.std.proofs.Common.{ap₂, ◌∙◌}
+use Rattle.std.proofs.Common.{◌≡◌, ℕ, Bool, true, false, cond, not, List, [], ◌∷◌, ◌++◌, Option, Some, None, refl, sym}
+use Rattle.std.proofs.Common.{ap, ap₂, ◌∙◌}
 use Rattle.std.specs.Prelude.{map}
 use Rattle.public_queries.proofs.Common.{BoxKey, Bytes, Closed, Empty, Forest, Full, Node, Press, Repository, Shown}
-use Rattle.public_queries.proofs.Common.{Told, Unit, all_bare, bare_body, code_of, cons_option, flat_map, head_alone}
+use Rattle.public_queries.proofs.Common.{Told, Unit, all_bare, bare_body, code_of, flat_map, head_alone}
 use Rattle.public_queries.proofs.Common.{head_identifiers, head_line, head_of, identifier, identifier_of, int_lt}
 use Rattle.public_queries.proofs.Common.{is_later, is_unit_closed, known_of, number_known, pages_side_by_side}
-use Rattle.public_queries.proofs.Common.{public_number, public_of, shown_unit, stub_of, tops, ℤ}
+use Rattle.public_queries.proofs.Common.{public_number, public_of, published_units, shown_unit, stub_of, tops, ℤ}
 use Rattle.public_queries.proofs.Standing.{public_draft, public_node}
-use Rattle.public_queries.proofs.HeadLineLemmas.{bare_draft, bare_public}
 
 module _ (day : ℤ) where
   pub known_id : (a : Unit) → identifier_of (known_of day a) ≡ identifier a.values
@@ -44,23 +43,23 @@ module _ (day : ℤ) where
 
   module _ (print : ℕ × Shown → Bytes) (alike : (n : ℕ) (a b : Shown) → head_line a ≡ head_line b → print (n, a) ≡ print (n, b)) (press : Press) (above : List Bytes) where
     pub same_beside : (f : Forest Unit)
-        → flat_map print (pages_side_by_side press above (public_of day f)) ≡ flat_map print (all_bare press.at above day (map head_of (tops f)))
+        → flat_map print (pages_side_by_side press above (public_of day f)) ≡ flat_map print (all_bare press.at above day (map head_of (published_units (tops f))))
     same_beside Empty = refl
     same_beside (Node a c o) = at a.draft refl (same_beside o)
       where
-        rest : List (ℕ × Shown)
-        rest = all_bare press.at above day (map head_of (tops o))
+        rest : List Unit
+        rest = published_units (tops o)
 
         at : (b : Bool) → a.draft ≡ b
-            → flat_map print (pages_side_by_side press above (public_of day o)) ≡ flat_map print rest
-            → flat_map print (pages_side_by_side press above (public_of day (Node a c o))) ≡ flat_map print (all_bare press.at above day (map head_of (tops (Node a c o))))
+            → flat_map print (pages_side_by_side press above (public_of day o)) ≡ flat_map print (all_bare press.at above day (map head_of rest))
+            → flat_map print (pages_side_by_side press above (public_of day (Node a c o))) ≡ flat_map print (all_bare press.at above day (map head_of (published_units (tops (Node a c o)))))
         at true e more =
             ap (λ f. flat_map print (pages_side_by_side press above f)) (public_draft day a c o e) ∙ more
-            ∙ sym (ap (λ b. flat_map print (cons_option b rest)) (bare_draft press.at above day (head_of a) e))
+            ∙ sym (ap (λ b. flat_map print (all_bare press.at above day (map head_of (cond (not b) (a ∷ rest) rest)))) e)
         at false e more =
             ap (λ f. flat_map print (pages_side_by_side press above f)) (public_node day a c o e)
             ∙ ap₂ ◌++◌ one more
-            ∙ sym (ap (λ b. flat_map print (cons_option b rest)) (bare_public press.at above day (head_of a) e))
+            ∙ sym (ap (λ b. flat_map print (all_bare press.at above day (map head_of (cond (not b) (a ∷ rest) rest)))) e)
           where
             shown : List Bytes → Shown
             shown ids = shown_unit press.at press.containers ids 0 (known_of day a)

@@ -1,7 +1,6 @@
 -- How answering a question ends, where something is known of the office.
 use Rattle.std.proofs.Common.{◌≡◌, ℕ, Ok, Err, Result, sym, subst}
 use Rattle.sqlite.specs.State as store
-use Rattle.sqlite.specs.Tree.{Trees}
 use Rattle.office_tables.proofs.Causes.{still_unlimited}
 use Rattle.office_tables.proofs.LaterCauses.{next_cause}
 use Rattle.office_tables.specs.Faults.{HasCause, IsUnlimited}
@@ -13,8 +12,8 @@ use Rattle.office_core.specs.declared.query.Query.{Query}
 use Rattle.public_queries.specs.InformedAnswers.{AnswersKnowing}
 use Rattle.public_queries.proofs.Common.{Catalogue, Forest, HasCleanDisk, IsAborted, IsErr, IsErrAnd, IsKept}
 use Rattle.public_queries.proofs.Common.{IsSoundOffice, LeavesUnchanged, OfficeRow, Represents, RepresentsState}
-use Rattle.public_queries.proofs.Common.{StoreFault, answer, cut_after, cut_then, office_kept, office_of, same_fault}
-use Rattle.public_queries.proofs.Common.{still_shown, ⊤}
+use Rattle.public_queries.proofs.Common.{StoreFault, Trees, answer, cut_after, cut_then, office_kept, office_of}
+use Rattle.public_queries.proofs.Common.{same_fault, still_shown, ⊤}
 
 module _ (places : Trees → Forest ℕ → Type 0) (version : Version) (known : State → Type 0) (asked : Query) where
   -- its first step fails

@@ -1,7 +1,6 @@
 -- A question is answered by a last step, for which more is known after what was read.
 use Rattle.std.proofs.Common.{ℕ, Result}
 use Rattle.sqlite.specs.State as store
-use Rattle.sqlite.specs.Tree.{Trees}
 use Rattle.office_tables.specs.Versions.{Version}
 use Rattle.office_core.specs.State.{State}
 use Rattle.office_core.specs.declared.query.Answer.{Answer}
@@ -9,7 +8,7 @@ use Rattle.office_core.specs.declared.query.Query.{Query}
 use Rattle.refinement.proofs.Tellings.{looked_crash}
 use Rattle.public_queries.specs.InformedAnswers.{AnswersKnowing}
 use Rattle.public_queries.proofs.Common.{Forest, HasCleanDisk, IsAborted, IsSoundOffice, LeavesUnchanged}
-use Rattle.public_queries.proofs.Common.{RepresentsState, StoreFault, cut_then, early, excused_then, looks_then}
+use Rattle.public_queries.proofs.Common.{RepresentsState, StoreFault, Trees, cut_then, early, excused_then, looks_then}
 use Rattle.public_queries.proofs.Common.{on_err_then, on_ok_then, still_shown}
 
 pub knows_then : (places : Trees → Forest ℕ → Type 0) (version : Version) (known later : State → Type 0) (asked : Query) (a b c : store.State) (r : Result Answer StoreFault)

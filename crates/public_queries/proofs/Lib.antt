@@ -14,5 +14,7 @@ pub mod HeadsPrinted
 pub mod FondsPrinted
 pub mod PagePrinted
 pub mod OwnRows
+pub mod PublicHeads
+pub mod ToldPages
 pub mod PageAnswers
 pub mod LaterKnowing

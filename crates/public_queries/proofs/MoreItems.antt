@@ -2,7 +2,13 @@
 use Rattle.std.proofs.Common.{◌≡◌, ℕ, suc, ◌+◌, ◌<◌, List, [], ◌∷◌, ◌++◌, length, take, drop, get_or, Option, None, sym}
 use Rattle.std.proofs.Common.{ap, ap₂, ◌∙◌, append-nil, arith, drop-cons}
 use Rattle.std.proofs.lemmas.List.Elements.{filter_map-append}
-use Rattle.public_queries.proofs.Common.{cons_option, filter_map, take_more}
+use Rattle.std.specs.Prelude.{map}
+use Rattle.public_queries.proofs.Common.{cons_option, filter_map, map-append, take_more}
+
+pub each_more : {X Y : Type 0} (f : X → Y) (xs : List X) (i : ℕ) (x : X) → x ≡ get_or xs i x → i < length xs
+    → map f (take (i + 1) xs) ≡ map f (take i xs) ++ f x ∷ []
+each_more f xs i x is within =
+    let here = rw (← is) at (take_more xs i x within) in ap (map f) here ∙ map-append f (take i xs) (x ∷ [])
 
 pub mapped_more : {X Y : Type 0} (f : X → Option Y) (xs : List X) (i : ℕ) (x : X) (o : Option Y) → x ≡ get_or xs i x
     → i < length xs → f x ≡ o → filter_map f (take (i + 1) xs) ≡ filter_map f (take i xs) ++ cons_option o []

@@ -1,19 +1,22 @@
 -- What the tables of a sound office tell of a page.
-use Rattle.std.proofs.Common.{◌≡◌, ℕ, true, false, List, [], ◌∷◌, ◌++◌, Some, sym, ap, subst, ◌∙◌, nat_eq}
+use Rattle.std.proofs.Common.{◌≡◌, ℕ, true, false, not, ◌&&◌, List, [], ◌∷◌, ◌++◌, length, None, Some, refl, sym, ap}
+use Rattle.std.proofs.Common.{subst, ◌∙◌, nat_eq, Bool, arith}
 use Rattle.std.specs.List.{IsDistinct, find}
 use Rattle.std.specs.Prelude.{map}
 use Rattle.office_core.specs.State.{State}
 use Rattle.office_core.specs.declared.query.Query.TheVariants as query
-use Rattle.public_queries.proofs.Common.{AllByRecursion, Bytes, HasDistinctIds, Head, IsSoundOffice, OfficeRow, Shown}
-use Rattle.public_queries.proofs.Common.{Text, Unit, UnitValues, Unknown, UnknownUnit, all_bare, answer, closed_page}
-use Rattle.public_queries.proofs.Common.{coded_way, each, has, has_id, head_alone, head_identifiers, head_of, is_later}
-use Rattle.public_queries.proofs.Common.{is_no_draft, is_unit_closed, map-append, nodes, nodes-each, office_of, page}
-use Rattle.public_queries.proofs.Common.{page_of_units, part_below, path, press, repository_of, shows_last, tops}
-use Rattle.public_queries.proofs.Common.{unit_values}
+use Rattle.public_queries.proofs.Common.{AllByRecursion, Bytes, HasDistinctIds, Head, IsSoundOffice, OfficeRow, Text}
+use Rattle.public_queries.proofs.Common.{Unit, UnitValues, Unknown, UnknownUnit, all_bare, answer, closed_page}
+use Rattle.public_queries.proofs.Common.{coded_way, each, false≢true, has_id, head_alone, head_identifiers, head_of}
+use Rattle.public_queries.proofs.Common.{identifiers_of, is_closed_there, is_open_there, is_unit_closed, list_all}
+use Rattle.public_queries.proofs.Common.{map-append, nodes, nodes-each, office_of, page, page_of_units, part_below}
+use Rattle.public_queries.proofs.Common.{path, press, published_standing, published_units, repository_of, shows_last}
+use Rattle.public_queries.proofs.Common.{told_text, tops, unit_values, ℤ}
 use Rattle.public_queries.proofs.FoundUnits.{path_all, found_each}
-use Rattle.public_queries.proofs.OwnRows.{not_shown}
-use Rattle.public_queries.proofs.Standing.{shown_in, nowhere, Stands, stands}
+use Rattle.public_queries.proofs.OwnRows.{found_node, not_shown, shown_below, without_way}
+use Rattle.public_queries.proofs.Standing.{shown_in, Stands, stands}
 use Rattle.public_queries.proofs.PagePrinted.{page_hidden, page_closed, page_told, is_there, last_same}
+use Rattle.public_queries.proofs.ToldPages.{same_identifiers, told_same}
 
 module _ (s : State) (sound : IsSoundOffice s) where
   pub distinct : HasDistinctIds (each (λ (unit : Unit). unit.id) s.catalogue.forest)
@@ -23,62 +26,87 @@ module _ (s : State) (sound : IsSoundOffice s) where
       → AllByRecursion (λ (x : Unit). find (has_id x.id) (nodes s.catalogue.forest) ≡ Some x) (path (has_id u) s.catalogue.forest)
   path_found u = path_all _ (has_id u) s.catalogue.forest (found_each (nodes s.catalogue.forest) sound.sound.units.ids)
 
-  pub alone : (u : ℕ) → is_no_draft (find (has_id u) (nodes s.catalogue.forest)) ≡ false
-      → shown_in s.day u s.catalogue.forest ≡ false
-  alone u e = not_shown s.day u s.catalogue.forest (path_found u) e
+  module _ (u : ℕ) where
+    pub alone : published_standing (find (has_id u) (nodes s.catalogue.forest)) ≡ None
+        → shown_in s.day u s.catalogue.forest ≡ false
+    alone e = not_shown s.day u s.catalogue.forest (path_found u) e
 
-  -- there is no such unit
-  pub far : (u : ℕ) → has (has_id u) s.catalogue.forest ≡ false → Unknown UnknownUnit ≡ answer s (query.Page u)
-  far u none =
-      sym (page_hidden (press s) s.day u s.catalogue.forest distinct (ap (λ l. shows_last s.day (map head_of l)) (nowhere (has_id u) s.catalogue.forest none).0))
+    pub hidden : shown_in s.day u s.catalogue.forest ≡ false → Unknown UnknownUnit ≡ answer s (query.Page u)
+    hidden e = sym (page_hidden (press s) s.day u s.catalogue.forest distinct e)
 
-  pub judged : (u : ℕ) (row : OfficeRow) (way : List Head) → row ≡ office_of s
-      → way ≡ map head_of (path (has_id u) s.catalogue.forest)
-      → shown_in s.day u s.catalogue.forest ≡ shows_last row.day way
-  judged u row way e k = ap (shows_last s.day) (sym k) ∙ ap (λ (o : OfficeRow). shows_last o.day way) (sym e)
+    -- there is no path
+    pub no_way : (ids : List ℕ) → length ids ≡ 0 → ids ≡ map (λ (x : Unit). x.id) (path (has_id u) s.catalogue.forest)
+        → Unknown UnknownUnit ≡ answer s (query.Page u)
+    no_way ids none is = hidden (without_way s.day u s.catalogue.forest (path_found u) (sym (ap length is) ∙ none))
 
-  pub hidden : (u : ℕ) → shown_in s.day u s.catalogue.forest ≡ false → Unknown UnknownUnit ≡ answer s (query.Page u)
-  hidden u e = sym (page_hidden (press s) s.day u s.catalogue.forest distinct e)
+    -- an open unit, by the units above it
+    pub judged_open : (row : OfficeRow) (ids above : List ℕ) (last : ℕ) → row ≡ office_of s
+        → is_open_there s.day (find (has_id u) (nodes s.catalogue.forest)) ≡ true
+        → ids ≡ map (λ (x : Unit). x.id) (path (has_id u) s.catalogue.forest) → ids ≡ above ++ last ∷ []
+        → shown_in s.day u s.catalogue.forest ≡ list_all (λ id. is_open_there row.day (find (has_id id) (nodes s.catalogue.forest))) above
+    judged_open row ids above last row_is own is ends =
+        shown_below s.day u s.catalogue.forest (path_found u) above last (sym is ∙ ends) own
+        ∙ ap (λ (o : OfficeRow). list_all (λ id. is_open_there o.day (find (has_id id) (nodes s.catalogue.forest))) above) (sym row_is)
 
-  -- ---- a path that was read, whose last unit is shown
-  module _ (u : ℕ) (row : OfficeRow) (way above : List Head) (last : Head) (row_is : row ≡ office_of s) (way_is : way ≡ map head_of (path (has_id u) s.catalogue.forest)) (represents : shows_last row.day way ≡ true) (ends : way ≡ above ++ last ∷ []) where
-    shown : shown_in s.day u s.catalogue.forest ≡ true
-    shown = judged u row way row_is way_is ∙ represents
+    -- a path by its heads, of which there may be none
+    pub no_heads : (day : ℤ) (way : List Head) → length way ≡ 0 → shows_last day way ≡ false
+    no_heads day [] none = refl
+    no_heads day (head ∷ way) none = absurd (omega (arith, none))
 
-    it : Stands (has_id u) s.catalogue.forest
-    it = stands (has_id u) s.catalogue.forest (is_there (press s) s.day u s.catalogue.forest distinct shown)
+    pub judged : (row : OfficeRow) (way : List Head) → row ≡ office_of s
+        → way ≡ map head_of (path (has_id u) s.catalogue.forest)
+        → shown_in s.day u s.catalogue.forest ≡ shows_last row.day way
+    judged row way e k = ap (shows_last s.day) (sym k) ∙ ap (λ (o : OfficeRow). shows_last o.day way) (sym e)
 
-    last_is : last ≡ head_of it.node
-    last_is = last_same above (map head_of it.above) last (head_of it.node) (sym ends ∙ way_is ∙ ap (map head_of) it.way ∙ map-append head_of it.above (it.node ∷ []))
+    -- ---- a unit that is shown
+    module _ (shown : shown_in s.day u s.catalogue.forest ≡ true) where
+      it : Stands (has_id u) s.catalogue.forest
+      it = stands (has_id u) s.catalogue.forest (is_there (press s) s.day u s.catalogue.forest distinct shown)
 
-    closes : is_later row.day last.until ≡ is_unit_closed s.day it.node
-    closes = ap (λ (o : OfficeRow). is_later o.day last.until) row_is ∙ ap (λ (h : Head). is_later s.day h.until) last_is
+      node_is : find (has_id u) (nodes s.catalogue.forest) ≡ Some it.node
+      node_is = found_node s.day u s.catalogue.forest (path_found u) it
 
-    head_is : (ids : List Bytes) → ids ≡ head_identifiers way
-        → head_alone (repository_of row) ids row.day last ≡ head_alone (press s).at (head_identifiers (map head_of (path (has_id u) s.catalogue.forest))) s.day (head_of it.node)
-    head_is ids e =
-        ap (λ (o : OfficeRow). head_alone (repository_of o) ids o.day last) row_is ∙ ap (λ l. head_alone (repository_of (office_of s)) l s.day last) (e ∙ ap head_identifiers way_is)
-        ∙ ap (λ h. head_alone (repository_of (office_of s)) (head_identifiers (map head_of (path (has_id u) s.catalogue.forest))) s.day h) last_is
+      open_node : is_open_there s.day (find (has_id u) (nodes s.catalogue.forest)) ≡ true
+          → is_unit_closed s.day it.node ≡ false
+      open_node e = second (not it.node.draft) (is_unit_closed s.day it.node) (sym (ap (is_open_there s.day) node_is) ∙ e)
+        where
+          second : (a b : Bool) → (a && not b) ≡ true → b ≡ false
+          second true true e = absurd (false≢true e)
+          second true false e = refl
+          second false b e = absurd (false≢true e)
 
-    pub answers_closed : (ids : List Bytes) (head : Shown) (text : Bytes) → ids ≡ head_identifiers way
-        → head ≡ head_alone (repository_of row) ids row.day last → is_later row.day last.until ≡ true
-        → text ≡ page (closed_page head) → Text text ≡ answer s (query.Page u)
-    answers_closed ids head text e h c is =
-        ap Text (is ∙ ap (λ x. page (closed_page x)) (h ∙ head_is ids e)) ∙ sym (page_closed (press s) s.day u s.catalogue.forest distinct it shown (sym closes ∙ c))
+      -- a closed unit, by the heads of its path
+      pub answers_closed : (row : OfficeRow) (way above : List Head) (last : Head) (text : Bytes) → row ≡ office_of s
+          → way ≡ map head_of (path (has_id u) s.catalogue.forest) → way ≡ above ++ last ∷ []
+          → is_closed_there s.day (find (has_id u) (nodes s.catalogue.forest)) ≡ true
+          → text ≡ page (closed_page (head_alone (repository_of row) (head_identifiers way) row.day last))
+          → Text text ≡ answer s (query.Page u)
+      answers_closed row way above last text row_is way_is ends c is =
+          let last_is : last ≡ head_of it.node =
+          last_same above (map head_of it.above) last (head_of it.node) (sym ends ∙ way_is ∙ ap (map head_of) it.way ∙ map-append head_of it.above (it.node ∷ [])) in
+          ap Text (is
+          ∙ ap (λ (o : OfficeRow). page (closed_page (head_alone (repository_of o) (head_identifiers way) o.day last))) row_is
+          ∙ ap (λ l. page (closed_page (head_alone (repository_of (office_of s)) (head_identifiers l) s.day last))) way_is
+          ∙ ap (λ h. page (closed_page (head_alone (repository_of (office_of s)) (head_identifiers (map head_of (path (has_id u) s.catalogue.forest))) s.day h))) last_is)
+          ∙ sym (page_closed (press s) s.day u s.catalogue.forest distinct it shown (sym (ap (is_closed_there s.day) node_is) ∙ c))
 
-    pub answers_told : (ids : List Bytes) (head : Shown) (units : List UnitValues) (heads : List Head) (text : Bytes)
-        → ids ≡ head_identifiers way → head ≡ head_alone (repository_of row) ids row.day last
-        → is_later row.day last.until ≡ false
-        → units ≡ map (unit_values s.catalogue.containers) (path (has_id u) s.catalogue.forest)
-        → heads ≡ map head_of (tops (part_below has_id (Some u) s.catalogue.forest))
-        → text ≡ page (page_of_units head (coded_way (repository_of row) [] [] units) (all_bare (repository_of row) ids row.day heads))
-        → Text text ≡ answer s (query.Page u)
-    answers_told ids head units heads text e h c us hs is =
-        let way_ids = head_identifiers (map head_of (path (has_id u) s.catalogue.forest)) in
-        let H = head_alone (press s).at way_ids s.day (head_of it.node) in
-        ap Text (is ∙ ap (λ x. page (page_of_units x (coded_way (repository_of row) [] [] units) (all_bare (repository_of row) ids row.day heads))) (h ∙ head_is ids e)
-        ∙ ap (λ (o : OfficeRow). page (page_of_units H (coded_way (repository_of o) [] [] units) (all_bare (repository_of o) ids o.day heads))) row_is
-        ∙ ap (λ x. page (page_of_units H (coded_way (press s).at [] [] x) (all_bare (press s).at ids s.day heads))) us
-        ∙ ap (λ x. page (page_of_units H (coded_way (press s).at [] [] (map (unit_values s.catalogue.containers) (path (has_id u) s.catalogue.forest))) (all_bare (press s).at x s.day heads))) (e ∙ ap head_identifiers way_is)
-        ∙ ap (λ x. page (page_of_units H (coded_way (press s).at [] [] (map (unit_values s.catalogue.containers) (path (has_id u) s.catalogue.forest))) (all_bare (press s).at way_ids s.day x))) hs)
-        ∙ sym (page_told (press s) s.day u s.catalogue.forest distinct it shown (sym closes ∙ c))
+      -- an open one, by the values of its path
+      pub answers_told : (row : OfficeRow) (units : List UnitValues) (heads : List Head) (text : Bytes) → row ≡ office_of s
+          → is_open_there s.day (find (has_id u) (nodes s.catalogue.forest)) ≡ true
+          → units ≡ map (unit_values s.catalogue.containers) (path (has_id u) s.catalogue.forest)
+          → heads ≡ map head_of (published_units (tops (part_below has_id (Some u) s.catalogue.forest)))
+          → text ≡ told_text (coded_way (repository_of row) [] [] units) (all_bare (repository_of row) (identifiers_of units) row.day heads)
+          → Text text ≡ answer s (query.Page u)
+      answers_told row units heads text row_is opened us hs is =
+          let boxes = s.catalogue.containers in
+          let way = path (has_id u) s.catalogue.forest in
+          let told = map (unit_values boxes) way in
+          let below = all_bare (press s).at (head_identifiers (map head_of way)) s.day (map head_of (published_units (tops (part_below has_id (Some u) s.catalogue.forest)))) in
+          let c = open_node opened in
+          ap Text (is
+          ∙ ap (λ (o : OfficeRow). told_text (coded_way (repository_of o) [] [] units) (all_bare (repository_of o) (identifiers_of units) o.day heads)) row_is
+          ∙ ap (λ x. told_text (coded_way (press s).at [] [] x) (all_bare (press s).at (identifiers_of x) s.day heads)) us
+          ∙ ap (λ x. told_text (coded_way (press s).at [] [] told) (all_bare (press s).at x s.day heads)) (same_identifiers boxes way)
+          ∙ ap (λ x. told_text (coded_way (press s).at [] [] told) (all_bare (press s).at (head_identifiers (map head_of way)) s.day x)) hs
+          ∙ subst (λ (w : List Unit). told_text (coded_way (press s).at [] [] (map (unit_values boxes) w)) below ≡ page (page_of_units (head_alone (press s).at (head_identifiers (map head_of w)) s.day (head_of it.node)) (coded_way (press s).at [] [] (map (unit_values boxes) w)) below)) (sym it.way) (told_same (press s).at boxes s.day it.above it.node below c))
+          ∙ sym (page_told (press s) s.day u s.catalogue.forest distinct it shown c)

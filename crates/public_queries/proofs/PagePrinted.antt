@@ -14,8 +14,8 @@ use Rattle.public_queries.proofs.Common.{head_line, head_of, housed_lines, ident
 use Rattle.public_queries.proofs.Common.{is_unit_closed, known_of, line, line_elements, lines_or, map-append}
 use Rattle.public_queries.proofs.Common.{nearest_boxes, nearest_lines, page, page_answer, page_at, page_boxes}
 use Rattle.public_queries.proofs.Common.{page_line, page_of, page_of_units, pages_side_by_side, part_below, path}
-use Rattle.public_queries.proofs.Common.{public_of, reverse, reverse-append, shown_unit, shows_last, stub_of, tops}
-use Rattle.public_queries.proofs.Common.{tree, unit_below, unit_values, with_codes, ℤ}
+use Rattle.public_queries.proofs.Common.{public_of, published_units, reverse, reverse-append, shown_unit, shows_last}
+use Rattle.public_queries.proofs.Common.{stub_of, tops, tree, unit_below, unit_values, with_codes, ℤ}
 use Rattle.public_queries.proofs.Standing.{seen_below, public_node, Stands, nowhere, seen, shown_in}
 use Rattle.public_queries.proofs.HeadsPrinted.{known_ids, same_head, same_beside}
 use Rattle.public_queries.proofs.HeadLineLemmas.{shows_last-push}
@@ -171,7 +171,7 @@ module _ (press : Press) (day : ℤ) (u : ℕ) (f : Forest Unit) (distinct : Has
 
     pub page_told : is_unit_closed day it.node ≡ false
         → page_answer (page_of press u (public_of day f))
-        ≡ Text (page (page_of_units (head_alone press.at (head_identifiers (map head_of (path (has_id u) f))) day (head_of it.node)) (coded_way press.at [] [] (map (unit_values press.containers) (path (has_id u) f))) (all_bare press.at (head_identifiers (map head_of (path (has_id u) f))) day (map head_of (tops (part_below has_id (Some u) f))))))
+        ≡ Text (page (page_of_units (head_alone press.at (head_identifiers (map head_of (path (has_id u) f))) day (head_of it.node)) (coded_way press.at [] [] (map (unit_values press.containers) (path (has_id u) f))) (all_bare press.at (head_identifiers (map head_of (path (has_id u) f))) day (map head_of (published_units (tops (part_below has_id (Some u) f)))))))
     page_told c =
         let way = path (has_id u) f in
         let units = coded_way press.at [] [] (map (unit_values press.containers) way) in
@@ -184,8 +184,8 @@ module _ (press : Press) (day : ℤ) (u : ℕ) (f : Forest Unit) (distinct : Has
         in
         ap page_answer (page_found e ∙ ap (page_at press (map (known_of day) way)) shown_tree ∙ told_at (map (known_of day) way) (seen_below day (is_unit_closed day it.node) it.children) c)
         ∙ ap Text
-        (printed_alike (record { head = shown_unit press.at press.containers (map identifier_of (map (known_of day) way)) 0 (known_of day it.node); lines = filter_map (page_line (with_codes press (map (known_of day) way))) line_elements; boxes = boxes_on_page press (with_codes press (map (known_of day) way)); below = pages_side_by_side press (map identifier_of (map (known_of day) way)) (seen_below day (is_unit_closed day it.node) it.children) }) (page_of_units (head_alone press.at (head_identifiers (map head_of way)) day (head_of it.node)) units (all_bare press.at (head_identifiers (map head_of way)) day (map head_of (tops (part_below has_id (Some u) f)))))
+        (printed_alike (record { head = shown_unit press.at press.containers (map identifier_of (map (known_of day) way)) 0 (known_of day it.node); lines = filter_map (page_line (with_codes press (map (known_of day) way))) line_elements; boxes = boxes_on_page press (with_codes press (map (known_of day) way)); below = pages_side_by_side press (map identifier_of (map (known_of day) way)) (seen_below day (is_unit_closed day it.node) it.children) }) (page_of_units (head_alone press.at (head_identifiers (map head_of way)) day (head_of it.node)) units (all_bare press.at (head_identifiers (map head_of way)) day (map head_of (published_units (tops (part_below has_id (Some u) f))))))
         head_same
         (ap (λ l. filter_map (page_line l) line_elements) same)
         (ap (boxes_on_page press) same ∙ same_housed press units (are_numbered press.at press.containers [] [] way tt))
-        (ap (flat_map unit_below) lower ∙ same_beside day unit_below below_alike press (head_identifiers (map head_of way)) it.children ∙ ap (λ g. flat_map unit_below (all_bare press.at (head_identifiers (map head_of way)) day (map head_of (tops (below_first g))))) (sym it.part)))
+        (ap (flat_map unit_below) lower ∙ same_beside day unit_below below_alike press (head_identifiers (map head_of way)) it.children ∙ ap (λ g. flat_map unit_below (all_bare press.at (head_identifiers (map head_of way)) day (map head_of (published_units (tops (below_first g)))))) (sym it.part)))

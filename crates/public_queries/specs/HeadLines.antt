@@ -1,5 +1,5 @@
 -- Which units the public is shown, and their head lines, as computed from heads.
-use Rattle.std.specs.Prelude.{ℕ, ℤ, int_lt, Bool, false, not, ◌&&◌, ◌++◌, cond, List, [], ◌∷◌, map, filter_map, Option}
+use Rattle.std.specs.Prelude.{ℕ, ℤ, int_lt, Bool, false, not, ◌&&◌, ◌++◌, cond, List, [], ◌∷◌, map, filter, Option}
 use Rattle.std.specs.Prelude.{Some, None}
 use Rattle.std.specs.List.{list_all}
 use Rattle.isad_core.specs.Texts.{Bytes}
@@ -8,8 +8,10 @@ use Rattle.isad_core.specs.declared.display.Body.{Body}
 use Rattle.isad_core.specs.declared.display.Body.TheVariants.{Full, Closed}
 use Rattle.isad_core.specs.declared.display.Shown.{Shown}
 use Rattle.catalogue_core.specs.Aids.{Repository}
+use Rattle.catalogue_core.specs.Units.{Unit}
 use Rattle.visibility.specs.Marks.{is_later}
 use Rattle.catalogue_statements.specs.declared.office.OfficeRow.{OfficeRow}
+use Rattle.catalogue_store.specs.Heads.{head_of}
 use Rattle.catalogue_store.specs.declared.heads.Head.{Head}
 
 -- whose archives these are, by the office's own row
@@ -31,6 +33,17 @@ shows_last day (head ∷ next ∷ way) = is_open_on day head && shows_last day (
 abbrev pub are_open : ℤ → List Head → Bool
 are_open day heads = list_all (is_open_on day) heads
 
+-- ---- units that are not drafts
+
+-- the head of such a unit, if there is one and it is no draft
+abbrev pub public_head : Option Unit → Option Head
+public_head None = None
+public_head (Some unit) = cond unit.draft None (Some (head_of unit))
+
+-- those of these units that are not drafts
+abbrev pub published_units : List Unit → List Unit
+published_units units = filter (λ unit. not unit.draft) units
+
 -- ---- head lines
 
 -- what a head line needs of a unit's body: the day until which it is closed, if it is closed on this day
@@ -48,13 +61,12 @@ head_alone at ids day head = record {
   body = bare_body day head.until;
 }
 
--- the same for a unit below others, with its number, unless it is a draft
-abbrev pub bare_below : Repository → List Bytes → ℤ → Head → Option (ℕ × Shown)
-bare_below at above day head =
-    cond head.draft None (Some (head.id, head_alone at (above ++ head.identifier ∷ []) day head))
+-- the same for a unit below others, with its number
+abbrev pub bare_below : Repository → List Bytes → ℤ → Head → ℕ × Shown
+bare_below at above day head = (head.id, head_alone at (above ++ head.identifier ∷ []) day head)
 
 abbrev pub all_bare : Repository → List Bytes → ℤ → List Head → List (ℕ × Shown)
-all_bare at above day heads = filter_map (bare_below at above day) heads
+all_bare at above day heads = map (bare_below at above day) heads
 
 abbrev pub head_identifiers : List Head → List Bytes
 head_identifiers way = map (λ head. head.identifier) way

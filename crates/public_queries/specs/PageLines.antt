@@ -2,7 +2,9 @@
 use Rattle.std.specs.Prelude.{ℕ, List, [], ◌∷◌, Option, Some, None, map, filter_map}
 use Rattle.std.specs.List.{zip}
 use Rattle.isad_core.specs.Texts.{Bytes}
-use Rattle.isad_core.specs.Values.{line_elements}
+use Rattle.isad_core.specs.PrintedDescriptions.{page}
+use Rattle.isad_core.specs.Values.{line_elements, title}
+use Rattle.isad_core.specs.declared.display.Body.TheVariants.{Full}
 use Rattle.isad_core.specs.declared.display.Page.{Page}
 use Rattle.isad_core.specs.declared.display.Shown.{Shown}
 use Rattle.isad_core.specs.declared.values.BoxKey.{BoxKey}
@@ -36,7 +38,17 @@ housed_lines (unit ∷ higher) = lines_or None unit.unit.containers unit.unit.va
 abbrev pub closed_page : Shown → Page
 closed_page head = record { head = head; lines = []; boxes = []; below = [] }
 
--- the page of the first of these units
+-- the head of the page of a unit that is not closed
+abbrev pub told_head : OnPath → Shown
+told_head unit = record {
+  depth = 0;
+  code = unit.code;
+  level = unit.unit.values.level;
+  title = title unit.unit.values;
+  body = Full [] [];
+}
+
+-- the page of the first of these units, below this head
 abbrev pub page_of_units : Shown → List OnPath → List (ℕ × Shown) → Page
 page_of_units head units below = record {
   head = head;
@@ -44,3 +56,8 @@ page_of_units head units below = record {
   boxes = housed_lines units;
   below = below;
 }
+
+-- the same as it is printed for a unit that is not closed, or nothing if there is no unit
+abbrev pub told_text : List OnPath → List (ℕ × Shown) → Bytes
+told_text [] below = []
+told_text (unit ∷ higher) below = page (page_of_units (told_head unit) (unit ∷ higher) below)

@@ -15,6 +15,10 @@ use Rattle.public_queries.specs.declared.path_values.OnPath.{OnPath}
 abbrev pub unit_values : List BoxKey → Unit → UnitValues
 unit_values boxes unit = record { values = unit.values; containers = map (box_number boxes) unit.values.boxes }
 
+-- the identifiers of units with these values
+abbrev pub identifiers_of : List UnitValues → List Bytes
+identifiers_of units = map (λ unit. identifier unit.values) units
+
 -- a unit with the code that it has below units with these identifiers
 abbrev pub on_path : Repository → List Bytes → UnitValues → OnPath
 on_path at above unit = record {

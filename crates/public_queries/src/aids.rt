@@ -17,7 +17,7 @@ ghost use Rattle.public_queries.specs.InformedAnswers.{RespondsKnowing};
 ghost use Rattle.public_queries.specs.FindingAids.{KeepsUnits, Walked, along, kept_from_walk, public_units, shown_at};
 ghost use Rattle.public_queries.specs.KnownPaths.{IsTellable};
 
-use crate::own_rows::is_published;
+use crate::own_rows::find_published;
 use crate::path_heads::{identifiers_above, shows_last};
 use crate::visible_unit::{Seen, seen_unit};
 use catalogue_store::{OfficeRow, Places, branch_marks, path_heads};
@@ -151,9 +151,8 @@ pub fn aid<P: Places, S: Alter>(
     ensures { RespondsKnowing P.represents P.version S.Store (λ s. known.now ≡ office_of s) (query.Aid unit)
         tables.old tables.new result }
 {
-    let published = is_published(alloc, tables, unit)?;
-    if !published {
+    let Some(_own) = find_published(alloc, tables, unit)? else {
         return Ok(Answer::Unknown(Refusal::UnknownUnit));
-    }
+    };
     aid_on_path(alloc, tables, known, unit)
 }

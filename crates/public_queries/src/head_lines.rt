@@ -55,8 +55,8 @@ fn bare_in(
     Ok(shown)
 }
 
-/// Those of these units that are not drafts, each with its number and its head line alone. `ids` are the identifiers
-/// from the top down to the unit right above them, and are the same afterwards unless the call fails.
+/// These units, each with its number and its head line alone. `ids` are the identifiers from the top down to the unit
+/// right above them, and are the same afterwards unless the call fails.
 pub(crate) fn bare_units(
     alloc: Global,
     known: &OfficeRow,
@@ -69,9 +69,7 @@ pub(crate) fn bare_units(
 {
     let mut below = List::new(alloc);
     for head in heads {
-        if !head.draft {
-            below.push((head.id.get(), bare_in(alloc, known, ids, head)?))?;
-        }
+        below.push((head.id.get(), bare_in(alloc, known, ids, head)?))?;
     }
     Ok(below)
 }

@@ -9,6 +9,7 @@ mod page_lines;
 mod pages;
 mod path_heads;
 mod path_values;
+mod public_heads;
 mod tops;
 mod visible_unit;
 

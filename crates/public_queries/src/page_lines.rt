@@ -3,12 +3,13 @@
 ghost use Rattle.std.specs.Prelude.{◌≡◌, filter_map, map, option_copied, IfOk};
 ghost use Rattle.isad_core.specs.PrintedDescriptions.{page as printed};
 ghost use Rattle.catalogue_core.specs.Pages.{nearest_value as nearest_of, page_line as line_of};
-ghost use Rattle.public_queries.specs.PageLines.{box_lines, closed_page, housed_lines, nearest_lines, page_of_units};
+ghost use Rattle.public_queries.specs.PageLines.{box_lines, closed_page, housed_lines, nearest_lines};
+ghost use Rattle.public_queries.specs.PageLines.{told_head as head_of_told, told_text};
 ghost use Rattle.public_queries.specs.PathValues.{coded_of};
 
-use crate::path_values::OnPath;
+use crate::path_values::{OnPath, text_or_empty};
 use catalogue_store::UnitValues;
-use isad_core::{Element, LINE_ELEMENTS, List, Page, Shown, Text, page_text};
+use isad_core::{Body, Element, LINE_ELEMENTS, List, Page, Shown, Text, page_text};
 use std::alloc::{AllocError, Global};
 
 /// An element with its text, and the code of the unit above where it was found, if any.
@@ -131,18 +132,37 @@ pub(crate) fn print_closed(alloc: Global, head: Shown) -> Result<List<u8>, Alloc
     Ok(List(page_text(alloc, &page)?))
 }
 
-/// The page of the first of these units. The others must be those above it, the nearest first; `head` is its head, and
-/// `below` are the units right below it.
+/// The head of the page of a unit that is not closed.
+fn told_head(alloc: Global, unit: &OnPath) -> Result<Shown, AllocError>
+    ensures { IfOk result (λ head. head ≡ head_of_told unit.now) }
+{
+    let values = &unit.unit.values;
+    Ok(Shown {
+        depth: 0,
+        code: unit.code.clone()?,
+        level: values.level.clone()?,
+        title: text_or_empty(alloc, values.text(Element::Title))?,
+        body: Body::Full {
+            lines: List::new(alloc),
+            boxes: List::new(alloc),
+        },
+    })
+}
+
+/// The page of the first of these units, which is not closed. The others must be those above it, the nearest first;
+/// `below` are the units right below it. Empty if there are no units.
 pub(crate) fn print_told(
     alloc: Global,
-    head: Shown,
     units: &[OnPath],
     below: List<(u64, Shown)>,
 ) -> Result<List<u8>, AllocError>
-    ensures { IfOk result (λ text. text ≡ printed (page_of_units head units.now below)) }
+    ensures { IfOk result (λ text. text ≡ told_text units.now below) }
 {
+    let Some((unit, _higher)) = units.split_first() else {
+        return Ok(List::new(alloc));
+    };
     let page = Page {
-        head,
+        head: told_head(alloc, unit)?,
         lines: page_lines(alloc, units, LINE_ELEMENTS.as_slice())?,
         boxes: nearest_containers(alloc, units)?,
         below,

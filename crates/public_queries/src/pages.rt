@@ -1,4 +1,4 @@
-//! The page of a unit.
+//! The page of a unit. What the units of its path may show is known before any text is read, and each is read once.
 
 ghost use Rattle.std.specs.Prelude.{◌≡◌, [], find, map, Some, IfOk};
 ghost use Rattle.isad_core.specs.PrintedDescriptions.{page as printed};
@@ -10,20 +10,22 @@ ghost use Rattle.office_core.specs.declared.query.Query.TheVariants as query;
 ghost use Rattle.office_tables.specs.Calls.{Answers};
 ghost use Rattle.office_tables.specs.Premises.{◌within◌and◌gives◌};
 ghost use Rattle.refinement.specs.Representation.{office_of};
-ghost use Rattle.public_queries.specs.HeadLines.{all_bare, repository_of};
+ghost use Rattle.public_queries.specs.HeadLines.{all_bare, head_alone as bare_of, head_identifiers, repository_of};
 ghost use Rattle.public_queries.specs.InformedAnswers.{RespondsKnowing};
-ghost use Rattle.public_queries.specs.KnownPaths.{AreHeadsOf, IsTellable, RepresentsUnit};
-ghost use Rattle.public_queries.specs.PageLines.{page_of_units};
-ghost use Rattle.public_queries.specs.PathValues.{coded_way, unit_values};
+ghost use Rattle.public_queries.specs.KnownPaths.{AreNumbersOf, IsTellable, RepresentsClosed, RepresentsOpen};
+ghost use Rattle.public_queries.specs.KnownPaths.{RepresentsWay};
+ghost use Rattle.public_queries.specs.PageLines.{closed_page, told_text};
+ghost use Rattle.public_queries.specs.PathValues.{coded_way, identifiers_of, unit_values};
 
 use crate::head_lines::{bare_units, head_alone};
-use crate::own_rows::is_published;
+use crate::own_rows::{are_all_open, find_published};
 use crate::page_lines::{print_closed, print_told};
 use crate::path_heads::{identifiers, shows_last};
 use crate::path_values::with_codes;
+use crate::public_heads::public_heads_below;
 use access::is_closed;
-use catalogue_store::{Head, OfficeRow, Places, UnitValues, heads_below, path_heads, values};
-use isad_core::{List, Number, Shown, Text};
+use catalogue_store::{Head, OfficeRow, Places, UnitValues, path_heads, values};
+use isad_core::{List, Number};
 use office_core::{Answer, Refusal};
 use office_tables::{StoreFault, Tables};
 use sqlite::Alter;
@@ -50,80 +52,110 @@ fn values_there<P: Places, S: Alter>(
 fn values_of_all<P: Places, S: Alter>(
     alloc: Global,
     tables: &mut Tables<P, S>,
-    way: &[Head],
+    way: &[Number],
 ) -> Result<Vec<UnitValues>, StoreFault>
     ensures answers { Answers S.Store (Represents P.represents P.version) tables.old tables.new result
-        within IsKept and (λ c. IsTellable c × AreHeadsOf c way.now)
-        gives λ _ c units. IsTellable c → (of : AreHeadsOf c way.now)
+        within IsKept and (λ c. IsTellable c × AreNumbersOf c way.now)
+        gives λ _ c units. IsTellable c → (of : AreNumbersOf c way.now)
         → units.items ≡ map (unit_values c.containers) of.units }
 {
     let mut units = Vec::new(alloc);
-    for head in way {
-        units.push(values_there(alloc, tables, head.id)?)?;
+    for unit in way {
+        units.push(values_there(alloc, tables, *unit)?)?;
     }
     Ok(units)
 }
 
-/// The page of the last unit of a path, from the values of each unit of the path.
+/// The page of the last unit of a path, which is not closed, from the values of each unit of the path and the heads of
+/// the units below the last. Empty for an empty path.
 fn print_way(
     alloc: Global,
     known: &OfficeRow,
-    ids: Vec<Text>,
-    head: Shown,
     way: Vec<UnitValues>,
     heads: &[Head],
 ) -> Result<List<u8>, AllocError>
-    ensures { IfOk result (λ text. text ≡ printed (page_of_units head
-        (coded_way (repository_of known.now) [] [] way.items)
-        (all_bare (repository_of known.now) ids.items known.now.day heads.now))) }
+    ensures { IfOk result (λ text. text ≡ told_text (coded_way (repository_of known.now) [] [] way.items)
+        (all_bare (repository_of known.now) (identifiers_of way.items) known.now.day heads.now)) }
 {
-    let mut ids = ids;
-    let units = with_codes(alloc, known, way)?;
+    let (mut ids, units) = with_codes(alloc, known, way)?;
     let below = bare_units(alloc, known, &mut ids, heads)?;
-    print_told(alloc, head, units.as_slice(), below)
+    print_told(alloc, units.as_slice(), below)
 }
 
-/// The page of the last unit of a path. The public must be shown this unit.
-fn shown_page<P: Places, S: Alter>(
+/// The page of the last unit of a path, which is closed, from the heads of the units of the path.
+fn print_stub(
+    alloc: Global,
+    known: &OfficeRow,
+    way: &[Head],
+    last: &Head,
+) -> Result<List<u8>, AllocError>
+    ensures { IfOk result (λ text. text ≡ printed (closed_page
+        (bare_of (repository_of known.now) (head_identifiers way.now) known.now.day last.now))) }
+{
+    let ids = identifiers(alloc, way)?;
+    let head = head_alone(alloc, known, ids.as_slice(), last)?;
+    print_closed(alloc, head)
+}
+
+/// Answers with the page of a unit, whose path has these units. None of them may be a draft or closed.
+fn told_page<P: Places, S: Alter>(
     alloc: Global,
     tables: &mut Tables<P, S>,
     known: &OfficeRow,
     unit: Number,
-    way: &[Head],
+    way: &[Number],
 ) -> Result<Answer, StoreFault>
-    ensures { RespondsKnowing P.represents P.version S.Store (RepresentsUnit known.now unit way.now) (query.Page unit)
+    ensures { RespondsKnowing P.represents P.version S.Store (RepresentsWay known.now unit way.now) (query.Page unit)
         tables.old tables.new result }
 {
-    let Some((last, _above)) = way.split_last() else {
-        return Err(StoreFault::Schema);
-    };
-    let ids = identifiers(alloc, way)?;
-    let head = head_alone(alloc, known, ids.as_slice(), last)?;
-    if is_closed(last.until, known.day) {
-        let text = print_closed(alloc, head)?;
-        return Ok(Answer::Text(text));
-    }
     let told = values_of_all(alloc, tables, way)?;
-    let heads = heads_below(alloc, tables, Some(unit))?;
-    let text = print_way(alloc, known, ids, head, told, heads.as_slice())?;
+    let heads = public_heads_below(alloc, tables, Some(unit))?;
+    let text = print_way(alloc, known, told, heads.as_slice())?;
     Ok(Answer::Text(text))
 }
 
-/// Answers with the page of a unit, or with `UnknownUnit` if its path says that the public is not shown it.
-fn page_on_path<P: Places, S: Alter>(
+/// Answers with the page of a unit that is neither a draft nor closed, or with `UnknownUnit` if a unit above it is. Of
+/// the units above, only the rows are read until that is known.
+fn open_page<P: Places, S: Alter>(
     alloc: Global,
     tables: &mut Tables<P, S>,
     known: &OfficeRow,
     unit: Number,
 ) -> Result<Answer, StoreFault>
-    ensures { RespondsKnowing P.represents P.version S.Store (λ s. known.now ≡ office_of s) (query.Page unit)
+    ensures { RespondsKnowing P.represents P.version S.Store (RepresentsOpen known.now unit) (query.Page unit)
+        tables.old tables.new result }
+{
+    let way = P::path(alloc, tables, unit)?;
+    let Some((_own, above)) = way.split_last() else {
+        return Ok(Answer::Unknown(Refusal::UnknownUnit));
+    };
+    let open = are_all_open(alloc, tables, above, known.day)?;
+    if !open {
+        return Ok(Answer::Unknown(Refusal::UnknownUnit));
+    }
+    told_page(alloc, tables, known, unit, way.as_slice())
+}
+
+/// Answers with the page of a unit that is closed, or with `UnknownUnit` if its path says that the public is not shown
+/// it.
+fn stub_page<P: Places, S: Alter>(
+    alloc: Global,
+    tables: &mut Tables<P, S>,
+    known: &OfficeRow,
+    unit: Number,
+) -> Result<Answer, StoreFault>
+    ensures { RespondsKnowing P.represents P.version S.Store (RepresentsClosed known.now unit) (query.Page unit)
         tables.old tables.new result }
 {
     let way = path_heads(alloc, tables, unit)?;
+    let Some((last, _above)) = way.split_last() else {
+        return Ok(Answer::Unknown(Refusal::UnknownUnit));
+    };
     if !shows_last(way.as_slice(), known.day) {
         return Ok(Answer::Unknown(Refusal::UnknownUnit));
     }
-    shown_page(alloc, tables, known, unit, way.as_slice())
+    let text = print_stub(alloc, known, way.as_slice(), last)?;
+    Ok(Answer::Text(text))
 }
 
 /// Answers with the page of a unit, or with `UnknownUnit` if the public is shown no such unit. The unit's own row is
@@ -137,9 +169,11 @@ pub fn page<P: Places, S: Alter>(
     ensures { RespondsKnowing P.represents P.version S.Store (λ s. known.now ≡ office_of s) (query.Page unit)
         tables.old tables.new result }
 {
-    let published = is_published(alloc, tables, unit)?;
-    if !published {
+    let Some(own) = find_published(alloc, tables, unit)? else {
         return Ok(Answer::Unknown(Refusal::UnknownUnit));
+    };
+    if is_closed(own.until, known.day) {
+        return stub_page(alloc, tables, known, unit);
     }
-    page_on_path(alloc, tables, known, unit)
+    open_page(alloc, tables, known, unit)
 }

@@ -2,7 +2,7 @@
 
 ghost use Rattle.std.specs.Prelude.{◌≡◌, [], option_copied, unwrap_or, IfOk};
 ghost use Rattle.public_queries.specs.HeadLines.{repository_of};
-ghost use Rattle.public_queries.specs.PathValues.{coded_way};
+ghost use Rattle.public_queries.specs.PathValues.{coded_way, identifiers_of};
 
 use catalogue_store::{OfficeRow, UnitValues};
 use isad_core::{Element, Text, join_code};
@@ -25,13 +25,15 @@ pub(crate) fn text_or_empty(alloc: Global, text: Option<&Text>) -> Result<Text, 
     }
 }
 
-/// The units of a path with their reference codes. They are given from the top down, and returned the lowest first.
+/// The units of a path, which are given from the top down: their identifiers in this order, and the units with their
+/// reference codes, the lowest first.
 pub(crate) fn with_codes(
     alloc: Global,
     known: &OfficeRow,
     way: Vec<UnitValues>,
-) -> Result<Vec<OnPath>, AllocError>
-    ensures { IfOk result (λ units. units.items ≡ coded_way (repository_of known.now) [] [] way.items) }
+) -> Result<(Vec<Text>, Vec<OnPath>), AllocError>
+    ensures ids { IfOk result (λ told. told.0.items ≡ identifiers_of way.items) }
+    ensures units { IfOk result (λ told. told.1.items ≡ coded_way (repository_of known.now) [] [] way.items) }
 {
     let mut ids = Vec::new(alloc);
     let mut units = Vec::new(alloc);
@@ -46,5 +48,5 @@ pub(crate) fn with_codes(
         units.push(OnPath { code, unit })?;
     }
     units.reverse();
-    Ok(units)
+    Ok((ids, units))
 }

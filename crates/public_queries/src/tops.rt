@@ -8,14 +8,15 @@ ghost use Rattle.public_queries.specs.HeadLines.{all_bare, repository_of};
 ghost use Rattle.public_queries.specs.InformedAnswers.{RespondsKnowing};
 
 use crate::head_lines::bare_units;
-use catalogue_store::{Head, OfficeRow, Places, heads_below};
+use crate::public_heads::public_heads_below;
+use catalogue_store::{Head, OfficeRow, Places};
 use isad_core::{List, list_text};
 use office_core::Answer;
 use office_tables::{StoreFault, Tables};
 use sqlite::Alter;
 use std::alloc::{AllocError, Global};
 
-/// A line for each of these tops that is not a draft.
+/// A line for each of these tops.
 fn print_tops(alloc: Global, known: &OfficeRow, heads: &[Head]) -> Result<List<u8>, AllocError>
     ensures { IfOk result (λ text. text
         ≡ tops_text (all_bare (repository_of known.now) [] known.now.day heads.now)) }
@@ -34,7 +35,7 @@ pub fn fonds<P: Places, S: Alter>(
     ensures { RespondsKnowing P.represents P.version S.Store (λ s. known.now ≡ office_of s) query.Fonds tables.old
         tables.new result }
 {
-    let heads = heads_below(alloc, tables, None)?;
+    let heads = public_heads_below(alloc, tables, None)?;
     let text = print_tops(alloc, known, heads.as_slice())?;
     Ok(Answer::Text(text))
 }

@@ -1,8 +1,9 @@
 use Rattle.std.proofs.Common.{◌≡◌, List, ap, ◌∙◌, sym}
+use Rattle.catalogue_core.specs.Aids.{shown_below}
 use Rattle.office_core.specs.declared.query.Query.TheVariants as query
 use Rattle.public_queries.proofs.Common.{Head, OfficeRow, Text, Unknown, UnknownUnit, aid, before_last, early, has_id}
 use Rattle.public_queries.proofs.Common.{head_identifiers, looks_then, office_kept, office_of, public_of, repository_of}
-use Rattle.public_queries.proofs.Common.{shown_below, shows_last, state, still_shown, tree}
+use Rattle.public_queries.proofs.Common.{shows_last, state, still_shown, tree}
 use Rattle.public_queries.proofs.AidAnswers.{apart, hidden, shown, tellable}
 use Rattle.public_queries.proofs.Knowings.{catalogue_passed, knows_by, knows_passed_later}
 use Rattle.public_queries.proofs.aids.aid_on_path.Goals as goal

@@ -10,7 +10,7 @@ returns-in_err-heads g c = let told = c.in_err-heads.ensures.answers in catalogu
 
 pub returns : goal.returns
 returns g c =
-    let b = state g.S.Store c.heads_below.new.tables in
+    let b = state g.S.Store c.public_heads_below.new.tables in
     let told = c.in_ok-heads.ensures.answers in
     knows_by g.P.Places.represents g.P.Versioned.version (λ s. c.args.known.now ≡ office_of s) query.Fonds (state g.S.Store c.args.tables.now) b (Text c.in_ok-text.text) told.looks
     (λ clean s sound so it.

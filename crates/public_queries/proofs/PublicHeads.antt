@@ -1,0 +1,54 @@
+-- The heads of units that are not drafts.
+use Rattle.std.proofs.Common.{◌≡◌, inl, inr, ℕ, Bool, true, false, cond, not, List, [], ◌∷◌, Option, Some, None, refl}
+use Rattle.std.proofs.Common.{sym, ap, ◌∙◌}
+use Rattle.std.specs.List.{find}
+use Rattle.std.specs.Prelude.{map}
+use Rattle.public_queries.proofs.Common.{AllByRecursion, Forest, Has, Head, RepresentsUnits, Standing, Trees, Unit}
+use Rattle.public_queries.proofs.Common.{cons_option, eqb-true, filter_map, found_one, has_id, head_of, nodes}
+use Rattle.public_queries.proofs.Common.{option_map, public_head, published_standing, published_units, standing_of}
+use Rattle.public_queries.proofs.OwnRows.{Published}
+
+-- what is read by number of units that are there, where drafts are left out
+pub heads_published : (db : Trees) (f : Forest Unit) (at : RepresentsUnits db f) (units : List Unit)
+    → AllByRecursion (Has (nodes f)) units
+    → filter_map (λ id. public_head (find (has_id id) (nodes f))) (map (λ (u : Unit). u.id) units) ≡ map head_of (published_units units)
+heads_published db f at [] h = refl
+heads_published db f at (u ∷ units) h =
+    ap (λ o. cons_option (public_head o) (filter_map (λ id. public_head (find (has_id id) (nodes f))) (map (λ (u : Unit). u.id) units))) (found_one db f at u.id u h.0 refl)
+    ∙ by u.draft _ (heads_published db f at units h.1)
+  where
+    by : (b : Bool) (rest : List Head) → rest ≡ map head_of (published_units units)
+        → cons_option (cond b None (Some (head_of u))) rest ≡ map head_of (cond (not b) (u ∷ published_units units) (published_units units))
+    by true rest e = e
+    by false rest e = ap (λ l. head_of u ∷ l) e
+
+-- ---- one head
+
+-- without a standing there is none
+pub no_head : (found : Option Unit) → None ≡ published_standing found → None ≡ public_head found
+no_head None e = refl
+no_head (Some unit) e = at unit.draft e
+  where
+    at : (b : Bool) → None ≡ cond b None (Some (standing_of unit)) → None ≡ cond b None (Some (head_of unit))
+    at true e = refl
+    at false e = absurd (let clash : None ≡ Some (standing_of unit) = e in cc)
+
+-- and with one it is the unit's
+pub same_public : (found : Option Unit) (standing : Standing) → Published found standing
+    → option_map head_of found ≡ public_head found
+same_public found standing it =
+    ap (option_map head_of) it.is
+    ∙ sym (ap public_head it.is ∙ ap (λ b. cond b None (Some (head_of it.unit))) it.no_draft)
+
+-- a unit that is found by a number is there, and has it
+pub found_there : (n : ℕ) (xs : List Unit) (u : Unit) → find (has_id n) xs ≡ Some u → Has xs u × (n ≡ u.id)
+found_there n [] u e = absurd (let clash : None ≡ Some u = e in cc)
+found_there n (x ∷ xs) u e = at (has_id n x) refl e (found_there n xs u)
+  where
+    at : (b : Bool) → has_id n x ≡ b → cond b (Some x) (find (has_id n) xs) ≡ Some u
+        → (find (has_id n) xs ≡ Some u → Has xs u × (n ≡ u.id)) → Has (x ∷ xs) u × (n ≡ u.id)
+    at true h e later =
+        let same : Some x ≡ Some u = e in
+        let is : u ≡ x = cc in
+        (inl is, eqb-true n x.id h ∙ sym (ap (λ (y : Unit). y.id) is))
+    at false h e later = let it = later e in (inr it.0, it.1)
