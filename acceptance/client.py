@@ -21,7 +21,7 @@ from collections.abc import Callable, Iterable, Iterator, Mapping
 from pathlib import Path
 from typing import IO, Any, NamedTuple, Self, TypeVar
 
-from acceptance.plain.limits import HIGHEST
+from acceptance.reference_model.limits import HIGHEST
 
 TOP = Path(__file__).resolve().parents[1]
 RUN = TOP / "run"  # starts a module
@@ -42,8 +42,8 @@ Known = TypeVar("Known")
 # ---- requests and replies
 
 TEXT, JSON = "text/plain; charset=utf-8", "application/json"
-PHRASES = {200: "OK", 400: "Bad Request", 404: "Not Found", 409: "Conflict", 502: "Bad Gateway",
-           503: "Service Unavailable"}
+PHRASES = {200: "OK", 400: "Bad Request", 404: "Not Found", 405: "Method Not Allowed", 409: "Conflict", 411: "Length Required",
+           413: "Content Too Large", 501: "Not Implemented", 502: "Bad Gateway", 503: "Service Unavailable"}
 
 
 def request(method: str, path: str, body: Body | None = None, host: str = "x", fields: Fields = ()) -> bytes:
@@ -109,7 +109,6 @@ def read_reply(stream: IO[bytes]) -> Reply:
 
 
 def replies(output: bytes) -> list[Reply]:
-    """All replies of an output."""
     stream, found = io.BytesIO(output), []
     while stream.tell() < len(output):
         found.append(read_reply(stream))
@@ -142,11 +141,6 @@ class Ended(NamedTuple):
 
 SOUND = Ended(0, b"sound\n", b"")
 NO_MEMORY = Ended(3, b"", b"no memory\n")
-
-
-def lacked_memory(ended: Ended) -> bool:
-    """Whether a command or a session told that there was no memory: by its message, or by an answer 503."""
-    return ended.message == NO_MEMORY.message or b"HTTP/1.1 503 " in ended.output
 
 
 class Program:
@@ -315,6 +309,25 @@ def first_difference(found: Ended, wanted: Ended) -> str:
     return ", wanted ".join(shown)
 
 
+def expect_end(found: Ended, wanted: Ended, what: object) -> None:
+    """Raises AssertionError with the bytes around the first difference, if a command did not end as it should."""
+    if found != wanted:
+        raise AssertionError(f"{what}: {first_difference(found, wanted)}")
+
+
+def expect_answers(ended: Ended, pairs: Iterable[tuple[bytes, bytes]], what: object) -> None:
+    """Raises AssertionError with the first request of a session that was not answered as it should be, if there is one, or
+    if the session did not end well after the last. `pairs`: requests with their answers."""
+    place = 0
+    for request, wanted in pairs:
+        found = ended.output[place:place + max(400, len(wanted))]
+        if not found.startswith(wanted):
+            asked = f"{request[:300]!r} was answered {found[:400]!r}, wanted {wanted[:400]!r}"
+            raise AssertionError(f"{what}: {asked}; it ended with {ended.status}, {ended.message!r}")
+        place += len(wanted)
+    expect_end(ended._replace(output=ended.output[place:]), Ended(0, b"", b""), f"{what}, after its last answer")
+
+
 # ---- options and rooms
 
 
@@ -335,14 +348,6 @@ def options(text: str | None, in_memory: bool = True) -> argparse.ArgumentParser
     words, room = program_options(text), usual_room(in_memory)
     told = f"where stores are made; else {room}"
     words.add_argument("--room", type=Path, default=room, metavar="DIRECTORY", help=told)
-    return words
-
-
-def seeded_options(text: str | None, count: int) -> argparse.ArgumentParser:
-    """The same for a script of random sessions or inputs, each made from a seed."""
-    words = options(text)
-    words.add_argument("--first", type=int, default=0, metavar="SEED", help="the first seed; else 0")
-    words.add_argument("--count", type=int, default=count, help=f"how many seeds; else {count}")
     return words
 
 

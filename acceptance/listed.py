@@ -1,4 +1,4 @@
-"""The offices over which lists.py makes lists. What the lists must be stands in lists.txt.
+"""The offices over which test_lists.py makes lists. What the lists must be stands in lists.txt.
 
 In each, numbers of units, numbers in a source and the order of the catalogue differ; whatever a list leaves out is there
 beside what it has: a day sooner or later, of another archive, source, reader or state."""

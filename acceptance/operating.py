@@ -1,6 +1,4 @@
-"""Runs the lines of docs/OPERATING.md and of README.md again and compares their answers, so that they cannot go stale:
-
-    ./run acceptance.operating [PROGRAM] [--place PLACE] [--shell COMMAND]
+"""Runs the lines of docs/OPERATING.md and of README.md again and compares their answers, so that they cannot go stale.
 
 In a block of a document, a line that begins with `$ ` (or `# `, for root) is a command. It goes on while its quotes or
 its braces are open. The lines up to the next command are its answer, with standard error. `...` stands for any lines. A
@@ -12,11 +10,13 @@ comment right before a block says what the block is:
     <!-- package, hand -->  both
     <!-- elsewhere: .. -->  not run here, for the reason given
 
-All other blocks belong to the place `here`: a new folder of this machine, with PROGRAM as `record_office` and a free
-port for each port of the document. `--shell` is the command that starts the shell of another place. A `record_office
-serve` runs until a line `kill $!` ends it. The lines of README run in a folder of their own with the examples; a blank
-line does not end a block there, since answers have some. Its lines without `$ ` are not run: they prove or build. The
-script prints each line with another answer, the lines that it left out, and last `N passed, M failed`.
+All other blocks belong to the place `here`: test_operating.py runs them. The lines of README run in a folder of their own with
+the examples; a blank line does not end a block there, since answers have some. Its lines without `$ ` are not run: they prove
+or build. packaging/try.sh runs the lines of another place, in the shell that a command starts:
+
+    ./run acceptance.operating --place PLACE --shell COMMAND
+
+It prints each line with another answer, and last `N passed, M failed`.
 """
 
 import argparse
@@ -24,20 +24,15 @@ import os
 import pathlib
 import re
 import shlex
-import shutil
 import signal
-import socket
 import subprocess
 import sys
-import tempfile
 import time
 
 TOP = pathlib.Path(__file__).resolve().parent.parent
 DOCUMENT = TOP / "docs" / "OPERATING.md"
 README = TOP / "README.md"
 BY_HAND = TOP / "packaging" / "README.md"
-BUILT = TOP / "crates" / "record_office" / "out" / "record_office"
-PORTS = range(8080, 8100)
 PLACES = ("here", "package", "hand")
 LONGEST = 120
 
@@ -145,49 +140,10 @@ def is_expected(said, expected):
     return re.fullmatch(pattern, "\n".join(line.rstrip() for line in said.splitlines())) is not None
 
 
-def free_port():
-    """The number of a port that nobody uses now."""
-    with socket.socket() as it:
-        it.bind(("127.0.0.1", 0))
-        return it.getsockname()[1]
-
-
-def local_shell(program, folder):
-    """The shell of this machine, and the texts that replace those of the document."""
-    (folder / "bin").mkdir()
-    (folder / "bin" / "record_office").symlink_to(program)
-    (folder / "office").mkdir()
-    environment = {**os.environ, "PATH": f"{folder}/bin:{os.environ['PATH']}", "LC_ALL": "C.UTF-8"}
-    shell = Shell(["bash", "--norc", "--noprofile"], folder / "office", environment)
-    ports = {str(port): str(free_port()) for port in PORTS}
-    return shell, lambda text: re.sub(r"\b80[89]\d\b", lambda port: ports[port.group()], text)
-
-
-def readme_shell(program, folder):
-    """The same for README: a folder with the examples."""
-    folder.mkdir()
-    shell, ours = local_shell(program, folder)
-    (folder / "office" / "examples").symlink_to(TOP / "examples")
-    return shell, ours
-
-
 def places_of(block):
     """The places that a block belongs to."""
     marked = [place for place in block.mark.split(", ") if place in PLACES]
     return marked or ["here"]
-
-
-def run_block(block, shell, ours):
-    """How many lines answered as they should, and how many did not."""
-    passed = failed = 0
-    for number, command, expected in block.commands():
-        said = shell.run(ours(command))
-        if is_expected(said, [ours(line) for line in expected]):
-            passed += 1
-        else:
-            failed += 1
-            print(f"line {number}: {command}\n--- answered\n{said}\n--- should be\n" + "\n".join(expected), flush=True)
-    return passed, failed
 
 
 def write_file(block, shell):
@@ -196,37 +152,22 @@ def write_file(block, shell):
     shell.run("\n".join([f"cat >{name} <<'END-OF-FILE'", *block.lines, "END-OF-FILE"]))
 
 
-def run(all_blocks, place, shell, ours):
-    """Writes the files and runs the lines of one place; returns how many answered as they should, and how many not."""
-    passed = failed = 0
-    for block in all_blocks:
-        if block.mark.startswith("file "):
-            write_file(block, shell)
-        elif place in places_of(block) and not block.mark.startswith("elsewhere"):
-            more, wrong = run_block(block, shell, ours)
-            passed, failed = passed + more, failed + wrong
-    return passed, failed
-
-
-def run_all(all_blocks, place, shell, ours):
-    """Runs the lines of one place, and ends its shell."""
+def run(all_blocks, place, shell, ours=str):
+    """Writes the files and runs the lines of one place, with `ours` made of its texts, and ends its shell. Yields each line,
+    and what is wrong with its answer, if something is."""
+    signal.signal(signal.SIGALRM, stop_waiting)
     try:
-        return run(all_blocks, place, shell, ours)
+        for block in all_blocks:
+            if block.mark.startswith("file "):
+                write_file(block, shell)
+            elif place in places_of(block) and not block.mark.startswith("elsewhere"):
+                for number, command, expected in block.commands():
+                    said = shell.run(ours(command))
+                    is_right = is_expected(said, [ours(line) for line in expected])
+                    told = "\n".join(["--- answered", said, "--- should be", *expected])
+                    yield f"line {number}: {command}", "" if is_right else told
     finally:
         shell.end()
-
-
-def print_left_out(all_blocks, place):
-    """Prints how many lines of other places were not run, and the blocks that are run nowhere."""
-    for other in PLACES:
-        run_there = [block for block in all_blocks if other in places_of(block)]
-        run_there = [block for block in run_there if not block.mark.startswith("elsewhere")]
-        many = sum(len(block.commands()) for block in run_there if place not in places_of(block))
-        if other != place and many:
-            print(f"left out: {many} lines of the place '{other}'")
-    for block in all_blocks:
-        if block.mark.startswith("elsewhere"):
-            print(f"left out: {len(block.commands())} lines from line {block.start} on, {block.mark}")
 
 
 def stop_waiting(*_):
@@ -236,31 +177,16 @@ def stop_waiting(*_):
 
 def main():
     """Runs the lines of the place, prints the counts, and ends the program with 1 if an answer differs."""
-    signal.signal(signal.SIGALRM, stop_waiting)
     words = argparse.ArgumentParser()
-    words.add_argument("program", nargs="?", default=BUILT, type=pathlib.Path)
-    words.add_argument("--place", choices=PLACES, default="here")
-    words.add_argument("--shell")
-    words = words.parse_args()
-    lacking = [tool for tool in ("curl", "sqlite3") if words.place == "here" and not shutil.which(tool)]
-    if lacking:
-        sys.exit(f"needs {' and '.join(lacking)}\n0 passed, 1 failed")
+    words.add_argument("--place", choices=PLACES[1:], required=True)
+    words.add_argument("--shell", required=True)
+    given = words.parse_args()
     by_hand = [block for block in blocks(BY_HAND.read_text(encoding="utf-8")) if block.mark == "hand"]
     all_blocks = by_hand + blocks(DOCUMENT.read_text(encoding="utf-8"))
-    passed = failed = 0
-    with tempfile.TemporaryDirectory() as folder:
-        if words.place == "here":
-            program, folder = words.program.resolve(), pathlib.Path(folder)
-            readme = blocks(README.read_text(encoding="utf-8"), have_blank_lines=True)
-            passed, failed = run_all(readme, "here", *readme_shell(program, folder / "readme"))
-            shell, ours = local_shell(program, folder)
-        else:
-            shell, ours = Shell(shlex.split(words.shell)), lambda text: text
-        more, wrong = run_all(all_blocks, words.place, shell, ours)
-    passed, failed = passed + more, failed + wrong
-    print_left_out(all_blocks, words.place)
-    print(f"{passed} passed, {failed} failed")
-    sys.exit(1 if failed or not passed else 0)
+    lines = list(run(all_blocks, given.place, Shell(shlex.split(given.shell))))
+    wrong = [f"{line}\n{told}" for line, told in lines if told]
+    print("\n".join([*wrong, f"{len(lines) - len(wrong)} passed, {len(wrong)} failed"]))
+    sys.exit(1 if wrong or not lines else 0)
 
 
 if __name__ == "__main__":

@@ -1,6 +1,6 @@
 """Measures the built program behind the front of front/server, and prints rows of markdown:
 
-    ./run bench.front [--program PROGRAM] [--room DIRECTORY] [--port FIRST] [--store STORE] [UNITS]
+    ./run bench.front [--program PROGRAM] [--room DIRECTORY] [--store STORE] [UNITS]
 
 UNITS is 2000, 20000 (the default) or 200000. STORE is an existing store of this many units, which is copied. Eight
 clients with kept connections ask for pages of units one after the other: undisturbed, while the program ends after
@@ -10,10 +10,8 @@ eight such clients and a kill: all tickets must be there, each once. Nothing els
 nginx and HAProxy, and ends with 1 if anything is lost.
 """
 
-import base64
 import http.client
 import json
-import os
 import shutil
 import socket
 import sys
@@ -21,11 +19,10 @@ import threading
 import time
 
 from acceptance import client
-from bench.front_servers import PASSWORD, Office
+from acceptance.front.office import SIGNED_IN, Office
 from bench.measure import Archive
 
 CLIENTS = 8
-AUTH = {"Authorization": "Basic " + base64.b64encode(":".join(PASSWORD).encode()).decode()}
 NO_LIMITS = [("limit_req zone=record_office_readers burst=200 nodelay;", ""),
              ("limit_conn record_office_visits 100;", "")]
 LOST = []
@@ -63,7 +60,7 @@ def pages(units, reader, many):
 
 def crowd(office, units, many, beside=None):
     """Runs eight clients, and something else meanwhile; returns what the clients took."""
-    clients = [Client(office.ports["readers"], pages(units, n, many)) for n in range(CLIENTS)]
+    clients = [Client(office.ports["8080"], pages(units, n, many)) for n in range(CLIENTS)]
     began = time.perf_counter()
     for one in clients:
         one.start()
@@ -108,9 +105,9 @@ def kills(office, units, many):
         """Kills the program three times."""
         for _ in range(3):
             time.sleep(2.5)
-            office.serving.kill()
+            office.kill_program()
             time.sleep(0.5)
-            Client(office.ports["readers"], ["/public/fonds"]).run()
+            Client(office.ports["8080"], ["/public/fonds"]).run()
 
     clients, took = crowd(office, units, many, kill)
     say("killed three times", clients, took, f"; {office.starts - starts} restarts")
@@ -122,12 +119,12 @@ class Desk:
 
     def __init__(self, office, many):
         self.office, self.many = office, many
-        self.connection = http.client.HTTPConnection("127.0.0.1", office.ports["desk"], timeout=200)
+        self.connection = http.client.HTTPConnection("127.0.0.1", office.ports["8081"], timeout=200)
         self.tickets, self.times, self.uncertain = [], [], 0
 
     def ask(self, method, path, body=None):
         """The status and the members of an answer."""
-        self.connection.request(method, path, body, AUTH)
+        self.connection.request(method, path, body, SIGNED_IN)
         answer = self.connection.getresponse()
         text = answer.read()
         return answer.status, json.loads(text) if text.startswith((b"{", b"[")) else {}
@@ -153,7 +150,7 @@ class Desk:
         """Registers all readers, with a kill of the program half-way."""
         for number in range(self.many):
             if number == self.many // 2:
-                threading.Timer(0.003, self.office.serving.kill).start()
+                threading.Timer(0.003, self.office.kill_program).start()
             self.register(number)
 
     def say(self):
@@ -172,35 +169,36 @@ class Desk:
 
 def slow(office, units):
     """What a page takes while a client has sent a part of a file to the desk, and then sends nothing."""
-    with socket.create_connection(("127.0.0.1", office.ports["desk"])) as held:
-        lines = "".join(f"{name}: {value}\r\n" for name, value in AUTH.items())
+    with socket.create_connection(("127.0.0.1", office.ports["8081"])) as held:
+        lines = "".join(f"{name}: {value}\r\n" for name, value in SIGNED_IN.items())
         held.sendall(
             f"POST /desk/import/a HTTP/1.1\r\nHost: 127.0.0.1\r\n{lines}Content-Length: 1048576\r\n\r\nx".encode())
         time.sleep(0.5)
-        reader = Client(office.ports["readers"], pages(units, 0, 20))
+        reader = Client(office.ports["8080"], pages(units, 0, 20))
         began = time.perf_counter()
         reader.run()
         say("beside a slow sender of a file, one client", [reader], time.perf_counter() - began)
 
 
-def fill(program, store, units):
-    """Makes an office of so many units."""
-    archive, office = Archive(units), client.Office.create(program, store, client.LARGE | {"run": "1"})
+def begin(given, room):
+    """An office of so many units, or a copy of the one that is there."""
+    office = Office(given.program, room / "long", changes=NO_LIMITS)
+    if given.store:
+        shutil.copy(given.store, office.store)
+        return office
+    office.init(client.LARGE | {"run": "1"}).expect_success()
+    archive = Archive(given.units)
     for file in range(archive.files):
-        archive.write(file + 1, f"{store}.csv")
-        office.import_file(f"a{file + 1}", f"{store}.csv", timeout=600).expect_success()
+        archive.write(file + 1, room / "rows.csv")
+        office.import_file(f"a{file + 1}", room / "rows.csv", timeout=600).expect_success()
+    return office
 
 
 def measure(given, room):
     """Prints the table: undisturbed, killed, slow, beside the desk, and while the program ends."""
-    store, program = f"{room}/office.db", given.program.path
-    if given.store:
-        shutil.copy(given.store, store)
-    else:
-        fill(given.program, store, given.units)
     many = 600 if given.units > 2000 else 60
-    print("| | requests | a second | p50 | p99 | longest | lost |\n|---|---|---|---|---|---|---|", flush=True)
-    with Office(program, store, f"{room}/long", given.port, 10000, NO_LIMITS) as office:
+    with begin(given, room) as office:
+        print("| | requests | a second | p50 | p99 | longest | lost |\n|---|---|---|---|---|---|---|", flush=True)
         steady(office, given.units, many)
         kills(office, given.units, many * 2)
         slow(office, given.units)
@@ -208,18 +206,18 @@ def measure(given, room):
         clients, took = crowd(office, given.units, many, desk.run)
         desk.say()
         say("the eight readers beside the desk", clients, took)
-    with Office(program, store, f"{room}/short", given.port + 10, 1, NO_LIMITS) as office:
-        ends(office, given.units, 2600 if given.units > 2000 else 1300)
+    ending = Office(given.program, room / "short", connections=1, changes=NO_LIMITS)
+    shutil.copy(office.store, ending.store)
+    with ending:
+        ends(ending, given.units, 2600 if given.units > 2000 else 1300)
 
 
 def main():
     """Measures as the command line says; ends with 1 if anything is lost."""
     words = client.options(__doc__, in_memory=False)
-    words.add_argument("--port", type=int, default=21100, metavar="FIRST", help="the first of some ports; else 21100")
     words.add_argument("--store", help="an office of so many units, which is copied")
     words.add_argument("units", nargs="?", type=int, default=20000, metavar="UNITS")
     given = words.parse_args()
-    os.environ["PATH"] += ":/usr/sbin"
     with client.temporary(given.room) as room:
         measure(given, room)
     sys.exit(1 if LOST else 0)

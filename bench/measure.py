@@ -1,20 +1,11 @@
-"""Measures the built program over an office in a file, and prints tables of markdown, the goals beside the figures:
+"""What the measurements share: a catalogue of so many units, the program with an office in a file, a session of requests, and
+what they take.
 
-    ./run bench.measure [--program PROGRAM] [--room DIRECTORY] [UNITS ..]
-
-UNITS is 200 (only to try this script), 2000 (with a hundred of each request instead of a thousand), 20000 or 200000; by
-
-
-default the last two. The store is made in a new folder of DIRECTORY, by default that of temporary files. On a real disk
-each command waits for the disk, in /dev/shm none does. Files have 340 bytes a row, five elements, a box for two units,
-and nine units below each unit that has any.
-
-Wall and processor are seconds; the latter are of user and system. An import opens the store first. What a session
-without requests takes right before it is printed next to it, and subtracted for the goal. Requests come through a pipe,
-all at once, after one small question. Seconds are counted from its answer to the last one, so they include neither the
-opening nor the end of the session. Memory is the maximum of the process, with the opening. Every answer must be a 200,
-and every import must report the right number of new or same units; otherwise the script ends with 1.
-"""
+Files have 340 bytes a row, five elements, a box for two units, and nine units below each unit that has any. Wall and
+processor are seconds; the latter are of user and system. Requests come through a pipe, all at once, after one small question.
+Seconds are counted from its answer to the last one, so they include neither the opening nor the end of the session. Memory is
+the maximum of the process, with the opening. Every answer must be a 200, and every import must report the right number of new
+or same units; otherwise the script ends with 1."""
 
 import json
 import os
@@ -36,7 +27,6 @@ SCOPE = (
     "Attendance, correspondence read, tenders for stone and timber, wages of the lock keepers, "
     "the dredging of the basin, and petitions of the owners of ships"
 )
-SIZES = [200, 2000, 20000, 200000]
 FILE_ROWS = 20000
 TOPS = 100
 BELOW = 9
@@ -252,62 +242,9 @@ def seconds(value):
     return f"{value:.2f} s"
 
 
-def judge(spent, goal):
-    """The goal, and whether it is missed."""
-    if goal is None:
-        return ""
-    return seconds(goal) if spent <= goal else f"{seconds(goal)}: {spent / goal:.1f} times"
-
-
 def say(*cells):
     """Prints a line of a table."""
     print("| " + " | ".join(cells) + " |", flush=True)
-
-
-def say_command(what, spent, opening, goal):
-    """A line for a command. The goal does not include the opening of the store."""
-    within = seconds(opening.wall) if opening else ""
-    alone = spent.wall - (opening.wall if opening else 0)
-    memory = f"{spent.memory / 1e6:.0f} MB"
-    say(what, seconds(spent.wall), seconds(spent.processor), within, memory, judge(alone, goal))
-
-
-def print_import(program, archive, file, told, what, goal):
-    """Imports a file, and prints what it took."""
-    opening = program.open()
-    say_command(what, program.import_file(archive, file, told), opening, goal)
-
-
-def fill(program, archive):
-    """Imports all files, and prints what the first, the first again and the last took."""
-    rows = f"{archive.rows:,} rows"
-    print_import(program, archive, 0, "new", f"import of {rows} into nothing", 0.7)
-    print_import(program, archive, 0, "same", "the same again", 0.5)
-    last = archive.files - 1
-    for file in range(1, last):
-        program.import_file(archive, file, "new")
-    if last:
-        there = archive.units - archive.rows
-        print_import(program, archive, last, "new", f"import of {rows} more into {there:,}", 1.5)
-        print_import(program, archive, last, "same", f"the same again, in {archive.units:,}", 0.5)
-
-
-def print_commands(program, archive):
-    """Makes the office from its files, and prints the table of commands."""
-    say("What", "Wall", "Processor", "Of it opening, wall", "Memory", "Goal, opening taken off")
-    say(*["---"] * 6)
-    program.begin()
-    fill(program, archive)
-    say_command("open: `check`", program.check(), None, 5)
-    say_command("open: a session without requests", program.open(), None, 5)
-
-
-def questions(archive):
-    """Kinds of questions: name, goal in milliseconds each, requests."""
-    count = archive.requests
-    yield "pages", 0.4, [get(f"/public/units/{archive.unit(n, count)}") for n in range(count)]
-    yield "aids of 10 units", 0.5, [get(f"/public/aid/{archive.unit_with_nine_below(n, count)}") for n in range(count)]
-    yield f"lists of fonds, of {archive.tops * archive.files}", 0.5, [get("/public/fonds")] * count
 
 
 def desk(archive):
@@ -320,73 +257,3 @@ def desk(archive):
     yield "orders", 0.4, [post("/public/orders", **loan) for loan in loans]
     yield "runs", 0.5, [post("/desk/run")] * count
     yield "issues", 0.5, [post("/desk/issue", **loan) for loan in loans]
-
-
-def judged_changes(archive):
-    """Changes of the catalogue while boxes are out, and then their return."""
-    count = archive.requests // 5
-    # twice as many units are spread: one half of them become drafts, the other half are closed
-    units = [archive.leaf_on_the_shelf(n, 2 * count) for n in range(2 * count)]
-    beside = f"beside {archive.requests:,} containers out"
-    drafts = [post("/desk/status", unit=unit, status="draft", branch=False) for unit in units[::2]]
-    yield f"statuses {beside}", 2, drafts
-    yield f"closures {beside}", 2, [post("/desk/closure", unit=unit, until="2030-01-01") for unit in units[1::2]]
-    boxes = range(archive.requests)
-    yield "returns", 0.5, [post("/desk/return", container=archive.ordered_box(n)) for n in boxes]
-
-
-def placings(archive):
-    """Moves and removals of units without children, spread over all."""
-    count = archive.requests // 10
-    units = [archive.leaf(n, 2 * count) for n in range(2 * count)]
-    front = [(unit - 1) // archive.rows * archive.rows + archive.tops for unit in units]
-    moves = [post("/desk/move", unit=unit, parent=parent) for unit, parent in zip(units[::2], front[::2])]
-    yield "moves to the front of a file", 90, moves
-    yield "removals", None, [post("/desk/remove", unit=unit) for unit in units[1::2]]
-
-
-def print_requests(program, archive):
-    """Sends all kinds of requests, and prints the table of requests."""
-    say("What", "Wall", "Processor", "Each", "Memory", "Goal")
-    say(*["---"] * 6)
-    for kinds in (questions, desk, judged_changes, placings):
-        for name, goal, requests in kinds(archive):
-            spent = program.ask(requests)
-            each = f"{1000 * spent.wall / len(requests):.2f} ms"
-            whole = None if goal is None else goal * len(requests) / 1000
-            memory = f"{spent.memory / 1e6:.0f} MB"
-            what = f"{len(requests):,} {name}"
-            say(what, seconds(spent.wall), seconds(spent.processor), each, memory, judge(spent.wall, whole))
-
-
-def measure(built, room, units):
-    """Measures an office of this many units in a folder of its own, and prints its tables."""
-    archive = Archive(units)
-    with client.temporary(room) as folder:
-        program = Program(built.path, folder)
-        print(f"\n### {units:,} units, {time.strftime('%Y-%m-%d %H:%M')}, load {os.getloadavg()[0]:.1f}\n")
-        print_commands(program, archive)
-        print()
-        print_requests(program, archive)
-        program.check()
-        size = os.path.getsize(program.store) / 1e6
-        say("the store", "", "", "", f"{size:.0f} MB", "")
-        print(f"\nThe store is sound; {time.strftime('%H:%M')}, load {os.getloadavg()[0]:.1f}.")
-
-
-def options(text, sizes):
-    """The options of a script that measures offices of so many units, on the disk unless another room is named."""
-    words = client.options(text, in_memory=False)
-    words.add_argument("units", nargs="*", type=client.one_of(sizes), metavar="UNITS", help=f"of {sizes}")
-    return words
-
-
-def main():
-    """Measures an office of each size that is named."""
-    given = options(__doc__, SIZES).parse_args()
-    for units in given.units or SIZES[-2:]:
-        measure(given.program, given.room, units)
-
-
-if __name__ == "__main__":
-    main()

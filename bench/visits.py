@@ -10,7 +10,7 @@ import argparse
 import statistics
 import tempfile
 
-from acceptance.front.browser import Browser, Page
+from acceptance.front.browser import Browser
 
 # When the heading is painted, in milliseconds from the beginning of the visit.
 WATCH = """
@@ -26,10 +26,7 @@ COLUMNS = ("requests", "kB", "first paint, ms", "heading, ms")
 
 def visit(browser, address):
     """Requests, kB, and the milliseconds until something and until the heading is painted."""
-    context = browser.call("Target.createBrowserContext")["browserContextId"]
-    target = browser.call("Target.createTarget", url="about:blank", browserContextId=context)["targetId"]
-    session = browser.call("Target.attachToTarget", targetId=target, flatten=True)["sessionId"]
-    page = Page(browser, session, None)
+    page = browser.page()
     page.call("Page.addScriptToEvaluateOnNewDocument", source=WATCH)
     browser.events.clear()
     page.visit(address, f"window.headingPainted && {PAINTED}")
@@ -39,7 +36,7 @@ def visit(browser, address):
     kilobytes = sum(event["params"]["encodedDataLength"] for event in browser.events
                     if event["method"] == "Network.loadingFinished") / 1000
     told = len(sent), kilobytes, page.js(PAINTED), page.js("window.headingPainted")
-    browser.call("Target.disposeBrowserContext", browserContextId=context)
+    page.close()
     return told
 
 

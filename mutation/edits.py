@@ -1,6 +1,6 @@
 """Tries edits that the prover must refuse; one check of a copy of the crate tries many, each in another function.
 
-  ./run mutation.edits [--gate] [--over | --compile] [--jobs N] [--said FOLDER] [CRATE | CRATE/EDIT ..]
+  ./run mutation.edits [--gate] [--over] [--jobs N] [--said FOLDER] [CRATE | CRATE/EDIT ..]
   ./run mutation.edits --dry
 
 An edit is a file of mutation/edits/CRATE (with --gate: of crates/CRATE/must-fail), written as `rt ci` reads it and records.py
@@ -13,12 +13,9 @@ the crate is.
 
 The copy uses the work that `rt check` kept in out/, so check the crate first. With --over, tools/check.sh checks the
 edited functions alone, over the libraries that are there, and does not test whether they are current: run `rt ci` first.
-Verdicts: `refused`, `PROVED` (the contracts let the wrong body through), `unreadable` (its text is gone, or the result
+Verdicts: `refused`, `PROVED` (the contracts let the mutant through), `unreadable` (its text is gone, or the result
 does not compile). The last line has the counts; the exit status is 1 if one is proved or unreadable, or if none was
 tried.
-
-With --compile nothing is proved: the script only looks, over the libraries that are there, whether each edit compiles,
-which takes seconds for many. An edit that does not is `unreadable`.
 
 With --dry nothing is checked. Of all edits, inside the gate and outside it, the script prints those whose old text does
 not occur exactly once in its file, or whose crate is not there, and ends with 1 if there is one.
@@ -49,7 +46,6 @@ NAMES = r"has no field|is not in scope|has no `|was not admitted"
 NO_FUNCTION = "has no function"
 SEVERAL = re.compile(r"several functions are named `([^`]+)`: help: write one of (.*)")
 UNREAD = re.compile(r"^(?:\./)?((?:src|specs)/\S+?):(\d+):\d+: (error.*)$", re.M)
-NOBODY = "a_function_that_no_crate_has"
 
 
 class Function:
@@ -103,13 +99,6 @@ class Edit:
         """The names of the edited functions, as one text."""
         names = ["::".join(filter(None, it.key[1:])) if it else "no function" for it in self.functions]
         return ", ".join(dict.fromkeys(names))
-
-    def stands_at(self, path, line, folder):
-        """Whether a new text of the edit stands on this line of a file, in a folder to which it was applied."""
-        texts = [it.new for it in self.changes if it.file == path]
-        text = Path(folder, path).read_text(encoding="utf-8")
-        places = [(text.count("\n", 0, at), new.count("\n")) for new in texts if (at := text.find(new)) >= 0]
-        return any(above < line <= above + more + 1 for above, more in places)
 
     def is_compatible(self, other):
         """Whether the edit changes no function that the other one changes."""
@@ -178,17 +167,6 @@ class Bench:
             said = self.check_functions(edits)
             self.keep(f"=== {' '.join(it.name for it in edits)}\n{said}\n")
             return said
-
-    def compile(self, edits):
-        """The errors of the crate with these edits: each with the edits on whose lines it stands, and its text; none if
-        it compiles."""
-        with self.edited(edits):
-            said = self.run([NOBODY])
-            if NO_FUNCTION in said:
-                return []
-            told = [(path, int(line), why) for path, line, why in UNREAD.findall(said)]
-            whose = [([it for it in edits if it.stands_at(path, line, self.folder)], why) for path, line, why in told]
-            return whose or [([], said.strip().split("\n")[-1])]
 
     @contextlib.contextmanager
     def edited(self, edits):
@@ -300,28 +278,6 @@ def try_rounds(bench, edits):
     return again
 
 
-def compile_edits(bench, edits):
-    """Rejects each edit that does not compile. Of a round, the edits on whose lines an error stands are rejected, and the
-    others are compiled again; if it stands on no edit's line, each is compiled by itself."""
-    queue = [[it] for it in edits if not it.verdict and it.is_alone()]
-    rest = [it for it in edits if not it.verdict and not it.is_alone()]
-    while rest:
-        queue.append(round_of(rest, bench.folder))
-        rest = [it for it in rest if it not in queue[-1]]
-    while queue:
-        taken = queue.pop()
-        errors = bench.compile(taken)
-        blamed = [(edit, why) for edits_there, why in errors for edit in edits_there]
-        if errors and len(taken) == 1:
-            blamed = [(taken[0], errors[0][1])]
-        for edit, why in blamed:
-            edit.reject(why)
-        for edit in taken if not errors else []:
-            edit.verdict = "compiles"
-        left = [it for it in taken if not it.verdict]
-        queue += [left] if left and blamed else [[it] for it in left]
-
-
 def files_of(folder):
     """The names of the files of edits in a folder, sorted."""
     return sorted(it for it in os.listdir(folder) if it.endswith(".edit"))
@@ -349,26 +305,24 @@ def main():
     words.add_argument("--dry", action="store_true", help="only look whether each edit's text stands once in its file")
     words.add_argument("--gate", action="store_true", help="the edits of crates/CRATE/must-fail")
     words.add_argument("--over", action="store_true", help="the edited functions, over the libraries that are there")
-    words.add_argument("--compile", action="store_true", help="only look whether each edit compiles, over these libraries")
     words.add_argument("--jobs", type=int, default=1, help="the processors of one check")
     words.add_argument("--said", metavar="FOLDER", help="keep what each check said there")
     words.add_argument("names", nargs="*", metavar="CRATE | CRATE/EDIT", help="those of a crate, or one edit")
     given = words.parse_args()
     if given.dry:
         return dry_run()
-    is_over = given.over or given.compile
-    check = ["{room}/tools/check.sh", "{crate}"] if is_over else ["rt", "check", "--jobs", str(given.jobs)]
+    check = ["{room}/tools/check.sh", "{crate}"] if given.over else ["rt", "check", "--jobs", str(given.jobs)]
     of = (lambda it: f"{TOP}/crates/{it}/must-fail") if given.gate else (lambda it: f"{TOP}/mutation/edits/{it}")
     crates = [it for it in sorted(os.listdir(f"{TOP}/crates")) if os.path.isdir(of(it))]
     names = dict.fromkeys(it.split("/")[0] for it in given.names) or crates
-    verdicts = trials.Verdicts("compiles" if given.compile else "refused")
+    verdicts = trials.Verdicts("refused")
     for crate in names:
         only = [it.split("/")[1] + ".edit" for it in given.names if it.startswith(f"{crate}/")]
         files = only or files_of(of(crate))
         edits = [Edit(f"{of(crate)}/{it}", crate, f"{TOP}/crates/{crate}") for it in files]
         print(f"{crate}: {len(edits)} edits", flush=True)
         with tempfile.TemporaryDirectory(prefix="edits-") as room:
-            (compile_edits if given.compile else try_edits)(Bench(crate, room, check, given.said, is_over), edits)
+            try_edits(Bench(crate, room, check, given.said, given.over), edits)
         for edit in edits:
             print(f"{verdicts.add(edit.verdict):10} {crate}/{edit.name}: {edit.why[:200]}", flush=True)
     print(verdicts.line())

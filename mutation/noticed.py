@@ -1,28 +1,27 @@
-"""Tries wrong bodies that no contract refuses: each must be noticed by the test that it names.
+"""Tries mutants that no contract refuses: each must be noticed by the test that it names.
 
-    ./run mutation.noticed [--minutes N] [--together] [--dry] [NAME ..]
+    ./run mutation.noticed [--minutes N] [--dry] [NAME ..]
 
 An edit is a file of mutation/noticed/CRATE, written as those of mutation/edits, with one line more, which says what
 notices it:
 
     noticed by: CRATE TEST                  the test of a crate of tests, run without proof by `rt try --test`
-    noticed by: acceptance SCRIPT TEST      the test of a script, with a program that is compiled without proof
+    noticed by: acceptance/FILE -k WORD     a test of pytest's, with a program that is compiled without proof
     noticed by: the compiler                it does not compile
 
 The script prints a line for each edit, and ends with 1 if one was not noticed. A program takes some four minutes, a
 crate of tests one; each edit may take N minutes, by default 30. With NAME, it tries those whose name contains it. With
---together those that scripts notice are put into one program, so name some that do not reach each other. With --dry it
-only says which edits do not apply, or name a test that is not there."""
+--dry it only says which edits do not apply, or name a test that is not there."""
 
 import argparse
+import shutil
 import subprocess
 import sys
 import tempfile
-import time
 from pathlib import Path
 
-from acceptance import client
-from mutation import false_goals, records, trials
+from mutation import records, trials
+from tools.compiled import compiled
 
 TOP = Path(__file__).resolve().parents[1]
 
@@ -30,7 +29,7 @@ COMPILER, NOTICED = "the compiler", "noticed"
 
 
 class Edit:
-    """A wrong body, and what notices it."""
+    """A mutant, and what notices it."""
 
     def __init__(self, file):
         self.file, self.crate, self.record = file, file.parent.name, records.of_edit(file)
@@ -44,41 +43,44 @@ class Edit:
 
     def has_test(self):
         """Whether the test is there that the edit names."""
+        if self.by.startswith("acceptance/"):
+            return trials.is_test(self.by)
         place, *words = self.by.split(" ")
-        test = words[-1].replace(".", "::").split("::")
-        if place == "acceptance":
-            text = (TOP / "acceptance" / words[0]).read_text(encoding="utf-8")
-            return all(f"class {it}" in text or f"def {it}" in text for it in test)
+        test = words[-1].split("::")
         module = TOP / "crates" / place / "src" / f"{test[0]}.rt"
         return module.is_file() and f"fn {test[1]}(" in module.read_text(encoding="utf-8")
 
 
+def copy_sources(tree, edit):
+    """Copies the sources, with the mutant."""
+    shutil.copytree(TOP / "crates", tree / "crates", ignore=shutil.ignore_patterns("out"))
+    for name in ("crates.txt", "HANDLES"):
+        shutil.copy(TOP / name, tree)
+    for change in edit.record.changes:
+        path = tree / "crates" / edit.crate / change.file
+        path.write_text(change.made_in(path.read_text(encoding="utf-8")), encoding="utf-8")
+
+
 def noticed_by_tests(tree, edit, crate, test, seconds):
-    """What `rt try --test` says of one test of a crate over the wrong body."""
-    false_goals.copy_sources(tree, [(edit.crate, edit.file)])
+    """What `rt try --test` says of one test of a crate over the mutant."""
+    copy_sources(tree, edit)
     words = ["rt", "try", "--test", "--seconds", str(seconds), "--", test]
     ran = subprocess.run(words, cwd=tree / "crates" / crate, capture_output=True, text=True, timeout=seconds)
     told = ran.stdout + ran.stderr
     return f"test {test} ... FAILED" in told, told
 
 
-def noticed_by_script(tree, edit, script, test, seconds):
-    """What a script of acceptance says over a program with the wrong body."""
-    program = false_goals.compile_program(tree, [(edit.crate, edit.file)], time.monotonic() + seconds)
-    return is_failed_by(program, script, test, seconds)
-
-
-def is_failed_by(program, script, test, seconds):
-    """Whether a program fails a test of a script, and what was said."""
-    words = [client.RUN, f"acceptance.{Path(script).stem}", "--program", program.path, test]
-    ran = subprocess.run(words, capture_output=True, text=True, timeout=seconds)
-    told = ran.stdout + ran.stderr
-    return ran.returncode != 0 and f"{test.split('.')[-1]} " in told, told
+def noticed_by_acceptance(tree, edit, seconds):
+    """Whether acceptance fails over a program with the mutant, and what was said."""
+    copy_sources(tree, edit)
+    program = compiled(tree, tree, seconds)
+    told = trials.run_test(edit.by, program.path, seconds)
+    return bool(told), told
 
 
 def noticed_by_compiler(tree, edit, seconds):
-    """Whether the crate with the wrong body does not compile, for an error in the edited file."""
-    false_goals.copy_sources(tree, [(edit.crate, edit.file)])
+    """Whether the crate with the mutant does not compile, for an error in the edited file."""
+    copy_sources(tree, edit)
     words = ["rt", "try", "--test"]
     ran = subprocess.run(words, cwd=tree / "crates" / "model_tests", capture_output=True, text=True, timeout=seconds)
     told = ran.stdout + ran.stderr
@@ -91,28 +93,16 @@ def is_noticed(edit, seconds):
         place, *words = edit.by.split(" ")
         if edit.by == COMPILER:
             return noticed_by_compiler(Path(room), edit, seconds)
-        if place == "acceptance":
-            return noticed_by_script(Path(room), edit, *words, seconds)
+        if edit.by.startswith("acceptance/"):
+            return noticed_by_acceptance(Path(room), edit, seconds)
         return noticed_by_tests(Path(room), edit, place, *words, seconds)
-
-
-def try_together(found, seconds):
-    """Tries edits that scripts notice in one program; says of each whether it was noticed."""
-    with tempfile.TemporaryDirectory() as room:
-        files = [(it.crate, it.file) for it in found]
-        program = false_goals.compile_program(Path(room), files, time.monotonic() + seconds)
-        return [tell(it, *is_failed_by(program, *it.by.split(" ")[1:], seconds)) for it in found]
 
 
 def try_edit(edit, seconds):
     """Tries one edit, and prints what came of it."""
-    return tell(edit, *is_noticed(edit, seconds))
-
-
-def tell(edit, noticed, told):
-    """Prints what came of an edit."""
+    noticed, told = is_noticed(edit, seconds)
     print(f"{NOTICED if noticed else 'NOT NOTICED'}    {edit.crate}/{edit.name}: {edit.by}", flush=True)
-    shown = [it for it in told.splitlines() if it.startswith(("WRONG", "AssertionError"))] if noticed else told.splitlines()
+    shown = [it for it in told.splitlines() if it.startswith("acceptance/")] if noticed else told.splitlines()
     print("".join(f"    {it[:200]}\n" for it in shown[-20:]), end="", flush=True)
     return noticed
 
@@ -121,18 +111,17 @@ def main():
     """Tries all edits, or those that are named, and returns the exit status."""
     words = argparse.ArgumentParser(description=__doc__, formatter_class=argparse.RawDescriptionHelpFormatter)
     words.add_argument("--minutes", type=int, default=30, metavar="N")
-    words.add_argument("--together", action="store_true")
     words.add_argument("--dry", action="store_true")
     words.add_argument("names", nargs="*", metavar="NAME")
     given = words.parse_args()
     found = [Edit(it) for it in sorted((TOP / "mutation" / "noticed").rglob("*.edit"))]
     found = [it for it in found if not given.names or any(name in it.name for name in given.names)]
     faults = trials.cannot_be_tried(found, Edit.fault, lambda it: f"{it.crate}/{it.name}")
-    print(f"{len(found)} wrong bodies, {faults} that cannot be tried")
+    print(f"{len(found)} mutants, {faults} that cannot be tried")
     if faults or not found or given.dry:
         return 1 if faults or not found else 0
     seconds = given.minutes * 60
-    tried = try_together(found, seconds) if given.together else [try_edit(it, seconds) for it in found]
+    tried = [try_edit(it, seconds) for it in found]
     print(f"{sum(tried)} of {len(tried)} noticed")
     return 0 if tried and all(tried) else 1
 

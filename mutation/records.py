@@ -14,7 +14,7 @@ follow, and other files. What notices a mistake is one of these; in the files of
 changed function must no longer be proved:
 
     refused by: NAME            a law or rows that the prover no longer proves; after a space, one row
-    seen in: day NAME           a day of acceptance
+    seen in: scenario NAME      a scenario of acceptance
     noticed by: WHAT            a test, a part of acceptance/front or the compiler: who tries the mistakes says what it may be
     reason: WHY                 nothing can notice it, or it does no harm
 

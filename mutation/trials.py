@@ -1,12 +1,17 @@
-"""What the scripts that try mistakes share: which mistakes cannot be tried, what came of each, and a few at a time."""
+"""What the scripts that try mistakes share: which mistakes cannot be tried, what came of each, tests, and a few at a time."""
 
 import collections
 import concurrent.futures
+import functools
+import os
 import queue
+import re
 import subprocess
 from collections.abc import Callable, Iterable, Iterator
+from pathlib import Path
 from typing import Any, TypeVar
 
+TOP = Path(__file__).resolve().parents[1]
 Thing = TypeVar("Thing")
 
 
@@ -39,6 +44,39 @@ def cannot_be_tried(mistakes: Iterable[Thing], why_not: Callable[[Thing], str], 
             print(f"cannot be tried: {name(mistake)}: {why}", flush=True)
     return number
 
+
+# ---- tests of acceptance, as pytest takes them: FILE, FILE::NAME or FILE -k WORD
+
+def run_test(test: str, program: Path, seconds: float, *more: str, **around: str) -> str:
+    """Plays a test up to its first failure. What failed; nothing if it passed. Raises Late if pytest could not play it."""
+    words = ["pytest", *test.split(), "-x", "-q", "--program", str(program), "-p", "no:cacheprovider", *more]
+    # what a test needs and does not find is a failure, and not skipped
+    environment = {**os.environ, "CI": "1", **around}
+    try:
+        done = subprocess.run(words, cwd=TOP, env=environment, timeout=seconds, capture_output=True, text=True, check=False)
+    except subprocess.TimeoutExpired:
+        return f"more than {seconds:.0f} s"
+    if done.returncode not in (0, 1):
+        raise Late(f"{test}: pytest ended with {done.returncode}: {(done.stdout + done.stderr)[-300:]}")
+    found = re.search(r"^(?:FAILED|ERROR) (.*)$", done.stdout, re.M)
+    return (found[1] if found else done.stdout[-300:]) if done.returncode else ""
+
+
+@functools.cache
+def names_of_tests() -> list[str]:
+    """The names of all tests of acceptance."""
+    words = ["pytest", "acceptance", "--collect-only", "-q", "-p", "no:cacheprovider"]
+    done = subprocess.run(words, cwd=TOP, capture_output=True, text=True, check=False)
+    return [line for line in done.stdout.splitlines() if "::" in line]
+
+
+def is_test(test: str) -> bool:
+    """Whether pytest finds a test."""
+    place, *more = test.split(" -k ")
+    return any(name.startswith(place) and all(word in name for word in more) for name in names_of_tests())
+
+
+# ---- a few at a time
 
 class Late(Exception):
     """It took too long, and nothing is known."""

@@ -1,4 +1,4 @@
-"""Changes the rules of the model, one definition at a time: a worked row or a law must refuse each change.
+"""Changes the rules of the model, one definition at a time: a test vector or a law must refuse each change.
 
   ./run mutation.wrong_rules [--jobs N] [--cases N] [--over CHECKOUT] [--log FILE] [--keep FOLDER] [WORD ..]
   ./run mutation.wrong_rules --dry [WORD ..]
@@ -6,9 +6,9 @@
 
 The changes are the records of wrong_rules/CRATE/SUBJECT.rules (records.py says how they are written), and those that
 wrong_rules_made.py makes; with WORD, those whose name has one of the words. Each with `refused by` is made in copies of
-the modules between the definition and the worked rows or the law that it names (side_by_side.py). Where it names one
+the modules between the definition and the test vectors or the law that it names (side_by_side.py). Where it names one
 row of a function, each row of the function is a lemma (row_lemmas.py), and that row or a lemma before the rows must
-fail. What these let through is tried by all worked rows, and then by all laws. Only what the same copies prove without
+fail. What these let through is tried by all test vectors, and then by all laws. Only what the same copies prove without
 the change counts. The libraries are those in crates/*/out/rlib of --over, or of this checkout, as `rt check` and
 `rt ci` leave them.
 
@@ -19,7 +19,7 @@ refused in FILE are skipped. --jobs checks run at once, each of --cases rules. T
 ends with 1 if a rule was not refused.
 
 With --dry it only looks for the old texts, also of the records with `seen in`, which the prover does not try, and for
-the row, the law or the day that is named there, and counts them. With --covered it counts for each crate how many
+the row, the law or the scenario that is named there, and counts them. With --covered it counts for each crate how many
 
 
 definitions some rule changes; with CRATE it lists those of the crate that none changes."""
@@ -36,9 +36,8 @@ from collections import Counter
 from concurrent.futures import ThreadPoolExecutor
 from pathlib import Path
 
-from acceptance import at_limits, days, heads
-from mutation import records, trials, wrong_rules_made
-from tools import row_lemmas, side_by_side
+from acceptance import scenarios, test_at_limits, test_heads
+from mutation import records, row_lemmas, side_by_side, trials, wrong_rules_made
 
 TOP = os.path.dirname(os.path.dirname(os.path.abspath(__file__)))
 ROWS = "Replies Desk Catalogue Shown Checks Settings Imports Texts Answers".split()
@@ -119,7 +118,7 @@ def lemmas_of_rows(modules, function):
 
 
 def all_rows(modules, crate):
-    """The modules of all worked rows of a crate."""
+    """The modules of all test vectors of a crate."""
     if crate in ROWS_OF:
         return ROWS_OF[crate]
     return [lemmas_of_rows(modules, it) for it in row_lemmas.functions(crate)]
@@ -255,16 +254,16 @@ def not_refused_before(rules, log):
 # ---- rules that the prover does not try
 
 
-def days_of_acceptance():
-    """The names of all fixed days."""
-    return {day.name for day in days.read_days() + heads.make_days() + at_limits.make_days()}
+def scenarios_of_acceptance():
+    """The names of all fixed scenarios."""
+    return {*scenarios.names(), *test_at_limits.SCENARIOS, *(f"heads_{it}" for it in test_heads.SCENARIOS)}
 
 
-def is_there(record, named_days):
-    """Whether what notices a rule is there: a day, a row of a function, or the proof of a law."""
+def is_there(record, named_scenarios):
+    """Whether what notices a rule is there: a scenario, a row of a function, or the proof of a law."""
     if record.seen_in:
         kind, _, name = record.seen_in.partition(" ")
-        return kind == "day" and name in named_days
+        return kind == "scenario" and name in named_scenarios
     function, _, row = record.refused_by.partition(" ")
     if row:
         return row_lemmas.rows(function)[1].count(row) == 1
@@ -273,15 +272,17 @@ def is_there(record, named_days):
 
 
 def look_for(rules):
-    """Prints the rules that do not apply, or whose row, law or day is not there; says whether all do."""
-    named_days = days_of_acceptance()
+    """Prints the rules that do not apply, or whose row, law or scenario is not there; says whether all do."""
+    named_scenarios = scenarios_of_acceptance()
 
     def why_not(record):
         """Why a rule cannot be tried, or nothing."""
-        return why_not_applied(record) or ("" if is_there(record, named_days) else f"no {record.refused_by or record.seen_in}")
+        named = "" if is_there(record, named_scenarios) else f"no {record.refused_by or record.seen_in}"
+        return why_not_applied(record) or named
     wrong = trials.cannot_be_tried(rules, why_not, lambda record: record.name)
-    kinds = Counter("days" if it.seen_in else "rows" if "::worked" in it.refused_by else "laws" for it in rules)
-    print(f"for the prover: {kinds['rows']} name rows, {kinds['laws']} a law; {kinds['days']} are seen in a day alone")
+    kinds = Counter("scenarios" if it.seen_in else "rows" if "::worked" in it.refused_by else "laws" for it in rules)
+    in_one = f"{kinds['scenarios']} are seen in a scenario alone"
+    print(f"for the prover: {kinds['rows']} name rows, {kinds['laws']} a law; {in_one}")
     print(f"{len(rules)} rules, {wrong} not applied")
     return not wrong and bool(rules)
 
@@ -308,7 +309,7 @@ def changed_definitions():
 
 
 def is_of_the_model(file):
-    """Whether a file has definitions that are no worked rows and are not made from the code."""
+    """Whether a file has definitions that are no test vectors and are not made from the code."""
     return "declared" not in file.parts and not file.name.startswith("Worked")
 
 

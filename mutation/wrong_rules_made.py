@@ -33,7 +33,6 @@ MEMBERS = {
 
 
 def text_of(crate, file):
-    """The text of a file of a crate."""
     return Path(TOP, "crates", crate, file).read_text(encoding="utf-8")
 
 

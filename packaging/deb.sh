@@ -57,7 +57,7 @@ needed_libc() {
 place 755 usr/bin "$program"
 [ "$(basename "$program")" = record_office ] || mv "$root/usr/bin/$(basename "$program")" "$root/usr/bin/record_office"
 strip --strip-unneeded --remove-section=.comment "$root/usr/bin/record_office"
-place 644 usr/share/record-office/look "$top"/front/look/*.py
+place 644 usr/share/record-office/look "$top"/front/look/*.py "$top/front/look/rules.json"
 chmod 755 "$root/usr/share/record-office/look/record_office_look.py"
 link_to usr/bin/record-office-look look/record_office_look.py
 for part in public desk shared; do

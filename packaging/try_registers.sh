@@ -72,6 +72,7 @@ tries() {
     pid=$(systemctl show -p MainPID --value record-office-try)
     is 'the service does not see the office' hidden "$pid" $office
     is 'it has no network' sh -c "nsenter -t $pid -n ip -br link 2>/dev/null | grep -vq '^lo' && exit 1; exit 0"
+    is 'a file is looked at' sh -c "curl -s -u desk:quiet-paper --data-binary @/root/tried.csv $desk/try/look | grep -q '\"counts\":{\"rows\":'"
     same 'a file is kept' "$(curl -s -u desk:quiet-paper --data-binary @/root/tried.csv $desk/try/imported/catalogue)" '{"kept": "catalogue"}'
     systemctl start record-office-backup
     is 'the list of what differs from it' grep -q '^catalogue,4,4,.*,status,draft,published' $lists/differs.csv

@@ -81,7 +81,6 @@ class Cell:
         self.in_labels, self.deep = False, 0
 
     def read(self, text):
-        """Reads the text of the cell."""
         pieces = PIECE.findall(text)
         if not text.startswith("the same"):
             self.functions = []
@@ -144,8 +143,21 @@ def wrong_names(tree, text):
         yield from ((number, it) for it in re.findall(r"`([^`]+)`", line) if not tree.has(it))
 
 
+def wrong_layers(top, text):
+    """What ARCHITECTURE and its picture tell otherwise than crates.txt: each crate has a layer, and depends on lower ones."""
+    lines = pathlib.Path(top, "crates.txt").read_text(encoding="utf-8").splitlines()
+    below = {it.split(":")[0]: set(it.split(":")[1].split()) for it in lines if not it.startswith("#")}
+    order = [it for it in re.findall(r"^  - `(\w+)`:", text, re.M) if it in below]
+    picture = pathlib.Path(top, "docs/pictures/layers.svg").read_text(encoding="utf-8")
+    yield from (f"ARCHITECTURE lacks {it}" for it in below if it not in order and not it.endswith("_tests"))
+    yield from (f"layers.svg lacks {it}" for it in order if f">{it}<" not in picture)
+    for place, crate in enumerate(order):
+        yield from (f"ARCHITECTURE: {crate} is below {it}, on which it depends" for it in below[crate] & set(order[:place]))
+
+
 def problems(tree, pages):
     """Yields what is wrong with the pages: names of nothing, lines that the code has otherwise, broken links."""
+    yield from wrong_layers(tree.top, pages["docs/ARCHITECTURE.md"])
     text = pages[PROMISES]
     for number, name in wrong_names(tree, text):
         yield f"{PROMISES}:{number}: no such thing: {name}"

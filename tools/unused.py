@@ -1,6 +1,6 @@
 """Lists what nothing names: lemmas and definitions, exact copies of items, and imports that their file does not use.
 
-  ./run tools.unused [--fix] [--fix-imports]
+  ./run tools.unused
 
 Run it anywhere in the repository. It prints three lists, each entry with file and line, and ends with 1 if an entry
 is left for which the table EXPLAINED has no reason, or if an entry of that table explains nothing any more.
@@ -13,12 +13,8 @@ is left for which the table EXPLAINED has no reason, or if an entry of that tabl
      abbreviation of one line does not count: it is a short name, as for the columns of a statement, and two
      statements may have the same columns.
   3  An import is used if an item that stays has its name; for an operator, each of its parts.
+"""
 
---fix deletes the items of list 1 from specs/ and proofs/ with the comment above each, the imports of list 3, and
-files that are empty then, with their `mod` lines; it repeats that until nothing changes. --fix-imports deletes the
-imports alone. Code in src/ loses imports, and no function. Afterwards: rt fmt and rt check in each crate."""
-
-import argparse
 import os
 import re
 import sys
@@ -99,7 +95,6 @@ class Found:
             self.mark(self.all.target(self.all.file_of(m[1].rstrip('.').split('.')), m[2]))
 
     def mark_names_of(self, item):
-        """Marks the items that an item names."""
         file = item.file
         tokens, code = item.tokens, item.code
         if item.around:
@@ -300,127 +295,11 @@ def is_explained(path, name=None):
     return bool(there)
 
 
-def without_lines(path, gone, changed):
-    """Writes a file without some lines and with others changed; no two blank lines follow each other."""
-    lines = reader.read(path).split('\n')
-    out = []
-    for at, line in enumerate(lines):
-        if at in gone:
-            continue
-        line = changed.get(at, line)
-        if not line.strip() and (not out or not out[-1].strip()):
-            continue
-        out.append(line)
-    with open(path, 'w', encoding='utf-8') as f:
-        f.write('\n'.join(out).rstrip('\n') + '\n')
-
-
-def fix_sections(file, gone):
-    """The heads of sections that become empty."""
-    heads = set()
-    for other in file.others:
-        if not other.text.lstrip().startswith('module '):
-            continue
-        indent = reader.indent_of(file.lines[other.start])
-        end = file.end_of(other.start, len(file.lines), indent)
-        inner = [i for i in file.items if other.start < i.start < end]
-        if inner and all(i in gone for i in inner):
-            heads |= set(range(other.start, other.end))
-            above = other.start - 1
-            while above >= 0 and file.lines[above].lstrip().startswith('--') and above > 0:
-                heads.add(above)
-                above -= 1
-    return heads
-
-
-def fix_antt(repository, gone, imports):
-    """Deletes items and imports from specs and proofs, and emptied files; returns how many files changed."""
-    lines = {}
-    for item in gone:
-        lines.setdefault(item.file, (set(), {}))[0].update(range(item.start, item.end))
-    for file, it, left in imports:
-        taken = lines.setdefault(file, (set(), {}))
-        kept = [n for n in it.names if n not in left]
-        if kept:
-            m = reader.IMPORT.match(file.lines[it.at])
-            taken[1][it.at] = it.line(m['start'], m['end'], kept)
-        else:
-            taken[0].add(it.at)
-    emptied = []
-    for file, (away, changed) in lines.items():
-        away |= fix_sections(file, gone)
-        if file.items and all(i in gone for i in file.items) and not file.goals \
-                and not file.mods and not any(i.is_public for i in file.imports):
-            emptied.append(file)
-            os.remove(file.path)
-        else:
-            without_lines(file.path, away, changed)
-    for file in emptied:
-        pattern = rf'^(pub )?mod {file.name}\n'
-        passed = rf'^pub use Rattle\.{file.crate}\.{file.kind}\.{re.escape(file.module)}\n'
-        for other in repository.files.values():
-            if other.mods and other.crate == file.crate and other.kind == file.kind and os.path.exists(other.path):
-                text = reader.read(other.path)
-                rewrite(other.path, text, re.sub(pattern, '', text, flags=re.M))
-            if os.path.exists(other.path) and other.name == 'Lib':
-                text = reader.read(other.path)
-                rewrite(other.path, text, re.sub(passed, '', text, flags=re.M))
-    return len(lines)
-
-
-def rewrite(path, before, after):
-    """Writes a file if its text has changed."""
-    if before != after:
-        with open(path, 'w', encoding='utf-8') as f:
-            f.write(after)
-
-
-def fix_code(found):
-    """Deletes imports from files of code; returns how many files."""
-    by_file = {}
-    for code, first, last, it, left in found:
-        by_file.setdefault(code.path, (code, set(), {}))
-        _, away, changed = by_file[code.path]
-        away |= set(range(first + 1, last))
-        if isinstance(it, str):
-            m = RUST_USE.match(it)
-            names = [n.strip() for n in (m[2] or m[3]).split(',') if n.strip()]
-            kept = [n for n in names if n not in [line[0] for line in left]]
-            is_bare = len(kept) == 1 and kept[0] != 'self'
-            text = f'use {m[1]}' + (kept[0] if is_bare else '{' + ', '.join(kept) + '}') + ';'
-        else:
-            kept = [n for n in it.names if n not in left]
-            line = ' '.join(one.strip() for one in code.lines[first:last])
-            m = reader.IMPORT.match(line.replace('{ ', '{').replace(', }', '}'))
-            text = it.line('ghost use ', ';', kept)
-        if kept:
-            indent = ' ' * reader.indent_of(code.lines[first])
-            changed[first] = indent + text
-        else:
-            away.add(first)
-    for path, (_, away, changed) in by_file.items():
-        without_lines(path, away, changed)
-    return len(by_file)
-
-
 def look():
     """The repository as it is now, and the items that nothing names and nothing explains."""
     repository = reader.Repository()
     unnamed = Found(repository).unnamed_items()
     return repository, [i for i in unnamed if not is_explained(i.file.path, i.names[0] if i.names else None)]
-
-
-def fix(with_items):
-    """Deletes what is unused until nothing changes, imports alone or also items, and prints the counts each time."""
-    changed = True
-    while changed:
-        repository, gone = look()
-        gone = gone if with_items else []
-        imports = unused_imports(repository, set(gone))
-        code = unused_code_imports(repository)
-        changed = fix_antt(repository, set(gone), imports) + fix_code(code)
-        counts = f'items={len(gone)} imports={sum(len(i[2]) for i in imports)}'
-        print(f'{counts} in_code={sum(len(i[4]) for i in code)} files={changed}')
 
 
 def problems():
@@ -444,16 +323,8 @@ def problems():
 
 
 def main():
-    """Deletes what is unused if asked to, prints what is left, and ends the program with 1 if something is."""
-    words = argparse.ArgumentParser(
-        description=__doc__, formatter_class=argparse.RawDescriptionHelpFormatter, allow_abbrev=False
-    )
-    words.add_argument('--fix', action='store_true', help='delete unused items and imports')
-    words.add_argument('--fix-imports', action='store_true', help='delete unused imports alone')
-    given = words.parse_args()
+    """Prints what is unused, and ends the program with 1 if something is."""
     os.chdir(os.path.dirname(os.path.dirname(os.path.abspath(__file__))))
-    if given.fix or given.fix_imports:
-        fix(with_items=given.fix)
     left = 0
     for left, line in enumerate(problems(), 1):
         print(line)

@@ -66,12 +66,6 @@ class Import:
         """The name by which the file calls the module that it imports whole."""
         return self.alias or self.path[-1]
 
-    def line(self, start, end, kept):
-        """The line with only these names, between this beginning and this end."""
-        names = ', '.join(a if a == b else f'{a} as {b}' for a, b in kept)
-        path = '.'.join(['Rattle', *self.path] if self.path[0] else self.path[1:])
-        return f'{start}{path}.{{{names}}}{end}'
-
 
 def indent_of(line):
     """How many spaces a line begins with."""
@@ -250,10 +244,7 @@ class Repository:
                            + glob.glob('crates/*/proofs/**/*.antt', recursive=True)):
             file = File(path)
             self.files[(file.crate, file.kind, file.module)] = file
-        places = glob.glob('crates/*/src/**/*.rt', recursive=True)
-        places += glob.glob('bench/**/*.rattle', recursive=True) + glob.glob('bench/**/*.antt', recursive=True)
-        places += glob.glob('bench/**/*.proof', recursive=True)
-        self.codes = [Code(path) for path in sorted(places)]
+        self.codes = [Code(path) for path in sorted(glob.glob('crates/*/src/**/*.rt', recursive=True))]
         self.crates = [line.split(':')[0].split()[0] for line in read('crates.txt').split('\n') if re.match(r'\w', line)]
 
     def file_of(self, path, seen=()):

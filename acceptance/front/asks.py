@@ -1,7 +1,11 @@
-"""Asks both sites of an office as a program would, by the requests of acceptance/client.py."""
+"""Asks both sites of an office as a program would, by the requests of acceptance/client.py; or by bytes over sockets."""
 
 import itertools
 import json
+import re
+import select
+import socket
+import time
 from typing import Any
 
 from acceptance import client
@@ -68,3 +72,81 @@ class Asks:
     def next_number(self, path: str) -> int:
         """The first number below this path of the desk of which nothing is known."""
         return next(number for number in itertools.count(1) if self.question(f"{path}/{number}", True)[0] == 404)
+
+
+# By bytes
+
+def exchange(port: int, sent: bytes, source: str = client.HOST, host: str = client.HOST) -> bytes:
+    """Sends bytes over a connection of its own; returns all that comes until the other side closes it."""
+    with socket.create_connection((host, port), PATIENCE, (source, 0)) as it:
+        it.sendall(sent)
+        return b"".join(iter(lambda: it.recv(65536), b""))
+
+
+def ask_once(port: int, method: str, path: str, body: client.Body | None = None, host: str = "x",
+             fields: client.Fields = (), source: str = client.HOST) -> bytes:
+    """Sends a request after which the connection is to be closed; returns the bytes of its answer."""
+    return exchange(port, client.request(method, path, body, host, {**dict(fields), "Connection": "close"}), source)
+
+
+def send_at_once(port: int, sent: bytes, many: int) -> list[tuple[int, float]]:
+    """The status of each of so many requests that are sent at the same time, and after how many seconds its answer came."""
+    connections = [socket.create_connection((client.HOST, port), PATIENCE) for _ in range(many)]
+    found, began = [], time.monotonic()
+    for connection in connections:
+        connection.sendall(sent)
+    while connections:
+        for connection in select.select(connections, [], [], PATIENCE)[0]:
+            found.append((status(connection.recv(65536)), time.monotonic() - began))
+            connections.remove(connection)
+            connection.close()
+    return found
+
+
+def status(answer: bytes) -> int:
+    """The status of an answer's bytes, or 0 if they are none."""
+    return int(answer.split(b" ", 2)[1]) if answer.startswith(b"HTTP/") else 0
+
+
+def statuses(answers: bytes) -> list[int]:
+    """The statuses of several answers, one behind the other."""
+    return [int(one) for one in re.findall(rb"HTTP/1.1 (\d{3}) ", answers)]
+
+
+def body_of(answer: bytes) -> bytes:
+    """The body of an answer's bytes."""
+    return answer.split(b"\r\n\r\n", 1)[1]
+
+
+def fields_of(answer: bytes) -> dict[str, list[str]]:
+    """The fields of an answer's head, by their names in small letters: a list of values each."""
+    found: dict[str, list[str]] = {}
+    for line in answer.split(b"\r\n\r\n", 1)[0].decode("latin-1").split("\r\n")[1:]:
+        name, value = line.split(": ", 1)
+        found.setdefault(name.lower(), []).append(value)
+    return found
+
+
+HTML, SCRIPT, STYLE = (f"{kind}; charset=utf-8" for kind in ("text/html", "application/javascript", "text/css"))
+TEXT, JSON = "text/plain; charset=utf-8", "application/json"
+POLICY = {
+    "content-security-policy":
+        "default-src 'none'; script-src 'self'; style-src 'self'; img-src IMAGES; connect-src 'self'; form-action FORMS; "
+        "base-uri 'none'; frame-ancestors 'none'; require-trusted-types-for 'script'",
+    "x-content-type-options": "nosniff", "referrer-policy": "same-origin", "cross-origin-opener-policy": "same-origin",
+    "cross-origin-resource-policy": "same-origin", "permissions-policy": "camera=(), microphone=(), geolocation=()",
+    "server": "nginx",
+}
+
+
+def assert_policy(what: str, answer: bytes, kind: str, kept: str | None, transport: str | None = None, forms: str = "'none'",
+                  images: str = "'self'") -> None:
+    """An answer has each part of the policy once, and no more; its kind; how long it is kept (None: it does not say); where
+    its forms may be sent, and where its pictures may come from."""
+    has = fields_of(answer)
+    wanted: dict[str, list[str] | None] = {name: [value.replace("FORMS", forms).replace("IMAGES", images)]
+                                           for name, value in POLICY.items()}
+    wanted |= {"content-type": [kind], "cache-control": [kept] if kept else None,
+               "strict-transport-security": [transport] if transport else None}
+    differs = {name: (has.get(name), "wanted", value) for name, value in wanted.items() if has.get(name) != value}
+    assert not differs, f"what a browser is told of {what}: {differs}"

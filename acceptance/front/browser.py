@@ -3,14 +3,11 @@
 import base64
 import contextlib
 import json
-import operator
 import os
 import pathlib
-import re
 import select
 import subprocess
-import urllib.parse
-from collections.abc import Callable, Iterable, Mapping
+from collections.abc import Callable, Iterator, Mapping
 from typing import Any
 
 from acceptance.front.waits import settings, until
@@ -30,24 +27,20 @@ TWO_FRAMES = "new Promise((done) => requestAnimationFrame(() => requestAnimation
 
 
 class Browser:
-    """A running Chromium. `answer`: what it answers paused requests with; `on_event`: is called with each event; `covers`:
-    it keeps what runs of each script; `flags`: besides those of all."""
+    """A running Chromium. `answer`: what it answers paused requests with; `on_event`: is called with each event."""
 
-    def __init__(self, profile: str | pathlib.Path, binary: str = "chromium", covers: bool = False,
-                 flags: Iterable[str] = ()) -> None:
+    def __init__(self, profile: str | pathlib.Path) -> None:
         out, self.write = os.pipe()
         self.source, into = os.pipe()
         shell = f'exec "$0" "$@" 3<&{out} 4>&{into}'
-        words = ["bash", "-c", shell, binary, *FLAGS, *flags, f"--user-data-dir={profile}", "about:blank"]
+        words = ["bash", "-c", shell, "chromium", *FLAGS, f"--user-data-dir={profile}", "about:blank"]
         self.process = subprocess.Popen(words, pass_fds=(out, into), stdout=subprocess.DEVNULL, stderr=subprocess.DEVNULL)
         os.close(out)
         os.close(into)
-        self.rest, self.last, self.covers = b"", 0, covers
+        self.rest, self.last = b"", 0
         self.events: list[dict[str, Any]] = []
         self.answer: tuple[int, bytes] | None = None
         self.on_event: Callable[[dict[str, Any]], object] | None = None
-        self.ran: dict[str, bytes] = {}
-        self.pages: list[Page] = []
 
     def call(self, method: str, session: str | None = None, **params: Any) -> Any:
         """Calls a method of the protocol; returns its result. Raises RuntimeError if it fails."""
@@ -71,29 +64,20 @@ class Browser:
             if "method" in got:
                 self._event(got)
 
-    def read(self, patience: float) -> None:
-        """Waits for the next event, and takes it. Raises RuntimeError if none comes within so many seconds."""
-        got = self._message(patience)
-        if "method" in got:
-            self._event(got)
-
     def _event(self, got: dict[str, Any]) -> None:
         """Keeps an event, and answers a request that is paused."""
         self.events.append(got)
         if self.on_event:
             self.on_event(got)
         if got["method"] == "Fetch.requestPaused" and self.answer:
-            self.last += 1
             status, body = self.answer
-            params = {"requestId": got["params"]["requestId"], "responseCode": status,
-                      "body": base64.b64encode(body).decode()}
-            os.write(self.write, json.dumps({"id": self.last, "method": "Fetch.fulfillRequest", "params": params,
-                                             "sessionId": got["sessionId"]}).encode() + b"\0")
+            self.send("Fetch.fulfillRequest", got["sessionId"], requestId=got["params"]["requestId"], responseCode=status,
+                      body=base64.b64encode(body).decode())
 
-    def _message(self, patience: float | None = None) -> dict[str, Any]:
+    def _message(self) -> dict[str, Any]:
         """The next message. Raises RuntimeError if none comes."""
         while b"\0" not in self.rest:
-            ready = select.select([self.source], [], [], patience or 2 * settings.patience)[0]
+            ready = select.select([self.source], [], [], 2 * settings.patience)[0]
             piece = os.read(self.source, 1 << 20) if ready else b""
             if not piece:
                 raise RuntimeError("the browser is gone, or says nothing")
@@ -101,21 +85,23 @@ class Browser:
         one, self.rest = self.rest.split(b"\0", 1)
         return json.loads(one)
 
-    def page(self, headers: Mapping[str, str] | None = None) -> "Page":
-        """Opens a tab that sends these headers with each request."""
-        target = self.call("Target.createTarget", url="about:blank")["targetId"]
+    def page(self, headers: Mapping[str, str] | None = None, site: str = "") -> "Page":
+        """Opens a tab that sends these headers with each request, and shares no cookies and nothing kept with other tabs;
+        `site`: whose pages it shows."""
+        context = self.call("Target.createBrowserContext", disposeOnDetach=True)["browserContextId"]
+        target = self.call("Target.createTarget", url="about:blank", browserContextId=context)["targetId"]
         session = self.call("Target.attachToTarget", targetId=target, flatten=True)["sessionId"]
-        self.pages.append(Page(self, session, headers))
-        return self.pages[-1]
+        return Page(self, session, context, headers, site)
 
-    def covered(self) -> dict[str, list[tuple[int, int]]]:
-        """Of each script, by its path: where what ran begins and ends."""
-        for page in self.pages:
-            page.keep_ran()
-        return {path: [found.span() for found in re.finditer(b"\1+", ran)] for path, ran in self.ran.items()}
+    @contextlib.contextmanager
+    def tab(self, site: str, headers: Mapping[str, str] | None = None) -> Iterator["Page"]:
+        """A context with a tab, which is closed then. Raises AssertionError if the browser complained of what it showed."""
+        page = self.page(headers, site)
+        yield page
+        said = page.close()
+        assert not said, said
 
     def end(self) -> None:
-        """Ends the browser."""
         with contextlib.suppress(RuntimeError, OSError):
             self.call("Browser.close")
         try:
@@ -128,8 +114,8 @@ class Browser:
 class Page:
     """A tab of the browser."""
 
-    def __init__(self, browser: Browser, session: str, headers: Mapping[str, str] | None) -> None:
-        self.browser, self.session, self.opened = browser, session, 0
+    def __init__(self, browser: Browser, session: str, context: str, headers: Mapping[str, str] | None, site: str) -> None:
+        self.browser, self.session, self.context, self.site, self.opened = browser, session, context, site, 0
         for domain in ("Page", "Runtime", "Log", "Network"):
             self.call(f"{domain}.enable")
         self.call("Emulation.setFocusEmulationEnabled", enabled=True)  # keys reach the page, whichever tab is in front
@@ -139,10 +125,15 @@ class Page:
             self.call("Emulation.setCPUThrottlingRate", rate=settings.slower)
             self.call("Network.emulateNetworkConditions", offline=False, latency=LATENCY * settings.slower,
                       downloadThroughput=-1, uploadThroughput=-1)
-        if browser.covers:
-            self.call("Profiler.enable")
-            self.call("Profiler.startPreciseCoverage", callCount=True, detailed=True)
         self.size(1200, 850)
+
+    def close(self) -> list[str]:
+        """Closes the tab; returns what the browser complained of."""
+        said = self.complaints()
+        self.browser.answer = self.browser.on_event = None
+        self.browser.call("Target.disposeBrowserContext", browserContextId=self.context)
+        self.browser.events = [event for event in self.browser.events if event.get("sessionId") not in (self.session, None)]
+        return said
 
     def call(self, method: str, **params: Any) -> Any:
         """Calls a method of the protocol for this tab."""
@@ -160,7 +151,7 @@ class Page:
             raise RuntimeError(f"{code}: {got['exceptionDetails']['exception'].get('description')}")
         return got["result"].get("value")
 
-    def wait(self, condition: str, minutes: float = 1) -> None:
+    def wait(self, condition: str, minutes: float = .5) -> None:
         """Waits until the condition holds."""
         try:
             until(lambda: self.holds(condition), condition, minutes)
@@ -170,43 +161,28 @@ class Page:
     def holds(self, condition: str) -> bool:
         """Whether the condition holds. While another page loads there is none to ask: then it does not."""
         try:
-            holds = self.js(f"Boolean({condition})")
+            return self.js(f"Boolean({condition})")
         except RuntimeError as lost:
             if not any(word in str(lost) for word in ("context", "navigated", "Cannot read properties of null")):
                 raise
-            holds = False
-        if settings.hasty and not holds and (failed := self.complaints(True)):
-            raise AssertionError(f"a script failed: {failed[0]}")
-        return holds
+            return False
 
-    def keep_ran(self) -> None:
-        """Keeps what has run of the scripts since this was called last; nothing of a page in another process."""
-        scripts = []
-        with contextlib.suppress(RuntimeError):
-            scripts = self.call("Profiler.takePreciseCoverage")["result"]
-        for script in (one for one in scripts if one["url"].startswith("http")):
-            path = urllib.parse.urlsplit(script["url"]).path
-            ranges = [one for function in script["functions"] for one in function["ranges"]]
-            ran = bytearray(max(one["endOffset"] for one in ranges))
-            for one in sorted(ranges, key=lambda one: (one["startOffset"], -one["endOffset"])):  # those within come later
-                size = one["endOffset"] - one["startOffset"]
-                ran[one["startOffset"]:one["endOffset"]] = bytes([one["count"] > 0]) * size
-            before = self.browser.ran.get(path, b"").ljust(len(ran), b"\0")
-            self.browser.ran[path] = bytes(map(operator.or_, before, ran.ljust(len(before), b"\0")))
+    def at(self, hash_: str) -> "Page":
+        """Loads a page of the desk whose tab this is."""
+        return self.open(self.site, hash_)
 
-    def open(self, site: str, hash_: str, condition: str = "document.querySelector('main h1')") -> None:
-        """Loads a page of the site again: the text after `?` differs each time, and nothing reads it."""
+    def open(self, site: str, hash_: str, condition: str = "document.querySelector('main h1')") -> "Page":
+        """Loads a page of a desk again: the text after `?` differs each time, and nothing reads it."""
         self.opened += 1
-        self.visit(f"{site}/?{self.opened}#{hash_}", condition)
+        return self.visit(f"{site}/?{self.opened}#{hash_}", condition)
 
-    def visit(self, address: str, condition: str = "document.querySelector('main h1')") -> None:
-        """Loads the page of this address, even if it is shown already."""
-        if self.browser.covers:
-            self.keep_ran()
+    def visit(self, address: str, condition: str = "document.querySelector('main h1')") -> "Page":
+        """Loads a page, even if it is shown already: by its path that of the tab's site."""
         self.call("Page.bringToFront")
         self.js(LEAVE)
-        self.call("Page.navigate", url=address)
+        self.call("Page.navigate", url=address if "://" in address else self.site + address)
         self.await_page(condition)
+        return self
 
     def reload(self, condition: str = "document.querySelector('main h1')") -> None:
         """Loads the page again."""
@@ -216,7 +192,7 @@ class Page:
 
     def await_page(self, condition: str) -> None:
         """Waits until a new page is loaded and the condition holds there."""
-        self.wait(f"!window.isLeft && document.readyState === 'complete' && {condition}")
+        self.wait(f"!window.isLeft && document.readyState === 'complete' && {condition}", minutes=1)
 
     def go(self, hash_: str, condition: str = "true") -> None:
         """To another page of the same site, by its address alone."""
@@ -285,17 +261,35 @@ class Page:
         self.js(f"({FIND})({json.dumps(label)}, {json.dumps(card)}, (input) => input.focus())")
         self.key(key)
 
-    def scan(self, digits: str) -> None:
-        """Sends what a barcode reader sends: digits one after the other, and Enter."""
-        self.digits(digits)
+    def scan(self, code: str) -> None:
+        """Sends what a barcode reader sends: letters and digits one after the other, and Enter."""
+        self.digits(code)
         self.key("Enter")
 
-    def digits(self, digits: str) -> None:
-        """Presses the keys of these digits."""
-        for digit in digits:
+    def digits(self, code: str) -> None:
+        """Presses the keys of these digits and letters."""
+        for letter in code:
+            key = ("Digit" if letter.isdigit() else "Key") + letter.upper()
             for kind in ("keyDown", "keyUp"):
-                self.call("Input.dispatchKeyEvent", type=kind, key=digit, code=f"Digit{digit}",
-                          windowsVirtualKeyCode=ord(digit), **({"text": digit} if kind == "keyDown" else {}))
+                self.call("Input.dispatchKeyEvent", type=kind, key=letter, code=key, windowsVirtualKeyCode=ord(letter.upper()),
+                          **({"text": letter} if kind == "keyDown" else {}))
+
+    def tab_to(self, words: str) -> None:
+        """Presses Tab up to what begins with these words. Raises AssertionError if it does not come."""
+        begins = f"startsWith({json.dumps(words)})"
+        self.tab_until(f"document.activeElement.textContent.replace(/\\s+/g, ' ').trim().{begins}", words)
+
+    def tab_to_field(self, name: str) -> None:
+        """Presses Tab up to the field of this name. Raises AssertionError if it does not come."""
+        self.tab_until(f"document.activeElement.name === {json.dumps(name)}", f"the field {name}")
+
+    def tab_until(self, condition: str, what: str) -> None:
+        """Presses Tab until a condition holds. Raises AssertionError if it does not come to hold."""
+        for _ in range(80):
+            self.key("Tab")
+            if self.js(condition):
+                return
+        raise AssertionError(f"Tab does not come to {what}")
 
     def key(self, key: str, repeat: bool = False) -> None:
         """Presses a key; `repeat`: as one that is held down."""
@@ -351,9 +345,8 @@ class Page:
                     if event.get("sessionId") == self.session and event["method"] == "Network.requestWillBeSent"]
         return sum(one["method"] == method and part in one["url"] for one in requests)
 
-    def complaints(self, warnings: bool = False) -> list[str]:
-        """What the browser said of the pages: blocked by their policy, scripts that failed, files that were not
-        there. warnings: also what a page has kept a clerk from seeing."""
+    def complaints(self) -> list[str]:
+        """What the browser said of the pages: blocked by their policy, scripts that failed, files that were not there."""
         said = []
         for event in self.browser.events:
             if event.get("sessionId") != self.session:
@@ -365,8 +358,6 @@ class Page:
                     said.append(entry["text"])
             if event["method"] == "Runtime.exceptionThrown":
                 said.append(event["params"]["exceptionDetails"]["exception"].get("description", "exception"))
-            if warnings and event["method"] == "Runtime.consoleAPICalled" and event["params"]["type"] == "warning":
-                said.append(event["params"]["args"][0].get("description", "warning"))
         return said
 
 

@@ -23,9 +23,11 @@ from babel.messages.pofile import read_po, write_po
 
 FRONT = pathlib.Path(os.environ.get("FRONT_FILES") or pathlib.Path(__file__).resolve().parents[2] / "front")
 HTML_PAGE = FRONT / "desk/index.html"
-RULES = FRONT / "desk/look/rules.json"
+RULES = FRONT / "look/rules.json"
+REFUSALS = FRONT / "shared/refusals.json"
 # The calls that give texts: which of their values are texts, and which a context.
 IN_SCRIPTS = {"text": (0,), "phrase": (0,), "counted": (1, 2), "textAs": (1,)}
+IN_LOOKS = {"text": None, "counted": (2, 3)}
 IN_TEMPLATES = {"_": None, "gettext": None, "ngettext": (1, 2), "pgettext": ((1, "c"), 2)}
 JINJA = {"newstyle_gettext": "true", "trimmed": "true", "silent": "false"}
 PLACES = re.compile(r"%\(\w+\)s|\{\w+\}")
@@ -98,9 +100,18 @@ def texts_of_rules():
     """The texts of what is said about a file before its import."""
     rules = json.loads(RULES.read_text("utf-8"))
     texts = [*rules["elements"].values(), *rules["separators"].values(), *rules["exports"]]
-    for says in (*(one[1:] for one in rules["advice"].values()), *rules["causes"].values()):
-        texts.extend(text for text in says if text and text != "{todo}")
+    for one in rules["advice"].values():
+        texts.extend(text for text in one[1:] if text and text != "{todo}")
     return texts
+
+
+def texts_in(table):
+    """All texts of a table of tables and lists."""
+    if isinstance(table, str):
+        yield table
+    else:
+        for one in table.values() if isinstance(table, dict) else table:
+            yield from texts_in(one)
 
 
 def texts_of_pages():
@@ -112,9 +123,14 @@ def texts_of_pages():
     for path in sorted((FRONT / "readers/templates").iterdir()):
         texts = extract("jinja2.ext:babel_extract", io.BytesIO(path.read_bytes()), IN_TEMPLATES, options=JINJA)
         add(found, path, ((text, context) for _, text, _, context in texts))
-    for path in [*sorted(FRONT.glob("shared/*.js")), *sorted(FRONT.glob("desk/**/*.js"))]:
-        add(found, path, texts_of_script(path.read_text("utf-8")))
+    shared = sorted([*FRONT.glob("shared/*.js"), REFUSALS], key=lambda path: (path.stem, path.suffix == ".js"))
+    for path in [*shared, *sorted(FRONT.glob("desk/**/*.js"))]:
+        text = path.read_text("utf-8")
+        add(found, path, ((one, None) for one in texts_in(json.loads(text))) if path == REFUSALS else texts_of_script(text))
     add(found, HTML_PAGE, ((text, None) for text in Marked(HTML_PAGE.read_text("utf-8")).texts))
+    for path in sorted((FRONT / "look").glob("*.py")):
+        texts = extract("python", io.BytesIO(path.read_bytes()), IN_LOOKS)
+        add(found, path, ((text, None) for _, text, _, _ in texts))
     add(found, RULES, ((text, None) for text in texts_of_rules()))
     return found
 

@@ -1,5 +1,10 @@
 """The descriptions that the pages are tried with, besides examples/archives.csv."""
 
+from collections.abc import Iterable, Iterator
+from pathlib import Path
+
+from acceptance.front.office import TOP
+
 COLUMNS = ("legacyId", "parentId", "identifier", "title", "levelOfDescription", "publicationStatus", "eventDates",
            "extentAndMedium", "eventActors", "archivalHistory", "scopeAndContent", "accessConditions",
            "physicalObjectName", "physicalObjectLocation", "physicalObjectType")
@@ -123,11 +128,10 @@ def harbour():
 SHIPS = "Ships, cargoes and the duties that were paid on them. "
 
 
-def long_aid(units):
-    """The text of a finding aid, as the program would write it, of a unit with so many others right below it."""
-    yield "GB 0999 HAR [Fonds] Harbour Board\n"
-    for number in range(1, units + 1):
-        yield f"  GB 0999 HAR/{number} [File] Letters of captain {number}\n    3.1.3 Date(s): {1700 + number % 250}\n"
-        yield "    3.1.5 Extent and medium of the unit of description: 1 bundle\n"
-        yield f"    3.3.1 Scope and content: {SHIPS * (number % 5 + 1)}\n"
-        yield f"    Container {number}: Carton {number}\n"
+def archives(folder: Path, **texts: Iterable[str]) -> Iterator[tuple[str, Path]]:
+    """Sources and files for `new_office`: examples/archives.csv, and of each name one with these lines in the folder."""
+    yield "archives", TOP / "examples/archives.csv"
+    for name, lines in texts.items():
+        path = folder / f"{name}.csv"
+        path.write_text("".join(lines), "utf-8")
+        yield name, path

@@ -1,5 +1,4 @@
-"""What a part of the desk's day finds at its beginning, made through requests to the program: readers, an empty desk,
-orders, an archive of its own."""
+"""What a test of the desk begins with, made through requests: readers, an empty desk, orders, an archive of its own."""
 
 import json
 from typing import NamedTuple
@@ -102,7 +101,7 @@ class DeskState:
         raise AssertionError(f"no container {name}")
 
     def import_archive(self, code):
-        """Imports a fonds with this code for one part alone: a series with a container and a file, and a draft."""
+        """Imports a fonds with this code for one test alone: a series with a container and a file, and a draft."""
         held = {"physicalObjectName": f"Volume {code}", "physicalObjectLocation": "Strongroom 3"}
         rows = (
             unit("1", identifier=code, title=f"Harbour office {code}", levelOfDescription="Fonds"),

@@ -6,11 +6,10 @@ import ssl
 import subprocess
 
 from acceptance import client
-from acceptance.front.office import PORTS, SIGNED_IN, TOP, Office, free_ports
-from acceptance.front.rules import ask_once, check_policy, fields_of, status
+from acceptance.front.asks import status
+from acceptance.front.office import Office, free_ports
 
 READERS, DESK = "archive.example.org", "desk.example.org"
-YEAR = "max-age=31536000"
 
 
 class Encrypted(Office):
@@ -18,7 +17,8 @@ class Encrypted(Office):
 
     def __init__(self, program, folder):
         super().__init__(program, folder)
-        self.ports.update(zip(("80", "443"), free_ports(2, PORTS + 900, PORTS + 999)))
+        taken = set(self.ports.values())
+        self.ports.update(zip(("80", "443"), [one for one in free_ports(len(taken) + 2) if one not in taken]))
         self.make_certificate(self.folder)
 
     def make_certificate(self, folder):
@@ -60,41 +60,6 @@ def talk(port, name, path, fields=(), source=client.HOST, offers=None):
         while not offers and (piece := it.recv(65536)):
             got += piece
         return got, it.selected_alpn_protocol()
-
-
-def play(checks, program, folder):
-    """Plays both sites with TLS, over an office of its own."""
-    office = Encrypted.create(program, folder)
-    office.import_file("archives", TOP / "examples/archives.csv").expect_success()
-    with office:
-        office.serve_readers()
-        checks.part("encrypted: readers and desk", ask_both_sites, checks, office)
-
-
-def ask_both_sites(checks, office):
-    """Each site answers by TLS, by its own name, with the policy; without TLS readers are sent there."""
-    readers, desk = office.ports["443"], office.ports["8443"]
-    got = ask_once(office.ports["80"], "GET", "/unit/1?x=y", host=READERS)
-    checks.same("without TLS readers are sent to TLS", (status(got), fields_of(got).get("location")),
-                (301, [f"https://{READERS}/unit/1?x=y"]))
-    for path, kind in (("/", "text/html; charset=utf-8"), ("/public/fonds", "text/plain; charset=utf-8")):
-        got, _ = talk(readers, READERS, path)
-        checks.same(f"readers get {path}", status(got), 200)
-        check_policy(checks, f"{path} by TLS", got, kind, "no-store", YEAR, "'self'")
-    got, _ = talk(readers, READERS, "/unit/1")
-    checks.check("a page knows its address", f'"canonical" href="https://{READERS}/unit/1"'.encode() in got, got[900:2500])
-    got, _ = talk(desk, DESK, "/desk/issued", SIGNED_IN)
-    checks.same("the desk by its name", status(got), 200)
-    check_policy(checks, "/desk/issued by TLS", got, "application/json", "no-store", YEAR)
-    for port, name, path in ((readers, READERS, "/public/fonds"), (desk, DESK, "/desk/issued")):
-        checks.same(f"{name} by IPv6", status(talk(port, name, path, SIGNED_IN, "::1")[0]), 200)
-    checks.same("not without the password", status(talk(desk, DESK, "/desk/issued")[0]), 401)
-    got, _ = talk(desk, DESK, "/desk/issued", SIGNED_IN, "127.0.0.2")
-    checks.same("not from an address outside the house", status(got), 403)
-    checks.same("another name gets no certificate", [answer_by(desk, name) for name in ("other.example.org", READERS)],
-                ["none", "none"])
-    for port, name in ((readers, READERS), (desk, DESK)):
-        checks.same(f"{name} speaks HTTP/2", talk(port, name, "/", offers=["h2", "http/1.1"])[1], "h2")
 
 
 def answer_by(port, name):

@@ -89,7 +89,7 @@
     const heads = all('main :is(h1, h2, h3, h4, h5, h6), dialog[open] h2').filter((node) => !node.closest('dialog')).map((node) => +node.tagName[1]);
     const ids = all('[id]').map((node) => node.id);
     return {
-      language: document.documentElement.lang, title: document.title !== '', zoom: !/user-scalable|maximum-scale/.test(document.querySelector('meta[name=viewport]')?.content ?? ''),
+      language: document.documentElement.lang, title: /\S – \S/.test(document.title), zoom: !/user-scalable|maximum-scale/.test(document.querySelector('meta[name=viewport]')?.content ?? ''),
       lacking: ['header', 'nav[aria-label=Pages]', 'main', 'footer', '.skip'].filter((one) => !document.querySelector(one)),
       mains: all('main').length, h1: all('h1').length, headings: heads.every((level, at) => level <= (heads[at - 1] ?? 0) + 1) && all('h1, h2, h3, h4').every((node) => node.textContent.trim()),
       ids: ids.filter((id, at) => ids.indexOf(id) !== at), order: all('[tabindex]').filter((node) => node.tabIndex > 0).map(told),
@@ -102,7 +102,7 @@
       // 1.3.1: choices that belong together have a name, and tables their heads
       groups: all('fieldset').filter((node) => !node.querySelector('legend')?.textContent.trim()).map(told),
       pictures: all('svg, img').filter((node) => node.getAttribute('role') !== 'img' || !node.ariaLabel).map(told),
-      tables: all('table').filter((node) => !node.caption || all('th', node).some((one) => one.scope !== 'col')).map(told),
+      tables: all('table').filter((node) => !node.caption || all('th', node).some((one) => one.scope !== 'col' || !one.textContent.trim())).map(told),
       // 2.5.3: the name of what is pressed begins with what is seen on it
       names: all('button, a[href]').filter((node) => node.ariaLabel && !node.ariaLabel.includes(node.innerText.trim())).map(told),
       // 2.1.1: what scrolls sideways can be scrolled by keys

@@ -7,11 +7,11 @@ import itertools
 import json
 from collections.abc import Callable, Iterable
 
-from acceptance.front.files import COLUMNS, GOOD, SHORT, TWO, csv_text, leave_out, rename_columns, unit
+from acceptance.front.files import COLUMNS, GOOD, SHORT, TWO, csv_text, unit
 from acceptance.front.office import FRONT
 
 Named = Iterable[tuple[str, bytes]]
-RULES = json.loads((FRONT / "desk/look/rules.json").read_text("utf-8"))
+RULES = json.loads((FRONT / "look/rules.json").read_text("utf-8"))
 ENDS = {"CRLF": "\r\n", "LF": "\n", "CR": "\r"}
 MARKS = {"commas": ",", "semicolons": ";", "tabs": "\t", "bars": "|", "colons": ":"}
 CODECS: dict[str, tuple[bytes, str]] = {
@@ -87,20 +87,10 @@ def beginnings() -> Named:
 
 # The header
 
-def columns() -> Named:
-    """Each column left out, written otherwise, twice, or under one of the other names that it has."""
-    for name in COLUMNS:
-        yield f"without {name}", csv_text(*TWO, columns=leave_out(name)).encode()
-    for name in COLUMNS[::2]:
-        yield f"{name} twice", csv_text(*TWO, columns=(*COLUMNS, name)).encode()
-    for name in COLUMNS[1::2]:
-        other = f"{name[0].upper()}{name[1:]}" if len(name) % 2 else f"{name}s" if not name.endswith("s") else name[:-1]
-        yield f"{name} as {other}", csv_text(*TWO, columns=rename_columns(**{name: other})).encode()
-    for also, name in RULES["also"].items():
-        data = csv_text(unit("1"), columns=(*leave_out(name), also.upper())).encode()
-        yield f"{also.upper()} for {name}", data
-    for also, name in RULES["also"].items():
-        yield f"{also} beside {name}", csv_text(unit("1"), columns=(*COLUMNS, also)).encode()
+def exports() -> Named:
+    """What AtoM exports besides archival descriptions, with and without legacyId; and columns that are there twice."""
+    for name in (*COLUMNS[::9], "own"):
+        yield f"{name} twice", csv_text(*TWO, columns=(*(one for one in COLUMNS if one != name), name, name)).encode()
     for kind, needed in RULES["exports"].items():
         for header in (needed, needed[:-1], [*needed, "legacyId"], ["legacyId", *needed[1:]]):
             yield f"{kind}: {', '.join(header)}", (",".join(header) + "\r\n" + "1," * len(header) + "\r\n").encode()
@@ -113,18 +103,18 @@ def headers() -> Named:
             lines = "".join(f"Line {line}{mark}\r\n" for line in range(above))
             yield f"{above} lines above it, {mark!r}", (lines + SHORT.replace(",", mark)).encode()
         yield f"{above} empty lines above it", ("\r\n" * above + SHORT).encode()
-    for mark in (",", ";"):
-        for written in ("legacyid", "LEGACYID", "Legacy-ID", "legacy_id", "legacyId.", "\u00a0legacyId", "“legacyId”",
-                        "legacyIds", "legacy", "'legacyId'", "id"):
-            yield f"{written!r} {mark!r}", SHORT.replace("legacyId", written).replace(",", mark).encode()
+    for written in ("legacyid", "LEGACYID", "Legacy-ID", "legacy_id", "legacyId.", "\u00a0legacyId", "“legacyId”", "legacyIds",
+                    "legacy", "'legacyId'", "id"):
+        yield f"{written!r}", SHORT.replace("legacyId", written).encode()
+        yield f"{written!r} and semicolons", SHORT.replace("legacyId", written).replace(",", ";").encode()
     for line in ("sep=,", "sep=;", "SEP=;", "Sep=\t", "sep=|", "sep=", "sep=x", "sep=;;", "sep =;", " sep=;", "xsep=;"):
-        for mark, end in ((",", "\r\n"), (";", "\n"), ("\t", "\r")):
+        for mark, end in ((",", "\r\n"), (";", "\n")):
             yield f"{line!r} {mark!r} {end!r}", (line + "\r\n" + SHORT.replace(",", mark)).replace("\r\n", end).encode()
         yield f"{line!r} alone", line.encode()
     for header in ("", "legacyId", "legacyId,", ",legacyId", "legacyId,,", "a,b,c,d,e,f,g", "x", "legacyId,legacyId",
                    "legacyId,a,a,b", "title,legacyId,Title,TITLE", "legacyId,titles,title", "legacyId,__proto__,constructor",
                    "legacyId,Identifiers,code,unitid", "legacyId,box,boxes,location", '"legacyId","a,b"', "legacyId;title"):
-        for below in ("", "1,2,3,4", ",,\r\n1"):
+        for below in ("1,2,3,4", ",,\r\n1"):
             yield f"{header!r}, {below!r}", bare(below, header=header).encode()
     own = [f"own{number}" for number in range(9)]
     for filled in (0, 1, 5, 6, 7):
@@ -139,11 +129,10 @@ def headers() -> Named:
 def rows() -> Named:
     """Fields too many and too few, blank numbers, slugs, rows of the same number, and what is refused first of several."""
     faults = {"few": "5,", "many": "5,,a,Published,x", "blank": ",,a,", "again": "1,,a,Published", "equal":
-              "1,,Docks,Published", "right": "5,,a,Published", "empty": "", "commas": ",,,", "blanks": " ,\t, ,",
-              "header": "legacyId,parentId,title,publicationStatus",
-              "quoted": '"",,,""', "one": '""', "title": "6,,\"" + "x" * 61 + "\",Published"}
+              "1,,Docks,Published", "right": "5,,a,Published", "commas": ",,,", "blanks": " ,\t, ,",
+              "header": "legacyId,parentId,title,publicationStatus", "one": '""', "title": "6,,\"" + "x" * 61 + "\",Published"}
     for one, other in itertools.product(faults, faults):
-        if one < other or other == "few":
+        if one < other:
             yield f"{one}, {other}", bare("1,,Docks,Published", faults[one], faults[other]).encode()
     for one in faults:
         yield f"{one} alone", bare(faults[one]).encode()
@@ -210,7 +199,7 @@ def parents() -> Named:
         one = [unit("1", identifier="HUL"), unit("2", parent), unit("3", "1"), unit("A1", "3")]
         yield f"{name}", few(*one).encode()
         yield f"{name} of two", few(*one, unit("5", parent), unit("6", parent, identifier="77")).encode()
-    for legacy, parent in itertools.product(("7", "007", "7.0", "07.0", "7,0", "\u0667", "7\u00a0", "x7"), repeat=2):
+    for legacy, parent in itertools.permutations(("7", "007", "7.0", "07.0", "7,0", "\u0667", "7\u00a0"), 2):
         yield f"legacyId {legacy!r}, parentId {parent!r}", few(unit(legacy), unit("9", parent)).encode()
     yield "two identifiers alike", few(unit("1", identifier="X"), unit("2", identifier="X"), unit("3", "X")).encode()
     yield "an identifier further down", few(unit("3", "X"), unit("2", identifier="X")).encode()
@@ -240,14 +229,13 @@ def numbers() -> Named:
 def words() -> Named:
     """Statuses, languages and containers, and lists of each that are longer than what is shown."""
     for status in ("Published", "published", "PUBLISHED", "Draft", "draft", "", "yes", "Publi\u00e9", "Published.", "Dra ft"):
-        for other in ("Published", "Draft", "no"):
+        for other in ("Published", "no"):
             lines = unit("1", publicationStatus=status), unit("2", publicationStatus=other)
             yield f"statuses {status!r}, {other!r}", few(*lines).encode()
     cultures = ("en", "EN", "En", "fr", "fra", "f", "fran", "pt_BR", "zh-Hant-TW", "sr@latin", "en_", "e1", "English", "",
                 "en GB")
     for culture in cultures:
         yield f"culture {culture!r}", few(unit("1", culture=culture), unit("2", culture=culture)).encode()
-        yield f"culture {culture!r} beside de", few(unit("1", culture="de"), unit("2", culture=culture)).encode()
         yield f"culture {culture!r} as a translation", few(unit("1", culture="de"), unit("1", culture=culture)).encode()
     for many in (2, 5, 6, 1006):
         yield f"{many} odd cultures", few(*(unit(str(n), culture=f"L{n}") for n in range(many))).encode()
@@ -283,7 +271,7 @@ def values() -> Named:
     """Letters that were garbled, control characters, what a spreadsheet has reshaped, and characters that nobody sees."""
     for text in ("Ã©", "Â ", "Ã", "Ã x", "â€", "â€™s", "â", "\ufffd", "Ä", "é", "Â\u00bf", "Â\u00c0", "x " + "y" * 45 + "Ã©"):
         yield f"garbled {text!r}", few(unit("1", title=f"a {text} b"), unit("2", title=text)).encode()
-    for code in (*range(32), 0x7e, 0x7f, 0x80, 0x85, 0x9f, 0xa0, 0xad, 0x200b):
+    for code in (0, 1, 8, 9, 10, 11, 12, 13, 14, 31, 0x7e, 0x7f, 0x80, 0x85, 0x9f, 0xa0, 0xad, 0x200b):
         yield f"control {code:04x}", few(unit("1", title=f"a{chr(code)}b"), unit("2", title=f"c{chr(code)}")).encode()
     for text in ("3/1/74", "13/12/1774", "3/1/7", "123/1/74", "3-Jan", "03-Jan", "3-Jan-74", "3-Jan-1774", "Jan-74", "Jan-7",
                  "jan-74", "3-Feb", "Mar-1774", "May-12", "12-Sep", "Dec-99", "1E+5", "1.2E+05", "1,2e+10", "1E5", "1.E+5",
@@ -293,7 +281,7 @@ def values() -> Named:
     yield "reshaped numbers alone", few(unit("3-Jan"), unit("4-Jan", "3-Jan")).encode()
     for letter in UNSEEN + SEEN:
         yield f"hidden {ord(letter):04x} after", few(unit(f"1{letter}"), unit("2", "1", culture=f"en{letter}")).encode()
-    for letter in UNSEEN + SEEN:
+    for letter in UNSEEN[::4] + SEEN[::4]:
         name = f"{ord(letter):04x}"
         lines = unit("1", f"{letter}1", publicationStatus=f"{letter}Draft"), unit(f"1{letter}1", title=f"a{letter}")
         yield f"hidden {name} before, and within", few(*lines).encode()
@@ -323,11 +311,11 @@ def quotes() -> Named:
     """Quotation marks that are open, single, doubled, and beside blanks, with each separator."""
     fields = ('"a"', '"a', 'a"', '"a"b', '"a" ', '"a" b', '"a""b"', '"a""', '""', '"', '"""', '""""', '"a"b"c"', '"a\r\nb"',
               '"a\nb"c', '"a" "b"', 'a"b"c', '"a"b\tc', '"' + "x" * 50 + '"y', '"12"" plan" x', ' "a"')
-    for mark, what, field in itertools.product((",", ";"), (1, 2), fields):
+    for mark, what, field in ((*one, field) for one in ((",", 1), (",", 2), (";", 1)) for field in fields):
         line = mark.join(("1", field, "Published"))
         header = mark.join(("legacyId", "title", "publicationStatus"))
         lines = [line, f"2{mark}b{mark}"][::3 - 2 * what]
-        yield f"{field[:12]!r} {mark!r} {what}", bare(*lines, header=header).encode()
+        yield f"{field[:12]!r} {'first' if what == 1 else 'last'}, {mark!r}", bare(*lines, header=header).encode()
     yield "after empty lines", bare("", "1,a,x", "", "", '2,"b"c,x', header="legacyId,title,y").encode()
     yield "two of them", bare('1,"b"c', '2,"d"e', header="legacyId,title").encode()
     yield "in the header", bare("1,a", header='legacyId,"ti"tle').encode()
@@ -350,7 +338,7 @@ def converted() -> Named:
                   ('1;"a""b"',), ('1;"a\r\nb"',), ("1;a,b",), ('1;"a\rb"', ""), ("1; a ",), ('"1";"x"',),
                   ("1;a\x0bb",), ("1;\ufeff",)):
         yield f"lines {lines}", codecs.BOM_UTF8 * (len(lines) - 1) + bare(*lines, header="legacyId;title").encode()
-    for codec in ("cp1252", "utf-8", "utf-16-le", "utf-16-be"):
+    for codec in ("cp1252", "utf-8", "utf-16-be"):
         for text in ("", "<a>", " \r\n<a>", "{\\rtf1", "%PDF", "PK\x03\x04", "x", "legacyId", "legacyId\r\n1\r\n",
                      "sep=;\r\nlegacyId", "sep=x\r\nlegacyId", "é", "legacyId;é\r\n1;Ã©", "legacyId;é\r\n1;€ü",
                      "legacyId|x;y|z\r\n1|é"):
@@ -358,5 +346,5 @@ def converted() -> Named:
 
 
 GROUPS: dict[str, Callable[[], Named]] = {group.__name__: group for group in (
-    ways, beginnings, columns, headers, rows, limits, repeats, parents, numbers, words, boxes, values, events, quotes,
+    ways, beginnings, exports, headers, rows, limits, repeats, parents, numbers, words, boxes, values, events, quotes,
     converted)}

@@ -37,11 +37,13 @@ from acceptance import client
 from acceptance.front.waits import until
 
 TOP = pathlib.Path(__file__).resolve().parents[2]
+ARCHIVES = TOP / "examples/archives.csv"
 
 FRONT = pathlib.Path(os.environ.get("FRONT_FILES") or TOP / "front").resolve()  # mutation/front.py names copies of it
 READERS = FRONT / "readers"
 PYTHON = "/usr/bin/python3"  # Debian's own, which has what the readers' service needs
 QUICK = ("--every", ".2", "--rest", "0", "--orders", "6000")  # rounds and aids without a rest
+SELDOM = ("--every", "100000", "--rest", "0", "--orders", "6000")  # one round, at the beginning
 # For those who ask for many pages in a row from one address.
 MANY_PAGES = [("record_office_pages burst=60", "record_office_pages burst=6000"),
               ("aids_in_a_row burst=9", "aids_in_a_row burst=9000")]
@@ -60,11 +62,14 @@ include office.conf; }}
 """
 
 
-# the first of a thousand; the last hundred are for what is named otherwise
-PORTS = int(os.environ.get("FRONT_PORTS", 20000))
+# Nine hundred ports; of several workers of pytest-xdist each has its own share.
+WORKER = int(os.environ.get("PYTEST_XDIST_WORKER", "gw0").removeprefix("gw"))
+WORKERS = int(os.environ.get("PYTEST_XDIST_WORKER_COUNT", 1))
+SHARE = 900 // WORKERS
+PORTS = int(os.environ.get("FRONT_PORTS", 20000)) + WORKER * SHARE
 
 
-def free_ports(many: int, first: int = PORTS, last: int = PORTS + 899) -> list[int]:
+def free_ports(many: int, first: int = PORTS, last: int = PORTS + SHARE - 1) -> list[int]:
     """Free ports of 127.0.0.1, from a random place on, so that two runs at a time seldom collide. Raises RuntimeError
     if there are too few."""
     found, begin = [], random.randrange(first, last + 1)
@@ -85,7 +90,7 @@ class Office(client.Office):
 
     def __init__(
             self, program: client.Program, folder: str | pathlib.Path, connections: int = 10000, first: int = PORTS,
-            last: int = PORTS + 899, changes: Changes = (),
+            last: int = PORTS + SHARE - 1, changes: Changes = (),
     ) -> None:
         self.folder = pathlib.Path(folder).resolve()
         (self.folder / "tmp").mkdir(parents=True, exist_ok=True)
@@ -96,8 +101,10 @@ class Office(client.Office):
         self.ports = dict(zip(named, free_ports(len(named), first, last)))
         self.running, self.starts = False, 0
         self.processes: list[subprocess.Popen[Any]] = []
-        self.serving: Any = None  # the program's process, once there is one; the same of the readers' service
+        self.serving: Any = None  # the program's process, once there is one; the same of the readers' service, and of tries
         self.service: Any = None
+        self.trying: Any = None
+        self.copies, self.kept = self.folder / "copies", self.folder / "kept"  # of tries
         self.queue, self.listen = self.folder / "readers.sock", self.folder / "pages.sock"
         self.index, self.words = self.folder / "index.db", READERS / "office.json"
         self.waiting, self.beginning = threading.Event(), threading.Lock()
@@ -140,7 +147,6 @@ class Office(client.Office):
     def wait_for(self, url: str, *processes: subprocess.Popen[Any]) -> bytes:
         """The answer to this question, once there is one. Raises RuntimeError if one of these processes ends before."""
         def answer():
-            """The answer, if there is one."""
             for process in processes:
                 if process.poll() is not None:
                     raise RuntimeError(f"{process.args[:2]} has ended; see {self.folder}")
@@ -186,6 +192,8 @@ class Office(client.Office):
         self.waiting.set()
         if self.service:
             self.kill_readers()
+        if self.trying:
+            self.kill_tries()
         for process in self.processes:
             process.terminate()
         if self.serving:
@@ -226,6 +234,33 @@ class Office(client.Office):
         """Kills the readers' service."""
         self.service.kill()
         self.service.wait()
+
+    def serve_tries(self) -> None:
+        """Begins the service that looks at files and tries imports. Returns once it listens."""
+        place = self.folder / "tries.sock"
+        place.unlink(missing_ok=True)
+        for folder in (self.copies, self.kept):
+            folder.mkdir(exist_ok=True)
+        with open(self.folder / "try.told", "a") as log:
+            words = [PYTHON, "-B", "-s", FRONT / "try/service.py", "--copies", self.copies, "--files", self.kept, "--listen",
+                     place, "--program", self.program.path]
+            self.trying = subprocess.Popen([str(word) for word in words], stdout=log, stderr=log,
+                                           env={**os.environ, "PYTHONPATH": str(FRONT / "look")})  # as its unit has it
+        until(place.exists, "the service of tries listens")
+
+    @contextlib.contextmanager
+    def without_tries(self) -> Iterator[None]:
+        """A context in which the service of tries is away."""
+        self.kill_tries()
+        try:
+            yield
+        finally:
+            self.serve_tries()
+
+    def kill_tries(self) -> None:
+        """Kills the service of tries."""
+        self.trying.kill()
+        self.trying.wait()
 
     def await_rounds(self, many: int = 2) -> None:
         """Waits until so many rounds have ended from now on. With two, one has seen all that was done before. An index that
@@ -276,22 +311,6 @@ class Office(client.Office):
         finally:
             path.write_text(before)
             self.reload()
-
-    def read_anew(self, name: str) -> None:
-        """Makes the servers read a file of front/ that has changed, if they do read it."""
-        if name.startswith("readers/") and self.service:
-            with self.without_readers():
-                pass
-        if name.startswith("server/"):
-            self.configure()
-            for path in self.sites():
-                subprocess.run([program_path("nginx") or "nginx", "-t", "-q", "-p", self.folder, "-c", path], check=True)
-            if not name.endswith(".conf"):
-                self.haproxy.terminate()
-                self.haproxy.wait(20)
-                self._begin_queue()
-            self.reload()
-            self.wait_for(self.public + "/public/fonds")
 
     def reload(self) -> None:
         """Each nginx reads its files anew; ends when no worker takes requests by the old ones any more."""
@@ -467,6 +486,7 @@ def main() -> None:
         print(office.import_file("catalogue", path).expect_success().decode(), end="")
     with office, contextlib.suppress(KeyboardInterrupt):
         office.serve_readers("--every", "5")
+        office.serve_tries()
         print(f"readers {office.public}\nstaff   {office.staff}, name {PASSWORD[0]}, password {PASSWORD[1]}")
         print("Ctrl-C ends it", flush=True)
         signal.pause()

@@ -5,152 +5,136 @@
 FOLDER is made anew. Each picture is SHOTS/LANGUAGE-SITE-PAGE-WIDTH.png. With words, only pages whose name has one of
 them; `empty` names those of an office that has nothing yet."""
 
+import contextlib
 import json
-import pathlib
-import sys
+from pathlib import Path
 
-from acceptance.front.catalogue import dock_company
-from acceptance.front.checks import Checks
-from acceptance.front.office import FRONT, MANY_PAGES, TOP, Office, clear, folder_options
-from acceptance.front.run import Browser, pictures
-from acceptance.front.translations import CODES, STATIC, WORDS, Spoken, Translations
+from acceptance.front.asks import Asks
+from acceptance.front.browser import Browser
+from acceptance.front.catalogue import archives, dock_company
+from acceptance.front.office import FRONT, MANY_PAGES, SIGNED_IN, Office, clear, folder_options
+from acceptance.front.page_states import STATES, State, settle
+from acceptance.front.spoken import Spoken, Texts
 
 WIDTHS = (360, 768, 1280)
+CODES = sorted(path.stem for path in (FRONT / "readers/po").glob("*.po"))
+STATIC = ("public/away.html", "public/often.html", "public/not-from-here.html", "desk/signed-out.html")
+WORDS = {"name": {"en": "Hull Record Office", "de": "Archiv Hull"}, "hours": "9 to 5"}  # of the office
 
 
-class Pictures(Translations):
-    """Both sites of a running office, page by page."""
-
-    def more_states(self):
-        """What access.py does not measure: other states of the same pages."""
-        return [
-            ("readers", "ordered", f"/unit/{self.minutes + 3}", self.order),
-            ("readers", "order form", f"/unit/{self.plans}", self.open_order),
-            ("readers", "empty list", "/ordered", None),
-            ("readers", "no word", "/search?q=", None), ("readers", "unread year", "/search?q=dock&from=abc", None),
-            ("readers", "offers", "/search?q=minuts", None), ("readers", "many found", "/search?q=dock&order=date", None),
-            ("desk", "seated", "/counter", self.seat_reader), ("desk", "no ticket", "/readers/999", None),
-            ("desk", "no container", "/counter/999", None), ("desk", "no unit", "/units/9999", None),
-            ("desk", "closed unit", f"/units/{self.closed}", None), ("desk", "no run", "/runs/99", None),
-            ("desk", "imported", "/import", self.import_file)]
-
-    def order(self, page):
-        """Orders what is in the only container of a unit."""
-        page.press_starting("Order")
-        page.fill("Number of your reader\u2019s ticket", "1")
-        page.press("Order this container")
-        page.wait("document.querySelector('#outcome') !== null && document.readyState === 'complete'")
-
-    def open_order(self, page):
-        """Opens the form of an order."""
-        page.press_starting("Order")
-
-    def seat_reader(self, page):
-        """Gives the second reader a seat."""
-        page.fill("Ticket", "2", "A reader arrives")
-        page.press("Give a seat", "A reader arrives")
-        page.wait("document.querySelector('.outcome:not(:empty)') !== null")
-
-    def import_file(self, page):
-        """Looks at a whole file, and imports it."""
-        page.file(self.asks.office.folder / "archives.csv")
-        page.wait("document.querySelector('.seen-in-file:not(:empty)') !== null")
-        page.press("Import the file")
-        page.see("There is nothing to look at.")
-
-    def empty_states(self):
-        """The pages of an office without descriptions and readers."""
-        desk = ("/", "/counter", "/readers", "/orders", "/runs", "/out", "/units", "/import")
-        return [("readers", "empty archives", "/", None), ("readers", "empty search", "/search?q=dock", None),
-                *(("desk", f"empty {address.strip('/') or 'today'}", address, None) for address in desk)]
-
-    def take(self, code, states):
-        """Pictures of these pages in a language."""
-        self.speak(code)
-        for site, name, address, prepare in states:
-            spoken = (lambda page, prepare=prepare: prepare(Spoken(page, self.texts))) if prepare else None
-            try:
-                page = self.show(site, address, spoken)
-            except (AssertionError, RuntimeError) as lost:
-                self.checks.fail(name, f"WRONG {code}, {name}: {str(lost)[:300]}")
-                page = getattr(self, site)
-            self.take_widths(page, f"{code}-{site}-{name.replace(' ', '_')}")
-            page.answer_with(None, 0, b"")
-            page.js("sessionStorage.clear()")
-        self.forget()
-
-    def take_widths(self, page, name):
-        """Pictures of the page that is shown."""
-        for width in WIDTHS:
-            page.size(width, 800, 1, width == WIDTHS[0])
-            page.wait(f"innerWidth === {width}")
-            self.shot(page, f"{name}-{width}")
-            self.checks.passed += 1
-
-    def take_static(self):
-        """The pages that the servers send by themselves."""
-        for path in STATIC:
-            self.desk.open(self.sites["desk"], "/")
-            self.desk.answer_with("*/static", 200, (FRONT / path).read_bytes())
-            self.desk.visit(self.sites["desk"] + "/static", "document.querySelector('h1')")
-            self.desk.answer_with(None, 0, b"")
-            self.take_widths(self.desk, f"all-{pathlib.Path(path).stem}")
+def open_order(page, _):
+    """Opens the form of an order."""
+    page.press_starting("Order")
 
 
-def wanted(states, words):
-    """The states whose name has one of the words, or all."""
-    return [state for state in states if not words or any(word in f"{state[0]} {state[1]}" for word in words)]
+def order(page, _):
+    """Orders what is in the only container of a unit."""
+    page.press_starting("Order")
+    page.fill("Number of your reader\u2019s ticket", "1")
+    page.press("Order this container")
+    page.wait("document.querySelector('#outcome') !== null && document.readyState === 'complete'")
 
 
-def office_of(program, folder, *files):
-    """An office with these files."""
-    office = Office.create(program, clear(folder), changes=MANY_PAGES)
+def seat_reader(page, _):
+    """Gives the second reader a seat."""
+    page.fill("Ticket", "2", "A reader arrives")
+    page.press("Give a seat", "A reader arrives")
+    page.wait("document.querySelector('.outcome:not(:empty)') !== null")
+
+
+def import_file(page, office):
+    """Looks at a whole file, and imports it."""
+    page.file(office.folder / "archives.csv")
+    page.wait("document.querySelector('.seen-in-file:not(:empty)') !== null")
+    page.press("Import the file")
+    page.see("There is nothing to look at.")
+
+
+# Other states of the same pages than those that tests look at.
+MORE = [
+    State("readers", "ordered", "/unit/{file}", order), State("readers", "order form", "/unit/{plans}", open_order),
+    State("readers", "empty list", "/ordered"), State("readers", "no word", "/search?q="),
+    State("readers", "unread year", "/search?q=dock&from=abc"), State("readers", "offers", "/search?q=minuts"),
+    State("readers", "many found", "/search?q=dock&order=date"),
+    State("desk", "seated", "/counter", seat_reader), State("desk", "no ticket", "/readers/999"),
+    State("desk", "no container", "/counter/999"), State("desk", "no unit", "/units/9999"),
+    State("desk", "closed unit", "/units/{closed}"), State("desk", "no run", "/runs/99"),
+    State("desk", "imported", "/import", import_file),
+]
+EMPTY = [State("readers", "empty archives", "/"), State("readers", "empty search", "/search?q=dock"),
+         *(State("desk", f"empty {place or 'today'}", f"/{place}")
+           for place in ("", "counter", "readers", "orders", "runs", "out", "units", "import"))]
+
+
+def take(page, path):
+    """Pictures of the page that is shown."""
+    for width in WIDTHS:
+        page.size(width, 800, 1, width == WIDTHS[0])
+        page.wait(f"innerWidth === {width}")
+        page.shot(path.with_name(f"{path.name}-{width}.png"))
+    print(path.name, flush=True)
+
+
+def take_all(office, browser, given, states, numbers):
+    """Pictures of the pages that are wanted, in each language."""
+    wanted = [state for state in states
+              if not given.words or any(word in f"{state.site} {state.name}" for word in given.words)]
+    for code in given.language or CODES:
+        for state in wanted:
+            site, headers = (office.staff, SIGNED_IN) if state.site == "desk" else (office.public, None)
+            page = browser.page(headers, site)
+            state.show(Spoken(page, Texts(office, code)), numbers)
+            take(page, given.shots / f"{code}-{state}")
+            page.close()
+
+
+def take_static(office, browser, shots):
+    """Pictures of the pages that the servers send by themselves."""
+    for path in STATIC:
+        page = browser.page(SIGNED_IN, office.staff)
+        page.at("/").answer_with("*/static", 200, (FRONT / path).read_bytes())
+        page.visit("/static", "document.querySelector('h1')")
+        take(page, shots / f"all-{Path(path).stem}")
+        page.close()
+
+
+@contextlib.contextmanager
+def office_of(given, name, files):
+    """A context in which an office with these files is served."""
+    office = Office.create(given.program, clear(given.folder / name), changes=MANY_PAGES)
+    for source, path in files:
+        office.import_file(source, path).expect_success()
     office.words = office.folder / "office.json"
     office.words.write_text(json.dumps(WORDS))
-    for source, text in files:
-        path = office.folder / f"{source}.csv"
-        path.write_text(text, "utf-8")
-        office.import_file(source, path).expect_success()
-    return office
-
-
-def play(checks, given, browser):
-    """Makes the pictures."""
-    shot, codes = pictures(given.shots), given.language or CODES
-    with office_of(given.program, given.folder / "empty") as office:
+    with office:
         office.serve_readers()
-        empty = Pictures(checks, office, browser, shot)
-        for code in codes:
-            empty.take(code, wanted(empty.empty_states(), given.words))
-        if not given.words:
-            empty.take_static()
-    archives = (TOP / "examples/archives.csv").read_text("utf-8")
-    files = ("archives", archives), ("catalogue", "".join(dock_company()))
-    with office_of(given.program, given.folder / "full", *files) as office:
-        office.serve_readers()
+        office.serve_tries()
         office.await_rounds(1)
-        full = Pictures(checks, office, browser, shot)
-        full.settle()
-        for code in codes:
-            full.take(code, wanted([*full.states(), *full.more_states()], given.words))
+        yield office
 
 
 def main():
-    """Makes pictures as the command line says; returns the exit status."""
-    words = folder_options(__doc__)
-    words.add_argument("shots", type=pathlib.Path, metavar="SHOTS", help="gets the pictures")
-    words.add_argument("words", nargs="*", metavar="WORD")
-    words.add_argument("--language", action="append", choices=CODES, metavar="CODE", help="else all")
-    given, checks = words.parse_intermixed_args(), Checks()
+    """Makes pictures as the command line says."""
+    options = folder_options(__doc__)
+    options.add_argument("shots", type=Path, metavar="SHOTS", help="gets the pictures")
+    options.add_argument("words", nargs="*", metavar="WORD")
+    options.add_argument("--language", action="append", choices=CODES, metavar="CODE", help="else all")
+    given = options.parse_intermixed_args()
     given.shots.mkdir(parents=True, exist_ok=True)
     clear(given.folder).mkdir(parents=True)
     browser = Browser((given.folder / "profile").resolve())
     try:
-        play(checks, given, browser)
+        with office_of(given, "empty", ()) as office:
+            take_all(office, browser, given, EMPTY, None)
+            if not given.words:
+                take_static(office, browser, given.shots)
+        files = list(archives(given.folder, catalogue=dock_company()))
+        with office_of(given, "full", files) as office:
+            (office.folder / "archives.csv").write_bytes(files[0][1].read_bytes())
+            take_all(office, browser, given, [*STATES, *MORE], settle(Asks(office)))
     finally:
         browser.end()
-    return checks.finish()
 
 
 if __name__ == "__main__":
-    sys.exit(main())
+    main()

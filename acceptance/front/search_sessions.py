@@ -1,15 +1,11 @@
-"""Random offices and random sessions of commands, with the index at every degree of staleness:
-
-    ./run acceptance.front.search_sessions [--program PROGRAM] [--steps N] [--seed N] FOLDER
-
-After each step a random question is asked, and what is found is compared with all public pages, which are read by other
-code than the service's: nothing is found that is not public now, and nothing is missing that a round has seen. It
-prints how often what happened; an assertion that fails says which promise was broken."""
+"""Random offices and random sessions of commands, with the index at every degree of staleness. After each step a random
+question is asked, and what is found is compared with all public pages, which are read by other code than the service's:
+nothing is found that is not public now, and nothing is missing that a round has seen. An assertion that fails says which
+promise was broken."""
 
 import contextlib
 import random
 import re
-import sys
 import unicodedata
 
 import index
@@ -18,9 +14,7 @@ from asking import Asking, Unreached
 from folding import read_typed
 from rounds import Round
 
-from acceptance.front.checks import Checks
-from acceptance.front.office import clear, folder_options
-from acceptance.front.searched import FOREVER, Searched
+from acceptance.front.searched import FOREVER
 
 WORDS = ["dock", "Minutes", "minute", "letters", "caf\u00e9", "cafe\u0301", "\u05de\u05db\u05ea\u05d1", "Dock-gates", "x2",
          "plans", "\u0141\u00f3d\u017a", "O\u2019Brien", "M\u00fcller", "mueller", "\u516c\u6587\u66f8\u9928", "H.M.S. Hull"]
@@ -253,11 +247,13 @@ class Session:
         years = choice([(None, None)] * 3 + [(1799, None), (1850, 1910), (None, 1850), (1900, 1960)])
         return " ".join(typed), (choice([*self.now, 1]) if chance() < .3 else None), *years, chance() < .3
 
-    def matches(self, one, number, typed, within, first, last, by_date):
-        """The place of a unit that is to be found: its group (0 if its head has all, else 1) or its year, its archive and
-        its number. None if it is not to be found."""
-        phrases = phrases_of(typed)
-        if not all(any(holds(text, *phrase) for text in (one.head, *one.values)) for phrase in phrases):
+    def matches(self, one, number, typed, within, first, last, by_date, units=None):
+        """The place of a unit that is to be found: its group (0 if its head has all, 1 if it has all, 2 if heads above have
+        some) or its year, its archive and its number. None if it is not to be found. units: those that are above."""
+        phrases, units = phrases_of(typed), self.now if units is None else units
+        rest = [phrase for phrase in phrases if not any(holds(text, *phrase) for text in (one.head, *one.values))]
+        heads = [units[above].head for above in one.above if above in units]
+        if len(rest) == len(phrases) or not all(any(holds(head, *phrase) for head in heads) for phrase in rest):
             return None
         if within is not None and within not in (*one.above, number):
             return None
@@ -265,17 +261,17 @@ class Session:
                              None) and not (one.years and (first or 0) <= one.years[1]
                                             and one.years[0] <= (last or 9999)):
             return None
-        in_head = all(holds(one.head, *phrase) for phrase in phrases)
-        first = one.years[0] if one.years else 10**5
-        return first if by_date else 1 - in_head, (*one.above, number)[0], number
+        group = 2 if rest else 1 - all(holds(one.head, *phrase) for phrase in phrases)
+        first = (one.years[0] if one.years else 10**5) + (2 * 10**5 if rest else 0)
+        return first if by_date else group, (*one.above, number)[0], number
 
-    def must_match(self, one, number, asked):
-        """Whether a unit must be found. Of one that was read by parts, a value that ends as if it came from above is
-        not searched."""
+    def must_match(self, one, number, asked, units=None):
+        """Whether a unit must be found, as it is among these units. Of one that was read by parts, a value that ends as if it
+        came from above is not searched."""
         if number in self.by_parts:
             one = Unit(one.head, tuple(value for value in one.values if not re.search(r" \(from .*\)$", value)),
                        one.above, one.years, one.units)
-        return self.matches(one, number, *asked) is not None
+        return self.matches(one, number, *asked, units) is not None
 
     def answers(self, asked):
         """All that is found, a few at a time."""
@@ -304,9 +300,9 @@ class Session:
         numbers = [unit["unit"] for unit in found]
         now = {n: self.matches(one, n, *asked)
                for n, one in self.now.items() if self.matches(one, n, *asked) is not None}
-        wanted = {n for n in now if n in self.snap and self.must_match(self.snap[n], n, asked)
+        wanted = {n for n in now if n in self.snap and self.must_match(self.snap[n], n, asked, self.snap)
                   and self.must_match(self.now[n], n, asked)
-                  and (within is None or self.snap[n].above == self.now[n].above)
+                  and (within is None and (by_date or now[n][0] < 2) or self.snap[n].above == self.now[n].above)
                   and not (by_date and self.snap[n].years != self.now[n].years)}
         assert set(numbers) <= set(now), ("never shown", asked, set(numbers) - set(now))
         assert wanted <= set(numbers), ("must be found", asked,
@@ -359,25 +355,3 @@ class Session:
         assert kind != "all" or rows == {n: (None, *one.above)[-1]
                                          for n, one in self.now.items()}, ("rows", rows, self.now.keys())
         assert kind != "all" or indexed == rows.keys(), ("words", indexed ^ rows.keys())
-
-
-def play(checks, program, folder, steps, seed):
-    """Plays so many random steps over an office of its own."""
-    with Searched.create(program, clear(folder)) as office:
-        told = Session(office, seed).play(steps)
-    print(f"seed {seed}: {steps} steps; {told}", flush=True)
-    checks.check(f"{steps} random steps", told["hits"])
-
-
-def main():
-    """Plays a session of random steps; returns the exit status."""
-    words = folder_options(__doc__)
-    words.add_argument("--steps", type=int, default=1000, metavar="N", help="else 1000")
-    words.add_argument("--seed", type=int, default=1, metavar="N", help="else 1")
-    given, checks = words.parse_args(), Checks()
-    checks.part("sessions", play, checks, given.program, given.folder, given.steps, given.seed)
-    return checks.finish()
-
-
-if __name__ == "__main__":
-    sys.exit(main())

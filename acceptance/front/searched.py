@@ -68,3 +68,9 @@ class Searched(Office):
         front.request("GET", f"/public/search?{args}")
         answer = front.getresponse()
         return answer.status, answer.read()
+
+    def ask_page(self, path):
+        """The text of a readers' page by nginx, in English."""
+        front = http.client.HTTPConnection("127.0.0.1", self.ports["8080"], timeout=60)
+        front.request("GET", path, headers={"Accept-Language": "en"})
+        return front.getresponse().read().decode()

@@ -1,8 +1,7 @@
 """Waiting for a condition. What else sleeps here measures a time, and a comment says so.
 
-`settings.patience` is how long anything is waited for: mutation/front.py waits less for what a fault keeps away.
-`settings.slower` is how many times slower than this machine pages are. `settings.longest` is what was waited for
-longest, in seconds. With `settings.hasty` nothing is waited for on a page whose script has failed."""
+`settings.patience` is for how many seconds anything is waited, and `settings.slower` how many times slower than this machine
+pages are."""
 
 import time
 import types
@@ -11,7 +10,7 @@ from typing import TypeVar
 
 Given = TypeVar("Given")
 
-settings = types.SimpleNamespace(patience=60, slower=1, longest=0, hasty=False)
+settings = types.SimpleNamespace(patience=60, slower=1)
 BETWEEN = 0.03  # seconds between two looks
 
 
@@ -22,5 +21,4 @@ def until(holds: Callable[[], Given], what: str, minutes: float = 1) -> Given:
         if time.monotonic() > began + seconds:
             raise AssertionError(f"not within {seconds:.0f} s: {what}")
         time.sleep(BETWEEN)
-    settings.longest = max(settings.longest, (time.monotonic() - began) / minutes)
     return given

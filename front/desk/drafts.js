@@ -7,7 +7,6 @@ import { commandForm } from '../shared/form.js';
 import { counted, text } from '../shared/language.js';
 import { deskWords } from '../shared/refusals.js';
 import { setStatus, unit as askUnit } from '../shared/routes.js';
-import { isDraft } from './look/units.js';
 import { lookAtUnit } from './looks.js';
 import { firstOfNew } from './newest_unit.js';
 import { heldContainer, unitLink } from './parts.js';
@@ -17,8 +16,8 @@ const CHECKED = 200; // the most units that are checked against what the public 
 
 /** The list as soon as it is known; null if there are no new drafts. */
 export function newDrafts(added, { seen, newest }) {
-  const units = [...(seen?.reader?.units.values() ?? [])];
-  if (added === 0 || !units.some(isDraft)) return null;
+  const units = (seen?.units ?? []).map(([, , legacy, title, isDraft]) => ({ legacy, title, isDraft }));
+  if (added === 0 || !units.some((unit) => unit.isDraft)) return null;
   const place = el('div', {}, el('p', { class: 'waiting' }, text('Looking for the numbers of the new drafts …')));
   listOf(units, added, newest).then((list) => place.replaceChildren(...[list].filter(Boolean)));
   return place;
@@ -44,7 +43,7 @@ async function draftsOf(units, first, added) {
   });
   if (!whole) return null;
   if (!areAllNew) return asked.filter(({ number }) => seen.get(number) === null);
-  return asked.every((row) => agrees(row, seen.get(row.number))) ? rows.filter((row) => isDraft(row.unit)) : null;
+  return asked.every((row) => agrees(row, seen.get(row.number))) ? rows.filter((row) => row.unit.isDraft) : null;
 }
 
 /** Some of the rows, spread over all of them. */
@@ -53,12 +52,12 @@ function checkedRows(rows) {
   return rows.filter((_, place) => place % step === 0 || place === rows.length - 1);
 }
 
-/** How the head line of a unit ends: with its title on one line. */
-export const endOfHead = (unit) => `] ${unit.title.replace(/\r\n|\r|\n/g, ' ') || '-'}`;
+/** How the head line of a unit with this title ends: with the title on one line. */
+export const endOfHead = (title) => `] ${title.replace(/\r\n|\r|\n/g, ' ') || '-'}`;
 
 /** A draft must not be seen, and the page of a published unit, if there is one, must have its title. */
 function agrees({ unit }, page) {
-  return page === null || (!isDraft(unit) && page.split('\n')[0].endsWith(endOfHead(unit)));
+  return page === null || (!unit.isDraft && page.split('\n')[0].endsWith(endOfHead(unit.title)));
 }
 
 function draftTable(drafts) {

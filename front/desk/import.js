@@ -1,4 +1,4 @@
-// The import of a file of descriptions: it is read here first, and sent when nothing in it would be refused or lost unseen.
+// The import of a file of descriptions: it is looked at first, and sent when nothing in it would be refused or lost unseen.
 
 import { el, table } from '../shared/dom.js';
 import { fileField, textField } from '../shared/fields.js';
@@ -52,7 +52,7 @@ async function toTry(form, reader) {
 
 function importForm() {
   const file = fileField('file', text('File'), {
-    accept: '.csv,.txt,.tsv,text/csv', hint: text('CSV, at most 8 MiB and 20,000 rows. It is read here before it is sent.'),
+    accept: '.csv,.txt,.tsv,text/csv', hint: text('CSV, at most 8 MiB and 20,000 rows. It is looked at before it is imported.'),
   });
   const reader = fileReader(file.querySelector('input'));
   const form = commandForm({

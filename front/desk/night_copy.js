@@ -1,20 +1,33 @@
-// The service that tries imports on the copy of the night, and keeps the last file of each source. It may be away: then these
-// pages do without it.
+// The service that looks at files, tries imports on the copy of the night, and keeps the last file of each source. It may be
+// away: then these pages do without it.
+
+/** { ok: true, value: { advice, counts, units, boxes, text } } as look_for_page.py says, or { ok: false, kind }: `away` or `failed`. */
+export async function lookAt(bytes) {
+  const response = await post('look', bytes);
+  if (isAway(response)) return { ok: false, kind: 'away' };
+  try {
+    return response.ok ? { ok: true, value: await response.json() } : { ok: false, kind: 'failed' };
+  } catch {
+    return { ok: false, kind: 'away' };
+  }
+}
 
 /** { ok: true, value: { copy, answer, refused, kinds, differences } }, or { ok: false, kind }: `away`, `no copy` or `failed`. */
 export async function differencesFrom(source, file) {
-  const response = await post('differences', source, file);
-  if (response === null || [404, 502, 503].includes(response.status)) return { ok: false, kind: 'away' };
+  const response = await post(`differences/${encodeURIComponent(source)}`, file);
+  if (isAway(response)) return { ok: false, kind: 'away' };
   if (response.status === 409) return { ok: false, kind: 'no copy' };
   return response.ok ? { ok: true, value: await response.json() } : { ok: false, kind: 'failed' };
 }
 
 /** Gives the service a file that was imported, which it keeps as the last one of its source. */
-export const keepLastFile = (source, file) => post('imported', source, file);
+export const keepLastFile = (source, file) => post(`imported/${encodeURIComponent(source)}`, file);
 
-async function post(what, source, file) {
+const isAway = (response) => response === null || [404, 502, 503].includes(response.status);
+
+async function post(what, file) {
   try {
-    return await fetch(`/try/${what}/${encodeURIComponent(source)}`, { method: 'POST', body: file, cache: 'no-store', redirect: 'error' });
+    return await fetch(`/try/${what}`, { method: 'POST', body: file, cache: 'no-store', redirect: 'error' });
   } catch {
     return null;
   }

@@ -9,20 +9,20 @@ import { endOfHead } from './drafts.js';
 
 const SHOWN = 20; // the most names that are listed
 
-/** A button that looks through the finding aids, and what it found. */
-export function sameBoxes(units) {
+/** A button that looks through the finding aids for the containers of what is seen in a file, and what it found. */
+export function sameBoxes(seen) {
   const told = el('p', { class: 'told', role: 'status' });
   const list = el('ul', { class: 'same-boxes' });
-  const ask = el('button', { type: 'button', class: 'plain', click: () => show(units, told, list, ask) },
+  const ask = el('button', { type: 'button', class: 'plain', click: () => show(seen, told, list, ask) },
     text('Do other archives in the office name these containers?'));
   return el('div', {}, el('p', { class: 'buttons' }, ask), told, list);
 }
 
-async function show(units, told, list, ask) {
+async function show(seen, told, list, ask) {
   if (ask.getAttribute('aria-disabled') === 'true') return;
   ask.setAttribute('aria-disabled', 'true');
   told.textContent = text('Reading the public finding aids …');
-  const found = await otherArchives(units);
+  const found = await otherArchives(seen);
   ask.removeAttribute('aria-disabled');
   told.textContent = found === null ? text('The office did not answer. Try again in a minute.') : sentence(found);
   list.replaceChildren(...(found ?? []).slice(0, SHOWN).map(([name, heads]) =>
@@ -36,9 +36,9 @@ function sentence(found) {
 }
 
 /** The names of the file's containers that archives not in this file have too, with the archives' head lines. */
-async function otherArchives(units) {
-  const names = new Set(units.flatMap((unit) => unit.boxes.map(([name]) => name)));
-  const own = units.filter((unit) => unit.parent === '').map(endOfHead);
+async function otherArchives({ units, boxes }) {
+  const names = new Set(boxes);
+  const own = units.filter(([, , , , , isTop]) => isTop).map(([, , , title]) => endOfHead(title));
   const answer = await fonds();
   if (!answer.ok) return null;
   const found = new Map();

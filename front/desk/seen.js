@@ -1,13 +1,13 @@
 // What is to be seen in a file that was chosen for import, before it is sent: why it would be refused, what it would
-// empty (to be confirmed), what is odd in it, and how much it has.
+// empty (to be confirmed), what is odd in it, and how much it has. A service looks at it; while that is away somebody may
+// take the file in unseen.
 
 import { el, table } from '../shared/dom.js';
 import { note } from '../shared/form.js';
-import { text, written } from '../shared/language.js';
+import { counted, quoted, text, written } from '../shared/language.js';
 import { LARGEST_FILE } from '../shared/limits.js';
-import { DESK, deskWords } from '../shared/refusals.js';
-import { convert } from './look/convert.js';
-import { aboutRow, adviceWords, longColumn, look, readRules } from './look/look.js';
+import { CAUSES, DESK, deskWords } from '../shared/refusals.js';
+import { lookAt } from './night_copy.js';
 import { sameBoxes } from './same_boxes.js';
 
 const LEVELS = { stop: 'refused', ask: 'warns', note: 'quiet-note' };
@@ -18,19 +18,27 @@ const COUNTS = {
 const UNREAD = { ok: false, kind: 'unread here' };
 const STOPPED = { ok: false, kind: 'stopped' };
 const UNCONFIRMED = { ok: false, kind: 'unconfirmed' };
+const UNSEEN = { ok: false, kind: 'unseen' };
 
 const WORDS = {
   'unread here': [text('The file was not sent: it cannot be read here.'), text('Choose it again.')],
   stopped: [text('The file was not sent: the office would refuse it.'), text('Correct what is said above, and choose the file again.')],
   unconfirmed: [text('The file was not sent.'), text('Read what is said above. If it is meant so, tick “Take it in all the same”.')],
+  unseen: [text('The file was not sent.'), text('It was not looked at. If it is to come in so, tick “Take it in unseen”.')],
 };
 
-/** Reads the file of an input whenever one is chosen. */
+const PROBLEMS = {
+  away: [text('This file was not looked at: the service for it is not running.'),
+    text('It can be imported unseen: fields whose columns it lacks are emptied without a question, and other encodings or separators are refused.')],
+  failed: [text('This file could not be looked at.'), text('Tell whoever runs the office: its journal says why.')],
+};
+
+/** Has the file of an input looked at whenever one is chosen. */
 export function fileReader(input) {
   const reader = {
     panel: el('div', { class: 'seen-in-file', role: 'status' }), reading: Promise.resolve(),
-    seen: null, rules: null, advice: [], newest: null, converted: null,
-    toSend: (file) => (reader.converted ? new File([reader.converted.bytes], file.name) : file),
+    seen: null, problem: null, newest: null, chosen: null,
+    toSend: (file) => (typeof reader.seen?.text === 'string' ? new File([reader.seen.text], file.name) : file),
     objection: (file) => objectionTo(reader, file),
     words: (answer) => WORDS[answer.kind] ?? refusalOfRow(reader, answer),
     hasDrafts: () => reader.seen?.counts?.drafts > 0,
@@ -42,52 +50,63 @@ export function fileReader(input) {
 }
 
 async function read(reader, file) {
-  Object.assign(reader, { seen: null, advice: [], converted: null, name: file?.name, size: file?.size });
+  Object.assign(reader, { seen: null, problem: null, chosen: file });
   reader.panel.replaceChildren();
   if (!file || file.size > LARGEST_FILE) return reader.panel.replaceChildren(...(file ? [tooLarge()] : []));
   reader.panel.replaceChildren(el('p', { class: 'waiting' }, text('Reading the file …')));
+  const bytes = await bytesOf(file);
+  const answer = bytes && await lookAt(bytes);
+  if (reader.chosen !== file) return null; // another one was chosen meanwhile
+  Object.assign(reader, { seen: answer?.ok ? answer.value : null, problem: answer?.ok === false ? answer.kind : null });
+  return reader.panel.replaceChildren(...(answer ? panelParts(reader) : []));
+}
+
+/** The bytes of a file, or null if it cannot be read. */
+async function bytesOf(file) {
   try {
-    reader.rules ??= await readRules();
-    lookAtBytes(reader, new Uint8Array(await file.arrayBuffer()));
+    return await file.arrayBuffer();
   } catch {
-    return reader.panel.replaceChildren();
+    return null;
   }
-  reader.advice = reader.seen.advice.map((one) => adviceWords(reader.rules, one));
-  return reader.panel.replaceChildren(...panelParts(reader));
 }
-
-/** A file that a program saved otherwise is looked at as it would be sent, and what it was taken for is told first. */
-function lookAtBytes(reader, bytes) {
-  reader.converted = convert(bytes, reader.rules);
-  reader.seen = look(reader.converted?.bytes ?? bytes, reader.rules);
-  const { advice } = reader.seen;
-  if (reader.converted?.lost) advice.unshift(['lost_quote', reader.converted.lost]);
-  if (reader.converted) advice.unshift(['converted', { ...reader.converted, letters: orNone(reader.converted.letters) }]);
-}
-
-const orNone = (list) => (list.length > 0 ? list : [text('none')]);
 
 function tooLarge() {
   const [means, todo] = deskWords({ ok: false, kind: 'large' });
   return note('refused', el('p', {}, el('strong', {}, means), ' ', todo));
 }
 
-function panelParts({ advice, seen }) {
-  const asks = advice.some(({ level }) => level === 'ask') && !advice.some(({ level }) => level === 'stop');
-  const parts = Object.keys(LEVELS).map((level) => noteOf(level, advice.filter((one) => one.level === level)));
-  return [...parts, asks && confirmation(), seen.counts && countTable(seen.counts),
-    seen.counts?.containers > 0 && sameBoxes([...seen.reader.units.values()])].flat().filter(Boolean);
+/** A text as the service tells it, in the language of the page: front/look/wording.py says what there is. */
+function told(one) {
+  if (typeof one !== 'object') return String(one);
+  if (one.parts) return one.parts.map(told).join('');
+  if (one.list) {
+    const list = one.list.map(told).join(', ');
+    return one.more > 0 ? text('{list} and {number} more', { list, number: written(one.more) }) : list;
+  }
+  if ('number' in one) return counted(one.number, one.one, one.other);
+  return text(one.text, Object.fromEntries(Object.entries(one.values).map(([place, value]) => [place, told(value)])));
+}
+
+const hasLevel = ({ advice }, wanted) => advice.some(([, level]) => level === wanted);
+
+function panelParts({ seen, problem }) {
+  if (problem) {
+    const [means, todo] = PROBLEMS[problem];
+    return [note('warns', el('p', { 'data-advice': problem }, el('strong', {}, means), ' ', todo)), confirmation(text('Take it in unseen'))];
+  }
+  const parts = Object.keys(LEVELS).map((level) => noteOf(level, seen.advice.filter(([, one]) => one === level)));
+  return [...parts, hasLevel(seen, 'ask') && !hasLevel(seen, 'stop') && confirmation(text('Take it in all the same')),
+    seen.counts && countTable(seen.counts), seen.boxes.length > 0 && sameBoxes(seen)].flat().filter(Boolean);
 }
 
 function noteOf(level, advice) {
   if (advice.length === 0) return null;
-  const told = ({ name, says, todo }) => el('p', { 'data-advice': name }, el('strong', {}, says), ' ', todo);
-  return note(LEVELS[level], advice.map(told));
+  const line = ([name, , says, todo]) => el('p', { 'data-advice': name }, el('strong', {}, told(says)), ' ', told(todo));
+  return note(LEVELS[level], advice.map(line));
 }
 
-function confirmation() {
-  return el('p', { class: 'field check' }, el('input', { id: 'confirmed', type: 'checkbox' }),
-    el('label', { for: 'confirmed' }, text('Take it in all the same')));
+function confirmation(label) {
+  return el('p', { class: 'field check' }, el('input', { id: 'confirmed', type: 'checkbox' }), el('label', { for: 'confirmed' }, label));
 }
 
 function countTable(counts) {
@@ -100,26 +119,31 @@ function countTable(counts) {
 async function objectionTo(reader, file) {
   await reader.reading;
   if (file.size > LARGEST_FILE) return null;
-  if (!reader.seen || file.name !== reader.name || file.size !== reader.size) return UNREAD;
-  if (reader.advice.some(({ level }) => level === 'stop')) return STOPPED;
+  const { seen, problem, chosen } = reader;
+  if (!(seen || problem) || file.name !== chosen?.name || file.size !== chosen.size) return UNREAD;
+  if (seen && hasLevel(seen, 'stop')) return STOPPED;
   const box = reader.panel.querySelector('#confirmed');
-  return box && !box.checked ? UNCONFIRMED : null;
+  if (!box || box.checked) return null;
+  return problem ? UNSEEN : UNCONFIRMED;
 }
 
 function focusAfter(form, answer, reader) {
   if (answer === null) return;
-  const box = answer.kind === 'unconfirmed' ? reader.panel.querySelector('#confirmed') : null;
+  const box = ['unconfirmed', 'unseen'].includes(answer.kind) ? reader.panel.querySelector('#confirmed') : null;
   (box ?? form.elements.file).focus();
 }
 
-/** The refusal of a file by row and cause: the row of both counts, its unit, the column, and what to do. */
-function refusalOfRow({ seen, rules }, answer) {
-  if (answer.refused !== 'BadFile' || !rules) return null;
+/** The refusal of a file by row and cause: the row of both counts, its unit, and what to do. */
+function refusalOfRow({ seen }, answer) {
+  if (answer.refused !== 'BadFile') return null;
   const [means] = DESK.BadFile;
-  const [cause, todo] = rules.causes[answer.cause]?.map((words) => text(words)) ?? [text('cause {number}', { number: answer.cause }), ''];
-  const row = seen?.rows?.[answer.row - 1];
-  if (!row) return [`${means} ${cause[0].toUpperCase()}${cause.slice(1)}.`, todo];
-  const column = answer.cause === 10 ? longColumn(seen.reader, row) : null;
-  const where = { row: answer.row, sheet: row.sheet, unit: aboutRow(seen.reader, row, column), cause };
-  return [`${means} ${text('Row {row} ({sheet} in the spreadsheet){unit}: {cause}.', where)}`, todo];
+  const [cause, todo] = CAUSES[answer.cause] ?? [text('cause {number}', { number: answer.cause }), ''];
+  const unit = seen?.units.find(([row]) => row === answer.row);
+  if (unit) {
+    const [row, sheet, legacy, title] = unit;
+    const about = `, legacyId ${legacy}${title && `, ${quoted([...title].slice(0, 60).join(''))}`}`;
+    return [`${means} ${text('Row {row} ({sheet} in the spreadsheet){unit}: {cause}.', { row, sheet, unit: about, cause })}`, todo];
+  }
+  if (answer.row > 0) return [`${means} ${text('Row {row}: {remark}.', { row: answer.row, remark: cause })}`, todo];
+  return [`${means} ${cause[0].toUpperCase()}${cause.slice(1)}.`, todo];
 }

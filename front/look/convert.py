@@ -5,6 +5,7 @@ from dataclasses import dataclass
 
 from csv_records import BLANK, lost_quote, records
 from look_at_values import GARBLED
+from wording import text
 
 SEP = re.compile("sep=([^\r\n])?(\r\n|\n|\r|$)", re.I)
 QUOTED = re.compile('[",\r\n]')
@@ -15,11 +16,11 @@ SHOWN = 5
 
 @dataclass
 class Converted:
-    """What a file was taken for, and what it becomes: its encoding, the name of its separator, its first values, words
-    with letters beyond ASCII, the first field that loses a quotation mark, and the new bytes."""
+    """What a file was taken for, and what it becomes: its encoding, the name of its separator (a text), its first values,
+    words with letters beyond ASCII, the first field that loses a quotation mark, and the new bytes."""
 
     encoding: str
-    separator: str
+    separator: dict
     values: list
     letters: list
     lost: dict
@@ -31,15 +32,17 @@ def convert(data, rules):
     decoded = decode(data)
     if not decoded:
         return None
-    text, encoding = decoded
-    text, separator = split_by(text.removeprefix("\ufeff"), rules)
-    if not separator or (encoding == "UTF-8" and separator == "," and text == decoded[0].removeprefix("\ufeff")):
+    whole, encoding = decoded
+    whole = whole.removeprefix("\ufeff")
+    rest, separator = split_by(whole, rules)
+    if not separator or (encoding == "UTF-8" and separator == "," and rest == whole):
         return None
-    rows, is_open = records(text, separator)
+    rows, is_open = records(rest, separator)
     if not rows or is_open:
         return None
-    name = {",": "commas", **rules["separators"]}[separator]
-    return Converted(encoding, name, first_values(rows), foreign_words(text), lost_quote(text, separator),
+    mark = rules["separators"].get(separator)
+    name = text(mark) if mark else text("commas")
+    return Converted(encoding, name, first_values(rows), foreign_words(rest), lost_quote(rest, separator),
                      write(rows).encode())
 
 
@@ -57,25 +60,25 @@ def decode(data):
 def decoded_as(data, codec, name):
     """The text and the name; None if the bytes do not fit. UTF-8 with a fault in it does not count as Windows-1252."""
     try:
-        text = data.decode(codec)
+        file = data.decode(codec)
     except UnicodeDecodeError:
         return None
-    if text.lstrip(BLANK).startswith(("<", "PK\x03\x04", "%PDF", "{\\rtf")):
+    if file.lstrip(BLANK).startswith(("<", "PK\x03\x04", "%PDF", "{\\rtf")):
         return None
-    is_mixed = name == "Windows-1252" and (UNDEFINED.search(text) or GARBLED.search(text))
-    return None if is_mixed else (text, name)
+    is_mixed = name == "Windows-1252" and (UNDEFINED.search(file) or GARBLED.search(file))
+    return None if is_mixed else (file, name)
 
 
-def split_by(text, rules):
+def split_by(whole, rules):
     """The text without Excel's line about its separator, and the separator; None if there is no sign of one."""
-    if found := SEP.match(text):
+    if found := SEP.match(whole):
         mark = found[1] or ","
-        return text[found.end():], mark if mark == "," or mark in rules["separators"] else None
+        return whole[found.end():], mark if mark == "," or mark in rules["separators"] else None
     for mark in (",", *rules["separators"]):
-        rows, _ = records(text, mark, 1)
+        rows, _ = records(whole, mark, 1)
         if rows and any(re.sub("[^a-z0-9]", "", name.lower()) == "legacyid" for name in rows[0].fields):
-            return text, mark
-    return text, ","
+            return whole, mark
+    return whole, ","
 
 
 def first_values(rows):
@@ -85,9 +88,9 @@ def first_values(rows):
     return [one[:60] for one in values[:SHOWN]]
 
 
-def foreign_words(text):
+def foreign_words(whole):
     """The first words that have letters beyond ASCII: these show whether the encoding is right."""
-    words = dict.fromkeys(FOREIGN.findall(text))
+    words = dict.fromkeys(FOREIGN.findall(whole))
     return [one[:40] for one in list(words)[:SHOWN]]
 
 

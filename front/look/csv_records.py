@@ -11,7 +11,7 @@ END = "\x1f"  # a line of our own after the file: a quotation mark that is never
 LINE_END = re.compile("\r\n|\n|\r")
 
 
-@dataclass
+@dataclass(slots=True)
 class Row:
     """A record: its number as the office counts it, and as a spreadsheet does, which counts empty lines too."""
 

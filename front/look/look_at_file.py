@@ -6,19 +6,19 @@ import re
 from csv_records import BLANK, LINE_END, Row, entries, lost_quote, place_of, records
 from look_at_units import look_at_units
 from look_at_values import look_at_values
-from wording import count_words
+from wording import counted, joined, quoted, text
 
-FIRST_BYTES: tuple[tuple[bytes, str, dict[str, str]], ...] = (
+FIRST_BYTES: tuple[tuple[bytes, str, dict[str, dict]], ...] = (
     (b"PK\x03\x04", "workbook", {}),
     (b"\xd0\xcf\x11\xe0", "workbook", {}),
     (b"\xff\xfe", "utf16", {}),
     (b"\xfe\xff", "utf16", {}),
-    (b"%PDF", "other_kind", {"kind": "a PDF"}),
-    (b"{\\rtf", "other_kind", {"kind": "a document of a word processor"}),
+    (b"%PDF", "other_kind", {"kind": text("a PDF")}),
+    (b"{\\rtf", "other_kind", {"kind": text("a document of a word processor")}),
 )
 
 
-@dataclass
+@dataclass(slots=True)
 class Unit:
     """The first row of a legacyId, by the columns that matter here."""
 
@@ -26,6 +26,7 @@ class Unit:
     legacy: str
     parent: str
     identifier: str
+    title: str
     culture: str
     status: str
     boxes: list
@@ -38,10 +39,11 @@ class Unit:
 
 @dataclass
 class Seen:
-    """What was found: advice as pairs of a name and its values, and counts (none if the rows cannot be read)."""
+    """What was found: advice as pairs of a name and its values; counts and units (none if the rows cannot be read)."""
 
     advice: list = field(default_factory=list)
     counts: dict = field(default_factory=dict)
+    units: list = field(default_factory=list)
 
     def say(self, name, **values):
         """Adds an advice with its values."""
@@ -58,17 +60,17 @@ class Look:
     def at(self, data):
         """Returns what is seen of a file with these bytes."""
         seen = Seen()
-        text = self.text_of(data, seen)
-        if text is None:
+        file = self.text_of(data, seen)
+        if file is None:
             return seen
-        rows, is_open = records(text)
+        rows, is_open = records(file)
         if not rows:
             seen.say("empty")
-        elif self.has_header(text, rows, seen):
+        elif self.has_header(file, rows, seen):
             self.look_at_columns(rows, seen)
             if is_open:
                 seen.say("unclosed", row=rows[-1].number, sheet=rows[-1].sheet)
-            if lost := lost_quote(text):
+            if lost := lost_quote(file):
                 seen.say("lost_quote", **lost)
             self.look_at_rows(rows, seen)
         return seen
@@ -85,40 +87,39 @@ class Look:
         if 0 in data[:2]:
             return seen.say("utf16")
         try:
-            text = data.decode("utf-8")
+            file = data.decode("utf-8")
         except UnicodeDecodeError as wrong:
             return seen.say("not_utf8", **place_of(data, wrong.start))
-        text = text.removeprefix("\ufeff")
-        if text.lstrip(BLANK).startswith("<"):
-            return seen.say("other_kind", kind="XML or HTML")
-        return text
+        file = file.removeprefix("\ufeff")
+        if file.lstrip(BLANK).startswith("<"):
+            return seen.say("other_kind", kind=text("XML or HTML"))
+        return file
 
-    def has_header(self, text, rows, seen):
+    def has_header(self, file, rows, seen):
         """Whether the first record names legacyId; else what is in the way is said."""
         header = rows[0].fields
         if "legacyId" in header:
             return True
-        if text.lower().startswith("sep="):
-            seen.say("sep_line", line=LINE_END.split(text)[0])
-        elif found := next(
-            (mark for mark in self.rules["separators"] if is_header(records(text, mark, 1)[0][0].fields)), None
-        ):
-            seen.say("separator", separator=self.rules["separators"][found])
+        if file.lower().startswith("sep="):
+            seen.say("sep_line", line=LINE_END.split(file, maxsplit=1)[0])
+        elif mark := next((name for one, name in self.rules["separators"].items()
+                           if is_header(records(file, one, 1)[0][0].fields)), None):
+            seen.say("separator", separator=text(mark))
         elif is_header(header):
             seen.say("spelling", found=next(name for name in header if fold_name(name) == "legacyid"),
                      column="legacyId")
-        elif row := self.later_header(text):
+        elif row := self.later_header(file):
             seen.say("title_line", sheet=row.sheet, lines=row.sheet - 1)
         elif kind := self.other_export(header):
-            seen.say("other_export", kind=kind)
+            seen.say("other_export", kind=text(kind))
         else:
             seen.say("no_legacy_id", header=header)
         return False
 
-    def later_header(self, text):
+    def later_header(self, file):
         """The header that stands below something else, whatever separates its columns."""
         for mark in (",", *self.rules["separators"]):
-            for row in records(text, mark, self.limits["above"])[0]:
+            for row in records(file, mark, self.limits["above"])[0]:
                 if is_header(row.fields):
                     return row
         return None
@@ -133,17 +134,18 @@ class Look:
         """Says which columns are there twice, missing, or not read."""
         header = rows[0].fields
         if kind := self.other_export(header):
-            seen.say("looks_other", kind=kind)
+            seen.say("looks_other", kind=text(kind))
         twice = [name for name in self.read if header.count(name) > 1]
         if twice:
             seen.say("header_twice", columns=twice)
         missing = [name for name in self.read if name not in header]
         unread = [name for name in dict.fromkeys(header) if name and name not in self.read]
-        meant = {name: self.find_meant(name, missing) for name in unread}
+        known = {fold_name(column).removesuffix("s"): column for column in reversed(missing)}
+        meant = {name: self.find_meant(name, missing, known) for name in unread}
         for name, column in meant.items():
             if column:
                 seen.say("similar", found=name, column=column)
-        emptied = [f"{label} ({name})" for name, label in self.rules["elements"].items() if name in missing]
+        emptied = [joined(text(label), f" ({name})") for name, label in self.rules["elements"].items() if name in missing]
         if emptied:
             seen.say("emptied", columns=emptied)
         if "parentId" in missing:
@@ -154,19 +156,18 @@ class Look:
 
     def look_at_unread(self, rows, others, seen):
         """Says which columns are not read: those with values, and those that are blank."""
-        places = {name: [place for place, one in enumerate(rows[0].fields) if one == name] for name in others}
         filled = {place for row in rows[1:] for place, value in enumerate(row.fields) if value}
+        named = {name for place, name in enumerate(rows[0].fields) if place in filled}
         for advice, is_filled in (("unread", True), ("unread_blank", False)):
-            columns = [name for name in others if filled.isdisjoint(places[name]) != is_filled]
+            columns = [name for name in others if (name in named) == is_filled]
             if columns:
                 seen.say(advice, columns=columns)
 
-    def find_meant(self, name, missing):
-        """The missing column that a name seems to mean, or None."""
+    def find_meant(self, name, missing, known):
+        """The missing column that a name seems to mean, or None; known: the missing ones without case, marks and plural."""
         one = fold_name(name)
-        for column in missing:
-            if one.removesuffix("s") == fold_name(column).removesuffix("s"):
-                return column
+        if one.removesuffix("s") in known:
+            return known[one.removesuffix("s")]
         column = self.rules["also"].get(one)
         return column if column in missing else None
 
@@ -185,14 +186,14 @@ class Look:
         if not reader.faults:
             look_at_units(reader, "publicationStatus" in header, self.limits["depth"], seen)
         look_at_values(filled, reader, seen)
-        drafts = sum(unit.is_draft for unit in reader.units.values())
+        seen.units = list(reader.units.values())
         seen.counts = {
             "rows": sum(any(row.fields) for row in filled),
-            "units": len(reader.units),
-            "drafts": drafts,
+            "units": len(seen.units),
+            "drafts": sum(unit.is_draft for unit in seen.units),
             "translations": reader.translations,
-            "tops": sum(not unit.parent for unit in reader.units.values()),
-            "containers": len({box for unit in reader.units.values() for box in unit.boxes}),
+            "tops": sum(not unit.parent for unit in seen.units),
+            "containers": len({box for unit in seen.units for box in unit.boxes}),
         }
 
     def look_at_repeats(self, rows, reader, seen):
@@ -202,7 +203,7 @@ class Look:
         again = [row for row in rows[1:] if row.fields == rows[0].fields]
         if repeat:
             seen.say("repeated", row=repeat.number, sheet=repeat.sheet,
-                     with_header=", header and all" if repeat in again else "")
+                     with_header=text(", header and all") if repeat in again else "")
         elif reader.faults:
             self.say_fault(reader, seen)
         if again and not repeat:
@@ -212,16 +213,17 @@ class Look:
         """Says what the office would refuse first."""
         cause, row, column = reader.faults[0]
         legacy, title = reader.value(row, "legacyId"), reader.value(row, "title")
-        about = f", column {column}" if column else ""
-        about += f", legacyId {legacy}" if legacy else ""
-        about += f", “{title[:60]}”" if title else ""
+        about = [column and text("column {column}", column=column), legacy and f"legacyId {legacy}",
+                 title and quoted(title[:60])]
         is_equal = cause == 7 and reader.units[legacy].row.fields == row.fields
-        means, todo = self.rules["causes"]["7 equal" if is_equal else str(cause)]
-        more = f" {count_words(len(reader.faults) - 1, 'row')} more cannot be read either." if len(
-            reader.faults) > 1 else ""
-        fields = f" ({len(row.fields)}, not {len(reader.header)})" if cause == 5 else ""
-        seen.say("fault", row=row.number, sheet=row.sheet, unit=about, cause=means + fields, todo=todo + more,
-                 number=cause)
+        means, todo = map(text, self.rules["causes"]["7 equal" if is_equal else str(cause)])
+        if cause == 5:
+            means = joined(means, " ", text("({found}, not {wanted})", found=len(row.fields), wanted=len(reader.header)))
+        if others := len(reader.faults) - 1:
+            more = counted(others, "{number} row more cannot be read either.", "{number} rows more cannot be read either.")
+            todo = joined(todo, " ", more)
+        seen.say("fault", row=row.number, sheet=row.sheet, unit=joined(*(joined(", ", one) for one in about if one)),
+                 cause=means, todo=todo, number=cause)
 
 
 def repeated_from(rows, reader):
@@ -269,8 +271,7 @@ class Reader:
             self.units[legacy] = Unit(
                 row,
                 legacy,
-                *(self.value(row, name) for name in ("parentId", "identifier", "culture")),
-                self.value(row, "publicationStatus"),
+                *(self.value(row, name) for name in ("parentId", "identifier", "title", "culture", "publicationStatus")),
                 self.boxes(row),
             )
 

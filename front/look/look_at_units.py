@@ -2,6 +2,8 @@
 
 import re
 
+from wording import joined, quoted, text
+
 ROUNDED = re.compile(r"[0-9]+([.,][0-9]+)?[Ee]\+[0-9]+")
 DECIMALS = re.compile(r"([0-9]+)[.,]0+")
 LONGEST_CIRCLE = 200
@@ -17,7 +19,7 @@ def look_at_units(reader, has_status, depth, seen):
         seen.say("all_drafts")
     odd = dict.fromkeys(unit.status for unit in units.values() if unit.status.lower() not in ("published", "draft", ""))
     if odd:
-        seen.say("odd_status", words=[f"“{one}”" for one in odd])
+        seen.say("odd_status", words=[quoted(one) for one in odd])
     look_at_parents(units, seen)
     look_at_depths(units, depth, seen)
     look_at_numbers(units, seen)
@@ -67,7 +69,7 @@ class Parents:
             return "parents_circle" if self.circle(unit) else "parents_below"
         for name, change, known in (("parents_zeros", drop_zeros, self.bare),
                                     ("parents_decimals", drop_decimals, self.whole),
-                                    ("parents_hidden", lambda text: AT_END.sub("", text), self.shown)):
+                                    ("parents_hidden", lambda parent: AT_END.sub("", parent), self.shown)):
             if change(unit.parent) in known:
                 return name
         return "parents_identifiers" if unit.parent in self.by_identifier else "parents_elsewhere"
@@ -83,10 +85,10 @@ class Parents:
     def about(self, name, unit):
         """More of the first unit of an advice."""
         if name == "parents_circle":
-            return " below ".join([*self.circle(unit)[:8], unit.legacy])
+            return joined(*self.circle(unit)[:8], unit.legacy, mark=joined(" ", text("below"), " "))
         if name == "parents_identifiers":
             other = self.by_identifier[unit.parent]
-            return f"row {other.row.number}, whose legacyId is {other.legacy}"
+            return text("row {row}, whose legacyId is {legacy}", row=other.row.number, legacy=other.legacy)
         return ""
 
 
@@ -108,7 +110,7 @@ def look_at_numbers(units, seen):
     groups = {}
     for legacy in units:
         groups.setdefault(drop_zeros(legacy), []).append(legacy)
-    pairs = [" and ".join(group[:2]) for group in groups.values() if len(group) > 1]
+    pairs = [text("{one} and {other}", one=group[0], other=group[1]) for group in groups.values() if len(group) > 1]
     if pairs:
         seen.say("zeros", pairs=pairs)
     rounded = [unit for unit in units.values() if ROUNDED.fullmatch(unit.legacy) or ROUNDED.fullmatch(unit.parent)]
@@ -165,7 +167,7 @@ def look_at_cultures(reader, seen):
     """Says which languages are not written as AtoM does, and whether all rows are in another one than English."""
     odd = [one for one in reader.cultures if one and not CULTURE.fullmatch(one)]
     if odd:
-        seen.say("odd_culture", words=[f"“{one}”" for one in odd])
+        seen.say("odd_culture", words=[quoted(one) for one in odd])
     cultures = {unit.culture for unit in reader.units.values()}
     if len(cultures) == 1 and reader.translations == 0 and not {one.lower() for one in cultures} & {"", "en"}:
         seen.say("one_language", culture=cultures.pop())
@@ -183,7 +185,7 @@ def look_at_boxes(units, seen):
         for box in unit.boxes:
             archives.setdefault(box, set()).add(tops[unit.legacy])
             alike.setdefault(tuple(drop_case(part) for part in box), {})[box] = True
-    groups = [" / ".join(f"“{box_words(box)}”" for box in group) for group in alike.values() if len(group) > 1]
+    groups = [joined(*(quoted(box_words(box)) for box in group), mark=" / ") for group in alike.values() if len(group) > 1]
     if groups:
         seen.say("boxes_alike", boxes=groups)
     shared = [box_words(box) for box, some in archives.items() if len(some) > 1]
@@ -196,9 +198,9 @@ def box_words(box):
     return ", ".join(part for part in box if part)
 
 
-def drop_case(text):
-    """A text without case, and with one space for several."""
-    return " ".join(part for part in re.split("[ \t\r\n\u00a0]+", text.lower()) if part)
+def drop_case(words):
+    """Words without case, and with one space for several."""
+    return " ".join(part for part in re.split("[ \t\r\n\u00a0]+", words.lower()) if part)
 
 
 def drop_zeros(number):

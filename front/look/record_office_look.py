@@ -2,8 +2,8 @@
 """Look at a CSV file of descriptions before an office imports it, and make of files that programs save otherwise what an
 office reads.
 
-The rules and their words are those of the desk's import page (rules.json beside its modules), and the advice is the
-same as there. Nothing is sent anywhere, and the file is not changed.
+The advice is that of the desk's import page, for which a service calls the same modules (rules.json has its words). Nothing
+is sent anywhere, and the file is not changed.
 """
 
 import argparse
@@ -13,7 +13,7 @@ import sys
 
 from convert import convert
 from look_at_file import Look
-from wording import read_rules, words
+from wording import advice, in_english, read_rules
 
 LEVELS = {"stop": "refused: ", "ask": "look first: ", "note": "note: "}
 
@@ -40,40 +40,40 @@ def main(arguments=None):
 def look_at(path, new, rules):
     """Looks at one file, and converts it if NEW is given; the exit status."""
     try:
-        data = path.read_bytes()
+        data, lost = path.read_bytes(), False
         if new:
-            data = write_converted(path, data, new, rules)
+            data, lost = write_converted(path, data, new, rules)
     except OSError as fault:
         print(f"{fault.filename or path}: {fault.strerror}", file=sys.stderr)
         return 3
     levels = show(path, Look(rules).at(data), rules)
-    return 1 if {"stop", "ask"} & levels else 0
+    return 1 if lost or {"stop", "ask"} & levels else 0
 
 
 def write_converted(path, data, new, rules):
-    """Says what the file was taken for, writes what it becomes, and returns that; the bytes as they are if nothing is
-    to be converted."""
+    """Says what the file was taken for, writes what it becomes, and returns that, and whether a quotation mark is lost in
+    it; the bytes as they are if nothing is to be converted."""
     found = convert(data, rules)
     if not found:
         print(f"{path}: there is nothing to convert, and {new} is not written")
-        return data
-    print(f"{path} is taken for {found.encoding} with {found.separator} between the columns:")
+        return data, False
+    print(f"{path} is taken for {found.encoding} with {in_english(found.separator)} between the columns:")
     for label, some in (("the first values", found.values), ("words that show the encoding", found.letters)):
         print(f"  {label}: {' | '.join(some) or 'none'}")
     if found.lost:
-        print(f"  {LEVELS['ask']}" + " ".join(words(rules, "lost_quote", found.lost)[1:]))
+        print(f"  {LEVELS['ask']}" + " ".join(map(in_english, advice(rules, "lost_quote", found.lost)[1:])))
     with new.open("xb") as file:
         file.write(found.data)
     print(f"{new} is written. Look at these values before you import it.")
-    return found.data
+    return found.data, bool(found.lost)
 
 
 def show(path, seen, rules):
     """Prints what was seen of a file, the gravest first, and returns the levels."""
     print(f"{path}:")
-    told = sorted((words(rules, name, values) for name, values in seen.advice), key=lambda one: list(LEVELS).index(one[0]))
+    told = sorted((advice(rules, name, values) for name, values in seen.advice), key=lambda one: list(LEVELS).index(one[0]))
     for level, says, todo in told:
-        print(f"  {LEVELS[level]}{says}{' ' + todo if todo else ''}")
+        print(f"  {LEVELS[level]}{in_english(says)}{' ' + in_english(todo) if todo else ''}")
     if seen.counts:
         print("  " + ", ".join(f"{name}: {number:,}" for name, number in seen.counts.items()))
     return {level for level, *_ in told}

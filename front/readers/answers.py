@@ -21,7 +21,7 @@ START = (0, 0)  # the place before all others
 @dataclass
 class Query:
     """What is asked for. within: a unit that has it; first, last: years; after: the place of the unit that was shown last;
-    by_date: earliest first."""
+    by_date: earliest first; without: phrases that may not occur."""
 
     phrases: list
     within: int | None = None
@@ -29,6 +29,7 @@ class Query:
     last: int | None = None
     after: tuple = START
     by_date: bool = False
+    without: tuple = ()
 
     def meets(self, years):
         """Whether the span from the least to the greatest year of a unit meets the years that are asked for."""
@@ -38,10 +39,18 @@ class Query:
         return (begins is not None and (self.first is None or self.first <= ends)
                 and (self.last is None or begins <= self.last))
 
-    def holds(self, head, lines):
-        """Whether each phrase occurs in the head or in a value."""
-        texts = [reading for text in (head, *map(value_of, lines)) for reading in folding.readings_of(text)]
-        return all(folding.occurs(phrase, texts) for phrase in self.phrases)
+    def lacks(self, texts):
+        """The phrases that occur in none of these texts."""
+        readings = [reading for text in texts for reading in folding.readings_of(text)]
+        return [phrase for phrase in self.phrases if not folding.occurs(phrase, readings)]
+
+    def lacked_by(self, head, lines):
+        """The phrases that a unit does not have itself: all of them, if it has what may not occur."""
+        texts = (head, *map(value_of, lines))
+        readings = [reading for text in texts for reading in folding.readings_of(text)]
+        if any(folding.occurs(phrase, readings) for phrase in self.without):
+            return self.phrases
+        return self.lacks(texts)
 
 
 class Finder:
@@ -119,9 +128,17 @@ class Finder:
             self.gone.add(number)
         elif page and own_digest(page.head, lines) != own:
             self.doubts.add(number)
-        if page is None or not self.query.holds(page.head, lines) or not self._is_at(place, years_of(lines)):
+        if page is None or not self._is_at(place, years_of(lines)):
             return None
-        way = self._way(number) if shown or self.query.within is not None else None
+        lacking = self.query.lacked_by(page.head, lines)
+        if index.is_in_context(self.query, place) != bool(lacking) or len(lacking) == len(self.query.phrases):
+            return None
+        # What is closed now may once have had the words: then pages above it are not asked for, which others could see.
+        if not all(index.stands_above(self.db, number, phrase) for phrase in lacking):
+            return None
+        way = self._way(number) if shown or lacking or self.query.within is not None else None
+        if lacking and (way is None or set(lacking) & set(self.query.lacks([step["head"] for step in way]))):
+            return None
         if self.query.within is not None and (way is None or self.query.within not in [
                 *(step["unit"] for step in way), number]):
             return None
@@ -133,7 +150,7 @@ class Finder:
     def _is_at(self, place, years):
         """Whether the years are those that were asked for and, in order of dates, those of the unit's place."""
         first = index.UNDATED if years[0] is None else years[0]
-        return self.query.meets(years) and not (self.query.by_date and first != place[0])
+        return self.query.meets(years) and not (self.query.by_date and first != place[0] % index.CONTEXT)
 
     def _page(self, number):
         """The page of a unit, read once, or None."""

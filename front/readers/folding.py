@@ -11,14 +11,14 @@ Scripts without spaces between words are cut into pairs of letters, so that any 
 front/shared/words.json has the tables; front/shared/folding.js reads names by them too."""
 
 import functools
-import json
-import pathlib
 import re
 import sys
 import unicodedata
 from typing import NamedTuple
 
 import snowballstemmer
+
+from texts import read_shared
 
 LONGEST = 1000  # characters that are read of what was typed
 MOST = 64  # words or phrases
@@ -27,9 +27,7 @@ STEMMERS = {"da": "danish", "de": "german", "el": "greek", "en": "english", "es"
             "fr": "french", "it": "italian", "nl": "dutch", "no": "norwegian", "pt": "portuguese", "ru": "russian",
             "sv": "swedish"}
 
-_HERE = pathlib.Path(__file__).resolve().parent.parent  # the tables are served with the pages
-TABLES = json.loads(next(path for path in (_HERE / "shared/words.json", _HERE / "front/shared/words.json")
-                         if path.exists()).read_text("utf-8"))
+TABLES = read_shared("words.json")
 LETTERS = str.maketrans(TABLES["letters"] | dict(zip(TABLES["traditional"], TABLES["simplified"]))
                         | {chr(katakana): chr(katakana - 0x60) for katakana in range(0x30a1, 0x30f7)})
 OTHER = str.maketrans(TABLES["other"])
@@ -203,15 +201,16 @@ def read_typed(typed, language=None):
     """What was typed, as phrases. A word is a phrase of one; quotation marks, hyphens and apostrophes make longer ones,
     and initials with points are one. A word that ends with * may go on. What has no letter and no digit is left out."""
     phrases = []
-    for place, piece in enumerate(QUOTES.split(_shortened(typed))):
-        for text in [piece] if place % 2 else _with_initials(SPACES.split(piece)):
+    for place, piece in enumerate(QUOTES.split(shortened(typed))):
+        for text in [piece] if place % 2 else with_initials(SPACES.split(piece)):
             if folded_words(text):
-                phrases.append(_phrase(text, bool(place % 2), language))
+                phrases.append(phrase_of(text, bool(place % 2), language))
     return list(dict.fromkeys(phrases))[:MOST]
 
 
-def _phrase(text, quoted, language):
-    """One phrase. Of a script without spaces its last letter is not by itself in a text where it goes on."""
+def phrase_of(text, quoted, language):
+    """One phrase, which stood between quotation marks or not. Of a script without spaces its last letter is not by itself in
+    a text where it goes on."""
     kinds = [word.kind for word in words_of(text)]
     cut = kinds[-2:] == ["paired", "last"]
     readings = tuple(dict.fromkeys(tuple(reading[:-1] if cut else reading) for reading in readings_of(text)))
@@ -224,7 +223,7 @@ def is_cut(typed):
     return len(typed) > LONGEST or sum(bool(folded_words(piece)) for piece in SPACES.split(typed)) > MOST
 
 
-def _shortened(typed):
+def shortened(typed):
     """What is read of what was typed: whole words of it."""
     if len(typed) <= LONGEST:
         return typed
@@ -232,7 +231,7 @@ def _shortened(typed):
     return typed[:last]
 
 
-def _with_initials(pieces):
+def with_initials(pieces):
     """The pieces, of which initials that follow each other are one."""
     together = []
     for piece in pieces:

@@ -15,6 +15,7 @@ LAST_ARCHIVE = 2**63 // ARCHIVE - 1  # and those after it together
 KIN = 40  # other forms of a word that are looked for
 READ = 400  # words of the index that are read to find these
 UNDATED = 10**5  # in order of dates, units without a year come last
+CONTEXT = 2 * 10**5  # is added to the year of a unit of which some words stand above it: it comes after the others
 # round: changed: 1 if words have come, 2 if some were forgotten, which may still be somewhere in the file.
 # words: with lists of their own for what begins with one, two or three letters, which thousands of words may do.
 # vocabulary: each word of the index, from the end of the round that has read it.
@@ -221,29 +222,70 @@ def forget_gone(db, tops):
 
 def propose(db, query):
     """The units that may have the phrases: pairs of a unit's place and its number. In the order of archives those whose
-    head has all come first; a place is a group (0 or 1) and a row of `words`. In the order of dates it is a year and a
-    row. query.after: the place that was shown last."""
-    wanted = " AND ".join(f"({' OR '.join(spelled(db, phrase))})" for phrase in query.phrases)
+    head has all come first, then those that have all, then those that have some while heads above have the others; a
+    place is this group (0 to 2) and a row of `words`. In the order of dates it is a year and a row. query.after: the
+    place that was shown last."""
+    wanted = [f"({' OR '.join(spelled(db, phrase))})" for phrase in query.phrases]
+    out = "".join(f" NOT ({' OR '.join(spelled(db, phrase))})" for phrase in query.without)
     limits, values = limits_of(db, query)
+    all_of_them = f"({' AND '.join(wanted)})"
+    in_head = f"{{head}} : {all_of_them}"
+    above, some = in_context(wanted)
     if query.by_date:
-        yield from by_date(db, wanted, limits, [*values, *query.after])
+        yield from by_date(db, f"{all_of_them}{out}", limits, values, query.after, 0)
+        if above:
+            yield from by_date(db, f"({some}){out}", limits + above, [*values, *both(wanted)], query.after, CONTEXT)
         return
     statement = ("SELECT words.rowid, unit.n FROM words JOIN unit ON unit.n = words.rowid % ? "
-                 f"WHERE words MATCH ? AND words.rowid > ?{limits} ORDER BY words.rowid")
-    in_head = f"{{head}} : ({wanted})"
-    for group, match in enumerate((in_head, f"({wanted}) NOT {in_head}")):
+                 "WHERE words MATCH ? AND words.rowid > ?{} ORDER BY words.rowid")
+    groups = [(in_head, "", []), (f"({all_of_them} NOT {in_head})", "", [])]
+    for group, (match, more, others) in enumerate(groups + [(f"({some})", above, both(wanted))] * bool(above)):
         if query.after[0] <= group:
             first = query.after[1] if query.after[0] == group else 0
-            for row, number in db.execute(statement, [ARCHIVE, match, first, *values]):
+            given = [ARCHIVE, f"{match}{out}", first, *values, *others]
+            for row, number in db.execute(statement.format(limits + more), given):
                 yield (group, row), number
 
 
-def by_date(db, wanted, limits, values):
-    """As propose() has it, from the earliest year on."""
-    statement = ("SELECT ifnull(unit.first, ?) AS year, words.rowid, unit.n FROM words "
+def in_context(wanted):
+    """What a statement demands of a unit that has some of several phrases itself, and the others in heads above; and what is
+    asked of its own words. Nothing for one phrase. One that has all is proposed again: it may have had them once, when more
+    of it was shown, and nobody is to know this by its place."""
+    if len(wanted) < 2:
+        return "", ""
+    one = (" AND (words.rowid IN (SELECT rowid FROM words WHERE words MATCH ?) OR unit.n IN ("
+           "WITH RECURSIVE below(n) AS (SELECT n FROM unit WHERE parent IN (SELECT rowid % ? FROM words WHERE words MATCH ?) "
+           "UNION SELECT unit.n FROM unit JOIN below ON unit.parent = below.n) SELECT n FROM below))")
+    return one * len(wanted), " OR ".join(wanted)
+
+
+def both(wanted):
+    """The values of that: each phrase as a unit's own, and in a head above."""
+    return [value for phrase in wanted for value in (phrase, ARCHIVE, f"{{head}} : {phrase}")]
+
+
+def stands_above(db, number, phrase):
+    """Whether a head above a unit may have a phrase."""
+    numbers = above(db, number)
+    found = db.execute("SELECT top FROM unit WHERE n = ?", (number,)).fetchone()
+    places = ", ".join("?" for _ in numbers)
+    statement = f"SELECT 1 FROM words WHERE words MATCH ? AND rowid IN ({places}) LIMIT 1"
+    rows = [row_of(found[0], n) for n in numbers] if found else []
+    match = f"{{head}} : ({' OR '.join(spelled(db, phrase))})"
+    return bool(rows) and db.execute(statement, [match, *rows]).fetchone() is not None
+
+
+def is_in_context(query, place):
+    """Whether a place is that of a unit of which some words stand above it."""
+    return place[0] >= CONTEXT if query.by_date else place[0] == 2
+
+
+def by_date(db, match, limits, values, after, later):
+    """As propose() has it, from the earliest year on; `later` is added to each year."""
+    statement = ("SELECT ifnull(unit.first, ?) + ? AS year, words.rowid, unit.n FROM words "
                  f"JOIN unit ON unit.n = words.rowid % ? WHERE words MATCH ?{limits} AND (year, words.rowid) > (?, ?) "
                  "ORDER BY year, words.rowid")
-    for year, row, number in db.execute(statement, [UNDATED, ARCHIVE, f"({wanted})", *values]):
+    for year, row, number in db.execute(statement, [UNDATED, later, ARCHIVE, match, *values, *after]):
         yield (year, row), number
 
 

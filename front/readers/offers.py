@@ -8,6 +8,7 @@ import time
 
 import folding
 import index
+import questions
 from answers import Finder, Query
 
 OFFERED, TRIED, SECONDS = 6, 200, 1.5  # of one answer: offers; words that are tried for one that was typed; time
@@ -60,8 +61,8 @@ def found_now(answer, text, language, end, exactly=None):
     if left <= 0:
         return None
     phrases = [phrase._replace(language=None) if (exactly,) in phrase.readings else phrase
-               for phrase in folding.read_typed(text, language)]
-    asked = Query(phrases, query.within, query.first, query.last)
+               for phrase in questions.read(text, language).phrases]
+    asked = Query(phrases, query.within, query.first, query.last, without=query.without)
     return next(iter(Finder(answer.db, answer.ask, asked, 1, answer.fonds, False).find(left).units), None)
 
 

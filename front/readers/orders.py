@@ -6,24 +6,15 @@ import time
 from typing import NamedTuple
 
 from asking import give_order
-from texts import N_
+from texts import N_, read_shared
 
 PATIENCE = 130  # seconds that an order may wait: longer than the queue lets it
 MOST = 50  # containers of a form
 AT_ONCE = 12  # orders from one address, and then so many a minute as the service is told
 ADDRESSES = 10_000  # that are remembered
 
-# What a refusal means to a reader, and what to do: the numbers are those of docs/RULES.md.
-REFUSALS = {
-    2: N_("There is no reader’s ticket with this number. Please look at your ticket and type its number again."),
-    4: N_("Your ticket has expired. Please ask at the desk: they can renew it."),
-    5: N_("This container cannot be ordered with your ticket today. Something in it is closed or not yet published. "
-          "Please ask at the desk."),
-    6: N_("You have ordered this container already. There is nothing more to do: your order is waiting, or you have "
-          "the container."),
-    7: N_("You have placed all the orders that a ticket may place in a day. You can order again on the next day."),
-    23: N_("The office can take no more orders. Please tell the desk."),
-}
+# What a refusal means to a reader, and what to do, by the names of docs/RULES.md.
+REFUSALS = read_shared("refusals.json")["readers"]
 OTHER = N_("Your order was not taken. Please ask at the desk.")
 UNSENT = N_("The office does not answer. Your order was not passed on. Please try again in a minute.")
 UNCERTAIN = N_("We cannot tell whether your order was taken. Please send it once more: if it was taken, you will be told "
@@ -31,7 +22,7 @@ UNCERTAIN = N_("We cannot tell whether your order was taken. Please send it once
 OFTEN = N_("Too many orders came from your address. This one was not passed on. Please wait a minute and try again.")
 NO_TICKET = N_("Please type the number of your reader’s ticket, in digits alone.")
 NO_BOX = N_("No container is chosen. Choose at least one.")
-OF_THE_TICKET = {2, 4, 7, 23}  # refusals that every further order with this ticket would meet
+OF_THE_TICKET = {"UnknownTicket", "TicketExpired", "DailyLimit", "Full"}  # which every further order with it would meet
 
 
 class Done(NamedTuple):
@@ -96,5 +87,5 @@ def give_one(queue, ticket, box):
     if status == 200:
         return (reply["order"], None), True
     if status == 409:
-        return (None, REFUSALS.get(reply.get("code"), OTHER)), reply.get("code") not in OF_THE_TICKET
+        return (None, REFUSALS.get(reply.get("refused"), OTHER)), reply.get("refused") not in OF_THE_TICKET
     return (None, {0: UNCERTAIN, 502: UNCERTAIN, 504: UNCERTAIN, 503: UNSENT}.get(status, OTHER)), False

@@ -13,6 +13,7 @@ import folding
 import index
 import languages
 import orders
+import questions
 from aids import LARGE, Aids, aid_lines, mark, size_and_head
 from asking import Asking, Unreached
 from layouts import Answer, Layouts, pieces_of_head
@@ -286,7 +287,7 @@ class Pages:
         offers = [(text, urlencode({**kept, "q": text})) for text in told.get("offers", ())]
         return self.render(request, "search.html", told=told, units=units, scopes=scopes, within=within, offers=offers,
                            more=urlencode({**kept, "after": told.get("after")}),
-                           typed=bool(folding.read_typed(request.args.get("q", ""))))
+                           typed=bool(questions.read(request.args.get("q", "")).phrases))
 
     def help(self, request):
         """How a reader orders, and where and when."""

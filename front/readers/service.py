@@ -5,7 +5,8 @@
 
 GET /public/search?q=WORDS[&in=UNIT][&from=YEAR][&to=YEAR][&order=date][&after=PLACE][&lang=LANGUAGE] is answered with JSON:
 state, units, count, exact, more, after; unread: names of values that cannot be read, so that nothing was looked for; cut:
-whether more was typed than is read; offers: what finds something, if that found nothing."""
+whether more was typed than is read; offers: what finds something, if that found nothing; lacking: words that the units do
+not have, if nothing has all."""
 
 import argparse
 import contextlib
@@ -26,9 +27,11 @@ import waitress
 
 import index
 import languages
+import questions
 from answers import START, Finder, Query
 from asking import Asking
-from folding import is_cut, read_typed
+from fewer import fewer
+from folding import is_cut
 from layouts import Answer, Request
 from offers import offers
 from pages import Pages
@@ -147,7 +150,7 @@ class Service:
                 found = Finder(db, self.mine.ask, query, is_awaited=is_awaited).find()
                 told = self.told(found, values)
                 if found.state == "done" and query.phrases and not found.units and query.after == START:
-                    told["offers"] = offers(found, values["q"], language)
+                    told |= self.instead(found, values["q"], language)
         except (sqlite3.Error, AttributeError, TypeError, ValueError) as broken:  # not there yet, or damaged
             print(f"answer: {type(broken).__name__} {broken}", flush=True)
             self.say(0)
@@ -155,6 +158,13 @@ class Service:
         if not finished and found.state == "done":
             told |= {"state": "begins", "done": done, "tops": tops}
         return told, found.fonds
+
+    def instead(self, found, typed, language):
+        """What is told if nothing was found: what finds something, and what has most of the words."""
+        told, most = {"offers": offers(found, typed, language)}, fewer(found, questions.read(typed, language))
+        if most:
+            told |= {"units": most[0].units, "lacking": most[1]}
+        return told
 
     def told(self, found, values):
         """What an answer says. What it has found late goes to the rounds."""
@@ -178,8 +188,9 @@ def query_of(values, language):
     order, after = values.get("order", ""), re.fullmatch("([0-9]{1,6})-([0-9]{1,19})", values.get("after", ""))
     unread += ["order"] * (order not in ("", "date")) + ["after"] * bool(values.get("after") and not after)
     place = (int(after[1]), min(int(after[2]), LARGEST)) if after else START
-    return Query(read_typed(values.get("q", ""), language), asked["in"], asked["from"], asked["to"], place,
-                 order == "date"), unread
+    question = questions.read(values.get("q", ""), language)
+    return Query(question.phrases, asked["in"], asked["from"], asked["to"], place, order == "date",
+                 tuple(question.without)), unread
 
 
 def fields(text):

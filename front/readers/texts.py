@@ -3,13 +3,23 @@ line begins with a country's two capitals, an element with a digit, and the rest
 line nothing is certain, so a line is cut at its first `: ` only, which no value can come before."""
 
 import hashlib
+import json
+import pathlib
 import re
 from typing import NamedTuple
+
+_HERE = pathlib.Path(__file__).resolve().parent.parent
 
 
 def N_(text):  # noqa: N802 - the name that pybabel looks for
     """Marks a text for the catalogs; it is translated where it is shown."""
     return text
+
+
+def read_shared(name):
+    """What a file of front/shared has, which is served with the pages: beside this folder, or where it is installed."""
+    return json.loads(next(path for path in (_HERE / "shared" / name, _HERE / "front/shared" / name)
+                           if path.exists()).read_text("utf-8"))
 
 
 HEAD = re.compile(r"[A-Z]{2} ")

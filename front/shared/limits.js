@@ -1,4 +1,4 @@
-// What an office takes at most, as docs/RULES.md says. acceptance/front/refusals.py compares these numbers with the rules'.
+// What an office takes at most, as docs/RULES.md says. acceptance/front/test_refusals.py compares these numbers with the rules'.
 
 export const MOST_UNITS = 200_000;
 export const LAST_UNIT = 100_000_000;

@@ -14,7 +14,7 @@ import sys
 from convert import convert
 from differences import COLUMNS, KINDS, Trial
 from kept_files import is_source, last_file, newest_copy
-from wording import read_rules
+from wording import in_english, read_rules
 
 SHOWN = 60  # the most letters of a text that a line has; the CSV file has all
 
@@ -28,7 +28,7 @@ def main():
     kept = given.last or last_file(pathlib.Path(f"/var/lib/record-office-try{named}"), given.source)
     data = given.file.read_bytes()
     if converted := convert(data, rules):
-        print(f"taken for {converted.encoding} with {converted.separator} between the columns")
+        print(f"taken for {converted.encoding} with {in_english(converted.separator)} between the columns")
         data = converted.data
     tried = Trial(given.program, copy, rules, kept and kept.read_bytes()).of(given.source, data)
     print(f"on the copy {copy}: " + (tried.answer["said"] if tried.refused else counts(tried)))

@@ -1,7 +1,8 @@
-"""What an import would change, for the desk's page: answers for nginx.
+"""What is to be seen in a file and what its import would change, for the desk's page: answers for nginx.
 
     service.py --copies FOLDER --files FOLDER --listen SOCKET [--program PROGRAM]
 
+POST /try/look, with a file as its body, is answered with the JSON of look_for_page.py, which runs by itself, within bounds.
 POST /try/differences/SOURCE, with a file as its body, is answered with JSON: copy, answer, refused, differences.
 POST /try/imported/SOURCE keeps the file, which was imported, as the last one of its source."""
 
@@ -22,36 +23,42 @@ from kept_files import NoCopy, is_source, keep_file, last_file, newest_copy
 from wording import read_rules
 
 LARGEST_FILE = 8 * 1024 * 1024
-PATH = re.compile("/try/(differences|imported)/([^/]+)")
+PATH = re.compile("/try/(?:(look)|(differences|imported)/([^/]+))")
+LOOK = pathlib.Path(__file__).resolve().parents[1] / "look/look_for_page.py"
+LOOKS, LONGEST_LOOK = 2, 100  # at a time; seconds
 
 
 class Service:
-    """Answers one try after the other. copies: the folder of the backup; files: where the last files are kept."""
+    """Answers one try after the other, and looks beside them. copies: the folder of the backup; files: where the last files
+    are kept."""
 
     def __init__(self, copies, files, program):
         self.copies, self.files, self.program, self.rules = copies, files, program, read_rules()
-        self.one = threading.Lock()
+        self.one, self.looks = threading.Lock(), threading.Semaphore(LOOKS)
 
     def app(self, environ, start):
         """Answers a request, as WSGI asks for."""
         begun = time.monotonic()
         status, answer = self.answer(environ)
         print(f"{status} {environ.get('PATH_INFO', '')} {time.monotonic() - begun:.1f} s", flush=True)
-        body = json.dumps(answer, ensure_ascii=False).encode()
+        body = answer if isinstance(answer, bytes) else json.dumps(answer, ensure_ascii=False).encode()
         start(status, [("Content-Type", "application/json"), ("Content-Length", str(len(body)))])
         return [body]
 
     def answer(self, environ):
         """The status and the answer."""
         found = PATH.fullmatch(environ.get("PATH_INFO", ""))
-        if not found or not is_source(found[2]):
+        if not found or not (found[1] or is_source(found[3])):
             return "404 Not Found", {"error": "not found"}
         if environ["REQUEST_METHOD"] != "POST":
             return "405 Method Not Allowed", {"error": "method not allowed"}
         data = environ["wsgi.input"].read()
         try:
+            if found[1]:
+                with self.looks:
+                    return "200 OK", look(data)
             with self.one:
-                return "200 OK", self.tried(found[2], data) if found[1] == "differences" else self.kept(found[2], data)
+                return "200 OK", self.tried(found[3], data) if found[2] == "differences" else self.kept(found[3], data)
         except NoCopy as missing:
             print(f"{missing.filename}: {missing.strerror}", flush=True)
             return "409 Conflict", {"error": "no copy"}
@@ -73,6 +80,15 @@ class Service:
         return {"kept": source}
 
 
+def look(data):
+    """What is to be seen in these bytes."""
+    words = [sys.executable, "-B", "-s", LOOK]
+    done = subprocess.run(words, input=data, capture_output=True, timeout=LONGEST_LOOK, check=False)
+    if done.returncode:
+        raise ValueError(f"the look has ended with {done.returncode}: {done.stderr.decode(errors='replace').strip()[-200:]}")
+    return done.stdout
+
+
 def main():
     """Serves as the command line says."""
     words = argparse.ArgumentParser(description=__doc__, formatter_class=argparse.RawDescriptionHelpFormatter)
@@ -83,7 +99,7 @@ def main():
     given = words.parse_args()
     signal.signal(signal.SIGTERM, lambda *_: sys.exit(0))
     service = Service(given.copies, given.files, given.program)
-    waitress.serve(service.app, unix_socket=given.listen, unix_socket_perms="666", threads=4, ident=None,
+    waitress.serve(service.app, unix_socket=given.listen, unix_socket_perms="666", threads=8, ident=None,
                    channel_timeout=120, max_request_body_size=LARGEST_FILE + 1, clear_untrusted_proxy_headers=True)
 
 

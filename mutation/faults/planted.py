@@ -1,18 +1,20 @@
-"""Plants faults that acceptance/refused.py must notice: ./run mutation.faults.planted [--program PROGRAM] [--room DIRECTORY]
+"""Plants faults that acceptance/test_refused.py must notice:
+
+    ./run mutation.faults.planted [--program PROGRAM] [--room DIRECTORY]
 
 A fault changes what a run without a request for memory told, or what it left in its files. Each is planted in some
 commands and sessions, of which some twenty runs are then judged. Those without a fault must be right. The script prints
 how often each fault was noticed, and ends with 1 if one was not."""
 
 import contextlib
-import io
 import shutil
 import sqlite3
 import sys
 from pathlib import Path
 from typing import NamedTuple
 
-from acceptance import client, refused
+from acceptance import client, disks
+from acceptance import test_refused as refused
 from acceptance.client import BUSY, NO_MEMORY, Ended, Office
 
 RUNS = 12
@@ -162,10 +164,10 @@ def with_fault(it, fault):
 
 
 def is_wrong(it, shim):
-    """Whether refused.py finds something wrong in some runs."""
+    """Whether test_refused.py finds something wrong in some runs."""
     last = it.requests(shim)
-    with contextlib.redirect_stdout(io.StringIO()):
-        return not refused.refuse(it, shim, last // RUNS, 0)
+    ends = refused.refuse(it, shim, last // RUNS)
+    return any(end.startswith("WRONG") for end in ends) or set(ends) <= {refused.UNTOLD}
 
 
 def main():
@@ -173,7 +175,7 @@ def main():
     given = client.options(__doc__).parse_args()
     checks = client.Checks()
     with client.temporary(given.room) as room:
-        kinds, shim = refused.Kinds(given.program, room), refused.build_shim(room)
+        kinds, shim = refused.Kinds(given.program, room), disks.build_shim(disks.REFUSE, room)
         for name in ALL:
             it = kinds.make(name)
             perform = it.perform

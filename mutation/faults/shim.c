@@ -1,6 +1,6 @@
 /* Loaded before the C library: refuses the FA-th allocation, with LASTS=1 all later ones too; fails the FR-th read or
    the FW-th write; INTR=1 interrupts them instead, SHORT=1 moves one byte. SHOW=1 tells at the end how many of each were
-   made. run.sh and acceptance/refused.py use it. With EACH=k a copy of the program is made at every k-th allocation,
+   made. run.sh and acceptance/test_refused.py use it. With EACH=k a copy of the program is made at every k-th allocation,
    which is refused there and goes on to its end; how the copies ended is told at the end, a line for each different end.
    tables.sh uses that. */
 #define _GNU_SOURCE

@@ -1,0 +1,428 @@
+"""A day at the desk: readers, orders, runs, slips, the counter and its scans, reshelving and the next day."""
+
+import json
+import os
+import shutil
+import subprocess
+import time
+
+import pytest
+
+from acceptance.front.catalogue import ODD, archives, dock_company
+from acceptance.front.desk_state import ANN, BEN, FAR, ZOE
+from acceptance.front.office import MANY_PAGES, SELDOM
+from acceptance.front.waits import until
+
+pytestmark = [pytest.mark.browser, pytest.mark.needs("chromium")]
+
+NEW = ("Dora <i>Quay</i>", "Hugh O'Hara", "Chlo\u00eb \u0141o\u015b", "\u202ehguH")
+DAYS = iter([f"2024-03-{day:02}" for day in range(2, 32)])
+SUBMIT_TWICE = """(() => { const form = [...document.querySelectorAll('.card')].at(-1).querySelector('form');
+  form.requestSubmit(); form.requestSubmit(); })()"""
+COUNT_SENDING = """window.sent = 0;
+  for (const kind of ['submit', 'invalid']) document.addEventListener(kind, () => window.sent++, true)"""
+FOUND = "[...document.querySelectorAll('.find td a')].map((a) => a.textContent)"
+FOCUS_TAKE_BACK = "[...document.querySelectorAll('.card')][1].querySelector('input').focus()"
+WIDTHS = """import('/barcode.js')
+  .then((codes) => ['T1', 'B20', 'T3456789'].map((code) => [code, codes.widthsOf(code)]))"""
+CODE_39 = {"nnnwwnwnn": "0", "wnnwnnnnw": "1", "nnwwnnnnw": "2", "wnwwnnnnn": "3", "nnnwwnnnw": "4", "wnnwwnnnn": "5",
+           "nnwwwnnnn": "6", "nnnwnnwnw": "7", "wnnwnnwnn": "8", "nnwwnnwnn": "9", "nnwnnwnnw": "B", "nnnnwnwwn": "T",
+           "nwnnwnwnn": "*"}
+
+
+@pytest.fixture(scope="module")
+def office(new_office, module_room):
+    """An office with archives, whose readers' service asks it for nothing unasked."""
+    return new_office(readers=SELDOM, files=archives(module_room, catalogue=dock_company()), changes=MANY_PAGES)
+
+
+# Readers
+
+def test_two_presses_register_a_reader_once_under_the_name_that_was_typed(desk, asks):
+    """Names that try to be markup or are written from right to left stay as they are."""
+    first = asks.next_ticket()
+    desk.at("/readers")
+    for name in NEW:
+        desk.fill("Name", name, "Register a reader")
+        desk.fill("Last day of the ticket", FAR, "Register a reader")
+        desk.js(SUBMIT_TWICE)
+        desk.see(f"Registered: {name}, ticket", ".outcome")
+    assert asks.next_ticket() == first + len(NEW)
+    assert [asks.read(f"/desk/readers/{first + place}")["name"] for place in range(len(NEW))] == list(NEW)
+
+
+@pytest.mark.parametrize("who, found", [("zoe luk", [ZOE]), ("SMITH ann", [ANN]), ("<b>", [ANN]), ("nobody", [])])
+def test_a_reader_is_found_by_parts_of_the_name(desk, state, who, found):
+    """Without accents, in any case and order."""
+    state.readers()
+    desk.at("/readers")
+    desk.fill("Name or ticket number", who)
+    desk.press("Find")
+    desk.see(f"{len(found)} reader", ".told")
+    desk.wait("!document.querySelector('.told').innerText.includes('…')")
+    assert desk.js(FOUND) == found
+
+
+def test_a_ticket_number_leads_to_the_card(desk, state):
+    """Where a name is asked for."""
+    ben = state.readers()[1]
+    desk.at("/readers")
+    desk.fill("Name or ticket number", ben)
+    desk.press("Find")
+    desk.wait(f"location.hash === '#/readers/{ben}'")
+    desk.see(BEN)
+
+
+def test_a_known_name_a_past_day_and_spaces_are_not_registered_unasked(desk, state, asks):
+    ann, *_ = state.readers()
+    first = asks.next_ticket()
+    desk.at("/readers")
+    for name, last, *questions in ((" ANN  <b>smith</b> ", FAR, "There is a reader of this name", f"{ANN}, ticket {ann}"),
+                                   ("Dora", "2001-01-01", "2001-01-01 is past")):
+        desk.fill("Name", name, "Register a reader")
+        desk.fill("Last day of the ticket", last, "Register a reader")
+        desk.press("Register", "Register a reader")
+        for question in questions:
+            desk.see(question, "dialog")
+        desk.press("Go back", "dialog")
+        desk.see("Nothing was done.")
+    assert asks.next_ticket() == first
+    desk.fill("Name", "  Eve   Black ", "Register a reader")
+    desk.fill("Last day of the ticket", FAR, "Register a reader")
+    desk.press("Register", "Register a reader")
+    desk.see("Registered: Eve Black, ticket", ".outcome")
+
+
+def test_a_ticket_is_renewed_by_keys_alone(desk, state, asks):
+    """From the top of the page, only with Tab, letters and Enter."""
+    zoe = state.start()[2]
+    desk.at("/")
+    desk.tab_to("Readers")
+    desk.key("Enter")
+    desk.wait("document.activeElement.name === 'who'")
+    desk.type("zoe")
+    desk.key("Enter")
+    desk.see("1 reader with", ".told")
+    desk.tab_to("Zo\u00eb")
+    desk.key("Enter")
+    desk.wait(f"location.hash === '#/readers/{zoe}' && document.activeElement.tagName === 'H1'")
+    desk.tab_to_field("until")
+    desk.digits("12312032")
+    desk.key("Enter")
+    desk.see("Ticket good until 2032-12-31.")
+    assert asks.read(f"/desk/readers/{zoe}")["until"] == "2032-12-31"
+
+
+def test_a_ticket_is_not_renewed_to_a_past_day_unasked(desk, state, asks):
+    """One wrong digit of the year would have the reader turned away."""
+    ann, *_ = state.readers()
+    before = asks.read(f"/desk/readers/{ann}")["until"]
+    desk.at(f"/readers/{ann}")
+    desk.fill("New last day", "2001-01-01")
+    desk.press("Renew")
+    desk.see("2001-01-01 is past", "dialog")
+    desk.press("Go back", "dialog")
+    desk.see("Nothing was done.")
+    assert asks.read(f"/desk/readers/{ann}")["until"] == before
+
+
+# Orders and runs
+
+def test_a_reader_without_a_seat_orders_at_the_readers_page(hall, state, asks):
+    """Each refusal is told in a reader's words; nothing is ordered again when the answer is loaded once more."""
+    ann, ben, *_ = state.start()
+    hall.visit(f"/unit/{state.fonds() + 1}")
+    ordered = "Ordered. Your order has the number"
+    for ticket, words in (("999", "There is no reader’s ticket with this number."), (f" {ann:04} ", ordered),
+                          (str(ann), "You have ordered this container already."), (str(ben), ordered)):
+        hall.js("document.querySelector('details.order').open = true")
+        hall.fill("Number of your reader’s ticket", ticket)
+        hall.press("Order this container")
+        hall.see(words)
+        if words == ordered:
+            [order] = asks.read(f"/desk/readers/{int(ticket)}")["orders"]
+            hall.see(f"{ordered} {order['order']}.")
+        hall.wait("document.readyState === 'complete'")
+    assert hall.js("document.activeElement.className") == "outcome"
+    assert "at their next run to the strongrooms" in hall.text(".outcome")
+    hall.reload()
+    assert len(asks.read(f"/desk/readers/{ben}")["orders"]) == 1
+
+
+def test_the_desk_orders_for_readers_and_cancels_an_order(desk, state):
+    _, ben, zoe, _ = state.start()
+    placed = []
+    desk.at("/orders")
+    for ticket, container in ((ben, state.container("Roll 7")), (zoe, state.container(ODD["markup"]))):
+        desk.fill("Ticket", ticket, "Place an order")
+        desk.fill("Container", container, "Place an order")
+        desk.press("Order", "Place an order")
+        placed += until(lambda ticket=ticket: state.orders_of(ticket), "the order is placed")
+        desk.see(f"Order {placed[-1]}:", ".outcome")
+    desk.fill("Order", placed[0], "Cancel an order")
+    desk.press("Cancel the order", "Cancel an order")
+    desk.see(f"Order {placed[0]} is cancelled.")
+    assert state.orders_of(ben) == {}
+
+
+def test_the_slip_of_a_run_is_the_programs_with_reader_place_and_code_beside_it(desk, state, asks):
+    ann, ben, zoe, _ = state.start()
+    box = state.container("Box 1")
+    for ticket, container in ((ann, box), (ben, box), (zoe, state.container(ODD["markup"]))):
+        state.order(ticket, container)
+    desk.at("/runs").press("Begin a run")
+    desk.wait("location.hash.startsWith('#/runs/') && document.querySelector('.slip')")
+    run = desk.js("location.hash").split("/")[-1]
+    desk.see("What to fetch, and for whom")
+    slip = asks.text(f"/desk/runs/{run}", True)
+    assert desk.js("document.querySelector('.slip').textContent") == slip
+    assert ODD["markup"] in slip
+    desk.see(f"{ANN}, ticket {ann}")
+    places = desk.js("[...document.querySelectorAll('.beside tbody tr')].map((row) => row.cells[0].textContent)")
+    assert places and all(place and place in slip for place in places), places
+    assert desk.focus_name() == "Print the slip"
+    desk.see("A reference code was found for every container.")
+    assert "GB 0999 HUL/1\n" in desk.text(".beside")
+    desk.at("/runs").see(f"run {run}")
+    desk.press("Begin a run")
+    desk.see("There is nothing to fetch")
+
+
+def test_call_slips_tickets_and_labels_have_codes_that_a_barcode_reader_reads(desk, state, room):
+    ann, ben, *_ = state.start()
+    box, roll = state.container("Box 2"), state.container("Roll 7")
+    orders = [state.order(ann, box), state.order(ben, roll)]
+    desk.at("/runs").press("Begin a run")
+    desk.see("Call slips to cut")
+    run = desk.js("location.hash").split("/")[-1]
+    desk.press("Call slips to cut")
+    desk.wait("document.querySelectorAll('.call-slip').length === 2")
+    desk.see(f"{ANN}, ticket {ann}", ".call-slips")
+    told = desk.text(".call-slips")
+    for part in ("Strongroom 1", "Box 2", "Plan chest", f"Order {orders[0]}, run {run}, 2024-03-"):
+        assert part in told
+    for code, widths in desk.js(WIDTHS):
+        kinds = "".join("w" if width > 1 else "n" for width in widths)  # nine for each character, and a narrow space
+        assert "".join(CODE_39.get(kinds[at:at + 9], "?") for at in range(0, len(kinds), 10)) == f"*{code}*"
+    if shutil.which("zbarimg"):
+        desk.size(1200, 850, 3)
+        desk.shot(room / "codes.png")
+        read = subprocess.run(["zbarimg", "-q", "--raw", "-Sdisable", "-Scode39.enable", room / "codes.png"],
+                              capture_output=True, text=True, check=False).stdout
+        assert set(read.split()) == {f"T{ann}", f"T{ben}", f"B{box}", f"B{roll}"}
+        desk.size(1200, 850)
+    for hash_, code in ((f"/readers/{ann}/ticket", f"T{ann}"), (f"/counter/{box}/label", f"B{box}")):
+        desk.at(hash_).see(code, ".coded")
+
+
+def test_the_desk_says_why_a_run_passed_an_order_over(desk, state, asks):
+    zoe = state.start()[2]
+    unit = state.unit(ODD["accents"])
+    state.order(zoe, state.container(ODD["accents"]))
+    desk.at("/orders").see("on its shelf: a run fetches it if it is open to this reader")
+    desk.see("As of ", ".told")
+    asks.command("/desk/closure", unit=unit, until="2031-01-01")
+    state.fetch((zoe, state.container(ODD["quotes"])))
+    desk.press("Show what waits now")
+    desk.see("passed it over. Probably it is not open to this reader")
+    desk.go("#/out")
+    desk.see("Nothing is out.")
+    desk.go("#/orders")
+    desk.see("passed it over")
+    asks.command("/desk/closure", unit=unit, until=None)
+
+
+# The counter, by keyboard and barcode reader alone
+
+def test_a_container_is_issued_by_scans_and_keys(desk, state, asks):
+    """A refused scan leads to the seat that the reader lacks; a seat of which nothing is known may be asked for again."""
+    ann, ben, zoe, _ = state.start()
+    box = state.container("Box 1")
+    order, _ = state.fetch((ann, box), (ben, box))
+    desk.at("/counter")
+    assert desk.focus_name() == "ticket"
+    desk.js(COUNT_SENDING)
+    desk.scan(f"{ann:04}")
+    desk.wait("document.activeElement.name === 'container'")
+    assert desk.js("window.sent") == 0, "a ticket alone is not sent"
+    desk.see("no seat yet", ".about")
+    desk.see("Ready at the desk: Box 1", ".about")
+    assert ANN in desk.text(".about")
+    desk.scan(str(box))
+    desk.see("The reader has no seat. Give the reader a seat first.")
+    seat = f"Give ticket {ann} a seat and issue"
+    desk.wait(f"document.activeElement.innerText === '{seat}'")
+    desk.scan(f"{zoe:04}")
+    assert desk.js("[document.querySelector('form.command input[name=ticket]').value, document.activeElement.name]") == [
+        f"{zoe:04}", "container"], "a number that is scanned while a button has the focus goes to the field"
+    assert asks.read(f"/desk/readers/{ann}")["seat"] is None, "and presses no button"
+    give_a_seat_by_keys(desk, ann, seat)
+    desk.see(f"Issued: Box 1, container {box} to {ANN}, ticket {ann}. Order {order}.")
+    assert asks.read("/desk/issued") == [{"container": box, "order": order, "ticket": ann}]
+    assert desk.js("[...document.querySelector('form.command').querySelectorAll('input')].map((one) => one.value)") == ["", ""]
+    desk.scan(str(ben))
+    desk.wait("document.activeElement.name === 'container'")
+    desk.scan(str(box))
+    desk.see("The container is not at the desk")
+    assert desk.focus_name() == "container", "the field that is wrong has the focus"
+    assert desk.js("[...document.querySelectorAll('[aria-invalid=true]')].map((field) => field.name).join()") == "container"
+
+
+def give_a_seat_by_keys(desk, ticket, seat):
+    """Gives the seat and issues by Enter alone, also after an answer that says nothing and with a key held down."""
+    desk.fill("Ticket", ticket, "Issue")
+    desk.key_in("Container", "Enter", "Issue")
+    desk.wait(f"document.activeElement.innerText === '{seat}'")
+    desk.key("Enter", repeat=True)
+    desk.answer_with("*/desk/seat", 503, b'{"error":"busy"}')
+    desk.key("Enter")
+    desk.see("Press the button again, which does no harm: nobody gets two seats.")
+    desk.answer_with(None, 0, b"")
+    assert desk.focus_name() == seat
+    desk.key("Enter")
+    desk.see("Issued: Box 1, container")
+    desk.wait("document.activeElement.name === 'ticket'")
+
+
+def test_a_code_of_a_container_is_not_taken_for_a_ticket_nor_the_other_way_round(desk, state, asks):
+    ann, *_ = state.start()
+    box = state.container("Box 2")
+    state.fetch((ann, box))
+    desk.at("/counter").scan(f"B{box}")
+    desk.see("This is the code of a container. Scan a ticket.", ".wrong")
+    assert desk.js("document.querySelector('[aria-invalid=true]').name") == "ticket"
+    desk.scan(f"T{ann:04}")
+    desk.wait("document.activeElement.name === 'container'")
+    assert desk.js("document.querySelectorAll('[aria-invalid=true]').length") == 0, "the mark ends"
+    desk.see("Ready at the desk: Box 2", ".about")
+    desk.scan(f"T{ann}")
+    desk.see("This is the code of a ticket. Scan a container.", "form.command")
+    assert asks.read("/desk/issued") == []
+    asks.command("/desk/seat", ticket=ann)
+    desk.scan(f"B{box}")
+    desk.see("Issued: Box 2, container")
+    desk.js(FOCUS_TAKE_BACK)
+    desk.scan(f"b{box}")
+    desk.see("Back: Box 2, container", ".back")
+
+
+def test_what_waits_is_gathered_from_the_cards(desk, state):
+    """And a container's page says who has it."""
+    ann, ben, zoe, _ = state.start()
+    box = state.container("Box 1")
+    state.fetch((ann, box), (ben, box), (zoe, state.container(ODD["markup"])))
+    state.issue(ann, box)
+    desk.at("/orders")
+    for words in ("2 orders wait.", "out with another reader", f"{BEN}, ticket {ben}",
+                  "at the desk, ready if it is open to this reader"):
+        desk.see(words)
+    desk.at(f"/counter/{box}").see(f"It is out with {ANN}, ticket {ann}")
+
+
+def test_while_a_container_is_out_no_day_is_opened_and_its_reader_keeps_the_seat(desk, state):
+    ann, ben, *_ = state.start()
+    box, roll = state.container("Box 1"), state.container("Roll 7")
+    state.fetch((ann, box), (ben, roll))
+    state.issue(ben, roll)
+    desk.at("/").see("1 container is out.")
+    state.issue(ann, box)
+    desk.at("/out").see("Box 1, container")
+    desk.at("/").see("2 containers are out.")
+    desk.fill("The new day", "2024-12-31")
+    open_day(desk, "2024-12-31")
+    desk.see("A container is still out with a reader.")
+    desk.at("/counter").fill("Ticket", ann, "A reader leaves")
+    desk.press("Free the seat")
+    desk.see("The reader still has containers.")
+
+
+def test_containers_come_back_by_scans_alone_and_are_reshelved_once(desk, state):
+    """A second scan and a second press of the button, in the moment in which its outcome is shown, do no harm."""
+    ann, ben, *_ = state.start()
+    box = state.container("Box 1")
+    _, order = state.fetch((ann, box), (ben, box))
+    state.issue(ann, box)
+    desk.at("/counter").js(FOCUS_TAKE_BACK)
+    desk.scan(str(box))
+    desk.see(f"Keep it at the desk for {BEN}, ticket {ben}.", ".back")
+    desk.wait("document.activeElement.name === 'container'")
+    desk.scan("999")
+    desk.see("There is no container with this number.")
+    desk.scan(str(box))
+    desk.see("The container is not out with a reader.")
+    desk.at(f"/readers/{ben}").press(f"Cancel order {order}")
+    desk.see(f"Order {order} is cancelled.")
+    desk.at("/out").js("""new MutationObserver((_, seen) => {
+        if (!document.querySelector('.outcome').innerText.includes('Take these back')) return;
+        seen.disconnect(); document.querySelector('form.command button').click(); window.isPressedAgain = true;
+      }).observe(document.querySelector('main'), { childList: true, subtree: true })""")
+    desk.press("Reshelve")
+    desk.see("Take these back to their shelves:")
+    desk.see("Box 1, container", ".outcome")
+    desk.wait("window.isPressedAgain")
+    desk.js("fetch('/desk/issued').then((answer) => answer.text())")  # behind what may have been sent
+    assert desk.count_sent("POST", "/desk/reshelve") == 1
+
+
+def test_of_a_trolley_of_containers_the_one_that_came_back_last_stands_first(desk):
+    """What is to be done with it is told there, however many came back before; a dozen stay in the list."""
+    desk.at("/counter").answer_with("*/desk/return", 200, b'{"order":1}')
+    desk.js(FOCUS_TAKE_BACK)
+    for container in range(901, 915):
+        desk.scan(str(container))
+        desk.wait(f"document.querySelector('.back li a')?.hash === '#/counter/{container}'")
+        desk.wait("document.activeElement.name === 'container'")
+    assert desk.js("document.querySelectorAll('.back li').length") == 12
+
+
+# Another day
+
+def test_the_next_day_is_opened_once_the_question_is_answered(desk, state):
+    """The clock's date is suggested, and no other day once one is open."""
+    state.start()
+    day = next(DAYS)
+    desk.at("/")
+    suggested = "document.querySelector('input[type=date]').value"
+    assert desk.js(suggested) == desk.js("new Date().toLocaleDateString('sv')")
+    desk.fill("The new day", day)
+    desk.press("Open the day")
+    desk.see("A day that has been opened cannot be taken back", "dialog")
+    desk.press("Open no day", "dialog")
+    desk.see("No day was opened.")
+    desk.pass_pause()
+    open_day(desk, day)
+    desk.see(f"{day} is open.")
+    assert desk.js(suggested) == ""
+    desk.see(f"The day opened last in this browser is {day}.")
+
+
+def open_day(desk, day):
+    """Presses both buttons that open a day."""
+    desk.press("Open the day")
+    desk.see("A day that has been opened cannot be taken back", "dialog")
+    desk.press(f"Open {day}", "dialog")
+
+
+def test_today_shows_what_is_red_on_the_machine_and_that_nobody_has_looked_for_long(desk, office):
+    folder = office.folder / "cache/lists"
+    folder.mkdir(parents=True, exist_ok=True)
+    status = folder / "status.json"
+    lines = [{"level": 0, "name": "queue", "text": "runs"},
+             {"level": 2, "name": "copy", "text": "<i>office</i> is 60 hours old"}]
+    seconds = iter(range(3))
+
+    def shown(age, many):
+        """What the page shows of so many lines, written so many seconds ago."""
+        status.write_text(json.dumps({"at": time.time() - age, "made": "2024-03-01 07:00", "lines": lines[:many]}), "utf-8")
+        second = next(seconds)
+        os.utime(status, (second, second))  # browsers know a file by its second and its size
+        desk.at("/").see("Still out")
+        desk.wait("!document.querySelector('.waiting')")
+        return desk.text()
+
+    told = shown(0, 2)
+    assert "copy: <i>office</i> is 60 hours old" in told and "As of 2024-03-01 07:00." in told, told
+    assert "Nobody has looked" not in told and "queue: runs" not in told, told
+    assert "Nobody has looked since." in shown(7200, 2)
+    assert "Red on the machine" not in shown(0, 1)
+    status.unlink()

@@ -1,0 +1,241 @@
+"""The look at a file before its import, and what an import then does: the files of files.py one by one, those of odd_files.py
+group by group as approved, and the command record-office-look."""
+
+import contextlib
+import json
+import shutil
+import sqlite3
+import subprocess
+
+import pytest
+from convert import convert
+from look_at_file import Look
+from wording import advice, in_english, read_rules
+
+from acceptance import client
+from acceptance.front import odd_files
+from acceptance.front.files import COLUMNS, FILES, GOOD, SHORT, csv_text, unit
+from acceptance.front.office import FRONT, PYTHON, TOP
+
+RULES = read_rules()
+FEWER = {**RULES, "limits": {**RULES["limits"], "rows": 3}}
+# Advice that foretells that an office which knows none of the units refuses the file, for its row's parent or depth.
+REFUSED_IF_NEW = {name for name in RULES["advice"] if name.startswith("parents_")} | {"deep"}
+LONGEST = 70  # letters of a value that a line has
+
+each_file = pytest.mark.parametrize("file", FILES, ids=lambda file: file.name)
+
+
+def told_of(data):
+    """What is said of a file: its level and its words, by the name of each advice."""
+    found = {}
+    for name, values in Look(RULES).at(data).advice:
+        level, says, todo = advice(RULES, name, values)
+        found.setdefault(name, (level, f"{in_english(says)} {in_english(todo)}"))
+    return found
+
+
+# What is said, and what an import does
+
+@each_file
+def test_the_advice_fits_the_file(file):
+    """Each that is wanted, and no other."""
+    told = told_of(file.data)
+    assert set(told) == set(file.advice)
+    assert [name for name, part in file.advice.items() if part not in told[name][1]] == [], told
+
+
+@pytest.fixture(scope="module")
+def new_store(program, module_room):
+    """The file of a new office, which tests copy."""
+    return client.Office.create(program, module_room / "office.db").store
+
+
+@each_file
+def test_an_import_does_what_was_foretold(program, new_store, room, file):
+    """A file that was stopped, or of which a parent lacks, is refused; of another what was counted comes in."""
+    office = client.Office(program, shutil.copy(new_store, room / "office.db"))
+    (room / "file.csv").write_bytes(file.data)
+    ended = office.import_file("catalogue", room / "file.csv")
+    levels = {level for level, _ in told_of(file.data).values()}
+    if ended.status:
+        said = ended.message.decode().split()
+        assert (int(said[4]), int(said[6])) == file.refused
+        assert "stop" in levels or REFUSED_IF_NEW & set(told_of(file.data))
+        return
+    assert file.refused is None and "stop" not in levels and not REFUSED_IF_NEW & set(told_of(file.data))
+    rows, counts = json.loads(ended.output), Look(RULES).at(file.data).counts
+    with contextlib.closing(sqlite3.connect(office.store)) as store:
+        drafts, containers = store.execute("SELECT (SELECT count(*) FROM unit WHERE draft), (SELECT count(*) FROM container)"
+                                           ).fetchone()
+    assert (rows["new"], drafts, rows["translations"], containers) == tuple(
+        counts[name] for name in ("units", "drafts", "translations", "containers"))
+
+
+@each_file
+def test_a_file_is_converted_from_what_it_is(program, file):
+    """What it becomes is read as the same file saved rightly would be, and is not converted again."""
+    found = convert(file.data, RULES)
+    assert (f"{found.encoding}, {in_english(found.separator)}" if found else "") == file.taken
+    if found:
+        assert convert(found.data, RULES) is None
+        assert preview(program, found.data) == preview(program, file.becomes.encode())
+
+
+def preview(program, data):
+    """What `preview` prints of a file."""
+    ended = program.run("preview", "--country", "GB", "--repo", "0999", said=data)
+    return ended.output, ended.message
+
+
+def test_each_advice_is_given_for_a_file():
+    """None is there for nothing; a converted file is told by whoever converts it."""
+    assert set(RULES["advice"]) == {name for file in FILES for name in file.advice} | {"converted"}
+
+
+def test_elements_are_named_as_in_the_rules():
+    """The names are those of the table in docs/RULES.md."""
+    rows = [line.strip("| ").split(" | ") for line in (TOP / "docs/RULES.md").read_text().splitlines()
+            if line.startswith("| 3.")]
+    wanted = {row[2]: row[1] for row in rows if "," not in row[2]}
+    assert {name: RULES["elements"][name] for name in wanted} == wanted
+
+
+@pytest.mark.parametrize("left_out", COLUMNS[1:])
+def test_a_column_that_lacks_is_told(left_out):
+    """An element is emptied; without the others no unit has a place or a status."""
+    seen = dict(Look(RULES).at(csv_text(unit("1"), columns=[name for name in COLUMNS if name != left_out]).encode()).advice)
+    elements = [in_english(one) for one in seen.get("emptied", {"columns": []})["columns"]]
+    assert elements == [f"{label} ({name})" for name, label in RULES["elements"].items() if name == left_out]
+    others = {"parentId": {"no_parents"}, "publicationStatus": {"no_status"}}
+    assert set(seen) - {"emptied"} == others.get(left_out, set())
+
+
+@pytest.mark.parametrize("also, name", RULES["also"].items())
+def test_another_name_of_a_column_is_known(also, name):
+    """In any letters, if the column itself is not there."""
+    assert meant(also.upper(), [one for one in COLUMNS if one != name]) == [(also.upper(), name)]
+    assert meant(also, COLUMNS) == []
+
+
+@pytest.mark.parametrize("name", COLUMNS[1:])
+def test_a_column_in_other_letters_or_another_number_is_known(name):
+    for other in (name.upper(), name[:-1] if name.endswith("s") else f"{name}s", f"{name[:3]}-{name[3:]}"):
+        assert meant(other, [one for one in COLUMNS if one != name]) == [(other, name)]
+
+
+def meant(other, columns):
+    """Which columns that are not read are taken for which, in a file with these columns and another one."""
+    seen = Look(RULES).at(csv_text(unit("1"), columns=[*columns, other]).encode())
+    return [(values["found"], values["column"]) for name, values in seen.advice if name == "similar"]
+
+
+# As approved
+
+@pytest.mark.parametrize("group", odd_files.GROUPS)
+def test_odd_files_are_told_as_approved(approved, group):
+    """A line for each file: what is said of it, by names and values. What lacks of its header is left out, and whether nothing
+    is published then, which is said of nearly all."""
+    lines = []
+    for name, data in odd_files.GROUPS[group]():
+        rules = FEWER if data.startswith(odd_files.FEWER) else RULES
+        lines.append(f"{name}: {'; '.join(parts_of(data.removeprefix(odd_files.FEWER), rules)) or 'nothing'}")
+    approved(f"look/{group}", lines)
+
+
+def parts_of(data, rules):
+    """What is seen of a file, and what it becomes, in a few words each."""
+    seen, found = Look(rules).at(data), convert(data, rules)
+    for name, values in seen.advice:
+        if name not in ("emptied", "no_parents", "no_status"):
+            yield " ".join([name, *(fault_parts(values) if name == "fault" else value_parts(values))])
+    if seen.counts:
+        yield ", ".join(f"{number} {name}" for name, number in seen.counts.items() if number) or "nothing in it"
+    if found:
+        lost = f", lost {found.lost['found']!r}" if found.lost else ""
+        yield (f"becomes {plain(found.data.decode())} from {found.encoding}, {in_english(found.separator)}, "
+               f"first {' | '.join(map(plain, found.values))}, letters {' '.join(map(plain, found.letters))}{lost}")
+
+
+def value_parts(values):
+    """The values of an advice by their names; of a list the first three, and the row of a spreadsheet if it is another."""
+    for name, told in values.items():
+        if isinstance(told, list):
+            more = f" and {len(told) - 3} more" if len(told) > 3 else ""
+            yield f"{name} [{', '.join(plain(in_english(one)) for one in told[:3])}{more}]"
+        elif told != "" and (name != "sheet" or told != values.get("row")):
+            yield f"{name} {plain(in_english(told))}"
+
+
+def fault_parts(values):
+    """The first row that the office would refuse: its cause, the unit, and how many more there are."""
+    cause, todo = values["cause"], values["todo"]
+    is_equal = cause.get("text") == RULES["causes"]["7 equal"][0]
+    yield f"{values['number']}{' equal' * is_equal}{plain(in_english(values['unit']))}, row {values['row']}"
+    if values["sheet"] != values["row"]:
+        yield f"({values['sheet']})"
+    if "parts" in cause:
+        yield in_english(cause["parts"][-1])
+    if "parts" in todo:
+        yield f"and {todo['parts'][-1]['number']} more"
+
+
+def plain(text):
+    """A text on one line, cut if it is long."""
+    line = "".join(letter if letter.isprintable() else repr(letter)[1:-1] for letter in str(text))
+    return line if len(line) <= LONGEST else f"{line[:LONGEST]}…"
+
+
+# The command
+
+@pytest.fixture
+def command(room):
+    """A function that runs record-office-look over files of a folder: its status, and what it printed."""
+    def run(*words, **how):
+        """Runs it with these words; files go by their names."""
+        done = subprocess.run([PYTHON, FRONT / "look/record_office_look.py", *words], cwd=room, capture_output=True, text=True,
+                              check=False, **how)
+        return done.returncode, done.stdout + done.stderr
+
+    for name, data in (("good.csv", GOOD.encode()), ("bars.csv", GOOD.replace(",", "|").encode()),
+                       ("old.csv", csv_text(unit("1", title='"12" plan é'), delimiter=";", quotechar="'").encode("cp1252")),
+                       ("odd.csv", csv_text(unit("1", culture="EN", title="Caf\ufffd"), unit("2", "77")).encode())):
+        (room / name).write_bytes(data)
+    return run
+
+
+def test_the_shell_is_told_the_gravest_first(command):
+    """Each advice on a line, and the status of the worst file."""
+    assert command("good.csv") == (0, "good.csv:\n  rows: 2, units: 2, drafts: 0, translations: 0, tops: 1, containers: 0\n")
+    status, told = command("odd.csv", "good.csv")
+    assert status == 1 and [line[:10] for line in told.splitlines()] == [
+        "odd.csv:", "  look fir", "  look fir", "  note: In", "  rows: 2,", "good.csv:", "  rows: 2,"]
+    status, told = command("bars.csv")
+    assert (status, told.splitlines()[1][:58]) == (1, "  refused: The columns are separated by vertical bars. Con")
+
+
+def test_a_file_that_cannot_be_read_is_told_and_the_others_are_looked_at(command):
+    status, told = command("none.csv", "good.csv")
+    assert status == 3 and "none.csv: No such file or directory\n" in told and "rows: 2" in told
+    assert command(".")[0] == 3 and command()[0] == 2 and command("--convert", "new.csv", "good.csv", "bars.csv")[0] == 2
+
+
+def test_what_a_file_is_taken_for_is_told_before_it_is_converted(command, room):
+    before = (room / "old.csv").read_bytes()
+    status, told = command("--convert", "new.csv", "old.csv")
+    assert status == 1
+    parts = ("is taken for Windows-1252 with semicolons between the columns", "é", "look first: In row 2", "csv is written")
+    places = [told.find(part) for part in parts]
+    assert -1 < min(places) and places == sorted(places), told
+    assert (room / "new.csv").read_bytes() == convert(before, RULES).data
+    status, told = command("--convert", "new.csv", "old.csv")
+    assert (status, "new.csv: File exists" in told, (room / "old.csv").read_bytes()) == (3, True, before)
+    status, told = command("--convert", "other.csv", "good.csv")
+    assert (status, "there is nothing to convert" in told, (room / "other.csv").exists()) == (0, True, False)
+
+
+def test_whoever_has_read_enough_ends_the_command(room):
+    (room / "many.csv").write_text(SHORT)
+    words = f"{PYTHON} {FRONT}/look/record_office_look.py {'many.csv ' * 3000} | head -1"
+    done = subprocess.run(["bash", "-c", words], cwd=room, capture_output=True, text=True, check=False)
+    assert (done.stdout, done.stderr) == ("many.csv:\n", "")

@@ -1,0 +1,169 @@
+"""What rounds and answers ask the office for, and when, so that nobody waits for what nobody wants to know: an index beside an
+office that is a table of head lines."""
+
+import contextlib
+import socket
+import time
+
+import index
+import pytest
+from answers import SHOWN, Finder, Query
+from folding import read_typed
+from rounds import Keeper, Round
+
+HEADS = {1: "GB 0999 A [Fonds] Docks", 2: "GB 0999 A/1 [Series] Anchors", 3: "GB 0999 A/1/1 [File] Buoys",
+         4: "GB 0999 A/2 [Series] Cranes", 5: "GB 0999 A/2/1 [File] Derricks", 6: "GB 0999 B [Fonds] Ebb"}
+BELOW = {1: (2, 4), 2: (3,), 4: (5,)}
+
+
+class Office:
+    """Called with a path as `Asking` is. gone: paths that show nothing; paths: what was asked for; is_late: it answers when a
+    reader's time is over."""
+
+    def __init__(self):
+        self.heads, self.below, self.tops, self.gone = dict(HEADS), dict(BELOW), (6, 1), set()
+        self.paths, self.until, self.is_late = [], 0.0, False
+
+    def __call__(self, path):
+        self.paths.append(path)
+        time.sleep(max(0, self.until - time.monotonic()) * self.is_late)
+        kind, _, number = path.removeprefix("/public/").partition("/")
+        if path in self.gone:
+            return None
+        lines = {"fonds": lambda _: [f"{top} {self.heads[top]}" for top in self.tops], "aid": self.aid, "units": self.page}
+        return "".join(f"{line}\n" for line in lines[kind](int(number or 0)))
+
+    def page(self, number):
+        """The lines of a unit's page."""
+        head = self.heads.get(number, f"GB 0999 A/{number} [File] Dock")
+        return [head, *(f"  Unit {one}: {self.heads[one]}" for one in self.below.get(number, ()))]
+
+    def aid(self, number, indent=""):
+        """The lines of a finding aid."""
+        below = [line for one in self.below.get(number, ()) for line in self.aid(one, indent + "  ")]
+        return [indent + self.heads[number], *below]
+
+
+@pytest.fixture
+def db(room):
+    """An index without anything."""
+    with contextlib.closing(index.open_or_make(str(room / "index.db"), check=False)) as made:
+        yield made
+
+
+def known(db):
+    """The units that an index has."""
+    return [number for number, in db.execute("SELECT n FROM unit ORDER BY n")]
+
+
+def find(db, office, seconds=100, **how):
+    """An answer to who looks for docks."""
+    return Finder(db, office, Query(read_typed("dock"), **how)).find(seconds)
+
+
+def find_words(db, word):
+    """How many units the index would propose for a word."""
+    return len(list(index.propose(db, Query(read_typed(word)))))
+
+
+def fill(db, many):
+    """So many units have the word in the index."""
+    with index.transaction(db):
+        for number in range(1, many + 1):
+            db.execute("INSERT INTO unit(n, top) VALUES (?, 1)", (number,))
+            db.execute("INSERT INTO words(rowid, head, body) VALUES (?, 'dock', '')", (index.row_of(1, number),))
+
+
+def test_an_index_that_is_sound_stays_when_it_is_checked(db, room):
+    """Else readers would find a part of the archives for as long as a round takes, hour by hour."""
+    Round(db, Office()).run()
+    with contextlib.closing(index.open_or_make(str(room / "index.db"), check=True)) as checked:
+        assert known(checked) == [1, 2, 3, 4, 5, 6]
+
+
+def read(db, office):
+    """Two rounds: the first reads by parts what it does not know."""
+    for _ in range(2):
+        Round(db, office).run()
+
+
+def test_a_round_goes_on_where_a_unit_goes_between_its_finding_aid_and_its_page(db):
+    """What has changed in other archives is found, and the operator sees no error in the journal."""
+    office = Office()
+    read(db, office)
+    office.heads |= {3: "GB 0999 A/1/1 [File] Boats", 6: "GB 0999 B [Fonds] Dock"}
+    office.gone = {"/public/units/1"}
+    Round(db, office, sweep=0).run()
+    assert [unit["unit"] for unit in find(db, office).units] == [6]
+
+
+def test_a_unit_that_was_written_anew_is_found_by_what_it_says_now(db):
+    """Not by the words and the years that the index still has: a reader would look for them in vain."""
+    office, now = Office(), ["GB 0999 A/1 [File] Dock", "  3.1.3 Date(s): 1774"]
+    office.page = office.aid = lambda number, indent="": [indent + one for one in now]
+    office.tops, office.heads = (1,), {1: now[0]}
+    read(db, office)
+    bounds = ({}, {"first": 1700}, {"last": 1800}, {"first": 1700, "last": 1800})
+    assert [len(find(db, office, **one).units) for one in bounds] == [1] * 4
+    now[1] = "  3.1.3 Date(s): 1650 to 1690, copied in 1850"
+    assert [len(find(db, office, **one).units) for one in bounds] == [1] * 4, "these meet its years still"
+    now[1] = "  3.1.3 Date(s): 1850"
+    assert [len(find(db, office, **one).units) for one in bounds] == [1, 1, 0, 0], "it is of another year now"
+    now[1] = "  3.1.3 Date(s): 1650"
+    assert [len(find(db, office, **one).units) for one in bounds] == [1, 0, 1, 0], "it is of another year now"
+    now[0] = "GB 0999 A/1 [File] Quay"
+    assert find(db, office).units == [], "it has no word of dock any more"
+
+
+def test_of_an_archive_only_the_pages_of_what_changed_are_asked_for(db):
+    """One unit with another title does not make the office print all the others, round by round."""
+    office = Office()
+    read(db, office)
+    office.heads[3], office.paths = "GB 0999 A/1/1 [File] Boats", []
+    Round(db, office, sweep=0).run()
+    assert [path for path in office.paths if "units" in path] == ["/public/units/1", "/public/units/2"], "4 has not changed"
+
+
+def test_what_went_from_below_a_unit_that_has_moved_leaves_the_index(db):
+    office = Office()
+    read(db, office)
+    office.below = {6: (2,), 1: (4,), 4: (5,)}
+    Round(db, office, sweep=0).run()
+    assert known(db) == [1, 2, 4, 5, 6]
+
+
+def test_rounds_rest_until_an_answer_has_found_something_late():
+    answers, told = socket.socketpair(socket.AF_UNIX, socket.SOCK_SEQPACKET)
+    keeper, began = Keeper("", None, told, 1), time.monotonic()
+    keeper.damaged = False
+    keeper.listen(.5, 1)
+    assert time.monotonic() - began >= .5, "the rest is over before its time"
+    answers.send(b"7")
+    keeper.listen(60, 1)
+    assert keeper.doubts == {7}
+
+
+def test_what_an_answer_finds_withdrawn_leaves_the_index_before_all_else(db):
+    read(db, Office())
+    answers, told = socket.socketpair(socket.AF_UNIX, socket.SOCK_SEQPACKET)
+    keeper = Keeper("", None, told, 1)
+    keeper.damaged = False
+    answers.send(b"5")
+    answers.send(b"-3")
+    keeper.listen(60, 2)
+    assert (keeper.doubts, keeper.gone) == ({3, 5}, {3}), "5 is only to be read anew"
+    index.forget_at_once(db, keeper.gone)
+    assert find_words(db, "buoys") == 0 and find_words(db, "derricks") == 1
+
+
+def test_a_reader_whose_time_is_over_is_not_told_that_the_index_is_being_made(db):
+    fill(db, 3000)
+    office = Office()
+    office.is_late, office.page = True, lambda number: [f"GB 0999 A/{number} [File] Quay"]
+    assert find(db, office, .1).state == "late"
+
+
+def test_a_reader_who_goes_on_to_more_units_makes_the_office_print_no_others(db):
+    fill(db, 100)
+    more = find(db, Office(), after=(0, index.row_of(1, 20)))
+    assert (len(more.units), more.looked) == (SHOWN, SHOWN + 1)

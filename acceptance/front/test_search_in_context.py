@@ -1,0 +1,133 @@
+"""Readers who type words of the fonds with words of the file, whole questions, a minus or OR."""
+
+import json
+from collections.abc import Iterator
+from pathlib import Path
+from typing import Any
+from urllib.parse import urlencode
+
+import pytest
+
+from acceptance import client
+from acceptance.front.office import QUICK
+from acceptance.front.searched import Searched
+from acceptance.front.waits import until
+
+pytestmark = pytest.mark.needs("nginx", "haproxy", "readers")
+
+FILE = """legacyId,parentId,identifier,title,levelOfDescription,publicationStatus,eventDates,eventActors,scopeAndContent
+1,,HAY,Haywood family papers,Fonds,Published,1790-1890,Edward Thackeray,
+2,1,1,Photographs,Series,Published,,,
+3,2,1,Wedding at St Mary,Item,Published,1871,,bride and groom
+4,2,2,The old mill,Item,Published,1850,,
+5,1,2,Diaries,Series,Draft,,,
+6,5,1,Wedding diary,Item,Published,1872,,
+7,1,3,Letters,Series,Published,,,
+8,7,1,Wedding letters,Item,Published,1869,,
+20,,INF,Hull Royal Infirmary,Fonds,Published,1782-1948,,
+21,20,1,Minute books of the board,Series,Published,,,
+22,21,1,1832,File,Published,1832,,cholera in Hull
+23,21,2,1849,File,Published,1849,,cholera; records of the dead
+24,20,2,Plans,Series,Published,,,
+25,24,1,Wedding gift to the matron,Item,Published,1901,,a Haywood clock
+"""
+
+
+@pytest.fixture(scope="module")
+def office(program: client.Program, module_room: Path) -> Iterator[Searched]:
+    """An office of two archives, in which unit 8 was closed before the round that the index has, and unit 4 after it."""
+    file = module_room / "archives.csv"
+    file.write_text(FILE)
+    made = Searched.create(program, module_room / "office")
+    made.import_file("a", file).expect_success()
+    with made:
+        made.tell("/desk/closure", {"unit": 7, "until": "2999-12-31"})
+        made.serve_readers(*QUICK)
+        made.await_rounds()
+        yield made
+
+
+def found(office: Searched, typed: str, **more: str) -> list[str]:
+    """The ends of the codes of what has all that was typed, in order."""
+    told = answer(office, typed, **more)
+    heads = ["".join(unit["head"]) for unit in told["units"] if "lacking" not in told]
+    return [head.split(" [")[0].removeprefix("GB 0999 ") for head in heads]
+
+
+def answer(office: Searched, typed: str, **more: str) -> dict[str, Any]:
+    """What the search answers."""
+    status, body = office.ask_service(urlencode({"q": typed, "lang": "en", **more}))
+    assert status == 200, body
+    told: dict[str, Any] = json.loads(body)
+    return told
+
+
+@pytest.mark.parametrize(("typed", "wanted"), [
+    ("Haywood wedding", ["INF/2/1", "HAY/1/1"]),  # its own text has both; then the fonds has one of them
+    ("haywood mill", ["HAY/1/2"]),
+    ("Infirmary minute book", ["INF/1"]),
+    ("infirmary board 1832", ["INF/1/1"]),
+    ("infirmary cholera", ["INF/1/1", "INF/1/2"]),
+    ('"royal infirmary" cholera', ["INF/1/1", "INF/1/2"]),
+    ("Haywood photographs bride", ["HAY/1/1"]),
+    ("photographs", ["HAY/1"]),
+], ids=str)
+def test_words_of_the_fonds_and_of_the_file_find_the_file(office: Searched, typed: str, wanted: list[str]) -> None:
+    """Who remembers the archive and a word of the file finds the file."""
+    assert found(office, typed) == wanted
+
+
+def test_the_creator_of_a_fonds_alone_does_not_bring_its_files(office: Searched) -> None:
+    """A reader who types a creator and a word is not shown every file below."""
+    assert found(office, "Thackeray") == ["HAY"]
+    assert "lacking" in answer(office, "Thackeray wedding")
+
+
+def test_nothing_below_a_draft_or_a_closed_unit_is_found_by_the_words_above_it(office: Searched) -> None:
+    """What is closed stays closed, also to whom knows the archive."""
+    assert found(office, "Haywood diary") == [] and found(office, "Haywood letters") == []
+
+
+def test_what_was_closed_after_the_round_is_gone_from_the_very_next_answer(office: Searched) -> None:
+    mill = answer(office, "haywood mill")["units"][0]["unit"]
+    office.tell("/desk/closure", {"unit": mill, "until": "2999-12-31"})
+    assert found(office, "haywood mill") == []
+    office.tell("/desk/closure", {"unit": mill, "until": None})
+    office.await_rounds()
+    assert found(office, "haywood mill") == ["HAY/1/2"]
+
+
+def test_by_date_what_stands_in_context_comes_after_the_others(office: Searched) -> None:
+    """The earliest first, and then the earliest of those in context."""
+    assert found(office, "haywood wedding", order="date") == ["INF/2/1", "HAY/1/1"]
+
+
+def test_a_search_in_one_archive_keeps_to_it(office: Searched) -> None:
+    """Words above count inside the archive that was chosen."""
+    inside = answer(office, "haywood")["units"][0]["unit"]
+    assert found(office, "haywood wedding", **{"in": str(inside)}) == ["HAY/1/1"]
+
+
+def test_a_question_in_words_finds_what_its_words_find(office: Searched) -> None:
+    """"records about the cholera in Hull": about, the, in say nothing."""
+    assert found(office, "the cholera in Hull") == found(office, "cholera Hull") == ["INF/1/1", "INF/1/2"]
+    assert found(office, "the") == found(office, '"the"') != []
+
+
+def test_if_nothing_has_all_words_the_units_that_have_most_are_shown(office: Searched) -> None:
+    told = until(lambda: [it for it in [answer(office, "accounts about the cholera in Hull")] if "lacking" in it],
+                 "there was time to look for it")[0]
+    assert told["lacking"] == ["accounts"] and len(told["units"]) == 2
+    assert "lacking" not in answer(office, "cholera") and "lacking" not in answer(office, "accounts")
+
+
+def test_the_page_names_the_words_that_are_lacking(office: Searched) -> None:
+    page = office.ask_page("/search?" + urlencode({"q": "accounts cholera"}))
+    assert "Nothing has all of these words. Without accounts:" in page and "/unit/" in page
+
+
+def test_a_minus_leaves_out_and_or_means_either(office: Searched) -> None:
+    assert found(office, "wedding -clock") == ["HAY/1/1"]
+    assert found(office, "mill OR clock") == ["HAY/1/2", "INF/2/1"]
+    assert found(office, "cholera -dead") == ["INF/1/1"]
+    assert found(office, "1832 -1849") == [], "a hyphen before a number is none"

@@ -1,0 +1,91 @@
+"""What people type finds the titles that they mean: the table of typed.txt, by the service's words, by its index and, for
+names, by the desk's pages. And the examples of folding.json."""
+
+import json
+import re
+import sqlite3
+from pathlib import Path
+
+import folding
+import index
+import pytest
+from answers import Query
+
+HERE = Path(__file__).parent
+EXAMPLES = json.loads((HERE / "folding.json").read_text("utf-8"))
+IN_A_PAGE = """import('/shared/folding.js').then(({ partsOf, isSameName }) => JSON.stringify(TABLE.map(([typed, title]) =>
+  [partsOf(typed)(title), isSameName(title, title)])))"""
+
+
+def pairs():
+    """The table: language, what is typed, title, and whether it is found."""
+    language = None
+    for line in (HERE / "typed.txt").read_text("utf-8").splitlines():
+        line = re.sub(r"\\u([0-9a-f]{4})", lambda found: chr(int(found[1], 16)), line)
+        heading = re.match(r"\[(..)\]", line)
+        found = re.fullmatch("(.*) (=/?>) (.*)", line)
+        if heading:
+            language = heading[1]
+        elif found and not line.startswith("#"):
+            yield language, found[1], found[3], found[2] == "=>"
+
+
+TABLE = list(pairs())
+
+
+def by_words(language, typed, title):
+    """Whether the words that were typed stand in the title."""
+    readings = folding.readings_of(title)
+    return all(folding.occurs(phrase, readings) for phrase in folding.read_typed(typed, language))
+
+
+def test_the_table_is_large_and_a_third_of_it_is_not_english():
+    assert len(TABLE) >= 300
+    assert sum(language != "en" for language, *_ in TABLE) * 3 >= len(TABLE)
+
+
+@pytest.mark.parametrize("language, typed, title, found", TABLE, ids=[f"{row[0]}:{row[1]}" for row in TABLE])
+def test_what_a_reader_types_finds_the_title_or_does_not(language, typed, title, found):
+    assert by_words(language, typed, title) == found
+    assert by_words(language, typed, title) or not by_words(None, typed, title)
+
+
+def test_the_index_proposes_each_title_that_is_found():
+    db = sqlite3.connect(":memory:", isolation_level=None)
+    db.executescript(index.TABLES)
+    for number, (*_, title, _) in enumerate(TABLE, 1):
+        db.execute("INSERT INTO unit(n, top) VALUES (?, 1)", (number,))
+        db.execute("INSERT INTO words(rowid, head, body) VALUES (?, ?, '')", (index.row_of(1, number), index.words(title)))
+    db.execute("UPDATE round SET changed = 1")
+    index.finish(db)
+    lost = [(typed, title) for number, (language, typed, title, found) in enumerate(TABLE, 1) if found
+            and number not in {one for _, one in index.propose(db, Query(folding.read_typed(typed, language)))}]
+    assert lost == []
+
+
+@pytest.mark.browser
+@pytest.mark.needs("chromium")
+def test_a_clerk_finds_the_names_that_a_reader_finds(desk):
+    wanted = [(typed, title) for language, typed, title, found in TABLE
+              if found and by_words(None, typed, title) and not re.search(r"[\d½¼¾№*\"&]", typed)]
+    assert len(wanted) > 150
+    found = json.loads(desk.at("/").js(IN_A_PAGE.replace("TABLE", json.dumps(wanted))))
+    assert [pair for pair, answer in zip(wanted, found) if answer != [True, True]] == []
+
+
+@pytest.mark.parametrize("text, words", EXAMPLES["words"], ids=repr)
+def test_the_words_of_a_text(text, words):
+    """To the letter."""
+    assert folding.folded_words(text) == words
+
+
+@pytest.mark.parametrize("typed, phrases", EXAMPLES["typed"], ids=repr)
+def test_the_phrases_that_were_typed(typed, phrases):
+    """With their readings."""
+    assert [[[list(words) for words in phrase.readings], phrase.begins] for phrase in folding.read_typed(typed)] == phrases
+
+
+@pytest.mark.parametrize("typed, text, places", EXAMPLES["places"], ids=repr)
+def test_the_places_in_a_text_that_are_marked(typed, text, places):
+    """Whole letters, with their accents."""
+    assert [text[begin:end] for begin, end in folding.places_of(folding.read_typed(typed), text)] == places

@@ -1,1 +1,0 @@
-"""Sessions without a store, measured."""

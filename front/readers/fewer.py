@@ -1,0 +1,27 @@
+"""What has most of the words, if nothing has all: the units that are found with as few phrases left out as can be, those that
+were typed first before others. Which these are is told by pages alone, as in each answer."""
+
+import itertools
+import time
+
+from answers import Finder, Query
+
+MOST, SECONDS = 6, 1.5  # phrases of a question of which some are left out; time
+
+
+def fewer(answer, question):
+    """An answer without some phrases, and what was typed for these; nothing if there is none, or the time is over."""
+    many, end, query = len(question.phrases), time.monotonic() + SECONDS, answer.query
+    if many > MOST:
+        return None
+    for out in range(1, many):
+        for lacking in itertools.combinations(range(many), out):
+            left = end - time.monotonic()
+            if left <= 0:
+                return None
+            phrases = [phrase for place, phrase in enumerate(question.phrases) if place not in lacking]
+            asked = Query(phrases, query.within, query.first, query.last, by_date=query.by_date, without=query.without)
+            found = Finder(answer.db, answer.ask, asked, fonds=answer.fonds, counts=False).find(left)
+            if found.units:
+                return found, [question.texts[place] for place in lacking]
+    return None
