@@ -105,6 +105,22 @@ def test_1000_requests_on_one_connection_within_10_seconds(serve: Serve) -> None
         assert time.monotonic() - begun < 10
 
 
+def test_200_000_requests_keep_no_memory(serve: Serve) -> None:
+    """Sent in lots over twenty connections, after one that fills what is kept: questions, a body, a refusal."""
+    round = FONDS + AID + client.get("/public/units/9") + client.post("/desk/seat", '{"ticket":9}')
+    resident = []
+    with serve(22) as server:
+        for _ in range(21):
+            with Talk(server.connect()) as it:
+                for _ in range(100):
+                    it.send(round * 25)
+                    statuses = [client.read_reply(it.answers).status for _ in range(100)]
+                    assert statuses == [200, 200, 404, 409] * 25
+            status = Path(f"/proc/{server.process.pid}/status").read_text()
+            resident += [int(it) for it in re.findall(r"VmRSS:\s*(\d+) kB", status)]
+    assert max(resident) - resident[0] < 1024, f"KiB after each connection: {resident}"
+
+
 @pytest.mark.needs("curl")
 def test_1000_requests_of_one_curl_within_10_seconds(serve: Serve) -> None:
     with serve(9) as server:

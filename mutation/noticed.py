@@ -8,6 +8,7 @@ notices it:
     noticed by: CRATE TEST                  the test of a crate of tests, run without proof by `rt try --test`
     noticed by: acceptance/FILE -k WORD     a test of pytest's, with a program that is compiled without proof
     noticed by: the compiler                it does not compile
+    noticed by: tools.promises              it makes a fault, or keeps memory, where tools/made_faults.txt has no place for it
 
 The script prints a line for each edit, and ends with 1 if one was not noticed. A program takes some four minutes, a
 crate of tests one; each edit may take N minutes, by default 30. With NAME, it tries those whose name contains it. With
@@ -21,11 +22,12 @@ import tempfile
 from pathlib import Path
 
 from mutation import records, trials
+from tools import made_faults
 from tools.compiled import compiled
 
 TOP = Path(__file__).resolve().parents[1]
 
-COMPILER, NOTICED = "the compiler", "noticed"
+COMPILER, PROMISES, NOTICED = "the compiler", "tools.promises", "noticed"
 
 
 class Edit:
@@ -39,7 +41,7 @@ class Edit:
         """Why the edit cannot be tried, or an empty text."""
         if why := self.record.why_not(TOP / "crates" / self.crate):
             return why
-        return "" if self.by == COMPILER or self.has_test() else f"there is no test {self.by}"
+        return "" if self.by in (COMPILER, PROMISES) or self.has_test() else f"there is no test {self.by}"
 
     def has_test(self):
         """Whether the test is there that the edit names."""
@@ -87,10 +89,21 @@ def noticed_by_compiler(tree, edit, seconds):
     return any(f"{edit.record.file}:" in line and " error" in line for line in told.splitlines()), told
 
 
+def noticed_by_promises(tree, edit):
+    """Whether the list of what makes faults lacks a place of the crate with the mutant, and what was said."""
+    copy_sources(tree, edit)
+    (tree / "tools").mkdir()
+    shutil.copy(TOP / made_faults.LIST, tree / made_faults.LIST)
+    told = list(made_faults.problems(tree))
+    return bool(told), "\n".join(told)
+
+
 def is_noticed(edit, seconds):
     """Whether the edit is noticed by what it names, and what was said."""
     with tempfile.TemporaryDirectory() as room:
         place, *words = edit.by.split(" ")
+        if edit.by == PROMISES:
+            return noticed_by_promises(Path(room), edit)
         if edit.by == COMPILER:
             return noticed_by_compiler(Path(room), edit, seconds)
         if edit.by.startswith("acceptance/"):

@@ -4,8 +4,8 @@
 
 What PROMISES has between `<!-- laws: CRATE .. -->` and `<!-- end -->` must be what the comments of the code give
 (code_rows.py); `--write` writes it. The excerpts of WALK and HEADLINE must be lines of their files, and each link of a
-page must lead to a file and a heading (document_links.py). `--list` prints each public function of a crate with its
-sentence and its clauses.
+page must lead to a file and a heading (document_links.py). What makes want of memory must be listed (made_faults.py).
+`--list` prints each public function of a crate with its sentence and its clauses.
 
 In the column "Clause" `crate::module::function`: `clause` names a clause of that function; a function that follows
 without a path is in the same module, or of the same type; names in parentheses are definitions. Each function must be
@@ -21,7 +21,7 @@ import pathlib
 import re
 import sys
 
-from tools import code_rows, document_links
+from tools import code_rows, document_links, made_faults
 from tools.clauses import Source
 
 TOP = os.path.dirname(os.path.dirname(os.path.abspath(__file__)))
@@ -165,6 +165,7 @@ def problems(tree, pages):
     for page in WITH_EXCERPTS:
         yield from document_links.wrong_excerpts(tree.top, page, pages[page])
     yield from document_links.wrong_links(tree.top, pages)
+    yield from made_faults.problems(tree.top)
 
 
 def main():
