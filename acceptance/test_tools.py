@@ -154,7 +154,7 @@ def test_an_upgrade_leaves_what_the_operator_wrote(tmp_path: Path) -> None:
     (theirs / "rooms.conf").write_text("the operator's\n")
     for path in (own / "rooms.conf", own / "backup.conf", own.parent / "site", own.parent / "site-tls"):
         path.write_text("the package's\n")
-    bring = re.search(r"^bring\(\) \{.*?^\}$", (PACKAGING / "postinst").read_text("utf-8"), re.M | re.S)
+    bring = re.search(r"^bring\(\) \{.*?^\}$", (client.TOP / "debian/record-office.postinst").read_text("utf-8"), re.M | re.S)
     assert bring
     script = re.sub(r"(?<=[\s\"=])/(?=etc/|usr/)", f"{tmp_path}/", bring[0])
     subprocess.run(["sh", "-e", "-c", f"{script}\nbring"], check=True, capture_output=True)
@@ -172,12 +172,24 @@ def test_the_units_of_an_added_office_name_nothing_of_the_first_ones(unit: str) 
     assert re.findall(r"\brecord-office(?:-[a-z]+)?\.(?:service|timer)\b", lines) == [], "units of the first office"
 
 
-@pytest.mark.needs("dpkg-deb", "objdump", "strip")
-def test_the_package_has_each_file_that_its_programs_read(program: client.Program, tmp_path: Path) -> None:
-    made = subprocess.run([PACKAGING / "deb.sh", program.path, tmp_path], capture_output=True, text=True, check=True,
-                          env={**os.environ, "VERSION": "1", "SOURCE_DATE_EPOCH": "2000000000"})
-    listed = subprocess.run(["dpkg-deb", "--contents", made.stdout.strip()], capture_output=True, text=True, check=True).stdout
-    has = {line.split(" ./", 1)[1].split(" -> ")[0] for line in listed.splitlines()}
+@pytest.fixture(scope="module")
+def package(program: client.Program, tmp_path_factory: Any) -> Path:
+    """The package of this tree, unpacked, with its control files in DEBIAN."""
+    tree: Path = tmp_path_factory.mktemp("package") / "tree"
+    tree.mkdir()
+    parts = ["debian", "packaging", "front", "docs", "examples", "CHANGELOG.md"]
+    listed = subprocess.check_output(["git", "ls-files", "-z", *parts], cwd=client.TOP)
+    subprocess.run(["xargs", "-0", "cp", "--parents", "-t", tree], cwd=client.TOP, input=listed, check=True)
+    environment = {**os.environ, "VERSION": "1", "SOURCE_DATE_EPOCH": "2000000000", "PROGRAM": str(program.path)}
+    subprocess.run(["dpkg-buildpackage", "-b", "-us", "-uc"], cwd=tree, env=environment, check=True, capture_output=True)
+    made, = tree.parent.glob("*.deb")
+    subprocess.run(["dpkg-deb", "-R", made, tree.parent / "unpacked"], check=True)
+    return tree.parent / "unpacked"
+
+
+@pytest.mark.needs("dpkg-buildpackage", "dh", "dh_python3")
+def test_the_package_has_each_file_that_its_programs_read(package: Path) -> None:
+    has = {str(path.relative_to(package)) for path in package.rglob("*")}
     share = "usr/share/record-office"
     wanted = {f"{share}/{'front/' if part in ('public', 'desk', 'shared') else ''}{path.relative_to(client.TOP / 'front')}"
               for part in ("public", "desk", "shared", "look", "try", "readers")

@@ -5,7 +5,7 @@
 #     packaging/try.sh PROGRAM [ROOT.tar [SUITE]]
 #
 # ROOT.tar is the clean root; the script makes it if it does not exist (some two minutes), of bookworm unless SUITE says trixie. It
-# needs root, git, mmdebstrap, lintian and the network for Debian's packages. It changes nothing outside its folder except a control group of its own, which it removes.
+# needs root, git, debhelper, dh-python, mmdebstrap, lintian and the network for Debian's packages. It changes nothing outside its folder except a control group of its own, which it removes.
 # Its last line is `N passed, M failed`; if systemd cannot be started, it says so and counts that as failed.
 set -euo pipefail
 here=$(cd "$(dirname "$0")" && pwd)
@@ -41,16 +41,28 @@ is() {
     fi
 }
 
-deb=$("$here/deb.sh" "$program" "$room")
+# tree FOLDER: a copy of this tree as it stands, with its history
+tree() {
+    git clone -q --no-checkout "$here/.." "$1"
+    git -C "$1" remote remove origin
+    (cd "$here/.." && git ls-files -z debian packaging front docs examples CHANGELOG.md | xargs -0 cp --parents -t "$1")
+}
+
+# build FOLDER: makes the package of a tree in the folder above it, and prints its name
+build() {
+    (cd "$1" && PROGRAM=$program dpkg-buildpackage -b -us -uc) >"$1.log" 2>&1 || tail -20 "$1.log" >&2
+    ls "${1%/*}"/*.deb
+}
+
+mkdir "$room/one" "$room/two" "$room/three"
+tree "$room/one/tree"
+deb=$(build "$room/one/tree")
 how=0
 lintian --fail-on error,warning "$deb" >"$room/lintian" 2>&1 || how=1
 [ "$how" = 0 ] || cat "$room/lintian"
 is "lintian finds no error and no warning" "$how"
 
-git clone -q --no-checkout "$here/.." "$room/copy"
-git -C "$room/copy" remote remove origin
-cp -r "$here/../front" "$here/../packaging" "$here/../docs" "$here/../examples" "$here/../CHANGELOG.md" "$room/copy"
-again=$(umask 077 && cd / && LC_ALL=C TZ=Asia/Tokyo "$room/copy/packaging/deb.sh" "$program" "$room/copy/out")
+again=$(umask 077 && tree "$room/two/tree" && LC_ALL=C TZ=Asia/Tokyo build "$room/two/tree")
 how=0
 cmp "$deb" "$again" || how=1
 is "another build of the package is equal byte for byte" "$how"
@@ -71,11 +83,12 @@ cp "$deb" "$root/root/record-office.deb"
 cp "$here/../acceptance/version1.db" "$here"/{try_back.sh,try_alarms.sh,try_registers.sh,try_limits.sh,try_checks.sh,try_inside.sh,try_readers.sh,try_busy.py} "$root/root"
 cp "$here/../examples/archives.csv" "$root/root"
 # The next commit, in which each file that the package brings to /etc has changed, and a page without another size.
-mv "$room/copy" "$room/next"
-for file in "$room"/next/front/server/*.{conf,cfg} "$room"/next/packaging/{backup,alarm}.conf; do echo '# of the next version' >>"$file"; done
-sed -i 's/The desk/the Desk/' "$room/next/front/desk/index.html"
-git -C "$room/next" -c user.name=try -c user.email=try@localhost commit -q --allow-empty -m 'the next commit'
-next=$("$room/next/packaging/deb.sh" "$program" "$room/next")
+next=$room/three/tree
+mv "$room/two/tree" "$next"
+for file in "$next"/front/server/*.{conf,cfg} "$next"/packaging/{backup,alarm}.conf; do echo '# of the next version' >>"$file"; done
+sed -i 's/The desk/the Desk/' "$next/front/desk/index.html"
+git -C "$next" -c user.name=try -c user.email=try@localhost commit -q --allow-empty -m 'the next commit'
+next=$(build "$next")
 how=0
 dpkg --compare-versions "$(dpkg-deb -f "$next" Version)" gt "$(dpkg-deb -f "$deb" Version)" || how=1
 is "a build of the next commit has a greater version" "$how"
