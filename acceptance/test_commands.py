@@ -7,6 +7,8 @@ import signal
 import socket
 import struct
 import subprocess
+import threading
+import time
 from collections.abc import Callable, Iterator
 from pathlib import Path
 
@@ -20,6 +22,8 @@ from acceptance.scenarios import Scenario
 HERE = Path(__file__).resolve().parent
 HEADER = "legacyId,parentId,identifier,title,levelOfDescription,publicationStatus\n"
 FONDS = HEADER + "1,,HUL,Hull Dock Company,Fonds,Published\n2,1,1,Minutes,Series,Published\n"
+TWO_UNITS = "GB 0999 HUL [Fonds] Hull Dock Company\n  GB 0999 HUL/1 [Series] Minutes\n"
+BOXES = "legacyId,title,publicationStatus,physicalObjectName\n1,Plans,Published,Box 1\n2,Maps,Published,Box 2\n"
 TAKEN = '{"changed":0,"new":2,"remarks":[{"kind":2,"row":2}],"same":0,"translations":0}'
 AGAIN = '{"changed":0,"new":0,"remarks":[{"kind":2,"row":2}],"same":2,"translations":0}'
 TOP = "1 GB 0999 HUL [Fonds] Hull Dock Company\n"
@@ -199,7 +203,7 @@ def test_preview_of_the_codes_and_the_file_that_the_words_name(words: str, room:
 
 
 @pytest.mark.parametrize("said, wanted", [
-    (FONDS, printed("GB 0999 HUL [Fonds] Hull Dock Company\n  GB 0999 HUL/1 [Series] Minutes\n")),
+    (FONDS, printed(TWO_UNITS)),
     ("", refused("refused 22 BadFile row 1 cause 2", 1)),
     (HEADER, DONE),
     ("legacyId,parentId,title\n1,,Top\n3,2,Low\n2,1,Mid\n", refused("refused 22 BadFile row 3 cause 11", 1)),
@@ -210,6 +214,23 @@ def test_preview_of_a_file_and_of_what_is_sent(said: str, wanted: Ended, room: P
     assert unread([*PREVIEW, str(room / "a.csv")]) == wanted
     for file in (room / "none.csv", room):
         assert unread([*PREVIEW, str(file)]) == FILE_FAULT
+
+
+def test_a_file_is_read_to_its_end_from_a_pipe_that_is_written_in_pieces(program: Program, office: Office, room: Path) -> None:
+    os.mkfifo(pipe := room / "pipe")
+
+    def write() -> None:
+        with open(pipe, "wb", buffering=0) as it:
+            for begin in range(0, len(FONDS), 20):
+                it.write(FONDS[begin:begin + 20].encode())
+                time.sleep(0.01)
+
+    for read, wanted in ((lambda: program.run(*PREVIEW, pipe), TWO_UNITS),
+                         (lambda: office.import_file("a", pipe), f"{TAKEN}\n")):
+        writer = threading.Thread(target=write)
+        writer.start()
+        assert read() == printed(wanted)
+        writer.join()
 
 
 # ---- offices of this version
@@ -257,6 +278,13 @@ def test_a_file_that_is_no_store_stays_with_an_empty_log(content: bytes, program
         assert sizes_left(office.store) == (len(content), None if len(content) < SHORTEST_STORE else 0), words
     assert office.init() == FILE_FAULT
     assert office.store.read_bytes() == content
+
+
+@pytest.mark.parametrize("length", [252, 255, 256])
+def test_no_office_is_made_whose_files_would_have_too_long_names(length: int, program: Program, room: Path) -> None:
+    assert Office(program, room / ("a" * 247)).init() == DONE
+    assert Office(program, room / ("b" * length)).init() == FILE_FAULT
+    assert [it.name[0] for it in room.iterdir()] == ["a", "a"]
 
 
 def test_a_directory_is_no_store(program: Program, room: Path) -> None:
@@ -405,6 +433,27 @@ def test_verdict_of_check_after_a_statement_of_sqlite3(line: str, with_a_reader:
     told = STORE_FAULT if verdict == "store fault" else Ended(0 if verdict == "sound" else 1, f"{verdict}\n".encode(), b"")
     assert changed.check() == told
     assert changed.talk() == (DONE if verdict == "sound" else STORE_FAULT)
+
+
+LAST_ROW = 2**63 - 1
+WRITES = {"element": (client.post("/desk/import/b", FONDS),), "housing": (client.post("/desk/import/b", BOXES),),
+          "permit": (client.post("/desk/permit", '{"ticket":1,"unit":2,"until":"2024-12-31"}'),),
+          "run_line": (client.post("/public/orders", '{"ticket":1,"container":2}'), client.post("/desk/run"))}
+
+
+@needs_sqlite3
+@pytest.mark.parametrize("table", WRITES)
+def test_no_row_comes_after_the_last_number_until_somebody_lowers_it(table: str, office: Office) -> None:
+    permit, order = '{"ticket":1,"unit":1,"until":"2024-12-31"}', '{"ticket":1,"container":1}'
+    office.talk(client.post("/desk/import/a", BOXES), ANN, client.post("/desk/permit", permit),
+                client.post("/desk/seat", '{"ticket":1}'), client.post("/public/orders", order), client.post("/desk/run"))
+    highest = f"(SELECT max(rowid) FROM {table} WHERE rowid < {LAST_ROW})"
+    sqlite3(office.store, f"UPDATE {table} SET rowid = {LAST_ROW} WHERE rowid = {highest}")
+    assert office.check() == SOUND
+    assert client.replies(office.talk(*WRITES[table]).output)[-1].status == 503
+    sqlite3(office.store, f"UPDATE {table} SET rowid = ifnull({highest}, 0) + 1 WHERE rowid = {LAST_ROW}")
+    assert office.check() == SOUND
+    assert client.replies(office.talk(WRITES[table][-1]).output)[-1].status == 200
 
 
 # ---- the kept file of version 1

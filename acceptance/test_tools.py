@@ -89,6 +89,20 @@ def test_the_status_is_red_when_the_newest_copy_is_old_or_there_is_none(place: A
     assert checks.LEVELS[found] == level, text
 
 
+@pytest.mark.parametrize("after, level", [
+    (lambda store: None, "OK"), (lambda store: store.rename(f"{store}.old"), "CRITICAL"), (Path.unlink, "CRITICAL"),
+    (lambda store: store.rename(f"{store}.old").with_name("office.db").write_bytes(b"another"), "CRITICAL"),
+], ids=["there", "moved", "deleted", "replaced"])
+def test_the_status_is_red_when_the_program_has_another_file_open(place: Any, after: Any, level: str) -> None:
+    checks, place.process = tool("checks.py"), lambda: os.getpid()
+    with open(place.store, "rb"):
+        after(place.store)
+        found, text = checks.store(place)
+    assert checks.LEVELS[found] == level, text
+    place.process = lambda: 0
+    assert checks.store(place)[0] == checks.OK, "no program runs"
+
+
 def test_who_erases_a_reader_is_told_of_each_copy_that_has_the_name(place: Any) -> None:
     for past, name in enumerate(("Ada Stone", "erased", "Ada Stone")):
         path = copy_of(place, DAY - datetime.timedelta(past))

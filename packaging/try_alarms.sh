@@ -172,7 +172,7 @@ killed() {
 # Each line of the status, and its exit statuses.
 lines() {
     local copied size missing
-    same 'ten lines' "$(record-office-status | wc -l)" 10
+    same 'eleven lines' "$(record-office-status | wc -l)" 11
     is 'nothing is red' record-office-status
     size=$(stat -c %s $office) kept=("$copies"/office-*.db)
     missing=$((23 - ${#kept[@]}))

@@ -1,9 +1,12 @@
 """What record-office-status looks at: for each line a function that returns its level and its text."""
 
+import contextlib
+import os
 import pathlib
 import re
 import shutil
 import ssl
+import stat
 import subprocess
 import time
 import urllib.error
@@ -51,6 +54,24 @@ def program(office):
         if words and words[1] in "TtZ":
             return CRITICAL, f"process {office.process()} is stopped: kill -CONT {office.process()}"
     return level, text
+
+
+def files_of(process):
+    """What is known of each file that a process has open."""
+    for path in pathlib.Path(f"/proc/{process}/fd").iterdir():
+        with contextlib.suppress(FileNotFoundError):  # it is closed by now
+            if stat.S_ISREG((found := path.stat()).st_mode):
+                yield found
+
+
+def store(office):
+    """Whether the file at the office's path is the one that the program has open: it goes on with the file that it opened,
+    also if somebody moves or replaces that."""
+    process = office.process()
+    files = list(files_of(process)) if process else []
+    if files and not (office.store.exists() and any(os.path.samestat(it, office.store.stat()) for it in files)):
+        return CRITICAL, f"process {process} answers from another file than {office.store}: ls -l /proc/{process}/fd"
+    return OK, f"{office.store} is what the program has open" if files else "no program has it open"
 
 
 def queue(office):
@@ -165,6 +186,6 @@ def aside(office):
     return OK, f"{len(folders)} replaced offices, {size / 2**20:.0f} MB, the last kept until {max(folders.values())}"
 
 
-ALL = {"program": program, "queue": queue, "readers": readers, "page": page, "desk": desk, "copy": copy, "disk": disk,
-       "certificate": certificate, "put aside": aside}
-OF_PROBE = ("page", "desk")
+ALL = {"program": program, "store": store, "queue": queue, "readers": readers, "page": page, "desk": desk, "copy": copy,
+       "disk": disk, "certificate": certificate, "put aside": aside}
+OF_PROBE = ("store", "page", "desk")
