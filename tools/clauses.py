@@ -1,6 +1,6 @@
-"""Compares what two trees promise: every public clause and every definition of the old tree must be in the new one.
+"""Compares what two trees promise: every public clause and every definition of the old tree should be in the new one.
 
-    ./run tools.clauses OLD_TREE NEW_TREE [--names FILE] [--new] [--why]
+    ./run tools.clauses OLD_TREE NEW_TREE [--new]
 
 Public clauses are the ensures and requires of public functions (in a library: not those of a private module that it
 does not pass on), of the methods of traits and of the impls of traits, the ghost members of traits and impls, and the
@@ -8,34 +8,15 @@ invariants of public types. The names that can be imported from a crate (its `pu
 modules) are compared too. Definitions are all lines of crates/*/specs except imports and comments; the fields of a
 record, the cases of a type and the members of a section (`module _ .. where`) are compared one by one. White space,
 comments and the module within a crate make no difference; the crate, the owner (a trait or a type) and the name of the
-function do. A parameter (`@NAME` in what is printed) may have another name if it has the same place. A name that an
-import gives (`use .. as ..`) is written out.
+function do. A parameter stands as `@NAME`; a name that an import gives (`use .. as ..`) is written out.
 
-FILE has the names that changed, one a line, or on more lines of
-which all but the first begin with a space:
+What has another name in the new tree gets it in a copy of the old one first: `git worktree add COPY COMMIT`, and then sed.
 
-    crate OLD NEW             a crate's new name, or the crate that it went to
-    module CRATE OLD NEW      a module of the old crate; NEW has dots where it is nested
-    spec CRATE OLD NEW        a file of the old crate's specs
-    word OLD NEW [CRATE ..]   an identifier, in all old crates or in these
-    definition CRATE FILE OLD NEW   a definition of the old crate's specs/FILE, there and in each file that imports it
-    function CRATE OLD NEW    a public function of the old crate
-    label OLD NEW CRATE ..    a label of clauses and a field of records, in these old crates
-    file CRATE NAME NEW       a file of the old crate's src or specs that went to the crate NEW by itself
-    above CRATE OLD NEW USER ..   each field of the record OLD must be one of the record NEW, too; a clause of the
-                              crates USER may cite NEW in place of OLD
-    changed CRATE KEY ..: WHY     what says something else since, by its new names, and why; the new tree must still
-                              have something new under each of these keys, and of clauses as many
-    gone CRATE KEY ..: WHY        what the new tree has no more, and why
-
-A key is FUNCTION.LABEL for a clause (TYPE::FUNCTION.LABEL for a method; without a label: FUNCTION.ensures or
-FUNCTION.requires), FUNCTION.fn for a public function itself, NAME.importable for a name that can be imported,
-TYPE::NAME.ghost for a ghost member, NAME for a definition, RECORD.FIELD and TYPE.CASE for a part of one, and
-FILE.section for the head of a section in a file of specs.
-
-The script prints what is lost without a reason, how much is lost with one, and how many clauses and definitions are new
-(with --new: which; with --why: what is lost with a reason, and the reason). It ends with 1 if something is lost without
-a reason, or if a reason explains nothing.
+For each key it prints what is lost (`-`) and what is new there (`+`); with --new also what is new elsewhere. A key is
+FUNCTION.LABEL for a clause (TYPE::FUNCTION.LABEL for a method; without a label: FUNCTION.ensures or FUNCTION.requires),
+FUNCTION.fn for a public function itself, NAME.importable for a name that can be imported, TYPE::NAME.ghost for a ghost
+member, NAME for a definition, RECORD.FIELD and TYPE.CASE for a part of one, and FILE.section for the head of a section
+in a file of specs. It ends with 1 if something is lost.
 """
 
 import argparse
@@ -49,98 +30,7 @@ TOKEN = re.compile(
     r"""//[^\n]*|/\*.*?\*/|"(?:[^"\\]|\\.)*"|b?'(?:[^'\\\n]|\\[^\n]+?)'|'\w+|[A-Za-z_]\w*|\d\w*|\s+|.""", re.S
 )
 IMPORT = re.compile(r"\buse ([\w.«»]+?)(?:\.\{([^}]*)\}| as (\w+))")
-GHOST = re.compile(r"\bRattle\.(\w+)\.specs\.([\w.]+)")
-WORD = re.compile(r"(?<![\w'])(?<!specs\.)(?<!proofs\.)([A-Za-z_]\w*)(?![\w'])")
 CLOSE = {"(": ")", "[": "]", "{": "}"}
-
-
-class Names:
-    """The names that changed; none for the new tree itself."""
-
-    def __init__(self, file=None):
-        self.crates, self.modules, self.specs, self.words, self.files = {}, {}, {}, {}, {}
-        self.reasons, self.above, self.definitions, self.labels, self.functions = {}, [], [], [], {}
-        text = Path(file).read_text(encoding="utf-8") if file else ""
-        for line in re.sub(r"\n[ \t]+", " ", text).split("\n"):
-            kind, *rest = line.split("#")[0].split() or [""]
-            if kind in ("changed", "gone"):
-                what, _, why = line.partition(": ")
-                crate, *keys = what.split()[1:]
-                self.reasons.update({(crate, key): (kind, why.strip()) for key in keys})
-            elif kind == "above":
-                self.above.append((*rest[:3], rest[3:]))
-            elif kind == "crate":
-                self.crates[rest[0]] = rest[1]
-            elif kind in ("module", "spec", "file"):
-                table = {"module": self.modules, "spec": self.specs, "file": self.files}[kind]
-                table[rest[0], rest[1]] = rest[2]
-            elif kind == "word":
-                for crate in rest[2:] or [""]:
-                    self.words[crate, rest[0]] = rest[1]
-            elif kind == "definition":
-                self.definitions.append(rest)
-            elif kind == "label":
-                self.labels.append(rest)
-            elif kind == "function":
-                self.functions[rest[0], rest[1]] = rest[2]
-            elif kind:
-                sys.exit(f"{file}: no such line: {line.strip()}")
-
-    def in_file(self, text, crate, file):
-        """The text of a file with the new names of the definitions in it or imported by it, and of labels."""
-        for home, spec, old, new in self.definitions:
-            text = with_definition(text, rf"Rattle\.{home}\.specs\.{spec}", old, new, (crate, file) == (home, spec))
-        for old, new, *crates in self.labels:
-            before = r"((?:^|\n) +(?:pub )?(?:ensures )?|(?<=\w)\.)"
-            if crate in crates:
-                text = re.sub(rf"{before}{old}(?= \{{| : |[ );.\n]|$)", rf"\g<1>{new}", text)
-        return text
-
-    def crate(self, old, file=""):
-        """The new name of a crate, or the crate to which one of its files went."""
-        return self.files.get((old, file)) or self.crates.get(old, old)
-
-    def path(self, found, word):
-        """The path of a definition in the new tree, from a match of GHOST."""
-        old, parts = found[1], found[2].split(".")
-        first, rest = parts[0], parts[1:]
-        if first == "declared" and rest:
-            rest[0] = self.modules.get((old, rest[0]), rest[0])
-            return ".".join(["Rattle", self.crate(old), "specs", first, rest[0], *map(word, rest[1:])])
-        first_now = self.specs.get((old, first), first)
-        return ".".join(["Rattle", self.crate(old, first), "specs", first_now, *map(word, rest)])
-
-    def text(self, text, crate):
-        """The text as the new tree would have it."""
-        def word(old):
-            """The new name of a word."""
-            return self.words.get((crate, old)) or self.words.get(("", old)) or old
-
-        def of_match(found):
-            """The new name of what was found."""
-            return word(found[1])
-
-        parts, at = [], 0
-        for found in GHOST.finditer(text):
-            parts += [WORD.sub(of_match, text[at : found.start()]), self.path(found, word)]
-            at = found.end()
-        return "".join([*parts, WORD.sub(of_match, text[at:])])
-
-
-def with_definition(text, path, old, new, at_home):
-    """The text of a file with the new name of a definition of the module at this path (a pattern). What stands in
-    quotes stays, and so do fields of records that have the name."""
-    imported = rf"(use {path}\.\{{(?:[^}}]*[{{, ])?){old}(?=[,}} ])"
-    is_bare = at_home or re.search(rf"{imported}(?! as )", text)
-    text = re.sub(imported, rf"\g<1>{new}", text)
-    for alias in [path, *re.findall(rf"use {path} as (\w+)", text)]:
-        text = re.sub(rf"(?<![\w.]){alias}\.{old}(?![\w'])", f"{alias}.{new}".replace("\\", ""), text)
-    if not is_bare:
-        return text
-    quoted, field = r'"(?:[^"\\\n]|\\.)*"', rf"(?:^|\n) +(?:pub )?{old} :"
-    label = "" if at_home else r"|\s=(?![=>≡])"
-    name = rf"(?<![\w.'-]){old}(?![\w'-]{label})"
-    return re.sub(rf"{quoted}|{field}|{name}", lambda found: new if found[0] == old else found[0], text)
 
 
 def tokens(text):
@@ -398,59 +288,34 @@ def texts(folder, ending):
             yield os.path.splitext(path.split("/")[0])[0], Path(inside, file).read_text(encoding="utf-8")
 
 
-def with_new_names(clause, mine, others):
-    """The clause with the parameters of the function that has its name in the other tree: those that are in both, if
-    they are in one order there; for each other one, the one at its place."""
-    new = {}
-    for theirs in [it for it in others if it == mine] or others:
-        kept = [it for it in mine if it in theirs]
-        kept = kept if kept == [it for it in theirs if it in mine] else []
-        new.update({old: now for old, now in zip(mine, theirs) if old not in kept and now not in kept})
-    return re.sub(r"@(\w+)", lambda found: f"@{new.get(found[1], found[1])}", clause)
-
-
-def promises(tree, names, after):
-    """What the tree promises, counted: by crate, owner, name and text; and the parameters of its functions. Given are
-    those of the functions in the tree after it."""
-    found, functions = collections.Counter(), collections.defaultdict(list)
+def promises(tree):
+    """What the tree promises, counted: by crate, owner, name and text."""
+    found = collections.Counter()
     for crate in sorted(os.listdir(f"{tree}/crates")):
-        count_code(tree, crate, names, after, found, functions)
-        count_specs(tree, crate, names, found)
-    for crate, lower, upper, _ in names.above:
-        for (at, owner, key, line), count in list(found.items()):
-            if at == crate and owner == "specs" and key.startswith(f"{lower}."):
-                found[at, owner, upper + key.removeprefix(lower), line] += count
-    return found, functions
+        found.update((crate, *it) for it in (*of_code(f"{tree}/crates/{crate}"), *of_specs(f"{tree}/crates/{crate}")))
+    return found
 
 
-def count_code(tree, crate, names, after, found, functions):
-    """Counts the clauses and the importable names of a crate's code in `found`, and adds parameters to `functions`."""
-    files = [(file, names.in_file(text, crate, "")) for file, text in texts(f"{tree}/crates/{crate}/src", ".rt")]
+def of_code(crate):
+    """The clauses and the importable names of a crate's code."""
+    files = list(texts(f"{crate}/src", ".rt"))
     root = "".join(text for file, text in files if file in ("lib", "main"))
     is_program = all(file != "lib" for file, _ in files)
     for file, text in files:
-        at, is_open = names.crate(crate, file), re.search(rf"^pub mod {file};", root, re.M)
+        is_open = re.search(rf"^pub mod {file};", root, re.M)
         passed_on = " ".join(re.findall(rf"^pub use {file}::([^;]+);", root, re.M))
-        for owner, name, clause, mine in Source(text).noted:
-            was, name = name, names.functions.get((crate, name), name)
-            if owner or is_open or is_program or file == "lib" or re.search(rf"\b{was}\b", passed_on):
-                owner, name, clause, *mine = (names.text(it, crate) for it in (owner, name, clause, *mine))
-                clause = with_new_names(clause, mine, after.get((at, owner, name), []))
-                found[at, owner, name, clause] += 1
-                functions[at, owner, name] += [mine] if clause == "fn" else []
-        for name in importable_names(text, is_open):
-            found[at, "importable", names.text(names.functions.get((crate, name), name), crate), ""] = 1
+        for owner, name, clause, _ in Source(text).noted:
+            if owner or is_open or is_program or file == "lib" or re.search(rf"\b{name}\b", passed_on):
+                yield owner, name, clause
+        yield from (("importable", name, "") for name in importable_names(text, is_open))
 
 
-def count_specs(tree, crate, names, found):
-    """Counts the definitions of a crate's specs in `found`."""
-    for file, text in texts(f"{tree}/crates/{crate}/specs", ".antt"):
-        at, spec = names.crate(crate, file), names.specs.get((crate, file), file)
-        text = names.in_file(text, crate, file)
+def of_specs(crate):
+    """The definitions of a crate's specs."""
+    for file, text in texts(f"{crate}/specs", ".antt"):
         given = imports("\n".join(re.findall(r"^(?:pub )?use .*", text, re.M)))
         for key, line in definitions(text):
-            key = f"{spec}.section" if key == "section" else names.text(key, crate)
-            found[at, "specs", key, names.text(write_out_names(line, given), crate)] += 1
+            yield "specs", f"{file}.section" if key == "section" else key, write_out_names(line, given)
 
 
 def key_of(owner, name, text):
@@ -465,74 +330,27 @@ def key_of(owner, name, text):
     return f"{holder[-1]}::{name}.{label}" if holder else f"{name}.{label}"
 
 
-def group_by_key(counted):
+def by_key(counted):
     """The lines by crate and key, each as often as it counts."""
     found = collections.defaultdict(list)
-    for (crate, owner, name, text), count in sorted(counted.items()):
-        found[crate, key_of(owner, name, text)] += [(owner, name, text)] * count
+    for crate, owner, name, text in sorted(counted.elements()):
+        found[crate, key_of(owner, name, text)].append(" | ".join(filter(None, (owner, name, text))))
     return found
 
 
-def is_still_there(lines, there, is_clause):
-    """Whether something of the kind of these lines still stands. What is required and ensured may have one label."""
-    if not is_clause:
-        return bool(there)
-    return any(text.partition(" ")[0] == other.partition(" ")[0] for _, _, text in lines for _, _, other in there)
-
-
-def take_out_cited(lost, more, above):
-    """Takes out the clauses that cite a record with more fields in place of another; how many."""
-    taken = 0
-    for _, lower, upper, users in above:
-        for line, count in list(lost.items()):
-            crate, owner, name, text = line
-            now = crate, owner, name, re.sub(rf"\b{lower}\b", upper, text)
-            if crate in users and owner != "specs" and now != line and more[now] >= count:
-                lost[line] -= count
-                more[now] -= count
-                taken += count
-    return taken
-
-
 def main():
-    """Prints what the new tree has lost; returns 1 if a loss has no reason or a reason explains nothing."""
-    words = argparse.ArgumentParser(description=__doc__.split("\n")[0])
+    """Prints what the new tree has lost; returns 1 if it lost something."""
+    words = argparse.ArgumentParser(description=__doc__, formatter_class=argparse.RawDescriptionHelpFormatter)
     words.add_argument("old")
     words.add_argument("new")
-    words.add_argument("--names", metavar="FILE")
-    words.add_argument("--new", dest="show", action="store_true", help="print what is new, too")
-    words.add_argument("--why", action="store_true", help="print what is lost with a reason, too")
+    words.add_argument("--new", dest="show", action="store_true", help="print all that is new, too")
     given = words.parse_args()
-    names = Names(given.names)
-    new, functions = promises(given.new, Names(), {})
-    old, _ = promises(given.old, names, functions)
-    lost, more = old - new, new - old
-    cited = take_out_cited(lost, more, names.above)
-    lost, more, there = +lost, +more, group_by_key(new)
-    stands = group_by_key(more)
-    explained, bare_losses = 0, 0
-    gone = group_by_key(lost)
-    for (crate, key), lines in gone.items():
-        kind, why = names.reasons.get((crate, key), ("", ""))
-        is_clause = lines[0][0] not in ("specs", "importable")
-        enough = len(lines) if is_clause else 1
-        is_gone = kind == "gone" and not is_still_there(lines, there[crate, key], is_clause)
-        if is_gone or kind == "changed" and len(stands[crate, key]) >= enough:
-            explained += len(lines)
-            for it in lines if given.why else []:
-                print(f"{kind} {crate} | {key} | {' | '.join(it)}\n    {why}")
-        else:
-            bare_losses += len(lines)
-            for it in lines:
-                print(f"LOST {crate} | {key} | {' | '.join(it)}")
-    idle = sorted(names.reasons.keys() - gone.keys())
-    for crate, key in idle:
-        print(f"NOT LOST {crate} | {key}: a reason that explains nothing")
-    for crate, owner, name, text in sorted(more) if given.show else []:
-        print(f"new {crate} | {owner} | {name} | {text}")
-    print(f"{old.total()} before, {new.total()} after, {bare_losses} lost, {explained} changed or gone with a reason, "
-          f"{cited} cite a record with more fields, {more.total()} new")
-    return 1 if bare_losses or idle or not old else 0
+    old, new = promises(given.old), promises(given.new)
+    lost, more = by_key(old - new), by_key(new - old)
+    for key in sorted(lost.keys() | more.keys() if given.show else lost):
+        print("\n".join([" ".join(key), *(f"  - {it}" for it in lost[key]), *(f"  + {it}" for it in more[key])]))
+    print(f"{old.total()} before, {new.total()} after, {(old - new).total()} lost, {(new - old).total()} new")
+    return 1 if lost or not old else 0
 
 
 if __name__ == "__main__":

@@ -1,1 +1,0 @@
-"""Faults of memory and disks."""
