@@ -1,24 +1,24 @@
 """`migrate` on stores of version 1, with the schema and the rows of before, spans among them.
 
-The program no longer makes stores of version 1. So it makes one of version 2, as bench/measure.py does, with a day at the
-desk, permits, and a first top that has become the last. Then sqlite3 replaces its nested sets by links, in the schema of the
-store of version 1 in this directory. With -s each prints a line: units, seconds by the clock, of the processor, of `check`
-before and after, memory, and the size of the store before and after. --thorough adds larger ones."""
+The program no longer makes stores of version 1. So it makes one of version 2, with a day at the desk, permits, and a first top
+that has become the last. Then sqlite3 replaces its nested sets by links, in the schema of the store of version 1 in this
+directory. With -s each prints how long it took; --thorough adds larger ones."""
 
 import collections
 import contextlib
 import hashlib
-import os
 import sqlite3
+import time
 from pathlib import Path
 
 import pytest
 
 from acceptance import client
-from bench import measure
+from bench.measure import IN_HANDS, SETTINGS, Archive, post
 
 KEPT = f"file:{Path(__file__).with_name('version1.db')}?mode=ro"
 EVER = "9999-12-31"
+LONGEST = 900  # seconds for a command on the largest
 
 
 def links_of(spans):
@@ -71,32 +71,36 @@ def digest_of(name):
 
 def requests(archive):
     """Requests for siblings out of the order of their numbers, a day at the desk, and a permit for each reader."""
-    yield measure.post("/desk/move", unit=1, parent=None)
-    yield measure.post("/desk/move", unit=archive.tops + 1, parent=2)
-    for _, _, of_a_kind in measure.desk(archive):
-        yield from of_a_kind
-    readers = archive.requests // measure.IN_HANDS
+    yield post("/desk/move", unit=1, parent=None)
+    yield post("/desk/move", unit=archive.tops + 1, parent=2)
+    readers, boxes = archive.requests // IN_HANDS, range(archive.requests)
+    for ticket in range(1, readers + 1):
+        yield post("/desk/register", name=f"Reader {ticket}", until="2024-12-31")
+        yield post("/desk/seat", ticket=ticket)
+    loans = [{"ticket": nth // IN_HANDS + 1, "container": archive.ordered_box(nth)} for nth in boxes]
+    yield from (post("/public/orders", **loan) for loan in loans)
+    yield from (post("/desk/run") for _ in boxes)
+    yield from (post("/desk/issue", **loan) for loan in loans)
     for nth in range(readers):
-        yield measure.post("/desk/permit", ticket=nth + 1, unit=archive.unit(nth, readers), until=EVER)
+        yield post("/desk/permit", ticket=nth + 1, unit=archive.unit(nth, readers), until=EVER)
 
 
 @pytest.mark.parametrize("units", [
     2000, *(pytest.param(it, marks=pytest.mark.thorough) for it in (20_000, 200_000))])
 def test_migrated(units: int, program: client.Program, room: Path) -> None:
-    archive, bench = measure.Archive(units), measure.Program(program.path, room)
-    bench.begin()
+    archive, office = Archive(units), client.Office.create(program, room / "office.db", SETTINGS)
     for file in range(archive.files):
-        bench.import_file(archive, file, "new")
-    bench.ask(list(requests(archive)))
-    before = digest_of(bench.store)
-    to_version_1(bench.store)
-    opened, said = bench.run(["check", "--store", bench.store], status=1)
-    assert said == b"old version\n"
-    size = os.path.getsize(bench.store)
-    spent, said = bench.run(["migrate", "--store", bench.store])
-    assert said == b"migrated\n"
-    checked, after = bench.check(), digest_of(bench.store)
+        archive.write(file, room / "rows.csv")
+        office.import_file(f"s{file}", room / "rows.csv", timeout=LONGEST).expect_success()
+    asked = list(requests(archive))
+    told = client.replies(office.talk(*asked, timeout=LONGEST).expect_success())
+    assert [reply.status for reply in told] == [200] * len(asked)
+    before = digest_of(office.store)
+    to_version_1(office.store)
+    assert office.check(timeout=LONGEST) == client.Ended(1, b"old version\n", b"")
+    begun = time.monotonic()
+    assert office.perform("migrate", timeout=LONGEST) == client.Ended(0, b"migrated\n", b"")
+    print(f"{units:,} units in {time.monotonic() - begun:.1f} s")
+    assert office.check(timeout=LONGEST) == client.SOUND
+    after = digest_of(office.store)
     assert not {it for it in before.keys() | after.keys() if before.get(it) != after.get(it)}, "tables that differ"
-    times = [measure.seconds(it) for it in (spent.wall, spent.processor, opened.wall, checked.wall)]
-    sizes = f"{size / 1e6:.0f} MB, {os.path.getsize(bench.store) / 1e6:.0f} MB"
-    measure.say(f"{units:,}", *times, f"{spent.memory / 1e6:.0f} MB", sizes)

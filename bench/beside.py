@@ -3,7 +3,7 @@ of its own, and prints tables of markdown with the ratios of their times:
 
     ./run bench.beside [--program PROGRAM] [--room FOLDER] [--cpu N] OTHER [UNITS ..]
 
-UNITS is 2000, 20000, 60000 or 200000; by default the last three. Offices are made as real ones are: from files of
+UNITS is 2000 or a number of 20,000; by default 20000, 60000 and 200000. Offices are made as real ones are: from files of
 20,000 rows that come by POST, parents first, so that numbers do not rise along the walk, and then some branches are
 moved. Requests go to one program, then the same to the other; each request waits for the answer to the one before.
 Times are means for one answer, of the processor and by the clock. The ratios and the growth are of processor time,
@@ -14,52 +14,16 @@ smallest.
 
 import datetime
 import os
+import sys
 import time
 
-from bench import measure
-from bench.measure import Archive, Program, Session, client, get, post
+from acceptance.client import get
+from bench.measure import IN_HANDS, Archive, Side, client, milliseconds, post, say, say_titles
 
-SIZES = [2000, 20000, 60000, 200000]
+SIZES = [20000, 60000, 200000]
 EACH_DAY = 50
 PAST = 1000
 FIRST_DAY = datetime.date(2024, 3, 1)
-
-
-class Took:
-    """The mean of what something took: seconds of the processor and by the clock."""
-
-    def __init__(self, processor, wall):
-        self.processor, self.wall = processor, wall
-
-
-class Side:
-    """One of the two programs, with its office and its session."""
-
-    def __init__(self, words, room, settings=measure.SETTINGS):
-        self.words = words
-        self.office = Program(words[-1], room)
-        self.office.begin(settings)
-        self.session = Session(self.office.program, self.office.store, words[:-1])
-
-    def processor(self):
-        """Seconds of the processor that the session has taken."""
-        return int(self.session.proc_file("schedstat").split()[0]) / 1e9
-
-    def ask(self, requests, wanted=measure.OK):
-        """The mean of an answer, which must have this status."""
-        before, start = self.processor(), time.perf_counter()
-        for request in requests:
-            self.session.send(request)
-            self.session.take_answer(wanted)
-        wall = time.perf_counter() - start
-        return Took((self.processor() - before) / len(requests), wall / len(requests))
-
-    def reopen(self):
-        """From the start to the first answer."""
-        self.session.__exit__(None)
-        start = time.perf_counter()
-        self.session = Session(self.office.program, self.office.store, self.words[:-1])
-        return Took(self.processor(), time.perf_counter() - start)
 
 
 class Bench:
@@ -73,7 +37,7 @@ class Bench:
         self.took[stage] = ours
         said = milliseconds(ours.processor), milliseconds(other.processor), f"{ours.processor / other.processor:.1f}"
         by_clock = milliseconds(ours.wall), milliseconds(other.wall), f"{ours.wall / other.wall:.1f}"
-        measure.say(stage, *said, "" if wanted is None else f"{wanted}", *by_clock)
+        say(stage, *said, "" if wanted is None else f"{wanted}", *by_clock)
 
     def ask_unmeasured(self, requests):
         """Sends requests to both programs; their times are not printed."""
@@ -87,11 +51,6 @@ class Bench:
     def measure_opening(self, wanted):
         """Starts both sessions anew, and prints what that took."""
         self.say("opening", wanted, self.ours.reopen(), self.other.reopen())
-
-
-def milliseconds(seconds):
-    """Seconds as a text of milliseconds."""
-    return f"{1000 * seconds:.2f} ms"
 
 
 def file_of(archive, file, room):
@@ -142,13 +101,13 @@ def past_orders(archive):
 def desk(bench, archive):
     """A reading room's day, with changes of the catalogue while boxes are out."""
     count = archive.requests
-    readers = range(1, count // measure.IN_HANDS + 2)
+    readers = range(1, count // IN_HANDS + 2)
     bench.ask_unmeasured([post("/desk/register", name=f"Reader {n}", until="2024-12-31") for n in readers])
     bench.ask_unmeasured(list(past_orders(archive)))
     bench.stage(f"a reader with {PAST:,} past orders", None, [get("/desk/readers/1")] * 100)
     bench.ask_unmeasured([post("/desk/seat", ticket=n) for n in readers])
     # the first ticket has placed all orders of its day
-    loans = [{"ticket": n // measure.IN_HANDS + 2, "container": archive.ordered_box(n)} for n in range(count)]
+    loans = [{"ticket": n // IN_HANDS + 2, "container": archive.ordered_box(n)} for n in range(count)]
     bench.stage("an order", 1.5, [post("/public/orders", **loan) for loan in loans])
     bench.stage("a run", 1.5, [post("/desk/run")] * count)
     bench.stage("an issue", 1.5, [post("/desk/issue", **loan) for loan in loans])
@@ -171,26 +130,23 @@ def placings(bench, archive):
     bench.stage("a removal", 3, [post("/desk/remove", unit=unit) for unit in units])
 
 
-def compare(ours, other, room, units):
+def compare(programs, room, units, cpu):
     """Both programs with offices of this many units, and what ours took."""
     archive = Archive(units)
     print(f"\n### {units:,} units, {time.strftime('%Y-%m-%d %H:%M')}, load {os.getloadavg()[0]:.1f}\n")
     with client.temporary(room) as folder:
-        rooms = [folder / "ours", folder / "other"]
-        for it in rooms:
-            it.mkdir()
-        bench = Bench(Side(ours, rooms[0]), Side(other, rooms[1]))
+        bench = Bench(*(Side(program, folder / name, cpu=cpu) for program, name in zip(programs, ("ours", "other"))))
         by_clock = "Ours by the clock", "Other by the clock", "Ratio by the clock"
-        measure.say("What", "Ours", "Other", "Ratio", "Wanted", *by_clock)
-        measure.say(*["---"] * 8)
+        say_titles("What", "Ours", "Other", "Ratio", "Wanted", *by_clock)
         take_in(bench, archive, folder)
         bench.measure_opening(0.5)
         questions(bench, archive)
         desk(bench, archive)
         placings(bench, archive)
         for side in (bench.ours, bench.other):
-            side.session.__exit__(None)
-        bench.ours.office.check()
+            side.end()
+        if bench.ours.office.check() != client.SOUND:
+            sys.exit("WRONG the office is not sound")
         print(f"\n{time.strftime('%H:%M')}, load {os.getloadavg()[0]:.1f}")
     return bench.took
 
@@ -198,24 +154,21 @@ def compare(ours, other, room, units):
 def print_growth(first, last, few, many):
     """Prints, for each stage, how many times as long it takes in the largest office as in the smallest."""
     print(f"\n### Growth: {many / few:g} times the units\n")
-    measure.say("What", f"{few:,}", f"{many:,}", "Times")
-    measure.say(*["---"] * 4)
+    say_titles("What", f"{few:,}", f"{many:,}", "Times")
     for stage in [it for it in first if it in last]:
         ours = [it[stage].processor for it in (first, last)]
-        measure.say(stage, *map(milliseconds, ours), f"{ours[1] / ours[0]:.1f}")
+        say(stage, *map(milliseconds, ours), f"{ours[1] / ours[0]:.1f}")
 
 
 def main():
     """Measures both programs with offices of each size, and prints the tables."""
     words = client.options(__doc__, in_memory=False)
-    words.add_argument("--cpu", metavar="N", help="the processor to which both programs are bound")
+    words.add_argument("--cpu", type=int, metavar="N", help="the processor to which both programs are bound")
     words.add_argument("other", type=client.Program, metavar="OTHER")
-    words.add_argument("units", nargs="*", type=client.one_of(SIZES), metavar="UNITS", help=f"of {SIZES}")
+    words.add_argument("units", nargs="*", type=int, metavar="UNITS", help="how many units the offices have")
     given = words.parse_args()
-    bound = ["taskset", "-c", given.cpu] if given.cpu else []
-    ours, other = [[*bound, it.path] for it in (given.program, given.other)]
-    sizes = sorted(given.units) or SIZES[1:]
-    took = [compare(ours, other, given.room, units) for units in sizes]
+    sizes = sorted(given.units) or SIZES
+    took = [compare((given.program, given.other), given.room, units, given.cpu) for units in sizes]
     if len(sizes) > 1:
         print_growth(took[0], took[-1], sizes[0], sizes[-1])
 

@@ -1,376 +1,237 @@
-"""Measures the built program beside another one where a catalogue names its box in every row, and prints tables of
-markdown:
+"""Measures the built program beside another one in offices where boxes have many units, or many boxes are out, and prints
+tables of markdown:
 
     ./run bench.boxes [--program PROGRAM] [--room FOLDER] [--cpu N] [--rounds N] OTHER [SHAPE ..]
 
-SHAPE is one of the offices below; by default all of them. Each is imported from one file. Then come rounds, by default
-five. In a round the boxes are ordered, fetched and issued, and what they slow down is asked: with nothing out, and with
-them out. Each request waits for the answer to the one before. Figures are milliseconds of the processor, the least of
-the rounds; both programs and this script are bound to one processor.
+SHAPE is one of SHAPES below; by default all. Each is imported from one file. In a round, by default of three, all its boxes
+are ordered, fetched and issued, and what they slow down is asked, with nothing out and with them out. Of `waiting` a run is
+asked that finds only orders for closed boxes. With 1000 and 4000, a last list says how many times as long an answer takes with
+4,000 siblings in a box as with 1,000. Figures are milliseconds of the processor, the least of the rounds. What misses its goal
+is in bold and listed at the end; then the script ends with 1."""
 
-    1000      1,000 items in one box
-    4000      4,000 items in one box
-    10x1000   10,000 items, 1,000 in a box, ten out
-    190x100   19,000 items, 100 in a box, ten out
-    400x4000  400 boxes that lie in one unit with 4,000 units below it, all out
-    sorted    5,000 items, 1,000 in a box, of which staff have moved a hundred to the end; all five boxes out
-    spread    10,000 items in 1,000 sub-series; a box has one item of each; ten out
-    series    ten series in a box each, with 1,000 items, of which every other one has a box of its own; the ten out
-
-Other offices are full. In the first ones boxes are out: all lie in one series, and neighbours in two others in turns; or
-each is that of one item. Readers have no permits, permits that are no longer valid, or permits for the closed fonds. In
-the last ones a run finds only orders for closed boxes.
-
-    out-half, out, out-expired, out-permits    1,000 or 2,000 boxes in turns, with 2,000 or 4,000 items in all
-    items, items-expired                       2,000 items out of 20,000 that lie side by side
-    waiting, waiting-many, waiting-items       1,000 or 10,000 boxes with 10,000 items, 10,000 items side by side
-
-A cell of the first table has our figure, the other program's, and the ratio. The second table has our figures with the
-boxes out and with none, and the third says how many times as long an answer takes with 4,000 items in a box as with
-1,000. The fourth table is of full offices: a change may take twice as long as the opening there, and the fifth has runs.
-What misses its goal is in bold and listed at the end; then the script ends with 1.
-"""
-
+import argparse
+import dataclasses
 import datetime
 import os
 import sys
 import time
+from collections.abc import Callable
+from pathlib import Path
 
-from bench import crowds, measure
-from bench.crowds import IN_A_RUN, IN_HANDS, Compared
-from bench.measure import REFUSED, client, get, post, say
+from acceptance.client import LARGE, get
+from bench.measure import HEADER, IN_HANDS, OK, REFUSED, SCOPE, Side, client, post, say, say_titles
 
+Row = tuple[int, str, list[str]]  # a unit: its parent, its level, its boxes
+IN_A_RUN, FONDS = 10, 1
+SETTINGS = LARGE | {"run": str(IN_A_RUN)}
 FIRST_DAY = datetime.date(2024, 3, 1)
-MOST = 8
-MOST_OUT = {"status": 10, "closure": 10, "opening": 1.2}
+LATER, PAST = "2035-01-01", "2024-01-01"
 MOST_GROWTH = 4.5
-MOVED = range(7, 5000, 50)
-COLUMNS = {
-    "order": "order of a box amid",
-    "again": "the same again, refused 6",
-    "run": "run of as many as ten",
-    "issue": "issue",
-    "status": "status of an item of a box that is out",
-    "closure": "closure of it that is past",
-    "first": "refused closure of the first unit of a box",
-    "last": "refused closure of the last",
-    "opening": "opening with them out",
+# What is asked, and how many times as long it may take: as the other program, as with nothing out, as our opening.
+ASKED = {
+    "page of the first unit": (8, None, None), "page of the last unit": (8, None, None),
+    "order": (8, None, None), "the same again, refused": (8, None, None), "run": (8, None, None), "issue": (8, None, None),
+    "refused closure of the first unit": (8, None, None), "refused closure of the last unit": (8, None, None),
+    "status of a unit of a box": (None, 10, None), "closure of it that is past": (None, 10, None),
+    "opening": (None, 1.2, None), "move of the fonds": (None, None, 2), "import that changes it": (None, None, 2),
+    "revocation of a permit": (None, None, 2),
 }
-JUDGED = ["order", "again", "run", "issue", "first", "last"]
 
 
+@dataclasses.dataclass
 class Shape:
-    """The units of an office, in the order of their numbers from 1 on: the parent, the level and the boxes of each.
-    `ordered` are the boxes that go out. `moved` are units that staff move to the end of their siblings."""
+    """An office: its units in the order of their numbers from 1 on, the boxes that go out, the permits of each reader (for
+    the closed fonds, or no longer valid), and, if the boxes are only waited for, the milliseconds that a run may take."""
 
-    def __init__(self, name, units, ordered, moved=()):
-        self.name, self.units, self.ordered, self.moved = name, units, ordered, moved
-        numbers = {}
-        for _, _, boxes in units:
-            for box in boxes:
-                numbers.setdefault(box, len(numbers) + 1)
-        self.numbers = [numbers[box] for box in ordered]
-        self.amid = len(ordered) // 2
+    name: str
+    units: list[Row]
+    ordered: list[str]
+    permits: str = ""
+    most: int = 0
 
-    def write(self, name):
-        """Writes the CSV file of the office."""
-        with open(name, "w", encoding="utf-8") as it:
-            it.write(measure.HEADER)
-            for unit, (parent, level, boxes) in enumerate(self.units, 1):
-                it.write(
-                    f"{unit},{parent or ''},{unit},Minutes of the board {unit},{level},Published,1774-1893,1 volume,"
-                    f'"{measure.SCOPE}",{"|".join(boxes)},{"|".join(["Strongroom"] * len(boxes))}\n'
-                )
+    def row(self, unit: int, title: str = "") -> str:
+        """The line of a unit in the CSV file."""
+        parent, level, boxes = self.units[unit - 1]
+        rooms = "|".join(["Strongroom"] * len(boxes))
+        return (f"{unit},{parent or ''},{unit},Minutes of the board {unit}{title},{level},Published,1774-1893,1 volume,"
+                f'"{SCOPE}",{"|".join(boxes)},{rooms}\n')
 
-    def walk(self):
-        """The units in walk order."""
-        below = {}
-        for unit, (parent, _, _) in enumerate(self.units, 1):
-            below.setdefault(parent, []).append(unit)
-        for unit in self.moved:
-            siblings = below[self.units[unit - 1][0]]
-            siblings.remove(unit)
-            siblings.append(unit)
-        ahead = below[0][::-1]
-        while ahead:
-            unit = ahead.pop()
-            yield unit
-            ahead += below.get(unit, [])[::-1]
+    def numbers(self) -> list[int]:
+        """The numbers of the boxes that go out."""
+        boxes = list(dict.fromkeys(box for _, _, named in self.units for box in named))
+        places = {box: number for number, box in enumerate(boxes, 1)}
+        return [places[box] for box in self.ordered]
 
-    def contents(self):
-        """The units that lie in the box amid, in walk order."""
-        housing = {}
-        for unit in self.walk():
-            parent, _, boxes = self.units[unit - 1]
-            housing[unit] = boxes or housing.get(parent, [])
-            if self.ordered[self.amid] in housing[unit]:
-                yield unit
+    def contents(self) -> list[int]:
+        """Units of the box amid those that go out, the first and the last of its own among them."""
+        amid = self.ordered[len(self.ordered) // 2]
+        return [unit for unit, (_, _, boxes) in enumerate(self.units, 1) if amid in boxes]
 
 
-def box(nth):
-    """The name of the nth box, counted from 0."""
-    return f"Box {nth + 1}"
+def side_by_side(items: int, boxes: int, out: int, **more: object) -> Shape:
+    """A fonds with so many items in boxes, of which some go out, spread over all."""
+    units: list[Row] = [(0, "Fonds", []), *((FONDS, "Item", [f"Box {nth * boxes // items + 1}"]) for nth in range(items))]
+    ordered = [f"Box {nth * boxes // out + 1}" for nth in range(out)]
+    return Shape(f"{items:,} items in {boxes:,} boxes, {out:,} out", units, ordered, **more)  # type: ignore[arg-type]
 
 
-def flat(name, items, in_a_box, out, moved=()):
-    """A fonds whose items lie side by side, each naming its box; the boxes that go out are spread over all."""
-    units = [(0, "Fonds", []), *[(1, "Item", [box(nth // in_a_box)]) for nth in range(items)]]
-    boxes = items // in_a_box
-    return Shape(name, units, [box(nth * boxes // out) for nth in range(out)], moved)
+def in_series(boxes: int, units: int, **more: object) -> Shape:
+    """Boxes that all lie in one series, and in turns in one of two others, all out; the units below name none."""
+    named = [f"Box {nth + 1}" for nth in range(boxes)]
+    series: list[Row] = [(FONDS, "Series", it) for it in (named, named[::2], named[1::2])]
+    below: list[Row] = [(FONDS + 1 + nth % 3, "Item", []) for nth in range(units)]
+    told = f"{boxes:,} boxes in turns, {units:,} units"
+    return Shape(told, [(0, "Fonds", []), *series, *below], named, **more)  # type: ignore[arg-type]
 
 
-def many_boxes(name, boxes, items):
-    """A series in many boxes, whose items name none."""
-    named = [box(nth) for nth in range(boxes)]
-    return Shape(name, [(0, "Fonds", []), (1, "Series", named), *[(2, "Item", [])] * items], named)
-
-
-def spread_over_series(name, series, sub_series, boxes):
-    """Each sub-series has an item in each box; parents first, so numbers do not rise along the walk."""
-    units = [(0, "Fonds", []), *[(1, "Series", [])] * series]
-    units += [(2 + nth, "Sub-series", []) for nth in range(series) for _ in range(sub_series)]
-    parents = range(2 + series, len(units) + 1)
-    units += [(parent, "Item", [box(nth)]) for nth in range(boxes) for parent in parents]
-    return Shape(name, units, [box(nth) for nth in range(boxes)])
-
-
-def series_in_boxes(name, series, items):
-    """The items that name no box lie in that of their series, between others that have boxes of their own."""
-    units = [(0, "Fonds", []), *[(1, "Series", [box(nth)]) for nth in range(series)]]
-    for nth in range(series):
-        units += [(2 + nth, "Item", [f"Item {nth}-{item}"] if item % 2 else []) for item in range(items)]
-    return Shape(name, units, [box(nth) for nth in range(series)])
-
-
-SHAPES = {
-    "1000": lambda: flat("1,000 items in one box", 1000, 1000, 1),
-    "4000": lambda: flat("4,000 items in one box", 4000, 4000, 1),
-    "10x1000": lambda: flat("10,000 items, 1,000 in a box, ten out", 10000, 1000, 10),
-    "190x100": lambda: flat("19,000 items, 100 in a box, ten out", 19000, 100, 10),
-    "400x4000": lambda: many_boxes("400 boxes of one unit with 4,000 below it, all out", 400, 4000),
-    "sorted": lambda: flat("5,000 items, 1,000 in a box, a hundred moved to the end, five out", 5000, 1000, 5, MOVED),
-    "spread": lambda: spread_over_series("10,000 items in 1,000 sub-series, one of each in a box, ten out", 20, 50, 10),
-    "series": lambda: series_in_boxes(
-        "ten series in a box each, half of their 1,000 items in others, ten out", 10, 1000
-    ),
+SHAPES: dict[str, Callable[[], Shape]] = {
+    "1000": lambda: side_by_side(1000, 1, 1), "4000": lambda: side_by_side(4000, 1, 1),
+    "190x100": lambda: side_by_side(19_000, 190, 10), "items": lambda: side_by_side(20_000 - 1, 2000, 2000),
+    "series": lambda: in_series(400, 4000), "expired": lambda: in_series(1000, 4000, permits="expired"),
+    "permits": lambda: in_series(1000, 4000, permits="valid"), "waiting": lambda: in_series(1000, 10_000, most=300),
 }
 
 
-class Office(Compared):
-    """An office of this shape with both programs."""
+class Office:
+    """An office of a shape with both programs, and the milliseconds of each by what was asked."""
 
-    def __init__(self, shape, programs, room):
-        super().__init__(programs, room)
-        self.shape = shape
-        contents = list(shape.contents())
-        self.first, self.middle, self.last = contents[0], contents[len(contents) // 2], contents[-1]
-        self.loans = [{"ticket": nth // IN_HANDS + 1, "container": box} for nth, box in enumerate(shape.numbers)]
-        self.tickets = range(1, self.loans[-1]["ticket"] + 1)
-        self.day = FIRST_DAY
+    def __init__(self, shape: Shape, programs: tuple[client.Program, ...], room: Path, cpu: int) -> None:
+        self.sides = [Side(program, room / str(nth), SETTINGS, cpu) for nth, program in enumerate(programs)]
+        self.shape, self.took, self.day = shape, dict[str, list[float]](), FIRST_DAY
+        self.loans = [{"ticket": nth // IN_HANDS + 1, "container": box} for nth, box in enumerate(shape.numbers())]
+        self.tickets = range(1, int(self.loans[-1]["ticket"]) + 1)
+        self.contents = shape.contents()
+        rows = "".join(map(shape.row, range(1, len(shape.units) + 1)))
+        self.send(client.post("/desk/import/s", HEADER + rows))
+        self.send(*(post("/desk/register", name=f"Reader {ticket}", until="2099-12-31") for ticket in self.tickets))
+        unit, until = (FONDS, LATER) if shape.permits == "valid" else (FONDS + 1, PAST)
+        if shape.permits:
+            self.send(*(post("/desk/permit", ticket=ticket, unit=unit, until=until) for ticket in self.tickets))
+        self.closure = LATER if shape.permits == "valid" else PAST
+        self.send(post("/desk/closure", unit=FONDS, until=self.closure))
 
-    def measure_opening(self, kind):
-        """Starts both sessions anew, and keeps what that took."""
-        self.keep(kind, [side.reopen() for side in self.sides])
+    def send(self, *requests: bytes) -> None:
+        """Sends requests to both programs. A session takes 10,000."""
+        for side in self.sides:
+            for at in range(0, len(requests), 5000):
+                if at:
+                    side.reopen()
+                side.ask(requests[at:at + 5000])
 
-    def take_in(self, folder):
-        """Imports the units, moves those that staff have moved, and registers the readers."""
-        name = folder / "rows.csv"
-        self.shape.write(name)
-        rows = client.post("/desk/import/s", name.read_bytes())
-        moves = [post("/desk/move", unit=unit, parent=self.shape.units[unit - 1][0]) for unit in self.shape.moved]
-        readers = [post("/desk/register", name=f"Reader {n}", until="2030-12-31") for n in self.tickets]
-        self.ask_unmeasured([rows, *moves, *readers])
+    def keep(self, kind: str, took: list) -> None:
+        """Keeps the milliseconds of both programs, if they are less than before."""
+        each = [1000 * it.processor for it in took]
+        self.took[kind] = [min(pair) for pair in zip(each, self.took.get(kind, each))]
 
-    def ask_harmless_changes(self, kind):
-        """Changes of one unit that withhold nothing: that of status leaves it published, the closure is past."""
-        status = post("/desk/status", unit=self.middle, status="published", branch=False)
-        closure = post("/desk/closure", unit=self.middle, until="2024-01-01")
-        self.ask_unmeasured([status, closure])
-        self.ask(f"status{kind}", status)
-        self.ask(f"closure{kind}", closure)
+    def ask(self, kind: str, request: bytes, wanted: int = OK) -> None:
+        """Sends a request to both programs, and keeps what it took."""
+        self.keep(kind, [side.ask([request], wanted) for side in self.sides])
 
-    def ask_refused_closures(self):
-        """Measures closures of the first and of the last unit of a box that is out, which are refused."""
-        for kind, unit in ("first", self.first), ("last", self.last):
-            self.ask(kind, post("/desk/closure", unit=unit, until="2035-01-01"), REFUSED)
+    def ask_with(self, kind: str, requests: list[bytes], wanted: int = OK) -> None:
+        """Sends requests, and keeps what the one amid them took."""
+        amid = len(requests) // 2
+        self.send(*requests[:amid])
+        self.ask(kind, requests[amid], wanted)
+        self.send(*requests[amid + 1:])
 
-    def order(self):
-        """Orders all boxes; measures one order amid them, and the same again, which is refused."""
+    def harmless(self, beside: str) -> None:
+        """Changes that withhold nothing, and an opening."""
+        unit = self.contents[len(self.contents) // 2]
+        self.ask(f"status of a unit of a box{beside}", post("/desk/status", unit=unit, status="published", branch=False))
+        self.ask(f"closure of it that is past{beside}", post("/desk/closure", unit=unit, until=PAST))
+        self.keep(f"opening{beside}", [side.reopen() for side in self.sides])
+
+    def change(self) -> None:
+        """Changes of the fonds."""
+        self.ask("move of the fonds", post("/desk/move", unit=FONDS, parent=None))
+        changed = HEADER + self.shape.row(FONDS, f" ({self.day})")
+        self.ask("import that changes it", client.post("/desk/import/s", changed))
+        self.send(post("/desk/permit", ticket=1, unit=FONDS + 1, until=LATER))
+        self.ask("revocation of a permit", post("/desk/revoke", ticket=1, unit=FONDS + 1))
+
+    def fetch(self) -> None:
+        """Readers come, order, and get the boxes."""
+        self.send(*(post("/desk/seat", ticket=ticket) for ticket in self.tickets))
         orders = [post("/public/orders", **loan) for loan in self.loans]
-        amid = orders[self.shape.amid]
-        self.ask_unmeasured(orders[: self.shape.amid])
-        self.ask("order", amid)
-        self.ask("again", amid, REFUSED)
-        self.ask_unmeasured(orders[self.shape.amid + 1 :])
+        self.ask_with("order", orders)
+        self.ask("the same again, refused", orders[len(orders) // 2], REFUSED)
+        self.ask_with("run", [post("/desk/run")] * -(-len(orders) // IN_A_RUN))
+        self.ask_with("issue", [post("/desk/issue", **loan) for loan in self.loans])
 
-    def fetch(self):
-        """Fetches all boxes by runs of ten, and measures the first run."""
-        self.ask("run", post("/desk/run"))
-        more = (len(self.loans) - 1) // IN_A_RUN
-        self.ask_unmeasured([post("/desk/run")] * more)
-
-    def issue(self):
-        """Issues all boxes, and measures one issue."""
-        issues = [post("/desk/issue", **loan) for loan in self.loans]
-        self.ask("issue", issues.pop(self.shape.amid))
-        self.ask_unmeasured(issues)
-
-    def round(self):
+    def round(self) -> None:
         """A day: with nothing out, then with the boxes out; they are back at its end."""
         self.day += datetime.timedelta(1)
-        self.measure_opening("opening, none")
-        seats = [post("/desk/seat", ticket=ticket) for ticket in self.tickets]
-        self.ask_unmeasured([post("/desk/day", day=f"{self.day}"), *seats, get("/desk/issued")])
-        self.ask_harmless_changes(", none")
-        self.order()
+        self.send(post("/desk/day", day=f"{self.day}"))
+        self.harmless(", none out")
         self.fetch()
-        self.issue()
-        self.ask_harmless_changes("")
-        self.ask_refused_closures()
-        self.measure_opening("opening")
-        returns = [post("/desk/return", container=box) for box in self.shape.numbers]
-        self.ask_unmeasured([*returns, post("/desk/reshelve")])
+        self.harmless("")
+        for which, unit in (("first", self.contents[0]), ("last", self.contents[-1])):
+            self.ask(f"page of the {which} unit", get(f"/public/units/{unit}"))
+            self.ask(f"refused closure of the {which} unit", post("/desk/closure", unit=unit, until="2036-01-01"), REFUSED)
+        self.change()
+        self.send(*(post("/desk/return", container=loan["container"]) for loan in self.loans), post("/desk/reshelve"))
+
+    def wait(self) -> None:
+        """All boxes are waited for and closed; a run finds none to fetch."""
+        self.send(*(post("/public/orders", **loan) for loan in self.loans), post("/desk/closure", unit=FONDS, until=LATER))
+        self.ask("run that finds none", post("/desk/run"), REFUSED)
 
 
-def measure_shape(shape, programs, room, rounds):
-    """The office of this shape, after so many rounds."""
-    with client.temporary(room) as folder:
-        office = Office(shape, programs, folder)
-        office.take_in(folder)
-        for _ in range(rounds):
-            office.round()
-        office.end()
-        return office
+def judged(missed: list[str], what: str, value: float, most: float | None) -> str:
+    """A ratio; in bold and noted if it is more than `most`."""
+    if most is None or value <= most:
+        return f"{value:.1f}"
+    missed.append(f"{what}: {value:.1f} times, goal {most}")
+    return f"**{value:.1f}**"
 
 
-class Goals:
-    """What is too much, and the names of the goals that were missed."""
-
-    def __init__(self):
-        self.missed = []
-
-    def judge(self, what, value, most):
-        """A ratio, in bold if it is more than `most`."""
-        if most is None or value <= most:
-            return f"{value:.1f}"
-        self.missed.append(f"{what}: {value:.1f} times, goal {most}")
-        return f"**{value:.1f}**"
+def measured(shape: Shape, given: argparse.Namespace) -> dict[str, list[float]]:
+    """What each answer took in an office of this shape."""
+    with client.temporary(given.room) as room:
+        office = Office(shape, (given.program, given.other), room, given.cpu)
+        for _ in range(1 if shape.most else given.rounds):
+            (office.wait if shape.most else office.round)()
+        for side in office.sides:
+            side.end()
+        return office.took
 
 
-def milliseconds(value):
-    """Three digits, as far as they mean something."""
-    return f"{value:,.0f}" if value >= 100 else f"{value:.1f}" if value >= 10 else f"{value:.2f}"
+def show(shape: Shape, took: dict[str, list[float]], missed: list[str]) -> None:
+    """Prints the table of a shape."""
+    print(f"\n### {shape.name}{f', {shape.permits} permits' if shape.permits else ''}\n")
+    say_titles("What", "Ours, ms", "Other, ms", "To the other", "To nothing out", "To our opening")
+    for what, goals in ASKED.items():
+        ours, other = took[what]
+        against = other, took.get(f"{what}, none out", [0])[0], took["opening"][0]
+        ratios = [judged(missed, f"{what}, {shape.name}", ours / it, goal) if it else "" for it, goal in zip(against, goals)]
+        say(what, f"{ours:.2f}", f"{other:.2f}", *ratios)
 
 
-def print_row(goals, office):
-    """A row of the first table."""
-    cells = []
-    for kind in COLUMNS:
-        ours, other = office.took[kind]
-        ratio = goals.judge(f"{COLUMNS[kind]}, {office.shape.name}", ours / other, MOST if kind in JUDGED else None)
-        cells.append(f"{milliseconds(ours)}; {milliseconds(other)}; {ratio}")
-    say(office.shape.name, *cells)
-
-
-def print_out(goals, offices):
-    """What it costs that boxes are out."""
-    say("Ours, with them out; with none; times", *MOST_OUT)
-    say(*["---"] * (1 + len(MOST_OUT)))
-    for office in offices:
-        cells = []
-        for kind, most in MOST_OUT.items():
-            out, none = office.took[kind][0], office.took[f"{kind}, none"][0]
-            times = goals.judge(f"{kind} with boxes out, {office.shape.name}", out / none, most)
-            cells.append(f"{milliseconds(out)}; {milliseconds(none)}; {times}")
-        say(office.shape.name, *cells)
-
-
-def print_growth(goals, few, many):
-    """What it costs that a box holds four times as many items."""
-    say("Ours: 1,000 items; 4,000; times", *COLUMNS.values())
-    say(*["---"] * (1 + len(COLUMNS)))
-    cells = []
-    for kind in COLUMNS:
-        ours = [office.took[kind][0] for office in (few, many)]
-        times = goals.judge(f"{COLUMNS[kind]}, from 1,000 to 4,000 items", ours[1] / ours[0], MOST_GROWTH)
-        cells.append(f"{milliseconds(ours[0])}; {milliseconds(ours[1])}; {times}")
-    say("one box", *cells)
-
-
-def print_crowds(given, goals, names):
-    """What changes and openings take while many boxes are out."""
-    say("Ours; the other; times our opening", "opening", *crowds.CHANGES.values())
-    say(*["---"] * (2 + len(crowds.CHANGES)))
-    for name in names:
-        it = crowds.measure_crowd(crowds.OUT[name](), (given.program, given.other), given.room, given.rounds)
-        ours, other = it.took["opening"]
-        cells = [f"{milliseconds(ours)}; {milliseconds(other)}"]
-        for kind, what in crowds.CHANGES.items():
-            mine, theirs = it.took[kind]
-            times = goals.judge(f"{what}, {name}", mine / ours, crowds.MOST)
-            cells.append(f"{milliseconds(mine)}; {milliseconds(theirs)}; {times}")
-        say(it.crowd.name, *cells)
-    print()
-
-
-def print_runs(given, goals, names):
-    """What a run takes that finds only orders for closed boxes."""
-    say("Ours; the other; of what is allowed", "run that finds none to fetch")
-    say(*["---"] * 2)
-    for name in names:
-        it = crowds.measure_crowd(crowds.WAITING[name](), (given.program, given.other), given.room, given.rounds)
-        ours, other = it.took["run"]
-        part = goals.judge(f"run, {it.crowd.name}", ours / it.crowd.most, 1)
-        say(it.crowd.name, f"{milliseconds(ours)}; {milliseconds(other)}; {part}")
-    print()
-
-
-def options():
-    """Reads the command line."""
-    words = client.options(__doc__, in_memory=False)
-    last = max(os.sched_getaffinity(0))
-    words.add_argument("--cpu", type=int, default=last, metavar="N", help="a processor; else the last")
-    words.add_argument("--rounds", type=int, default=5, metavar="N", help="how many rounds; else 5")
+def main() -> int:
+    """Prints the tables, and returns whether a goal was missed."""
+    words, missed = client.options(__doc__, in_memory=False), list[str]()
+    words.add_argument("--cpu", type=int, default=max(os.sched_getaffinity(0)), metavar="N", help="a processor; else the last")
+    words.add_argument("--rounds", type=int, default=3, metavar="N", help="how many rounds; else 3")
     words.add_argument("other", type=client.Program, metavar="OTHER")
-    shapes = {**SHAPES, **crowds.OUT, **crowds.WAITING}
-    words.add_argument("shapes", nargs="*", type=client.one_of(shapes), metavar="SHAPE", help=", ".join(shapes))
-    return words.parse_args()
-
-
-def print_tables(given, goals, names):
-    """Measures the offices, and prints the tables."""
-    say("Ours; the other; ratio", *COLUMNS.values())
-    say(*["---"] * (1 + len(COLUMNS)))
-    offices = {}
-    for name in names:
-        offices[name] = measure_shape(SHAPES[name](), (given.program, given.other), given.room, given.rounds)
-        print_row(goals, offices[name])
-    print()
-    print_out(goals, offices.values())
-    if {"1000", "4000"} <= set(offices):
-        print()
-        print_growth(goals, offices["1000"], offices["4000"])
-    print()
-
-
-def print_all(given, goals):
-    """The tables of those offices that are asked for."""
-    for offices, show in (SHAPES, print_tables), (crowds.OUT, print_crowds), (crowds.WAITING, print_runs):
-        names = [name for name in offices if not given.shapes or name in given.shapes]
-        if names:
-            show(given, goals, names)
-
-
-def main():
-    """Binds the script to a processor, prints the tables, and returns whether a goal was missed."""
-    given, goals = options(), Goals()
-    os.sched_setaffinity(0, {given.cpu})
-    print(f"{time.strftime('%Y-%m-%d %H:%M')}, load {os.getloadavg()[0]:.1f}\n")
-    print_all(given, goals)
-    print(f"{time.strftime('%H:%M')}, load {os.getloadavg()[0]:.1f}")
-    for it in goals.missed:
-        print(f"missed: {it}")
-    return bool(goals.missed)
+    words.add_argument("shapes", nargs="*", metavar="SHAPE", help=", ".join(SHAPES))
+    given = words.parse_args()
+    print(f"{time.strftime('%Y-%m-%d %H:%M')}, load {os.getloadavg()[0]:.1f}")
+    took = {}
+    for name in given.shapes or SHAPES:
+        shape = SHAPES[name]()
+        took[name] = measured(shape, given)
+        if shape.most:
+            ours, other = took[name]["run that finds none"]
+            part = judged(missed, f"run that finds none, {shape.name}", ours / shape.most, 1)
+            print(f"\nA run that finds none, {shape.name}: {ours:.0f} ms, the other {other:.0f} ms; {part} of what is allowed")
+        else:
+            show(shape, took[name], missed)
+    for what in ASKED if {"1000", "4000"} <= took.keys() else ():
+        few, many = (took[name][what][0] for name in ("1000", "4000"))
+        growth = judged(missed, f"{what}, from 1,000 to 4,000 items", many / few, MOST_GROWTH)
+        print(f"{what}: from 1,000 to 4,000 items in a box {growth} times")
+    print(*(f"missed: {it}" for it in missed), sep="\n")
+    return bool(missed)
 
 
 if __name__ == "__main__":

@@ -1,24 +1,18 @@
-"""What the measurements share: a catalogue of so many units, the program with an office in a file, a session of requests, and
-what they take.
+"""What the measurements share: a catalogue of so many units, a program with an office in a file and a session, and what its
+answers take.
 
-Files have 340 bytes a row, five elements, a box for two units, and nine units below each unit that has any. Wall and
-processor are seconds; the latter are of user and system. Requests come through a pipe, all at once, after one small question.
-Seconds are counted from its answer to the last one, so they include neither the opening nor the end of the session. Memory is
-the maximum of the process, with the opening. Every answer must be a 200, and every import must report the right number of new
-or same units; otherwise the script ends with 1."""
+Files have 340 bytes a row, five elements, a box for two units, and nine units below each unit that has any. Each request waits
+for the answer to the one before; one with another status than is wanted ends the script with 1."""
 
-import json
 import os
-import re
-import subprocess
 import sys
-import threading
 import time
+from pathlib import Path
+from typing import NamedTuple
 
 from acceptance import client
-from acceptance.client import get
 
-SETTINGS = client.option_words(client.LARGE | {"run": "1"})
+SETTINGS = client.LARGE | {"run": "1"}
 HEADER = (
     "legacyId,parentId,identifier,title,levelOfDescription,publicationStatus,eventDates,extentAndMedium,"
     "scopeAndContent,physicalObjectName,physicalObjectLocation\n"
@@ -31,8 +25,7 @@ FILE_ROWS = 20000
 TOPS = 100
 BELOW = 9
 IN_HANDS = 10
-TICKS = os.sysconf("SC_CLK_TCK")
-OK, REFUSED = b"200 OK", b"409 Conflict"
+OK, REFUSED = 200, 409
 
 
 class Archive:
@@ -102,134 +95,54 @@ class Archive:
         return nth * self.boxes_apart + 1
 
 
-class Spent:
-    """What something took: seconds by the clock and of the processor, and the greatest memory in bytes."""
+class Took(NamedTuple):
+    """The mean of what something took: seconds of the processor and by the clock."""
 
-    def __init__(self, wall, processor, memory):
-        self.wall, self.processor, self.memory = wall, processor, memory
-
-
-def fail(what):
-    """Ends the program with 1 and says what is wrong."""
-    sys.exit(f"WRONG {what}")
+    processor: float
+    wall: float
 
 
-class Program:
-    """The program with one store."""
+class Side:
+    """A program with an office in a file and its session, which `cpu` binds to a processor."""
 
-    def __init__(self, program, room):
-        self.program, self.room, self.store = program, room, f"{room}/office.db"
-
-    def run(self, words, status=0):
-        """Runs the program without input; it must end with this status. Returns what it took and what it printed."""
-        times = f"{self.room}/times"
-        start = time.perf_counter()
-        done = subprocess.run(
-            ["/usr/bin/time", "-q", "-f", "%U %S %M", "-o", times, self.program, *words],
-            stdin=subprocess.DEVNULL,
-            capture_output=True,
-        )
-        wall = time.perf_counter() - start
-        if done.returncode != status:
-            fail(f"{words}: {done.returncode} {done.stderr!r}")
-        with open(times, encoding="ascii") as it:
-            user, system, kilobytes = it.read().split()
-        return Spent(wall, float(user) + float(system), int(kilobytes) * 1024), done.stdout
-
-    def begin(self, settings=SETTINGS):
-        """Makes the office in its file."""
-        self.run(["init", "--store", self.store, *settings])
+    def __init__(self, program, room, settings=SETTINGS, cpu=None):
+        room.mkdir()
+        self.office, self.cpu = client.Office.create(program, room / "office.db", settings), cpu
+        self.open()
 
     def open(self):
-        """A session without requests."""
-        return self.run(["talk", "--store", self.store])[0]
+        """Starts the session; what it takes to the first answer."""
+        start = time.perf_counter()
+        self.session = self.office.session()
+        if self.cpu is not None:
+            os.sched_setaffinity(self.session.process.pid, {self.cpu})
+        self.session.ask(client.get("/desk/issued"))
+        return Took(self.processor(), time.perf_counter() - start)
 
-    def check(self):
-        """Checks the store, which must be sound; returns what that took."""
-        spent, said = self.run(["check", "--store", self.store])
-        if said != b"sound\n":
-            fail(f"check: {said!r}")
-        return spent
+    def end(self):
+        """Ends the session, which must end well."""
+        self.session.process.communicate()
+        if self.session.process.returncode:
+            sys.exit(f"WRONG end of a session: {self.session.process.returncode}")
 
-    def import_file(self, archive, file, told):
-        """Imports a file; all of its rows must be reported as `told`, which is `new` or `same`."""
-        name = f"{self.room}/rows.csv"
-        archive.write(file, name)
-        spent, said = self.run(["import", "--store", self.store, "--source", f"s{file}", name])
-        if json.loads(said)[told] != archive.rows:
-            fail(f"import of file {file}: {said[:200]!r}")
-        return spent
-
-    def ask(self, requests):
-        """Sends requests to a new session."""
-        with Session(self.program, self.store) as session:
-            return session.ask(requests)
-
-
-class Session:
-    """A running `talk`, which has opened its store. Words before the program are those of a command that runs it."""
-
-    def __init__(self, program, store, before=()):
-        self.running = subprocess.Popen(
-            [*before, program, "talk", "--store", store], stdin=subprocess.PIPE, stdout=subprocess.PIPE
-        )
-        self.send(get("/desk/issued"))
-        self.take_answer()
-
-    def __enter__(self):
-        return self
-
-    def __exit__(self, fault, *_):
-        if fault:
-            self.running.kill()
-            return
-        self.running.stdin.close()
-        rest = self.running.stdout.read()
-        if self.running.wait() != 0 or rest:
-            fail(f"the end of a session: {self.running.returncode}, {rest[:200]!r}")
-
-    def send(self, said):
-        """Sends bytes to the program."""
-        self.running.stdin.write(said)
-        self.running.stdin.flush()
-
-    def take_answer(self, wanted=OK):
-        """Reads an answer, which must have this status."""
-        answers = self.running.stdout
-        status = answers.readline()
-        length = 0
-        while (line := answers.readline().strip()):
-            name, _, value = line.partition(b": ")
-            if name == b"Content-Length":
-                length = int(value)
-        body = answers.read(length)
-        if status != b"HTTP/1.1 %s\r\n" % wanted:
-            fail(f"an answer: {status!r} {body[:200]!r}")
-
-    def ask(self, requests):
-        """Sends requests all at once, while their answers are read."""
-        sender = threading.Thread(target=self.send, args=(b"".join(requests),))
-        before, start = self.processor(), time.perf_counter()
-        sender.start()
-        for _ in requests:
-            self.take_answer()
-        wall = time.perf_counter() - start
-        sender.join()
-        return Spent(wall, self.processor() - before, self.memory())
-
-    def proc_file(self, name):
-        """The text of a file of /proc about the running program."""
-        with open(f"/proc/{self.running.pid}/{name}", encoding="utf-8") as it:
-            return it.read()
+    def reopen(self):
+        """Ends the session and starts another; what it takes to the first answer."""
+        self.end()
+        return self.open()
 
     def processor(self):
-        """Seconds of user and system: the twelfth and thirteenth words after the name."""
-        words = self.proc_file("stat").rpartition(")")[2].split()
-        return (int(words[11]) + int(words[12])) / TICKS
+        """Seconds of the processor that the session has taken."""
+        return int(Path(f"/proc/{self.session.process.pid}/schedstat").read_text(encoding="utf-8").split()[0]) / 1e9
 
-    def memory(self):
-        """The greatest memory of the program until now, in bytes."""
-        return int(re.search(r"VmHWM:\s*(\d+) kB", self.proc_file("status"))[1]) * 1024
+    def ask(self, requests, wanted=OK):
+        """The mean of an answer, which must have this status."""
+        before, start = self.processor(), time.perf_counter()
+        for request in requests:
+            reply = self.session.ask(request)
+            if reply.status != wanted:
+                sys.exit(f"WRONG answer to {request[:200]!r}: {reply.line!r} {reply.body[:200]!r}")
+        wall = time.perf_counter() - start
+        return Took((self.processor() - before) / len(requests), wall / len(requests))
 
 
 def post(path, **members):
@@ -237,9 +150,9 @@ def post(path, **members):
     return client.post(path, members)
 
 
-def seconds(value):
-    """Seconds as a text with two decimals."""
-    return f"{value:.2f} s"
+def milliseconds(seconds):
+    """Seconds as a text of milliseconds."""
+    return f"{1000 * seconds:.2f} ms"
 
 
 def say(*cells):
@@ -247,13 +160,7 @@ def say(*cells):
     print("| " + " | ".join(cells) + " |", flush=True)
 
 
-def desk(archive):
-    """A day of the reading room, until all ordered boxes are out."""
-    count = archive.requests
-    readers = range(1, count // IN_HANDS + 1)
-    yield "registrations", None, [post("/desk/register", name=f"Reader {n}", until="2024-12-31") for n in readers]
-    yield "seats", None, [post("/desk/seat", ticket=n) for n in readers]
-    loans = [{"ticket": n // IN_HANDS + 1, "container": archive.ordered_box(n)} for n in range(count)]
-    yield "orders", 0.4, [post("/public/orders", **loan) for loan in loans]
-    yield "runs", 0.5, [post("/desk/run")] * count
-    yield "issues", 0.5, [post("/desk/issue", **loan) for loan in loans]
+def say_titles(*cells):
+    """Prints the titles of a table."""
+    say(*cells)
+    say(*["---"] * len(cells))
