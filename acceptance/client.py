@@ -1,5 +1,4 @@
-"""The built program as the scripts of acceptance and bench use it: requests and replies, an office in a file, checks,
-options.
+"""The built program as the tests and bench use it: requests and replies, an office in a file, options.
 
     with client.temporary(given.room) as room:
         office = client.Office.create(given.program, room / "office.db")
@@ -17,9 +16,9 @@ import re
 import socket
 import subprocess
 import tempfile
-from collections.abc import Callable, Iterable, Iterator, Mapping
+from collections.abc import Iterable, Iterator, Mapping
 from pathlib import Path
-from typing import IO, Any, NamedTuple, Self, TypeVar
+from typing import IO, Any, NamedTuple, Self
 
 from acceptance.reference_model.limits import HIGHEST
 
@@ -37,7 +36,6 @@ PORTS = itertools.count(20_000 + os.getpid() % 10_000)
 Body = bytes | str | dict[str, Any]  # JSON, if it is a dict
 Fields = Mapping[str, str] | Iterable[tuple[str, str]]
 Settings = Mapping[str, object]
-Known = TypeVar("Known")
 
 # ---- requests and replies
 
@@ -271,35 +269,6 @@ class Server(Running):
 # ---- checks
 
 
-class Checks:
-    """Results that were compared. Each wrong one is printed."""
-
-    def __init__(self) -> None:
-        self.passed = self.failed = 0
-
-    def check(self, what: str, holds: object, seen: object = "") -> bool:
-        """Counts a condition; if it does not hold, prints what was seen. Says whether it holds."""
-        if holds:
-            self.passed += 1
-        else:
-            self.fail(what, f"WRONG {what}: {seen}")
-        return bool(holds)
-
-    def fail(self, what: str, told: str) -> None:
-        """Counts and prints something wrong; `what` is its name."""
-        self.failed += 1
-        print(told, flush=True)
-
-    def same(self, what: str, found: object, wanted: object) -> bool:
-        """Compares a result; says whether it is right."""
-        return self.check(what, found == wanted, f"{found!r}, wanted {wanted!r}")
-
-    def finish(self) -> int:
-        """Prints how many results were right; returns the exit status. Without a check nothing was shown."""
-        print(f"{self.passed} passed, {self.failed} failed")
-        return 1 if self.failed or not self.passed else 0
-
-
 def first_difference(found: Ended, wanted: Ended) -> str:
     """Two ends of a command from some bytes before the first difference of their outputs."""
     pairs = enumerate(zip(found.output, wanted.output))
@@ -349,19 +318,6 @@ def options(text: str | None, in_memory: bool = True) -> argparse.ArgumentParser
     told = f"where stores are made; else {room}"
     words.add_argument("--room", type=Path, default=room, metavar="DIRECTORY", help=told)
     return words
-
-
-def one_of(known: Iterable[Known]) -> Callable[[str], Known]:
-    """The type of a word that is one of these names or numbers."""
-    by_word = {str(it): it for it in known}
-
-    def parse(word: str) -> Known:
-        """The one with this name. Raises ArgumentTypeError if there is none."""
-        if word not in by_word:
-            raise argparse.ArgumentTypeError(f"{word} is none of {', '.join(by_word)}")
-        return by_word[word]
-
-    return parse
 
 
 @contextlib.contextmanager

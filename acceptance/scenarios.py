@@ -9,6 +9,7 @@ Each file scenarios/*.scenario is a text with these lines, and test_scenarios.py
     GET PATH
     200 JSON            its answer; without JSON, the text that follows. After the status `close` or `allow=METHOD` says
                         that the head has the field Connection: close or Allow: METHOD
+    refused NUMBER NAME VALUE ..  the answer to a command that is refused: 409, and the refusal with these members
     | TEXT              a line of a text
     kept QUERY          a query that SQLite answers on the store at the end; the answer is the text that follows, a line
                         for each row, with | between its cells
@@ -29,6 +30,8 @@ from urllib.parse import unquote_to_bytes
 
 from acceptance import client
 from acceptance.client import Ended, Office, expect_end
+from acceptance.reference_model import as_json
+from acceptance.reference_model.refusals import Refused
 
 FOLDER = Path(__file__).with_suffix("")
 ENDS = {"": b"\r\n", "$": b"\n", "^": b"\r", "|": b""}
@@ -60,6 +63,10 @@ class Scenario:
         if word == "with":
             names = rest.split()
             self.settings |= dict(zip(names[::2], names[1::2]))
+        elif word == "refused":
+            number, *members = rest.split()
+            refused = Refused(int(number), **{name: int(value) for name, value in zip(members[::2], members[1::2])})
+            self.answered += client.reply(409, as_json(refused.told).encode())
         elif word == "kept":
             self.kept.append((rest, lines))
         elif word == "ends":

@@ -13,9 +13,8 @@ from acceptance.reference_model.limits import (
 from acceptance.scenarios import Scenario
 
 SEATS, DAILY, RUN = HIGHEST["seats"], HIGHEST["daily"], HIGHEST["run"]
-LIMIT = '409 {"code":7,"refused":"DailyLimit"}'
+LIMIT, FULL = "refused 7", "refused 23"
 EVER = "9999-12-31"
-FULL = '409 {"code":23,"refused":"Full"}'
 ASKED = ["> GET /desk/issued HTTP/1.1", "> Host: x"]
 REFUSED = '400 close {"error":"bad request"}'
 
@@ -53,7 +52,7 @@ def permits():
     for unit in range(1, PERMITS + 1):
         permit(unit, "2024-03-31")
     permit(PERMITS + 1, "2024-03-31", FULL)
-    permit(PERMITS + 2, "2024-03-31", '409 {"code":1,"refused":"UnknownUnit"}')
+    permit(PERMITS + 2, "2024-03-31", "refused 1")
     permit(1, "2024-04-01")
     lines += ['POST /desk/revoke {"ticket":1,"unit":50}', '200 {"unit":50}']
     permit(PERMITS + 1, "2024-03-31")
@@ -85,7 +84,7 @@ def seats():
     for ticket in range(1, SEATS + 1):
         lines += [f'POST /desk/seat {{"ticket":{ticket}}}', f'200 {{"seat":{ticket}}}']
     last = f'POST /desk/seat {{"ticket":{SEATS + 1}}}'
-    lines += [last, '409 {"code":8,"refused":"NoSeatFree"}', 'POST /desk/leave {"ticket":77}', '200 {"seat":77}']
+    lines += [last, "refused 8", 'POST /desk/leave {"ticket":77}', '200 {"seat":77}']
     return [*lines, last, '200 {"seat":77}', f"GET /desk/readers/{SEATS}", reader_in(SEATS)]
 
 
@@ -119,12 +118,12 @@ def a_run():
     names = sorted((f"B{container}", container) for container in range(2, RUN + 2))
     lines += [f"| {'':<20} {name:<16} {it:>6} {past - it:>8} {ticket(past - it):>7}" for name, it in names]
     lines += ["POST /desk/run", '200 {"run":2,"taken":1}']
-    return [*lines, "POST /desk/run", '409 {"code":24,"refused":"NothingToMove"}']
+    return [*lines, "POST /desk/run", "refused 24"]
 
 
 def bad_row(row, cause):
     """The answer to a file that is refused for a fault in this row."""
-    return f'409 {{"cause":{cause},"code":22,"refused":"BadFile","row":{row}}}'
+    return f"refused 22 row {row} cause {cause}"
 
 
 def rows():

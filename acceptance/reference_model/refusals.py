@@ -1,10 +1,9 @@
-"""Refusals, by their numbers and names."""
+"""Refusals, by their numbers and names: those to which front/shared/refusals.json has words, in this order."""
+import json
+from pathlib import Path
 
-NAMES = (
-    "UnknownUnit UnknownTicket UnknownContainer TicketExpired NotAvailable AlreadyOrdered DailyLimit NoSeatFree "
-    "AlreadySeated NotSeated HoldsContainers UnknownOrder OrderNotWaiting NotAtDesk NotFirst HandsFull NotIssued "
-    "DayNotLater StillIssued IntoItself WithReader BadFile Full NothingToMove TooDeep UnknownRun BadName NoPermit"
-).split()
+WORDS = Path(__file__).resolve().parents[2] / "front" / "shared" / "refusals.json"
+NAMES = list(json.loads(WORDS.read_text(encoding="utf-8"))["desk"])
 
 
 class Refused(Exception):
