@@ -1,59 +1,34 @@
 """Changes the rules of the model, one definition at a time: a test vector or a law must refuse each change.
 
-  ./run mutation.wrong_rules [--jobs N] [--cases N] [--over CHECKOUT] [--log FILE] [--keep FOLDER] [WORD ..]
-  ./run mutation.wrong_rules --dry [WORD ..]
-  ./run mutation.wrong_rules --covered [CRATE ..]
+    ./run mutation.wrong_rules [--dry] [--jobs N] [--cases N] [--over CHECKOUT] [WORD ..]
 
 The changes are the records of wrong_rules/CRATE/SUBJECT.rules (records.py says how they are written), and those that
 wrong_rules_made.py makes; with WORD, those whose name has one of the words. Each with `refused by` is made in copies of
-the modules between the definition and the test vectors or the law that it names (side_by_side.py). Where it names one
-row of a function, each row of the function is a lemma (row_lemmas.py), and that row or a lemma before the rows must
-fail. What these let through is tried by all test vectors, and then by all laws. Only what the same copies prove without
-the change counts. The libraries are those in crates/*/out/rlib of --over, or of this checkout, as `rt check` and
-`rt ci` leave them.
+the modules between the definition and the test vectors or the law that it names (side_by_side.py). Test vectors are
+lemmas there, one for each row (row_lemmas.py): where a row is named, that row or a lemma before the rows must fail. Only
+what the same copies prove without the change counts. The libraries are those in crates/*/out/rlib of --over, or of this
+checkout, as `rt check` and `rt ci` leave them. --jobs checks run at once, each of --cases rules.
 
-A line says for each rule that it is `refused`, with the rows or lemmas that fail; `refused elsewhere`, if its record
-names a row that lets it through; `LET THROUGH`; `unreadable`, if the wrong text does not parse; `not applied`, if the
-old text does not occur once in its file; or `no verdict`. With --log these lines are added to FILE, and rules that are
-refused in FILE are skipped. --jobs checks run at once, each of --cases rules. The last line has the counts; the script
-ends with 1 if a rule was not refused.
+A line says for each rule that it is `refused`, with the rows or lemmas that fail; `LET THROUGH`; `unreadable`, if the
+wrong text does not parse; or `no verdict`. The last line has the counts; it ends with 1 if a rule was not refused.
 
 With --dry it only looks for the old texts, also of the records with `seen in`, which the prover does not try, and for
-the row, the law or the scenario that is named there, and counts them. With --covered it counts for each crate how many
-
-
-definitions some rule changes; with CRATE it lists those of the crate that none changes."""
+the row, the law or the scenario that is named there, and counts them."""
 
 import argparse
-import hashlib
-import itertools
-import os
 import re
 import sys
 import tempfile
-import time
 from collections import Counter
 from concurrent.futures import ThreadPoolExecutor
 from pathlib import Path
 
 from acceptance import scenarios, test_at_limits, test_heads
 from mutation import records, row_lemmas, side_by_side, trials, wrong_rules_made
+from mutation.records import TOP
 
-TOP = os.path.dirname(os.path.dirname(os.path.abspath(__file__)))
-ROWS = "Replies Desk Catalogue Shown Checks Settings Imports Texts Answers".split()
-OFFICE_ROWS = [f"Rattle.office_core.proofs.worked_rows.Worked{it}" for it in ROWS]
-ROW_CAUSES = [f"Rattle.state_encoding.proofs.Worked{it}" for it in ("CatalogueCauses", "DeskCauses", "Cells")]
-ROWS_OF = {"office_core": OFFICE_ROWS, "state_encoding": ROW_CAUSES}
-LAWS_OF = {
-    "tree_core": ["tree_core"],
-    "command_line": ["command_line"],
-    "office_core": ["catalogue_core", "desk_core", "office_core"],
-    "state_encoding": ["catalogue_core", "desk_core", "office_core", "state_encoding"],
-    "http_messages": ["http_messages"],
-    "http_desk": ["http_messages", "http_desk"],
-    "program_tests": ["program"],
-    "model_tests": ["isad_core", "tree_core", "atom_csv", "desk_core", "http_messages", "http_desk"],
-}
+# Over whose libraries the rules are tried that name something of these crates; those of the causes over state_encoding.
+CRATES = ("tree_core", "command_line", "state_encoding", "http_messages", "http_desk", "program_tests", "model_tests")
 OF_CAUSES = re.compile(r"state_encoding|office_tables|/(Desk|Catalogue)Causes\.antt")
 
 
@@ -62,66 +37,36 @@ def path_of(record):
     return f"crates/{record.folder}/{record.file}"
 
 
-def why_not_applied(record):
-    """Why a rule cannot be made, or nothing."""
-    return record.why_not(Path(TOP, "crates", record.folder))
-
-
-def key_of(record):
-    """What tells a rule from all others, and from itself with another text."""
-    parts = record.folder, record.file, record.old, record.new, record.refused_by
-    return hashlib.sha256("\n".join(parts).encode()).hexdigest()[:16]
-
-
 class Rule:
     """A wrong rule, the modules that must refuse it, and its verdict."""
 
     def __init__(self, modules, record):
-        file = path_of(record)
-        self.label, self.module, self.verdict, self.why = record.name, modules.of_path(file), "", ""
-        self.key = key_of(record)
-        self.named, _, self.row = record.refused_by.partition(" ")
-        self.crate = library_crate(record)
-        self.why = why_not_applied(record)
-        self.verdict = "not applied" if self.why else ""
-        text = Path(TOP, file).read_text(encoding="utf-8")
+        path, named = path_of(record), record.refused_by.split("::")[0]
+        self.name, self.verdict, self.why = record.name, "no verdict", "the check did not end"
+        self.module, text = modules.of_path(path), Path(TOP, path).read_text(encoding="utf-8")
         self.text = modules.text[self.module].replace(record.old, with_whole_names(record.new, text), 1)
+        self.crate = "state_encoding" if OF_CAUSES.search(path) else named if named in CRATES else "office_core"
+        function, _, self.row = record.refused_by.partition(" ")
+        self.asked = () if self.row else tuple(modules_of(function))
+        if not self.asked:
+            crate, *inner = function.split("::")
+            name = f"Rattle.{crate}.proofs.{'.'.join(inner)}.Rows"
+            self.asked = (modules.make(name, row_lemmas.rows(function)[0]),)
 
-    def modules_to_ask(self, modules, what):
-        """The modules that are tried: what is named for the rule; all rows; or all laws."""
-        if what == "laws":
-            return tuple(all_laws(modules, self.crate))
-        if what == "beside" and self.row:
-            return (lemmas_of_rows(modules, self.named),)
-        if what == "beside":
-            return tuple(of_function(self.named))
-        return tuple(all_rows(modules, self.crate))
-
-    def line(self):
-        """The line that is printed for the rule: its verdict, its name, and why."""
-        return f"{self.verdict} | {self.label} | {self.why}"
-
-
-def library_crate(record):
-    """The crate over whose libraries a rule is tried."""
-    named = record.refused_by.split("::")[0]
-    if OF_CAUSES.search(path_of(record)):
-        return "state_encoding"
-    return named if named in LAWS_OF else "office_core"
-
-
-def lemmas_of_rows(modules, function):
-    """The module of the lemmas of the rows of a function, which is made."""
-    text, _ = row_lemmas.rows(function)
-    crate, *path = function.split("::")
-    return modules.make(f"Rattle.{crate}.proofs.{'.'.join(path)}.Rows", text)
-
-
-def all_rows(modules, crate):
-    """The modules of all test vectors of a crate."""
-    if crate in ROWS_OF:
-        return ROWS_OF[crate]
-    return [lemmas_of_rows(modules, it) for it in row_lemmas.functions(crate)]
+    def judge(self, errors, is_clean):
+        """Takes the verdict from the errors of its case; `is_clean`: without the change, what is asked is proved."""
+        wrong = [f"{it[1]}:{it[2]} {it[3]}" for it in errors if it[0] == "specs"]
+        fails = [f"{it[1].rsplit('_', 1)[-1]}.{it[3].split('`')[1]}" for it in errors if it[3].startswith("`")]
+        told = ", ".join(dict.fromkeys(fails))
+        if not is_clean:
+            self.verdict, self.why = "no verdict", "what is asked is not proved with nothing turned"
+        elif wrong:
+            self.verdict, self.why = "unreadable", wrong[0][:300]
+        elif not errors or self.row and all(it.startswith("Rows.") for it in fails) and f"Rows.row_{self.row}" not in fails:
+            self.verdict, self.why = "LET THROUGH", f"but for other rows: {told}" if errors else "nothing fails"
+        else:
+            self.verdict, self.why = "refused", told or errors[0][3][:200]
+        print(f"{self.verdict} | {self.name} | {self.why}", flush=True)
 
 
 def with_whole_names(new, text):
@@ -133,248 +78,103 @@ def with_whole_names(new, text):
     return new
 
 
-def of_function(name):
+def modules_of(function):
     """The modules of the lemmas that prove the rows of a function, or its law."""
-    crate, *path = name.split("::")
-    text = Path(TOP, "crates", crate, "proofs", *path, "Answers.antt").read_text(encoding="utf-8")
+    crate, *path = function.split("::")
+    answers = Path(TOP, "crates", crate, "proofs", *path, "Answers.antt")
+    text = answers.read_text(encoding="utf-8") if answers.is_file() else ""
     named = re.findall(r"^use (Rattle\.(?:\w+\.)+)(?:\{| as )", text.replace(" as ", ". as "), re.M)
     return [it.rstrip(".") for it in named if ".proofs." in it and not re.search(r"\.std\.|\.Goals\.$", it)]
 
 
-def all_laws(modules, crate):
-    """The modules of the lemmas of every law of a crate and of the crates that it depends on."""
-    found = []
-    for it in LAWS_OF[crate]:
-        for folder, _, files in os.walk(f"{TOP}/crates/{it}/proofs"):
-            inner = os.path.relpath(folder, f"{TOP}/crates/{it}/proofs").split("/")
-            if "Answers.antt" in files and inner[0].startswith("laws"):
-                found += [name for name in of_function("::".join([it, *inner])) if name in modules.path]
-    return sorted(set(found))
-
-
-def is_broken(row, fails):
-    """Whether a row fails, or a lemma on which the rows stand."""
-    return f"Rows.row_{row}" in fails or not all(it.startswith("Rows.") for it in fails)
-
-
 class Run:
-    """The checks of some rules."""
+    """The checks of some rules in a room, over the libraries of a checkout."""
 
     def __init__(self, modules, given, room):
-        self.modules, self.given, self.room, self.clean, self.what = modules, given, room, {}, ""
+        self.modules, self.given, self.room, self.clean = modules, given, room, {}
 
-    def check(self, number, crate, cases):
-        """The output of one check for some cases (name, module, text, asked)."""
-        bench = side_by_side.Bench(self.modules, f"{self.room}/{number}", self.given.over, crate)
-        for case in cases:
-            bench.add(*case)
-        start = time.time()
-        told = bench.check()
-        said = f"{len(cases)} cases, {time.time() - start:.0f} s"
-        if told is None:
-            said = f"no verdict: {bench.said.strip().splitlines()[-1:]}"
-        print(f"  (check {number} over {crate}: {said})", flush=True)
-        return told or {}
+    def try_rules(self, rules):
+        """Gives each rule a verdict: first what is asked is checked with nothing turned."""
+        grounds = dict.fromkeys((rule.crate, rule.module, rule.asked) for rule in rules)
+        self.run_all("clean", [(None, crate, module, self.modules.text[module], asked) for crate, module, asked in grounds])
+        self.run_all("turned", [(rule, rule.crate, rule.module, rule.text, rule.asked) for rule in rules])
 
-    def ask(self, rules, what):
-        """Gives each rule a verdict from the modules that are tried."""
-        self.what = what
-        asked = [rule.modules_to_ask(self.modules, what) for rule in rules]
-        grounds = [(rule.crate, rule.module, it) for rule, it in zip(rules, asked)]
-        unturned = [it for it in dict.fromkeys(grounds) if it not in self.clean]
-        as_it_is = [(None, crate, module, self.modules.text[module], it) for crate, module, it in unturned]
-        self.run_checks(f"{what}_as_it_is", as_it_is)
-        self.run_checks(what, [(rule, rule.crate, rule.module, rule.text, it) for rule, it in zip(rules, asked)])
-
-    def run_checks(self, sign, cases):
+    def run_all(self, sign, cases):
         """Runs the checks of some cases: each of one crate, and of as many cases as one check may have."""
         parts = []
         for crate in sorted({it[1] for it in cases}):
             mine = [it for it in cases if it[1] == crate]
-            parts += [(crate, mine[at : at + self.given.cases]) for at in range(0, len(mine), self.given.cases)]
+            parts += [(crate, mine[at:at + self.given.cases]) for at in range(0, len(mine), self.given.cases)]
         with ThreadPoolExecutor(self.given.jobs) as pool:
-            list(pool.map(lambda it: self.run_check(f"{sign}{it[0]}", *it[1]), enumerate(parts)))
+            list(pool.map(lambda it: self.run_one(f"{sign}{it[0]}", *it[1]), enumerate(parts)))
 
-    def run_check(self, sign, crate, cases):
+    def run_one(self, sign, crate, cases):
         """One check of some cases: what is proved without a change, or the verdicts of rules."""
-        names = [f"{sign}_{n}" for n in range(len(cases))]
-        told = self.check(sign, crate, [(name, *it[2:]) for name, it in zip(names, cases)])
-        for name, (rule, _, module, _, asked) in zip(names, cases):
-            if name in told and rule:
-                self.judge(rule, told[name], asked)
-            elif name in told:
+        bench = side_by_side.Bench(self.modules, f"{self.room}/{sign}", self.given.over, crate)
+        names = [f"{sign}_{number}" for number in range(len(cases))]
+        for name, (_, _, *case) in zip(names, cases):
+            bench.add(name, *case)
+        told = bench.check()
+        if told is None:
+            print(f"  (no verdict over {crate}: {bench.said.strip().splitlines()[-1:]})", flush=True)
+        for name, (rule, _, module, _, asked) in zip(names, cases) if told else ():
+            if rule:
+                rule.judge(told[name], self.clean.get((crate, module, asked)))
+            else:
                 self.clean[crate, module, asked] = not told[name]
-                for error in told[name]:
-                    print(f"  NOT PROVED with nothing turned: {module} {error[:2]} {error[3][:200]}", flush=True)
-
-    def judge(self, rule, errors, asked):
-        """Gives a rule its verdict from the errors of its case, and prints it."""
-        wrong = [f"{it[1]}:{it[2]} {it[3]}" for it in errors if it[0] == "specs"]
-        fails = [f"{it[1].rsplit('_', 1)[-1]}.{it[3].split('`')[1]}" for it in errors if it[3].startswith("`")]
-        if not self.clean.get((rule.crate, rule.module, asked)):
-            rule.verdict, rule.why = "no verdict", "what is asked is not proved with nothing turned"
-        elif wrong:
-            rule.verdict, rule.why = "unreadable", wrong[0][:300]
-        elif errors and self.what == "beside" and rule.row and not is_broken(rule.row, fails):
-            rule.verdict, rule.why = "LET THROUGH", f"but for other rows: {', '.join(dict.fromkeys(fails))}"
-        elif errors:
-            rule.verdict = "refused elsewhere" if rule.row and self.what != "beside" else "refused"
-            rule.why = ", ".join(dict.fromkeys(fails)) or errors[0][3][:200]
-        else:
-            rule.verdict, rule.why = "LET THROUGH", f"{len(asked)} modules were asked"
-        self.say(rule)
-
-    def say(self, rule):
-        """Prints the line of a rule, and adds it to the log if there is one."""
-        print(rule.line(), flush=True)
-        if self.given.log:
-            with open(self.given.log, "a", encoding="utf-8") as out:
-                out.write(f"{rule.line()} | {rule.key}\n")
+                print(*(f"  NOT PROVED with nothing turned: {module} {it[:2]} {it[3][:200]}\n" for it in told[name]), end="")
 
 
-def read_rules(words=()):
-    """All rules, or those with one of these words in their names: those that the prover tries, and the others."""
-    every = records.read(Path(TOP, "mutation", "wrong_rules")) + wrong_rules_made.make_rules()
-    wanted = [it for it in every if not words or any(word in it.name for word in words)]
-    for it in wanted:
+# ---- whether they can be tried
+
+
+def read_rules(words):
+    """All rules, or those with one of these words in their names."""
+    every = records.read(TOP / "mutation" / "wrong_rules") + wrong_rules_made.make_rules()
+    for it in every:
         if bool(it.refused_by) == bool(it.seen_in):
             raise ValueError(f"{it.name}: a rule is refused by something or seen in something")
-    return [it for it in wanted if it.refused_by], [it for it in wanted if it.seen_in]
+    return [it for it in every if not words or any(word in it.name for word in words)]
 
 
-def not_refused_before(rules, log):
-    """The rules that an earlier run has not seen refused with the same texts."""
-    done = set()
-    if log and os.path.isfile(log):
-        lines = [it.split(" | ") for it in Path(log).read_text(encoding="utf-8").splitlines()]
-        done = {it[-1].strip() for it in lines if it[0] == "refused"}
-    return [it for it in rules if key_of(it) not in done]
-
-
-# ---- rules that the prover does not try
-
-
-def scenarios_of_acceptance():
-    """The names of all fixed scenarios."""
-    return {*scenarios.names(), *test_at_limits.SCENARIOS, *(f"heads_{it}" for it in test_heads.SCENARIOS)}
-
-
-def is_there(record, named_scenarios):
-    """Whether what notices a rule is there: a scenario, a row of a function, or the proof of a law."""
+def why_not(record):
+    """Why a rule cannot be tried, or nothing: its old text is there, and the scenario, the row or the law that it names."""
+    if why := record.why_not(TOP / "crates" / record.folder):
+        return why
     if record.seen_in:
-        kind, _, name = record.seen_in.partition(" ")
-        return kind == "scenario" and name in named_scenarios
-    function, _, row = record.refused_by.partition(" ")
-    if row:
-        return row_lemmas.rows(function)[1].count(row) == 1
-    crate, *path = function.split("::")
-    return Path(TOP, "crates", crate, "proofs", *path).is_dir()
-
-
-def look_for(rules):
-    """Prints the rules that do not apply, or whose row, law or scenario is not there; says whether all do."""
-    named_scenarios = scenarios_of_acceptance()
-
-    def why_not(record):
-        """Why a rule cannot be tried, or nothing."""
-        named = "" if is_there(record, named_scenarios) else f"no {record.refused_by or record.seen_in}"
-        return why_not_applied(record) or named
-    wrong = trials.cannot_be_tried(rules, why_not, lambda record: record.name)
-    kinds = Counter("scenarios" if it.seen_in else "rows" if "::worked" in it.refused_by else "laws" for it in rules)
-    in_one = f"{kinds['scenarios']} are seen in a scenario alone"
-    print(f"for the prover: {kinds['rows']} name rows, {kinds['laws']} a law; {in_one}")
-    print(f"{len(rules)} rules, {wrong} not applied")
-    return not wrong and bool(rules)
-
-
-# ---- which definitions are changed
-
-DEFINITION = re.compile(r"^(?:abbrev|unfoldable)(?: pub)? (\w+) :", re.M)
-
-
-def definitions(path):
-    """The names of a module's definitions, each with the place where its text begins."""
-    return [(at.start(), at[1]) for at in DEFINITION.finditer(path.read_text(encoding="utf-8"))]
-
-
-def changed_definitions():
-    """The definitions that some rule changes, as (file, name)."""
-    changed = set()
-    for it in itertools.chain(*read_rules()):
-        path = Path(TOP, path_of(it))
-        place = path.read_text(encoding="utf-8").find(it.old)
-        before = [name for begin, name in definitions(path) if begin < place + len(it.old)]
-        changed |= {(path, before[-1])} if before else set()
-    return changed
-
-
-def is_of_the_model(file):
-    """Whether a file has definitions that are no test vectors and are not made from the code."""
-    return "declared" not in file.parts and not file.name.startswith("Worked")
-
-
-def cover(crates):
-    """Prints how many definitions of each crate some rule changes; of the named crates those that none changes."""
-    changed, total = changed_definitions(), [0, 0]
-    for folder in sorted(Path(TOP, "crates").glob("*/specs")):
-        crate = folder.parent.name
-        files = sorted(it for it in folder.rglob("*.antt") if is_of_the_model(it))
-        names = [(file, name) for file in files for _, name in definitions(file)]
-        mine = [it for it in names if it in changed]
-        total = [total[0] + len(names), total[1] + len(mine)]
-        if mine and not crates:
-            print(f"{crate}: {len(mine)} of {len(names)}")
-        for file, name in [it for it in names if it not in changed] if crate in crates else []:
-            print(f"{crate}/{file.relative_to(folder)}: {name}")
-    print(f"{total[1]} of {total[0]} definitions are changed by a rule")
-
-
-def options():
-    """Reads the command line."""
-    words = argparse.ArgumentParser(prog="wrong_rules.py", description=__doc__.split("\n")[0])
-    words.add_argument("--dry", action="store_true", help="only look whether each old text stands once in its file")
-    words.add_argument("--covered", action="store_true", help="count the definitions that some rule changes")
-    words.add_argument("--jobs", type=int, default=1, help="checks at once")
-    words.add_argument("--cases", type=int, default=24, help="rules in one check")
-    words.add_argument("--over", default=TOP, help="the checkout whose libraries are used")
-    words.add_argument("--log", help="a file that keeps a line for each rule")
-    words.add_argument("--keep", help="a folder that keeps what was checked and said")
-    words.add_argument("words", nargs="*", metavar="WORD")
-    return words.parse_args()
-
-
-def try_rules(given, modules, rules):
-    """Gives each rule a verdict, and prints it."""
-    with tempfile.TemporaryDirectory(prefix="rules-") as room:
-        run = Run(modules, given, given.keep or room)
-        for it in rules:
-            if it.verdict:
-                run.say(it)
-        run.ask([it for it in rules if not it.verdict], "beside")
-        run.ask([it for it in rules if it.verdict == "LET THROUGH"], "rows")
-        run.ask([it for it in rules if it.verdict == "LET THROUGH"], "laws")
-        for it in rules:
-            if not it.verdict:
-                it.verdict, it.why = "no verdict", "the check did not end"
-                run.say(it)
+        there = {*scenarios.names(), *test_at_limits.SCENARIOS, *(f"heads_{it}" for it in test_heads.SCENARIOS)}
+        is_there = record.seen_in.removeprefix("scenario ") in there
+    else:
+        function, _, row = record.refused_by.partition(" ")
+        crate, *path = function.split("::")
+        is_there = row_lemmas.rows(function)[1].count(row) == 1 if row else (
+            Path(TOP, "crates", crate, "proofs", *path).is_dir() or function in row_lemmas.functions(crate))
+    return "" if is_there else f"no {record.refused_by or record.seen_in}"
 
 
 def main():
-    """Tries the rules that are wanted, and returns 1 if one was not refused; --dry and --covered only count."""
-    given = options()
-    if given.covered:
-        return cover(given.words)
-    of_prover, others = read_rules(given.words)
-    if given.dry:
-        return 0 if look_for(of_prover + others) else 1
+    """Tries the rules that are wanted, and returns 1 if one was not refused; --dry only looks whether they can be tried."""
+    words = argparse.ArgumentParser(description=__doc__, formatter_class=argparse.RawDescriptionHelpFormatter)
+    words.add_argument("--dry", action="store_true", help="only look whether each can be tried")
+    words.add_argument("--jobs", type=int, default=1, help="checks at once")
+    words.add_argument("--cases", type=int, default=24, help="rules in one check")
+    words.add_argument("--over", default=TOP, help="the checkout whose libraries are used")
+    words.add_argument("words", nargs="*", metavar="WORD")
+    given = words.parse_args()
+    found = read_rules(given.words)
+    wrong = trials.cannot_be_tried(found, why_not, lambda record: record.name)
+    kinds = Counter("scenario" if it.seen_in else "vector" if "::worked" in it.refused_by else "law" for it in found)
+    print(f"{len(found)} rules ({', '.join(f'{many} by a {kind}' for kind, many in kinds.items())}), {wrong} cannot be tried")
+    if given.dry or wrong or not found:
+        return 1 if wrong or not found else 0
     modules = side_by_side.Modules(TOP)
-    rules = [Rule(modules, it) for it in not_refused_before(of_prover, given.log)]
-    try_rules(given, modules, rules)
-    before, verdicts = len(of_prover) - len(rules), trials.Verdicts("refused")
+    rules, verdicts = [Rule(modules, it) for it in found if it.refused_by], trials.Verdicts("refused")
+    with tempfile.TemporaryDirectory(prefix="rules-") as room:
+        Run(modules, given, room).try_rules(rules)
     for it in rules:
         verdicts.add(it.verdict)
-    print(f"{len(rules)} tried: {verdicts.line()}" + (f"; {before} were refused before" if before else ""))
-    return verdicts.status() if rules or not before else 0
+    print(verdicts.line())
+    return verdicts.status()
 
 
 if __name__ == "__main__":
