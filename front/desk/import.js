@@ -60,7 +60,7 @@ function importForm() {
     fields: [
       textField('source', text('Source'), {
         value: 'catalogue', maxlength: 64, pattern: '(?!\\.{1,2}$)[A-Za-z0-9._\\-]+',
-        title: text('Plain letters, digits, dots, low lines or hyphens'),
+        title: text('Plain letters, digits, dots, underscores or hyphens'),
         hint: text('Always the same name for files of the same catalogue. Under another name every unit would come in a second time.'),
       }),
       file, reader.panel,
