@@ -30,7 +30,8 @@ ORDER BY place.number;
 -- about: Units that open by themselves within 90 days after the office's day. A unit stays closed while one above it is
 --     closed.
 SELECT day(unit.until) AS "Opens on", unit.id AS "Unit", place.code AS "Code", unit.level AS "Level", title(unit.id) AS "Title",
-    CASE WHEN place.closed > unit.until THEN day(place.closed) ELSE '' END AS "One above is closed until"
+    CASE WHEN place.closed > unit.until THEN day(place.closed) ELSE '' END AS "One above is closed until",
+    title(place.archive) AS "Archive"
 FROM unit JOIN place ON place.unit = unit.id, office
 WHERE unit.until > office.day AND unit.until <= office.day + 90
 ORDER BY unit.until, place.number;
