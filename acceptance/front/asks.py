@@ -134,8 +134,8 @@ POLICY = {
         "default-src 'none'; script-src 'self'; style-src 'self'; img-src IMAGES; connect-src 'self'; form-action FORMS; "
         "base-uri 'none'; frame-ancestors 'none'; require-trusted-types-for 'script'",
     "x-content-type-options": "nosniff", "referrer-policy": "same-origin", "cross-origin-opener-policy": "same-origin",
-    "cross-origin-resource-policy": "same-origin", "permissions-policy": "camera=(), microphone=(), geolocation=()",
-    "server": "nginx",
+    "cross-origin-resource-policy": "same-origin", "server": "nginx",
+    "permissions-policy": "camera=(), microphone=(), geolocation=(), payment=(), usb=()",
 }
 
 
