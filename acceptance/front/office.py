@@ -47,6 +47,7 @@ SELDOM = ("--every", "100000", "--rest", "0", "--orders", "6000")  # one round, 
 # For those who ask for many pages in a row from one address.
 MANY_PAGES = [("record_office_pages burst=60", "record_office_pages burst=6000"),
               ("aids_in_a_row burst=9", "aids_in_a_row burst=9000")]
+KINDS = ("pages", "help", "searches", "aids", "orders")  # of requests: the readers' service has a socket for each
 PASSWORD = ("desk", "quiet-paper")
 SIGNED_IN = {"Authorization": "Basic " + base64.b64encode(":".join(PASSWORD).encode()).decode()}
 SETTINGS = client.SETTINGS | {"seats": "12", "daily": "50", "hands": "2", "run": "20"}
@@ -105,7 +106,7 @@ class Office(client.Office):
         self.service: Any = None
         self.trying: Any = None
         self.copies, self.kept = self.folder / "copies", self.folder / "kept"  # of tries
-        self.queue, self.listen = self.folder / "readers.sock", self.folder / "pages.sock"
+        self.queue = self.folder / "readers.sock"
         self.index, self.words = self.folder / "index.db", READERS / "office.json"
         self.waiting, self.beginning = threading.Event(), threading.Lock()
         self.waiting.set()
@@ -216,9 +217,10 @@ class Office(client.Office):
         answers."""
         with open(self.folder / "readers.told", "a") as log:
             words = [PYTHON, "-B", "-E", "-s", READERS / "service.py", "--queue", self.queue, "--index", self.index,
-                     "--listen", self.listen, "--words", self.words, "--texts", self.folder / "texts", *(more or QUICK)]
+                     "--listen", self.folder, "--words", self.words, "--texts", self.folder / "texts", *(more or QUICK)]
             names = {"MALLOC_ARENA_MAX": "1", **({"TZ": zone} if zone else {})}  # the first as its unit has it
-            self.service = subprocess.Popen([str(word) for word in words], stdout=log, stderr=log, env={**os.environ, **names})
+            self.service = subprocess.Popen([str(word) for word in words], stdout=log, stderr=log, process_group=0,
+                                            env={**os.environ, **names})
         self.wait_for(self.public + "/help", self.service)
 
     @contextlib.contextmanager
@@ -231,8 +233,9 @@ class Office(client.Office):
             self.serve_readers(*more)
 
     def kill_readers(self) -> None:
-        """Kills the readers' service."""
-        self.service.kill()
+        """Kills the readers' service, with all its processes, as systemd would."""
+        with contextlib.suppress(ProcessLookupError):
+            os.killpg(self.service.pid, signal.SIGKILL)
         self.service.wait()
 
     def serve_tries(self) -> None:

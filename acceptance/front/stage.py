@@ -17,9 +17,9 @@ import jinja2
 import offers
 import orders
 import pages
+import service
 import turns
 from rounds import Round
-from service import Service
 
 from acceptance import client, reference_model
 from acceptance.front.outline import lines_of
@@ -67,7 +67,7 @@ class Played:
         """The bytes of an answer; nothing if the connection is closed. Raises TimeoutError."""
         method, path, _ = head.split(" ", 2)
         kind = re.search("Record-Office-For: (.*)", head)
-        who, limit = kind[1].strip() if kind else "", f"for {patience:.1f} s" if patience != 150 else ""
+        who, limit = kind[1].strip() if kind else "", f"for {patience:.1f} s" if patience != asking.SOON else ""
         self.asked.append(" ".join(filter(None, [who, "" if method == "GET" else method, path, body.decode(), limit])))
         self.clock.now += self.clock.step
         if self.clock.step > patience:
@@ -115,11 +115,11 @@ class Stage:
 
     def __init__(self, folder, office, patch):
         self.folder, self.path, self.clock, self.told = folder, folder / "index.db", Clock(), []
-        for module in (aids, answers, asking, offers, orders, pages, turns):
+        for module in (aids, answers, asking, offers, orders, pages, service, turns):
             patch.setattr(module, "time", self.clock)
         self.played = Played(office, self.clock)
         patch.setattr(asking, "socket", self.played)
-        self.service = Service(folder / "office.sock", self.path, self.told.append)
+        self.service = service.Service(folder / "office.sock", self.path, self.told.append)
         self.turn, self.service.turns.turn = self.service.turns.turn, self.note_turn
         self.words = folder / "office.json"
         self.service.pages = pages.Pages(folder / "office.sock", self.path, self.words, self.service.find, 4, 6)
@@ -134,7 +134,8 @@ class Stage:
     def begin_anew(self):
         """Sets the clock to its beginning; no address has given an order yet."""
         self.clock.now, self.clock.step, self.played.connections = 1000.0, 0.0, 0
-        self.service.mine, self.service.pages.mine = threading.local(), threading.local()
+        self.service.mine = threading.local()
+        self.service.idle, self.service.pages.idle = (asking.Idle(self.folder / "office.sock", 12) for _ in range(2))
         self.service.pages.row = orders.Row(6)
 
     def ask_plainly(self, path):

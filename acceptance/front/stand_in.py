@@ -7,6 +7,7 @@ import threading
 import time
 
 from acceptance import client
+from acceptance.front.office import KINDS
 
 LINE_END = b"\r\n\r\n"
 
@@ -107,6 +108,15 @@ def size_of(head):
         if name.lower() == b"content-length":
             return int(value)
     return 0
+
+
+def in_place_of_service(office, **values):
+    """A stand-in at all sockets of the readers' service."""
+    first, *others = (office.folder / f"{kind}.sock" for kind in KINDS)
+    for other in others:
+        other.unlink(missing_ok=True)
+        other.symlink_to(first)
+    return StandIn(first, **values)
 
 
 @contextlib.contextmanager

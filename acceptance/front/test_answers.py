@@ -11,7 +11,6 @@ requests have there."""
 import functools
 import gzip
 import http
-import os
 import re
 import socket
 import ssl
@@ -22,7 +21,7 @@ import pytest
 from acceptance import client
 from acceptance.front.asks import POLICY, exchange
 from acceptance.front.encrypted import DESK, READERS, Encrypted, answer_by, talk
-from acceptance.front.office import FRONT, NGINX, SIGNED_IN, mime_types, user_name
+from acceptance.front.office import FRONT, KINDS, NGINX, SIGNED_IN, mime_types, user_name
 from acceptance.front.stand_in import StandIn
 from acceptance.front.waits import until
 
@@ -38,9 +37,9 @@ YEAR = "max-age=31536000"
 UNTOLD = {"date", "connection", "content-length", "transfer-encoding", "etag", "last-modified", "accept-ranges", "server",
           "content-type", "cache-control", "strict-transport-security", *POLICY}
 # What every request has that comes to one of those behind.
-USUAL = {"program": ["host: office"],
-         "service": ["host: SITE", "x-forwarded-proto: http", "x-forwarded-for: READER", "record-office-room: 0"],
-         "trials": ["host: office"]}
+READERS_SERVICE = ["host: SITE", "x-forwarded-proto: http", "x-forwarded-for: READER", "record-office-room: 0",
+                   "record-office-since: NOW"]
+USUAL = {"program": ["host: office"], "trials": ["host: office"], **dict.fromkeys(KINDS, READERS_SERVICE)}
 
 
 class Echo(StandIn):
@@ -90,10 +89,8 @@ class Front(Encrypted):
         for name in ("cache/lists/a.html", "cache/lists/a.csv", "cache/lists/a.json", "cache/lists/a.txt", "texts/de.json"):
             (self.folder / name).parent.mkdir(parents=True, exist_ok=True)
             (self.folder / name).write_text("caf\u00e9\n", "utf-8")
-        self.behind = [Echo("program", self.ports["8090"]), Echo("service", self.listen),
-                       Echo("trials", self.folder / "tries.sock")]
-        for path in (self.listen, self.folder / "tries.sock"):
-            os.chmod(path, 0o666)
+        self.behind = [Echo("program", self.ports["8090"]), Echo("trials", self.folder / "tries.sock"),
+                       *(Echo(kind, self.folder / f"{kind}.sock") for kind in KINDS)]
         self._begin_queue()
         self.nginx = [self._run("nginx", "-p", str(self.folder), "-c", str(path), told=path.stem) for path in self.sites()]
         for name in ("8080", "8081", "80", "443", "8443", "8091", "8092", "8093"):
@@ -250,6 +247,7 @@ class Table:
     def masked(self, line):
         """A line without what differs from run to run."""
         line = self.ports.sub(lambda found: f":<{self.names[found[1]]}>", line)
+        line = re.sub(r"(?<=since: )\d{10}[.]\d{3}$", "NOW", line)
         return re.sub(r"127[.][1-9]\d*[.]0[.]\d+", "READER", line)
 
 

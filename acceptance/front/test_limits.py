@@ -13,7 +13,7 @@ import pytest
 from acceptance import client
 from acceptance.front.asks import Asks, ask_once, exchange, statuses
 from acceptance.front.office import ARCHIVES
-from acceptance.front.stand_in import StandIn, in_place_of_program
+from acceptance.front.stand_in import in_place_of_program, in_place_of_service
 from acceptance.front.waits import until
 
 LARGE = 24_000_000  # more bytes than sockets hold
@@ -153,8 +153,7 @@ def test_aids_at_once(many_aids):
 
 def test_aids_from_all(many_aids):
     """Twelve finding aids at once, whoever asks."""
-    with StandIn(many_aids.listen, silent=True, at_once=30) as service:
-        os.chmod(many_aids.listen, 0o666)
+    with in_place_of_service(many_aids, silent=True, at_once=30) as service:
         crowds = [Crowd(many_aids.ports["8080"], client.get("/aid/1"), 9, source) for source in ("127.0.0.2", "127.0.0.3")]
         until(lambda: sum(crowd.count_answered() for crowd in crowds) >= 6 and len(service.requests) >= 12,
               "those over the limit are answered")
@@ -172,16 +171,14 @@ def check_at_once(office, path, many, most):
 
 
 def test_searches_at_once(office):
-    """So many clients search, from one address and from all, while the service answers none of them."""
-    with StandIn(office.listen, silent=True, at_once=30) as service:
-        os.chmod(office.listen, 0o666)
+    """So many clients search, from one address and from many, while the service answers none of them."""
+    with in_place_of_service(office, silent=True, at_once=90) as service:
         crowd = Crowd(office.ports["8080"], client.get("/public/search?q=x"), 6)
         until(lambda: crowd.count_answered() >= 2 and len(service.requests) >= 4, "those over the limit are answered")
         assert (crowd.count_answered(), len(service.requests)) == (2, 4), "four at once from one address"
-        others = [Crowd(office.ports["8080"], client.get("/public/search?q=x"), 4, f"127.0.0.{n}") for n in range(2, 7)]
-        until(lambda: sum(one.count_answered() for one in others) >= 8 and len(service.requests) >= 16,
-              "those over the limit of all are answered")
-        assert (sum(one.count_answered() for one in others), len(service.requests)) == (8, 16), "sixteen from all"
+        others = [Crowd(office.ports["8080"], client.get("/public/search?q=x"), 4, f"127.0.0.{n}") for n in range(2, 22)]
+        until(lambda: len(service.requests) >= 84, "however many others search, the service decides whom it refuses")
+        assert sum(one.count_answered() for one in others) == 0
     assert crowd.statuses() == {503: 4, 429: 2}, "the others are told that there is none"
 
 

@@ -4,6 +4,7 @@ Where the order of requests or their bytes matter, a stand-in has the program's 
 import contextlib
 import http.client
 import os
+import re
 import signal
 import socket
 import stat
@@ -13,9 +14,9 @@ import pytest
 
 from acceptance import client
 from acceptance.front.asks import Asks, ask_once, assert_policy, body_of, status
-from acceptance.front.office import ARCHIVES, FRONT, MANY_PAGES, SELDOM, SIGNED_IN
+from acceptance.front.office import ARCHIVES, FRONT, KINDS, MANY_PAGES, SELDOM, SIGNED_IN
 from acceptance.front.senders import UNANSWERED, Sender, Socket, count_unread, registration
-from acceptance.front.stand_in import StandIn, in_place_of_program
+from acceptance.front.stand_in import StandIn, in_place_of_program, in_place_of_service
 from acceptance.front.waits import until
 
 ROUND, AID, CRAWLER, SEARCH, PAGE = ({"Record-Office-For": name} for name in ("round", "aid", "crawler", "search",
@@ -102,15 +103,15 @@ def test_nothing_that_a_client_writes_in_a_head_comes_to_the_program(office):
 def test_what_the_readers_service_is_told(office):
     """Who asks, from where, in which language, and whether it reads all pages."""
     paths, rounds = ("/unit/1", "/aid/1", "/search?q=x", "/public/aid/1"), office.count_rounds()
-    with office.without_readers(*SELDOM), StandIn(office.listen, at_once=4) as service:
-        os.chmod(office.listen, 0o666)
+    with office.without_readers(*SELDOM), in_place_of_service(office, at_once=4) as service:
         for path in paths:
             for agent in ("Mozilla/5.0", "Examplebot/1.0"):
                 ask(office, path, headers={"User-Agent": agent, "Accept-Language": "de", "Cookie": "lang=fr", "X": "y"}).read()
-        told = [sorted(head.lower().split("\r\n")) for head, _ in service.requests]
+        told = [sorted(re.sub("since: [0-9.]{14}\\Z", "since: now", line) for line in head.lower().split("\r\n"))
+                for head, _ in service.requests]
     until(lambda: office.count_rounds() > rounds, "the round that the service began is over")
     lines = [f"host: 127.0.0.1:{office.ports['8080']}", "accept-language: fr", "record-office-room: 0",
-             "x-forwarded-for: 127.0.0.1", "x-forwarded-proto: http"]
+             "record-office-since: now", "x-forwarded-for: 127.0.0.1", "x-forwarded-proto: http"]
     assert told == [sorted([*lines, f"get {path} http/1.1", *crawls])
                     for path in paths for crawls in ((), ("record-office-crawler: yes",))]
 
@@ -244,7 +245,8 @@ def test_what_each_way_into_the_queue_lets_through(office):
         ask(office, path, port, SIGNED_IN).read()
         assert int(office.queue_state(side,
                                       "FRONTEND")["req_tot"]) - before == 1, f"{path} at {port} comes by the way of the {side}"
-    assert stat.S_IMODE(office.queue.stat().st_mode) == 0o660, "its user and its group may use it"
+    for path in (office.queue, *(office.folder / f"{kind}.sock" for kind in KINDS)):
+        assert stat.S_IMODE(path.stat().st_mode) == 0o660, f"its user and its group may use {path}"
     assert "group record-office-readers" in (FRONT / "server/haproxy.cfg").read_text(), "which is the service's"
     with office.without_queue():
         for path in ("/public/fonds", "/public/units/1"):

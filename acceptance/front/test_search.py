@@ -18,7 +18,7 @@ import pytest
 from answers import Finder, Query
 from asking import Asking, Unreached
 from folding import read_typed
-from turns import Turns, network_of
+from turns import Late, Turns
 
 from acceptance import client
 from acceptance.front.asks import send_at_once
@@ -105,11 +105,9 @@ def taken(it, who, costly, order):
     """Waits for a turn, and keeps whose it was for a while, so that the next one comes after it."""
     with it.turn(who, costly=costly):
         order.append(who)
-        for other in (f"{who}/{n}" for n in range(3)):
-            it.running[other] += 1
+        it.busy += 3
         time.sleep(.1)
-        for other in (f"{who}/{n}" for n in range(3)):
-            it.running[other] -= 1
+        it.busy -= 3
 
 
 def test_who_has_taken_most_goes_last():
@@ -131,9 +129,45 @@ def test_who_has_taken_most_goes_last():
     assert hurried == [False, True, True], "whoever has taken much hurries nobody"
 
 
-def test_a_network_of_ipv6_is_one():
-    assert network_of("2001:db8::1") == network_of("2001:db8::ffff") != network_of("2001:db8:0:1::1")
-    assert network_of("192.0.2.1") != network_of("192.0.2.2")
+@contextlib.contextmanager
+def all_places(it):
+    """A context in which four others search."""
+    with it.turn("198.51.100.1"), it.turn("198.51.100.2"), it.turn("198.51.100.3"), it.turn("198.51.100.4"):
+        yield
+
+
+def test_of_ipv6_a_house_is_one_and_its_networks_are_within_it():
+    it, order = Turns(), []
+    with it.turn("2001:db8:0:1::1"):
+        time.sleep(.3)
+    with all_places(it):
+        threads = [threading.Thread(target=taken, args=(it, who, False, order))
+                   for who in ("2001:db8:0:1::2", "2001:db8:0:ff::1", "2001:db8:0:100::1")]
+        for many, thread in enumerate(threads):
+            thread.start()
+            until(lambda many=many: len(it.waiting) == many + 1, "it waits")
+    for thread in threads:
+        thread.join()
+    assert order == ["2001:db8:0:100::1", "2001:db8:0:ff::1", "2001:db8:0:1::2"], "another house, another network, the same"
+
+
+def test_if_too_many_wait_one_of_whom_has_most_of_them_is_refused():
+    it, refused, answered = Turns(), [], []
+
+    def search(who):
+        """Searches once."""
+        try:
+            with it.turn(who):
+                answered.append(who)
+        except Late:
+            refused.append(who)
+    with all_places(it):
+        readers = [f"203.0.113.{n}" for n in range(1, 7)]
+        for who in [f"192.0.2.{n % 20}" for n in range(60)] + readers:
+            threading.Thread(target=search, args=(who,)).start()
+        until(lambda: len(refused) == 26, "those that are too many are refused at once")
+    until(lambda: len(answered) == 40, "the others are answered")
+    assert set(readers) <= set(answered), "who searches once is, however many others search"
 
 
 def test_how_the_office_is_asked(room):

@@ -75,7 +75,9 @@ readers.conf | location / { | limit_req zone=record_office_pages burst=60 nodela
 readers.conf | location ~ "^/aid/ | limit_req zone=record_office_aids_in_a_row burst=9 nodelay | ten of them at once
 readers.conf | location ~ "^/(?:public/)?search | limit_req zone=record_office_searches burst=20 nodelay | twenty at once
 readers.conf | location ~ "^/(?:public/)?search | limit_conn record_office_searches_at_once 4 | others search, too
-readers.conf | location ~ "^/(?:public/)?search | limit_conn record_office_searching 16 | as many as the service takes
+readers.conf | location ~ "^/(?:public/)?search | limit_conn record_office_searching 400 | it refuses those that are too many
+readers.conf | location ~ "^/(?:help | limit_req zone=record_office_pages burst=60 nodelay | a reader opens many pages in a row
+readers.conf | location ~ "^/(?:help | limit_conn record_office_visits 100 | who sends half of a form counts
 readers.conf | location ~ "^/(?:unit/ | limit_req zone=record_office_orders burst=11 nodelay | a dozen orders at once
 readers.conf | location ~ "^/public/(?:fonds | limit_req zone=record_office_readers burst=200 nodelay | a program reads on
 readers.conf | location ~ "^/public/aid/ | limit_req zone=record_office_aids_in_a_row burst=9 nodelay | ten of them at once

@@ -64,7 +64,7 @@ class Beside:
         self.office.answers = {**all_answers(), **dict.fromkeys(busy, client.BUSY)}
         with contextlib.closing(index.open_index(str(self.index))) as db:
             finder = Finder(db, Asking(self.keeper.ask.path), Query(read_typed(typed))).find(100)
-            finder.ask.connection.close()
+            finder.ask.idle.take().close()
         return finder.state, [unit["unit"] for unit in finder.units], finder.gone
 
 

@@ -7,7 +7,7 @@ import subprocess
 
 import pytest
 
-from acceptance.front.office import FRONT, TOP
+from acceptance.front.office import FRONT, KINDS, TOP
 
 UNITS = FRONT / "units" if (FRONT / "units").is_dir() else TOP / "packaging"  # mutation/front.py has copies of them there
 GO_ON = ("record-office", "record-office-queue", "record-office-readers", "record-office-desk", "record-office-try")
@@ -90,7 +90,7 @@ queue readers try desk | RuntimeDirectory=OWN | the configurations name these fo
 program | WorkingDirectory=/var/lib/record-office | where the office is
 program | UMask=0077 | which nobody else can read
 desk | ReadWritePaths=/var/log/nginx | the log of who was here
-readers | TasksMax=64 | threads
+readers | TasksMax=1024 | threads
 try | TasksMax=32 | threads
 readers try | Nice=10 | the program goes before them
 readers | Environment=MALLOC_ARENA_MAX=1 | memory of threads
@@ -113,7 +113,8 @@ program | SocketBindDeny=any | it listens at its port alone
 program | RestartPreventExitStatus=2 | a bad command line is not begun again
 try | Environment=PYTHONPATH=/usr/share/record-office/look | the look at a file
 readers | BindReadOnlyPaths=-/etc/record-office/office.json:/run/record-office-readers/office.json | the office's own words
-readers | ExecStartPost=/bin/sh -c 'until test -S ${RUNTIME_DIRECTORY}/pages.sock; do sleep 0.2; done' | once it can be asked
+readers | ExecStartPost=+/bin/sh -c 'cd ${RUNTIME_DIRECTORY} && until test -S orders.sock; do sleep 0.2; done; \
+chgrp -h www-data ./*.sock' | nginx can ask it, and nobody else
 """
 WHEN = {"record-office-backup": {"OnCalendar": ["*-*-* 03:00"], "Persistent": ["true"]},
         "record-office-status": {"OnCalendar": ["*-*-* 07:00"], "Persistent": ["true"]},  # after the backup
@@ -247,12 +248,12 @@ def test_what_tells_why_the_program_ended_is_there():
 
 
 @pytest.mark.parametrize("unit, upstream, alone", [
-    ("readers", "service", " -E"), ("try", "try", "")])  # the latter is told where the look at a file has its modules
+    *(("readers", kind, " -E") for kind in KINDS), ("try", "try", "")])  # the latter is told where its modules are
 def test_services_of_python_listen_where_nginx_asks(unit, upstream, alone):
     begin = " ".join(SERVICES[f"record-office-{unit}"]["ExecStart"])
     begin = begin.replace("${RUNTIME_DIRECTORY}", f"/run/record-office-{unit}")
     socket = re.search(rf"upstream record_office_{upstream} {{ server unix:(\S+); }}", SERVER["common.conf"])[1]
-    assert f" --listen {socket}" in begin
+    assert f" --listen {socket}" in begin or f" --listen {socket.rsplit('/', 1)[0]} " in begin
     plain = f"/usr/bin/python3 -B{alone} -s /usr/share/record-office/"
     assert begin.startswith(plain), "Debian's own Python, with nothing of the user's"
     assert (FRONT / re.search(r"record-office/(\S+\.py)", begin)[1]).is_file()

@@ -5,10 +5,11 @@ import time
 import zlib
 from typing import NamedTuple
 
-from asking import Unreached, spool
+from asking import SOON, Unreached, spool
 from texts import HEAD, read_head, read_line
 
 PATIENCE = 240  # seconds that a reader may wait behind the aids of others
+A_SECOND = 4000  # units of which a slow machine begins to write the aid within a second
 LONGEST = 5  # seconds of a rest
 LARGE = 1_000_000  # bytes; a larger aid has blocks
 BLOCK = 200  # lines, or a few more, that are laid out together once they come near the screen
@@ -20,19 +21,26 @@ class Aids:
     the office took: pages and the desk have the office meanwhile."""
 
     def __init__(self, queue, folder, rest):
-        self.queue, self.folder, self.rest = queue, folder, rest
+        self.queue, self.folder, self.rest, self.unreached = queue, folder, rest, 0
         self.turn, self.free, self.written = threading.Lock(), 0.0, threading.Semaphore(WRITTEN)
 
-    def spool(self, number):
-        """The aid of a unit in a file, or None. Raises Unreached, also if others take too long."""
-        until = time.monotonic() + PATIENCE
+    def spool(self, number, size):
+        """The aid of a unit in a file, or None. size: how many units it has. Raises Unreached, also if others take too long,
+        and at once if one before could not be had: the office does not answer."""
+        until, before = time.monotonic() + PATIENCE, self.unreached
         if not self.turn.acquire(timeout=PATIENCE):
             raise Unreached(number)
         try:
+            if self.unreached != before:
+                raise Unreached(number)
             time.sleep(max(0.0, self.free - time.monotonic()))
-            file, took = spool(self.queue, f"/public/aid/{number}", self.folder, max(until - time.monotonic(), 1))
+            file, took = spool(self.queue, f"/public/aid/{number}", self.folder, SOON + size / A_SECOND,
+                               max(until - time.monotonic(), 1))
             self.free = time.monotonic() + min(took * self.rest, LONGEST)
             return file
+        except Unreached:
+            self.unreached += 1
+            raise
         finally:
             self.turn.release()
 

@@ -76,7 +76,7 @@ class Finder:
         try:
             self._find()
         except Slow:
-            self.state = "late"
+            self.state = "late" if self.tops else "unreached"  # the list of fonds, at least, comes at once
         except Unreached:
             self.state = "unreached"
         except sqlite3.OperationalError:

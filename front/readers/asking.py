@@ -1,6 +1,7 @@
 """Asks the office through the queue's socket, which puts pages before searches, these before crawlers and finding aids,
 and rounds last."""
 
+import collections
 import http.client
 import json
 import shutil
@@ -9,6 +10,7 @@ import tempfile
 import time
 
 TOOK = "Record-Office-Took"  # the milliseconds that the office took to begin its answer; the gate tells them
+SOON = 5  # seconds after which a reader is told that the office does not answer
 BUSY = b'{"error":"busy"}'  # the program's own 503, as of an answer that needs too much memory; the queue has another
 
 
@@ -37,9 +39,43 @@ class Connection(http.client.HTTPConnection):
         self.sock.settimeout(self.timeout)
         self.sock.connect(self.path)
 
+    def wait_for(self, seconds):
+        """From now on nothing is waited for longer."""
+        self.timeout = seconds
+        if self.sock:
+            self.sock.settimeout(seconds)
+
     def ask(self, path, kind):
         """Puts a question. kind: whom or what it is for."""
+        self.clock = Clock()
         self.request("GET", path, headers={"Record-Office-For": kind})
+
+    def take(self):
+        """Status and body of the answer, and the office's seconds."""
+        answer = self.getresponse()
+        self.clock.note_head(answer)
+        return answer.status, answer.read(), self.clock.took()
+
+
+class Idle:
+    """Connections that are kept, which the threads of a process may share: the queue lets so many in."""
+
+    def __init__(self, path, most=1):
+        self.path, self.most, self.kept = str(path), most, collections.deque()
+
+    def take(self):
+        """A connection, which may have been closed meanwhile."""
+        try:
+            return self.kept.pop()
+        except IndexError:
+            return Connection(self.path)
+
+    def give(self, connection):
+        """Keeps a connection whose answer has come whole."""
+        if len(self.kept) < self.most:
+            self.kept.append(connection)
+        else:
+            connection.close()
 
 
 class Clock:
@@ -70,15 +106,14 @@ class Asking:
 
     PATIENCE = 130  # seconds that a round waits for an answer: longer than the queue does
 
-    def __init__(self, path, rest=0, kind=None):
-        self.connection, self.rest, self.until, self.asked, self.busy = Connection(path), rest, None, 0, 0.0
+    def __init__(self, path, rest=0, kind=None, idle=None):
+        self.idle, self.rest, self.until, self.asked, self.busy = idle or Idle(path), rest, None, 0, 0.0
         self.path, self.kind, self.known = str(path), kind, {}
 
     def __call__(self, path):
         try:
-            status, body, took = self._ask(path)
+            status, body, took = self.known.pop(path, None) or self._take(path, self._put(path))
         except (OSError, http.client.HTTPException) as lost:
-            self.connection.close()
             raise (Slow if isinstance(lost, TimeoutError) and self.until else Unreached)(path) from lost
         self.asked, self.busy = self.asked + 1, self.busy + took
         time.sleep(took * self.rest)
@@ -91,54 +126,68 @@ class Asking:
     def ahead(self, paths):
         """Puts some questions at once, so that no finding aid comes between them; the calls that follow take the
         answers. The queue answers them in this order."""
-        asked = [(path, Connection(self.path, max(self.until - time.monotonic(), 1))) for path in paths]
+        put = {}
         try:
-            for path, connection in asked:
-                connection.ask(path, self.kind)
-            for path, connection in asked:
-                answer = connection.getresponse()
-                self.known[path] = answer.status, answer.read(), 0
+            for path in paths:
+                put[path] = self._put(path)
+            while put:
+                path = next(iter(put))
+                self.known[path] = self._take(path, put.pop(path))
         except (OSError, http.client.HTTPException) as lost:
             raise Unreached(paths) from lost
         finally:
-            for _, connection in asked:
+            for connection in put.values():
                 connection.close()
 
-    def _ask(self, path):
-        """A kept connection may have been closed meanwhile; then it asks once more over a new one."""
-        if path in self.known:
-            return self.known.pop(path)
-        try:
-            return self._ask_once(path)
-        except (ConnectionError, http.client.BadStatusLine):
-            self.connection.close()
-            return self._ask_once(path)
-
-    def _ask_once(self, path):
-        """The status and the body of one answer, and the office's seconds. Raises Slow if the time is over."""
+    def _put(self, path, connection=None):
+        """Puts a question; its connection. One that was kept may have been closed meanwhile. Raises Slow if the time is
+        over."""
         left = self.PATIENCE if self.until is None else self.until - time.monotonic()
         if left <= 0:
             raise Slow(path)
-        self.connection.timeout = left
-        if self.connection.sock:
-            self.connection.sock.settimeout(left)
-        clock = Clock()
-        self.connection.ask(path, self.kind or ("search" if self.until else "round"))
-        answer = self.connection.getresponse()
-        clock.note_head(answer)
-        return answer.status, answer.read(), clock.took()
+        connection = connection or self.idle.take()
+        was_kept = connection.sock is not None
+        try:
+            connection.wait_for(left)
+            connection.ask(path, self.kind or ("search" if self.until else "round"))
+        except OSError as lost:
+            connection.close()
+            if was_kept and isinstance(lost, ConnectionError):
+                return self._put(path, connection)
+            raise
+        return connection
+
+    def _take(self, path, connection):
+        """The answer to a question that was put; if its connection was closed meanwhile, to the same put once more."""
+        try:
+            return self._read(connection)
+        except (ConnectionError, http.client.BadStatusLine):
+            return self._read(self._put(path, connection))
+
+    def _read(self, connection):
+        """Status and body of an answer, and the office's seconds."""
+        try:
+            connection.wait_for(max(self.until - time.monotonic(), .001) if self.until else self.PATIENCE)
+            answer = connection.take()
+        except BaseException:
+            connection.close()
+            raise
+        self.idle.give(connection)
+        return answer
 
 
-def spool(path, question, folder, patience):
+def spool(path, question, folder, soon, patience):
     """A finding aid in a file without a name, or None, and the office's seconds. The office has done its part when this
-    returns, however slowly the reader takes the rest, and nobody holds the aid in memory."""
-    connection, clock = Connection(path, patience), Clock()
+    returns, however slowly the reader takes the rest, and nobody holds the aid in memory. soon: seconds until the answer
+    begins at the latest."""
+    connection = Connection(path, soon)
     try:
         connection.ask(question, "aid")
         answer = connection.getresponse()
-        clock.note_head(answer)
+        connection.wait_for(patience)
+        connection.clock.note_head(answer)
         if answer.status == 404:
-            return None, clock.took()
+            return None, connection.clock.took()
         if answer.status != 200:
             raise Unreached(f"{question}: {answer.status}")
         file = tempfile.TemporaryFile(dir=folder)
@@ -148,7 +197,7 @@ def spool(path, question, folder, patience):
     finally:
         connection.close()
     file.seek(0)
-    return file, clock.took()
+    return file, connection.clock.took()
 
 
 def give_order(path, ticket, container, patience):

@@ -189,6 +189,11 @@ def count_below(db, number, most):
     return db.execute("SELECT count(*) FROM (SELECT 1 FROM unit WHERE parent = ? LIMIT ?)", (number, most)).fetchone()[0]
 
 
+def size_of(db, number):
+    """How many units the finding aid of a unit had if it was read by itself, or by parts; else 0."""
+    return db.execute("SELECT ifnull(max(size), 0) FROM part WHERE n = ?", (number,)).fetchone()[0]
+
+
 def branch_numbers(db, number, most):
     """The numbers of a unit and of what is below it, up to so many."""
     return [n for n, in db.execute(BELOW + "SELECT n FROM below LIMIT ?", (number, most))]

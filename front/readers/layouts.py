@@ -2,7 +2,6 @@
 
 import contextlib
 import json
-import threading
 from typing import NamedTuple
 
 import jinja2
@@ -44,8 +43,15 @@ class Layouts:
     """words: the file of the office's own words, which is read for each page."""
 
     def __init__(self, languages, words):
-        self.words, self.lock = words, threading.Lock()
-        self.env = {code: environment(one, languages) for code, one in languages.items()}
+        self.words = words
+        compiled = Compiled()
+        self.env = {code: environment(one, languages, compiled) for code, one in languages.items()}
+
+    def prepare(self):
+        """Reads all templates, before processes share them."""
+        for env in self.env.values():
+            for name in env.list_templates():
+                env.get_template(name)
 
     def template(self, request, name):
         """A template, and what each page has."""
@@ -76,10 +82,25 @@ class Layouts:
         return {**plain, **{name: text for name, text in chosen.items() if isinstance(text, str)}}
 
 
-def environment(language, languages):
+class Compiled(jinja2.BytecodeCache):
+    """Templates that one language has compiled, for the others."""
+
+    def __init__(self):
+        self.known = {}
+
+    def load_bytecode(self, bucket):
+        if bucket.key in self.known:
+            bucket.bytecode_from_string(self.known[bucket.key])
+
+    def dump_bytecode(self, bucket):
+        self.known[bucket.key] = bucket.bytecode_to_string()
+
+
+def environment(language, languages, compiled):
     """The templates in a language."""
     env = jinja2.Environment(loader=jinja2.FileSystemLoader(HERE / "templates"), autoescape=True, trim_blocks=True,
-                             lstrip_blocks=True, undefined=jinja2.StrictUndefined, extensions=["jinja2.ext.i18n"])
+                             lstrip_blocks=True, undefined=jinja2.StrictUndefined, extensions=["jinja2.ext.i18n"],
+                             bytecode_cache=compiled, auto_reload=False)
     env.install_gettext_translations(language.texts, newstyle=True)
     env.globals.update(say=language.say, day=language.day, number_of=language.number, language=language,
                        languages=languages.values(), AREAS=AREAS, ELEMENTS=ELEMENTS, mark=mark, read_head=read_head,

@@ -5,10 +5,9 @@ import threading
 import time
 from typing import NamedTuple
 
-from asking import give_order
+from asking import SOON, give_order
 from texts import N_, read_shared
 
-PATIENCE = 130  # seconds that an order may wait: longer than the queue lets it
 MOST = 50  # containers of a form
 AT_ONCE = 12  # orders from one address, and then so many a minute as the service is told
 ADDRESSES = 10_000  # that are remembered
@@ -20,6 +19,7 @@ UNSENT = N_("The office does not answer. Your order was not passed on. Please tr
 UNCERTAIN = N_("We cannot tell whether your order was taken. Please send it once more: if it was taken, you will be told "
                "that you have ordered this container already.")
 OFTEN = N_("Too many orders came from your address. This one was not passed on. Please wait a minute and try again.")
+UNANSWERED = {UNSENT, UNCERTAIN}
 NO_TICKET = N_("Please type the number of your reader’s ticket, in digits alone.")
 NO_BOX = N_("No container is chosen. Choose at least one.")
 OF_THE_TICKET = {"UnknownTicket", "TicketExpired", "DailyLimit", "Full"}  # which every further order with it would meet
@@ -83,7 +83,7 @@ def give(queue, row, address, ticket, items):
 
 def give_one(queue, ticket, box):
     """The number of an order, or why it was not taken; and whether another one may be."""
-    status, reply = give_order(queue, ticket, box, PATIENCE)
+    status, reply = give_order(queue, ticket, box, SOON)
     if status == 200:
         return (reply["order"], None), True
     if status == 409:

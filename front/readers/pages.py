@@ -4,7 +4,6 @@ look, as for answers."""
 import contextlib
 import re
 import sqlite3
-import threading
 import time
 from typing import NamedTuple
 from urllib.parse import urlencode
@@ -15,14 +14,14 @@ import languages
 import orders
 import questions
 from aids import LARGE, Aids, aid_lines, mark, size_and_head
-from asking import Asking, Unreached
+from asking import SOON, Asking, Idle, Unreached
 from layouts import Answer, Layouts, pieces_of_head
 from texts import AREAS, ELEMENTS, N_, Page, read_aid, read_fonds, read_head, read_line
 
 SHOWN = 100  # units of a level at a time
 WIDE = 1000  # units right below one: the office takes long to write its page, which is not asked for to show the way
 FEW = 500  # units: contents that have no more show their dates, and what is further down
-PATIENCE = 150  # seconds for a page: the queue waits 120 while the program is opened
+KEPT = 12  # connections to the queue that a process keeps: the queue lets 500 in
 AHEAD = 8  # units above, of which the pages are asked for at once
 HIGHEST = 32  # units above that are asked for
 
@@ -59,15 +58,12 @@ class Pages:
     def __init__(self, queue, path, words, find, rest, a_minute):
         self.queue, self.path, self.find, self.languages = queue, path, find, languages.load()
         self.layouts, self.row = Layouts(self.languages, words), orders.Row(a_minute)
-        self.aids, self.mine = Aids(queue, path.parent, rest), threading.local()
+        self.aids, self.idle = Aids(queue, path.parent, rest), Idle(queue, KEPT)
 
-    def asking(self, crawls):
-        """How this thread asks the office."""
-        name = "crawler" if crawls else "page"
-        if not hasattr(self.mine, name):
-            setattr(self.mine, name, Asking(self.queue, kind=name))
-        ask = getattr(self.mine, name)
-        ask.until, ask.known = time.monotonic() + PATIENCE, {}
+    def asking(self, crawls, left=SOON):
+        """How the office is asked for a page; left: seconds after which a reader is told that it does not answer."""
+        ask = Asking(self.queue, kind="crawler" if crawls else "page", idle=self.idle)
+        ask.until = time.monotonic() + left
         return ask
 
     def choose(self, args, header):
@@ -206,7 +202,17 @@ class Pages:
 
     def order(self, request, number):
         """Orders the chosen containers of a unit, and shows its page with what came of it."""
-        return self.unit(request, number, self.outcome(request, number))
+        outcome = self.outcome(request, number)
+        try:
+            return self.unit(request, number, outcome)
+        except Unreached:
+            return self.ordered_alone(request, outcome)
+
+    def ordered_alone(self, request, outcome):
+        """What came of a form, while the office tells nothing of the units."""
+        units = {done.unit: (read_head(str(done.unit)), {}) for done in outcome["done"]}
+        status = 503 if any(done.refused in orders.UNANSWERED for done in outcome["done"]) else 200
+        return self.render(request, "ordered.html", status, outcome=outcome, units=units)
 
     def ordered(self, request):
         """What was collected and ordered in this tab, which only the tab knows."""
@@ -216,7 +222,10 @@ class Pages:
         """Orders what was collected, and shows what came of it, with the units as they are now."""
         outcome = self.outcome(request)
         numbers = {done.unit for done in outcome["done"]}
-        pages = {n: Page(request.ask(f"/public/units/{n}") or "-\n") for n in sorted(numbers)}
+        try:
+            pages = {n: Page(request.ask(f"/public/units/{n}") or "-\n") for n in sorted(numbers)}
+        except Unreached:
+            return self.ordered_alone(request, outcome)
         units = {n: (read_head(page.head), {line.number: line.text for line in map(read_line, page.lines)})
                  for n, page in pages.items()}
         return self.render(request, "ordered.html", outcome=outcome, units=units)
@@ -228,13 +237,14 @@ class Pages:
             return {"wrong": orders.NO_BOX if ticket else orders.NO_TICKET, "done": [], "taken": [],
                     "typed": dict(request.form).get("ticket", "")}
         done = orders.give(self.queue, self.row, request.address, ticket, items)
+        request.ask.until = max(request.ask.until, time.monotonic() + 1)  # for the page that tells it
         return {"done": done, "taken": [one for one in done if one.order], "ticket": ticket}
 
     # Finding aids
 
     def aid(self, request, number):
         """A finding aid, line by line, from a file: none is held as a whole."""
-        file = self.aids.spool(number)
+        file = self.spool(number)
         if file is None:
             raise Missing
         size, head = size_and_head(file)
@@ -243,10 +253,17 @@ class Pages:
                                      lines=aid_lines(file, number, large))
         return Answer(200, self.aids.laid_out(file, stream))
 
+    def spool(self, number):
+        """A finding aid in a file, or None."""
+        size = 0
+        with contextlib.suppress(sqlite3.Error), contextlib.closing(index.open_index(self.path)) as db:
+            size = index.size_of(db, number)
+        return self.aids.spool(number, size)
+
     def plain_aid(self, _, number):
         """A finding aid as the program answers it."""
         try:
-            file = self.aids.spool(number)
+            file = self.spool(number)
         except Unreached:
             return Answer(503, '{"error":"not reached"}', "application/json")
         if file is None:
@@ -273,7 +290,7 @@ class Pages:
 
     def search(self, request):
         """What was found. The office is asked for the list of fonds, and for the page of each candidate."""
-        told, fonds = self.find(request.args, request.language.code, request.address)
+        told, fonds = self.find(request.args, request.language.code, request.address, request.ask.until)
         within = whole(request.args.get("in", ""), 0)
         scopes = [(n, read_head(text).title or text) for n, text in fonds]
         if within and all(n != within for n, _ in fonds):
@@ -285,8 +302,9 @@ class Pages:
                  for unit in told["units"]]
         kept = {name: value for name, value in request.args.items() if name in ("q", "in", "from", "to", "order")}
         offers = [(text, urlencode({**kept, "q": text})) for text in told.get("offers", ())]
-        return self.render(request, "search.html", told=told, units=units, scopes=scopes, within=within, offers=offers,
-                           more=urlencode({**kept, "after": told.get("after")}),
+        is_away = told["state"] in ("late", "unreached") and not units
+        return self.render(request, "search.html", 503 if is_away else 200, told=told, units=units, scopes=scopes,
+                           within=within, offers=offers, more=urlencode({**kept, "after": told.get("after")}),
                            typed=bool(questions.read(request.args.get("q", "")).phrases))
 
     def help(self, request):

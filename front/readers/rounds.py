@@ -10,11 +10,9 @@ value that ends as if it were found above is not searched, since only an aid cou
 If the office cannot answer for a unit, that part too is left as it was, and the round goes on. What it cannot answer as
 one is read page by page, for the aids below would hold everybody up as long."""
 
-import argparse
 import contextlib
 import os
 import select
-import socket
 import sqlite3
 import sys
 import time
@@ -278,14 +276,6 @@ class Keeper:
         return self.ask(path)
 
 
-def main():
-    """Makes rounds as the command line says."""
-    words = argparse.ArgumentParser(description="Begun by service.py: makes rounds until that ends.")
-    for name, kind in (("queue", str), ("index", str), ("told", int), ("every", float), ("rest", float)):
-        words.add_argument(f"--{name}", type=kind, required=True)
-    given = words.parse_args()
-    Keeper(given.index, Asking(given.queue, given.rest), socket.socket(fileno=given.told), given.every).keep()
-
-
-if __name__ == "__main__":
-    main()
+def make(queue, path, told, every, rest):
+    """Makes rounds until the process that began this one ends."""
+    Keeper(str(path), Asking(queue, rest), told, every).keep()

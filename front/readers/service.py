@@ -1,6 +1,6 @@
-"""The readers' service: pages and the search in all archives for nginx, and rounds in a process of their own.
+"""The readers' service: pages and the search in all archives for nginx.
 
-    service.py --queue SOCKET --index FILE --listen SOCKET [--words FILE] [--every SECONDS] [--rest TIMES]
+    service.py --queue SOCKET --index FILE --listen FOLDER [--words FILE] [--every SECONDS] [--rest TIMES]
                [--orders MANY]
 
 GET /public/search?q=WORDS[&in=UNIT][&from=YEAR][&to=YEAR][&order=date][&after=PLACE][&lang=LANGUAGE] is answered with JSON:
@@ -16,58 +16,30 @@ import re
 import signal
 import socket
 import sqlite3
-import subprocess
 import sys
 import threading
 import time
 from http import HTTPStatus
 from urllib.parse import parse_qs, parse_qsl
 
-import waitress
-
 import index
 import languages
+import processes
 import questions
+import rounds
 from answers import START, Finder, Query
-from asking import Asking
+from asking import SOON, Asking, Idle
 from fewer import fewer
 from folding import is_cut
 from layouts import Answer, Request
 from offers import offers
 from pages import Pages
-from turns import Late, Turns, is_costly
+from turns import PLACES, Late, Turns, is_costly
 
+LEAST = 1  # seconds for a search, however long it has waited for its turn
 LARGEST = 2**63 - 1  # of SQLite's numbers
 NOTHING = {"units": [], "more": False}
-THREADS = 40  # most wait for the office: nginx lets 12 finding aids and 16 searches in
 LONGEST = 65_536  # bytes of a form
-
-
-class Rounds(threading.Thread):
-    """Keeps a process that makes rounds."""
-
-    def __init__(self, words):
-        super().__init__(daemon=True)
-        self.tell, self.told = socket.socketpair(socket.AF_UNIX, socket.SOCK_SEQPACKET)
-        self.tell.setblocking(False)
-        self.words = [*words, "--told", str(self.told.fileno())]
-
-    def run(self):
-        """Begins the process again whenever it ends."""
-        while True:
-            here = pathlib.Path(__file__).resolve().parent
-            words = [sys.executable, "-B", "-E", "-s", here / "rounds.py", *self.words]
-            done = subprocess.run(words, pass_fds=[self.told.fileno()], check=False)
-            print(f"rounds ended with {done.returncode}", flush=True)
-            time.sleep(5)
-
-    def say(self, number):
-        """That a unit is otherwise than the index has it, or (-number) shown no more, or (0) that the index cannot be read.
-        If nobody listens for long, what is more than the socket holds is lost, and found again by a later answer."""
-        try:
-            self.tell.send(b"%d" % number)
-        except OSError:
-            pass
 
 
 class Room(str):
@@ -80,19 +52,27 @@ def whose(environ):
     return Room(address) if environ.get("HTTP_RECORD_OFFICE_ROOM") == "1" else address
 
 
+def left(environ):
+    """The seconds after which a reader is told that the office does not answer, of those since the request came."""
+    try:
+        return min(max(float(environ["HTTP_RECORD_OFFICE_SINCE"]) + SOON - time.time(), 0), SOON)
+    except (KeyError, ValueError):
+        return SOON
+
+
 class Service:
     """queue: the socket of the queue; path: the index; pages: the readers' pages; say: tells the rounds what was found
     late."""
 
     def __init__(self, queue, path, say):
         self.queue, self.path, self.say, self.mine, self.pages = queue, path, say, threading.local(), None
-        self.turns = Turns()
+        self.turns, self.idle = Turns(), Idle(queue, PLACES)
 
     def app(self, environ, start):
         """Answers a request, as WSGI asks for."""
         method, path, args = environ["REQUEST_METHOD"], environ["PATH_INFO"], members(environ.get("QUERY_STRING", ""))
         if path == "/public/search" and method == "GET":
-            told = self.find(args, args.get("lang"), whose(environ))[0]
+            told = self.find(args, args.get("lang"), whose(environ), time.monotonic() + left(environ))[0]
             answer, headers = Answer(200, json.dumps(told, ensure_ascii=False), "application/json"), []
         else:
             answer, headers = self.page(environ, method, path, args)
@@ -118,7 +98,7 @@ class Service:
         language = self.pages.choose(args, environ.get("HTTP_ACCEPT_LANGUAGE", ""))
         answer = self.pages.answer(Request(
             method, path, args, language, f"{environ['wsgi.url_scheme']}://{environ.get('HTTP_HOST', 'localhost')}",
-            whose(environ), self.pages.asking("HTTP_RECORD_OFFICE_CRAWLER" in environ), form))
+            whose(environ), self.pages.asking("HTTP_RECORD_OFFICE_CRAWLER" in environ, left(environ)), form))
         headers = [] if path.startswith("/public/") else [
             ("Content-Language", language.code), ("Vary", "Accept-Language, Cookie")]
         if args.get("lang") == language.code:
@@ -129,25 +109,26 @@ class Service:
             headers.append(("Location", answer.body))
         return answer, headers
 
-    def find(self, values, language, address):
-        """What was found, and the list of fonds, once it is this reader's turn."""
+    def find(self, values, language, address, until=None):
+        """What was found, and the list of fonds, once it is this reader's turn. until: when the reader is told."""
         query, unread = query_of(values, language)
         if unread:
             return {"state": "unread", **NOTHING, "unread": unread}, []
         try:
             with self.turns.turn(address, isinstance(address, Room), is_costly(query.phrases)) as is_awaited:
-                return self.found(values, language, query, is_awaited)
+                return self.found(values, language, query, is_awaited, until)
         except Late:
             return {"state": "late", **NOTHING, "after": "{}-{}".format(*query.after)}, []
 
-    def found(self, values, language, query, is_awaited):
+    def found(self, values, language, query, is_awaited, until):
         """What was found, and the list of fonds. While the first round goes on, the answer says how far it is."""
         if not hasattr(self.mine, "ask"):
-            self.mine.ask = Asking(self.queue)
+            self.mine.ask = Asking(self.queue, idle=self.idle)
         try:
             with contextlib.closing(index.open_index(self.path)) as db:
                 finished, done, tops = db.execute("SELECT finished, done, tops FROM round").fetchone()
-                found = Finder(db, self.mine.ask, query, is_awaited=is_awaited).find()
+                seconds = SOON if until is None else max(until - time.monotonic(), LEAST)
+                found = Finder(db, self.mine.ask, query, is_awaited=is_awaited).find(seconds)
                 told = self.told(found, values)
                 if found.state == "done" and query.phrases and not found.units and query.after == START:
                     told |= self.instead(found, values["q"], language)
@@ -217,7 +198,7 @@ def options():
     words.add_argument("--queue", required=True, help="the queue's socket for this service")
     words.add_argument("--index", required=True, type=pathlib.Path,
                        help="the file of the index, which may be deleted at any time")
-    words.add_argument("--listen", required=True, help="the socket for nginx")
+    words.add_argument("--listen", required=True, type=pathlib.Path, help="the folder for the sockets where nginx asks")
     words.add_argument("--words", type=pathlib.Path, default=pathlib.Path("/etc/record-office/office.json"),
                        help="the office's own words")
     words.add_argument("--texts", type=pathlib.Path, help="a folder for the desk's texts in each language")
@@ -231,17 +212,23 @@ def options():
 def main():
     """Serves as the command line says."""
     given = options()
-    rounds = Rounds(["--queue", given.queue, "--index", str(given.index), "--every", str(given.every), "--rest",
-                     str(given.rest)])
-    rounds.start()
     signal.signal(signal.SIGTERM, lambda *_: sys.exit(0))
-    service = Service(given.queue, given.index, rounds.say)
+    tell, told = socket.socketpair(socket.AF_UNIX, socket.SOCK_SEQPACKET)
+    tell.setblocking(False)
+    service = Service(given.queue, given.index, lambda number: say(tell, number))
     service.pages = Pages(given.queue, given.index, given.words, service.find, given.rest, given.orders)
     if given.texts:
         languages.write(service.pages.languages, given.texts)
-    waitress.serve(service.app, unix_socket=given.listen, unix_socket_perms="666", threads=THREADS, ident=None,
-                   channel_timeout=30, trusted_proxy="*", trusted_proxy_count=1,
-                   trusted_proxy_headers={"x-forwarded-for", "x-forwarded-proto"}, clear_untrusted_proxy_headers=True)
+    service.pages.layouts.prepare()
+    processes.begin(service.app, given.listen, lambda: rounds.make(given.queue, given.index, told, given.every, given.rest))
+
+
+def say(tell, number):
+    """Says to the rounds that a unit is otherwise than the index has it, or (-number) shown no more, or (0) that the index
+    cannot be read. If nobody listens for long, what is more than the socket holds is lost, and found again by a later
+    answer."""
+    with contextlib.suppress(OSError):
+        tell.send(b"%d" % number)
 
 
 if __name__ == "__main__":

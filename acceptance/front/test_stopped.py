@@ -1,0 +1,77 @@
+"""The program stands still, as one that is stopped or busy: whoever needs it is told soon, in the language of who reads, all
+else goes on, and what the desk has given waits until it is done."""
+
+import contextlib
+import http.client
+import os
+import signal
+import time
+
+import pytest
+
+from acceptance.front.office import ARCHIVES, SELDOM
+from acceptance.front.senders import registration
+from acceptance.front.waits import until
+
+SOON, AT_ONCE = 8, 3  # seconds in which a reader is told, and in which help comes: with some to spare on a busy machine
+AWAY, AGAIN = "Das Archiv antwortet nicht", "Bitte versuchen Sie es in einer Minute noch einmal."
+TOLD = {"/unit/1": AWAY, "/": AWAY, "/search?q=dock": AGAIN}
+ALONE = ("/help", "/ordered", "/search", "/robots.txt")  # for these nobody asks the office
+MANY = 30 * (os.cpu_count() or 1)  # readers, more than there are threads for pages
+SEARCHES = 45
+
+
+@pytest.fixture(scope="module")
+def office(new_office):
+    """An office whose program stands still."""
+    office = new_office(files=[("archives", ARCHIVES)], readers=SELDOM)
+    until(office.count_rounds, "the only round is over")
+    stopped = office.stop_program()
+    yield office
+    os.kill(stopped.pid, signal.SIGCONT)
+
+
+class Reader:
+    """A reader with an address of its own, who has asked for a page."""
+
+    def __init__(self, office, number, path, form=None):
+        source = f"127.1.{number // 254}.{number % 254 + 1}"
+        self.connection = http.client.HTTPConnection("127.0.0.1", office.ports["8080"], 60, (source, 0))
+        self.began = time.monotonic()
+        kind = {"Content-Type": "application/x-www-form-urlencoded"} if form else {}
+        self.connection.request("POST" if form else "GET", path, form, {"Accept-Language": "de", **kind})
+
+    def told(self):
+        """Status, when to come again, the text, and how long it took."""
+        with contextlib.closing(self.connection):
+            answer = self.connection.getresponse()
+            text = answer.read().decode()
+            return answer.status, answer.getheader("Retry-After"), text, time.monotonic() - self.began
+
+
+def test_readers_are_told_soon_and_what_needs_no_office_comes_at_once(office):
+    asked = ["/unit/1", "/"] * (MANY // 2) + ["/search?q=dock"] * SEARCHES + ["/aid/1"] * 6
+    readers = [(path, Reader(office, number, path)) for number, path in enumerate(asked)]
+    time.sleep(1)  # they wait
+    for path in ALONE:
+        status, _, _, took = Reader(office, 254 * 200, path).told()
+        assert status == 200 and took < AT_ONCE, (path, status, took)
+    for path, reader in readers:
+        status, again, text, took = reader.told()
+        assert (status, again) == (503, "60") and TOLD.get(path, AWAY) in text and took < SOON, (path, status, again, took)
+
+
+def test_who_orders_is_told_that_nobody_knows(office):
+    status, again, text, took = Reader(office, 1, "/unit/3/order", "ticket=1&container=1").told()
+    assert (status, again) == (503, "60") and took < SOON + 2, (status, again, took)
+    assert "Wir wissen nicht, ob Ihre Bestellung angenommen wurde." in text and 'href="/unit/3"' in text
+
+
+def test_a_command_of_the_desk_waits_until_it_is_done(office):
+    sender = registration(office, "Ann")
+    sender.start()
+    time.sleep(SOON + 1)
+    assert not sender.got
+    os.kill(office.serving.pid, signal.SIGCONT)
+    sender.join(60)
+    assert sender.got[0][0] == 200
