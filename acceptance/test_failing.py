@@ -20,8 +20,9 @@ from pathlib import Path
 import pytest
 
 from acceptance import client, disks
-from acceptance.client import BUSY, Office, get, post
+from acceptance.client import BUSY, Office, get
 from acceptance.disks import ANN, BEN, FAULT, KEPT, LONGEST, READER, copy_office
+from acceptance.scenarios import Scenario
 
 pytestmark = pytest.mark.needs("sqlite3", "cc")
 USUAL = ["broken:all", "once:none", "full:odd"]
@@ -29,33 +30,6 @@ PAIRS = [f"{how}:{kept}" for how in ("broken", "once", "late", "full") for kept 
 TAKEN = b"net fault\n"
 SOUND = client.SOUND[:2]
 QUESTIONS = get("/public/fonds") + get("/public/units/2") + get("/desk/queue/8") + READER
-
-
-def every_command(units):
-    """Requests of every command, one that is refused, and a question."""
-    return [
-        post("/desk/import/b", units),
-        post("/desk/status", '{"unit":3,"status":"draft","branch":false}'),
-        post("/desk/closure", '{"unit":4,"until":"2030-01-01"}'),
-        post("/desk/move", '{"unit":5,"parent":4}'),
-        post("/desk/remove", '{"unit":6}'),
-        ANN,
-        post("/desk/renew", '{"ticket":1,"until":"2025-12-31"}'),
-        post("/desk/permit", '{"ticket":1,"unit":4,"until":"2024-06-30"}'),
-        post("/public/orders", '{"ticket":1,"container":8}'),
-        post("/public/orders", '{"ticket":1,"container":8}'),
-        post("/desk/seat", '{"ticket":1}'),
-        post("/desk/run"),
-        post("/desk/issue", '{"container":8,"ticket":1}'),
-        get("/desk/issued"),
-        post("/desk/return", '{"container":8}'),
-        post("/desk/reshelve"),
-        post("/public/orders", '{"ticket":1,"container":9}'),
-        post("/desk/cancel", '{"order":2}'),
-        post("/desk/leave", '{"ticket":1}'),
-        post("/desk/revoke", '{"ticket":1,"unit":4}'),
-        post("/desk/day", '{"day":"2024-03-02"}'),
-    ]
 
 
 def talk(office, asked, **disk):
@@ -134,14 +108,14 @@ class Commands(Tries):
 
 
 class Sessions(Tries):
-    """A session of several requests; this many of them are refused."""
+    """A session of several requests, all of which are carried out."""
 
-    def __init__(self, name, before, room, asked, refused=0):
+    def __init__(self, name, before, room, asked):
         super().__init__(name, before, room)
         self.asked = asked
         self.looks, self.answers = zip(*(self.look_after(*asked[:count]) for count in range(len(asked) + 1)))
         assert all(it[0][:2] == SOUND for it in self.looks), name
-        assert self.answers[-1].count(b"HTTP/1.1 200 OK") == len(asked) - refused, self.answers
+        assert self.answers[-1].count(b"HTTP/1.1 200 OK") == len(asked), self.answers
 
     def run(self, office, **disk):
         """Runs the session; returns how it ended, and what the office may show after its answers."""
@@ -254,7 +228,7 @@ class Kinds:
             return Commands(name, self.make("init").after, self.room, "--source", "a", str(self.units))
         taken = self.make("import").after
         if name == "talk":
-            return Sessions(name, taken, self.room, every_command(self.units.read_text()), refused=1)
+            return Sessions(name, taken, self.room, Scenario.of("every_request").requests)
         if name == "serve":
             return Servers(taken, self.room)
         if name == "long log":

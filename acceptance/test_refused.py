@@ -24,7 +24,7 @@ from pathlib import Path
 
 import pytest
 
-from acceptance import client, disks, test_failing, test_rounds
+from acceptance import client, disks, test_failing
 from acceptance.client import BUSY, NO_MEMORY, Ended, Office
 from acceptance.disks import ANN, BEN, copy_office
 from acceptance.scenarios import Scenario
@@ -150,12 +150,6 @@ class Sessions(Tries):
 # ---- what is tried
 
 
-def round_of(number):
-    """The requests of one of the fifty rounds: in the catalogue, at the desk, and questions."""
-    parts = test_rounds.in_the_catalogue(number), test_rounds.at_the_desk(number), test_rounds.questions(number)
-    return [[request for request, _ in part] for part in parts]
-
-
 class Kinds:
     """Makes what is tried."""
 
@@ -167,12 +161,12 @@ class Kinds:
 
     def make(self, name):
         """The command or the session of that name."""
-        catalogue, desk, questions = round_of(0)
+        each = Scenario.of("every_request").requests
         sessions = {
             "trial": (self.none, run_trial, [ANN, BEN]),
-            "talk": (self.new, run_talk, [*catalogue, *desk, *questions]),
+            "talk": (self.new, run_talk, each),
             "refusals": (self.new, run_talk, Scenario.of("first_refusal").requests),
-            "serve": (self.new, run_serve, catalogue, desk, questions),
+            "serve": (self.new, run_serve, each[:6], each[6:19], each[19:]),
             **{it: (self.new, run_talk, Scenario.of(file).requests) for it, file in SCENARIOS.items()},
         }
         if name not in sessions:
