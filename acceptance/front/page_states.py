@@ -172,6 +172,7 @@ STATES = [
     State("readers", "text from right to left", "/unit/{hebrew}", open_all), State("readers", "closed", "/unit/{closed}"),
     State("readers", "finding aid", "/aid/{fonds}"), State("readers", "file", "/unit/{file}", open_all),
     State("readers", "changed", "/aid/{fonds}/9.9"), State("readers", "help", "/help"),
+    State("readers", "accessibility", "/accessibility"),
     State("readers", "not found", "/unit/9999"), State("readers", "no page", "/no/such/page"),
     State("readers", "list of orders", "/ordered", collect), State("readers", "found", "/search?q=dock&from=1700"),
     State("readers", "nothing found", "/search?q=zzz"),

@@ -101,7 +101,7 @@ def test_a_search_in_a_finding_aid_is_one_within_its_unit(hall, top, words, told
 
 
 @pytest.mark.parametrize("address, words", [("/unit/999", "Not found"), ("/no/such/page", "No such page"),
-                                            ("/help", "How to order")])
+                                            ("/help", "How to order"), ("/accessibility", "no independent audit yet")])
 def test_a_page_says_what_there_is_not(hall, address, words):
     """An office without an address shows none."""
     hall.visit(address).see(words)

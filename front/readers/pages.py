@@ -311,6 +311,10 @@ class Pages:
         """How a reader orders, and where and when."""
         return self.render(request, "help.html")
 
+    def accessibility(self, request):
+        """For whom the pages work, and whom to tell where they do not."""
+        return self.render(request, "accessibility.html")
+
     def sitemap(self, request):
         """The archives, from where links lead to all that is published."""
         tops = [n for n, _ in read_fonds(request.ask("/public/fonds") or "")]
@@ -348,6 +352,6 @@ ROUTES = [(re.compile(pattern), method, page) for pattern, method, page in (
     (f"/unit/{NUMBER}/order", "POST", Pages.order), (f"/unit/{NUMBER}/above", "GET", Pages.up),
     (f"/aid/{NUMBER}", "GET", Pages.aid), (f"/public/aid/{NUMBER}", "GET", Pages.plain_aid),
     (f"/aid/{NUMBER}/((?:[1-9][0-9]{{0,9}}[.]?){{1,64}})", "GET", Pages.place),
-    ("/search", "GET", Pages.search), ("/help", "GET", Pages.help), ("/ordered", "GET", Pages.ordered),
-    ("/ordered/order", "POST", Pages.order_list), ("/sitemap[.]xml", "GET", Pages.sitemap),
-    ("/robots[.]txt", "GET", Pages.robots))]
+    ("/search", "GET", Pages.search), ("/help", "GET", Pages.help), ("/accessibility", "GET", Pages.accessibility),
+    ("/ordered", "GET", Pages.ordered), ("/ordered/order", "POST", Pages.order_list),
+    ("/sitemap[.]xml", "GET", Pages.sitemap), ("/robots[.]txt", "GET", Pages.robots))]
