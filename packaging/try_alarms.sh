@@ -23,18 +23,20 @@ begins() {
 # The line of record-office-status about this
 line() { record-office-status | grep "^[A-Z]*: $1: "; }
 
-# Until the operator names a command, root gets a mail, if there is a command for it.
+# Until the operator names a command, root gets a mail, if there is a command for it; else the status is yellow.
 by_mail() {
-    local mail=/usr/local/bin/mail unit=record-office-status.service
-    since=$(date '+%F %T')
+    local mail unit=record-office-status.service
+    mail=$(command -v mail) && mv "$mail" /root/mail.away
+    is 'without a command for mail a test says that nobody is told' sh -c '! record-office-alarm --test && grep -q "nobody is told" /tmp/out'
+    same 'and the status is yellow' "$(line alarm | cut -d: -f1)" WARNING
+    printf '#!/bin/sh\n(echo "$@"; cat) >/root/mailed\n' >/usr/local/bin/mail && chmod 755 /usr/local/bin/mail
+    is 'with one a test' record-office-alarm --test
+    same 'is a mail to root' "$(head -1 /root/mailed)" '-s record-office: a test of the alarm root'
     systemctl start record-office-alarm@$unit.service
-    is 'without a command for mail the journal says that nobody is told' sh -c \
-        "journalctl --no-pager -o cat -u record-office-alarm@$unit.service --since '$since' | grep 'nobody is told'"
-    printf '#!/bin/sh\n(echo "$@"; cat) >/root/mailed\n' >$mail && chmod 755 $mail
-    systemctl start record-office-alarm@$unit.service
-    same 'root gets a mail' "$(head -1 /root/mailed)" "-s record-office: $unit has failed root"
+    same 'as is a unit that has failed' "$(head -1 /root/mailed)" '-s record-office: CRITICAL: status root'
     is 'with the status' grep '^[A-Z]*: program: ' /root/mailed
-    rm -f $mail /root/mailed
+    rm -f /usr/local/bin/mail /root/mailed
+    [ -z "$mail" ] || mv /root/mail.away "$mail"
 }
 
 every_unit() {
@@ -61,7 +63,7 @@ damaged() {
     same 'there were three' "$(journal record-office | grep -c '^the program ended: exited 3')" 3
     same 'one line says what was found, and where help is' "$(journal record-office | grep -c "\`check\` says: not sound 1.*OPERATING.md.gz: go back to a copy")" 1
     same 'no word of systemd stands for a status of the program' "$(journal record-office | grep -c NOTIMPLEMENTED)" 0
-    is 'somebody is told' waits is_told '^record-office: record-office.service has failed'
+    is 'somebody is told' waits is_told '^record-office: CRITICAL: program'
     is 'with the status and the last lines' sh -c "grep -q '^CRITICAL: program: ' $told && grep -q 'not sound 1' $told"
     same 'readers are told at once' "$(status -m 2 $readers/public/fonds)" 503
     same 'so says the status' "$(line program | cut -d: -f1)" CRITICAL
@@ -138,15 +140,16 @@ halted() {
     same 'systemd takes a stopped process for active' "$(systemctl is-active record-office)" active
     began=$SECONDS
     systemctl start record-office-probe 2>/dev/null
-    same 'the probe notices it' "$(systemctl is-failed record-office-probe)" failed
+    is 'the probe notices it' is_told '^record-office: CRITICAL: program'
     is 'long before the limit that it has by itself' test $((SECONDS - began)) -lt 45
-    is 'somebody is told, and what to do' waits is_told "kill -CONT $process"
+    is 'it is told what to do' is_told "kill -CONT $process"
     systemctl start record-office-probe 2>/dev/null
     sleep 1
-    same 'once, though it goes on' "$(grep -c 'record-office-probe.service has failed$' $told)" 1
+    same 'once, though it goes on' "$(grep -c '^record-office: ' $told)" 1
     kill -CONT "$process"
     waits is_answered
-    is 'then the probe finds nothing' systemctl start record-office-probe
+    systemctl start record-office-probe
+    is 'and once that it is mended' is_told '^record-office: mended: program'
     same 'its timer runs' "$(systemctl is-active record-office-probe.timer record-office-status.timer | xargs)" 'active active'
 }
 
@@ -166,14 +169,125 @@ killed() {
     systemctl stop record-office
     systemctl start record-office-probe 2>/dev/null
     is 'nor does one of another tool, once the probe comes' waits is_answered
-    same 'the mark of that is gone' "$(ls /run/record-office)" ''
+    is 'the mark of that is gone' sh -c '! ls /run/record-office/resume-*'
+}
+
+# fault NAMES WHAT PLANT MEND: what is planted is told within two looks of the probe, once, under these names; what is mended, once
+fault() {
+    rm -f $told /run/record-office/told-*
+    bash -c "$3" >/dev/null 2>&1
+    systemctl start record-office-probe
+    systemctl start record-office-probe
+    sleep 1
+    same "$2: told once" "$(grep '^record-office: ' $told | xargs -d '\n')" "record-office: CRITICAL: $1"
+    bash -c "$4" >/dev/null 2>&1
+    sleep 3
+    systemctl start record-office-probe
+    same "$2: and once that it is mended" "$(grep -c "^record-office: mended: $1\$" $told)" 1
+}
+
+# loop PART: a unit that ends again and again is told by systemd's own limit, without the probe
+loop() {
+    local unit=record-office-$1.service conf=/run/systemd/system/record-office-$1.service.d
+    rm -f $told /run/record-office/told-*
+    mkdir -p "$conf" && printf '[Service]\nExecStartPre=/bin/false\n' >"$conf/loop.conf" && systemctl daemon-reload
+    systemctl restart "$unit" 2>/dev/null
+    MINUTES=4 is "$unit, which ends again and again, is told" waits is_told "^record-office: CRITICAL: $1"
+    sleep 5
+    same 'once' "$(grep -c '^record-office: ' $told)" 1
+    rm -r "$conf" && systemctl daemon-reload
+    systemctl start record-office-probe
+    is 'and started again by the probe' waits systemctl -q is-active "$unit"
+}
+
+certificate() { # DAYS NAMES
+    openssl req -x509 -newkey rsa:2048 -nodes -days "$1" -subj /CN=x -addext "subjectAltName=$2" \
+        -keyout /etc/record-office/key.pem -out /etc/record-office/certificate.pem 2>/dev/null
+}
+
+# The certificates that are served, and the addresses, wherever the front listens.
+certificates() {
+    local both=DNS:archive.example.org,DNS:desk.example.org load='systemctl reload nginx record-office-desk'
+    export -f certificate
+    certificate 30 $both
+    ln -sfn ../sites-available/record-office-tls /etc/nginx/sites-enabled/record-office
+    cp /etc/record-office/desk-tls.conf /etc/record-office/desk-nginx.conf
+    nginx -t -q && systemctl reload nginx && systemctl restart record-office-desk
+    is 'with TLS nothing is red' waits record-office-status
+    fault certificate 'a certificate that was renewed and not loaded' "certificate 90 $both" "$load"
+    fault certificate 'one that the desk has not loaded' "certificate 120 $both; systemctl reload nginx" "$load"
+    fault certificate 'one that ends in two days' "certificate 2 $both; $load" "certificate 30 $both; $load"
+    fault certificate 'one of another name' "certificate 30 DNS:archive.example.org; $load" "certificate 30 $both; $load"
+    certificate 10 $both && $load
+    sleep 1
+    same 'one that ends in ten days is a warning' "$(line certificate | cut -d: -f1)" WARNING
+    rm -f $told /run/record-office/told-*
+    systemctl start record-office-status
+    is 'which is told in the morning' is_told '^record-office: WARNING: certificate'
+    ln -sfn ../sites-available/record-office /etc/nginx/sites-enabled/record-office
+    cp /usr/share/record-office/own/desk-nginx.conf /etc/record-office/
+    sed -i 's/8081/8071/' /etc/record-office/desk-nginx.conf
+    sed -i 's/8080/8070/' /etc/nginx/sites-available/record-office
+    nginx -t -q && systemctl reload nginx && systemctl restart record-office-desk
+    is 'at other ports nothing is red' waits record-office-status
+    sed -i 's/8070/8080/' /etc/nginx/sites-available/record-office
+    cp /usr/share/record-office/own/desk-nginx.conf /etc/record-office/
+    nginx -t -q && systemctl reload nginx && systemctl restart record-office-desk
+}
+
+# What breaks on a disk: the office on one of its own is read-only, full, damaged.
+disks() {
+    local folder=${office%/*} restart='systemctl reset-failed record-office; systemctl restart record-office record-office-queue'
+    systemctl stop record-office record-office-try
+    truncate -s 300M /root/disk && mkfs.ext4 -q /root/disk && cp -a "$folder" /root/kept
+    if mount -o loop,errors=remount-ro /root/disk "$folder"; then
+        rmdir "$folder/lost+found" && cp -a /root/kept/. "$folder/" && systemctl start record-office record-office-try
+        waits is_answered
+        fault command 'a file system that its kernel has made read-only' "mount -o remount,abort $folder" \
+            "systemctl stop record-office record-office-try; umount $folder; systemctl start record-office record-office-try"
+        systemctl stop record-office record-office-try
+    fi
+    mount -t tmpfs -o size=200m,mode=700 none "$folder" && cp -a /root/kept/. "$folder/" && chown record-office: "$folder"
+    systemctl start record-office record-office-try
+    waits is_answered
+    fault 'command, disk' 'a full disk' "head -c 300M /dev/zero >$folder/filler" "rm $folder/filler"
+    systemctl stop record-office record-office-try && umount "$folder" && systemctl start record-office record-office-try
+    fault program 'a program that cannot be executed' 'chmod 644 /usr/bin/record_office; systemctl restart record-office; sleep 10' \
+        "chmod 755 /usr/bin/record_office; $restart"
+    fault program 'a damaged page' "systemctl stop record-office; rm -f $office-wal; cp -p $office /root/office.db
+        dd if=/dev/urandom of=$office bs=4096 seek=5 count=2 conv=notrunc; systemctl start record-office; sleep 10" \
+        "cp -p /root/office.db $office; rm -f $office-wal; $restart"
+    is 'each says what to do' sh -c "grep 'a page of $office is damaged: record-office-restore' $told"
+    rm -rf /root/kept /root/disk /root/office.db
+}
+
+# What else may break. Each is red in its line, and nothing that follows from it is told.
+parts() {
+    local part site=/etc/nginx/sites-available/record-office staff=/etc/record-office/staff unit=record-office-backup
+    for part in queue readers desk try; do
+        fault $part "without record-office-$part" "systemctl stop record-office-$part" "systemctl start record-office-$part"
+        loop $part
+    done
+    fault program 'a program that was stopped' 'systemctl stop record-office' 'systemctl start record-office'
+    fault nginx 'without nginx' 'systemctl stop nginx' 'systemctl start nginx'
+    fault nginx 'a site that nginx would not take' "echo nonsense >>$site" "sed -i '/nonsense/d' $site"
+    fault staff 'an empty file of the staff' "cp -p $staff /root/staff; : >$staff" "cp -p /root/staff $staff"
+    fault staff 'one that nginx cannot read' "chmod 600 $staff" "chmod 640 $staff"
+    fault copy 'a backup that fails' "echo COPY_COMMAND=false >/etc/record-office/backup.conf; systemctl start $unit" \
+        "cp /usr/share/record-office/own/backup.conf /etc/record-office/; systemctl start $unit"
+    fault copy 'a clock that is behind' "touch -d '2 days' $copy" "touch $copy"
+    fault copies 'a copy with another letter' "sed -i s/Hull/Hell/ $copy; rm -f /run/record-office/sums*" "systemctl start $unit"
+    fault drill 'a copy that cannot be restored' "tar -cf ${copy%.db}.tar -C / etc/hostname; sed -i '/tar/d' $copy.sha256
+        sha256sum ${copy%.db}.tar | sed 's#/.*/##' >>$copy.sha256; record-office-restore --drill" "systemctl start $unit"
 }
 
 # Each line of the status, and its exit statuses.
 lines() {
     local copied size missing
-    same 'eleven lines' "$(record-office-status | wc -l)" 11
+    same 'a line for each part' "$(record-office-status | wc -l)" 18
     is 'nothing is red' record-office-status
+    systemctl start record-office-probe
+    is 'so says the status to every user' runuser -u nobody -- record-office-status
     size=$(stat -c %s $office) kept=("$copies"/office-*.db)
     missing=$((23 - ${#kept[@]}))
     same 'the room that copies and replaced offices will need' "$(line disk | sed 's/.*; \([0-9]*\) will be needed/\1/')" \
@@ -182,48 +296,33 @@ lines() {
     touch -d '30 hours ago' "$copies"/office-*.db
     record-office-status >/tmp/said
     same 'a copy that is old: 1, as Nagios reads it' "$? $(head -1 /tmp/said)" '1 WARNING: copy'
-    rm -f "$copies"/*.sha256
+    mkdir /root/sums && mv "$copies"/*.sha256 /root/sums
+    touch -d '60 hours ago' "$copies"/office-*.db
+    mv /root/sums/* "$copies" && rmdir /root/sums
     record-office-status >/tmp/said
-    same 'one without a SHA-256 is none: 2' "$? $(head -1 /tmp/said)" '2 CRITICAL: copy'
-    systemctl start record-office-status 2>/dev/null
-    is 'somebody is told in the morning' waits is_told '^record-office: record-office-status.service has failed'
+    same 'one that is very old: 2' "$? $(head -1 /tmp/said)" '2 CRITICAL: copy'
+    systemctl start record-office-probe
+    is 'others read so, too' sh -c 'runuser -u nobody -- record-office-status | grep "^CRITICAL: copy: "'
     touch -d "$copied" "$copy"
     systemctl start record-office-backup
     touch -d '2 hours ago' /var/cache/private/record-office-readers/index.db*
     same 'a round that is old' "$(line readers | cut -d: -f1)" WARNING
-    certificates
-    parts
+    is 'whoever reads the status may stop early' sh -c 'record-office-status 2>/tmp/said | head -c 0; test ! -s /tmp/said'
     is 'then nothing is red' waits record-office-status
 }
 
-# Each part that is away is red in its line alone, and so is a disk without room, of the second office.
-parts() {
-    local part backups=/var/backups/record-office-harbour
-    for part in desk readers; do
-        systemctl stop record-office-$part
-        is "without record-office-$part" sh -c "record-office-status | grep '^CRITICAL: $part: '"
-        systemctl start record-office-$part
-    done
-    systemctl stop record-office-queue
-    is 'without the queue' sh -c 'record-office-status | grep "^CRITICAL: queue: record-office-queue.service is inactive"'
-    systemctl start record-office-queue
-    mount -t tmpfs -o size=1m none $backups
-    is 'without room on the disk' sh -c "record-office-status --office harbour | grep '^CRITICAL: disk: .* free at $backups'"
-    umount $backups
-    is 'whoever reads the status may stop early' sh -c 'record-office-status 2>/tmp/said | head -c 0; test ! -s /tmp/said'
-}
-
-# The days of a certificate, of the site that is open.
-certificates() {
-    local site=/etc/nginx/sites-enabled/record-office
-    openssl req -x509 -newkey rsa:2048 -nodes -days 10 -subj /CN=a -keyout /root/key.pem -out /root/certificate.pem 2>/dev/null
-    ln -sfn /root/site $site
-    echo 'ssl_certificate /root/certificate.pem;' >/root/site
-    same 'a certificate that ends soon' "$(line certificate | cut -d: -f1)" WARNING
-    rm /root/certificate.pem
-    same 'one that cannot be read' "$(line certificate | cut -d: -f1)" CRITICAL
-    ln -sfn ../sites-available/record-office $site
-    rm /root/key.pem /root/site
+# An address that is called while nothing is critical.
+alive() {
+    python3 -c 'import http.server; http.server.test(http.server.SimpleHTTPRequestHandler, port=9999, bind="127.0.0.1")' 2>/root/called >/dev/null &
+    echo 'ALIVE_URL=http://127.0.0.1:9999/all-is-well' >>$conf
+    sleep 1
+    systemctl start record-office-probe
+    same 'while nothing is critical an address is called' "$(grep -c 'GET /all-is-well' /root/called)" 1
+    systemctl stop record-office-readers
+    systemctl start record-office-probe
+    same 'else it is not' "$(grep -c 'GET /all-is-well' /root/called)" 1
+    systemctl start record-office-readers
+    kill %%
 }
 
 by_mail
@@ -233,6 +332,12 @@ passing
 shells
 halted
 killed
+# A second look comes after two seconds here.
+sed -i 's/^PAUSE = .*/PAUSE = 2/' /usr/share/record-office/tools/record-office-status
 lines
+parts
+disks
+certificates
+alive
 cp /usr/share/record-office/own/alarm.conf $conf
 systemctl reset-failed

@@ -49,22 +49,45 @@ def digest(path):
         return hashlib.file_digest(file, "sha256").hexdigest()
 
 
+def rest_of(copy):
+    """The file beside a copy that has the rest of its night: register, last files, settings."""
+    return copy.with_suffix(".tar")
+
+
 def write_sum(copy):
-    """Writes the SHA-256 of a sound copy beside it."""
+    """Writes the SHA-256 of a sound copy, and of what belongs to it, beside it."""
     new = sum_of(copy).with_suffix(".new")
-    new.write_text(f"{digest(copy)}  {copy.name}\n", encoding="ascii")
+    lines = [f"{digest(path)}  {path.name}\n" for path in (copy, rest_of(copy)) if path.exists()]
+    new.write_text("".join(lines), encoding="ascii")
     new.chmod(0o600)
     new.rename(sum_of(copy))
+
+
+def damaged(copy):
+    """Which file of a copy is not the one whose SHA-256 stands beside it; None if none is."""
+    lines = sum_of(copy).read_text("ascii", "replace").splitlines()
+    sums = {name: found for found, _, name in (line.partition("  ") for line in lines)}
+    for name in sorted({copy.name, *sums}):
+        path = copy.with_name(name)
+        if not path.exists() or digest(path) != sums.get(name):
+            return path
+    return None
 
 
 def has_its_sum(copy):
     """Whether a SHA-256 stands beside a copy. Raises Trouble if it is that of other bytes."""
     if not sum_of(copy).exists():
         return False
-    words = sum_of(copy).read_text(encoding="ascii", errors="replace").split()
-    if words[:1] != [digest(copy)]:
-        raise Trouble(f"{copy} is damaged: its SHA-256 is not that of {sum_of(copy).name}")
+    wrong = damaged(copy)
+    if wrong:
+        raise Trouble(f"{wrong} is damaged: its SHA-256 is not that of {sum_of(copy).name}")
     return True
+
+
+def remove(copy):
+    """Removes a copy with what belongs to it."""
+    for path in (copy, sum_of(copy), rest_of(copy)):
+        path.unlink(missing_ok=True)
 
 
 def holds_changes(log):

@@ -23,7 +23,7 @@ def put_aside(office):
 
 
 @contextlib.contextmanager
-def edited(office):
+def edited(office, port=None):
     """A context in which the program is stopped, with a connection to a copy of its office. At its end the copy is the office.
 
     If something is wrong, or the copy would not be sound, the office stays as it was.
@@ -31,7 +31,7 @@ def edited(office):
     new = office.folder / "edited.db"
     if not office.store.exists():
         raise Trouble(f"there is no office {office.store}")
-    with stopped(office):
+    with stopped(office, port):
         try:
             make_whole(office, office.store, new)
             office.check(new)

@@ -17,6 +17,8 @@ from offices import MARKS, Office, name_of
 
 STARTS = 3
 STARTS_BESIDE_OTHERS = 30  # that may fail while another process has the store open: some 40 s
+NOT_EXECUTED = "203"  # systemd's status of a program that it could not execute
+LEAST_ROOM = 2**20  # bytes
 BEGUN = "listening "  # the first word that a program prints when it is ready
 MEANINGS = {"0": "it has served all connections that its unit allows", "2": "its command line is not valid",
             "3": "it could not go on"}
@@ -44,6 +46,27 @@ def verdict(office):
     return (done.stdout + done.stderr).strip() or f"status {done.returncode}"
 
 
+def is_damaged(store):
+    """Whether pages of the store are not what SQLite has written."""
+    words = ["sqlite3", f"{store.as_uri()}?immutable=1", "PRAGMA integrity_check(1)"]
+    done = subprocess.run(words, text=True, capture_output=True, check=False)
+    return done.stdout.strip() != "ok"
+
+
+def cause_of(office, status, found):
+    """What the machine itself shows, and what to do; None if nothing."""
+    system = os.statvfs(office.folder)
+    if status == NOT_EXECUTED:
+        return "the program cannot be executed: apt-get install --reinstall record-office"
+    if system.f_flag & os.ST_RDONLY:
+        return f"{office.folder} is read-only: `dmesg` says why"
+    if system.f_bavail * system.f_frsize < LEAST_ROOM:
+        return f"the disk is full: make room at {office.folder}"
+    if found == "store fault" and is_damaged(office.store):
+        return f"a page of {office.store} is damaged: record-office-restore lists the copies to go back to"
+    return None
+
+
 def failures(mark):
     """Counts one more start that has failed."""
     count = 1
@@ -66,7 +89,7 @@ def is_asked_for(code, status):
     return code == "killed" and status in ("TERM", "INT", "HUP")
 
 
-def give_up(office, unit, said, others):
+def give_up(office, unit, status, said, others):
     """Says what is wrong, and stops the unit, unless the store is sound again. The exit status."""
     found = verdict(office)
     if found == "sound" and "store fault" in said:
@@ -74,11 +97,14 @@ def give_up(office, unit, said, others):
         return 0
     what = found if found != "sound" else said
     kind = next((kind for kind in HELP if kind in what), None)
-    advice = HELP.get(kind, "go through the table of reasons: store fault")
+    advice = f"{what}. In {MANUAL}: {HELP.get(kind, 'go through the table of reasons: store fault')}"
     if others:
         advice += f". Process {', '.join(others)} has it open"
+    advice = cause_of(office, status, found) or advice
     print(f"<2>{unit} has failed to start {STARTS} times or more, and stays stopped. Of {office.store} `check` says: {found}. "
-          f"The program said: {said}. In {MANUAL}: {advice}", flush=True)
+          f"The program said: {said}. {advice}", flush=True)
+    # What the status says of the unit.
+    (MARKS / f"ended-{unit}").write_text(f"{advice}\n", encoding="utf-8")
     # Without the queue readers are told at once, and not after two minutes. It is started again with the program.
     (MARKS / f"queue-of-{unit}").touch()
     subprocess.run(["systemctl", "stop", "--no-block", unit, office.unit_of("queue")], check=False)
@@ -96,13 +122,14 @@ def main(unit):
         print(f"<4>the program ended: {code} {status}{': ' if meaning else ''}{meaning}; its last message: {said}", flush=True)
     if is_asked_for(code, status) or any(line.startswith(BEGUN) for line in told) or status == "2":
         mark.unlink(missing_ok=True)
+        (MARKS / f"ended-{unit}").unlink(missing_ok=True)
         return 0
     office, failed = Office(name_of(unit)), failures(mark)
     others = holders(office.store)
     if failed < (STARTS_BESIDE_OTHERS if others else STARTS):
         return 0
     mark.unlink()
-    return give_up(office, unit, re.sub(r"\s+", " ", said), others)
+    return give_up(office, unit, status, re.sub(r"\s+", " ", said), others)
 
 
 if __name__ == "__main__":

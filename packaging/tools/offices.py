@@ -59,11 +59,11 @@ class Office:
 
     def unit_of(self, part):
         """The unit of another part of the office, such as `queue`."""
-        return self.unit.replace("record-office", f"record-office-{part}", 1)
+        return unit_named(self.unit, part)
 
-    def told(self, part):
-        """The mark that it was told that a part has failed."""
-        return MARKS / f"told-{self.unit_of(part)}"
+    def told(self, name):
+        """The mark that it was told that a line of the status is red."""
+        return MARKS / f"told-{self.unit}-{name}"
 
     def make_lists_folder(self):
         """Makes the folder whose files the desk's site shows."""
@@ -102,6 +102,11 @@ class Office:
         """Does something with the unit. Raises Trouble if that fails."""
         if subprocess.run(["systemctl", verb, self.unit]).returncode:
             raise Trouble(f"systemctl {verb} {self.unit} failed")
+
+
+def unit_named(unit, part):
+    """The unit of another part of the office that a unit belongs to."""
+    return unit.replace("record-office", f"record-office-{part}", 1)
 
 
 def added():
@@ -152,9 +157,9 @@ def of_an_office(text):
     return words
 
 
-def run(main):
+def run(main, root=True):
     """Runs the tool, which may return its exit status. What went wrong is printed on standard error, and the status is 1."""
-    if os.geteuid() != 0:
+    if root and os.geteuid() != 0:
         sys.exit("run this as root")
     status = 0
     try:
