@@ -3,15 +3,16 @@ question is asked, and what is found is compared with all public pages, which ar
 nothing is found that is not public now, and nothing is missing that a round has seen. An assertion that fails says which
 promise was broken."""
 
+import collections
 import contextlib
 import random
 import re
 import unicodedata
 
 import index
+import questions
 from answers import Finder, Query
 from asking import Asking, Unreached
-from folding import read_typed
 from rounds import Round
 
 from acceptance.front.searched import FOREVER
@@ -24,16 +25,19 @@ ODD = ["closed until 2030-01-01", "Unit 1: GB 0999 A [Fonds] dock", "dock (from 
        "a\ue000b \0 dock"]
 COLUMNS = ["legacyId", "parentId", "identifier", "title", "levelOfDescription", "publicationStatus", "eventDates",
            "eventActors", "scopeAndContent", "physicalObjectName"]
-DATES = ["", "", "1774-1893", "1800", "about 1850 or 1860", "18th century", "12345"]
+DATES = {"": None, "1774-1893": (1774, 1893), "1800": (1800, 1800), "about 1850 or 1860": (1845, 1860), "12345": None,
+         "18th century": (1701, 1800), "1893-96": (1893, 1896), "1860er": (1860, 1869), "s. d.": None}
+YEARS = {"1850": (1850, 1850), "1860s": (1860, 1869), "1790-95": (1790, 1795), "1893/4": (1893, 1894)}
 KINDS = ["command"] * 12 + ["clean", "clean", "disturbed", "disturbed", "blink", "cut", "all"]
 
 
 class Unit:
     """A public unit, read from its page and its finding aid: head, own values, numbers above from the top, years, lines
-    of the units right below."""
+    of the units right below, creators with those above."""
 
-    def __init__(self, head, values, above, years, units):
+    def __init__(self, head, values, above, years, units, creators):
         self.head, self.values, self.above, self.years, self.units = head, values, above, years, units
+        self.creators = creators
 
     def __eq__(self, other):
         return other is not None and vars(self) == vars(other)
@@ -43,7 +47,8 @@ def tokens(text):
     """The words of a text, by other code than the service's: each Chinese letter by itself."""
     plain = "".join(c for c in unicodedata.normalize("NFKD", text)
                     if unicodedata.category(c) not in ("Mn", "Cf")).lower()
-    return re.findall(r"[\u4e00-\u9fff]|[0-9]+|(?:(?![\u4e00-\u9fff])[^\W_0-9])+", plain.replace("\u0142", "l"))
+    words = re.findall(r"[\u4e00-\u9fff]|[0-9]+|(?:(?![\u4e00-\u9fff])[^\W_0-9])+", plain.replace("\u0142", "l"))
+    return [word.lstrip("0") or "0" if word.isdecimal() else word for word in words]
 
 
 def readings(text):
@@ -69,6 +74,23 @@ def holds(text, typed, begins):
 def phrases_of(typed):
     """The phrases of what the sessions type: words, phrases in quotation marks, and word*."""
     return [(piece, piece.endswith("*")) for piece in re.findall(r'"[^"]*"|[^ "]+', typed)]
+
+
+def level_of(head):
+    """The level in a head line, if there is only one way to cut it."""
+    found = re.fullmatch(r"((?:(?! \[|\] ).)*) \[((?:(?! \[|\] ).)*)\] ((?:(?! \[|\] ).)*)", head, re.DOTALL)
+    return found[2] if found else ""
+
+
+def unmarked(head, value):
+    """A value without the mark of a unit above, from which it is."""
+    found = re.fullmatch(r"(.*) \(from ([^()]*)\)", value, re.DOTALL)
+    return found[1] if found and head.startswith((f"{found[2]}/", f"{found[2]} ")) else value
+
+
+def meet(years, others):
+    """Whether two spans have a year in common."""
+    return years[0] <= others[1] and others[0] <= years[1]
 
 
 class Between:
@@ -140,7 +162,7 @@ class Session:
             parent = self.random.randint(1, number - 1) if number > 1 and self.random.random() < .85 else ""
             some = [number, parent, self.random.choice(["", "A", "B", "1"]), self.text(),
                     self.random.choice(["", "Fonds", "File", "[File"]),
-                    self.random.choice(["Published"] * 6 + ["Draft"]), self.random.choice(DATES),
+                    self.random.choice(["Published"] * 6 + ["Draft"]), self.random.choice(["", *DATES]),
                     self.random.choice(["", self.text()]),
                     self.random.choice(["", self.text(), self.text()]), self.random.choice(["", "", self.text()])]
             lines.append(",".join('"' + str(value).replace('"', '""') + '"' for value in some))
@@ -199,10 +221,10 @@ class Session:
         mine = next(own)
         assert mine[0] == head, (number, mine[0], head)
         values = [line.split(": ", 1)[1] for line in mine[1:]]
-        dates = [int(year) for line in mine[1:] if line.strip().startswith("3.1.3")
-                 for year in re.findall(r"\b\d{4}\b", line.split(": ", 1)[1])]
+        dates = [line.split(": ", 1)[1] for line in mine[1:] if line.strip().startswith("3.1.3")]
         units = tuple(line for line in lines if line.startswith("  Unit "))
-        found[number] = Unit(head, tuple(values), above, (min(dates), max(dates)) if dates else None, units)
+        found[number] = Unit(head, tuple(values), above, DATES[dates[0]] if dates else None, units,
+                             {unmarked(head, line.split(": ", 1)[1]) for line in lines if line.startswith("  3.2.1 ")})
         for line in units:
             self.walk(found, int(line[7:line.index(":")]), (*above, number), own)
 
@@ -235,33 +257,40 @@ class Session:
     # Questions
 
     def question(self):
-        """A random question: what is typed, the unit that has it, the first and the last year, and whether it is by
-        date."""
+        """A random question: what is typed, the unit that has it, the first and the last year, whether it is by date, and what
+        else is asked for."""
         choice, chance = self.random.choice, self.random.random
         typed = []
         for _ in range(choice([1, 1, 2])):
             word = choice([*WORDS, "doc*", "min*", "GB", '"dock minute"', '"letters plans"', "0999/A", '"from gb"',
-                           "1850", "until", "o'br*", "Lodz", "dock gates", "obrien", "dockgates", "mueller", "muller",
+                           *YEARS, "closed", "o'br*", "Lodz", "dock gates", "obrien", "dockgates", "mueller", "muller",
                            "hms", "\u6587\u66f8", "\u66f8"])
             typed.append(word.upper() if chance() < .3 else word)
         years = choice([(None, None)] * 3 + [(1799, None), (1850, 1910), (None, 1850), (1900, 1960)])
-        return " ".join(typed), (choice([*self.now, 1]) if chance() < .3 else None), *years, chance() < .3
+        more = choice([{}] * 6 + [{"level": "File"}, {"creator": choice(WORDS)}, {"undated": True}])
+        return " ".join(typed), (choice([*self.now, 1]) if chance() < .3 else None), *years, chance() < .3, more
 
-    def matches(self, one, number, typed, within, first, last, by_date, units=None):
+    def matches(self, one, number, typed, within, first, last, by_date, more, units=None):
         """The place of a unit that is to be found: its group (0 if its head has all, 1 if it has all, 2 if heads above have
         some) or its year, its archive and its number. None if it is not to be found. units: those that are above."""
-        phrases, units = phrases_of(typed), self.now if units is None else units
+        phrases, units, years = phrases_of(typed), self.now if units is None else units, one.years or (10**4, 0)
+        if "undated" in more:
+            if one.years or any(holds(text, *phrase) for phrase in phrases if phrase[0].lower() in YEARS
+                                for text in (one.head, *one.values)):
+                return None
+            phrases, first, last = [phrase for phrase in phrases if phrase[0].lower() not in YEARS], None, None
+        if more.get("level", level_of(one.head)) != level_of(one.head) or not {more.get("creator")} <= {None, *one.creators}:
+            return None
         rest = [phrase for phrase in phrases if not any(holds(text, *phrase) for text in (one.head, *one.values))]
+        rest = [phrase for phrase in rest if not meet(years, YEARS.get(phrase[0].lower(), (10**4, 0)))]
         heads = [units[above].head for above in one.above if above in units]
-        if len(rest) == len(phrases) or not all(any(holds(head, *phrase) for head in heads) for phrase in rest):
+        if rest and len(rest) == len(phrases) or not all(any(holds(head, *phrase) for head in heads) for phrase in rest):
             return None
         if within is not None and within not in (*one.above, number):
             return None
-        if (first, last) != (None,
-                             None) and not (one.years and (first or 0) <= one.years[1]
-                                            and one.years[0] <= (last or 9999)):
+        if (first, last) != (None, None) and not meet(years, (first or 0, last or 9999)):
             return None
-        group = 2 if rest else 1 - all(holds(one.head, *phrase) for phrase in phrases)
+        group = 2 if rest else 1 - (bool(phrases) and all(holds(one.head, *phrase) for phrase in phrases))
         first = (one.years[0] if one.years else 10**5) + (2 * 10**5 if rest else 0)
         return first if by_date else group, (*one.above, number)[0], number
 
@@ -270,15 +299,17 @@ class Session:
         came from above is not searched."""
         if number in self.by_parts:
             one = Unit(one.head, tuple(value for value in one.values if not re.search(r" \(from .*\)$", value)),
-                       one.above, one.years, one.units)
+                       one.above, one.years, one.units, one.creators)
         return self.matches(one, number, *asked, units) is not None
 
     def answers(self, asked):
         """All that is found, a few at a time."""
-        typed, *bounds, by_date = asked
+        typed, *bounds, by_date, more = asked
         found, after, first = [], (0, 0), None
         for _ in range(500):
-            query = Query(read_typed(typed), *bounds, after, by_date)
+            named = {name: value for name, value in more.items() if name != "undated"}
+            query = Query(questions.read(typed).phrases, *bounds, after, by_date, **named)
+            query = query.of_no_year() if "undated" in more else query
             answer = Finder(self.db, self.reader, query, self.random.randint(1, 6)).find()
             self.doubts, self.gone = self.doubts | answer.doubts, self.gone | answer.gone
             numbers = [unit["unit"] for unit in found]
@@ -290,7 +321,20 @@ class Session:
                 break
             after = answer.after
         assert first.count == len(found) if first.exact else first.count < len(found), (asked, first.count, len(found))
+        if first.exact:
+            self.check_facets(first.facets.counts, [(unit["unit"], self.now[unit["unit"]]) for unit in found], asked)
         return found
+
+    def check_facets(self, counts, found, asked):
+        """What units that are found have is counted: levels, decades, creators, and archives if all are certain."""
+        wanted = {"level": [level_of(one.head) for _, one in found if level_of(one.head)],
+                  "decade": [year for _, one in found if one.years
+                             for year in range(one.years[0] // 10 * 10, one.years[1] + 1, 10)],
+                  "creator": [name for _, one in found for name in one.creators],
+                  "archive": [(*one.above, number)[0] for number, one in found]}
+        for kind, values in wanted.items():
+            assert (counts[kind] == collections.Counter(values)
+                    or kind == "archive" and counts[kind].total() < len(found)), (kind, asked, counts[kind], values)
 
     def compare(self, exactly=False):
         """Asks a random question, and compares what is found with what is public. Raises AssertionError."""

@@ -36,9 +36,10 @@ HOSTILE = ['"', '""', "*", "dock*", "AND", "OR NOT", "NEAR(dock plans)", "head:d
 RAW = ["q=%ff%fe", "q=%", "q", "=", "", "q=dock&q=plans", "in=0&from=1&to=2&after=0-99999999999&q=dock",
        "&".join("x=1" for _ in range(50)),
        "q=" + "%00" * 2000, "after=1-1&q=dock", "after=0-9999999999&q=dock", "after=2-1&q=dock",
-       "from=1900&to=1800&q=dock", "in=999&q=dock",
+       "in=999&q=dock", "q=dock&" + "&".join(f"utm_{n}=x" for n in range(20)),
        "q=%ed%a0%80dock"]
-UNREAD = {"from=x&q=dock": ["from"], "in=x&to=-1&q=dock": ["in", "to"], "after=%D9%A1-1&q=dock": ["after"],
+UNREAD = {"from=x&q=dock": ["from"], "from=1900&to=1800s&q=dock": ["years"], "in=x&to=-1&q=dock": ["in", "to"],
+          "after=%D9%A1-1&q=dock": ["after"],
           "order=x&q=dock": ["order"], "after=0-99999999999999999999&q=dock": ["after"]}
 
 

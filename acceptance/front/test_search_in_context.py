@@ -24,6 +24,9 @@ FILE = """legacyId,parentId,identifier,title,levelOfDescription,publicationStatu
 6,5,1,Wedding diary,Item,Published,1872,,
 7,1,3,Letters,Series,Published,,,
 8,7,1,Wedding letters,Item,Published,1869,,
+9,1,4,Notes on trout,Item,Published,,Jane Haywood,
+10,1,5,Trout fishing,Item,Published,late 19th century,Jane Haywood,
+11,1,6,Trout and salmon,File,Published,1893-96,,
 20,,INF,Hull Royal Infirmary,Fonds,Published,1782-1948,,
 21,20,1,Minute books of the board,Series,Published,,,
 22,21,1,1832,File,Published,1832,,cholera in Hull
@@ -121,6 +124,31 @@ def test_if_nothing_has_all_words_the_units_that_have_most_are_shown(office: Sea
     assert "lacking" not in answer(office, "cholera") and "lacking" not in answer(office, "accounts")
 
 
+@pytest.mark.parametrize(("typed", "more", "wanted", "undated"), [
+    ("trout 1890s", {}, ["HAY/5", "HAY/6"], 1),
+    ("trout", {"from": "1894", "to": "1895"}, ["HAY/5", "HAY/6"], 1),
+    ("trout", {"from": "1910s"}, [], 1),
+    ("trout 1894", {"level": "File"}, ["HAY/6"], 0),
+    ("photographs 1870s", {}, ["HAY/1/1"], 1),  # the year is the file's, the word that of the series
+    ("trout 1890s", {"undated": "1"}, ["HAY/4"], None),
+    ("", {"from": "1899", "to": "1899", "level": "Item"}, ["HAY/5"], None),
+    ("trout", {"creator": "Jane Haywood"}, ["HAY/4", "HAY/5"], None),
+], ids=str)
+def test_years_levels_and_creators(office: Searched, typed: str, more: dict[str, str], wanted: list[str],
+                                   undated: int | None) -> None:
+    """Years in texts or dates; and how many have no year is told, one click away."""
+    assert found(office, typed, **more) == wanted and answer(office, typed, **more).get("undated") == undated
+
+
+def test_what_the_units_have_is_counted_and_leads_to_them(office: Searched) -> None:
+    facets = answer(office, "trout")["facets"]
+    assert facets["level"] == [["Item", 2], ["File", 1]]
+    assert facets["creator"] == [["Jane Haywood", 2], ["Edward Thackeray", 1]]
+    assert facets["decade"] == [[year, 1 + (year == 1890)] for year in range(1860, 1910, 10)], facets
+    page = office.ask_page("/search?" + urlencode({"q": "trout"}))
+    assert "q=trout&amp;from=1890&amp;to=1899" in page and "q=trout&amp;level=File" in page
+
+
 def test_the_page_names_the_words_that_are_lacking(office: Searched) -> None:
     page = office.ask_page("/search?" + urlencode({"q": "accounts cholera"}))
     assert "Nothing has all of these words. Without accounts:" in page and "/unit/" in page
@@ -130,4 +158,4 @@ def test_a_minus_leaves_out_and_or_means_either(office: Searched) -> None:
     assert found(office, "wedding -clock") == ["HAY/1/1"]
     assert found(office, "mill OR clock") == ["HAY/1/2", "INF/2/1"]
     assert found(office, "cholera -dead") == ["INF/1/1"]
-    assert found(office, "1832 -1849") == [], "a hyphen before a number is none"
+    assert found(office, "1832 -1849") == found(office, "1832-1849") != [], "a hyphen before a number is none"

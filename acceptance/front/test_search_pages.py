@@ -75,7 +75,8 @@ def test_the_next_twenty_units_are_others(hall):
     shown = hall.js(hits)
     hall.press("More")
     hall.wait("location.search.includes('after=') && document.readyState === 'complete'")
-    hall.see("20 units, and more.", TOLD)
+    counted = "/^(21 to 40 of (46|more than [0-9]+) units|20 units, and more)[.]$/"
+    hall.wait(f"{counted}.test(document.querySelector('{TOLD}').textContent)")
     assert len({*shown, *hall.js(hits)}) == 40
 
 

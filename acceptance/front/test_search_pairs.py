@@ -15,6 +15,7 @@ import random
 from typing import NamedTuple
 
 import answers
+import counts
 import fewer
 import index
 import offers
@@ -26,8 +27,8 @@ from acceptance.front.searched import Searched
 QUESTIONS, EACH = 1000, 1500  # all questions, unless --steps says more, and about those of one pair
 UNITS, TOPS, FAR = 150, 2, "2999-01-01"
 WORDS = ["dock", "plans", "minute", "letters", "harbour", "surveyor", "accounts", "mueller", "O'Brien"]
-HEADER = "legacyId,parentId,identifier,title,levelOfDescription,publicationStatus,eventDates,scopeAndContent\n"
-DATES = ["1774-1893", "1850", ""]
+HEADER = "legacyId,parentId,identifier,title,levelOfDescription,publicationStatus,eventDates,scopeAndContent,eventActors\n"
+DATES = ["1774-1893", "1850", "late 19th century", "1893-96", ""]
 PATIENT = 1000  # seconds: however slow the machine is, no answer is late for its time
 NO_LIMIT = 2000  # looks: more than a pair has units
 
@@ -72,7 +73,8 @@ class Plan:
             status = "Draft" if number == hidden or hidden and draw.random() < .5 else "Published"
             title, scope = (" ".join(word(draw) for _ in range(draw.randint(1, 6))) for _ in range(2))
             dates = "" if number in self.closed else draw.choice(DATES)
-            yield f"{number},{below},{number % 7},{title},File,{status},{dates},{scope}\n"
+            level, creator = ["File", "Item"][number % 2], draw.choice(["", "", *WORDS[:3]])
+            yield f"{number},{below},{number % 7},{title},{level},{status},{dates},{scope},{creator}\n"
 
 
 def word(draw):
@@ -232,21 +234,23 @@ class Pair:
     def note(self, told, asked):
         """Counts what was answered, and keeps where it goes on, or how it is asked again."""
         self.after = told.get("after")
-        again = told["more"] and told.get("exact")
+        again = told["more"] and told.get("exact") and "first" not in told
         self.last = (asked, told["count"] - 1) if again else None
         for name, holds in (("found", told["units"]), ("more", told["more"]), (told["state"], True), ("just too many", again),
-                            ("more than are counted", not told.get("exact", True)), ("offers", told.get("offers"))):
+                            ("more than are counted", not told.get("exact", True)), ("offers", told.get("offers")),
+                            ("facets", told.get("facets")), ("undated", told.get("undated")), ("first", told.get("first"))):
             self.count[name] += bool(holds)
 
     def question(self):
         """A random question, as an address has it, and the reader's language."""
         chance = self.chance
-        pieces = [chance.choice([word(chance), word(chance), word(chance)[:3] + "*", "1850", "file", "GB", "0999"])
+        pieces = [chance.choice([word(chance), word(chance), word(chance)[:3] + "*", "1850", "1890s", "file", "GB", "0999"])
                   for _ in range(chance.choice([1, 1, 1, 2, 3]))]
         typed = " ".join(pieces)
         values = {"q": f'"{typed}"' if chance.random() < .1 else typed}
         for name, part, value in (("in", .2, str(chance.randint(1, UNITS))), ("from", .15, chance.choice(["1800", "1850"])),
-                                  ("to", .15, chance.choice(["1800", "1900"])), ("order", .3, "date")):
+                                  ("to", .15, chance.choice(["1800", "19th century"])), ("order", .3, "date"),
+                                  ("level", .1, "File"), ("creator", .1, chance.choice(WORDS[:3])), ("undated", .1, "1")):
             if chance.random() < part:
                 values[name] = value
         if chance.random() < .2:
@@ -275,6 +279,7 @@ def without_haste(monkeypatch):
     monkeypatch.setattr(answers, "COUNTING", PATIENT)
     monkeypatch.setattr(offers, "SECONDS", PATIENT)
     monkeypatch.setattr(fewer, "SECONDS", PATIENT)
+    monkeypatch.setattr(counts, "SECONDS", PATIENT)
     monkeypatch.setattr(answers.Finder.find, "__defaults__", (PATIENT,))
 
 
@@ -286,6 +291,7 @@ def test_what_is_hidden_changes_no_answer_and_no_cost(program, room, without_has
         pair = Pair(program, room / str(turn), seed + turn)
         pair.play(-(-questions // (3 * pairs)))
         count += pair.count
-    kinds = ("found", "more", "more than are counted", "done", "late", "offers", "pages of what was hidden")
+    kinds = ("found", "more", "more than are counted", "done", "late", "offers", "facets", "undated", "first",
+             "pages of what was hidden")
     lacking = [name for name in kinds if not count[name]]
     assert not lacking, f"among the questions is nothing of this kind: {lacking}"

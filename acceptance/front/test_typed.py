@@ -9,6 +9,8 @@ from pathlib import Path
 import folding
 import index
 import pytest
+import questions
+import years
 from answers import Query
 
 HERE = Path(__file__).parent
@@ -31,6 +33,25 @@ def pairs():
 
 
 TABLE = list(pairs())
+
+
+DATES = re.findall("(?m)^([^#].*) => (.*)$", (HERE / "years.txt").read_text("utf-8"))
+
+
+@pytest.mark.parametrize("text, wanted", DATES, ids=repr)
+def test_years_as_archives_write_them(text, wanted):
+    assert years.bounds_of(text) == (tuple(map(int, wanted.split())) if wanted != "-" else (None, None))
+
+
+@pytest.mark.parametrize("typed, texts, span", [
+    ("wedding 1890s", ["wedding", "1890s"], (1890, 1899)), ("Karte um 1850 Köln", ["Karte", "um 1850", "Köln"], (1845, 1855)),
+    ("plans since 1850", ["plans", "since 1850"], (1850, 9999)), ("letters of 1850", ["letters", "of", "1850"], (1850, 1850)),
+    ("between 1850 and 1860", ["between 1850 and 1860"], (1850, 1860)), ("HDC/1850/3", ["HDC/1850/3"], None),
+    ('"1890s" dock', ['"1890s"', "dock"], None), ("GB 0999", ["GB", "0999"], None), ("dock 12", ["dock", "12"], None)])
+def test_years_among_the_words_that_were_typed(typed, texts, span):
+    read = questions.read(typed)
+    assert read.texts == texts
+    assert [phrase.years for phrase in read.phrases if phrase.years] == ([span] if span else [])
 
 
 def by_words(language, typed, title):

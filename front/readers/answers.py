@@ -2,14 +2,17 @@
 is shown or counted is of pages that were read for this very answer. There is `more` only if one more was verified. What
 the office cannot answer for is not shown, and does not keep the rest away."""
 
+import math
 import sqlite3
 import time
-from dataclasses import dataclass
+from dataclasses import dataclass, replace
 
 import folding
 import index
 from asking import Busy, Slow, Unreached
-from texts import Page, name_of, own_digest, read_fonds, value_of, years_of
+from facets import Facets, creators_of
+from texts import Page, name_of, own_digest, read_fonds, read_head, value_of, years_of
+from years import EVER
 
 SHOWN, COUNTED = 20, 300  # of one answer: units shown, units counted
 LOOKS, SECONDS = 2000, 5  # candidates looked at, time
@@ -21,7 +24,7 @@ START = (0, 0)  # the place before all others
 @dataclass
 class Query:
     """What is asked for. within: a unit that has it; first, last: years; after: the place of the unit that was shown last;
-    by_date: earliest first; without: phrases that may not occur."""
+    by_date: earliest first; without: phrases that may not occur; level, creator: of the unit; undated: it has no year."""
 
     phrases: list
     within: int | None = None
@@ -30,14 +33,35 @@ class Query:
     after: tuple = START
     by_date: bool = False
     without: tuple = ()
+    level: str | None = None
+    creator: str | None = None
+    undated: bool = False
+
+    def is_asked(self):
+        """Whether anything is asked for."""
+        bounds = (self.first, self.last, self.level, self.creator)
+        return bool(self.phrases or self.undated or any(bound is not None for bound in bounds))
+
+    def asks_for_years(self):
+        """Whether only units of some years are asked for."""
+        return self.first is not None or self.last is not None or any(phrase.years for phrase in self.phrases)
+
+    def of_no_year(self):
+        """What has no year, and else is as asked for."""
+        dated = [phrase._replace(years=None) for phrase in self.phrases if phrase.years]
+        return replace(self, phrases=[phrase for phrase in self.phrases if not phrase.years], undated=True, first=None,
+                       last=None, without=(*self.without, *dated))
 
     def meets(self, years):
         """Whether the span from the least to the greatest year of a unit meets the years that are asked for."""
-        if self.first is None and self.last is None:
-            return True
-        begins, ends = years
-        return (begins is not None and (self.first is None or self.first <= ends)
-                and (self.last is None or begins <= self.last))
+        if self.undated:
+            return years[0] is None
+        return (self.first, self.last) == (None, None) or meet(years, (self.first or 0, self.last or EVER))
+
+    def takes(self, page):
+        """Whether a unit has the level and the creator that are asked for."""
+        return (self.level in (None, read_head(page.head).level)
+                and (self.creator is None or self.creator in creators_of(page)))
 
     def lacks(self, texts):
         """The phrases that occur in none of these texts."""
@@ -45,12 +69,19 @@ class Query:
         return [phrase for phrase in self.phrases if not folding.occurs(phrase, readings)]
 
     def lacked_by(self, head, lines):
-        """The phrases that a unit does not have itself: all of them, if it has what may not occur."""
+        """The phrases that a unit does not have itself. None: it has what may not occur."""
         texts = (head, *map(value_of, lines))
         readings = [reading for text in texts for reading in folding.readings_of(text)]
         if any(folding.occurs(phrase, readings) for phrase in self.without):
-            return self.phrases
-        return self.lacks(texts)
+            return None
+        years = years_of(lines)
+        return [phrase for phrase in self.phrases
+                if not (phrase.years and meet(years, phrase.years) or folding.occurs(phrase, readings))]
+
+
+def meet(years, others):
+    """Whether two spans of years have one in common; the first may have none at all."""
+    return years[0] is not None and years[0] <= others[1] and others[0] <= years[1]
 
 
 class Finder:
@@ -58,19 +89,27 @@ class Finder:
     verified, or None; exact: whether these are all. after: how to ask for more. doubts: units that the index has
     otherwise than the office; gone: those of them that are shown no more. These are for the next round, not for the
     reader. fonds: the list of fonds, if it was read for the same reader just now; counts: whether what is not shown is
-    counted; is_awaited() says whether other readers wait."""
+    counted; is_awaited() says whether other readers wait; facets: what the units that were counted have."""
 
     def __init__(self, db, ask, query, shown=SHOWN, fonds=(), counts=True, is_awaited=lambda: False):
         self.db, self.ask, self.query, self.shown, self.fonds, self.counts = db, ask, query, shown, fonds, counts
         self.is_awaited = is_awaited
         self.state, self.units, self.more, self.after, self.count, self.exact = "done", [], False, query.after, 0, True
         self.doubts, self.gone, self.pages, self.tops, self.looked = set(), set(), {}, set(), 0
-        self.unanswered = set()
+        self.unanswered, self.facets, self.until, self.latest = set(), Facets(), None, math.inf
+
+    def again(self, query, shown=1, counts=False, until=None):
+        """Another question for the same reader: no page is read twice, and it is over when the first one would be. until: the
+        place of the last unit that is looked at."""
+        other = Finder(self.db, self.ask, query, shown, self.fonds, counts, self.is_awaited)
+        other.doubts, other.gone, other.pages, other.unanswered = self.doubts, self.gone, self.pages, self.unanswered
+        other.until, other.latest = until, self.latest
+        return other
 
     def find(self, seconds=SECONDS):
         """Answers, within so many seconds; returns itself."""
-        began = time.monotonic()
-        self.ask.until, self.began = began + seconds, began
+        self.began = time.monotonic()
+        self.latest = self.ask.until = min(self.began + seconds, self.latest)
         self.db.set_progress_handler(lambda: time.monotonic() > self.ask.until, 10_000)
         self.db.execute("BEGIN")  # the index stays as it is for this answer
         try:
@@ -90,12 +129,14 @@ class Finder:
 
     def _find(self):
         """Looks at one candidate after the other. Raises Slow or Unreached."""
-        if not self.query.phrases:
+        if not self.query.is_asked():
             return
         # Always asked: if only candidates were, an office that is away would tell whether the index has any.
         self.fonds = self.fonds or read_fonds(self.ask("/public/fonds") or "")
         self.tops = {top for top, _ in self.fonds}
         for place, number in index.propose(self.db, self.query):
+            if self.until is not None and place > self.until:
+                return
             hit = self._hit(place, number, self.count < self.shown)
             if hit:
                 self.count += 1
@@ -108,9 +149,9 @@ class Finder:
                 return
 
     def _is_enough(self):
-        """Whether no more are looked at: whoever goes on is told no number, and nobody waits long for one. Whether there is
-        another candidate, which may be one that was closed, is not asked."""
-        return self.more and (not self.counts or self.query.after != START or self.count > max(COUNTED, self.shown)
+        """Whether no more are looked at: nobody waits long for a number. Whether there is another candidate, which may be one
+        that was closed, is not asked."""
+        return self.more and (not self.counts or self.count > max(COUNTED, self.shown)
                               or self._took() > COUNTING or self._took() > HURRIED and self.is_awaited())
 
     def _took(self):
@@ -128,10 +169,12 @@ class Finder:
             self.gone.add(number)
         elif page and own_digest(page.head, lines) != own:
             self.doubts.add(number)
-        if page is None or not self._is_at(place, years_of(lines)):
+        if page is None or not self._is_at(place, years_of(lines)) or not self.query.takes(page):
             return None
         lacking = self.query.lacked_by(page.head, lines)
-        if index.is_in_context(self.query, place) != bool(lacking) or len(lacking) == len(self.query.phrases):
+        if lacking is None or index.is_in_context(self.query, place) != bool(lacking):
+            return None
+        if lacking and len(lacking) == len(self.query.phrases):
             return None
         # What is closed now may once have had the words: then pages above it are not asked for, which others could see.
         if not all(index.stands_above(self.db, number, phrase) for phrase in lacking):
@@ -142,6 +185,8 @@ class Finder:
         if self.query.within is not None and (way is None or self.query.within not in [
                 *(step["unit"] for step in way), number]):
             return None
+        if self.counts:
+            self.facets.add(page, years_of(lines), self.fonds)
         if not shown:
             return True
         return {"unit": number, "way": way, "head": mark(page.head, folding.places_of(self.query.phrases, page.head)),

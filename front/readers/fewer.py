@@ -3,8 +3,9 @@ were typed first before others. Which these are is told by pages alone, as in ea
 
 import itertools
 import time
+from dataclasses import replace
 
-from answers import Finder, Query
+from answers import SHOWN
 
 MOST, SECONDS = 6, 1.5  # phrases of a question of which some are left out; time
 
@@ -20,8 +21,7 @@ def fewer(answer, question):
             if left <= 0:
                 return None
             phrases = [phrase for place, phrase in enumerate(question.phrases) if place not in lacking]
-            asked = Query(phrases, query.within, query.first, query.last, by_date=query.by_date, without=query.without)
-            found = Finder(answer.db, answer.ask, asked, fonds=answer.fonds, counts=False).find(left)
+            found = answer.again(replace(query, phrases=phrases), SHOWN).find(left)
             if found.units:
                 return found, [question.texts[place] for place in lacking]
     return None

@@ -18,6 +18,7 @@ from typing import NamedTuple
 
 import snowballstemmer
 
+import spellings
 from texts import read_shared
 
 LONGEST = 1000  # characters that are read of what was typed
@@ -67,7 +68,7 @@ _PAIR = f"[{PAIRED}][{_ALL_MARKS}{UNSEEN}\uff9e\uff9f]*"
 _WORD = re.compile(f"(?P<paired>(?:{_PAIR})+)|(?P<fraction>[{_FRACTIONS}])"
                    f"|(?P<digits>[{_DIGITS}][{_DIGITS}{_ALL_MARKS}{UNSEEN}]*)"
                    f"|(?P<letters>(?:(?![{PAIRED}])[{_LETTERS}{_ALL_MARKS}{UNSEEN}])+)")
-_ASCII_WORD = re.compile("[a-z]+|[0-9]+")
+_ASCII_WORD = re.compile("(?:(?<![0-9])0+(?=[0-9]))?([a-z]+|[0-9]+)")  # of a number without the zeros that it begins with
 _PAIRS = re.compile(_PAIR)
 _HAS_LETTER = re.compile(f"[{_LETTERS}]")
 _DROPPED = re.compile(f"[{MARKS}{UNSEEN}]|[^{_LETTERS}{_DIGITS}{_ALL_MARKS}]")
@@ -75,7 +76,9 @@ _DEGREE = re.compile("(?<=[Nn])°")
 _JOINING = re.compile(f"[{TABLES['joining']}]")
 _INITIALS = re.compile(r"\. ?")
 _INITIAL = re.compile(r"[^\W\d_]\.")
-_MAY_JOIN = re.compile(r"[a-z][-'`][a-z]|(?<![a-z])[a-z]\. ?[a-z](?![a-z])")
+_MAY_JOIN = re.compile(r"[a-z][-'`][a-z]|(?<![a-z])[a-z]\. ?[a-z](?![a-z])|(?<![a-z])ma?c[a-z ]|[0-9][,.'][0-9]{3}(?![0-9])")
+MAC = ("mac", "mc")
+_THOUSANDS = re.compile("[,.'\u2019\u00a0\u202f]")
 _ARTICLE = re.compile(f"(?:{'|'.join(TABLES['articles'])})(?=...)")
 
 
@@ -92,11 +95,12 @@ class Word(NamedTuple):
 
 class Phrase(NamedTuple):
     """What must stand together, in one of its readings, each of which has its words; begins: the last one may go on.
-    language: other forms of a word of this language count too."""
+    language: other forms of a word of this language count too; years: a unit of these has it, too, whatever its texts."""
 
     readings: tuple
     begins: bool = False
     language: str | None = None
+    years: tuple | None = None
 
 
 def fold(word):
@@ -116,7 +120,8 @@ def _letters(found):
     """What was found as letters may be marks only; then it is no word."""
     seen, (begin, end) = found[0], found.span()
     if seen.isascii():
-        return [Word(seen.lower(), begin, end, seen.lower(), "letters")]
+        word = with_mac(seen.lower())
+        return [Word(word, begin, end, word, "letters")]
     if not _HAS_LETTER.search(seen):
         return []
     word = fold(seen)
@@ -124,10 +129,20 @@ def _letters(found):
     return [Word(word, begin, end, _ARTICLE.sub("", other, 1) if _ARTICLE.match(other) else other, "letters")]
 
 
+def with_mac(word):
+    """A word with Mac for Mc: McGregor and MacGregor are one name."""
+    return f"mac{word[2:]}" if word.startswith("mc") and len(word) > 3 else word
+
+
 def _digits(found):
-    """Digits of any script."""
-    word = "".join(str(unicodedata.decimal(digit)) for digit in found[0] if digit.isdecimal())
+    """Digits of any script, without the zeros that they begin with."""
+    word = decimal(found[0]).lstrip("0") or "0"
     return [Word(word, *found.span(), word, "digits")]
+
+
+def decimal(text):
+    """The digits of a text."""
+    return "".join(str(unicodedata.decimal(digit)) for digit in text if digit.isdecimal())
 
 
 def _fraction(found):
@@ -151,9 +166,9 @@ _READERS = {"letters": _letters, "digits": _digits, "fraction": _fraction, "pair
 def readings_of(text):
     """The readings of a text: in each, its words in order, folded. The first is the text as it stands."""
     if text.isascii():
-        text = text.lower()
-        if not _MAY_JOIN.search(text):
-            return [_ASCII_WORD.findall(text)]
+        plain = text.lower()
+        if not _MAY_JOIN.search(plain):
+            return [_ASCII_WORD.findall(plain)]
     return [[word for word, *_ in reading] for reading in _readings(text)]
 
 
@@ -162,21 +177,24 @@ def _readings(text):
     text = _DEGREE.sub("º", text)
     words, readings = words_of(text), []
     spelled = [[word.word for word in words], [word.other for word in words]]
-    for spellings in spelled if spelled[0] != spelled[1] else spelled[:1]:
-        apart = [(spelling, word.begin, word.end) for spelling, word in zip(spellings, words)]
+    for ways in spelled if spelled[0] != spelled[1] else spelled[:1]:
+        apart = [(spelling, word.begin, word.end) for spelling, word in zip(ways, words)]
         joined = _join(text, words, apart)
         readings += [apart, joined] if len(joined) < len(apart) else [apart]
     return readings
 
 
 def _join(text, words, apart):
-    """The words of a reading, joined where only an apostrophe, a hyphen or the points of initials part letters."""
+    """The words of a reading, joined where only an apostrophe, a hyphen or the points of initials part letters, or a comma
+    thousands."""
     kinds = ["", *(_kind_of_gap(text, *pair) for pair in zip(words, words[1:])), ""]
     joined = []
     for place, (spelling, begin, end) in enumerate(apart):
         # Of `W. O'Brien` the O is no initial.
-        if kinds[place] == "joining" or kinds[place] == "initials" and "joining" not in (kinds[place - 1], kinds[place + 1]):
-            joined[-1] = (joined[-1][0] + spelling, joined[-1][1], end)
+        if kinds[place] == "thousands":
+            joined[-1] = (joined[-1][0] + decimal(text[begin:end]), joined[-1][1], end)
+        elif kinds[place] == "joining" or kinds[place] == "initials" and "joining" not in (kinds[place - 1], kinds[place + 1]):
+            joined[-1] = (with_mac(joined[-1][0] + spelling), joined[-1][1], end)
         else:
             joined.append((spelling, begin, end))
     return joined
@@ -185,9 +203,11 @@ def _join(text, words, apart):
 def _kind_of_gap(text, before, word):
     """What stands between two words, if it may join them."""
     between = text[before.end:word.begin]
+    if (before.kind, word.kind) == ("digits", "digits") and before.end - before.begin <= 3 == word.end - word.begin:
+        return "thousands" if _THOUSANDS.fullmatch(between) else ""
     if (before.kind, word.kind) != ("letters", "letters"):
         return ""
-    if _JOINING.fullmatch(between):
+    if _JOINING.fullmatch(between) or before.word in MAC and between == " " and text[word.begin].isupper():
         return "joining"
     return "initials" if len(before.word) == len(word.word) == 1 and _INITIALS.fullmatch(between) else ""
 
@@ -213,9 +233,11 @@ def phrase_of(text, quoted, language):
     a text where it goes on."""
     kinds = [word.kind for word in words_of(text)]
     cut = kinds[-2:] == ["paired", "last"]
-    readings = tuple(dict.fromkeys(tuple(reading[:-1] if cut else reading) for reading in readings_of(text)))
+    readings = dict.fromkeys(tuple(reading[:-1] if cut else reading) for reading in readings_of(text))
     begins = kinds[-1] == "last" and not cut or text.endswith("*") and not quoted
-    return Phrase(readings, begins, language if kinds == ["letters"] and not begins and not quoted else None)
+    if not begins and not quoted:
+        readings |= dict.fromkeys(tuple(other) for reading in [*readings] for other in spellings.others(reading, language))
+    return Phrase(tuple(readings), begins, language if kinds == ["letters"] and not begins and not quoted else None)
 
 
 def is_cut(typed):
@@ -232,11 +254,12 @@ def shortened(typed):
 
 
 def with_initials(pieces):
-    """The pieces, of which initials that follow each other are one."""
+    """The pieces, of which initials that follow each other are one, and so is Mac with its name."""
     together = []
     for piece in pieces:
-        if together and _INITIAL.fullmatch(piece) and _INITIAL.fullmatch(together[-1][-2:]):
-            together[-1] = f"{together[-1]} {piece}"
+        if together and (_INITIAL.fullmatch(piece) and _INITIAL.fullmatch(together[-1][-2:])
+                         or together[-1].lower() in MAC and piece.isalpha()):
+            together[-1] = f"{together[-1]} {piece.capitalize() if piece.isalpha() else piece}"
         else:
             together.append(piece)
     return together

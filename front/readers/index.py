@@ -6,9 +6,10 @@ import os
 import sqlite3
 
 from folding import SHORTEST_STEM, is_kin, readings_of
-from texts import may_be_from_above, value_of, years_of
+from spellings import sound
+from texts import may_be_from_above, read_head, value_of, years_of
 
-VERSION = 3
+VERSION = 4
 BETWEEN = " \ue000 "  # a word that no text has, between two readings or values: no phrase reaches from one into the next
 ARCHIVE = 10**10  # a row of `words` has the number of its archive times this, and its own: archives come one by one
 LAST_ARCHIVE = 2**63 // ARCHIVE - 1  # and those after it together
@@ -28,12 +29,13 @@ CREATE TABLE round(finished INTEGER NOT NULL, done INTEGER NOT NULL, tops INTEGE
 INSERT INTO round VALUES (0, 0, 0, 0, 0);
 CREATE TABLE part(n INTEGER PRIMARY KEY, digest BLOB, size INTEGER NOT NULL);
 CREATE TABLE unit(n INTEGER PRIMARY KEY, top INTEGER, parent INTEGER, pos INTEGER, own BLOB, branch BLOB, first INTEGER,
-  last INTEGER, odd TEXT, gone INTEGER NOT NULL DEFAULT 0);
+  last INTEGER, level TEXT, odd TEXT, gone INTEGER NOT NULL DEFAULT 0);
 CREATE INDEX unit_top ON unit(top);
 CREATE INDEX unit_parent ON unit(parent, pos);
 CREATE VIRTUAL TABLE words USING fts5(head, body, tokenize = 'ascii', columnsize = 0, prefix = '1 2 3');
 CREATE VIRTUAL TABLE counted USING fts5vocab(words, row);
-CREATE TABLE vocabulary(word TEXT PRIMARY KEY) WITHOUT ROWID;
+CREATE TABLE vocabulary(word TEXT PRIMARY KEY, sound TEXT NOT NULL) WITHOUT ROWID;
+CREATE INDEX vocabulary_sound ON vocabulary(sound);
 """
 ABOVE = ("WITH RECURSIVE above(n) AS (SELECT ? "
          "UNION SELECT parent FROM unit JOIN above USING (n) WHERE parent IS NOT NULL) ")
@@ -41,6 +43,12 @@ LOST = ("WITH RECURSIVE lost(n) AS (SELECT n FROM unit WHERE gone "
         "UNION SELECT unit.n FROM unit JOIN lost ON unit.parent = lost.n) ")
 BELOW = "WITH RECURSIVE below(n) AS (SELECT ? UNION SELECT unit.n FROM unit JOIN below ON unit.parent = below.n) "
 WITHIN = f"unit.n IN ({BELOW} SELECT n FROM below)"
+MATCHING = "SELECT rowid FROM words WHERE words MATCH ?"
+FOLLOWED = "UNION SELECT unit.n FROM unit JOIN below ON unit.parent = below.n) SELECT n FROM below"
+AT_OR_BELOW_MATCHING = f"WITH RECURSIVE below(n) AS (SELECT rowid % ? FROM words WHERE words MATCH ? {FOLLOWED}"
+BELOW_MATCHING = ("WITH RECURSIVE below(n) AS (SELECT n FROM unit WHERE parent IN "
+                  f"(SELECT rowid % ? FROM words WHERE words MATCH ?) {FOLLOWED}")
+MEETS = "unit.last >= ? AND unit.first <= ?"
 
 
 def open_index(path):
@@ -103,8 +111,8 @@ def put(db, top, number, parent, pos, node, branch):
     if before != [top, parent] and not gone:
         look_again_above(db, number)
     odd = "\n".join(line for line in node.lines if may_be_from_above(line, node.head)) or None
-    db.execute("INSERT OR REPLACE INTO unit VALUES (?, ?, ?, ?, ?, ?, ?, ?, ?, 0)",
-               (number, top, parent, pos, node.own, branch, *years_of(node.lines), odd))
+    db.execute("INSERT OR REPLACE INTO unit VALUES (?, ?, ?, ?, ?, ?, ?, ?, ?, ?, 0)",
+               (number, top, parent, pos, node.own, branch, *years_of(node.lines), read_head(node.head).level, odd))
     if own != node.own or before[0] != top:
         forget_words(db, [(before[0], number)] if own else [])
         db.execute("INSERT INTO words(rowid, head, body) VALUES (?, ?, ?)",
@@ -155,7 +163,8 @@ def finish(db):
         if changed == 2:
             db.execute("INSERT INTO words(words) VALUES ('optimize')")
         db.execute("DELETE FROM vocabulary")
-        db.execute("INSERT INTO vocabulary SELECT term FROM counted WHERE term >= 'a'")  # no numbers
+        words = db.execute("SELECT term FROM counted WHERE term >= 'a'")  # no numbers
+        db.executemany("INSERT INTO vocabulary VALUES (?, ?)", ((word, sound(word)) for word, in words))
     if db.execute("PRAGMA wal_checkpoint(TRUNCATE)").fetchone()[0] == 0:
         db.execute("UPDATE round SET changed = 0")
 
@@ -225,48 +234,78 @@ def forget_gone(db, tops):
         db.execute("DELETE FROM part WHERE n NOT IN (SELECT n FROM unit)")
 
 
+class Demand:
+    """What a statement demands of a unit. match: of its words, or nothing; clauses: conditions besides, with their values."""
+
+    def __init__(self, match="", clauses=()):
+        self.match, self.clauses = match, list(clauses)
+
+    def also(self, clause, *values):
+        """With one more condition."""
+        return Demand(self.match, [*self.clauses, (clause, values)])
+
+    def without(self, match):
+        """Without the units whose words are so."""
+        if self.match:
+            return Demand(f"{self.match} NOT ({match})", self.clauses)
+        return self.also(f"words.rowid NOT IN ({MATCHING})", match)
+
+    def ask(self, db, columns, order, *first):
+        """The rows."""
+        clauses = [("words MATCH ?", (self.match,))] * bool(self.match) + self.clauses
+        statement = (f"SELECT {columns} FROM words JOIN unit ON unit.n = words.rowid % ? "
+                     f"WHERE {' AND '.join(clause for clause, _ in clauses)} ORDER BY {order}")
+        return db.execute(statement, [*first, ARCHIVE, *(value for _, values in clauses for value in values)])
+
+
 def propose(db, query):
     """The units that may have the phrases: pairs of a unit's place and its number. In the order of archives those whose
     head has all come first, then those that have all, then those that have some while heads above have the others; a
     place is this group (0 to 2) and a row of `words`. In the order of dates it is a year and a row. query.after: the
     place that was shown last."""
     wanted = [f"({' OR '.join(spelled(db, phrase))})" for phrase in query.phrases]
-    out = "".join(f" NOT ({' OR '.join(spelled(db, phrase))})" for phrase in query.without)
-    limits, values = limits_of(db, query)
-    all_of_them = f"({' AND '.join(wanted)})"
-    in_head = f"{{head}} : {all_of_them}"
-    above, some = in_context(wanted)
+    out = " OR ".join(text for phrase in query.without for text in spelled(db, phrase))
+    for group, demand in groups_of(query, wanted):
+        demand = limited(db, query, demand.without(out) if out else demand)
+        if query.by_date:
+            found = demand.also("(year, words.rowid) > (?, ?)", *query.after)
+            rows = found.ask(db, "ifnull(unit.first, ?) + ? AS year, words.rowid, unit.n", "year, words.rowid", UNDATED, group)
+            yield from (((year, row), number) for year, row, number in rows)
+        elif query.after[0] <= group:
+            found = demand.also("words.rowid > ?", query.after[1] if query.after[0] == group else 0)
+            rows = found.ask(db, "words.rowid, unit.n", "words.rowid")
+            yield from (((group, row), number) for row, number in rows)
+
+
+def groups_of(query, wanted):
+    """Each group, and what is demanded of it. By date the first two are one. The last, in which heads above have some of
+    several phrases, has those again that have all: a unit may have had them once, when more of it was shown, and nobody is to
+    know this by its place."""
+    plain = [text for phrase, text in zip(query.phrases, wanted) if not phrase.years]
+    dated = [(text, phrase.years) for phrase, text in zip(query.phrases, wanted) if phrase.years]
+    itself = Demand(" AND ".join(plain))
+    for text, years in dated:
+        itself = itself.also(f"(words.rowid IN ({MATCHING}) OR {MEETS})", text, *years)
     if query.by_date:
-        yield from by_date(db, f"{all_of_them}{out}", limits, values, query.after, 0)
-        if above:
-            yield from by_date(db, f"({some}){out}", limits + above, [*values, *both(wanted)], query.after, CONTEXT)
-        return
-    statement = ("SELECT words.rowid, unit.n FROM words JOIN unit ON unit.n = words.rowid % ? "
-                 "WHERE words MATCH ? AND words.rowid > ?{} ORDER BY words.rowid")
-    groups = [(in_head, "", []), (f"({all_of_them} NOT {in_head})", "", [])]
-    for group, (match, more, others) in enumerate(groups + [(f"({some})", above, both(wanted))] * bool(above)):
-        if query.after[0] <= group:
-            first = query.after[1] if query.after[0] == group else 0
-            given = [ARCHIVE, f"{match}{out}", first, *values, *others]
-            for row, number in db.execute(statement.format(limits + more), given):
-                yield (group, row), number
+        groups = [(0, itself)]
+    else:
+        in_head = f"{{head}} : ({' AND '.join(wanted)})"
+        groups = [(0, Demand(in_head)), (1, itself.without(in_head))] if wanted else [(1, itself)]
+    later = CONTEXT if query.by_date else 2
+    return groups + [(later, in_context(wanted, dated))] * (len(wanted) > 1)
 
 
-def in_context(wanted):
-    """What a statement demands of a unit that has some of several phrases itself, and the others in heads above; and what is
-    asked of its own words. Nothing for one phrase. One that has all is proposed again: it may have had them once, when more
-    of it was shown, and nobody is to know this by its place."""
-    if len(wanted) < 2:
-        return "", ""
-    one = (" AND (words.rowid IN (SELECT rowid FROM words WHERE words MATCH ?) OR unit.n IN ("
-           "WITH RECURSIVE below(n) AS (SELECT n FROM unit WHERE parent IN (SELECT rowid % ? FROM words WHERE words MATCH ?) "
-           "UNION SELECT unit.n FROM unit JOIN below ON unit.parent = below.n) SELECT n FROM below))")
-    return one * len(wanted), " OR ".join(wanted)
-
-
-def both(wanted):
-    """The values of that: each phrase as a unit's own, and in a head above."""
-    return [value for phrase in wanted for value in (phrase, ARCHIVE, f"{{head}} : {phrase}")]
+def in_context(wanted, dated):
+    """A unit that has some of several phrases itself, or their years, and the others in heads above."""
+    some, spans = " OR ".join(wanted), dict(dated)
+    meets = "".join(f" OR {MEETS}" for _ in dated)
+    of_years = [year for _, years in dated for year in years]
+    demand = Demand().also(f"(words.rowid IN ({MATCHING}){meets})", some, *of_years) if dated else Demand(f"({some})")
+    for text in wanted:
+        meets = f" OR {MEETS}" if text in spans else ""
+        demand = demand.also(f"(words.rowid IN ({MATCHING}) OR unit.n IN ({BELOW_MATCHING}){meets})",
+                             text, ARCHIVE, f"{{head}} : {text}", *spans.get(text, ()))
+    return demand
 
 
 def stands_above(db, number, phrase):
@@ -285,27 +324,20 @@ def is_in_context(query, place):
     return place[0] >= CONTEXT if query.by_date else place[0] == 2
 
 
-def by_date(db, match, limits, values, after, later):
-    """As propose() has it, from the earliest year on; `later` is added to each year."""
-    statement = ("SELECT ifnull(unit.first, ?) + ? AS year, words.rowid, unit.n FROM words "
-                 f"JOIN unit ON unit.n = words.rowid % ? WHERE words MATCH ?{limits} AND (year, words.rowid) > (?, ?) "
-                 "ORDER BY year, words.rowid")
-    for year, row, number in db.execute(statement, [UNDATED, later, ARCHIVE, match, *values, *after]):
-        yield (year, row), number
-
-
-def limits_of(db, query):
-    """What a statement demands besides the words, and its values."""
-    limits, values = "", []
-    for limit, value in (("unit.last >= ?", query.first), ("unit.first <= ?", query.last)):
-        if value is not None:
-            limits, values = f"{limits} AND {limit}", [*values, value]
+def limited(db, query, demand):
+    """With what is demanded besides the words."""
+    for clause, value in (("unit.last >= ?", query.first), ("unit.first <= ?", query.last), ("unit.level = ?", query.level)):
+        demand = demand if value is None else demand.also(clause, value)
+    demand = demand.also("unit.first IS NULL") if query.undated else demand
+    if query.creator is not None:
+        name = f'{{body}} : "{" ".join(readings_of(query.creator)[0])}"'
+        demand = demand.also(f"unit.n IN ({AT_OR_BELOW_MATCHING})", ARCHIVE, name)
     if query.within is None:
-        return limits, values
+        return demand
     if db.execute("SELECT 1 FROM unit WHERE n = ? AND parent IS NULL", (query.within,)).fetchone():
         begin = row_of(query.within, 0)
-        return f"{limits} AND words.rowid BETWEEN ? AND ?", [*values, begin, begin + ARCHIVE - 1]
-    return f"{limits} AND {WITHIN}", [*values, query.within]
+        return demand.also("words.rowid BETWEEN ? AND ?", begin, begin + ARCHIVE - 1)
+    return demand.also(WITHIN, query.within)
 
 
 def spelled(db, phrase):
@@ -317,16 +349,35 @@ def spelled(db, phrase):
 def kin_of(db, phrase):
     """Other forms of the word of a phrase that the index has."""
     found = set()
-    for word, *_ in phrase.readings if phrase.language else ():
+    for (word,) in (reading for reading in phrase.readings if phrase.language and len(reading) == 1):
         near = words_from(db, word[:max(SHORTEST_STEM, len(word) - 3)], READ)
         found |= {one for one in near if one != word and is_kin(word, one, phrase.language)}
     return sorted(found)[:KIN]
 
 
 def words_from(db, begin, many, lengths=(1, 10**6)):
-    """The words of the index that begin so and are so long, up to so many."""
-    statement = "SELECT word FROM vocabulary WHERE word >= ? AND word < ? AND length(word) BETWEEN ? AND ? LIMIT ?"
+    """The words of the index that begin so and are so long, up to so many. While the first round goes on there is no
+    vocabulary yet."""
+    is_there = db.execute("SELECT 1 FROM vocabulary LIMIT 1").fetchone()
+    source = "vocabulary" if is_there else "(SELECT term AS word FROM counted WHERE term >= 'a')"
+    statement = f"SELECT word FROM {source} WHERE word >= ? AND word < ? AND length(word) BETWEEN ? AND ? LIMIT ?"
     return [word for word, in db.execute(statement, (begin, begin + "\U0010ffff", *lengths, many))]
+
+
+def alike(db, word, many):
+    """The words of the index that sound like one, and those that differ from it in their first letters only, up to so many of
+    each."""
+    heard = db.execute("SELECT word FROM vocabulary WHERE sound = ? AND sound <> '' LIMIT ?", (sound(word), many))
+    swapped = word[1:2] + word[:1] + word[2:]
+    others = db.execute("SELECT word FROM vocabulary WHERE substr(word, 2) IN (?, ?) OR word IN (?, ?) LIMIT ?",
+                        (word[1:], word, word[1:], swapped, many))
+    return [one for one, in (*heard, *others)]
+
+
+def words_with_end(db, end, many):
+    """The words of the index that end so, the shortest first, up to so many."""
+    statement = "SELECT word FROM vocabulary WHERE word LIKE ? AND word <> ? ORDER BY length(word), word LIMIT ?"
+    return [word for word, in db.execute(statement, (f"%{end}", end, many))]
 
 
 def find_known(db, number):

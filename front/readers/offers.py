@@ -5,14 +5,16 @@ So many words are tried that those which were public at the last round alone tak
 
 import difflib
 import time
+from dataclasses import replace
 
 import folding
 import index
 import questions
-from answers import Finder, Query
 
 OFFERED, TRIED, SECONDS = 6, 200, 1.5  # of one answer: offers; words that are tried for one that was typed; time
 SHORTEST, ALIKE, POOL = 3, .75, 20_000  # letters of a word; how much alike words are; words that are compared
+HEARD, LONGER = .6, 14  # how much alike words are that sound so; letters that may come after a word
+COMPOUNDING, COMPOUND = ("de", "da", "nl", "no", "sv", "fi"), 5  # languages that make words of words; letters of such a word
 
 
 def offers(answer, typed, language):
@@ -48,10 +50,30 @@ def instead_of(answer, pieces, place, language, end):
 
 
 def near(db, word):
-    """The words of the index that are spelled much like this one, then those that begin so, the shortest first."""
-    longer = sorted(index.words_from(db, word, POOL, (len(word) + 1, len(word) + 6)), key=lambda one: (len(one), one))
-    alike = index.words_from(db, word[:1], POOL, (max(SHORTEST, len(word) - 2), len(word) + 2))
-    return list(dict.fromkeys([*difflib.get_close_matches(word, alike, TRIED, ALIKE), *longer[:TRIED]]))
+    """The words of the index that are spelled much like this one or sound so, then those that begin so, the shortest first,
+    then those that end so."""
+    longer = sorted(index.words_from(db, word, POOL, (len(word) + 1, len(word) + LONGER)), key=lambda one: (len(one), one))
+    spelled = index.words_from(db, word[:1], POOL, (max(SHORTEST, len(word) - 2), len(word) + 2))
+    close = difflib.get_close_matches(word, spelled, TRIED, ALIKE)
+    heard = difflib.get_close_matches(word, set(index.alike(db, word, TRIED)) - {word}, TRIED, HEARD)
+    ends = index.words_with_end(db, word, TRIED) if len(word) >= COMPOUND else []
+    return list(dict.fromkeys([*sorted([*close, *heard], key=lambda one: -ratio(word, one)), *longer[:TRIED], *ends]))
+
+
+def ratio(one, other):
+    """How much alike two words are."""
+    return difflib.SequenceMatcher(None, other, one).ratio()
+
+
+def longer(answer, typed, language):
+    """A word of which others are made, with a star, if one of these finds something that it does not find itself."""
+    piece = typed.strip()
+    if language not in COMPOUNDING or not is_lone(piece) or len(piece) < COMPOUND:
+        return []
+    phrase, = folding.read_typed(piece)
+    own = folding.read_typed(piece, language)
+    asked = replace(answer.query, phrases=[phrase._replace(begins=True)], without=(*answer.query.without, *own))
+    return [f"{piece}*"] * bool(answer.again(asked).find(SECONDS).units)
 
 
 def found_now(answer, text, language, end, exactly=None):
@@ -62,8 +84,8 @@ def found_now(answer, text, language, end, exactly=None):
         return None
     phrases = [phrase._replace(language=None) if (exactly,) in phrase.readings else phrase
                for phrase in questions.read(text, language).phrases]
-    asked = Query(phrases, query.within, query.first, query.last, without=query.without)
-    return next(iter(Finder(answer.db, answer.ask, asked, 1, answer.fonds, False).find(left).units), None)
+    asked = replace(query, phrases=phrases, by_date=False)
+    return next(iter(answer.again(asked).find(left).units), None)
 
 
 def as_written(hit, word):

@@ -12,7 +12,6 @@ import folding
 import index
 import languages
 import orders
-import questions
 from aids import LARGE, Aids, aid_lines, mark, size_and_head
 from asking import SOON, Asking, Idle, Unreached
 from layouts import Answer, Layouts, pieces_of_head
@@ -24,6 +23,11 @@ FEW = 500  # units: contents that have no more show their dates, and what is fur
 KEPT = 12  # connections to the queue that a process keeps: the queue lets 500 in
 AHEAD = 8  # units above, of which the pages are asked for at once
 HIGHEST = 32  # units above that are asked for
+
+FACETS = (("archive", N_("Archive")), ("level", N_("Level of description")), ("decade", N_("Decade")),
+          ("creator", ELEMENTS["3.2.1"]))
+CHOSEN = [*((kind, label) for kind, label in FACETS if kind in ("level", "creator")), ("undated", "")]
+KEPT = ("q", "in", "from", "to", "order", "level", "creator", "undated")
 
 NONE_SUCH = (N_("Not found"),
              N_("Nothing is shown under this number. There may be no such unit, or it may not be published."))
@@ -300,12 +304,20 @@ class Pages:
                   "way": [(read_head(step["head"]).title or step["head"]) for step in unit["way"] or []],
                   "lines": [(read_line(f"{line['name']}: "), line["text"]) for line in unit["lines"]]}
                  for unit in told["units"]]
-        kept = {name: value for name, value in request.args.items() if name in ("q", "in", "from", "to", "order")}
-        offers = [(text, urlencode({**kept, "q": text})) for text in told.get("offers", ())]
+        kept = {name: value for name, value in request.args.items() if name in KEPT and value}
+        chosen = [(name, label, kept[name]) for name, label in CHOSEN if name in kept]
+
+        def address(**changed):
+            """A search that differs in this."""
+            return urlencode({name: value for name, value in {**kept, **changed}.items() if value})
         is_away = told["state"] in ("late", "unreached") and not units
         return self.render(request, "search.html", 503 if is_away else 200, told=told, units=units, scopes=scopes,
-                           within=within, offers=offers, more=urlencode({**kept, "after": told.get("after")}),
-                           typed=bool(questions.read(request.args.get("q", "")).phrases))
+                           within=within, offers=[(text, address(q=text)) for text in told.get("offers", ())],
+                           longer=[(text, address(q=text)) for text in told.get("longer", ())][:1],
+                           more=address(after=told.get("after")), undated=address(undated=1),
+                           facets=facets_of(request, told, scopes, address),
+                           chosen=[(name, request.language.say(label), value) for name, label, value in chosen],
+                           without={name: address(**{name: ""}) for name, *_ in chosen}, typed=told.get("asked", True))
 
     def help(self, request):
         """How a reader orders, and where and when."""
@@ -323,6 +335,18 @@ class Pages:
     def robots(self, request):
         """What crawlers should leave out."""
         return self.render(request, "robots.txt", kind="text/plain")
+
+
+def facets_of(request, told, scopes, address):
+    """What a search can be narrowed to: a label, and texts with how many units have it and an address each."""
+    names, say = dict(scopes), request.language.say
+    kinds = {"archive": lambda n: (names.get(n, ""), address(**{"in": n})),
+             "level": lambda level: (level, address(level=level)),
+             "decade": lambda year: (say(N_("%(year)ss")) % {"year": year}, address(**{"from": year, "to": year + 9})),
+             "creator": lambda name: (name, address(creator=name))}
+    facets = told.get("facets", {})
+    return [(say(label), [(kinds[kind](value)[0], many, kinds[kind](value)[1]) for value, many in facets[kind]])
+            for kind, label in FACETS if kind in facets]
 
 
 def names(text, number):

@@ -3,10 +3,12 @@
     service.py --queue SOCKET --index FILE --listen FOLDER [--words FILE] [--every SECONDS] [--rest TIMES]
                [--orders MANY]
 
-GET /public/search?q=WORDS[&in=UNIT][&from=YEAR][&to=YEAR][&order=date][&after=PLACE][&lang=LANGUAGE] is answered with JSON:
-state, units, count, exact, more, after; unread: names of values that cannot be read, so that nothing was looked for; cut:
-whether more was typed than is read; offers: what finds something, if that found nothing; lacking: words that the units do
-not have, if nothing has all."""
+GET /public/search?q=WORDS[&in=UNIT][&from=YEARS][&to=YEARS][&level=LEVEL][&creator=NAME][&undated=1][&order=date]
+[&after=PLACE][&lang=LANGUAGE] is answered with JSON: state, units, more, after; count, exact, and first, the place of the
+first unit among these; facets: how many of them are in which archive, of which level, decade and creator; undated: how many
+have no year, if years are asked for; longer, offers: what finds more, or something where that found nothing; lacking: words
+that the units do not have, if nothing has all; unread: names of values that cannot be read, so that nothing was looked for;
+cut: whether more was typed than is read; asked: whether anything was asked for."""
 
 import argparse
 import contextlib
@@ -27,12 +29,14 @@ import languages
 import processes
 import questions
 import rounds
+import years
 from answers import START, Finder, Query
 from asking import SOON, Asking, Idle
+from counts import counts
 from fewer import fewer
-from folding import is_cut
+from folding import LONGEST as LONGEST_TYPED, is_cut
 from layouts import Answer, Request
-from offers import offers
+from offers import longer, offers
 from pages import Pages
 from turns import PLACES, Late, Turns, is_costly
 
@@ -132,6 +136,8 @@ class Service:
                 told = self.told(found, values)
                 if found.state == "done" and query.phrases and not found.units and query.after == START:
                     told |= self.instead(found, values["q"], language)
+                elif found.state == "done" and query.phrases and query.after == START and not found.more:
+                    told["longer"] = longer(found, values["q"], language)
         except (sqlite3.Error, AttributeError, TypeError, ValueError) as broken:  # not there yet, or damaged
             print(f"answer: {type(broken).__name__} {broken}", flush=True)
             self.say(0)
@@ -149,29 +155,38 @@ class Service:
 
     def told(self, found, values):
         """What an answer says. What it has found late goes to the rounds."""
+        told = counts(found)
         for number in (*found.doubts, *(-number for number in found.gone)):
             self.say(number)
-        told = {"state": found.state, "units": found.units, "more": found.more, "cut": is_cut(values.get("q", ""))}
+        told |= {"state": found.state, "units": found.units, "more": found.more, "cut": is_cut(values.get("q", "")),
+                 "asked": found.query.is_asked()}
         if found.more or found.state != "done":
             told["after"] = "{}-{}".format(*found.after)
-        if found.state == "done" and found.query.after == START:
-            told |= {"count": found.count, "exact": found.exact}
         return told
 
 
 def query_of(values, language):
     """What is asked for, and the names of the values that cannot be read."""
     asked, unread = {}, []
-    for name in ("in", "from", "to"):
+    for name, place in (("in", None), ("from", 0), ("to", 1)):
         text = values.get(name, "").strip()
-        asked[name] = int(text) if re.fullmatch(r"\d{1,10}", text) else None
+        asked[name] = number_of(text, place)
         unread += [name] if text and asked[name] is None else []
+    unread += ["years"] * (asked["from"] is not None and asked["to"] is not None and asked["from"] > asked["to"])
     order, after = values.get("order", ""), re.fullmatch("([0-9]{1,6})-([0-9]{1,19})", values.get("after", ""))
     unread += ["order"] * (order not in ("", "date")) + ["after"] * bool(values.get("after") and not after)
     place = (int(after[1]), min(int(after[2]), LARGEST)) if after else START
     question = questions.read(values.get("q", ""), language)
-    return Query(question.phrases, asked["in"], asked["from"], asked["to"], place, order == "date",
-                 tuple(question.without)), unread
+    query = Query(question.phrases, asked["in"], asked["from"], asked["to"], place, order == "date", tuple(question.without),
+                  values.get("level") or None, values.get("creator") or None)
+    return query.of_no_year() if values.get("undated") else query, unread
+
+
+def number_of(text, place):
+    """The number that a text has: of a unit, or the first (0) or last (1) year. None: none."""
+    if re.fullmatch(r"\d{1,10}", text):
+        return int(text)
+    return None if place is None else years.bounds_of(text[:LONGEST_TYPED], True)[place]
 
 
 def fields(text):
@@ -183,10 +198,10 @@ def fields(text):
 
 
 def members(text):
-    """The last value of each name of a query string."""
+    """The last value of each name of a query string. Other sites add names of their own to links (`utm_source`)."""
     try:
         text = text.encode("latin-1").decode("utf-8", "replace")
-        found = parse_qs(text, keep_blank_values=True, max_num_fields=8, errors="replace")
+        found = parse_qs(text, keep_blank_values=True, max_num_fields=64, errors="replace")
     except ValueError:
         return {}
     return {name: values[-1] for name, values in found.items()}

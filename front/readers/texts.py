@@ -8,6 +8,8 @@ import pathlib
 import re
 from typing import NamedTuple
 
+from years import bounds_of
+
 _HERE = pathlib.Path(__file__).resolve().parent.parent
 
 
@@ -46,7 +48,6 @@ ELEMENTS = {
     "3.5.3": N_("Related units of description"), "3.5.4": N_("Publication note"), "3.6.1": N_("Note"),
     "3.7.1": N_("Archivist's Note"), "3.7.2": N_("Rules or Conventions"), "3.7.3": N_("Date(s) of descriptions"),
 }
-YEAR = re.compile(r"(?<![0-9])[0-9]{4}(?![0-9])")
 
 
 def lines_of(text):
@@ -207,6 +208,5 @@ def value_of(line):
 
 
 def years_of(lines):
-    """The least and the greatest year in the dates, or a pair of None. A year is four digits by themselves."""
-    years = [int(year) for line in lines if line.startswith(DATES) for year in YEAR.findall(value_of(line))]
-    return (min(years), max(years)) if years else (None, None)
+    """The least and the greatest year in the dates, or a pair of None."""
+    return bounds_of("; ".join(value_of(line) for line in lines if line.startswith(DATES)))

@@ -9,11 +9,12 @@ const WORD = /[\p{L}\p{Nd}\p{Nl}\p{M}\u00ad\u200c-\u200f]+/gu;
 const DROPPED = new RegExp(`[${marks}${unseen}]`, 'gu');
 const JOINED = new RegExp(`(?<=\\p{L})[${joining}](?=\\p{L})`, 'gu');
 const INITIALS = /(?<!\p{L})(\p{L})\. ?(?=\p{L}(?!\p{L}))/gu;
+const MAC = /(?<!\p{L})ma?c (?=\p{L})/gu;
 const ARTICLE = new RegExp(`(?<!\\p{L})(?:${articles.join('|')})(?=\\p{L}{3})`, 'gu');
 
-/** A word as it is compared. */
+/** A word as it is compared. McGregor and MacGregor are one name. */
 export function fold(word) {
-  return [...word.normalize('NFKD').replace(DROPPED, '').toLowerCase()].map(foldLetter).join('');
+  return [...word.normalize('NFKD').replace(DROPPED, '').toLowerCase()].map(foldLetter).join('').replace(/^mc(?=\p{L}{2})/u, 'mac');
 }
 
 function foldLetter(letter) {
@@ -27,7 +28,7 @@ function foldLetter(letter) {
 function readingsOf(name) {
   const spelled = name.normalize('NFC').toLowerCase().replace(/\P{ASCII}/gu, (letter) => other[letter] ?? letter);
   const apart = [folded(name), folded(spelled).replace(ARTICLE, '')];
-  const joined = apart.map((one) => one.replace(INITIALS, '$1').replace(JOINED, '').replace(/\.(?=\s|$)/g, ''));
+  const joined = apart.map((one) => one.replace(INITIALS, '$1').replace(JOINED, '').replace(/\.(?=\s|$)/g, '').replace(MAC, 'mac'));
   return new Set([...apart, ...joined, ...apart.map((one) => one.replace(JOINED, ' '))]);
 }
 
