@@ -23,37 +23,43 @@ PIECES = {2: "half halfte moitie mitad μισο ημισυ", 3: "third drittel t
           4: "quarter viertel quart cuarto τεταρτο"}
 CENTURIES = {word: number for number, words in {
     12: "twelfth zwolfte[ns]? douzieme doce", 13: "thirteenth dreizehnte[ns]? treizieme trece",
-    14: "fourteenth vierzehnte[ns]? quatorzieme catorce", 15: "fifteenth funfzehnte[ns]? quinzieme quince",
-    16: "sixteenth sechzehnte[ns]? seizieme dieciseis", 17: "seventeenth siebzehnte[ns]? dix-septieme diecisiete",
-    18: "eighteenth achtzehnte[ns]? dix-huitieme dieciocho", 19: "nineteenth neunzehnte[ns]? dix-neuvieme diecinueve",
+    14: "fourteenth vierzehnte[ns]? quatorzieme catorce", 15: "fifteenth funfzehnte[ns]? quinzieme quince ιε",
+    16: "sixteenth sechzehnte[ns]? seizieme dieciseis ιστ", 17: "seventeenth siebzehnte[ns]? dix-septieme diecisiete ιζ",
+    18: "eighteenth achtzehnte[ns]? dix-huitieme dieciocho ιη", 19: "nineteenth neunzehnte[ns]? dix-neuvieme diecinueve ιθ",
     20: "twentieth zwanzigste[ns]? vingtieme veinte", 21: "twenty-first einundzwanzigste[ns]? veintiuno"}.items()
     for word in words.split()}
 TO = (r"(?:\s{0,3}[-\u2010-\u2015/]\s{0,3}|,?\s{1,3}(?:to|till|until|and|or|bis|und|oder|et|ou|au?|jusqu'en|"
       r"y|al?|hasta|e|και|η|εωσ|ωσ|μεχρι)"
       r"(?:\s{1,3}(?:the|das|dem|zum|le|el|la|los|το|τη|τον))?\s{1,3})")
 OF = r"(?:\s{0,3}(?:of|the|in|des|der|den|dem|die|das|im|du|de|del|la|los|les|le|του|τησ|των|τα)\b){0,3}[\s-]{0,3}"
+WORDS = {
+    "early": r"early|beginning|anfang|fruhe[sn]?|beginn|debut|principios|comienzos|inicios|αρχεσ|αρχη|in\.",
+    "mid": r"mid|middle|mitte|milieu|mediados|μεσα",
+    "late": r"late|end|ende|spate[sn]?|ausgehende[sn]?|fin|finales|fines|τελη|τελοσ|ultimos"}
+PART_WORDS = "|".join(WORDS.values())
 NUMBER = rf"(?:[0-9]{{1,2}}|[ivx]+|{'|'.join(CENTURIES)})"
 NTH = r"(?:\s?(?:st|nd|rd|th|eme|ere?|er|e|[oº]|οσ|ου|ο|ων|ουσ)\b|\.?º)?\.?"
 CENTURY = (r"(?:centur(?:y|ies)\b|cents?\b\.?|jahrhundert(?:e[ns]?|s)?\b|jhd?ts?\b\.?|jhs?\b\.?|jahrh\b\.?|siecles?\b|"
-           r"siglos?\b|αιωνα[σ]?\b|αιωνεσ\b|αιωνων\b|αι\b\.?)")
+           r"siglos?\b|αιωνα[σ]?\b|αιωνοσ\b|αιωνεσ\b|αιωνων\b|αι\b\.?)")
 ITEM = re.compile(
-    rf"(?<![0-9a-z.])(?P<one>{NUMBER}){NTH}(?:{TO}(?P<other>{NUMBER}){NTH})?[\s-]{{0,3}}{CENTURY}"
-    rf"|(?<![0-9a-z.])(?P<short>{NUMBER})(?:th|e|eme)\s{{1,3}}[cs]\b\.?"
+    rf"(?<![\w.])(?P<lead>{NUMBER}){NTH}(?={TO}(?:(?:{PART_WORDS}){OF})?{NUMBER}{NTH}[\s-]{{0,3}}(?:{CENTURY}|[cs]\b))"
+    rf"|(?<![\w.])(?P<one>{NUMBER}){NTH}(?:{TO}(?P<other>{NUMBER}){NTH})?[\s-]{{0,3}}{CENTURY}"
+    rf"|(?<![\w.])(?P<short>{NUMBER})(?:th|e|eme)\s{{1,3}}[cs]\b\.?"
     rf"|(?<!\w)(?:siglos?|ss?\.|saec\b\.?|αιωνασ|αι\.)\s{{0,3}}(?P<after>{NUMBER})(?:{TO}(?P<last>{NUMBER}))?(?:{NTH})(?!\w)"
     r"|(?<![0-9])(?P<decade>[0-9]{3}0)(?:\s?['’]?s\b|\s?-?(?:er[ns]?|ern|ies)\b(?:\s+jahren?\b)?)"
     r"|(?:annees|decennies?|decadas? de(?: los)?(?: anos)?|(?:los )?anos|δεκαετια[σ]?(?: του)?|δεκ\.(?: του)?|"
     r"decade of(?: the)?)\s{1,3}(?P<ten>[0-9]{3}0)(?![0-9])"
-    r"|(?<![0-9])(?P<some>[0-9]{2}[0-9x_?-][x_?-])(?![0-9x])"
+    r"|(?<![0-9])(?P<some>[0-9]{2}(?:[0-9x_?-][x_?-](?![0-9x])|\.\.|[0-9]\.(?=\s?(?:[\])]|$))))"
+    r"|(?<!\w)c(?P<era>[0-9]{2})(?:st|th)?(?!\w)|(?<!\w)(?P<age>[0-9]{2})c(?!\w)"
+    r"|(?P<turn>jahrhundertwende|turn of the century|fin de siecle|tournant du siecle|cambio de siglo)"
     r"|(?<![0-9])(?P<day>[0-9]{4})-[0-9]{2}-[0-9]{2}(?![0-9])"
     r"|(?<![0-9])(?P<begin>[0-9]{4})\s?[-\u2010-\u2015/]\s?(?P<end>[0-9]{1,2})(?![0-9.]*[0-9])"
     r"|(?<![0-9])(?P<year>[0-9]{4})(?![0-9])"
     r"|(?<!\w)(?P<roman>m[mdclxvi]{3,})(?!\w)"
     r"|(?<!\w)an (?P<republic>[ivx]+)(?!\w)")
-WORDS = {
-    "early": r"early|beginning|anfang|fruhe[sn]?|beginn|debut|principios|comienzos|inicios|αρχεσ|αρχη|in\.",
-    "mid": r"mid|middle|mitte|milieu|mediados|μεσα",
-    "late": r"late|end|ende|spate[sn]?|ausgehende[sn]?|fin|finales|fines|τελη|τελοσ|ultimos"}
-PART = re.compile(rf"(?<!\w)(?:(?P<part>{'|'.join(WORDS.values())})"
+CENTURY_GROUPS = ("lead", "one", "short", "after", "era", "age")
+ONLY_IN_DATES = ("some", "republic", "era", "age")
+PART = re.compile(rf"(?<!\w)(?:(?P<part>{PART_WORDS})"
                   rf"|(?P<nth>{'|'.join('|'.join(words.split()) for words in ORDINALS[1:])}|{LAST})\.?\s{{0,3}}"
                   rf"(?P<piece>{'|'.join('|'.join(words.split()) for words in PIECES.values())})){OF}\Z")
 ABOUT = re.compile(r"(?:(?<!\w)(?:ca?\.?|cca\.?|circa|um|etwa|ungefahr|gegen|wohl|vermutlich|vers|env\.?|environ|autour de|"
@@ -67,9 +73,11 @@ LATER = re.compile(r"(?<!\w)(?:after|post-?|not before|since|nach|seit|ab|apres|
                    r"μετα(?: το)?)\s{0,3}\Z")
 NOW = "present|today|date|heute|aujourd'hui|(?:la )?actualidad|σημερα"
 ON = re.compile(rf"\s?(?:[-\u2010-\u2015]\s?(?:(?:to )?(?:{NOW})|(?=\s?(?:[\];,.)]|$)))"
-                rf"|(?:to|bis|a|hasta|εωσ)(?: the)? (?:{NOW})|onwards?\b|ff\b\.?)")
+                rf"|(?:to|bis|a|hasta|εωσ)(?: the)? (?:{NOW})|onwards?\b|ff\b\.?|\s?κ\.\s?ε\.)")
 DOUBT = re.compile(r"\s?(?:\?|\[\?\]|\(\?\)|ca?\b\.?)")
 EARLY_AGE = re.compile(r"\s*(?:b\.? ?c\.?(?:e\.?)?\b|v\. ?chr|av\. ?j|a\. ?c\.|π\. ?χ)")
+SIMPLE = re.compile("([0-9]{4})(?:[-\u2013]([0-9]{4}))?")  # as most dates are
+IN_BRACKETS = re.compile(r"\[([0-9]{1,3})\](?=[0-9])|(?<=[0-9])\[([0-9]{1,2})\]")  # [18]97, 18[97]
 CENTURY_ALONE = re.compile(r"(?<!\w)(?:[XVI]{2,5}(?:e|ème)?|[12][0-9](?:th|e|ème))\.?\Z")
 VALUES = {"i": 1, "v": 5, "x": 10, "l": 50, "c": 100, "d": 500, "m": 1000}
 ROMAN = re.compile(r"m*(?:cm|cd|d?c{0,4})(?:xc|xl|l?x{0,4})(?:ix|iv|v?i{0,4})")
@@ -89,7 +97,7 @@ def spans(text, is_typed=False):
     """The years of a text, in order. What was typed has no years by a sign (`189-`), and `after 1945` has no end there."""
     plain, found, bounds = plain_of(text[:LONGEST]), [], []
     for item in ITEM.finditer(plain):
-        years = None if is_typed and (item["some"] or item["republic"]) else years_of_item(item)
+        years = None if is_typed and item.lastgroup in ONLY_IN_DATES else years_of_item(item)
         if not years or EARLY_AGE.match(plain, item.end()):
             continue
         at = max(found[-1].end if found else 0, item.start() - LOOKS)
@@ -135,8 +143,8 @@ def years_of_item(item):
     """The first and the last year of what was found, or None."""
     named = {name: value for name, value in item.groupdict().items() if value}
     name, text = next(iter(named.items()))
-    if name in ("one", "short", "after"):
-        numbers = [number_of(named[one]) for one in ("one", "other", "short", "after", "last") if one in named]
+    if name in CENTURY_GROUPS:
+        numbers = [number_of(value) for value in named.values()]
         return (min(numbers) * 100 - 99, max(numbers) * 100) if all(0 < number < 22 for number in numbers) else None
     if name in ("decade", "ten"):
         return int(text), int(text) + 9
@@ -146,6 +154,8 @@ def years_of_item(item):
     if name == "begin":
         end = int(text[:-len(named["end"])] + named["end"])
         return int(text), max(int(text), end)
+    if name == "turn":
+        return 1890, 1910
     if name == "republic":
         number = number_of(text)
         return (1791 + number, 1792 + number) if 0 < number < 15 else None
@@ -183,6 +193,10 @@ def with_part(plain, at, begin, years):
 @functools.lru_cache(20_000)
 def bounds_of(text, is_typed=False):
     """The least and the greatest year of a text, or a pair of None. Dates may be a century's number alone."""
+    simple = SIMPLE.fullmatch(text)
+    if simple:
+        return int(simple[1]), max(int(simple[1]), int(simple[2] or 0))
+    text = IN_BRACKETS.sub(r"\1\2", text)
     found = spans(text, is_typed)
     if not found and CENTURY_ALONE.search(text):
         found = spans(f"{text} siecle")
