@@ -27,7 +27,7 @@ HIGHEST = 32  # units above that are asked for
 FACETS = (("archive", N_("Archive")), ("level", N_("Level of description")), ("decade", N_("Decade")),
           ("creator", ELEMENTS["3.2.1"]))
 CHOSEN = [*((kind, label) for kind, label in FACETS if kind in ("level", "creator")), ("undated", "")]
-KEPT = ("q", "in", "from", "to", "order", "level", "creator", "undated")
+ASKED = ("q", "in", "from", "to", "order", "level", "creator", "undated")
 
 NONE_SUCH = (N_("Not found"),
              N_("Nothing is shown under this number. There may be no such unit, or it may not be published."))
@@ -304,7 +304,7 @@ class Pages:
                   "way": [(read_head(step["head"]).title or step["head"]) for step in unit["way"] or []],
                   "lines": [(read_line(f"{line['name']}: "), line["text"]) for line in unit["lines"]]}
                  for unit in told["units"]]
-        kept = {name: value for name, value in request.args.items() if name in KEPT and value}
+        kept = {name: value for name, value in request.args.items() if name in ASKED and value}
         chosen = [(name, label, kept[name]) for name, label in CHOSEN if name in kept]
 
         def address(**changed):

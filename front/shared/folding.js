@@ -9,7 +9,7 @@ const WORD = /[\p{L}\p{Nd}\p{Nl}\p{M}\u00ad\u200c-\u200f]+/gu;
 const DROPPED = new RegExp(`[${marks}${unseen}]`, 'gu');
 const JOINED = new RegExp(`(?<=\\p{L})[${joining}](?=\\p{L})`, 'gu');
 const INITIALS = /(?<!\p{L})(\p{L})\. ?(?=\p{L}(?!\p{L}))/gu;
-const MAC = /(?<!\p{L})ma?c (?=\p{L})/gu;
+const MAC = /(?<!\p{L})ma?c\s+(?=\p{L})/giu;
 const ARTICLE = new RegExp(`(?<!\\p{L})(?:${articles.join('|')})(?=\\p{L}{3})`, 'gu');
 
 /** A word as it is compared. McGregor and MacGregor are one name. */
@@ -42,7 +42,7 @@ export function isSameName(one, another) {
 
 /** Returns a function that says whether a name has every part that was typed. */
 export function partsOf(typed) {
-  const parts = typed.split(/\s+/).filter(Boolean).map((part) => [...readingsOf(part)]);
+  const parts = typed.replace(MAC, 'Mac').split(/\s+/).filter(Boolean).map((part) => [...readingsOf(part)]);
   return (name) => {
     const readings = [...readingsOf(name)];
     return parts.every((part) => part.some((one) => readings.some((reading) => reading.includes(one))));
