@@ -27,7 +27,6 @@ from rounds import Round
 from turns import Late, Turns, is_costly
 
 from acceptance import client
-from acceptance.front.office import clear
 from acceptance.front.searched import Searched
 
 SYLLABLES = (("har", "doc", "min", "let", "sto", "bri"), ("a", "e", "o", "u"),
@@ -230,7 +229,7 @@ def main():
     words.add_argument("--rest", type=float, default=0, metavar="TIMES")
     given = words.parse_args()
     with client.temporary(given.room) as room:
-        measure(given, Searched.create(given.program, clear(room / "office")))
+        measure(given, Searched.create(given.program, room / "office"))
 
 
 if __name__ == "__main__":

@@ -1,5 +1,7 @@
 """Asks both sites of an office as a program would, by the requests of acceptance/client.py; or by bytes over sockets."""
 
+import contextlib
+import http.client
 import itertools
 import json
 import re
@@ -26,12 +28,13 @@ class Asks:
     ) -> tuple[int, str]:
         """Sends a request with these fields; returns the status and the text of its answer. Raises ConnectionError if
         there is none."""
-        port = self.office.ports["8081" if desk else "8080"]
-        fields = {**(SIGNED_IN if desk else {}), **dict(fields), "Connection": "close"}
-        told = client.ask(port, client.request(method, path, body, f"{client.HOST}:{port}", fields), PATIENCE)
-        if not told.status:
-            raise ConnectionError(f"{path} is not answered: {told.line!r}")
-        return told.status, told.body.decode()
+        connection = http.client.HTTPConnection(client.HOST, self.office.ports["8081" if desk else "8080"], timeout=PATIENCE)
+        data = json.dumps(body) if isinstance(body, dict) else body
+        with contextlib.closing(connection):
+            connection.request(method, path, data.encode() if isinstance(data, str) else data,
+                               {**(SIGNED_IN if desk else {}), **dict(fields), "Connection": "close"})
+            answer = connection.getresponse()
+            return answer.status, answer.read().decode()
 
     def question(self, path: str, desk: bool = False) -> tuple[int, str]:
         """The status and the text of the answer to a question."""
@@ -127,11 +130,9 @@ def fields_of(answer: bytes) -> dict[str, list[str]]:
     return found
 
 
-HTML, SCRIPT, STYLE = (f"{kind}; charset=utf-8" for kind in ("text/html", "application/javascript", "text/css"))
-TEXT, JSON = "text/plain; charset=utf-8", "application/json"
 POLICY = {
     "content-security-policy":
-        "default-src 'none'; script-src 'self'; style-src 'self'; img-src IMAGES; connect-src 'self'; form-action FORMS; "
+        "default-src 'none'; script-src 'self'; style-src 'self'; img-src 'self'; connect-src 'self'; form-action FORMS; "
         "base-uri 'none'; frame-ancestors 'none'; require-trusted-types-for 'script'",
     "x-content-type-options": "nosniff", "referrer-policy": "same-origin", "cross-origin-opener-policy": "same-origin",
     "cross-origin-resource-policy": "same-origin", "server": "nginx",
@@ -139,14 +140,12 @@ POLICY = {
 }
 
 
-def assert_policy(what: str, answer: bytes, kind: str, kept: str | None, transport: str | None = None, forms: str = "'none'",
-                  images: str = "'self'") -> None:
-    """An answer has each part of the policy once, and no more; its kind; how long it is kept (None: it does not say); where
-    its forms may be sent, and where its pictures may come from."""
+def assert_policy(what: str, answer: bytes, kind: str, kept: str | None, forms: str) -> None:
+    """An answer has each part of the policy once, and no more; its kind; how long it is kept (None: it does not say); and
+    where its forms may be sent."""
     has = fields_of(answer)
-    wanted: dict[str, list[str] | None] = {name: [value.replace("FORMS", forms).replace("IMAGES", images)]
-                                           for name, value in POLICY.items()}
-    wanted |= {"content-type": [kind], "cache-control": [kept] if kept else None,
-               "strict-transport-security": [transport] if transport else None}
-    differs = {name: (has.get(name), "wanted", value) for name, value in wanted.items() if has.get(name) != value}
+    wanted = {"content-type": kind, "cache-control": kept,
+              **{name: value.replace("FORMS", forms) for name, value in POLICY.items()}}
+    differs = {name: (has.get(name), "wanted", value) for name, value in wanted.items()
+               if has.get(name) != ([value] if value else None)}
     assert not differs, f"what a browser is told of {what}: {differs}"

@@ -1,14 +1,12 @@
 """Compares the catalogs of texts (front/readers/po) with the texts of the pages:
 
-    ./run acceptance.front.catalogs [--write] [--brackets FILE]
+    ./run acceptance.front.catalogs [--write]
 
 prints for each language which texts its catalog lacks, has for nothing, or has with other places for values than
 the pages; exit status 1 if there is one. With --write the catalogs first get what is new, without a translation, and
-lose what is gone. en.po has all texts untranslated: it is what a new language begins as. --brackets writes a catalog
-that has each text in brackets, for translations.py."""
+lose what is gone. en.po has all texts untranslated: it is what a new language begins as."""
 
 import argparse
-import html.parser
 import io
 import json
 import os
@@ -30,6 +28,7 @@ IN_SCRIPTS = {"text": (0,), "phrase": (0,), "counted": (1, 2), "textAs": (1,)}
 IN_LOOKS = {"text": None, "counted": (2, 3)}
 IN_TEMPLATES = {"_": None, "gettext": None, "ngettext": (1, 2), "pgettext": ((1, "c"), 2)}
 JINJA = {"newstyle_gettext": "true", "trimmed": "true", "silent": "false"}
+MARKED = re.compile('aria-label="([^"]*)" data-label|data-text>([^<]*)')  # the labels and texts of the desk's frame
 PLACES = re.compile(r"%\(\w+\)s|\{\w+\}")
 
 
@@ -74,28 +73,6 @@ def texts_of_script(code):
                 yield tuple(texts) if len(texts) > 1 else texts[0], values[0] if token.value == "textAs" else None
 
 
-class Marked(html.parser.HTMLParser):
-    """The texts of a page's marked elements, and their labels."""
-
-    def __init__(self, text):
-        super().__init__()
-        self.texts, self.inside = [], False
-        self.feed(text)
-
-    def handle_starttag(self, tag, attrs):
-        """Keeps a label; the text comes next."""
-        found = dict(attrs)
-        if "data-label" in found:
-            self.texts.append(found["aria-label"])
-        self.inside = "data-text" in found
-
-    def handle_data(self, data):
-        """Keeps a text."""
-        if self.inside:
-            self.texts.append(data)
-        self.inside = False
-
-
 def texts_of_rules():
     """The texts of what is said about a file before its import."""
     rules = json.loads(RULES.read_text("utf-8"))
@@ -127,7 +104,7 @@ def texts_of_pages():
     for path in [*shared, *sorted(FRONT.glob("desk/**/*.js"))]:
         text = path.read_text("utf-8")
         add(found, path, ((one, None) for one in texts_in(json.loads(text))) if path == REFUSALS else texts_of_script(text))
-    add(found, HTML_PAGE, ((text, None) for text in Marked(HTML_PAGE.read_text("utf-8")).texts))
+    add(found, HTML_PAGE, ((text or label, None) for label, text in MARKED.findall(HTML_PAGE.read_text("utf-8"))))
     for path in sorted((FRONT / "look").glob("*.py")):
         texts = extract("python", io.BytesIO(path.read_bytes()), IN_LOOKS)
         add(found, path, ((text, None) for _, text, _, _ in texts))
@@ -213,10 +190,7 @@ def main():
     """Compares, and writes if that is wanted; returns the exit status."""
     words = argparse.ArgumentParser(description=__doc__, formatter_class=argparse.RawDescriptionHelpFormatter)
     words.add_argument("--write", action="store_true", help="bring the catalogs up to the pages first")
-    words.add_argument("--brackets", type=pathlib.Path, metavar="FILE", help="such as he.po")
     given, folder, wanted = words.parse_args(), FRONT / "readers/po", texts_of_pages()
-    if given.brackets:
-        write_brackets(given.brackets, wanted)
     if given.write:
         for code, catalog in catalogs(folder).items():
             write(folder / f"{code}.po", catalog, wanted)

@@ -6,13 +6,8 @@
 The configuration is that of front/server, as it stands there: in the copy that is run, names, ports and folders are
 ours, the queue has a socket that tells its state, and nothing else is changed. Each port that the files name gets a
 free one (`office.ports["8080"]`).
-
-    ./run acceptance.front.office [--program PROGRAM] FOLDER [FILE ..]
-
-makes an office to look at, with the descriptions of these files, and runs it until Ctrl-C. FOLDER is made anew.
 """
 
-import argparse
 import base64
 import contextlib
 import hashlib
@@ -26,7 +21,6 @@ import signal
 import socket
 import sqlite3
 import subprocess
-import sys
 import threading
 import time
 import urllib.request
@@ -463,37 +457,3 @@ def mime_types() -> str:
         if os.path.exists(path):
             return path
     raise RuntimeError("nginx's mime.types is not there")
-
-
-def clear(folder: str | pathlib.Path) -> pathlib.Path:
-    """Removes a folder with all in it; returns its path."""
-    shutil.rmtree(folder, ignore_errors=True)
-    return pathlib.Path(folder)
-
-
-def folder_options(text: str | None) -> argparse.ArgumentParser:
-    """The options of a script of this directory: the program, and the folder of its offices."""
-    words = client.program_options(text)
-    words.add_argument("folder", type=pathlib.Path, metavar="FOLDER", help="made anew, and kept")
-    return words
-
-
-def main() -> None:
-    """Runs an office to look at, until Ctrl-C."""
-    words = folder_options(__doc__)
-    words.add_argument("files", type=pathlib.Path, nargs="*", metavar="FILE", help="descriptions to import")
-    given = words.parse_args()
-    signal.signal(signal.SIGTERM, lambda *_: sys.exit(143))  # so that what was started is ended
-    office = Office.create(given.program, clear(given.folder))
-    for path in given.files:
-        print(office.import_file("catalogue", path).expect_success().decode(), end="")
-    with office, contextlib.suppress(KeyboardInterrupt):
-        office.serve_readers("--every", "5")
-        office.serve_tries()
-        print(f"readers {office.public}\nstaff   {office.staff}, name {PASSWORD[0]}, password {PASSWORD[1]}")
-        print("Ctrl-C ends it", flush=True)
-        signal.pause()
-
-
-if __name__ == "__main__":
-    main()

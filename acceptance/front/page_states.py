@@ -1,7 +1,6 @@
 """The pages of both sites, each in the state that has most on it: for access, translations and pictures."""
 
 import json
-from collections.abc import Callable
 from types import SimpleNamespace
 from typing import Any, NamedTuple
 
@@ -21,7 +20,7 @@ DIFFERENCES = json.dumps({
 
 def settle(asks: Asks) -> SimpleNamespace:
     """Makes that each page of an office with the dock company has something to show; returns the numbers of its units and of
-    a container, and the office's folder."""
+    a container, and a file."""
     for name in ("Ann <b>Smith</b>", "Ben O'Neill"):
         asks.command("/desk/register", name=name, until=FAR)
     asks.command("/desk/register", name="Old", until="2020-01-01")
@@ -39,111 +38,41 @@ def settle(asks: Asks) -> SimpleNamespace:
     asks.command("/desk/seat", ticket=1)
     asks.command("/desk/issue", ticket=1, container=roll)
     asks.command("/desk/permit", ticket=1, unit=minutes, until=FAR)
+    few = asks.office.folder / "few.csv"  # a file whose header would empty units
+    few.write_text("legacyId,title\n1,Hull Dock Company\n")
     return SimpleNamespace(fonds=fonds, minutes=minutes, file=minutes + 3, plans=plans, hebrew=hebrew, closed=closed, box=box,
-                           folder=asks.office.folder)
+                           few=few)
 
 
-# What is done on a page before it is looked at. Each takes the tab, and what `settle` has returned.
-
-def open_all(page: Any, _: SimpleNamespace) -> None:
-    """Opens all that is folded."""
-    page.js("document.querySelectorAll('details').forEach((one) => { one.open = true; })")
-
-
-def order_nothing(page: Any, _: SimpleNamespace) -> None:
-    """Sends the order form with no container chosen."""
-    page.press_starting("Order")
-    page.fill("Number of your reader\u2019s ticket", "99")
-    page.press("Order these containers")
-    page.see("No container is chosen.")
-    page.wait("document.readyState === 'complete'")
-
-
-def collect(page: Any, office: SimpleNamespace) -> None:
-    """Has something on the list."""
-    page.visit(f"/unit/{office.plans}")
-    page.press("Collect it, to order later")
-    page.visit("/ordered")
-    page.see("Box 2", "ul.units")
-
-
-def meet_refusal(page: Any, _: SimpleNamespace) -> None:
-    """Issues a container that there is not."""
-    page.fill("Ticket", "1", "Issue")
-    page.js("document.querySelector('[name=ticket]').dispatchEvent(new Event('change'))")
-    page.see("Ready at the desk", ".about")
-    page.fill("Container", "999", "Issue")
-    page.press("Issue", "Issue")
-    page.see("There is no container with this number.")
-
-
-def find_readers(page: Any, _: SimpleNamespace) -> None:
-    """Finds two readers by a letter."""
-    page.fill("Name or ticket number", "n")
-    page.press("Find")
-    page.see("2 readers with", ".told")
-
-
-def await_list(page: Any, _: SimpleNamespace) -> None:
-    """Waits for the list of what waits."""
-    page.see("2 orders wait.")
-
-
-def list_permits(page: Any, _: SimpleNamespace) -> None:
-    """Asks for the permits of the unit."""
-    page.press("Who has a permit for it?")
-    page.see("1 permit.")
-
-
-def ask_to_remove(page: Any, _: SimpleNamespace) -> None:
-    """Opens the question that comes before a removal."""
-    page.press("Remove \u2026", "Remove")
-    page.see("for good?", "dialog")
-
-
-def hold_form(page: Any, _: SimpleNamespace) -> None:
-    """Registers a reader, is not told whether it was done, and looks."""
-    page.answer_with("*/desk/register", 503, BUSY)
-    page.fill("Name", "Cid", "Register a reader")
-    page.fill("Last day of the ticket", FAR, "Register a reader")
-    page.press("Register", "Register a reader")
-    page.see("Look before you repeat it.")
-    page.answer_with(None, 0, b"")
-    page.press("Look now")
-    page.see("The newest tickets:")
-
-
-def scan_wrongly(page: Any, _: SimpleNamespace) -> None:
-    """Scans what is no ticket."""
-    page.scan("0")
-    page.see("digits alone", ".wrong")
-
-
-def show_old_orders(page: Any, _: SimpleNamespace) -> None:
-    """Shows the lists of a night."""
-    page.answer_with("*/lists/*.csv", 200, OLD_ORDERS)
-    page.js("location.hash = '#/orders'")
-    page.see("What waits")
-    page.js("location.hash = '#/orders/old'")
-    page.see("Orders that wait long: 1")
-    page.answer_with(None, 0, b"")
-
-
-def choose_file(page: Any, office: SimpleNamespace) -> None:
-    """Chooses a file whose header would empty units."""
-    path = office.folder / "few.csv"
-    path.write_text("legacyId,title\n1,Hull Dock Company\n")
-    page.file(path)
-    page.see("will be emptied", ".seen-in-file")
-
-
-def try_file(page: Any, office: SimpleNamespace) -> None:
-    """Shows what the import of a file would change."""
-    choose_file(page, office)
-    page.answer_with("*/try/differences/*", 200, DIFFERENCES)
-    page.press("Show what would change")
-    page.see("1 difference:")
-    page.answer_with(None, 0, b"")
+# What is done on a page before it is looked at: methods of the tab with their values, one after the other.
+Steps = tuple[tuple[Any, ...], ...]
+OPEN_ALL: Steps = (("js", "document.querySelectorAll('details').forEach((one) => { one.open = true; })"),)
+ORDER_NOTHING: Steps = (
+    ("press_starting", "Order"), ("fill", "Number of your reader\u2019s ticket", "99"), ("press", "Order these containers"),
+    ("see", "No container is chosen."), ("wait", "document.readyState === 'complete'"))
+COLLECT: Steps = (("visit", "/unit/{plans}"), ("press", "Collect it, to order later"), ("visit", "/ordered"),
+                  ("see", "Box 2", "ul.units"))
+MEET_REFUSAL: Steps = (
+    ("fill", "Ticket", "1", "Issue"), ("js", "document.querySelector('[name=ticket]').dispatchEvent(new Event('change'))"),
+    ("see", "Ready at the desk", ".about"), ("fill", "Container", "999", "Issue"), ("press", "Issue", "Issue"),
+    ("see", "There is no container with this number."))
+FIND_READERS: Steps = (("fill", "Name or ticket number", "n"), ("press", "Find"), ("see", "2 readers with", ".told"))
+AWAIT_LIST: Steps = (("see", "2 orders wait."),)
+LIST_PERMITS: Steps = (("press", "Who has a permit for it?"), ("see", "1 permit."))
+ASK_TO_REMOVE: Steps = (("press", "Remove \u2026", "Remove"), ("see", "for good?", "dialog"))
+HOLD_FORM: Steps = (  # a reader is registered, and nobody is told whether it was done
+    ("answer_with", "*/desk/register", 503, BUSY), ("fill", "Name", "Cid", "Register a reader"),
+    ("fill", "Last day of the ticket", FAR, "Register a reader"), ("press", "Register", "Register a reader"),
+    ("see", "Look before you repeat it."), ("answer_with", None, 0, b""), ("press", "Look now"),
+    ("see", "The newest tickets:"))
+SCAN_WRONGLY: Steps = (("scan", "0"), ("see", "digits alone", ".wrong"))
+SHOW_OLD_ORDERS: Steps = (  # by the lists of a night
+    ("answer_with", "*/lists/*.csv", 200, OLD_ORDERS), ("js", "location.hash = '#/orders'"), ("see", "What waits"),
+    ("js", "location.hash = '#/orders/old'"), ("see", "Orders that wait long: 1"), ("answer_with", None, 0, b""))
+CHOOSE_FILE: Steps = (("file", "{few}"), ("see", "will be emptied", ".seen-in-file"))
+TRY_FILE: Steps = (
+    *CHOOSE_FILE, ("answer_with", "*/try/differences/*", 200, DIFFERENCES), ("press", "Show what would change"),
+    ("see", "1 difference:"), ("answer_with", None, 0, b""))
 
 
 class State(NamedTuple):
@@ -152,38 +81,39 @@ class State(NamedTuple):
     site: str
     name: str
     address: str
-    prepare: Callable[[Any, SimpleNamespace], None] | None = None
+    steps: Steps = ()
 
     def show(self, page: Any, office: SimpleNamespace | None) -> None:
         """Loads the page in a tab of its site, and prepares it."""
         page.size(*DESK)
-        (page.at if self.site == "desk" else page.visit)(self.address.format(**vars(office or SimpleNamespace())))
+        names = vars(office or SimpleNamespace())
+        (page.at if self.site == "desk" else page.visit)(self.address.format(**names))
         page.wait("!document.querySelector('.waiting')")
-        if self.prepare and office:
-            self.prepare(page, office)
+        for name, *values in self.steps:
+            getattr(page, name)(*(value.format(**names) if name in ("visit", "file") else value for value in values))
 
     def __str__(self) -> str:
         return f"{self.site}-{self.name}".replace(" ", "_")
 
 
 STATES = [
-    State("readers", "archives", "/"), State("readers", "fonds", "/unit/{fonds}", open_all),
-    State("readers", "order", "/unit/{plans}", order_nothing),
-    State("readers", "text from right to left", "/unit/{hebrew}", open_all), State("readers", "closed", "/unit/{closed}"),
-    State("readers", "finding aid", "/aid/{fonds}"), State("readers", "file", "/unit/{file}", open_all),
+    State("readers", "archives", "/"), State("readers", "fonds", "/unit/{fonds}", OPEN_ALL),
+    State("readers", "order", "/unit/{plans}", ORDER_NOTHING),
+    State("readers", "text from right to left", "/unit/{hebrew}", OPEN_ALL), State("readers", "closed", "/unit/{closed}"),
+    State("readers", "finding aid", "/aid/{fonds}"), State("readers", "file", "/unit/{file}", OPEN_ALL),
     State("readers", "changed", "/aid/{fonds}/9.9"), State("readers", "help", "/help"),
     State("readers", "accessibility", "/accessibility"),
     State("readers", "not found", "/unit/9999"), State("readers", "no page", "/no/such/page"),
-    State("readers", "list of orders", "/ordered", collect), State("readers", "found", "/search?q=dock&from=1700"),
+    State("readers", "list of orders", "/ordered", COLLECT), State("readers", "found", "/search?q=dock&from=1700"),
     State("readers", "nothing found", "/search?q=zzz"),
-    State("desk", "today", "/"), State("desk", "counter", "/counter", meet_refusal),
+    State("desk", "today", "/"), State("desk", "counter", "/counter", MEET_REFUSAL),
     State("desk", "container", "/counter/{box}"), State("desk", "label", "/counter/{box}/label"),
-    State("desk", "readers", "/readers", find_readers), State("desk", "card", "/readers/1"),
-    State("desk", "ticket", "/readers/1/ticket"), State("desk", "orders", "/orders", await_list),
-    State("desk", "runs", "/runs"), State("desk", "slip", "/runs/1", open_all), State("desk", "call slips", "/runs/1/slips"),
-    State("desk", "out", "/out"), State("desk", "units", "/units"), State("desk", "unit", "/units/{minutes}", list_permits),
-    State("desk", "question", "/units/{minutes}", ask_to_remove), State("desk", "held", "/readers", hold_form),
-    State("desk", "wrong scan", "/counter", scan_wrongly), State("desk", "old orders", "/orders/old", show_old_orders),
-    State("desk", "import", "/import", choose_file), State("desk", "differences", "/import", try_file),
+    State("desk", "readers", "/readers", FIND_READERS), State("desk", "card", "/readers/1"),
+    State("desk", "ticket", "/readers/1/ticket"), State("desk", "orders", "/orders", AWAIT_LIST),
+    State("desk", "runs", "/runs"), State("desk", "slip", "/runs/1", OPEN_ALL), State("desk", "call slips", "/runs/1/slips"),
+    State("desk", "out", "/out"), State("desk", "units", "/units"), State("desk", "unit", "/units/{minutes}", LIST_PERMITS),
+    State("desk", "question", "/units/{minutes}", ASK_TO_REMOVE), State("desk", "held", "/readers", HOLD_FORM),
+    State("desk", "wrong scan", "/counter", SCAN_WRONGLY), State("desk", "old orders", "/orders/old", SHOW_OLD_ORDERS),
+    State("desk", "import", "/import", CHOOSE_FILE), State("desk", "differences", "/import", TRY_FILE),
     State("desk", "no page", "/none"),
 ]

@@ -6,32 +6,24 @@ import re
 import urllib.parse
 
 DAY = re.compile(r'<time datetime="([^"]*)">[^<]*</time>')
-FORM = {"Content-Type": "application/x-www-form-urlencoded"}
 
 
 class Site:
-    """The readers' site of an office. `address`: from where it is asked."""
+    """The readers' site of an office."""
 
-    def __init__(self, office, address="127.0.0.1"):
-        self.office, self.address = office, address
+    def __init__(self, office):
+        self.port = office.ports["8080"]
 
     def ask(self, path, method="GET", body=None, **headers):
         """Status, headers and text of an answer."""
-        port = self.office.ports["8080"]
-        it = http.client.HTTPConnection("127.0.0.1", port, timeout=300, source_address=(self.address, 0))
-        it.request(method, path, body, {name.replace("_", "-"): value for name, value in headers.items()})
+        it = http.client.HTTPConnection("127.0.0.1", self.port, timeout=300)
+        it.request(method, path, body, headers)
         answer = it.getresponse()
         return answer.status, dict(answer.getheaders()), answer.read().decode()
 
-    def page(self, path, **headers):
-        """The text of a page that is there."""
-        status, _, text = self.ask(path, **headers)
-        assert status == 200, (path, status)
-        return text
-
-    def send(self, path, form, **headers):
+    def send(self, path, form):
         """Status and text of the answer to a form: pairs, or members."""
-        status, _, text = self.ask(path, "POST", urllib.parse.urlencode(form), **FORM, **headers)
+        status, _, text = self.ask(path, "POST", urllib.parse.urlencode(form))
         return status, text
 
 

@@ -31,7 +31,7 @@ class Texts:
         self.code, self.texts = code, json.loads((office.folder / "texts" / f"{code}.json").read_text("utf-8"))["texts"]
 
     def say(self, english: str) -> str:
-        """A text in this language."""
+        """A text in this language; what is no text of the pages stays as it is."""
         return self.texts.get(english, english)
 
     def part(self, words: str) -> str:
@@ -48,35 +48,17 @@ class Spoken:
         self.page, self.texts = page, texts
         page.visit(f"/?lang={texts.code}")
 
-    def __getattr__(self, name: str) -> Any:
-        return getattr(self.page, name)
-
-    def _named(self, name: str, words: str, card: str | None, *values: object) -> None:
-        """Calls a method of the tab that takes the words of something, and the card that it is in."""
-        place = self.texts.say(card) if card and card != "dialog" else card
-        getattr(self.page, name)(self.texts.say(words), *values, place)
-
     def at(self, hash_: str) -> "Spoken":
-        """As the tab does."""
+        """Loads a page of the desk."""
         self.page.at(hash_)
         return self
 
-    def press(self, button: str, card: str | None = None) -> None:
-        """As the tab does."""
-        self._named("press", button, card)
-
-    def choose(self, label: str, card: str | None = None) -> None:
-        """As the tab does."""
-        self._named("choose", label, card)
-
-    def fill(self, label: str, value: object, card: str | None = None) -> None:
-        """As the tab does."""
-        self._named("fill", label, card, value)
-
-    def press_starting(self, words: str) -> None:
-        """As the tab does."""
-        self.page.press_starting(self.texts.say(words))
-
-    def see(self, words: str, selector: str = "main") -> None:
-        """As the tab does."""
-        self.page.see(self.texts.part(words), selector)
+    def __getattr__(self, name: str) -> Any:
+        """A method of the tab. Those that take the words of something, and of the card that it is in, are given them in the
+        language."""
+        own = getattr(self.page, name)
+        if name == "see":
+            return lambda words, selector="main": own(self.texts.part(words), selector)
+        if name in ("press", "choose", "fill", "press_starting"):
+            return lambda *words: own(*(self.texts.say(one) for one in words))
+        return own

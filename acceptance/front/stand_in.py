@@ -2,14 +2,13 @@
 what came."""
 
 import contextlib
+import re
 import socket
 import threading
 import time
 
 from acceptance import client
 from acceptance.front.office import KINDS
-
-LINE_END = b"\r\n\r\n"
 
 
 class StandIn:
@@ -53,20 +52,17 @@ class StandIn:
 
     def serve(self, connection):
         """Answers the requests of one connection, until the other side closes it."""
-        came = b""
-        while piece := connection.recv(65536):
-            came += piece
-            while LINE_END in came:
-                head, rest = came.split(LINE_END, 1)
-                size = size_of(head)
-                if len(rest) < size:
-                    rest = whole(connection, bytearray(rest), size)
-                came = rest[size:]
-                self.requests.append((head.decode("latin-1"), rest[:size]))
-                if self.drops(head.decode("latin-1")):
-                    return
-                if not self.silent:
-                    connection.sendall(self.reply_to(*self.requests[-1]))
+        stream = connection.makefile("rb")
+        while head := read_head(stream):
+            size = int((re.search(r"(?im)^content-length: *(\d+)", head) or ["", 0])[1])
+            body = stream.read(size)
+            if len(body) < size:
+                return
+            self.requests.append((head, body))
+            if self.drops(head):
+                return
+            if not self.silent:
+                connection.sendall(self.reply_to(head, body))
 
     def reply_to(self, head, _):
         """The bytes of the answer to a request, whose head and body these are."""
@@ -91,23 +87,12 @@ class StandIn:
         self.end()
 
 
-def whole(connection, rest, size):
-    """So many bytes, of which these have come; what is closed before is told by an error."""
-    while len(rest) < size:
-        piece = connection.recv(65536)
-        if not piece:
-            raise ConnectionError("closed within a body")
-        rest += piece
-    return bytes(rest)
-
-
-def size_of(head):
-    """The length of the body that the head of a request announces."""
-    for line in head.split(b"\r\n")[1:]:
-        name, value = line.split(b":", 1)
-        if name.lower() == b"content-length":
-            return int(value)
-    return 0
+def read_head(stream):
+    """The head of the next request; nothing once the other side has closed the connection."""
+    lines = []
+    while (line := stream.readline()) not in (b"", b"\r\n"):
+        lines.append(line)
+    return b"".join(lines).decode("latin-1").removesuffix("\r\n") if line else ""
 
 
 def in_place_of_service(office, **values):

@@ -6,11 +6,11 @@ import pytest
 from acceptance.front.catalogue import archives, dock_company
 from acceptance.front.measured import ZOOMED, Measured
 from acceptance.front.office import FRONT, MANY_PAGES
-from acceptance.front.page_states import DESK, STATES, open_all, settle
+from acceptance.front.page_states import DESK, OPEN_ALL, STATES, settle
 
 pytestmark = [pytest.mark.browser, pytest.mark.needs("chromium")]
 
-UNSCRIPTED = [one for one in STATES if one.site == "readers" and one.prepare in (None, open_all)]
+UNSCRIPTED = [one for one in STATES if one.site == "readers" and one.steps in ((), OPEN_ALL)]
 
 
 @pytest.fixture(scope="module")
@@ -50,7 +50,7 @@ def test_a_page_can_be_used_without_seeing_hearing_or_a_mouse(request, numbers, 
 @pytest.mark.parametrize("state", UNSCRIPTED, ids=str)
 def test_a_page_can_be_used_so_without_scripts_too(hall, numbers, state):
     hall.call("Emulation.setScriptExecutionDisabled", value=True)
-    state._replace(prepare=None).show(hall, numbers)
+    state._replace(steps=()).show(hall, numbers)
     measured = Measured(hall)
     measured.structure()
     for measure in ("contrast", "edges"):

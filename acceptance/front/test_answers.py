@@ -14,19 +14,20 @@ import http
 import re
 import socket
 import ssl
+import subprocess
 import threading
 
 import pytest
 
 from acceptance import client
-from acceptance.front.asks import POLICY, exchange
-from acceptance.front.encrypted import DESK, READERS, Encrypted, answer_by, talk
-from acceptance.front.office import FRONT, KINDS, NGINX, SIGNED_IN, mime_types, user_name
+from acceptance.front.asks import POLICY, exchange, status
+from acceptance.front.office import FRONT, KINDS, NGINX, SIGNED_IN, Office, free_ports, mime_types, user_name
 from acceptance.front.stand_in import StandIn
 from acceptance.front.waits import until
 
 pytestmark = pytest.mark.needs("nginx", "haproxy", "openssl")
 
+READERS, DESK = "archive.example.org", "desk.example.org"
 # What an answer from behind has beside its length: none of it is the front's own.
 MORE = ("Server: behind", "Set-Cookie: a=b", "Record-Office-Took: 7", "Cache-Control: public")
 CAME = "html; public; no-store; set-cookie: a=b"  # what is made of that
@@ -63,20 +64,30 @@ class Echo(StandIn):
         return "".join(f"{line}\r\n" for line in [*lines, ""]).encode() + told
 
 
-class Front(Encrypted):
-    """All sites and the queue, with stand-ins behind them."""
+class Front(Office):
+    """All sites, without TLS and with it by their names, and the queue; with stand-ins behind them."""
 
     def __init__(self, folder):
-        super().__init__(None, folder)
-        self.behind, self.nginx, self.changes = [], [], [
-            ("default 1;\n", f"default 1;\n{ELSEWHERE} 0;\n")]
+        super().__init__(None, folder, changes=[("default 1;\n", f"default 1;\n{ELSEWHERE} 0;\n")])
+        self.behind, self.nginx, taken = [], [], set(self.ports.values())
+        self.ports.update(zip(("80", "443"), [one for one in free_ports(len(taken) + 2) if one not in taken]))
+
+    def adapt(self, text):
+        """A file of the configuration with our ports below 1000 besides, and the desk's name."""
+        text = super().adapt(text.replace(DESK, "desk.kept")).replace("desk.kept", DESK)
+        text = re.sub(r"\[::1\]:(80|443)\b", lambda found: f"[::1]:{self.ports[found[1]]}", text)
+        return re.sub(r"\blisten (80|443)\b", lambda found: f"listen 127.0.0.1:{self.ports[found[1]]}", text)
 
     def configure(self):
-        """Writes the configuration, each site with a configuration of its own."""
-        super(Encrypted, self).configure()
+        """Writes the configuration, each site with a configuration of its own, and a certificate."""
+        super().configure()
         for name, file in (("main", "office"), ("main-tls", "tls")):
             text = NGINX.format(user=user_name(), mime=mime_types()).replace("office.conf", f"{file}.conf")
             (self.folder / f"{name}.conf").write_text(text.replace("nginx.pid", f"{name}.pid"))
+        words = ["openssl", "req", "-x509", "-newkey", "ec", "-pkeyopt", "ec_paramgen_curve:prime256v1", "-nodes",
+                 "-days", "2", "-subj", f"/CN={READERS}", "-keyout", self.folder / "key.pem",
+                 "-out", self.folder / "certificate.pem"]
+        subprocess.run(words, check=True, capture_output=True)
 
     def sites(self):
         """The configurations of the four nginx."""
@@ -132,35 +143,30 @@ class Table:
         self.many += 1
         return f"127.{1 + self.many // 250}.0.{1 + self.many % 250}"
 
-    def send(self, site, sent, host=client.HOST):
+    def send(self, site, sent, source=None):
         """The bytes of the answer of a site to these bytes."""
         if site in ("readers by TLS", "desk by TLS"):
-            name, port = (READERS, "443") if site.startswith("readers") else (DESK, "8443")
-            return self.by_tls(name, self.office.ports[port], sent)
+            return self.by_tls(site, sent, source)[0]
         if site == "service":
             with socket.socket(socket.AF_UNIX) as it:
                 it.connect(str(self.office.queue))
-                return self.whole(it, sent)
+                return whole(it, sent)
         port = self.office.ports[{"readers": "8080", "desk": "8081", "redirect": "80", "queue, readers": "8091",
                                   "queue, desk": "8092", "gate": "8093"}[site]]
-        if host != client.HOST:
-            return exchange(port, sent, host, host)
-        return exchange(port, sent, client.HOST if site.startswith("desk") else self.source())
+        source = source or (client.HOST if site.startswith("desk") else self.source())
+        return exchange(port, sent, source, source if ":" in source else client.HOST)
 
-    @staticmethod
-    def whole(connection, sent):
-        """All that comes until the other side closes the connection."""
-        connection.settimeout(60)
-        connection.sendall(sent)
-        return b"".join(iter(lambda: connection.recv(65536), b""))
-
-    def by_tls(self, name, port, sent):
-        """The same by TLS."""
+    def by_tls(self, site, sent, source=None, name=None):
+        """The same by TLS, and the protocol that was agreed on of HTTP/2 and HTTP/1.1; sent: None asks for that alone."""
+        own, port = (READERS, "443") if site.startswith("readers") else (DESK, "8443")
         context = ssl.SSLContext(ssl.PROTOCOL_TLS_CLIENT)  # without any certificates: those take long to read
         context.check_hostname, context.verify_mode = False, ssl.CERT_NONE
-        with socket.create_connection((client.HOST, port), 60) as plain:
-            with context.wrap_socket(plain, server_hostname=name) as it:
-                return self.whole(it, sent)
+        context.set_alpn_protocols(["http/1.1"] if sent else ["h2", "http/1.1"])
+        source = source or client.HOST
+        place = source if ":" in source else client.HOST
+        with (socket.create_connection((place, self.office.ports[port]), 60, (source, 0)) as plain,
+              context.wrap_socket(plain, server_hostname=name or own) as it):
+            return whole(it, sent) if sent else b"", it.selected_alpn_protocol()
 
     def ask_from(self, source, *asked):
         """Asks the readers' site many times from this address, and keeps the last answer."""
@@ -168,7 +174,7 @@ class Table:
         answer = exchange(self.office.ports["8080"], many, source)
         self.keep(f"readers {asked[0]} {asked[1]} from {source}", answer[answer.rindex(b"HTTP/1.1 "):])
 
-    def ask(self, site, method, path, fields=(), body=None, host=None, by=client.HOST):
+    def ask(self, site, method, path, fields=(), body=None, host=None, by=None):
         """Asks a site, and keeps what came of it."""
         names = {"readers by TLS": READERS, "desk by TLS": DESK}
         own = host or names.get(site) or f"{client.HOST}:{self.office.ports['8081' if site == 'desk' else '8080']}"
@@ -180,7 +186,9 @@ class Table:
             answer = type(wrong).__name__.encode()
         about = "".join(f" {name}: {value}" for name, value in dict(fields).items())
         about += "" if body is None else f" {len(body)} bytes"
-        self.keep(f"{site} {method} {path}{about}{f' Host: {host}' if host else ''}{' by IPv6' if ':' in by else ''}", answer)
+        about += f" Host: {host}" if host else ""
+        about += " by IPv6" if by == "::1" else f" from {by}" if by else ""
+        self.keep(f"{site} {method} {path}{about}", answer)
 
     def came(self, *ends):
         """How often requests for paths with one of these ends have come to one of those behind; they are forgotten."""
@@ -219,8 +227,8 @@ class Table:
         told += [f"{name.lower()}: {value}" for name, value in fields if name.lower() not in UNTOLD]
         told = [re.sub(r"; record-office-took: \d+", " with its time", "; ".join(told).replace(CAME, "as it came"))]
         if not head.startswith(("queue", "gate", "service")):
-            wanted = {name: value.replace("FORMS", "'self'" if head.startswith("readers") else "'none'").replace(
-                "IMAGES", "'self'") for name, value in POLICY.items()}
+            forms = "'self'" if head.startswith("readers") else "'none'"
+            wanted = {name: value.replace("FORMS", forms) for name, value in POLICY.items()}
             wanted |= {"strict-transport-security": YEAR} if " by TLS" in head else {}
             differs = [f"{name}: {'; '.join(has.get(name, ['none']))}" for name, value in wanted.items()
                        if has.get(name) != [value]]
@@ -270,6 +278,13 @@ def file_with(text):
     """The name of the style, script or table of front/ that has this text, or None."""
     paths = (path for path in sorted(FRONT.rglob("*")) if path.suffix in (".css", ".js", ".json"))
     return next((str(path.relative_to(FRONT)) for path in paths if path.read_bytes().decode() == text), None)
+
+
+def whole(connection, sent):
+    """All that comes until the other side closes the connection."""
+    connection.settimeout(60)
+    connection.sendall(sent)
+    return b"".join(iter(lambda: connection.recv(65536), b""))
 
 
 def chunks(body):
@@ -362,7 +377,7 @@ def test_what_somebody_may_write_into_a_head(table, approved):
     approved("server/heads", table.answers)
 
 
-def test_where_a_browser_says_that_a_command_comes_from(table, approved):
+def test_what_another_sites_page_sends_is_turned_away(table, approved):
     for site, paths in COMMANDS.items():
         own = f"http://{client.HOST}:{table.office.ports['8081' if site == 'desk' else '8080']}"
         for path in paths:
@@ -455,12 +470,17 @@ def test_sites_with_tls_and_where_readers_without_it_are_sent(table, approved):
     for path in ("/", "/unit/1?x=y", "/.well-known/acme-challenge/none", "/.well-known/x", "//evil.example", "/a%0d%0ab"):
         table.ask("redirect", "GET", path, host=READERS)
         table.ask("redirect", "POST", path, host="other.example", body=b"x")
-    for port, name in (("443", READERS), ("8443", DESK)):
-        answer = talk(table.office.ports[port], name, "/", SIGNED_IN, "::1")[0]
-        table.keep(f"{name} by IPv6", answer)
-    for site in ("443", "8443"):
+    for site in own:
+        table.ask(site, "GET", "/", by="::1")
+        table.ask(site, "GET", "/", by="127.0.0.2")
+        table.answers.append(f"{site}: {table.by_tls(site, None)[1]}")
         for name in (READERS, DESK, "other.example.org"):
-            table.answers.append(f"{site} by the name {name}: {answer_by(table.office.ports[site], name)}")
+            sent = client.request("GET", "/", None, name, {"Connection": "close"})
+            try:
+                told = status(table.by_tls(site, sent, None, name)[0])
+            except (ssl.SSLError, ConnectionError):
+                told = "no certificate"
+            table.answers.append(f"{site} by the name {name}: {told}")
     approved("server/encrypted", table.answers)
 
 

@@ -9,7 +9,7 @@ import time
 import pytest
 
 from acceptance.front.catalogue import ODD, archives, dock_company
-from acceptance.front.desk_state import ANN, BEN, FAR, ZOE
+from acceptance.front.desk_state import ANN, BEN, FAR
 from acceptance.front.office import MANY_PAGES, SELDOM
 from acceptance.front.waits import until
 
@@ -21,7 +21,6 @@ SUBMIT_TWICE = """(() => { const form = [...document.querySelectorAll('.card')].
   form.requestSubmit(); form.requestSubmit(); })()"""
 COUNT_SENDING = """window.sent = 0;
   for (const kind of ['submit', 'invalid']) document.addEventListener(kind, () => window.sent++, true)"""
-FOUND = "[...document.querySelectorAll('.find td a')].map((a) => a.textContent)"
 FOCUS_TAKE_BACK = "[...document.querySelectorAll('.card')][1].querySelector('input').focus()"
 WIDTHS = """import('/barcode.js')
   .then((codes) => ['T1', 'B20', 'T3456789'].map((code) => [code, codes.widthsOf(code)]))"""
@@ -49,18 +48,6 @@ def test_two_presses_register_a_reader_once_under_the_name_that_was_typed(desk, 
         desk.see(f"Registered: {name}, ticket", ".outcome")
     assert asks.next_ticket() == first + len(NEW)
     assert [asks.read(f"/desk/readers/{first + place}")["name"] for place in range(len(NEW))] == list(NEW)
-
-
-@pytest.mark.parametrize("who, found", [("zoe luk", [ZOE]), ("SMITH ann", [ANN]), ("<b>", [ANN]), ("nobody", [])])
-def test_a_reader_is_found_by_parts_of_the_name(desk, state, who, found):
-    """Without accents, in any case and order."""
-    state.readers()
-    desk.at("/readers")
-    desk.fill("Name or ticket number", who)
-    desk.press("Find")
-    desk.see(f"{len(found)} reader", ".told")
-    desk.wait("!document.querySelector('.told').innerText.includes('…')")
-    assert desk.js(FOUND) == found
 
 
 def test_a_ticket_number_leads_to_the_card(desk, state):
@@ -113,41 +100,7 @@ def test_a_ticket_is_renewed_by_keys_alone(desk, state, asks):
     assert asks.read(f"/desk/readers/{zoe}")["until"] == "2032-12-31"
 
 
-def test_a_ticket_is_not_renewed_to_a_past_day_unasked(desk, state, asks):
-    """One wrong digit of the year would have the reader turned away."""
-    ann, *_ = state.readers()
-    before = asks.read(f"/desk/readers/{ann}")["until"]
-    desk.at(f"/readers/{ann}")
-    desk.fill("New last day", "2001-01-01")
-    desk.press("Renew")
-    desk.see("2001-01-01 is past", "dialog")
-    desk.press("Go back", "dialog")
-    desk.see("Nothing was done.")
-    assert asks.read(f"/desk/readers/{ann}")["until"] == before
-
-
 # Orders and runs
-
-def test_a_reader_without_a_seat_orders_at_the_readers_page(hall, state, asks):
-    """Each refusal is told in a reader's words; nothing is ordered again when the answer is loaded once more."""
-    ann, ben, *_ = state.start()
-    hall.visit(f"/unit/{state.fonds() + 1}")
-    ordered = "Ordered. Your order has the number"
-    for ticket, words in (("999", "There is no reader’s ticket with this number."), (f" {ann:04} ", ordered),
-                          (str(ann), "You have ordered this container already."), (str(ben), ordered)):
-        hall.js("document.querySelector('details.order').open = true")
-        hall.fill("Number of your reader’s ticket", ticket)
-        hall.press("Order this container")
-        hall.see(words)
-        if words == ordered:
-            [order] = asks.read(f"/desk/readers/{int(ticket)}")["orders"]
-            hall.see(f"{ordered} {order['order']}.")
-        hall.wait("document.readyState === 'complete'")
-    assert hall.js("document.activeElement.className") == "outcome"
-    assert "at their next run to the strongrooms" in hall.text(".outcome")
-    hall.reload()
-    assert len(asks.read(f"/desk/readers/{ben}")["orders"]) == 1
-
 
 def test_the_desk_orders_for_readers_and_cancels_an_order(desk, state):
     _, ben, zoe, _ = state.start()
@@ -304,36 +257,6 @@ def test_a_code_of_a_container_is_not_taken_for_a_ticket_nor_the_other_way_round
     desk.js(FOCUS_TAKE_BACK)
     desk.scan(f"b{box}")
     desk.see("Back: Box 2, container", ".back")
-
-
-def test_what_waits_is_gathered_from_the_cards(desk, state):
-    """And a container's page says who has it."""
-    ann, ben, zoe, _ = state.start()
-    box = state.container("Box 1")
-    state.fetch((ann, box), (ben, box), (zoe, state.container(ODD["markup"])))
-    state.issue(ann, box)
-    desk.at("/orders")
-    for words in ("2 orders wait.", "out with another reader", f"{BEN}, ticket {ben}",
-                  "at the desk, ready if it is open to this reader"):
-        desk.see(words)
-    desk.at(f"/counter/{box}").see(f"It is out with {ANN}, ticket {ann}")
-
-
-def test_while_a_container_is_out_no_day_is_opened_and_its_reader_keeps_the_seat(desk, state):
-    ann, ben, *_ = state.start()
-    box, roll = state.container("Box 1"), state.container("Roll 7")
-    state.fetch((ann, box), (ben, roll))
-    state.issue(ben, roll)
-    desk.at("/").see("1 container is out.")
-    state.issue(ann, box)
-    desk.at("/out").see("Box 1, container")
-    desk.at("/").see("2 containers are out.")
-    desk.fill("The new day", "2024-12-31")
-    open_day(desk, "2024-12-31")
-    desk.see("A container is still out with a reader.")
-    desk.at("/counter").fill("Ticket", ann, "A reader leaves")
-    desk.press("Free the seat")
-    desk.see("The reader still has containers.")
 
 
 def test_containers_come_back_by_scans_alone_and_are_reshelved_once(desk, state):

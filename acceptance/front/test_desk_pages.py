@@ -72,7 +72,7 @@ def test_a_page_of_the_desk_says_what_somebody_has_approved(request, desk, numbe
     lines = shown(desk)
     if state.address in BARE:
         bare = request.getfixturevalue("bare")
-        state._replace(prepare=None).show(bare, numbers)
+        state._replace(steps=()).show(bare, numbers)
         lines += ["", "---- In an empty office ----", "", *shown(bare)]
     approved(f"desk/{state.name.replace(' ', '_')}", lines)
 

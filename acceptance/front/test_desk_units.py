@@ -13,8 +13,6 @@ pytestmark = [pytest.mark.browser, pytest.mark.needs("chromium")]
 COUNTED = """(() => { const send = window.fetch; let now = 0; window.most = 0;
   window.fetch = (...given) => { now += 1; window.most = Math.max(now, window.most);
     return send(...given).finally(() => { now -= 1; }); }; })()"""
-PLACES = """[...document.querySelectorAll('.card, h2, pre.page')]
-  .map((one) => [one.innerText.split('\\n')[0], one.getBoundingClientRect().top])"""
 
 
 @pytest.fixture(scope="module")
@@ -119,13 +117,17 @@ def test_a_draft_is_removed(desk, state):
     desk.see(f"Unit {draft} is removed: 1 unit in all.")
 
 
-def test_a_closure_in_the_past_is_asked_about(desk, state):
-    """It would close nothing."""
-    desk.at(f"/units/{state.unit('Plans of the locks')}").fill("Closed until", "2001-01-01", "Closure")
-    desk.press("Set the closure", "Closure")
-    desk.see("A unit that is closed until a past day is open.", "dialog")
+@pytest.mark.parametrize("hash_, card, label, button, question", [
+    ("/units/{unit}", "Closure", "Closed until", "Set the closure", "A unit that is closed until a past day is open."),
+    ("/readers/{ann}", "Renew", "New last day", "Renew", "2001-01-01 is past")])
+def test_a_past_day_is_asked_about(desk, state, hash_, card, label, button, question):
+    """It would close nothing; one wrong digit of the year would have the reader turned away."""
+    desk.at(hash_.format(unit=state.unit("Plans of the locks"), ann=state.readers()[0])).fill(label, "2001-01-01", card)
+    desk.press(button, card)
+    desk.see(question, "dialog")
     desk.press("Go back", "dialog")
     desk.see("Nothing was done.")
+    assert desk.count_sent("POST", "/desk/closure") == desk.count_sent("POST", "/desk/renew") == 0
 
 
 def test_cards_are_asked_for_four_at_a_time(desk, state):
@@ -137,12 +139,6 @@ def test_cards_are_asked_for_four_at_a_time(desk, state):
     desk.press("Who has a permit for it?")
     desk.see("Nobody has a permit")
     assert desk.js("window.most") == 4
-
-
-def test_what_can_be_done_stands_above_what_the_public_sees(desk, state):
-    places = desk.at(f"/units/{state.unit('Plans of the locks')}").js(PLACES)
-    below = next(top for words, top in places if words == "What the public sees")
-    assert [words for words, top in places if words in ("Status", "Closure", "Move", "Remove") and top > below] == []
 
 
 def test_who_comes_back_to_a_long_page_finds_the_place_again(desk):

@@ -300,13 +300,6 @@ def test_a_filter_that_is_not_answered_says_so(hall, top):
     hall.see("Nothing was looked for. Please try again in a minute.", "#contents")
 
 
-def test_a_reader_at_an_address_that_may_not_order_is_told_where_to(hall, office, ticket, logbook):
-    hall.visit(f"/unit/{logbook}")
-    with office.change_file("orders-from.conf", "default 1;", "default 0;"):
-        send(hall, ["Carton 77a"], ticket, "Orders are not taken from here")
-    hall.see("Please order in the reading room.")
-
-
 # What the pages have
 
 def test_a_series_is_shown_a_hundred_at_a_time_and_filtered_at_each_key(hall, office, top, logbook):
@@ -359,30 +352,6 @@ def test_contents_begin_in_the_first_window(hall, top):
     hall.call("Emulation.setScriptExecutionDisabled", value=True)
     hall.visit(f"/unit/{top + 1}")
     assert hall.js("document.querySelector('.description').getBoundingClientRect().top + scrollY") < 1500
-
-
-def test_a_unit_without_a_container_says_how_to_come_to_it(hall, asks, top):
-    assert "cannot be ordered as one. Look in its contents" in hall.visit(f"/unit/{top}").text(".kept")
-    assert "cannot be ordered here. Please ask at the desk." in hall.visit(f"/unit/{number_of(asks, 'BAR')}").text(".kept")
-
-
-def test_a_units_own_values_stand_open_and_others_are_folded_with_their_origin(hall, logbook):
-    hall.visit(f"/unit/{logbook}")
-    areas = hall.js("[...document.querySelectorAll('section.area h2')].map((one) => one.textContent)")
-    assert areas == ["Identity statement", "Content and structure"]
-    assert not hall.js("document.querySelector('details.above').open")
-    origin = hall.js("[...document.querySelectorAll('details.above .from')].map((one) => one.textContent.trim())")
-    assert origin == ["(from GB 0999 HAR)"] * 2
-
-
-def test_the_way_to_a_unit_far_down_is_short(hall, asks):
-    """It leads up one level, and by what is left out."""
-    hall.visit(f"/unit/{number_of(asks, 'Level 1') + LEVELS - 1}").see(f"Level {LEVELS}", "h1")
-    steps = hall.js("[...document.querySelectorAll('nav.way li')].map((one) => one.textContent.trim())")
-    assert steps == ["Archives", "One level up", f"Level {LEVELS - 32}", "\u2026",
-                     f"Level {LEVELS - 2}", f"Level {LEVELS - 1}"]
-    hall.press("One level up")
-    hall.see(f"Level {LEVELS - 33}", "h1")
 
 
 def test_of_a_long_finding_aid_one_part_is_printed(hall, asks, room):

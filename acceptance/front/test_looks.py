@@ -1,8 +1,8 @@
-"""The look at a file before its import, and what an import then does: the files of files.py one by one, those of odd_files.py
-group by group as approved, and the command record-office-look."""
+"""The look at a file before its import, and what an import then does: the files of odd_files.py, and record-office-look."""
 
 import contextlib
 import json
+import re
 import shutil
 import sqlite3
 import subprocess
@@ -14,35 +14,15 @@ from wording import advice, in_english, read_rules
 
 from acceptance import client
 from acceptance.front import odd_files
-from acceptance.front.files import COLUMNS, FILES, GOOD, SHORT, csv_text, unit
+from acceptance.front.files import COLUMNS, GOOD, SHORT, csv_text, unit
 from acceptance.front.office import FRONT, PYTHON, TOP
 
 RULES = read_rules()
-FEWER = {**RULES, "limits": {**RULES["limits"], "rows": 3}}
 # Advice that foretells that an office which knows none of the units refuses the file, for its row's parent or depth.
 REFUSED_IF_NEW = {name for name in RULES["advice"] if name.startswith("parents_")} | {"deep"}
 LONGEST = 70  # letters of a value that a line has
 
-each_file = pytest.mark.parametrize("file", FILES, ids=lambda file: file.name)
-
-
-def told_of(data):
-    """What is said of a file: its level and its words, by the name of each advice."""
-    found = {}
-    for name, values in Look(RULES).at(data).advice:
-        level, says, todo = advice(RULES, name, values)
-        found.setdefault(name, (level, f"{in_english(says)} {in_english(todo)}"))
-    return found
-
-
-# What is said, and what an import does
-
-@each_file
-def test_the_advice_fits_the_file(file):
-    """Each that is wanted, and no other."""
-    told = told_of(file.data)
-    assert set(told) == set(file.advice)
-    assert [name for name, part in file.advice.items() if part not in told[name][1]] == [], told
+each_group = pytest.mark.parametrize("group", odd_files.GROUPS)
 
 
 @pytest.fixture(scope="module")
@@ -51,35 +31,52 @@ def new_store(program, module_room):
     return client.Office.create(program, module_room / "office.db").store
 
 
-@each_file
-def test_an_import_does_what_was_foretold(program, new_store, room, file):
-    """A file that was stopped, or of which a parent lacks, is refused; of another what was counted comes in."""
-    office = client.Office(program, shutil.copy(new_store, room / "office.db"))
-    (room / "file.csv").write_bytes(file.data)
-    ended = office.import_file("catalogue", room / "file.csv")
-    levels = {level for level, _ in told_of(file.data).values()}
+@each_group
+def test_an_import_does_what_was_foretold(program, new_store, room, group):
+    """A file that was stopped, or of which a parent lacks, is refused, for the row and cause that were told; of another what
+    was counted comes in."""
+    wrong = {}
+    for name, data in odd_files.GROUPS[group]():
+        told, came = foretold(data), imported(client.Office(program, shutil.copy(new_store, room / "office.db")), data)
+        if told != came and not (told == "refused" and came[0] == "refused"):
+            wrong[name] = told, came
+    assert wrong == {}
+
+
+def foretold(data):
+    """What an office that knows none of its units does with a file: the row and cause of its refusal, that it refuses it, or
+    how many units, drafts, translations and containers come in."""
+    seen = Look(RULES).at(data)
+    told = dict(seen.advice)
+    if "fault" in told and not ({name for name in told if RULES["advice"][name][0] == "stop"} - {"fault", "unclosed"}):
+        return "refused", told["fault"]["row"], int(told["fault"]["number"])
+    if any(RULES["advice"][name][0] == "stop" or name in REFUSED_IF_NEW for name in told):
+        return "refused"
+    return tuple(seen.counts[name] for name in ("units", "drafts", "translations", "containers"))
+
+
+def imported(office, data):
+    """What came of the import of a file: the row and cause of its refusal, or those counts."""
+    (office.store.parent / "file.csv").write_bytes(data)
+    ended = office.import_file("catalogue", office.store.parent / "file.csv")
     if ended.status:
         said = ended.message.decode().split()
-        assert (int(said[4]), int(said[6])) == file.refused
-        assert "stop" in levels or REFUSED_IF_NEW & set(told_of(file.data))
-        return
-    assert file.refused is None and "stop" not in levels and not REFUSED_IF_NEW & set(told_of(file.data))
-    rows, counts = json.loads(ended.output), Look(RULES).at(file.data).counts
+        return "refused", int(said[4]), int(said[6])
+    rows = json.loads(ended.output)
     with contextlib.closing(sqlite3.connect(office.store)) as store:
         drafts, containers = store.execute("SELECT (SELECT count(*) FROM unit WHERE draft), (SELECT count(*) FROM container)"
                                            ).fetchone()
-    assert (rows["new"], drafts, rows["translations"], containers) == tuple(
-        counts[name] for name in ("units", "drafts", "translations", "containers"))
+    return rows["new"], drafts, rows["translations"], containers
 
 
-@each_file
-def test_a_file_is_converted_from_what_it_is(program, file):
-    """What it becomes is read as the same file saved rightly would be, and is not converted again."""
-    found = convert(file.data, RULES)
-    assert (f"{found.encoding}, {in_english(found.separator)}" if found else "") == file.taken
-    if found:
-        assert convert(found.data, RULES) is None
-        assert preview(program, found.data) == preview(program, file.becomes.encode())
+@pytest.mark.parametrize("name", [name for name, data in odd_files.ways() if convert(data, RULES) and not
+                                  re.search("colons|UTF-32|Mac", name)])  # which are converted to something else
+def test_a_converted_file_is_read_as_if_it_had_been_saved_rightly(program, name):
+    """And is not converted again."""
+    ways = dict(odd_files.ways())
+    found = convert(ways[name], RULES).data
+    assert convert(found, RULES) is None
+    assert preview(program, found) == preview(program, ways["UTF-8, commas"])
 
 
 def preview(program, data):
@@ -88,9 +85,17 @@ def preview(program, data):
     return ended.output, ended.message
 
 
-def test_each_advice_is_given_for_a_file():
-    """None is there for nothing; a converted file is told by whoever converts it."""
-    assert set(RULES["advice"]) == {name for file in FILES for name in file.advice} | {"converted"}
+def test_each_advice_says_in_words_what_to_do(approved):
+    """Of one row, and of several; of a row that would be refused by each cause."""
+    said = {name: {} for name in RULES["advice"]}
+    for group in odd_files.GROUPS:
+        for name, values in (one for _, data in odd_files.GROUPS[group]() for one in Look(RULES).at(data).advice):
+            level, says, todo = advice(RULES, name, values)
+            text = printable(f"{in_english(says)} {in_english(todo)}")
+            kind = values["number"] if name == "fault" else re.search(" [1-9][0-9]* [a-z]+s ", text) is None
+            said[name].setdefault(kind, f"{name}, {level}: {text}")
+    assert [name for name, texts in said.items() if not texts] == ["converted"], "each is given for a file"
+    approved("look/advice", (text for texts in said.values() for text in texts.values()))
 
 
 def test_elements_are_named_as_in_the_rules():
@@ -132,20 +137,19 @@ def meant(other, columns):
 
 # As approved
 
-@pytest.mark.parametrize("group", odd_files.GROUPS)
+@each_group
 def test_odd_files_are_told_as_approved(approved, group):
     """A line for each file: what is said of it, by names and values. What lacks of its header is left out, and whether nothing
     is published then, which is said of nearly all."""
     lines = []
     for name, data in odd_files.GROUPS[group]():
-        rules = FEWER if data.startswith(odd_files.FEWER) else RULES
-        lines.append(f"{name}: {'; '.join(parts_of(data.removeprefix(odd_files.FEWER), rules)) or 'nothing'}")
+        lines.append(f"{name}: {'; '.join(parts_of(data)) or 'nothing'}")
     approved(f"look/{group}", lines)
 
 
-def parts_of(data, rules):
+def parts_of(data):
     """What is seen of a file, and what it becomes, in a few words each."""
-    seen, found = Look(rules).at(data), convert(data, rules)
+    seen, found = Look(RULES).at(data), convert(data, RULES)
     for name, values in seen.advice:
         if name not in ("emptied", "no_parents", "no_status"):
             yield " ".join([name, *(fault_parts(values) if name == "fault" else value_parts(values))])
@@ -180,9 +184,14 @@ def fault_parts(values):
         yield f"and {todo['parts'][-1]['number']} more"
 
 
+def printable(text):
+    """A text on one line."""
+    return "".join(letter if letter.isprintable() else repr(letter)[1:-1] for letter in str(text))
+
+
 def plain(text):
-    """A text on one line, cut if it is long."""
-    line = "".join(letter if letter.isprintable() else repr(letter)[1:-1] for letter in str(text))
+    """The same, cut if it is long."""
+    line = printable(text)
     return line if len(line) <= LONGEST else f"{line[:LONGEST]}…"
 
 

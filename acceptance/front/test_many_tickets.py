@@ -1,8 +1,6 @@
 """A desk with many readers: what a search by name and the list of what waits ask for. Two thirds of the tickets expire before
 the newest run."""
 
-import re
-
 import pytest
 
 from acceptance.front.asks import Asks
@@ -15,9 +13,6 @@ HOOK = """window.asked = []; if (!window.plain) { window.plain = window.fetch;
   window.fetch = (path, how) => { window.asked.push(path); return window.plain(path, how); }; }"""
 CARDS = "window.asked.filter((path) => path.startsWith('/desk/readers/')).length"
 SEARCHED = "document.querySelector('.told').innerText.includes('As of')"
-SEEN = """window.seen = []; new MutationObserver(() => window.seen.push(document.querySelector('.told').textContent))
-  .observe(document.body, { childList: true, characterData: true, subtree: true })"""
-SLOWLY = "window.fetch = (path, how) => new Promise((done) => { setTimeout(done, 20); }).then(() => window.plain(path, how))"
 ROWS = "document.querySelectorAll('main table tbody tr').length"
 GATHERED = "[...document.querySelectorAll('.told')].some((one) => /waits?\\..* As of/.test(one.innerText))"
 
@@ -72,16 +67,6 @@ def test_a_search_that_lists_fifty_readers_says_how_many_more_there_are(desk):
         cards(desk, "Find", SEARCHED)
         desk.see(more or "Reader", ".find")
         assert ("more of the name" in desk.text(".find")) == bool(more), name
-
-
-def test_the_search_for_permits_says_how_far_it_is(desk):
-    at(desk, "/units/1")
-    desk.js(SLOWLY)
-    desk.js(SEEN)
-    desk.press("Who has a permit for it?")
-    desk.see("Nobody has a permit for this very unit.")
-    read = [int(found[1]) for told in desk.js("window.seen") if (found := re.match(f"([0-9]+) of {MANY} cards read", told))]
-    assert read and min(read) > 0 and read == sorted(read), f"cards that are told as read: {read}"
 
 
 def test_what_waits_is_gathered_when_somebody_asks_for_it(desk, asks):

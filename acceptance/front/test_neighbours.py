@@ -1,6 +1,5 @@
 """An office whose neighbours differ, so that a mistake between two of them shows: numbers of seven digits, a source with _, a
-draft below a draft, two who wait for one box, clocks on both sides of midnight, an address and hours, a reader's address that
-somebody claims."""
+draft below a draft, two who wait for one box, clocks on both sides of midnight, a reader's address that somebody claims."""
 
 import json
 import re
@@ -18,8 +17,6 @@ from acceptance.front.waits import until
 FIRST = 1_234_567  # the number of the first unit
 SERIES = FIRST + 1
 ZONES = ("America/New_York", "Asia/Tokyo", "Etc/GMT+12", "Pacific/Kiritimati")  # of the last two one has another day than UTC
-WORDS = {"name": "Humber Archives", "address": "7 Dock Street", "hours": "Tuesday to Friday, ten to four",
-         "ordered": "Ask at the desk."}
 HELD = {"physicalObjectName": "Box 1", "physicalObjectLocation": "Strongroom 3"}
 UNITS = csv_text(
     unit("1", identifier="HUL", title="Dock Company", levelOfDescription="Fonds"),
@@ -40,8 +37,6 @@ class Numbered(Office):
         with sqlite3.connect(office.store) as db:
             db.execute("UPDATE office SET next_unit = ?", (FIRST,))
         db.close()
-        office.words = office.folder / "words.json"
-        office.words.write_text(json.dumps(WORDS), "utf-8")
         return office
 
 
@@ -122,12 +117,6 @@ def test_nobody_is_another_address_by_saying_so(office):
     assert "198.51.100" not in (office.folder / "access.log").read_text(), "and the log has no claimed address"
 
 
-def test_the_offices_own_words_are_each_in_their_place(asks):
-    page = readers_page(asks, "/help")
-    assert f"Address {WORDS['address']}" in page and f"Opening hours {WORDS['hours']}" in page
-    assert WORDS["name"] in page, "the name on each page"
-
-
 @pytest.mark.browser
 def test_a_status_is_set_for_one_unit_alone(asks, desk):
     """And for all below only if somebody wants that."""
@@ -136,22 +125,6 @@ def test_a_status_is_set_for_one_unit_alone(asks, desk):
     desk.press("Set the status", "Status")
     desk.see("1 unit was set to published.")
     assert [asks.question(f"/public/units/{n}")[0] for n in (draft, below)] == [200, 404], "what is below stays a draft"
-
-
-@pytest.mark.browser
-def test_of_new_drafts_one_is_published_by_itself(asks, desk, room):
-    (room / "drafts.csv").write_text(csv_text(
-        unit("1", identifier="NEW", title="New fonds", levelOfDescription="Fonds", publicationStatus="Draft"),
-        unit("2", "1", "New series", identifier="1", levelOfDescription="Series", publicationStatus="Draft")), "utf-8")
-    desk.at("/import").fill("Source", "drafts")
-    desk.file(room / "drafts.csv")
-    desk.wait("document.querySelector('.seen-in-file .note, .seen-in-file table')")
-    desk.press("Import the file")
-    desk.wait("document.querySelectorAll('.drafts tbody tr').length === 2")
-    desk.js("document.querySelector('.drafts tbody tr button').click()")
-    desk.see("1 unit was set to published.")
-    number = next(line.split(" ")[0] for line in asks.text("/public/fonds").splitlines() if "New fonds" in line)
-    assert "New series" not in asks.text(f"/public/units/{number}"), "not what is below it"
 
 
 @pytest.mark.browser

@@ -57,8 +57,8 @@ def make_office():
     """An office with archives of many kinds: wide and deep ones, odd texts, closed units and drafts, readers."""
     office = reference_model.Office(**SETTINGS)
     for name, text in (("archives", ARCHIVES.read_text("utf-8")),
-                       ("dock", "".join(catalogue.dock_company())), ("harbour", "".join(catalogue.harbour())),
-                       ("deep", "".join(catalogue.deep(DEEP))), ("more", MORE.replace("{long}", LONG)), ("full", full())):
+                       ("dock", catalogue.dock_company()), ("harbour", catalogue.harbour()),
+                       ("deep", catalogue.deep(DEEP)), ("more", MORE.replace("{long}", LONG)), ("full", full())):
         status, told = office.post(f"/desk/import/{name}", text.encode())
         assert status == 200, told
     return office

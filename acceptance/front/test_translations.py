@@ -4,12 +4,9 @@ clerk's way, and what chooses the language.
 What has no key is found in a language of its own, Hebrew by name: each text of its catalog is the English one in brackets, and
 the pages are laid out from right to left."""
 
-import html.parser
 import json
 import re
 import shutil
-import urllib.error
-import urllib.request
 
 import pytest
 
@@ -36,6 +33,8 @@ OWN = """[...document.querySelectorAll('main .words:not(.from)')].flatMap((one) 
   }
   return found;
 })"""
+UNSCRIPTED = """[...document.querySelectorAll('noscript')].map((one) => one.textContent)
+  .filter((text) => !text.includes('⟦'))"""
 STATIC = ("public/away.html", "public/often.html", "public/not-from-here.html", "desk/signed-out.html")
 LANGUAGE = "document.documentElement.lang"
 
@@ -73,18 +72,8 @@ def speak(hall, desk, office):
     return both
 
 
-def answer_to(office, path, headers):
-    """The language and the text of an answer of the readers' site, whatever its status."""
-    asked = urllib.request.Request(office.public + path, headers=headers)
-    try:
-        with urllib.request.urlopen(asked, timeout=60) as answer:
-            return answer.headers["Content-Language"], answer.read().decode()
-    except urllib.error.HTTPError as refused:  # a page of what is not there
-        return refused.headers["Content-Language"], refused.read().decode()
-
-
 @pytest.mark.parametrize("state", STATES, ids=str)
-def test_a_page_has_room_for_its_words_in_each_language_and_a_key_for_each_text(request, office, numbers, state):
+def test_a_page_has_room_for_its_words_in_each_language_and_a_key_for_each_text(request, office, numbers, shot, state):
     """On a phone and a tablet. Brackets make words longer than a language does."""
     tab, broken = request.getfixturevalue("hall" if state.site == "readers" else "desk"), {}
     for code in (*CODES, BRACKETS):
@@ -103,10 +92,13 @@ def test_a_page_has_room_for_its_words_in_each_language_and_a_key_for_each_text(
             if code != BRACKETS:
                 measured.measure(f"tables that scroll sideways at {size[0]}", "scrolled")
                 measured.measure(f"words too long for their places at {size[0]}", "long")
+                shot(tab, f"{code}-{state}-{size[0]}")
         if code == BRACKETS:
             measured.measure("texts without a key", "unkeyed")
-            title = tab.js("document.title") if state.site == "desk" else ""
-            measured.note("a title without a key", re.sub("⟦[^⟦⟧]*⟧|[–0-9 ]", "", title))
+            if state.site == "desk":
+                measured.note("a title without a key", re.sub("⟦[^⟦⟧]*⟧|[–0-9 ]", "", tab.js("document.title")))
+            else:
+                measured.note("what is said without scripts has no key", tab.js(UNSCRIPTED))
         measured.measure("marks that stand twice", "doubled")
         if code == "fr":
             measured.measure("marks without their space", "unspaced")
@@ -162,14 +154,6 @@ def test_titles_stand_in_their_own_direction(hall, numbers, code, direction):
         assert told == [direction, wanted]
 
 
-@pytest.mark.parametrize("wish, chosen, wanted", [
-    ("de-CH, en;q=0.5", "", "de"), ("pl, fr;q=0.3", "", "fr"), ("pl", "", "en"), ("en, el;q=0.9", "el", "el"),
-    ("de", "xx", "en"), ("de;q=0, es", "", "es"), ("de;q=0, pl", "", "en"), ("*", "", "en"), (";;q=x,,", "", "en")])
-def test_the_language_is_what_was_chosen_or_what_the_browser_wishes_or_english(office, wish, chosen, wanted):
-    language, text = answer_to(office, "/help", {"Accept-Language": wish, "Cookie": f"lang={chosen}"})
-    assert language == wanted and f'<html lang="{wanted}"' in text
-
-
 def test_the_desk_keeps_the_language_that_was_chosen(desk):
     """By the address or a link; one that there is not is the browser's."""
     desk.visit("/?lang=es#/units")
@@ -179,23 +163,6 @@ def test_the_desk_keeps_the_language_that_was_chosen(desk):
     desk.wait(f"{LANGUAGE} === 'fr' && document.querySelector('main h1')?.innerText === 'Unités'")
     assert desk.js("location.hash") == "#/units"
     assert desk.visit("/?lang=xx").js(LANGUAGE) == "en"
-
-
-@pytest.mark.parametrize("code", (*CODES, BRACKETS))
-def test_each_page_as_it_is_sent_says_its_language(office, numbers, code):
-    for address in sorted({state.address.format(**vars(numbers)) for state in STATES if state.site == "readers"}):
-        _, text = answer_to(office, address, {"Accept-Language": code})
-        assert f'<html lang="{code}"' in text, address
-        hidden = re.findall("<noscript>(.*?)</noscript>", text, re.S) if code == BRACKETS else []
-        assert [one for one in hidden if "⟦" not in one] == [], address
-
-
-@pytest.mark.parametrize("code, name", [*NAMES.items(), ("el", NAMES["en"])])
-def test_the_offices_own_words_come_by_language(hall, code, name):
-    """Else as they were given first; what it does not say has a text."""
-    hall.visit(f"/?lang={code}")
-    assert hall.visit("/help").js("document.querySelector('.name').innerText") == name
-    hall.see("9 to 5")
 
 
 def test_the_desk_stays_in_its_language_without_the_readers_service(desk, office):
@@ -212,31 +179,9 @@ def test_the_desk_stays_in_its_language_without_the_readers_service(desk, office
         desk.at("/units").see("Units", "main h1")
 
 
-class Sections(html.parser.HTMLParser):
-    """The texts of a page of nginx's own, by the languages of their elements."""
-
-    def __init__(self, text):
-        super().__init__()
-        self.open, self.found = [], {}
-        self.feed(text)
-
-    def handle_starttag(self, tag, attrs):
-        """Keeps the language of an element."""
-        if tag not in ("meta", "link"):
-            self.open.append(dict(attrs).get("lang") or (self.open[-1] if self.open else ""))
-
-    def handle_endtag(self, tag):
-        """The end of an element."""
-        self.open.pop()
-
-    def handle_data(self, data):
-        """Keeps a text."""
-        if data.strip():
-            self.found.setdefault(self.open[-1], []).append(data.strip())
-
-
 @pytest.mark.parametrize("name", STATIC)
 def test_a_page_that_nginx_sends_by_itself_has_each_language(name):
-    found = Sections((FRONT / name).read_text("utf-8")).found
-    assert sorted(found) == CODES
-    assert {len(texts) for code, texts in found.items() if code != "en"} == {len(found["de"])}
+    """And each as much."""
+    found = re.findall('<section lang="(..)">(.*?)</section>', (FRONT / name).read_text("utf-8"), re.S)
+    assert sorted(["en", *(code for code, _ in found)]) == CODES
+    assert len({tuple(re.findall("<[^>]+>", text)) for _, text in found}) == 1

@@ -1,22 +1,17 @@
-"""A reader's visit: every text of the program stands on the pages to the letter, and nothing of it is markup."""
+"""A reader's visit: no text of an archive is markup, and the ways from page to page, by keys and without scripts."""
 
 import pytest
 
 from acceptance.front.catalogue import ODD, archives, dock_company
 from acceptance.front.office import MANY_PAGES
-from acceptance.front.site_pages import aid_of
 
 pytestmark = [pytest.mark.browser, pytest.mark.needs("chromium")]
 
-# Each gives back what the page shows as the program would have written it.
-LETTERS = """const text = (node) => { const copy = node.cloneNode(true);
-  copy.querySelectorAll('time').forEach((day) => day.replaceWith(day.dateTime)); return copy.textContent; };"""
-FONDS = """(() => { %s
-  return [...document.querySelectorAll('main ul.units a')]
-    .map((a) => `${a.pathname.slice(6)} ${text(a)}\\n`).join(''); })()""" % LETTERS
-LINKS = """(() => { %s
+# What is below the unit, as the program would have written it: its lines, and where they lead.
+LINKS = """(() => { const text = (node) => { const copy = node.cloneNode(true);
+  copy.querySelectorAll('time').forEach((day) => day.replaceWith(day.dateTime)); return copy.textContent; };
   return [...document.querySelectorAll('.contents [data-shown] > ul > li > a')].map((a) => [text(a), a.pathname]);
-})()""" % LETTERS
+})()"""
 MADE = "document.querySelectorAll('main :is(img, b, i, script, style, title, [onmouseover])').length"
 # How far the text ends to the right of its element.
 RIGHT_SIDE = """(() => { const dd = document.querySelector('[data-element="3.3.1"] dd');
@@ -41,11 +36,6 @@ def top(state):
     return state.fonds()
 
 
-def test_the_list_of_archives_is_the_programs(hall, asks):
-    """To the letter."""
-    assert hall.visit("/").js(FONDS) == asks.text("/public/fonds")
-
-
 @pytest.mark.parametrize("name, text", ODD.items(), ids=list(ODD))
 def test_an_odd_text_stands_as_it_is_and_is_no_markup(hall, top, shot, name, text):
     links = hall.visit(f"/unit/{top}").js(LINKS)
@@ -61,11 +51,6 @@ def test_an_odd_text_stands_as_it_is_and_is_no_markup(hall, top, shot, name, tex
     shot(hall, f"reader-odd-{name}")
 
 
-def test_a_draft_is_not_listed(hall, top):
-    """Nor is its title said."""
-    assert "Letters of the secretary" not in hall.visit(f"/unit/{top}").text()
-
-
 def test_the_units_above_lead_up_and_what_is_found_there_is_marked(hall, top):
     hall.visit(f"/unit/{top + 4}").see("Weekly meetings (from GB 0999 HUL) and yearly accounts.")
     assert hall.js(WAY) == [["/", "Archives"], [f"/unit/{top}", "Hull Dock Company"], [f"/unit/{top + 1}", "Minutes"]]
@@ -78,36 +63,6 @@ def test_the_units_above_lead_up_and_what_is_found_there_is_marked(hall, top):
     hall.see("Weekly meetings")
 
 
-def test_a_finding_aid_is_the_programs_and_each_of_its_units_a_heading(hall, asks, top):
-    hall.visit(f"/aid/{top}")
-    assert aid_of(hall.js("document.querySelector('main').outerHTML")) == asks.text(f"/public/aid/{top}")
-    assert hall.js("[...document.querySelectorAll('.aid .unit')].every((head) => /^H[2-6]$/.test(head.tagName))")
-    assert hall.js(f"fetch('/public/aid/{top}').then((answer) => answer.text())") == asks.text(f"/public/aid/{top}")
-
-
-@pytest.mark.parametrize("words, told, first", [
-    ("minutes", "2 units.", "GB 0999 HUL/1 [Series] Minutes"),
-    ("“first volume”", "1 unit.", "GB 0999 HUL/1/1 [File] Board, first volume"),
-    ("HUL/1/1", "1 unit.", "GB 0999 HUL/1/1 [File]"),
-    (".*", "Please type a word.", None),
-])
-def test_a_search_in_a_finding_aid_is_one_within_its_unit(hall, top, words, told, first):
-    hall.visit(f"/aid/{top}").fill("Search in this finding aid", words)
-    hall.key_in("Search in this finding aid", "Enter")
-    hall.see(told, ".told")
-    hit = hall.js("document.querySelector('.hit')?.textContent ?? null")
-    assert hit is first if first is None else hit.startswith(first)
-    assert hall.js("document.querySelector('#find-in').value") == str(top)
-
-
-@pytest.mark.parametrize("address, words", [("/unit/999", "Not found"), ("/no/such/page", "No such page"),
-                                            ("/help", "How to order"), ("/accessibility", "no independent audit yet")])
-def test_a_page_says_what_there_is_not(hall, address, words):
-    """An office without an address shows none."""
-    hall.visit(address).see(words)
-    assert "Address" not in hall.text()
-
-
 @pytest.mark.parametrize("old, new", [("/#/unit/{}", "/unit/{}"), ("/#/aid/{}", "/aid/{}"), ("/#/help", "/help")])
 def test_an_address_of_former_days_leads_to_its_page(hall, top, old, new):
     new = new.format(top)
@@ -117,10 +72,8 @@ def test_an_address_of_former_days_leads_to_its_page(hall, top, old, new):
     assert hall.js("location.pathname + location.hash") == new
 
 
-def test_pages_have_titles_of_their_own_and_a_first_visit_takes_six_requests(hall, top):
-    assert hall.visit(f"/aid/{top}").js("document.title") == "Finding aid: Hull Dock Company, GB 0999 HUL – Record office"
-    assert hall.visit(f"/unit/{top}").js("document.title") == "Hull Dock Company, GB 0999 HUL – Record office"
-    assert hall.js("performance.getEntriesByType('resource').length + 1") <= 6
+def test_a_first_visit_takes_six_requests(hall, top):
+    assert hall.visit(f"/unit/{top}").js("performance.getEntriesByType('resource').length + 1") <= 6
 
 
 @pytest.mark.parametrize("address, name", [("/", "Archives"), ("/help", "How to order"), ("/ordered", "Your list"),
