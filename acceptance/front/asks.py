@@ -13,7 +13,7 @@ from typing import Any
 from acceptance import client
 from acceptance.front.office import SIGNED_IN, Office
 
-PATIENCE = 90  # seconds
+PATIENCE = 250  # seconds
 
 
 class Asks:

@@ -397,11 +397,8 @@ class Office(client.Office):
             """An address with our port."""
             return f"{found[1]}{self.ports[found[2]]}"
 
-        def listened(found: re.Match[str]) -> str:
-            """Our place to listen at."""
-            return f"listen 127.0.0.1:{self.ports[found[1]]}"
-        text = re.sub(LISTEN, listened, re.sub(PORT, ours, text))
-        text = text.replace(DESK_NAME, "127.0.0.1")
+        text = re.sub(LISTEN, r"listen 127.0.0.1:\1", text)
+        text = re.sub(PORT, ours, text).replace(DESK_NAME, "127.0.0.1")
         for theirs, our in (("/usr/share/record-office/front", FRONT), ("/etc/record-office", self.folder),
                             ("/run/record-office-queue", self.folder),
                             ("/run/record-office-try/try", self.folder / "tries"),

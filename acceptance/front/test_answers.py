@@ -1,5 +1,5 @@
-"""What the front answers, as it was approved: each site, without TLS and with it, and each way into the queue; each kind of
-path and method, heads of many kinds, bodies of many sizes, and what stands behind it failing. There is no program: stand-ins
+"""What the front answers, as it was approved: each site, without TLS and with it; each kind of path and method, heads of
+many kinds, bodies of many sizes, and what stands behind it failing. There is no program: stand-ins
 have the places of the program, of the readers' service and of the trials, and answer with what came to them. So a line has
 both what the front made of the answer and what it had passed on:
 
@@ -147,12 +147,7 @@ class Table:
         """The bytes of the answer of a site to these bytes."""
         if site in ("readers by TLS", "desk by TLS"):
             return self.by_tls(site, sent, source)[0]
-        if site == "service":
-            with socket.socket(socket.AF_UNIX) as it:
-                it.connect(str(self.office.queue))
-                return whole(it, sent)
-        port = self.office.ports[{"readers": "8080", "desk": "8081", "redirect": "80", "queue, readers": "8091",
-                                  "queue, desk": "8092", "gate": "8093"}[site]]
+        port = self.office.ports[{"readers": "8080", "desk": "8081", "redirect": "80"}[site]]
         source = source or (client.HOST if site.startswith("desk") else self.source())
         return exchange(port, sent, source, source if ":" in source else client.HOST)
 
@@ -226,13 +221,12 @@ class Table:
         told = [*kind, *has.get("cache-control", [])]
         told += [f"{name.lower()}: {value}" for name, value in fields if name.lower() not in UNTOLD]
         told = [re.sub(r"; record-office-took: \d+", " with its time", "; ".join(told).replace(CAME, "as it came"))]
-        if not head.startswith(("queue", "gate", "service")):
-            forms = "'self'" if head.startswith("readers") else "'none'"
-            wanted = {name: value.replace("FORMS", forms) for name, value in POLICY.items()}
-            wanted |= {"strict-transport-security": YEAR} if " by TLS" in head else {}
-            differs = [f"{name}: {'; '.join(has.get(name, ['none']))}" for name, value in wanted.items()
-                       if has.get(name) != [value]]
-            told += ["no policy"] if len(differs) >= len(POLICY) - 1 else differs
+        forms = "'self'" if head.startswith("readers") else "'none'"
+        wanted = {name: value.replace("FORMS", forms) for name, value in POLICY.items()}
+        wanted |= {"strict-transport-security": YEAR} if " by TLS" in head else {}
+        differs = [f"{name}: {'; '.join(has.get(name, ['none']))}" for name, value in wanted.items()
+                   if has.get(name) != [value]]
+        told += ["no policy"] if len(differs) >= len(POLICY) - 1 else differs
         return "; ".join(told)
 
     def shown(self, body):
@@ -318,24 +312,6 @@ DESK_PATHS = """
 /lists/a.csv /lists/a.html /lists/a.json /lists/a.txt /lists/none.csv
 /texts/de.json /texts/xx.json /often.html /desk/issued%0a
 """.split()
-WAYS = """
-GET /public/fonds
-GET /public/units/1
-GET /public/aid/1
-POST /public/orders
-GET /public/orders
-POST /public/fonds
-GET /desk/issued
-POST /desk/run
-GET /
-GET /publicx
-GET /public/
-PUT /public/fonds
-HEAD /public/fonds
-GET /public/fonds/x
-GET /public/aid
-GET /public/units/404
-""".strip().splitlines()
 METHODS = ("GET", "POST", "HEAD", "PUT", "OPTIONS")
 EVERY_METHOD = set("/ /unit/1 /unit/1/order /aid/1 /search?q=x /public.css /public/fonds /public/orders /public/aid/1 "
                    "/shared/dom.js /desk/issued /desk/seat /desk/import/x /try/imported/x /lists/a.csv".split())
@@ -449,14 +425,6 @@ def test_what_the_front_makes_of_each_status_from_behind(table, approved):
     approved("server/statuses", table.answers)
 
 
-def test_what_each_way_into_the_queue_lets_through(table, approved):
-    for site in ("queue, readers", "queue, desk", "gate", "service"):
-        for words in WAYS:
-            method, path = words.split(" ")
-            table.ask(site, method, path, body=b"{}" if method == "POST" else None)
-    approved("server/ways", table.answers)
-
-
 def test_sites_with_tls_and_where_readers_without_it_are_sent(table, approved):
     for site, paths in (("readers by TLS", ("/", "/unit/1", "/public/fonds", "/public.css", "/search?q=x", "/public/x")),
                         ("desk by TLS", ("/", "/desk/issued", "/desk/a/b/c", "/lists/a.csv", "/sign-out", "/texts/de.json"))):
@@ -494,20 +462,6 @@ def test_who_asks_too_often_or_may_not_order_from_elsewhere(table, approved):
     for path in ("/public/orders", "/unit/1/order", "/ordered/order"):
         table.ask_from(ELSEWHERE, "POST", path, "{}")
     approved("server/often", table.answers)
-
-
-def test_what_the_queue_tells_of_its_limits(front, approved):
-    """Connections, and what it keeps of idle ones."""
-    lines = []
-    for side, name in (("readers", "FRONTEND"), ("desk", "FRONTEND"), ("service", "FRONTEND"), ("office", "gate"),
-                       ("gate", "FRONTEND"), ("gate", "program")):
-        lines.append(f"{side}, {name}: {front.queue_state(side, name)['slim']} at once")
-    for line in front.tell_queue("show servers conn").splitlines()[1:]:
-        words = line.split()
-        if len(words) > 8:
-            lines.append(f"{words[0]}: purges idle connections after {words[5]} ms, keeps {words[11]}")
-    told = dict(line.split(": ", 1) for line in front.tell_queue("show info").splitlines() if ": " in line)
-    approved("server/state", lines + [f"{name}: {told[name]}" for name in ("Maxconn", "Nbthread", "Nbproc")])
 
 
 @pytest.fixture
