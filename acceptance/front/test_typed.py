@@ -78,10 +78,11 @@ def test_the_index_proposes_each_title_that_is_found():
         db.execute("INSERT INTO unit(n, top) VALUES (?, 1)", (number,))
         db.execute("INSERT INTO words(rowid, head, body) VALUES (?, ?, '')", (index.row_of(1, number), index.words(title)))
     db.execute("UPDATE round SET changed = 1")
-    index.finish(db)
-    lost = [(typed, title) for number, (language, typed, title, found) in enumerate(TABLE, 1) if found
-            and number not in {one for _, one in index.propose(db, Query(folding.read_typed(typed, language)))}]
-    assert lost == []
+    for when in ("while the first round goes on", "after it"):
+        lost = [(typed, title) for number, (language, typed, title, found) in enumerate(TABLE, 1) if found
+                and number not in {one for _, one in index.propose(db, Query(folding.read_typed(typed, language)))}]
+        assert lost == [], when
+        index.finish(db)
 
 
 @pytest.mark.browser
