@@ -6,7 +6,7 @@ pub use Rattle.std.proofs.lemmas.List.{take-map, take_all, take_more, take_rest}
 pub use Rattle.std.proofs.lemmas.List.Sorted.{All-permutation, IsNonDecreasingBy-from_sort, IsPermutation-append_right}
 pub use Rattle.std.proofs.lemmas.List.Sorted.{IsPermutation-map, IsPermutation-sym, IsPermutation-trans}
 pub use Rattle.std.proofs.lemmas.List.Sorted.{list_any-IsPermutation}
-pub use Rattle.std.specs.List.{AllByRecursion, cons_option, flat_map, list_any}
+pub use Rattle.std.specs.List.{AllByRecursion, cons_option, flat_map, list_all, list_any}
 pub use Rattle.std.specs.List.Sorted.{IsPermutation}
 pub use Rattle.std.specs.Prelude.{IsErr, IsErrAnd, IsOk, IsUtf8, filter_map, find, int_lt, is_some, nat_le, nat_lt}
 pub use Rattle.std.specs.Prelude.{option_and_then, option_map, slice_get, unwrap_or, ⊤}
@@ -21,6 +21,7 @@ pub use Rattle.desk_core.specs.Decisions.{is_desk, issue_facts, leave_seat_facts
 pub use Rattle.desk_core.specs.Decisions.{take_seat_facts}
 pub use Rattle.desk_core.specs.DeskRows.{HoldingRow, OrderRow, PermitRow, ReaderRow, RunLineRow, RunRow, SeatRow}
 pub use Rattle.desk_core.specs.DeskRows.{with_state}
+pub use Rattle.desk_core.specs.LegibleDesks.{IsLegible}
 pub use Rattle.desk_core.specs.Refusals.{first_that_holds}
 pub use Rattle.desk_core.specs.declared.reader.Limits.{Limits}
 pub use Rattle.desk_core.specs.declared.reader.Place.{Place}
@@ -32,6 +33,8 @@ pub use Rattle.desk_core.specs.declared.refusal.Refusal.TheVariants.{UnknownCont
 pub use Rattle.desk_core.specs.declared.refusal.Refusal.TheVariants.{UnknownUnit}
 pub use Rattle.catalogue_core.specs.Members.{StandsIn}
 pub use Rattle.office_tables.proofs.Calls.{cut_then, early, goes_nowhere, goes_then, looks_nowhere, looks_then}
+pub use Rattle.office_tables.proofs.Calls.{on_ok_then}
+pub use Rattle.office_tables.proofs.Touching.{nothing_touched, touched_again, touched_wider}
 pub use Rattle.office_tables.specs.Step.{Continues, Goes, IsAborted, LeavesUnchanged, OnlyTouches}
 pub use Rattle.office_tables.specs.Versions.{Version, version_number}
 pub use Rattle.desk_store.specs.Holdings.{at_desk_of, candidates_of, firsts_of, is_first_waiting, is_on_shelf}
@@ -74,9 +77,8 @@ pub use Rattle.state_encoding.specs.OfficeRows.{tables}
 pub use Rattle.refinement.proofs.CardsShown.{card, card_shown, has_card, holder_shown, known_ticket}
 pub use Rattle.refinement.proofs.CommandSteps.{accepts, refuses}
 pub use Rattle.refinement.proofs.DeskSteps.{desk_step}
-pub use Rattle.refinement.proofs.Doings.{accepted, after_look, catalogue_passed, desk_passed, does_pass, does_then}
-pub use Rattle.refinement.proofs.Doings.{is_refused, makes_passed, makes_passed_later, office_passed, refused}
-pub use Rattle.refinement.proofs.Doings.{tells_full, tells_passed_later}
+pub use Rattle.refinement.proofs.Doings.{accepted, makes_passed, makes_passed_later, refused, tells_full}
+pub use Rattle.refinement.proofs.Doings.{tells_passed_later}
 pub use Rattle.refinement.proofs.HoldingRows.{place_after, placed_to, rows_of}
 pub use Rattle.refinement.proofs.Judged.{judged_now}
 pub use Rattle.refinement.proofs.StorageShown.{has_container, legible_storage, shows_storage, storage_of}
@@ -86,3 +88,4 @@ pub use Rattle.refinement.specs.ReadingRoomLimits.{limits_of}
 pub use Rattle.refinement.specs.Representation.{RepresentsState, office_of}
 pub use Rattle.access.specs.KnownUnits.{AreTold, open_ones}
 pub use Rattle.desk_commands.specs.ContainerMoves.{all_placed, handed_over, with_all_placed}
+pub use Rattle.desk_commands.specs.SparedCatalogue.{CarriesOutSparing, reading_room_trees, spares_catalogue}

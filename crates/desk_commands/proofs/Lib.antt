@@ -1,4 +1,5 @@
 pub mod Common
+pub mod Spared
 pub mod OneStep
 pub mod Registered
 pub mod StillOut

@@ -3,7 +3,6 @@ use Rattle.std.proofs.Common.{◌≡◌, ℕ, Bool, true, false, not, cond, List
 use Rattle.std.proofs.Common.{ap, subst, ◌∙◌, nat_eq}
 use Rattle.isad_core.specs.Days.{is_day_number}
 use Rattle.tree_core.proofs.Lists.{eqb_comm}
-use Rattle.desk_core.specs.LegibleDesks.{IsLegible}
 use Rattle.catalogue_core.proofs.DistinctLists.{all_so}
 use Rattle.catalogue_core.specs.UnitLookup.{has_unit}
 use Rattle.catalogue_core.specs.Units.{Unit, has_id}
@@ -15,12 +14,12 @@ use Rattle.refinement.proofs.PermitsShown.{revoked_rows}
 use Rattle.access.proofs.OpenByPermits.{IsAlike, permitted_left}
 use Rattle.access.proofs.OpenElsewhere.{none_left, stays_permitted, still_open}
 use Rattle.access.specs.Gate.{OthersAreOpen}
-use Rattle.desk_commands.proofs.Common.{AllByRecursion, AreTexts, CanBeJudged, Database, Forest, IsSoundOffice}
-use Rattle.desk_commands.proofs.Common.{NoPermit, OnlyTouches, Permit, PermitRow, RepresentsDesk, RepresentsState}
-use Rattle.desk_commands.proofs.Common.{State, Trees, UnknownTicket, UnknownUnit, Version, after, cases_eq, cut}
-use Rattle.desk_commands.proofs.Common.{desk_step, eqb-true, first_that_holds, gate, has_permit, is_permitted}
-use Rattle.desk_commands.proofs.Common.{is_ticket, judged_now, nodes, permit_rows, put_here, put_there, refusal}
-use Rattle.desk_commands.proofs.Common.{revoked, tables, update_at}
+use Rattle.desk_commands.proofs.Common.{AllByRecursion, AreTexts, CanBeJudged, Database, Forest, IsLegible}
+use Rattle.desk_commands.proofs.Common.{IsSoundOffice, NoPermit, OnlyTouches, Permit, PermitRow, RepresentsDesk}
+use Rattle.desk_commands.proofs.Common.{RepresentsState, State, Trees, UnknownTicket, UnknownUnit, Version, after}
+use Rattle.desk_commands.proofs.Common.{cases_eq, cut, desk_step, eqb-true, first_that_holds, gate, has_permit}
+use Rattle.desk_commands.proofs.Common.{is_permitted, is_ticket, judged_now, nodes, permit_rows, put_here, put_there}
+use Rattle.desk_commands.proofs.Common.{refusal, revoked, tables, update_at}
 
 all_kept : {X : Type 0} (P : X → Type 0) (p : X → Bool) (xs : List X) → AllByRecursion P xs
     → AllByRecursion P (filter p xs)

@@ -1,3 +1,4 @@
+pub mod SparedCatalogue
 pub mod Seats
 pub mod OrderPlacement
 pub mod Permits

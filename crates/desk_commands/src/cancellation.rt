@@ -1,11 +1,11 @@
 //! Cancelling an order that waits.
 
-ghost use Rattle.std.specs.Prelude.{◌≡◌, nat_eq, true};
+ghost use Rattle.std.specs.Prelude.{◌≡◌, nat_eq, true, ⊤};
 ghost use Rattle.sqlite.specs.Held.{state};
 ghost use Rattle.desk_store.specs.Orders.{order_state_number};
 ghost use Rattle.office_core.specs.State.{waits};
 ghost use Rattle.office_core.specs.declared.command.Command.TheVariants as command;
-ghost use Rattle.refinement.specs.CommandSteps.{Performs, PerformsKnowing};
+ghost use Rattle.desk_commands.specs.SparedCatalogue.{PerformsSparing};
 
 use catalogue_store::Places;
 use desk_store::{OrderState, end_order, order};
@@ -27,7 +27,7 @@ fn end_waiting<P: Places, S: Alter>(
     tables: &mut Tables<P, S>,
     order: Number,
 ) -> Result<Result<Done, Refusal>, StoreFault>
-    ensures { PerformsKnowing P.represents P.version S.Store (λ s. waits s order ≡ true) (command.Cancel order)
+    ensures { PerformsSparing P.represents P.version S.Store (λ s. waits s order ≡ true) (command.Cancel order)
         tables.old tables.new result }
 {
     end_order(tables, order, OrderState::Cancelled)?;
@@ -41,7 +41,8 @@ pub fn cancel<P: Places, S: Alter>(
     tables: &mut Tables<P, S>,
     number: Number,
 ) -> Result<Result<Done, Refusal>, StoreFault>
-    ensures { Performs P.represents P.version S.Store (command.Cancel number) tables.old tables.new result }
+    ensures { PerformsSparing P.represents P.version S.Store (λ _. ⊤) (command.Cancel number)
+        tables.old tables.new result }
 {
     let Some(placed) = order(alloc, tables, number)? else {
         return Ok(Err(Refusal::UnknownOrder));

@@ -1,10 +1,10 @@
 //! Taking a container back from its reader.
 
-ghost use Rattle.std.specs.Prelude.{◌≡◌, true};
+ghost use Rattle.std.specs.Prelude.{◌≡◌, true, ⊤};
 ghost use Rattle.desk_core.specs.declared.reader.Place.TheVariants.{Out};
 ghost use Rattle.office_core.specs.State.{is_container};
 ghost use Rattle.office_core.specs.declared.command.Command.TheVariants as command;
-ghost use Rattle.refinement.specs.CommandSteps.{Performs, PerformsKnowing};
+ghost use Rattle.desk_commands.specs.SparedCatalogue.{PerformsSparing};
 
 use crate::container_moves::hand_over;
 use catalogue_store::Places;
@@ -22,7 +22,7 @@ fn take_back<P: Places, S: Alter>(
     container: Number,
     order: Number,
 ) -> Result<Result<Done, Refusal>, StoreFault>
-    ensures { PerformsKnowing P.represents P.version S.Store (λ s. s.place container ≡ Out order)
+    ensures { PerformsSparing P.represents P.version S.Store (λ s. s.place container ≡ Out order)
         (command.Return container) tables.old tables.new result }
 {
     hand_over(tables, container, Place::Desk, order, OrderState::Done)?;
@@ -35,7 +35,7 @@ fn return_from<P: Places, S: Alter>(
     container: Number,
     place: Place,
 ) -> Result<Result<Done, Refusal>, StoreFault>
-    ensures { PerformsKnowing P.represents P.version S.Store
+    ensures { PerformsSparing P.represents P.version S.Store
         (λ s. (is_container s container ≡ true) × (s.place container ≡ place))
         (command.Return container) tables.old tables.new result }
 {
@@ -52,7 +52,8 @@ pub fn return_container<P: Places, S: Alter>(
     tables: &mut Tables<P, S>,
     container: Number,
 ) -> Result<Result<Done, Refusal>, StoreFault>
-    ensures { Performs P.represents P.version S.Store (command.Return container) tables.old tables.new result }
+    ensures { PerformsSparing P.represents P.version S.Store (λ _. ⊤) (command.Return container)
+        tables.old tables.new result }
 {
     let found = queue_head(alloc, tables, container)?;
     match known_container(found) {

@@ -10,8 +10,8 @@ ghost use Rattle.office_core.specs.Rules.{refusal};
 ghost use Rattle.office_core.specs.Words.{first as first_of};
 ghost use Rattle.office_core.specs.declared.command.Command.TheVariants as command;
 ghost use Rattle.refinement.specs.ReadingRoomLimits.{limits_of};
-ghost use Rattle.refinement.specs.CommandSteps.{PerformsKnowing};
 ghost use Rattle.desk_commands.specs.Issuance.{IsQueuedFor, asked_for};
+ghost use Rattle.desk_commands.specs.SparedCatalogue.{PerformsSparing};
 
 use crate::container_moves::hand_over;
 use access::is_open_to;
@@ -65,7 +65,7 @@ fn lend<P: Places, S: Alter>(
     ticket: Number,
     order: Number,
 ) -> Result<Result<Done, Refusal>, StoreFault>
-    ensures { PerformsKnowing P.represents P.version S.Store
+    ensures { PerformsSparing P.represents P.version S.Store
         (λ s. (refusal s (command.Issue container ticket) ≡ None) × (first_of (s.queue container) ≡ Some order))
         (command.Issue container ticket) tables.old tables.new result }
 {
@@ -83,7 +83,7 @@ fn issue_known<P: Places, S: Alter>(
     ticket: Number,
     head: QueueHead,
 ) -> Result<Result<Done, Refusal>, StoreFault>
-    ensures { PerformsKnowing P.represents P.version S.Store
+    ensures { PerformsSparing P.represents P.version S.Store
         (λ s. (today ≡ s.day) × (limits.now ≡ limits_of s) × IsQueuedFor s container head.place head.first)
         (command.Issue container ticket) tables.old tables.new result }
 {
@@ -108,7 +108,7 @@ pub fn issue<P: Places, S: Alter>(
     container: Number,
     ticket: Number,
 ) -> Result<Result<Done, Refusal>, StoreFault>
-    ensures { PerformsKnowing P.represents P.version S.Store (λ s. (today ≡ s.day) × (limits.now ≡ limits_of s))
+    ensures { PerformsSparing P.represents P.version S.Store (λ s. (today ≡ s.day) × (limits.now ≡ limits_of s))
         (command.Issue container ticket) tables.old tables.new result }
 {
     let found = queue_head(alloc, tables, container)?;

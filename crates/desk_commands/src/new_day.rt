@@ -4,7 +4,7 @@ ghost use Rattle.std.specs.Prelude.{◌≡◌, false, int_lt, true};
 ghost use Rattle.std.specs.List.{list_any};
 ghost use Rattle.office_core.specs.State.{containers, is_out};
 ghost use Rattle.office_core.specs.declared.command.Command.TheVariants as command;
-ghost use Rattle.refinement.specs.CommandSteps.{PerformsKnowing};
+ghost use Rattle.desk_commands.specs.SparedCatalogue.{PerformsSparing};
 
 use crate::emptiness::are_none;
 use catalogue_store::Places;
@@ -20,7 +20,7 @@ fn begin_day<P: Places, S: Alter>(
     tables: &mut Tables<P, S>,
     day: Day,
 ) -> Result<Result<Done, Refusal>, StoreFault>
-    ensures { PerformsKnowing P.represents P.version S.Store
+    ensures { PerformsSparing P.represents P.version S.Store
         (λ s. (int_lt s.day day ≡ true) × (list_any (is_out s) (containers s) ≡ false)) (command.OpenDay day)
         tables.old tables.new result }
 {
@@ -35,7 +35,7 @@ pub fn open<P: Places, S: Alter>(
     tables: &mut Tables<P, S>,
     day: Day,
 ) -> Result<Result<Done, Refusal>, StoreFault>
-    ensures { PerformsKnowing P.represents P.version S.Store (λ s. int_lt s.day day ≡ true) (command.OpenDay day)
+    ensures { PerformsSparing P.represents P.version S.Store (λ s. int_lt s.day day ≡ true) (command.OpenDay day)
         tables.old tables.new result }
 {
     let loans = issued(alloc, tables)?;

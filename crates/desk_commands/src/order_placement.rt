@@ -6,8 +6,8 @@ ghost use Rattle.desk_store.specs.declared.reader_summary.LiveOrder.{LiveOrder a
 ghost use Rattle.office_core.specs.State.{opens};
 ghost use Rattle.office_core.specs.declared.command.Command.TheVariants as command;
 ghost use Rattle.refinement.specs.ReadingRoomLimits.{limits_of};
-ghost use Rattle.refinement.specs.CommandSteps.{PerformsKnowing};
 ghost use Rattle.desk_commands.specs.OrderPlacement.{IsCardOf, MayPlaceOrder, ask_of};
+ghost use Rattle.desk_commands.specs.SparedCatalogue.{PerformsSparing};
 
 use access::is_open_to;
 use catalogue_store::Places;
@@ -46,7 +46,7 @@ fn append<P: Places, S: Alter>(
     container: Number,
     order: Number,
 ) -> Result<Result<Done, Refusal>, StoreFault>
-    ensures { PerformsKnowing P.represents P.version S.Store (λ s. MayPlaceOrder s ticket container order today)
+    ensures { PerformsSparing P.represents P.version S.Store (λ s. MayPlaceOrder s ticket container order today)
         (command.Order ticket container) tables.old tables.new result }
 {
     append_order(tables, order, ticket, container, today)?;
@@ -63,7 +63,7 @@ fn decide<P: Places, S: Alter>(
     container: Number,
     is_open: bool,
 ) -> Result<Result<Done, Refusal>, StoreFault>
-    ensures { PerformsKnowing P.represents P.version S.Store
+    ensures { PerformsSparing P.represents P.version S.Store
         (λ s. (today ≡ s.day) × (limits.now ≡ limits_of s) × IsCardOf P.version s ticket card.now
         × (is_open ≡ opens s ticket container)) (command.Order ticket container) tables.old tables.new result }
 {
@@ -94,7 +94,7 @@ fn order_by<P: Places, S: Alter>(
     ticket: Number,
     container: Number,
 ) -> Result<Result<Done, Refusal>, StoreFault>
-    ensures { PerformsKnowing P.represents P.version S.Store
+    ensures { PerformsSparing P.represents P.version S.Store
         (λ s. (today ≡ s.day) × (limits.now ≡ limits_of s) × IsCardOf P.version s ticket card.now)
         (command.Order ticket container) tables.old tables.new result }
 {
@@ -115,7 +115,7 @@ pub fn order<P: Places, S: Alter>(
     ticket: Number,
     container: Number,
 ) -> Result<Result<Done, Refusal>, StoreFault>
-    ensures { PerformsKnowing P.represents P.version S.Store (λ s. (today ≡ s.day) × (limits.now ≡ limits_of s))
+    ensures { PerformsSparing P.represents P.version S.Store (λ s. (today ≡ s.day) × (limits.now ≡ limits_of s))
         (command.Order ticket container) tables.old tables.new result }
 {
     let Some(card) = reader(alloc, tables, ticket, today)? else {

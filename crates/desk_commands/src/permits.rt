@@ -1,12 +1,12 @@
 //! Granting permits for closed units.
 
-ghost use Rattle.std.specs.Prelude.{◌≡◌, ◌&&◌, true, not, is_some, length, nat_le};
+ghost use Rattle.std.specs.Prelude.{◌≡◌, ◌&&◌, true, not, is_some, length, nat_le, ⊤};
 ghost use Rattle.isad_core.specs.Limits.{most_permits};
 ghost use Rattle.catalogue_core.specs.UnitLookup.{has_unit};
 ghost use Rattle.office_core.specs.State.{is_ticket};
 ghost use Rattle.office_core.specs.declared.command.Command.TheVariants as command;
-ghost use Rattle.refinement.specs.CommandSteps.{Performs, PerformsKnowing};
 ghost use Rattle.desk_commands.specs.Permits.{MayPermit, later_of, until_for};
+ghost use Rattle.desk_commands.specs.SparedCatalogue.{PerformsSparing};
 
 use catalogue_store::{Places, is_unit};
 use desk_store::{Permit, grant, is_registered, permits};
@@ -54,7 +54,7 @@ fn give<P: Places, S: Alter>(
     asked: Day,
     until: Day,
 ) -> Result<Result<Done, Refusal>, StoreFault>
-    ensures { PerformsKnowing P.represents P.version S.Store (λ s. MayPermit s ticket unit asked until)
+    ensures { PerformsSparing P.represents P.version S.Store (λ s. MayPermit s ticket unit asked until)
         (command.Permit ticket unit asked) tables.old tables.new result }
 {
     grant(tables, ticket, unit, until)?;
@@ -73,7 +73,7 @@ fn give_within<P: Places, S: Alter>(
     unit: Number,
     asked: Day,
 ) -> Result<Result<Done, Refusal>, StoreFault>
-    ensures { PerformsKnowing P.represents P.version S.Store
+    ensures { PerformsSparing P.represents P.version S.Store
         (λ s. (is_ticket s ticket ≡ true) × (has_unit s.catalogue.forest unit ≡ true))
         (command.Permit ticket unit asked) tables.old tables.new result }
 {
@@ -93,7 +93,7 @@ fn give_for<P: Places, S: Alter>(
     unit: Number,
     asked: Day,
 ) -> Result<Result<Done, Refusal>, StoreFault>
-    ensures { PerformsKnowing P.represents P.version S.Store (λ s. is_ticket s ticket ≡ true)
+    ensures { PerformsSparing P.represents P.version S.Store (λ s. is_ticket s ticket ≡ true)
         (command.Permit ticket unit asked) tables.old tables.new result }
 {
     let there = is_unit(alloc, tables, unit)?;
@@ -114,7 +114,8 @@ pub fn permit<P: Places, S: Alter>(
     unit: Number,
     until: Day,
 ) -> Result<Result<Done, Refusal>, StoreFault>
-    ensures { Performs P.represents P.version S.Store (command.Permit ticket unit until) tables.old tables.new result }
+    ensures { PerformsSparing P.represents P.version S.Store (λ _. ⊤) (command.Permit ticket unit until)
+        tables.old tables.new result }
 {
     let known = is_registered(alloc, tables, ticket)?;
     if !known {

@@ -1,9 +1,9 @@
 //! Registering readers.
 
-ghost use Rattle.std.specs.Prelude.{◌≡◌, true, IsUtf8};
+ghost use Rattle.std.specs.Prelude.{◌≡◌, true, IsUtf8, ⊤};
 ghost use Rattle.office_core.specs.Rules.{is_name};
 ghost use Rattle.office_core.specs.declared.command.Command.TheVariants as command;
-ghost use Rattle.refinement.specs.CommandSteps.{Performs};
+ghost use Rattle.desk_commands.specs.SparedCatalogue.{PerformsSparing};
 
 use catalogue_store::Places;
 use desk_store::add_reader;
@@ -21,7 +21,8 @@ pub fn register<P: Places, S: Alter>(
 ) -> Result<Result<Done, Refusal>, StoreFault>
     requires named { is_name name.now ≡ true }
     requires text { IsUtf8 name.now }
-    ensures { Performs P.represents P.version S.Store (command.Register name.now until) tables.old tables.new result }
+    ensures { PerformsSparing P.represents P.version S.Store (λ _. ⊤) (command.Register name.now until)
+        tables.old tables.new result }
 {
     let Some(ticket) = add_reader(tables, name, until)? else {
         return Ok(Err(Refusal::Full));

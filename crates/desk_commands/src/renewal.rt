@@ -1,9 +1,9 @@
 //! Renewing tickets.
 
-ghost use Rattle.std.specs.Prelude.{◌≡◌, true};
+ghost use Rattle.std.specs.Prelude.{◌≡◌, true, ⊤};
 ghost use Rattle.office_core.specs.State.{is_ticket};
 ghost use Rattle.office_core.specs.declared.command.Command.TheVariants as command;
-ghost use Rattle.refinement.specs.CommandSteps.{Performs, PerformsKnowing};
+ghost use Rattle.desk_commands.specs.SparedCatalogue.{PerformsSparing};
 
 use catalogue_store::Places;
 use desk_store::{is_registered, renew};
@@ -19,7 +19,7 @@ fn set_last_day<P: Places, S: Alter>(
     ticket: Number,
     until: Day,
 ) -> Result<Result<Done, Refusal>, StoreFault>
-    ensures { PerformsKnowing P.represents P.version S.Store (λ s. is_ticket s ticket ≡ true)
+    ensures { PerformsSparing P.represents P.version S.Store (λ s. is_ticket s ticket ≡ true)
         (command.Renew ticket until) tables.old tables.new result }
 {
     renew(tables, ticket, until)?;
@@ -36,7 +36,8 @@ pub fn renew_ticket<P: Places, S: Alter>(
     ticket: Number,
     until: Day,
 ) -> Result<Result<Done, Refusal>, StoreFault>
-    ensures { Performs P.represents P.version S.Store (command.Renew ticket until) tables.old tables.new result }
+    ensures { PerformsSparing P.represents P.version S.Store (λ _. ⊤) (command.Renew ticket until)
+        tables.old tables.new result }
 {
     let known = is_registered(alloc, tables, ticket)?;
     if !known {

@@ -4,8 +4,8 @@ ghost use Rattle.std.specs.Prelude.{◌≡◌, true};
 ghost use Rattle.catalogue_core.specs.UnitLookup.{has_unit};
 ghost use Rattle.office_core.specs.State.{is_ticket};
 ghost use Rattle.office_core.specs.declared.command.Command.TheVariants as command;
-ghost use Rattle.refinement.specs.CommandSteps.{PerformsKnowing};
 ghost use Rattle.office_core.specs.AccessRestrictions.{MayRevoke};
+ghost use Rattle.desk_commands.specs.SparedCatalogue.{PerformsSparing};
 
 use crate::permits::last_day;
 use access::pass_gate_near;
@@ -25,7 +25,7 @@ fn take_back<P: Places, S: Alter>(
     ticket: Number,
     unit: Number,
 ) -> Result<Result<Done, Refusal>, StoreFault>
-    ensures { PerformsKnowing P.represents P.version S.Store (λ s. (today ≡ s.day) × MayRevoke s ticket unit)
+    ensures { PerformsSparing P.represents P.version S.Store (λ s. (today ≡ s.day) × MayRevoke s ticket unit)
         (command.Revoke ticket unit) tables.old tables.new result }
 {
     revoke(tables, ticket, unit)?;
@@ -46,7 +46,7 @@ fn take_back_held<P: Places, S: Alter>(
     ticket: Number,
     unit: Number,
 ) -> Result<Result<Done, Refusal>, StoreFault>
-    ensures { PerformsKnowing P.represents P.version S.Store
+    ensures { PerformsSparing P.represents P.version S.Store
         (λ s. (today ≡ s.day) × (is_ticket s ticket ≡ true) × (has_unit s.catalogue.forest unit ≡ true))
         (command.Revoke ticket unit) tables.old tables.new result }
 {
@@ -66,7 +66,7 @@ fn take_back_for<P: Places, S: Alter>(
     ticket: Number,
     unit: Number,
 ) -> Result<Result<Done, Refusal>, StoreFault>
-    ensures { PerformsKnowing P.represents P.version S.Store (λ s. (today ≡ s.day) × (is_ticket s ticket ≡ true))
+    ensures { PerformsSparing P.represents P.version S.Store (λ s. (today ≡ s.day) × (is_ticket s ticket ≡ true))
         (command.Revoke ticket unit) tables.old tables.new result }
 {
     let there = is_unit(alloc, tables, unit)?;
@@ -86,7 +86,7 @@ pub fn revoke_permit<P: Places, S: Alter>(
     ticket: Number,
     unit: Number,
 ) -> Result<Result<Done, Refusal>, StoreFault>
-    ensures { PerformsKnowing P.represents P.version S.Store (λ s. today ≡ s.day) (command.Revoke ticket unit)
+    ensures { PerformsSparing P.represents P.version S.Store (λ s. today ≡ s.day) (command.Revoke ticket unit)
         tables.old tables.new result }
 {
     let known = is_registered(alloc, tables, ticket)?;

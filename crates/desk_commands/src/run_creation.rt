@@ -10,9 +10,9 @@ ghost use Rattle.office_tables.specs.Premises.{◌within◌gives◌};
 ghost use Rattle.state_encoding.specs.OfficeRows.{tables as rows_of};
 ghost use Rattle.access.specs.KnownUnits.{AreTold, open_ones};
 ghost use Rattle.refinement.specs.ReadingRoomLimits.{limits_of};
-ghost use Rattle.refinement.specs.CommandSteps.{PerformsKnowing};
 ghost use Rattle.refinement.specs.AccessConditions.{CanBeJudged, RepresentsWhole};
 ghost use Rattle.desk_commands.specs.RunCreation.{open_orders, taken_by};
+ghost use Rattle.desk_commands.specs.SparedCatalogue.{PerformsSparing};
 
 use crate::container_moves::move_all;
 use crate::emptiness::are_none;
@@ -96,7 +96,7 @@ fn bring<P: Places, S: Alter>(
     containers: &[Number],
 ) -> Result<Result<Done, Refusal>, StoreFault>
     requires theirs { containers.now ≡ map (λ (o : Taken). o.container) due.now }
-    ensures { PerformsKnowing P.represents P.version S.Store
+    ensures { PerformsSparing P.represents P.version S.Store
         (λ s. (today ≡ s.day) × (due.now ≡ taken_by P.version s) × (is_empty due.now ≡ false)) command.Run
         tables.old tables.new result }
 {
@@ -117,7 +117,7 @@ fn bring_due<P: Places, S: Alter>(
     today: Day,
     due: &[ContainerOrder],
 ) -> Result<Result<Done, Refusal>, StoreFault>
-    ensures { PerformsKnowing P.represents P.version S.Store
+    ensures { PerformsSparing P.represents P.version S.Store
         (λ s. (today ≡ s.day) × (due.now ≡ taken_by P.version s) × (is_empty due.now ≡ false)) command.Run
         tables.old tables.new result }
 {
@@ -135,7 +135,7 @@ pub fn fetch<P: Places, S: Alter>(
     today: Day,
     limits: &Limits,
 ) -> Result<Result<Done, Refusal>, StoreFault>
-    ensures { PerformsKnowing P.represents P.version S.Store (λ s. (today ≡ s.day) × (limits.now ≡ limits_of s))
+    ensures { PerformsSparing P.represents P.version S.Store (λ s. (today ≡ s.day) × (limits.now ≡ limits_of s))
         command.Run tables.old tables.new result }
 {
     let waiting = first_orders(alloc, tables)?;

@@ -1,13 +1,13 @@
 //! Taking and leaving seats.
 
-ghost use Rattle.std.specs.Prelude.{◌≡◌, IfOk, IsPermutation, map};
+ghost use Rattle.std.specs.Prelude.{◌≡◌, IfOk, IsPermutation, map, ⊤};
 ghost use Rattle.std.specs.List.Sorted.{IsNonDecreasing};
 ghost use Rattle.desk_store.specs.declared.taken_seats.TakenSeat.{TakenSeat as Taken};
 ghost use Rattle.office_core.specs.declared.command.Command.TheVariants as command;
 ghost use Rattle.refinement.specs.ReadingRoomLimits.{limits_of};
-ghost use Rattle.refinement.specs.CommandSteps.{Performs, PerformsKnowing};
 ghost use Rattle.refinement.specs.Sitters.{sitter};
 ghost use Rattle.desk_commands.specs.Seats.{MayLeave, MaySit};
+ghost use Rattle.desk_commands.specs.SparedCatalogue.{PerformsSparing};
 
 use catalogue_store::Places;
 use desk_core::{Limits, Reader, may_leave, may_sit};
@@ -24,7 +24,7 @@ fn free_seat<P: Places, S: Alter>(
     ticket: Number,
     seat: u32,
 ) -> Result<Result<Done, Refusal>, StoreFault>
-    ensures { PerformsKnowing P.represents P.version S.Store (λ s. MayLeave s ticket seat) (command.LeaveSeat ticket)
+    ensures { PerformsSparing P.represents P.version S.Store (λ s. MayLeave s ticket seat) (command.LeaveSeat ticket)
         tables.old tables.new result }
 {
     set_seat(tables, seat, None)?;
@@ -38,7 +38,8 @@ pub fn leave_seat<P: Places, S: Alter>(
     tables: &mut Tables<P, S>,
     ticket: Number,
 ) -> Result<Result<Done, Refusal>, StoreFault>
-    ensures { Performs P.represents P.version S.Store (command.LeaveSeat ticket) tables.old tables.new result }
+    ensures { PerformsSparing P.represents P.version S.Store (λ _. ⊤) (command.LeaveSeat ticket)
+        tables.old tables.new result }
 {
     let who = ticket_holder(alloc, tables, ticket)?;
     match may_leave(who.as_ref()) {
@@ -66,7 +67,7 @@ fn take<P: Places, S: Alter>(
     ticket: Number,
     seat: u32,
 ) -> Result<Result<Done, Refusal>, StoreFault>
-    ensures { PerformsKnowing P.represents P.version S.Store (λ s. MaySit s ticket seat) (command.TakeSeat ticket)
+    ensures { PerformsSparing P.represents P.version S.Store (λ s. MaySit s ticket seat) (command.TakeSeat ticket)
         tables.old tables.new result }
 {
     set_seat(tables, seat, Some(ticket))?;
@@ -82,7 +83,7 @@ fn sit_down<P: Places, S: Alter>(
     ticket: Number,
     who: Option<Reader>,
 ) -> Result<Result<Done, Refusal>, StoreFault>
-    ensures { PerformsKnowing P.represents P.version S.Store
+    ensures { PerformsSparing P.represents P.version S.Store
         (λ s. (today ≡ s.day) × (limits.now ≡ limits_of s) × (who ≡ sitter s ticket)) (command.TakeSeat ticket)
         tables.old tables.new result }
 {
@@ -104,7 +105,7 @@ pub fn take_seat<P: Places, S: Alter>(
     limits: &Limits,
     ticket: Number,
 ) -> Result<Result<Done, Refusal>, StoreFault>
-    ensures { PerformsKnowing P.represents P.version S.Store (λ s. (today ≡ s.day) × (limits.now ≡ limits_of s))
+    ensures { PerformsSparing P.represents P.version S.Store (λ s. (today ≡ s.day) × (limits.now ≡ limits_of s))
         (command.TakeSeat ticket) tables.old tables.new result }
 {
     let who = ticket_holder(alloc, tables, ticket)?;

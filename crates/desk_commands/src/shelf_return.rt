@@ -1,10 +1,10 @@
 //! Moving containers that nobody waits for back to the shelf.
 
-ghost use Rattle.std.specs.Prelude.{◌≡◌, false};
+ghost use Rattle.std.specs.Prelude.{◌≡◌, false, ⊤};
 ghost use Rattle.office_core.specs.State.{idle};
 ghost use Rattle.office_core.specs.Words.{is_empty};
 ghost use Rattle.office_core.specs.declared.command.Command.TheVariants as command;
-ghost use Rattle.refinement.specs.CommandSteps.{Performs, PerformsKnowing};
+ghost use Rattle.desk_commands.specs.SparedCatalogue.{PerformsSparing};
 
 use crate::container_moves::move_all;
 use crate::emptiness::are_none;
@@ -22,7 +22,7 @@ fn shelve<P: Places, S: Alter>(
     tables: &mut Tables<P, S>,
     containers: Vec<Number>,
 ) -> Result<Result<Done, Refusal>, StoreFault>
-    ensures { PerformsKnowing P.represents P.version S.Store
+    ensures { PerformsSparing P.represents P.version S.Store
         (λ s. (containers.items ≡ idle s) × (is_empty (idle s) ≡ false)) command.Reshelve tables.old tables.new result }
 {
     move_all(tables, &containers, &Place::Shelf)?;
@@ -37,7 +37,7 @@ pub fn reshelve<P: Places, S: Alter>(
     alloc: Global,
     tables: &mut Tables<P, S>,
 ) -> Result<Result<Done, Refusal>, StoreFault>
-    ensures { Performs P.represents P.version S.Store command.Reshelve tables.old tables.new result }
+    ensures { PerformsSparing P.represents P.version S.Store (λ _. ⊤) command.Reshelve tables.old tables.new result }
 {
     let told = at_desk(alloc, tables)?;
     let idle = pick_reshelve(alloc, &told)?;

@@ -1,6 +1,5 @@
 -- An office over tables of any origin, against which there is no cause.
 use Rattle.std.proofs.Common.{◌≡◌, ◌≤◌, ◌∙◌, ℕ, List, Ok, Err, None, IsTrue, inl, inr, arith, refl, sym, subst}
-use Rattle.std.proofs.lemmas.Bool.{both_ways, cases_Bool}
 use Rattle.sqlite.specs.Order.{Row}
 use Rattle.sqlite.specs.State.{ExecutesIn}
 use Rattle.sqlite.specs.State as store
@@ -18,7 +17,8 @@ use Rattle.adoption.specs.declared.verdict.Verdict.TheVariants as verdict
 use Rattle.office.proofs.Common.{BlamesDisk, ConfirmsOpen, Database, Executes, Forest, HasAdoptCause, HasCleanDisk}
 use Rattle.office.proofs.Common.{HasOuterCause, Held, Inspects, IsAdopted, IsAsBefore, IsIn, IsLive, IsNotRun}
 use Rattle.office.proofs.Common.{IsSoundOffice, IsVerdict, RepresentsState, Shows, StoreFault, Survives, Trees, Version}
-use Rattle.office.proofs.Common.{early, encoding, fault_for_verdict, open_fault_of, state, state_in, survives_then}
+use Rattle.office.proofs.Common.{both_ways, cases_Bool, early, encoding, fault_for_verdict, open_fault_of, state}
+use Rattle.office.proofs.Common.{state_in, survives_then}
 
 -- no fault is told of a sound office's tables alone
 pub none_refused : (v : Verdict) → fault_for_verdict v ≡ None → v ≡ verdict.Sound

@@ -2,23 +2,25 @@
 use Rattle.std.proofs.Common.{rules, ◌≡◌, ℕ, true, IsTrue, Option, Some, None, Result, Ok, Err, OnOk, refl, sym, ap}
 use Rattle.std.proofs.Common.{subst, ◌∙◌}
 use Rattle.std.proofs.lemmas.Result.{IfOk-weaker}
+use Rattle.std.specs.Prelude.{IsOk}
 use Rattle.sqlite.specs.State.{State}
 use Rattle.sqlite_trees.specs.declared.store.Store as trees
+use Rattle.office_tables.proofs.Touching.{nothing_touched}
 use Rattle.office_tables.specs.Transactions.{Committed, IsEnded}
 use Rattle.office_tables.specs.declared.fault.StoreFault.TheVariants as fault
 use Rattle.office_core.specs.Json.{reply_text}
 use Rattle.office_core.specs.Rules as machine
 use Rattle.office_core.specs.State as office
 use Rattle.office_core.specs.declared.machine.Reply.{Reply}
-use Rattle.refinement.proofs.Crashes.{went}
 use Rattle.refinement.proofs.Doings.{refused}
 use Rattle.refinement.specs.CommandSteps.{CarriesOutStep}
 use Rattle.office.specs.CallTransactions.{Applies, Replies}
 use Rattle.office.specs.Transactions.{Settles}
 use Rattle.office.proofs.Common.{Command, Database, Forest, Goes, GoesOn, HasCleanDisk, Held, IfErr, IfOk, IsAsBefore}
-use Rattle.office.proofs.Common.{IsAtRest, IsErr, IsIn, IsOffice, IsOk, IsSoundOffice, MayFind, Refusal}
+use Rattle.office.proofs.Common.{IsAtRest, IsErr, IsIn, IsOffice, IsSoundOffice, MayFind, OnlyTouches, Refusal}
 use Rattle.office.proofs.Common.{RepresentsState, Shows, StoreFault, Survives, TakesStep, Trees, Version, after, decide}
-use Rattle.office.proofs.Common.{early, refusal, result_of, state, step, survives_then}
+use Rattle.office.proofs.Common.{early, reading_room_trees, refusal, result_of, spares_catalogue, state, step}
+use Rattle.office.proofs.Common.{survives_then, went}
 use Rattle.office.proofs.States.{found_committed, shown_begun}
 
 -- a step that is refused changes nothing
@@ -53,6 +55,7 @@ module _ {S : Type 0} (g : trees.Ghosts S) (before : Held S) {places : Trees →
             (λ reply same. subst (λ (done : machine.Reply). TakesStep places version s asked done a) (sym same) (refused_at_once places version a s asked why (is s) here)) same;
         was_open = search rules;
         kept = search rules;
+        only = λ spares clean. IfOk-weaker r _ (λ (reply : Reply). IsOk reply.done → OnlyTouches reading_room_trees a.now a.now) (λ reply same ok. nothing_touched reading_room_trees a.now) same;
         bytes = search rules;
         refused = search rules;
         busy = search rules;
@@ -139,12 +142,28 @@ module _ {S : Type 0} (g : trees.Ghosts S) (before begun done after : Held S) wh
         (λ clean db it s sound is. found_committed places version (step s asked).0 m.now ((carried it.0 it.1 clean s sound is).represents it.2) db it.3)
         so_far last.crash
 
+    -- a command of the reading room touched its tables alone
+    spared : spares_catalogue asked ≡ true → HasCleanDisk z
+        → IfOk r (λ reply. IsOk reply.done → OnlyTouches reading_room_trees a.now z.now)
+    spared spares clean = at r last.same (last.committed clean)
+      where
+        touched : (x : Reply) → outcome ≡ Ok x → OnlyTouches reading_room_trees b.now m.now
+        touched x same = subst (λ o. OnOk o (OnlyTouches reading_room_trees b.now m.now)) same (does.only spares (clean_m clean))
+
+        at : (r : Result Reply StoreFault) → IfOk r (λ x. outcome ≡ Ok x) → IfOk r (λ x. IsOk x.done → Committed m z)
+            → IfOk r (λ reply. IsOk reply.done → OnlyTouches reading_room_trees a.now z.now)
+        at (Ok x) same committed = λ ok tree table other.
+            ap (λ (db : Database). db.trees tree) (committed ok).now ∙ touched x same tree table other
+            ∙ ap (λ (db : Database). db.trees tree) (begins (clean_b clean)).now_is
+        at (Err e) same committed = tt
+
     pub applies : Applies places version g before after asked r
     applies = record {
       office = search rules;
       steps = takes;
       was_open = was_open;
       kept = search rules;
+      only = spared;
       bytes = search rules;
       refused = search rules;
       busy = search rules;

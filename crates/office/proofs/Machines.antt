@@ -1,16 +1,15 @@
 -- The calls of an office over its tables are calls of the machine.
 use Rattle.std.proofs.Common.{◌≡◌, ℕ, Result, Ok, Err, OnErr, sym, ap, subst, ◌∙◌}
+use Rattle.std.specs.Prelude.{IsOk}
 use Rattle.sqlite.specs.State as sqlite
 use Rattle.sqlite_trees.specs.declared.store.Store as store
 use Rattle.office_core.specs.Json.{reply_text}
-use Rattle.office_core.specs.Queries.{answer}
 use Rattle.office_core.specs.Rules as rules
 use Rattle.office_core.specs.State.{State}
 use Rattle.office_core.specs.declared.machine.Reply.{Reply}
-use Rattle.office.specs.Runs.{IsCall, Replied, Answered, question_call, command_call}
-use Rattle.office.proofs.Common.{Answer, Command, Database, Forest, Held, IfOk, IsAsBefore, IsIn, IsOk, IsSoundOffice}
-use Rattle.office.proofs.Common.{Query, RepresentsState, TakesStep, Trees, Version, has_clean_disk, is_shown}
-use Rattle.office.proofs.Common.{is_still_open, state, step}
+use Rattle.office.proofs.Common.{Answer, Answered, Command, Database, Forest, Held, IfOk, IsAsBefore, IsCall, IsIn}
+use Rattle.office.proofs.Common.{IsSoundOffice, Query, Replied, RepresentsState, TakesStep, Trees, Version, answer}
+use Rattle.office.proofs.Common.{command_call, has_clean_disk, is_shown, is_still_open, question_call, state, step}
 
 -- while nothing is changed, it is in the state that it was in
 pub in_as_before : (places : Trees → Forest ℕ → Type 0) (version : Version) (a b : sqlite.State) (s : State)

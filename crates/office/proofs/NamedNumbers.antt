@@ -1,7 +1,6 @@
 -- A number that is too great for the tables names nothing, and neither does 0: what names either is refused alike.
 use Rattle.std.proofs.Common.{◌≡◌, ℕ, ◌≤◌, ◌<◌, ◌^◌, Bool, true, false, cond, List, ◌∷◌, length, Option, Some, None}
 use Rattle.std.proofs.Common.{Err, [], ◌||◌, refl, sym, ap, subst, ◌∙◌, arith, inl, inr}
-use Rattle.std.proofs.lemmas.Bool.{cases_Bool, eqb-true, false≢true, ltb-false}
 use Rattle.std.proofs.lemmas.Result.{IfOk-weaker}
 use Rattle.std.specs.List.{AllByRecursion, list_any}
 use Rattle.std.specs.Prelude.{Result, map}
@@ -13,7 +12,6 @@ use Rattle.catalogue_core.specs.UnitLookup.{has_unit}
 use Rattle.catalogue_core.specs.Units.{Unit, has_id}
 use Rattle.catalogue_store.specs.Heads.{head_of}
 use Rattle.office_core.proofs.Words.{numbered_within}
-use Rattle.office_core.specs.Queries.{answer, known_json, run_answer}
 use Rattle.office_core.specs.Rules.{Reply}
 use Rattle.office_core.specs.State.{State}
 use Rattle.office_core.specs.Words.{first, nth, some_and}
@@ -26,11 +24,11 @@ use Rattle.public_queries.proofs.PageAnswers.{hidden}
 use Rattle.public_queries.proofs.Standing.{nowhere}
 use Rattle.public_queries.specs.HeadLines.{shows_last}
 use Rattle.public_queries.specs.InformedAnswers.{AnswersKnowing}
-use Rattle.office.specs.NamedNumbers.{asks_named, named, of_named}
 use Rattle.office.proofs.Common.{Answer, Command, Database, Forest, IsSoundOffice, Order, Query, Refusal}
-use Rattle.office.proofs.Common.{RepresentsState, Run, StoreFault, Trees, Version, after, checks, container_of, decide}
-use Rattle.office.proofs.Common.{is_by, is_container, is_expired, is_some, is_ticket, nat_eq, nat_lt, nodes, opens}
-use Rattle.office.proofs.Common.{option_map, result_of, step}
+use Rattle.office.proofs.Common.{RepresentsState, Run, StoreFault, Trees, Version, after, answer, asks_named}
+use Rattle.office.proofs.Common.{cases_Bool, checks, container_of, decide, eqb-true, false≢true, is_by, is_container}
+use Rattle.office.proofs.Common.{is_expired, is_some, is_ticket, known_json, ltb-false, named, nat_eq, nat_lt, nodes}
+use Rattle.office.proofs.Common.{of_named, opens, option_map, result_of, run_answer, spares_catalogue, step}
 
 -- What does the same with each number that names nothing does the same with what stands for it.
 named_same : {X : Type 0} (names : ℕ → Bool) (f : ℕ → X) (refused : X) → ((n : ℕ) → names n ≡ false → f n ≡ refused)
@@ -252,6 +250,27 @@ carried_named places version s asked other reply now same made = record {
   told = made.told ∙ ap (λ (done : State × Reply). done.1) same;
   represents = λ well. subst (λ (done : State × Reply). RepresentsState places version now done.0) same (made.represents well);
 }
+
+-- the command with its numbers named is of the same kind
+pub spares_named : (asked : Command) → spares_catalogue (of_named asked) ≡ spares_catalogue asked
+spares_named (command.OpenDay day) = refl
+spares_named (command.Import source file) = refl
+spares_named (command.SetStatus u draft whole) = refl
+spares_named (command.SetClosure u until) = refl
+spares_named (command.Move u parent) = refl
+spares_named (command.Remove u) = refl
+spares_named (command.Register name until) = refl
+spares_named (command.Renew t until) = refl
+spares_named (command.TakeSeat t) = refl
+spares_named (command.LeaveSeat t) = refl
+spares_named (command.Order t c) = refl
+spares_named (command.Cancel o) = refl
+spares_named command.Run = refl
+spares_named command.Reshelve = refl
+spares_named (command.Issue c t) = refl
+spares_named (command.Return c) = refl
+spares_named (command.Permit t u until) = refl
+spares_named (command.Revoke t u) = refl
 
 pub performs_named : (places : Trees → Forest ℕ → Type 0) (version : Version) (known : State → Type 0) (asked : Command) (old new : store.State) (r : Result Reply StoreFault)
     → CarriesOut places version known (of_named asked) old new r → CarriesOut places version known asked old new r

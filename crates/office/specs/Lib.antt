@@ -54,6 +54,7 @@ pub use Rattle.office.specs.Adoption
 pub use Rattle.office.specs.Migration
 pub mod InitialSettings
 pub mod IdleOffice
+pub mod KeptMarks
 pub mod NewOffice
 pub mod Migration
 pub mod NamedNumbers

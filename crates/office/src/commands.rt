@@ -1,17 +1,22 @@
 //! Commands: each is one transaction and one step.
 
-ghost use Rattle.std.specs.Prelude.{◌≡◌, None, IfErr, IfOk};
+ghost use Rattle.std.specs.Prelude.{◌≡◌, None, true, IfErr, IfOk, OnOk};
 ghost use Rattle.sqlite.specs.Held.{state};
+ghost use Rattle.sqlite.specs.State.{HasCleanDisk};
 ghost use Rattle.office_core.specs.Json.{reply_text};
 ghost use Rattle.office_core.specs.SoundOffice.{NamesTexts};
+ghost use Rattle.office_tables.specs.Step.{OnlyTouches};
 ghost use Rattle.office_tables.specs.declared.fault.StoreFault.TheVariants as fault;
 ghost use Rattle.office.specs.CallTransactions.{Applies, Replies};
 ghost use Rattle.office.specs.IdleOffice.{IsOffice};
+ghost use Rattle.office.specs.KeptMarks.{AreKept};
 ghost use Rattle.office.specs.NamedNumbers.{of_named};
 ghost use Rattle.office.specs.Sight.{day_check, name_check};
+ghost use Rattle.desk_commands.specs.SparedCatalogue.{reading_room_trees, spares_catalogue};
 ghost use Rattle.refinement.specs.CommandSteps.{Performs, PerformsKnowing};
 ghost use Rattle.refinement.specs.Representation.{office_of};
 
+use crate::kept_marks::let_go;
 use crate::named_numbers::named;
 use crate::names::{refused_by_day, refused_by_name};
 use crate::office_row::{limits_in, own_row};
@@ -24,6 +29,7 @@ use desk_commands::{
     cancel, fetch, issue, leave_seat, open, order, permit, register, renew_ticket, reshelve,
     return_container, revoke_permit, take_seat,
 };
+use known_forest::KnownForest;
 use office_core::{Command, Done, Refusal, Reply};
 use office_tables::{Closed, StoreFault, Tables};
 use replies::json_of;
@@ -40,8 +46,10 @@ fn perform<P: Places, S: Alter>(
     requires named { name_check command.now ≡ None }
     requires dated { day_check row.now.day command.now ≡ None }
     requires texts { NamesTexts command.now }
-    ensures { PerformsKnowing P.represents P.version S.Store (λ s. row.now ≡ office_of s) (of_named command.now)
+    ensures performs { PerformsKnowing P.represents P.version S.Store (λ s. row.now ≡ office_of s) (of_named command.now)
         tables.old tables.new result }
+    ensures only { spares_catalogue (of_named command.now) ≡ true → HasCleanDisk (state S.Store tables.new)
+        → OnOk result (OnlyTouches reading_room_trees (state S.Store tables.old).now (state S.Store tables.new).now) }
 {
     let today = row.day;
     let limits = limits_in(row);
@@ -113,7 +121,9 @@ fn carry_out<P: Places, S: Alter>(
 ) -> Result<Result<Done, Refusal>, StoreFault>
     requires named { name_check command.now ≡ None }
     requires texts { NamesTexts command.now }
-    ensures { Performs P.represents P.version S.Store command.now tables.old tables.new result }
+    ensures performs { Performs P.represents P.version S.Store command.now tables.old tables.new result }
+    ensures only { spares_catalogue command.now ≡ true → HasCleanDisk (state S.Store tables.new)
+        → OnOk result (OnlyTouches reading_room_trees (state S.Store tables.old).now (state S.Store tables.new).now) }
 {
     let row = own_row(alloc, tables)?;
     if let Some(why) = refused_by_day(row.day, command) {
@@ -149,7 +159,7 @@ fn reply_to<P: Places, S: Alter>(
 /// Carries out a command in a transaction of its own, which is committed if the command is accepted, and rolled back
 /// after a refusal or a fault. The reply's bytes are made before the commit. A malformed name is refused before any
 /// statement.
-pub(crate) fn apply_to<P: Places, S: Alter>(
+fn apply_to<P: Places, S: Alter>(
     alloc: Global,
     closed: &mut Closed<P, S>,
     command: &Command,
@@ -164,4 +174,23 @@ pub(crate) fn apply_to<P: Places, S: Alter>(
     let tables = closed.begin()?;
     let outcome = reply_to(alloc, tables, command);
     settle(closed, outcome)
+}
+
+/// The same. The marks that are kept must be those of the tables, and are so afterwards: they are let go if the command
+/// was accepted and may have changed the catalogue.
+pub(crate) fn apply_keeping<P: Places, S: Alter>(
+    alloc: Global,
+    closed: &mut Closed<P, S>,
+    kept: &mut Option<KnownForest>,
+    command: &Command,
+) -> Result<Reply, StoreFault>
+    requires office { IsOffice P.version (state S.Store closed.old) }
+    requires texts { NamesTexts command.now }
+    requires marks { AreKept P.represents P.version (state S.Store closed.old) kept.old }
+    ensures applies { Applies P.represents P.version S.Store closed.old closed.new command.now result }
+    ensures marks { AreKept P.represents P.version (state S.Store closed.new) kept.new }
+{
+    let outcome = apply_to(alloc, closed, command);
+    let_go(kept, command, &outcome);
+    outcome
 }

@@ -4,6 +4,7 @@
 mod commands;
 mod faults;
 mod inspection;
+mod kept_marks;
 pub mod laws;
 mod machine;
 mod migration;

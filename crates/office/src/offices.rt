@@ -19,7 +19,7 @@ ghost use Rattle.office.specs.IdleOffice.{IsAsBefore, IsAtRest, IsIn, has_clean_
 ghost use Rattle.office.specs.Runs.{IsCall, question_call, command_call};
 ghost use Rattle.refinement.specs.Representation.{RepresentsState};
 
-use crate::commands::apply_to;
+use crate::commands::apply_keeping;
 use crate::faults::{OpenFault, busy, fault_for};
 use crate::inspection::look_over;
 use crate::names::names_days_and_texts;
@@ -29,6 +29,7 @@ use crate::settings::Settings;
 use catalogue_store::Places;
 use desk_store::is_blank;
 use integrity_checks::CheckedPlaces;
+use known_forest::KnownForest;
 use office_core::{Answer, Busy, Command, Query, Reply};
 use office_tables::Closed;
 use sqlite::{Alter, Connection};
@@ -36,14 +37,17 @@ use std::alloc::Global;
 use std::marker::Model;
 
 /// An office over its tables, which stores the places of its units as `P` does. Between its calls no transaction is
-/// open, and the connection has the tables of an office, as they were committed.
+/// open, and the connection has the tables of an office, as they were committed. Once the public asked something, the
+/// marks of all units are kept in memory, until a command changes the catalogue.
 pub struct Office<P: Places, S: Alter> {
     closed: Closed<P, S>,
+    kept: Option<KnownForest>,
 }
 
 impl<P: Places, S: Alter> Model for Office<P, S> {
     ghost use Rattle.sqlite.specs.Held.{Held, held_code, state};
     ghost use Rattle.office.specs.IdleOffice.{IsOffice};
+    ghost use Rattle.office.specs.KeptMarks.{AreKept};
 
     ghost Value = { Held S };
 
@@ -51,7 +55,8 @@ impl<P: Places, S: Alter> Model for Office<P, S> {
 
     ghost view = { λ o. o.closed };
 
-    ghost invariant = { λ o. IsOffice P.version (state S.Store o.closed) };
+    ghost invariant = { λ o. IsOffice P.version (state S.Store o.closed)
+        × AreKept P.represents P.version (state S.Store o.closed) o.kept };
 }
 
 impl<P: Places, S: Alter> Office<P, S> {
@@ -93,6 +98,7 @@ impl<P: Places, S: Alter> Office<P, S> {
         match found::<P, S>(&mut conn, &row) {
             Ok(()) => Ok(Office {
                 closed: Closed::of(conn),
+                kept: None,
             }),
             Err(fault) => Err((OpenFault::from(fault), conn)),
         }
@@ -127,7 +133,7 @@ impl<P: Places, S: Alter> Office<P, S> {
             self.old self.new (command_call command.now result) }
     {
         names_days_and_texts(command);
-        match apply_to(alloc, &mut self.closed, command) {
+        match apply_keeping(alloc, &mut self.closed, &mut self.kept, command) {
             Ok(reply) => Ok(reply),
             Err(fault) => Err(busy(fault)),
         }
@@ -148,7 +154,7 @@ impl<P: Places, S: Alter> Office<P, S> {
         ensures call { IsCall (is_shown S.Store P.represents P.version) (has_clean_disk S.Store) (is_still_open S.Store)
             self.old self.new (question_call query result) }
     {
-        match ask_in(alloc, &mut self.closed, query) {
+        match ask_in(alloc, &mut self.closed, &mut self.kept, query) {
             Ok(answer) => Ok(answer),
             Err(fault) => Err(busy(fault)),
         }
@@ -160,7 +166,7 @@ impl<P: Places, S: Alter> Office<P, S> {
         ensures ended { HasCleanDisk (state S.Store result) → (state S.Store result).in_transaction ≡ false }
         ensures unlimited { IsUnlimited (state S.Store result) }
     {
-        let Office { closed } = self;
+        let Office { closed, kept: _ } = self;
         closed.into_connection()
     }
 }
@@ -205,6 +211,7 @@ impl<P: CheckedPlaces, S: Alter> Office<P, S> {
             Some(fault) => Err((fault, conn)),
             None => Ok(Office {
                 closed: Closed::of(conn),
+                kept: None,
             }),
         }
     }

@@ -1,14 +1,14 @@
 -- What the office answers when it is asked for a finding aid, by the path of the unit in the whole forest.
 use Rattle.std.proofs.Common.{◌≡◌, ℕ, true, false, cond, List, [], ◌∷◌, refl, sym, ap, ap₂, ◌∙◌, map}
-use Rattle.catalogue_core.specs.Aids.{shown_below}
+use Rattle.known_units.specs.KnownUnits.{KnowsUnits}
 use Rattle.office_core.specs.State.{State}
 use Rattle.office_core.specs.declared.query.Query.TheVariants as query
 use Rattle.refinement.proofs.Judged.{distinct_ids}
-use Rattle.public_queries.proofs.Common.{Empty, Forest, HasDistinctIds, IsSoundOffice, IsTellable, PublicUnit, Text}
-use Rattle.public_queries.proofs.Common.{Unit, Unknown, UnknownUnit, above_last, aid, aid_of, answer, before_last, each}
-use Rattle.public_queries.proofs.Common.{has, has_id, has_public_number, head_identifiers, head_of, is_unit_closed}
-use Rattle.public_queries.proofs.Common.{known_of, office_knows, office_of, office_places, path, press, public_forest}
-use Rattle.public_queries.proofs.Common.{public_of, repository_of, shows_last, tree, ℤ}
+use Rattle.public_queries.proofs.Common.{AreWalkMarks, Empty, Forest, HasDistinctIds, IsSoundOffice, IsTellable, Mark}
+use Rattle.public_queries.proofs.Common.{PublicUnit, Text, Unit, Unknown, UnknownUnit, above_last, aid, aid_of, answer}
+use Rattle.public_queries.proofs.Common.{before_last, each, has, has_id, has_public_number, head_identifiers, head_of}
+use Rattle.public_queries.proofs.Common.{is_unit_closed, known_of, office_knows, office_of, office_places, path, press}
+use Rattle.public_queries.proofs.Common.{public_forest, public_of, repository_of, shown_below, shows_last, tree, ℤ}
 use Rattle.public_queries.proofs.AidPrinted.{id_same}
 use Rattle.public_queries.proofs.Standing.{Finds, nowhere, seen}
 
@@ -24,6 +24,9 @@ module _ (s : State) (sound : IsSoundOffice s) where
 
   pub apart : HasDistinctIds (each (λ (u : Unit). u.id) s.catalogue.forest)
   apart = distinct_ids s.catalogue sound.sound.units
+
+  pub knows_all : {marks : List Mark} → AreWalkMarks s.catalogue.forest marks → KnowsUnits s.catalogue.forest marks
+  knows_all walk = record { walk = walk; distinct = apart }
 
   module _ (u : ℕ) where
     abbrev way : List Unit

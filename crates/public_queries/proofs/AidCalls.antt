@@ -1,9 +1,9 @@
 -- Calls that read, and what they tell for what calls them.
 use Rattle.std.proofs.Common.{Result, Ok, Err, OnErr, OnOk, subst, sym}
+use Rattle.std.proofs.lemmas.Result.{IfOk-weaker}
 use Rattle.sqlite.specs.State.{State}
 use Rattle.sqlite_trees.specs.declared.store.Store as store
 use Rattle.office_tables.specs.Calls.{Answers}
-use Rattle.access.proofs.Passing.{if_ok_then}
 use Rattle.public_queries.proofs.Common.{Database, HasCleanDisk, Held, IsAborted, LeavesUnchanged, StoreFault, Survives}
 use Rattle.public_queries.proofs.Common.{cut_then, early, excused_then, looks_then, on_err_then, on_ok_then, state}
 
@@ -12,7 +12,7 @@ module _ {S X Stays Model : Type 0} (g : store.Ghosts S) (represents : Database 
       → ((s : Stays) (m : Model) (x : X) → told s m x → answer s m x)
       → Answers g represents before after r may kept told → Answers g represents before after r more kept answer
   tells_as may more told answer allows means it = record {
-    answers = λ clean s m shown. if_ok_then r (told s m) (answer s m) (means s m) (it.answers clean s m shown);
+    answers = λ clean s m shown. IfOk-weaker r (told s m) (answer s m) (means s m) (it.answers clean s m shown);
     looks = it.looks;
     aborts = it.aborts;
     faults = λ s m shown allowed within. it.faults s m shown (allows m allowed) within;
@@ -42,7 +42,7 @@ module _ {S X Stays Model : Type 0} (g : store.Ghosts S) (represents : Database 
       let still = λ (clean : HasCleanDisk c). early (looked_crash r last.looks last.aborts) clean in
       let shown = λ (at_b : HasCleanDisk b) (s : Stays) (m : Model) (it : represents a.now s m). subst (λ (db : Database). represents db s m) (sym (looked.same at_b)) it in
       record {
-        answers = λ clean s m it. if_ok_then r (told s m) (answer s m) (means (still clean) s m it) (last.answers clean s m (shown (still clean) s m it));
+        answers = λ clean s m it. IfOk-weaker r (told s m) (answer s m) (means (still clean) s m it) (last.answers clean s m (shown (still clean) s m it));
         looks = on_ok_then r (LeavesUnchanged b c) (LeavesUnchanged a c) (λ on. looks_then looked on) last.looks;
         aborts = on_err_then r (IsAborted b c) (IsAborted a c) (λ cut. cut_then looked.goes.on cut) last.aborts;
         faults = λ s m it allowed within. excused_then _ looked.goes.on r last.aborts (λ at_b. last.faults s m (shown at_b s m it) (allows at_b s m it allowed) within);

@@ -4,15 +4,12 @@ use Rattle.std.proofs.Common.{take, drop, get_or, Option, Some, None, refl, sym,
 use Rattle.std.proofs.Common.{arith, map}
 use Rattle.visibility.specs.Marks as marks
 use Rattle.visibility.specs.Visibility.{public}
-use Rattle.visibility.specs.declared.marks.Mark.{Mark}
-use Rattle.catalogue_core.specs.Aids.{shown_below}
-use Rattle.catalogue_core.specs.UnitMarks.{mark_of, without_number}
 use Rattle.public_queries.specs.declared.visible_unit.Seen.{Seen}
 use Rattle.public_queries.proofs.Common.{AllByRecursion, BoxKey, Bytes, Catalogue, Empty, Forest, IsOf, KeepsUnits}
-use Rattle.public_queries.proofs.Common.{Kept, Node, Repository, Shown, Told, Unit, Walked, aid, along, each}
+use Rattle.public_queries.proofs.Common.{Kept, Mark, Node, Repository, Shown, Told, Unit, Walked, aid, along, each}
 use Rattle.public_queries.proofs.Common.{identifier, identifier_of, kept_from_walk, length-append, length-map}
-use Rattle.public_queries.proofs.Common.{map-append, public_unit, public_units, public_walk, seen_of, shown_at}
-use Rattle.public_queries.proofs.Common.{shown_unit, stub_of, unit_lines, walk, ℤ}
+use Rattle.public_queries.proofs.Common.{map-append, mark_of, public_unit, public_units, public_walk, seen_of, shown_at}
+use Rattle.public_queries.proofs.Common.{shown_below, shown_unit, stub_of, unit_lines, walk, without_number, ℤ}
 
 -- ---- the walk with a list of identifiers
 

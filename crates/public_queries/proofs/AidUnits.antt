@@ -4,16 +4,15 @@ use Rattle.std.proofs.Common.{refl, sym, ap, subst, ◌∙◌, arith, map}
 use Rattle.std.specs.List.{IsDistinct}
 use Rattle.std.specs.Prelude.{find, nat_eq}
 use Rattle.isad_core.specs.Limits.{most_units}
-use Rattle.visibility.specs.declared.marks.Mark.{Mark}
 use Rattle.catalogue_core.proofs.DistinctLists.{all_so}
 use Rattle.catalogue_core.proofs.EachAfter.{all_tree}
 use Rattle.catalogue_core.proofs.NodeLemmas.{length-nodes}
-use Rattle.catalogue_core.specs.UnitMarks.{AreWalkMarks, mark_of, without_number}
-use Rattle.public_queries.proofs.Common.{AllByRecursion, BoxKey, Catalogue, Empty, Forest, Full, HasDistinctIds, IsKept}
-use Rattle.public_queries.proofs.Common.{IsOf, Node, Told, Unit, UnitValues, Walked, all_append, all_split, box_number}
-use Rattle.public_queries.proofs.Common.{each, false≢true, has, has_id, identifier, is_later, is_unit_closed, nodes}
-use Rattle.public_queries.proofs.Common.{nodes-each, numbered_boxes, own_lines, public_unit, public_units, seen_of}
-use Rattle.public_queries.proofs.Common.{seen_values, size, size-each, stub_of, title, tree, walk, with_numbers, ℤ}
+use Rattle.public_queries.proofs.Common.{AllByRecursion, AreWalkMarks, BoxKey, Catalogue, Empty, Forest, Full}
+use Rattle.public_queries.proofs.Common.{HasDistinctIds, IsKept, IsOf, Mark, Node, Told, Unit, UnitValues, Walked}
+use Rattle.public_queries.proofs.Common.{all_append, all_split, box_number, each, false≢true, has, has_id, identifier}
+use Rattle.public_queries.proofs.Common.{is_later, is_unit_closed, mark_of, nodes, nodes-each, numbered_boxes}
+use Rattle.public_queries.proofs.Common.{own_lines, public_unit, public_units, seen_of, seen_values, size, size-each}
+use Rattle.public_queries.proofs.Common.{stub_of, title, tree, walk, with_numbers, without_number, ℤ}
 use Rattle.public_queries.proofs.FoundUnits.{found_each}
 
 -- ---- what is read of one unit

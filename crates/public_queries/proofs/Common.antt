@@ -1,7 +1,7 @@
 -- The names that several proofs of this crate cite, passed on from one place. Declares nothing.
-pub use Rattle.std.proofs.lemmas.Bool.{eqb-true, false≢true}
+pub use Rattle.std.proofs.lemmas.Bool.{and_parts, eqb-true, false≢true}
 pub use Rattle.std.proofs.lemmas.List.{length-append, length-map, map-append, reverse-append, take_all, take_more}
-pub use Rattle.std.specs.List.{AllByRecursion, cons_option, flat_map, list_all, list_any}
+pub use Rattle.std.specs.List.{AllByRecursion, cons_option, flat_map, list_any}
 pub use Rattle.std.specs.Prelude.{IfOk, IsErr, IsErrAnd, codes, filter_map, int_lt, option_map, reverse, unwrap_or, ℤ}
 pub use Rattle.std.specs.Prelude.{⊤}
 pub use Rattle.sqlite.specs.Effect.{Database}
@@ -16,15 +16,16 @@ pub use Rattle.isad_core.specs.Values.{identifier, line_elements, own_lines, tit
 pub use Rattle.isad_core.specs.declared.display.Body.TheVariants.{Closed, Full}
 pub use Rattle.isad_core.specs.declared.display.Shown.{Shown}
 pub use Rattle.isad_core.specs.declared.values.BoxKey.{BoxKey}
-pub use Rattle.tree_core.proofs.EachLemmas.{has-each, nodes-each, path-each, size-each}
+pub use Rattle.tree_core.proofs.EachLemmas.{has-each, nodes-each, size-each}
 pub use Rattle.tree_core.specs.Forest.{Empty, Forest, HasDistinctIds, Node, each, has, nodes, path, size, tree, walk}
 pub use Rattle.tree_core.specs.Tops.{below_first, part_below, tops}
 pub use Rattle.visibility.specs.Marks.{is_later, public_walk}
 pub use Rattle.visibility.specs.declared.marks.Kept.{Kept}
+pub use Rattle.visibility.specs.declared.marks.Mark.{Mark}
 pub use Rattle.desk_core.specs.declared.refusal.Refusal.TheVariants.{UnknownUnit}
 pub use Rattle.catalogue_core.proofs.EachOf.{all_append, all_split}
 pub use Rattle.catalogue_core.proofs.PublicPaths.{known_of, number_known}
-pub use Rattle.catalogue_core.specs.Aids.{Repository, identifier_of, numbered_boxes, shown_unit}
+pub use Rattle.catalogue_core.specs.Aids.{Repository, identifier_of, numbered_boxes, shown_below, shown_unit}
 pub use Rattle.catalogue_core.specs.Bounds.{IsKept}
 pub use Rattle.catalogue_core.specs.CatalogueMerge.{Catalogue, box_number}
 pub use Rattle.catalogue_core.specs.Pages.{PageBox, Press, above_last, aid_of, before_last, boxes_on_page, boxes_or}
@@ -32,6 +33,7 @@ pub use Rattle.catalogue_core.specs.Pages.{coded_below, has_public_number, neare
 pub use Rattle.catalogue_core.specs.Pages.{page_boxes, page_line, page_of, pages_side_by_side, public_number, tops_text}
 pub use Rattle.catalogue_core.specs.Pages.{with_codes}
 pub use Rattle.catalogue_core.specs.PublicForest.{PublicUnit, Told, public_of, public_unit, stub_of}
+pub use Rattle.catalogue_core.specs.UnitMarks.{AreMarks, AreWalkMarks, mark_of, without_number}
 pub use Rattle.catalogue_core.specs.Units.{Unit, has_id, is_unit_closed}
 pub use Rattle.office_tables.proofs.CallEnds.{excused_then, same_fault, tells_well}
 pub use Rattle.office_tables.proofs.Calls.{cut_after, cut_then, early, looks_nowhere, looks_then, on_err_then}
@@ -59,10 +61,11 @@ pub use Rattle.public_queries.specs.FindingAids.{IsOf, KeepsUnits, Walked, along
 pub use Rattle.public_queries.specs.FindingAids.{seen_values, shown_at, with_numbers}
 pub use Rattle.public_queries.specs.HeadLines.{all_bare, are_open, bare_below, bare_body, head_alone, head_identifiers}
 pub use Rattle.public_queries.specs.HeadLines.{is_open_on, public_head, published_units, repository_of, shows_last}
-pub use Rattle.public_queries.specs.KnownPaths.{AreNumbersOf, IsTellable, RepresentsClosed, RepresentsOpen}
-pub use Rattle.public_queries.specs.KnownPaths.{RepresentsWay}
+pub use Rattle.public_queries.specs.KnownPaths.{AreNumbersOf, IsTellable, RepresentsKnown, RepresentsMarked}
+pub use Rattle.public_queries.specs.KnownPaths.{RepresentsShown, RepresentsStub, RepresentsWay}
 pub use Rattle.public_queries.specs.OwnRows.{is_closed_there, is_open_there, published_standing}
 pub use Rattle.public_queries.specs.PageLines.{box_lines, closed_page, housed_lines, lines_or, nearest_lines}
 pub use Rattle.public_queries.specs.PageLines.{page_of_units, told_head, told_text}
+pub use Rattle.public_queries.specs.PathMarks.{are_clear, ends_closed, is_clear, shows_marked}
 pub use Rattle.public_queries.specs.PathValues.{coded_of, coded_way, identifiers_of, unit_values}
 pub use Rattle.public_queries.specs.declared.path_values.OnPath.{OnPath}

@@ -14,6 +14,7 @@ pub mod HeadsPrinted
 pub mod FondsPrinted
 pub mod PagePrinted
 pub mod OwnRows
+pub mod MarkedPaths
 pub mod PublicHeads
 pub mod ToldPages
 pub mod PageAnswers

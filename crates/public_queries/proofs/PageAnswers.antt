@@ -1,19 +1,21 @@
 -- What the tables of a sound office tell of a page.
-use Rattle.std.proofs.Common.{◌≡◌, ℕ, true, false, not, ◌&&◌, List, [], ◌∷◌, ◌++◌, length, None, Some, refl, sym, ap}
-use Rattle.std.proofs.Common.{subst, ◌∙◌, nat_eq, Bool, arith}
+use Rattle.std.proofs.Common.{◌≡◌, ℕ, true, false, not, ◌&&◌, List, [], ◌∷◌, ◌++◌, length, Some, refl, sym, ap, subst}
+use Rattle.std.proofs.Common.{◌∙◌, nat_eq, Bool, arith}
 use Rattle.std.specs.List.{IsDistinct, find}
 use Rattle.std.specs.Prelude.{map}
 use Rattle.office_core.specs.State.{State}
 use Rattle.office_core.specs.declared.query.Query.TheVariants as query
-use Rattle.public_queries.proofs.Common.{AllByRecursion, Bytes, HasDistinctIds, Head, IsSoundOffice, OfficeRow, Text}
-use Rattle.public_queries.proofs.Common.{Unit, UnitValues, Unknown, UnknownUnit, all_bare, answer, closed_page}
-use Rattle.public_queries.proofs.Common.{coded_way, each, false≢true, has_id, head_alone, head_identifiers, head_of}
-use Rattle.public_queries.proofs.Common.{identifiers_of, is_closed_there, is_open_there, is_unit_closed, list_all}
-use Rattle.public_queries.proofs.Common.{map-append, nodes, nodes-each, office_of, page, page_of_units, part_below}
-use Rattle.public_queries.proofs.Common.{path, press, published_standing, published_units, repository_of, shows_last}
-use Rattle.public_queries.proofs.Common.{told_text, tops, unit_values, ℤ}
+use Rattle.public_queries.proofs.Common.{AllByRecursion, AreMarks, Bytes, HasDistinctIds, Head, IsSoundOffice, Mark}
+use Rattle.public_queries.proofs.Common.{OfficeRow, Text, Unit, UnitValues, Unknown, UnknownUnit, all_bare, answer}
+use Rattle.public_queries.proofs.Common.{closed_page, coded_way, each, ends_closed, false≢true, filter_map, has_id}
+use Rattle.public_queries.proofs.Common.{head_alone, head_identifiers, head_of, identifiers_of, is_closed_there}
+use Rattle.public_queries.proofs.Common.{is_open_there, is_unit_closed, map-append, nodes, nodes-each, office_of, page}
+use Rattle.public_queries.proofs.Common.{page_of_units, part_below, path, press, public_head, published_units}
+use Rattle.public_queries.proofs.Common.{repository_of, shows_last, shows_marked, told_text, tops, unit_values, ℤ}
 use Rattle.public_queries.proofs.FoundUnits.{path_all, found_each}
-use Rattle.public_queries.proofs.OwnRows.{found_node, not_shown, shown_below, without_way}
+use Rattle.public_queries.proofs.MarkedPaths.{ends_same, shows_same}
+use Rattle.public_queries.proofs.OwnRows.{found_node, shows_no_draft}
+use Rattle.public_queries.proofs.PublicHeads.{all_published, heads_found}
 use Rattle.public_queries.proofs.Standing.{shown_in, Stands, stands}
 use Rattle.public_queries.proofs.PagePrinted.{page_hidden, page_closed, page_told, is_there, last_same}
 use Rattle.public_queries.proofs.ToldPages.{same_identifiers, told_same}
@@ -27,26 +29,15 @@ module _ (s : State) (sound : IsSoundOffice s) where
   path_found u = path_all _ (has_id u) s.catalogue.forest (found_each (nodes s.catalogue.forest) sound.sound.units.ids)
 
   module _ (u : ℕ) where
-    pub alone : published_standing (find (has_id u) (nodes s.catalogue.forest)) ≡ None
-        → shown_in s.day u s.catalogue.forest ≡ false
-    alone e = not_shown s.day u s.catalogue.forest (path_found u) e
-
     pub hidden : shown_in s.day u s.catalogue.forest ≡ false → Unknown UnknownUnit ≡ answer s (query.Page u)
     hidden e = sym (page_hidden (press s) s.day u s.catalogue.forest distinct e)
 
-    -- there is no path
-    pub no_way : (ids : List ℕ) → length ids ≡ 0 → ids ≡ map (λ (x : Unit). x.id) (path (has_id u) s.catalogue.forest)
-        → Unknown UnknownUnit ≡ answer s (query.Page u)
-    no_way ids none is = hidden (without_way s.day u s.catalogue.forest (path_found u) (sym (ap length is) ∙ none))
-
-    -- an open unit, by the units above it
-    pub judged_open : (row : OfficeRow) (ids above : List ℕ) (last : ℕ) → row ≡ office_of s
-        → is_open_there s.day (find (has_id u) (nodes s.catalogue.forest)) ≡ true
-        → ids ≡ map (λ (x : Unit). x.id) (path (has_id u) s.catalogue.forest) → ids ≡ above ++ last ∷ []
-        → shown_in s.day u s.catalogue.forest ≡ list_all (λ id. is_open_there row.day (find (has_id id) (nodes s.catalogue.forest))) above
-    judged_open row ids above last row_is own is ends =
-        shown_below s.day u s.catalogue.forest (path_found u) above last (sym is ∙ ends) own
-        ∙ ap (λ (o : OfficeRow). list_all (λ id. is_open_there o.day (find (has_id id) (nodes s.catalogue.forest))) above) (sym row_is)
+    -- a path by its marks
+    pub judged_marked : (row : OfficeRow) (marks : List Mark) → row ≡ office_of s
+        → AreMarks (path (has_id u) s.catalogue.forest) marks
+        → shown_in s.day u s.catalogue.forest ≡ shows_marked row.day marks
+    judged_marked row marks e are =
+        sym (shows_same s.day (path (has_id u) s.catalogue.forest) marks are) ∙ ap (λ (o : OfficeRow). shows_marked o.day marks) (sym e)
 
     -- a path by its heads, of which there may be none
     pub no_heads : (day : ℤ) (way : List Head) → length way ≡ 0 → shows_last day way ≡ false
@@ -74,6 +65,38 @@ module _ (s : State) (sound : IsSoundOffice s) where
           second true true e = absurd (false≢true e)
           second true false e = refl
           second false b e = absurd (false≢true e)
+
+      -- whether it is closed, by the marks of its path
+      module _ (marks : List Mark) (are : AreMarks (path (has_id u) s.catalogue.forest) marks) where
+        closed_same : ends_closed s.day marks ≡ is_unit_closed s.day it.node
+        closed_same = ends_same s.day it.above it.node marks (subst (λ (w : List Unit). AreMarks w marks) it.way are)
+
+        pub is_closed_by : ends_closed s.day marks ≡ true
+            → is_closed_there s.day (find (has_id u) (nodes s.catalogue.forest)) ≡ true
+        is_closed_by e = ap (is_closed_there s.day) node_is ∙ sym closed_same ∙ e
+
+        pub is_open_by : ends_closed s.day marks ≡ false
+            → is_open_there s.day (find (has_id u) (nodes s.catalogue.forest)) ≡ true
+        is_open_by e =
+            ap (is_open_there s.day) node_is
+            ∙ at it.node.draft (is_unit_closed s.day it.node) (shows_no_draft s.day it.above it.node) (sym closed_same ∙ e)
+          where
+            shown_here : shows_last s.day (map head_of (it.above ++ it.node ∷ [])) ≡ true
+            shown_here = sym (ap (λ (w : List Unit). shows_last s.day (map head_of w)) it.way) ∙ shown
+
+            at : (draft closed : Bool)
+                → (not draft ≡ false → shows_last s.day (map head_of (it.above ++ it.node ∷ [])) ≡ false)
+                → closed ≡ false → (not draft && not closed) ≡ true
+            at true closed none e = absurd (false≢true (sym (none refl) ∙ shown_here))
+            at false closed none e = ap not e
+
+      -- the heads of its path
+      pub heads_of_path : (way : List ℕ) → way ≡ map (λ (x : Unit). x.id) (path (has_id u) s.catalogue.forest)
+          → filter_map (λ id. public_head (find (has_id id) (nodes s.catalogue.forest))) way ≡ map head_of (path (has_id u) s.catalogue.forest)
+      heads_of_path way is =
+          ap (filter_map (λ id. public_head (find (has_id id) (nodes s.catalogue.forest)))) is
+          ∙ heads_found s.catalogue.forest (path (has_id u) s.catalogue.forest) (path_found u)
+          ∙ ap (map head_of) (all_published s.day (path (has_id u) s.catalogue.forest) shown)
 
       -- a closed unit, by the heads of its path
       pub answers_closed : (row : OfficeRow) (way above : List Head) (last : Head) (text : Bytes) → row ≡ office_of s

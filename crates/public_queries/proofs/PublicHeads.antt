@@ -4,8 +4,9 @@ use Rattle.std.proofs.Common.{sym, ap, ◌∙◌}
 use Rattle.std.specs.List.{find}
 use Rattle.std.specs.Prelude.{map}
 use Rattle.public_queries.proofs.Common.{AllByRecursion, Forest, Has, Head, RepresentsUnits, Standing, Trees, Unit}
-use Rattle.public_queries.proofs.Common.{cons_option, eqb-true, filter_map, found_one, has_id, head_of, nodes}
-use Rattle.public_queries.proofs.Common.{option_map, public_head, published_standing, published_units, standing_of}
+use Rattle.public_queries.proofs.Common.{and_parts, cons_option, eqb-true, filter_map, found_one, has_id, head_of}
+use Rattle.public_queries.proofs.Common.{is_open_on, is_unit_closed, nodes, option_map, public_head, published_standing}
+use Rattle.public_queries.proofs.Common.{published_units, shows_last, standing_of, ℤ}
 use Rattle.public_queries.proofs.OwnRows.{Published}
 
 -- what is read by number of units that are there, where drafts are left out
@@ -21,6 +22,31 @@ heads_published db f at (u ∷ units) h =
         → cons_option (cond b None (Some (head_of u))) rest ≡ map head_of (cond (not b) (u ∷ published_units units) (published_units units))
     by true rest e = e
     by false rest e = ap (λ l. head_of u ∷ l) e
+
+-- the same of units that are found by their numbers
+pub heads_found : (f : Forest Unit) (units : List Unit)
+    → AllByRecursion (λ (x : Unit). find (has_id x.id) (nodes f) ≡ Some x) units
+    → filter_map (λ id. public_head (find (has_id id) (nodes f))) (map (λ (u : Unit). u.id) units) ≡ map head_of (published_units units)
+heads_found f [] h = refl
+heads_found f (u ∷ units) h =
+    ap (λ o. cons_option (public_head o) (filter_map (λ id. public_head (find (has_id id) (nodes f))) (map (λ (u : Unit). u.id) units))) h.0
+    ∙ by u.draft _ (heads_found f units h.1)
+  where
+    by : (b : Bool) (rest : List Head) → rest ≡ map head_of (published_units units)
+        → cons_option (cond b None (Some (head_of u))) rest ≡ map head_of (cond (not b) (u ∷ published_units units) (published_units units))
+    by true rest e = e
+    by false rest e = ap (λ l. head_of u ∷ l) e
+
+-- no unit is a draft on a path whose last unit is shown
+pub all_published : (day : ℤ) (units : List Unit) → shows_last day (map head_of units) ≡ true
+    → published_units units ≡ units
+all_published day [] h = refl
+all_published day (u ∷ []) h = ap (λ b. cond b (u ∷ []) []) h
+all_published day (u ∷ v ∷ units) h =
+    let parts = and_parts (is_open_on day (head_of u)) (shows_last day (map head_of (v ∷ units))) h in
+    let own = and_parts (not u.draft) (not (is_unit_closed day u)) parts.0 in
+    ap (λ b. cond b (u ∷ published_units (v ∷ units)) (published_units (v ∷ units))) own.0
+    ∙ ap (λ l. u ∷ l) (all_published day (v ∷ units) parts.1)
 
 -- ---- one head
 

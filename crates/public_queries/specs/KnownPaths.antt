@@ -4,7 +4,9 @@ use Rattle.std.specs.List.{AllByRecursion}
 use Rattle.tree_core.specs.Forest.{nodes, path}
 use Rattle.catalogue_core.specs.Descriptions.{HasAllPlaces, KnowsItsContainers}
 use Rattle.catalogue_core.specs.CatalogueMerge.{Catalogue}
+use Rattle.catalogue_core.specs.UnitMarks.{AreMarks, AreWalkMarks}
 use Rattle.catalogue_core.specs.Units.{Unit, has_id}
+use Rattle.visibility.specs.declared.marks.Mark.{Mark}
 use Rattle.catalogue_statements.specs.declared.office.OfficeRow.{OfficeRow}
 use Rattle.office_core.specs.State.{State}
 use Rattle.refinement.specs.Representation.{office_of}
@@ -23,18 +25,33 @@ pub record AreNumbersOf (c : Catalogue) (ids : List ℕ) : Type 0 where
   pub found : AllByRecursion (λ (u : Unit). find (has_id u.id) (nodes c.forest) ≡ Some u) units
   pub are : ids ≡ map (λ (u : Unit). u.id) units
 
--- the office's row is known, and that there is this unit, which is neither a draft nor closed
-pub record RepresentsOpen (known : OfficeRow) (unit : ℕ) (s : State) : Type 0 where
+-- the office's row and the marks of its units are known
+pub record RepresentsKnown (known : OfficeRow) (forest : List Mark) (s : State) : Type 0 where
   pub office : known ≡ office_of s
-  pub open_is : is_open_there s.day (find (has_id unit) (nodes s.catalogue.forest)) ≡ true
+  pub walk : AreWalkMarks s.catalogue.forest forest
 
--- or that there is this unit, which is closed
-pub record RepresentsClosed (known : OfficeRow) (unit : ℕ) (s : State) : Type 0 where
+-- and the marks of the path of a unit
+pub record RepresentsMarked (known : OfficeRow) (forest : List Mark) (unit : ℕ) (marks : List Mark) (s : State) : Type 0 where
+  pub own : RepresentsKnown known forest s
+  pub marks_are : AreMarks (path (has_id unit) s.catalogue.forest) marks
+
+-- the office's row and the path of a unit are known, and the public is shown the unit
+pub record RepresentsPath (known : OfficeRow) (unit : ℕ) (way : List ℕ) (s : State) : Type 0 where
   pub office : known ≡ office_of s
-  pub closed : is_closed_there s.day (find (has_id unit) (nodes s.catalogue.forest)) ≡ true
-
--- the office's row and the path of an open unit are known, and the public is shown the unit
-pub record RepresentsWay (known : OfficeRow) (unit : ℕ) (way : List ℕ) (s : State) : Type 0 where
-  pub own : RepresentsOpen known unit s
   pub way_is : way ≡ map (λ (u : Unit). u.id) (path (has_id unit) s.catalogue.forest)
   pub shown : shows_last s.day (map head_of (path (has_id unit) s.catalogue.forest)) ≡ true
+
+-- the same, and the marks of all units
+pub record RepresentsShown (known : OfficeRow) (forest : List Mark) (unit : ℕ) (way : List ℕ) (s : State) : Type 0 where
+  pub at : RepresentsPath known unit way s
+  pub walk : AreWalkMarks s.catalogue.forest forest
+
+-- and the unit is not closed
+pub record RepresentsWay (known : OfficeRow) (forest : List Mark) (unit : ℕ) (way : List ℕ) (s : State) : Type 0 where
+  pub known_is : RepresentsShown known forest unit way s
+  pub open_is : is_open_there s.day (find (has_id unit) (nodes s.catalogue.forest)) ≡ true
+
+-- or it is closed
+pub record RepresentsStub (known : OfficeRow) (unit : ℕ) (way : List ℕ) (s : State) : Type 0 where
+  pub at : RepresentsPath known unit way s
+  pub closed : is_closed_there s.day (find (has_id unit) (nodes s.catalogue.forest)) ≡ true

@@ -1,5 +1,6 @@
 pub mod InformedAnswers
 pub mod KnownPaths
+pub mod PathMarks
 pub mod HeadLines
 pub mod OwnRows
 pub mod FindingAids

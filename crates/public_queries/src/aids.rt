@@ -1,52 +1,57 @@
 //! The finding aid of a unit, printed as it is read.
 
-ghost use Rattle.std.specs.Prelude.{◌≡◌, ◌++◌, ◌∷◌, [], List, length, map, OnOk, IfOk};
+ghost use Rattle.std.specs.Prelude.{◌≡◌, ◌++◌, ◌∷◌, [], List, length, map, OnOk, IfErr, IfOk};
 ghost use Rattle.isad_core.specs.PrintedDescriptions.{aid as printed, unit_lines};
-ghost use Rattle.tree_core.specs.Forest.{HasDistinctIds, each, tree, walk};
+ghost use Rattle.tree_core.specs.Forest.{Forest, tree, walk};
 ghost use Rattle.catalogue_core.specs.Bounds.{IsKept};
-ghost use Rattle.catalogue_core.specs.Units.{has_id};
+ghost use Rattle.catalogue_core.specs.CatalogueMerge.{Catalogue};
+ghost use Rattle.catalogue_core.specs.Units.{«Unit» as Described, has_id};
+ghost use Rattle.known_units.specs.KnownUnits.{KnowsUnits};
 ghost use Rattle.office_tables.specs.Calls.{Answers};
 ghost use Rattle.office_tables.specs.Premises.{◌within◌and◌gives◌, ◌within◌gives◌};
 ghost use Rattle.catalogue_statements.specs.Representation.{Represents};
 ghost use Rattle.catalogue_core.specs.Aids.{shown_below};
 ghost use Rattle.catalogue_core.specs.PublicForest.{public_of};
 ghost use Rattle.office_core.specs.declared.query.Query.TheVariants as query;
-ghost use Rattle.refinement.specs.Representation.{office_of};
 ghost use Rattle.public_queries.specs.HeadLines.{repository_of};
 ghost use Rattle.public_queries.specs.InformedAnswers.{RespondsKnowing};
 ghost use Rattle.public_queries.specs.FindingAids.{KeepsUnits, Walked, along, kept_from_walk, public_units, shown_at};
-ghost use Rattle.public_queries.specs.KnownPaths.{IsTellable};
+ghost use Rattle.public_queries.specs.KnownPaths.{IsTellable, RepresentsKnown, RepresentsMarked, RepresentsShown};
 
-use crate::own_rows::find_published;
-use crate::path_heads::{identifiers_above, shows_last};
+use crate::path_heads::identifiers_above;
+use crate::path_marks::{numbers, shows_last};
+use crate::public_heads::public_heads;
 use crate::visible_unit::{Seen, seen_unit};
-use catalogue_store::{OfficeRow, Places, branch_marks, path_heads};
+use catalogue_store::{OfficeRow, Places};
 use isad_core::{Day, List, Number, Shown, Text, aid_text, join_code};
+use known_forest::KnownForest;
+use known_units::{branch_marks, path_marks};
 use office_core::{Answer, Refusal};
 use office_tables::{StoreFault, Tables};
 use sqlite::Alter;
 use std::alloc::{AllocError, Global};
-use visibility::{Kept, prune};
+use visibility::{Kept, Mark, prune};
 
 /// No office has more units than this: their marks could not be numbered.
 const MOST_MARKS: usize = 1 << 30;
 
 /// The units of a branch that the public sees, if nothing above the branch is withheld.
-fn kept_of<P: Places, S: Alter>(
+fn kept_of(
     alloc: Global,
-    tables: &mut Tables<P, S>,
+    forest: &KnownForest,
     unit: Number,
     today: Day,
 ) -> Result<Vec<Kept>, StoreFault>
-    ensures answers { Answers S.Store (Represents P.represents P.version) tables.old tables.new result
-        within IsKept
-        gives λ _ c kept. kept.items ≡ map kept_from_walk (walk 0 (public_units today (tree (has_id unit) c.forest))) }
+    ensures kept { IfOk result (λ kept. (f : Forest Described) → KnowsUnits f forest.now
+        → kept.items ≡ map kept_from_walk (walk 0 (public_units today (tree (has_id unit) f)))) }
+    ensures faults { (c : Catalogue) → IsKept c → KnowsUnits c.forest forest.now
+        → IfErr result (λ e. e ≡ StoreFault.Memory) }
 {
-    let marks = branch_marks(alloc, tables, Some(unit))?;
+    let marks = branch_marks(forest, unit);
     if marks.len() > MOST_MARKS {
         return Err(StoreFault::Schema);
     }
-    Ok(prune(alloc, &marks, today.number())?)
+    Ok(prune(alloc, marks, today.number())?)
 }
 
 /// The lines of a unit below others with these identifiers. Its own identifier is added to them.
@@ -108,51 +113,70 @@ fn branch_text<P: Places, S: Alter>(
     alloc: Global,
     tables: &mut Tables<P, S>,
     known: &OfficeRow,
+    forest: &KnownForest,
     unit: Number,
     above: Vec<Text>,
 ) -> Result<List<u8>, StoreFault>
     ensures answers { Answers S.Store (Represents P.represents P.version) tables.old tables.new result
-        within IsKept and (λ c. IsTellable c × HasDistinctIds (each (λ u. u.id) c.forest))
-        gives λ _ c text. IsTellable c → HasDistinctIds (each (λ u. u.id) c.forest)
+        within IsKept and (λ c. IsTellable c × KnowsUnits c.forest forest.now)
+        gives λ _ c text. IsTellable c → KnowsUnits c.forest forest.now
         → text ≡ printed (shown_below (repository_of known.now) c.containers above.items 0
         (public_of known.now.day (tree (has_id unit) c.forest))) }
 {
-    let kept = kept_of(alloc, tables, unit, known.day)?;
+    let kept = kept_of(alloc, forest, unit, known.day)?;
     units_text(alloc, tables, known, above, &kept)
 }
 
-/// Answers with the finding aid of a unit, or with `UnknownUnit` if its path says that the public is not shown it.
+/// Answers with the finding aid of a unit, whose path has these units. The public must be shown it.
+fn shown_aid<P: Places, S: Alter>(
+    alloc: Global,
+    tables: &mut Tables<P, S>,
+    known: &OfficeRow,
+    forest: &KnownForest,
+    unit: Number,
+    way: &[Number],
+) -> Result<Answer, StoreFault>
+    ensures { RespondsKnowing P.represents P.version S.Store (RepresentsShown known.now forest.now unit way.now)
+        (query.Aid unit) tables.old tables.new result }
+{
+    let heads = public_heads(alloc, tables, way)?;
+    let above = identifiers_above(alloc, &heads)?;
+    let text = branch_text(alloc, tables, known, forest, unit, above)?;
+    Ok(Answer::Text(text))
+}
+
+/// Answers with the finding aid of a unit whose path has these marks, or with `UnknownUnit` if they say that the public
+/// is not shown it. No row is read until that is known.
 fn aid_on_path<P: Places, S: Alter>(
     alloc: Global,
     tables: &mut Tables<P, S>,
     known: &OfficeRow,
+    forest: &KnownForest,
     unit: Number,
+    marks: &[Mark],
 ) -> Result<Answer, StoreFault>
-    ensures { RespondsKnowing P.represents P.version S.Store (λ s. known.now ≡ office_of s) (query.Aid unit)
-        tables.old tables.new result }
+    ensures { RespondsKnowing P.represents P.version S.Store (RepresentsMarked known.now forest.now unit marks.now)
+        (query.Aid unit) tables.old tables.new result }
 {
-    let way = path_heads(alloc, tables, unit)?;
-    if !shows_last(&way, known.day) {
+    if !shows_last(marks, known.day) {
         return Ok(Answer::Unknown(Refusal::UnknownUnit));
     }
-    let above = identifiers_above(alloc, &way)?;
-    let text = branch_text(alloc, tables, known, unit, above)?;
-    Ok(Answer::Text(text))
+    let way = numbers(alloc, marks)?;
+    shown_aid(alloc, tables, known, forest, unit, way.as_slice())
 }
 
-/// Answers with the finding aid of a unit, or with `UnknownUnit` if the public is shown no such unit. The unit's own
-/// row is read first. `known` must be the office's row.
+/// Answers with the finding aid of a unit, or with `UnknownUnit` if the public is shown no such unit. `known` must be
+/// the office's row, and `forest` have the marks of its units.
 pub fn aid<P: Places, S: Alter>(
     alloc: Global,
     tables: &mut Tables<P, S>,
     known: &OfficeRow,
+    forest: &KnownForest,
     unit: Number,
 ) -> Result<Answer, StoreFault>
-    ensures { RespondsKnowing P.represents P.version S.Store (λ s. known.now ≡ office_of s) (query.Aid unit)
+    ensures { RespondsKnowing P.represents P.version S.Store (RepresentsKnown known.now forest.now) (query.Aid unit)
         tables.old tables.new result }
 {
-    let Some(_own) = find_published(alloc, tables, unit)? else {
-        return Ok(Answer::Unknown(Refusal::UnknownUnit));
-    };
-    aid_on_path(alloc, tables, known, unit)
+    let marks = path_marks(alloc, forest, unit)?;
+    aid_on_path(alloc, tables, known, forest, unit, marks.as_slice())
 }

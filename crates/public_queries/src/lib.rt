@@ -8,6 +8,7 @@ mod own_rows;
 mod page_lines;
 mod pages;
 mod path_heads;
+mod path_marks;
 mod path_values;
 mod public_heads;
 mod tops;

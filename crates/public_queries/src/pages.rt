@@ -1,4 +1,4 @@
-//! The page of a unit. What the units of its path may show is known before any text is read, and each is read once.
+//! The page of a unit. The marks of its path tell what it may show before any row is read, and each row is read once.
 
 ghost use Rattle.std.specs.Prelude.{◌≡◌, [], find, map, Some, IfOk};
 ghost use Rattle.isad_core.specs.PrintedDescriptions.{page as printed};
@@ -9,27 +9,28 @@ ghost use Rattle.catalogue_statements.specs.Representation.{Represents};
 ghost use Rattle.office_core.specs.declared.query.Query.TheVariants as query;
 ghost use Rattle.office_tables.specs.Calls.{Answers};
 ghost use Rattle.office_tables.specs.Premises.{◌within◌and◌gives◌};
-ghost use Rattle.refinement.specs.Representation.{office_of};
 ghost use Rattle.public_queries.specs.HeadLines.{all_bare, head_alone as bare_of, head_identifiers, repository_of};
 ghost use Rattle.public_queries.specs.InformedAnswers.{RespondsKnowing};
-ghost use Rattle.public_queries.specs.KnownPaths.{AreNumbersOf, IsTellable, RepresentsClosed, RepresentsOpen};
-ghost use Rattle.public_queries.specs.KnownPaths.{RepresentsWay};
+ghost use Rattle.public_queries.specs.KnownPaths.{AreNumbersOf, IsTellable, RepresentsKnown, RepresentsMarked};
+ghost use Rattle.public_queries.specs.KnownPaths.{RepresentsStub, RepresentsWay};
 ghost use Rattle.public_queries.specs.PageLines.{closed_page, told_text};
 ghost use Rattle.public_queries.specs.PathValues.{coded_way, identifiers_of, unit_values};
 
 use crate::head_lines::{bare_units, head_alone};
-use crate::own_rows::{are_all_open, find_published};
 use crate::page_lines::{print_closed, print_told};
-use crate::path_heads::{identifiers, shows_last};
+use crate::path_heads::identifiers;
+use crate::path_marks::{is_last_closed, numbers, shows_last};
 use crate::path_values::with_codes;
-use crate::public_heads::public_heads_below;
-use access::is_closed;
-use catalogue_store::{Head, OfficeRow, Places, UnitValues, path_heads, values};
+use crate::public_heads::{public_heads, public_heads_below};
+use catalogue_store::{Head, OfficeRow, Places, UnitValues, values};
 use isad_core::{List, Number};
+use known_forest::KnownForest;
+use known_units::path_marks;
 use office_core::{Answer, Refusal};
 use office_tables::{StoreFault, Tables};
 use sqlite::Alter;
 use std::alloc::{AllocError, Global};
+use visibility::Mark;
 
 /// The values of a unit, which must exist.
 fn values_there<P: Places, S: Alter>(
@@ -97,83 +98,78 @@ fn print_stub(
     print_closed(alloc, head)
 }
 
-/// Answers with the page of a unit, whose path has these units. None of them may be a draft or closed.
+/// Answers with the page of a unit that is not closed, whose path has these units. The public must be shown it.
 fn told_page<P: Places, S: Alter>(
+    alloc: Global,
+    tables: &mut Tables<P, S>,
+    known: &OfficeRow,
+    forest: &KnownForest,
+    unit: Number,
+    way: &[Number],
+) -> Result<Answer, StoreFault>
+    ensures { RespondsKnowing P.represents P.version S.Store (RepresentsWay known.now forest.now unit way.now)
+        (query.Page unit) tables.old tables.new result }
+{
+    let told = values_of_all(alloc, tables, way)?;
+    let heads = public_heads_below(alloc, tables, forest, Some(unit))?;
+    let text = print_way(alloc, known, told, heads.as_slice())?;
+    Ok(Answer::Text(text))
+}
+
+/// Answers with the page of a unit that is closed, whose path has these units. The public must be shown it.
+fn stub_page<P: Places, S: Alter>(
     alloc: Global,
     tables: &mut Tables<P, S>,
     known: &OfficeRow,
     unit: Number,
     way: &[Number],
 ) -> Result<Answer, StoreFault>
-    ensures { RespondsKnowing P.represents P.version S.Store (RepresentsWay known.now unit way.now) (query.Page unit)
+    ensures { RespondsKnowing P.represents P.version S.Store (RepresentsStub known.now unit way.now) (query.Page unit)
         tables.old tables.new result }
 {
-    let told = values_of_all(alloc, tables, way)?;
-    let heads = public_heads_below(alloc, tables, Some(unit))?;
-    let text = print_way(alloc, known, told, heads.as_slice())?;
+    let heads = public_heads(alloc, tables, way)?;
+    let Some((last, _above)) = heads.split_last() else {
+        return Ok(Answer::Unknown(Refusal::UnknownUnit));
+    };
+    let text = print_stub(alloc, known, heads.as_slice(), last)?;
     Ok(Answer::Text(text))
 }
 
-/// Answers with the page of a unit that is neither a draft nor closed, or with `UnknownUnit` if a unit above it is. Of
-/// the units above, only the rows are read until that is known.
-fn open_page<P: Places, S: Alter>(
+/// Answers with the page of a unit whose path has these marks, or with `UnknownUnit` if they say that the public is not
+/// shown it. No row is read until that is known.
+fn page_on_path<P: Places, S: Alter>(
     alloc: Global,
     tables: &mut Tables<P, S>,
     known: &OfficeRow,
+    forest: &KnownForest,
     unit: Number,
+    marks: &[Mark],
 ) -> Result<Answer, StoreFault>
-    ensures { RespondsKnowing P.represents P.version S.Store (RepresentsOpen known.now unit) (query.Page unit)
-        tables.old tables.new result }
+    ensures { RespondsKnowing P.represents P.version S.Store (RepresentsMarked known.now forest.now unit marks.now)
+        (query.Page unit) tables.old tables.new result }
 {
-    let way = P::path(alloc, tables, unit)?;
-    let Some((_own, above)) = way.split_last() else {
-        return Ok(Answer::Unknown(Refusal::UnknownUnit));
-    };
-    let open = are_all_open(alloc, tables, above, known.day)?;
-    if !open {
+    if !shows_last(marks, known.day) {
         return Ok(Answer::Unknown(Refusal::UnknownUnit));
     }
-    told_page(alloc, tables, known, unit, way.as_slice())
-}
-
-/// Answers with the page of a unit that is closed, or with `UnknownUnit` if its path says that the public is not shown
-/// it.
-fn stub_page<P: Places, S: Alter>(
-    alloc: Global,
-    tables: &mut Tables<P, S>,
-    known: &OfficeRow,
-    unit: Number,
-) -> Result<Answer, StoreFault>
-    ensures { RespondsKnowing P.represents P.version S.Store (RepresentsClosed known.now unit) (query.Page unit)
-        tables.old tables.new result }
-{
-    let way = path_heads(alloc, tables, unit)?;
-    let Some((last, _above)) = way.split_last() else {
-        return Ok(Answer::Unknown(Refusal::UnknownUnit));
-    };
-    if !shows_last(way.as_slice(), known.day) {
-        return Ok(Answer::Unknown(Refusal::UnknownUnit));
+    let way = numbers(alloc, marks)?;
+    if is_last_closed(marks, known.day) {
+        return stub_page(alloc, tables, known, unit, way.as_slice());
     }
-    let text = print_stub(alloc, known, way.as_slice(), last)?;
-    Ok(Answer::Text(text))
+    told_page(alloc, tables, known, forest, unit, way.as_slice())
 }
 
-/// Answers with the page of a unit, or with `UnknownUnit` if the public is shown no such unit. The unit's own row is
-/// read first. `known` must be the office's row.
+/// Answers with the page of a unit, or with `UnknownUnit` if the public is shown no such unit. `known` must be the
+/// office's row, and `forest` have the marks of its units.
 pub fn page<P: Places, S: Alter>(
     alloc: Global,
     tables: &mut Tables<P, S>,
     known: &OfficeRow,
+    forest: &KnownForest,
     unit: Number,
 ) -> Result<Answer, StoreFault>
-    ensures { RespondsKnowing P.represents P.version S.Store (λ s. known.now ≡ office_of s) (query.Page unit)
+    ensures { RespondsKnowing P.represents P.version S.Store (RepresentsKnown known.now forest.now) (query.Page unit)
         tables.old tables.new result }
 {
-    let Some(own) = find_published(alloc, tables, unit)? else {
-        return Ok(Answer::Unknown(Refusal::UnknownUnit));
-    };
-    if is_closed(own.until, known.day) {
-        return stub_page(alloc, tables, known, unit);
-    }
-    open_page(alloc, tables, known, unit)
+    let marks = path_marks(alloc, forest, unit)?;
+    page_on_path(alloc, tables, known, forest, unit, marks.as_slice())
 }

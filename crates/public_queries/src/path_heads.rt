@@ -2,32 +2,11 @@
 
 ghost use Rattle.std.specs.Prelude.{◌≡◌, IfOk};
 ghost use Rattle.catalogue_core.specs.Pages.{before_last};
-ghost use Rattle.public_queries.specs.HeadLines.{are_open as all_open, head_identifiers, shows_last as represents};
+ghost use Rattle.public_queries.specs.HeadLines.{head_identifiers};
 
-use access::is_closed;
 use catalogue_store::Head;
-use isad_core::{Day, Text};
+use isad_core::Text;
 use std::alloc::{AllocError, Global};
-
-/// Whether none of these units is a draft or closed.
-fn are_open(heads: &[Head], today: Day) -> bool
-    ensures { result ≡ all_open today heads.now }
-{
-    heads
-        .iter()
-        .all(|head| !head.draft && !is_closed(head.until, today))
-}
-
-/// Whether the public is shown the last unit of a path, in full or as a stub: none of the units is a draft, and none
-/// above the last is closed on this day. False for an empty path.
-pub(crate) fn shows_last(way: &[Head], today: Day) -> bool
-    ensures { result ≡ represents today way.now }
-{
-    let Some((last, above)) = way.split_last() else {
-        return false;
-    };
-    are_open(above, today) && !last.draft
-}
 
 /// The identifiers of these units.
 pub(crate) fn identifiers(alloc: Global, way: &[Head]) -> Result<Vec<Text>, AllocError>

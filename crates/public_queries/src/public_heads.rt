@@ -10,6 +10,7 @@ ghost use Rattle.office_tables.specs.Premises.{◌within◌gives◌};
 ghost use Rattle.catalogue_statements.specs.Representation.{Represents};
 ghost use Rattle.catalogue_statements.specs.declared.row_types.Element.{Element};
 ghost use Rattle.catalogue_store.specs.Heads.{head_of};
+ghost use Rattle.known_units.specs.KnownUnits.{KnowsUnits};
 ghost use Rattle.public_queries.specs.HeadLines.{public_head, published_units};
 
 use crate::own_rows::find_published;
@@ -17,6 +18,8 @@ use catalogue_statements::elements::first_elements;
 use catalogue_statements::row_types::Element;
 use catalogue_store::{Head, Places};
 use isad_core::{Number, Text};
+use known_forest::KnownForest;
+use known_units::units_below;
 use office_tables::{StoreFault, Tables};
 use sqlite::Alter;
 use std::alloc::{AllocError, Global};
@@ -64,7 +67,7 @@ fn find_public_head<P: Places, S: Alter>(
 }
 
 /// The heads of those of these units that are not drafts, in their order. A number that no unit has is left out.
-fn public_heads<P: Places, S: Alter>(
+pub(crate) fn public_heads<P: Places, S: Alter>(
     alloc: Global,
     tables: &mut Tables<P, S>,
     units: &[Number],
@@ -87,12 +90,14 @@ fn public_heads<P: Places, S: Alter>(
 pub(crate) fn public_heads_below<P: Places, S: Alter>(
     alloc: Global,
     tables: &mut Tables<P, S>,
+    forest: &KnownForest,
     unit: Option<Number>,
 ) -> Result<Vec<Head>, StoreFault>
     ensures answers { Answers S.Store (Represents P.represents P.version) tables.old tables.new result
         within IsKept
-        gives λ _ c heads. heads.items ≡ map head_of (published_units (tops (part_below has_id unit c.forest))) }
+        gives λ _ c heads. KnowsUnits c.forest forest.now
+        → heads.items ≡ map head_of (published_units (tops (part_below has_id unit c.forest))) }
 {
-    let units = P::below(alloc, tables, unit)?;
+    let units = units_below(alloc, forest, unit)?;
     public_heads(alloc, tables, &units)
 }

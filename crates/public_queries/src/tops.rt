@@ -3,14 +3,15 @@
 ghost use Rattle.std.specs.Prelude.{◌≡◌, [], IfOk};
 ghost use Rattle.catalogue_core.specs.Pages.{tops_text};
 ghost use Rattle.office_core.specs.declared.query.Query.TheVariants as query;
-ghost use Rattle.refinement.specs.Representation.{office_of};
 ghost use Rattle.public_queries.specs.HeadLines.{all_bare, repository_of};
 ghost use Rattle.public_queries.specs.InformedAnswers.{RespondsKnowing};
+ghost use Rattle.public_queries.specs.KnownPaths.{RepresentsKnown};
 
 use crate::head_lines::bare_units;
 use crate::public_heads::public_heads_below;
 use catalogue_store::{Head, OfficeRow, Places};
 use isad_core::{List, list_text};
+use known_forest::KnownForest;
 use office_core::Answer;
 use office_tables::{StoreFault, Tables};
 use sqlite::Alter;
@@ -26,16 +27,18 @@ fn print_tops(alloc: Global, known: &OfficeRow, heads: &[Head]) -> Result<List<u
     Ok(List(list_text(alloc, tops.as_slice())?))
 }
 
-/// Answers with a line for each top that is not a draft. `known` must be the office's row.
+/// Answers with a line for each top that is not a draft. `known` must be the office's row, and `forest` have the marks
+/// of its units.
 pub fn fonds<P: Places, S: Alter>(
     alloc: Global,
     tables: &mut Tables<P, S>,
     known: &OfficeRow,
+    forest: &KnownForest,
 ) -> Result<Answer, StoreFault>
-    ensures { RespondsKnowing P.represents P.version S.Store (λ s. known.now ≡ office_of s) query.Fonds tables.old
-        tables.new result }
+    ensures { RespondsKnowing P.represents P.version S.Store (RepresentsKnown known.now forest.now) query.Fonds
+        tables.old tables.new result }
 {
-    let heads = public_heads_below(alloc, tables, None)?;
+    let heads = public_heads_below(alloc, tables, forest, None)?;
     let text = print_tops(alloc, known, heads.as_slice())?;
     Ok(Answer::Text(text))
 }

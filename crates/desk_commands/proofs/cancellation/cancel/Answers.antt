@@ -1,5 +1,6 @@
 use Rattle.std.proofs.Common.{sym, ◌∙◌}
-use Rattle.desk_commands.proofs.Common.{desk_passed, does_then, is_refused, tables}
+use Rattle.desk_commands.proofs.Common.{tables}
+use Rattle.desk_commands.proofs.Spared.{desk_passed, does_then, is_refused}
 use Rattle.desk_commands.proofs.Cancelled.{known_order, not_waiting, unknown_order}
 use Rattle.desk_commands.proofs.cancellation.cancel.Goals as goal
 

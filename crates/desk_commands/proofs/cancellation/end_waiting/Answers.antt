@@ -1,4 +1,5 @@
-use Rattle.desk_commands.proofs.Common.{desk_passed}
+use Rattle.std.proofs.Common.{refl}
+use Rattle.desk_commands.proofs.Spared.{desk_passed}
 use Rattle.desk_commands.proofs.Cancelled.{cancels}
 use Rattle.desk_commands.proofs.OneStep.{desk_made}
 use Rattle.desk_commands.proofs.cancellation.end_waiting.Goals as goal
@@ -8,5 +9,5 @@ returns-in_err-end_order g c = let made = c.in_err-end_order.ensures.updates in 
 
 pub returns : goal.returns
 returns g c =
-    rw c.get.ensures.same (desk_made c.in_ok-end_order.ensures.updates.call (λ s sound so it. tt) (λ s sound so it schema only put.
+    rw c.get.ensures.same (desk_made c.in_ok-end_order.ensures.updates.call refl (λ s sound so it. tt) (λ s sound so it schema only put.
     cancels g.P.Places.represents g.P.Versioned.version s c.args.order sound g.met.P.Places.shows_same _ _ so it schema only put))

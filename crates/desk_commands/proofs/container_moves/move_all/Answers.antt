@@ -1,9 +1,9 @@
 use Rattle.std.proofs.Common.{◌≡◌, ℕ, List, ◌∷◌, [], take, get_or, subst, ◌∙◌, arith}
 use Rattle.office_tables.proofs.CallEnds.{makes_well}
-use Rattle.office_tables.proofs.Touching.{nothing_touched, touched_again}
 use Rattle.office_tables.specs.Schema as tables
 use Rattle.desk_commands.proofs.Common.{RepresentsDesk, early, get_or_default, goes_nowhere, goes_then}
-use Rattle.desk_commands.proofs.Common.{makes_passed_later, state, take_all, with_all_placed}
+use Rattle.desk_commands.proofs.Common.{makes_passed_later, nothing_touched, state, take_all, touched_again}
+use Rattle.desk_commands.proofs.Common.{with_all_placed}
 use Rattle.desk_commands.proofs.MovedAll.{next_placed}
 use Rattle.desk_commands.proofs.container_moves.move_all.Goals as goal
 

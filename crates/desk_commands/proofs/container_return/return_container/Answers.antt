@@ -1,6 +1,7 @@
 use Rattle.std.proofs.Common.{sym}
 use Rattle.desk_core.proofs.UnknownContainers.{nothing_found}
-use Rattle.desk_commands.proofs.Common.{does_then, is_refused, shows_storage, storage_of}
+use Rattle.desk_commands.proofs.Common.{shows_storage, storage_of}
+use Rattle.desk_commands.proofs.Spared.{does_then, is_refused}
 use Rattle.desk_commands.proofs.HeadTold.{none_queued, queued_at}
 use Rattle.desk_commands.proofs.OneStep.{storage_passed}
 use Rattle.desk_commands.proofs.Returned.{unknown_container}

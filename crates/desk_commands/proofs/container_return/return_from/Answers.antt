@@ -1,5 +1,6 @@
 use Rattle.std.proofs.Common.{ap, ◌∙◌}
-use Rattle.desk_commands.proofs.Common.{Place, does_then, is_refused, is_some, looks_nowhere, order_out}
+use Rattle.desk_commands.proofs.Common.{Place, is_some, looks_nowhere, order_out}
+use Rattle.desk_commands.proofs.Spared.{does_then, is_refused}
 use Rattle.desk_commands.proofs.Returned.{in_house, not_issued}
 use Rattle.desk_commands.proofs.container_return.return_from.Goals as goal
 

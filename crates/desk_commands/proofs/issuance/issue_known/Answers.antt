@@ -1,6 +1,6 @@
 use Rattle.std.proofs.Common.{ap, sym, ◌∙◌}
-use Rattle.desk_commands.proofs.Common.{WaitingOrder, after_look, desk_passed, does_then, is_refused, judged_now}
-use Rattle.desk_commands.proofs.Common.{looks_then, office_passed, option_map}
+use Rattle.desk_commands.proofs.Common.{WaitingOrder, judged_now, looks_then, option_map}
+use Rattle.desk_commands.proofs.Spared.{after_look, desk_passed, does_then, is_refused, office_passed}
 use Rattle.desk_commands.proofs.Issued.{decided_as, first_order}
 use Rattle.desk_commands.proofs.OneStep.{both_told}
 use Rattle.desk_commands.proofs.issuance.issue_known.Goals as goal

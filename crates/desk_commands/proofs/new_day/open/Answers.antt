@@ -1,5 +1,6 @@
 use Rattle.std.proofs.Common.{◌∙◌}
-use Rattle.desk_commands.proofs.Common.{desk_passed, does_then, is_refused, tables}
+use Rattle.desk_commands.proofs.Common.{tables}
+use Rattle.desk_commands.proofs.Spared.{desk_passed, does_then, is_refused}
 use Rattle.desk_commands.proofs.DayOpened.{refuses_day}
 use Rattle.desk_commands.proofs.StillOut.{any_out}
 use Rattle.desk_commands.proofs.new_day.open.Goals as goal

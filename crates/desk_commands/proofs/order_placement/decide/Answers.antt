@@ -1,4 +1,5 @@
-use Rattle.desk_commands.proofs.Common.{does_then, is_refused, looks_nowhere}
+use Rattle.desk_commands.proofs.Common.{looks_nowhere}
+use Rattle.desk_commands.proofs.Spared.{does_then, is_refused}
 use Rattle.desk_commands.proofs.Ordered.{may_order, must_not}
 use Rattle.desk_commands.proofs.order_placement.decide.Goals as goal
 

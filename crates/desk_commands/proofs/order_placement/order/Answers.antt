@@ -1,5 +1,6 @@
 use Rattle.std.proofs.Common.{sym, ap, ◌∙◌}
-use Rattle.desk_commands.proofs.Common.{card_of, desk_passed, does_then, has_card, is_refused, is_some, tables}
+use Rattle.desk_commands.proofs.Common.{card_of, has_card, is_some, tables}
+use Rattle.desk_commands.proofs.Spared.{desk_passed, does_then, is_refused}
 use Rattle.desk_commands.proofs.Ordered.{not_known}
 use Rattle.desk_commands.proofs.order_placement.order.Goals as goal
 

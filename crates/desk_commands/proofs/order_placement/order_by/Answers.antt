@@ -1,4 +1,5 @@
-use Rattle.desk_commands.proofs.Common.{does_then, judged_now, office_passed}
+use Rattle.desk_commands.proofs.Common.{judged_now}
+use Rattle.desk_commands.proofs.Spared.{does_then, office_passed}
 use Rattle.desk_commands.proofs.order_placement.order_by.Goals as goal
 
 pub returns-in_err-is_open : goal.returns-in_err-is_open

@@ -1,3 +1,4 @@
+use Rattle.std.proofs.Common.{refl}
 use Rattle.desk_commands.proofs.OneStep.{desk_failed, desk_made}
 use Rattle.desk_commands.proofs.Permitted.{may_have, permits}
 use Rattle.desk_commands.proofs.permits.give.Goals as goal
@@ -10,6 +11,6 @@ returns-in_err-grant g c =
 pub returns : goal.returns
 returns g c =
     let v = g.P.Versioned.version in
-    rw (c.get.ensures.same, c.get-2.ensures.same) (desk_made c.in_ok-grant.ensures.updates.call
+    rw (c.get.ensures.same, c.get-2.ensures.same) (desk_made c.in_ok-grant.ensures.updates.call refl
     (λ s sound so it. may_have v s sound c.args.ticket c.args.unit c.args.asked c.args.until so g.P.Places.represents _ it)
     (λ s sound so it schema only put. permits v s sound c.args.ticket c.args.unit c.args.asked c.args.until so g.P.Places.represents g.met.P.Places.shows_same _ _ it schema only put))

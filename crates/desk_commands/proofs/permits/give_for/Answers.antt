@@ -1,6 +1,6 @@
 use Rattle.std.proofs.Common.{sym, ◌∙◌}
 use Rattle.refinement.specs.Representation.{office_of as office_row}
-use Rattle.desk_commands.proofs.Common.{catalogue_passed, does_then, is_refused}
+use Rattle.desk_commands.proofs.Spared.{catalogue_passed, does_then, is_refused}
 use Rattle.desk_commands.proofs.Permitted.{no_unit}
 use Rattle.desk_commands.proofs.permits.give_for.Goals as goal
 

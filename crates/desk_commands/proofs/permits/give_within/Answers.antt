@@ -1,6 +1,7 @@
 use Rattle.std.proofs.Common.{true, false, sym, ap, ◌∙◌}
 use Rattle.desk_commands.specs.Permits.{later_of}
-use Rattle.desk_commands.proofs.Common.{desk_passed, does_then, is_refused, tables}
+use Rattle.desk_commands.proofs.Common.{tables}
+use Rattle.desk_commands.proofs.Spared.{desk_passed, does_then, is_refused}
 use Rattle.desk_commands.proofs.Permitted.{full_is, last_check, later_read}
 use Rattle.desk_commands.proofs.permits.give_within.Goals as goal
 

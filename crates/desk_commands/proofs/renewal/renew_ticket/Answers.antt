@@ -1,5 +1,6 @@
 use Rattle.std.proofs.Common.{sym, ◌∙◌}
-use Rattle.desk_commands.proofs.Common.{desk_passed, does_then, is_refused, known_ticket, tables}
+use Rattle.desk_commands.proofs.Common.{known_ticket, tables}
+use Rattle.desk_commands.proofs.Spared.{desk_passed, does_then, is_refused}
 use Rattle.desk_commands.proofs.Renewed.{not_known}
 use Rattle.desk_commands.proofs.renewal.renew_ticket.Goals as goal
 

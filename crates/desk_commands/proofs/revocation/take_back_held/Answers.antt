@@ -1,5 +1,6 @@
 use Rattle.std.proofs.Common.{◌≡◌, true, false, not, sym, ap, ◌∙◌}
-use Rattle.desk_commands.proofs.Common.{desk_passed, does_then, is_refused, is_some, tables}
+use Rattle.desk_commands.proofs.Common.{is_some, tables}
+use Rattle.desk_commands.proofs.Spared.{desk_passed, does_then, is_refused}
 use Rattle.desk_commands.proofs.Permitted.{has_read}
 use Rattle.desk_commands.proofs.Revoked.{no_permit}
 use Rattle.desk_commands.proofs.revocation.take_back_held.Goals as goal

@@ -1,6 +1,6 @@
 use Rattle.std.proofs.Common.{ap, sym, ◌∙◌}
-use Rattle.desk_commands.proofs.Common.{after_look, desk_passed, does_then, is_empty, is_refused, judged_now}
-use Rattle.desk_commands.proofs.Common.{looks_then, office_passed}
+use Rattle.desk_commands.proofs.Common.{is_empty, judged_now, looks_then}
+use Rattle.desk_commands.proofs.Spared.{after_look, desk_passed, does_then, is_refused, office_passed}
 use Rattle.desk_commands.proofs.OneStep.{both_told}
 use Rattle.desk_commands.proofs.RunMade.{due_taken, nothing_due}
 use Rattle.desk_commands.proofs.run_creation.fetch.Goals as goal

@@ -1,4 +1,5 @@
-use Rattle.desk_commands.proofs.Common.{desk_passed}
+use Rattle.std.proofs.Common.{refl}
+use Rattle.desk_commands.proofs.Spared.{desk_passed}
 use Rattle.desk_commands.proofs.OneStep.{desk_made}
 use Rattle.desk_commands.proofs.Seated.{leaves}
 use Rattle.desk_commands.proofs.seats.free_seat.Goals as goal
@@ -8,5 +9,5 @@ returns-in_err-set_seat g c = let made = c.in_err-set_seat.ensures.updates in de
 
 pub returns : goal.returns
 returns g c =
-    desk_made c.in_ok-set_seat.ensures.updates.call (λ s sound so it. tt) (λ s sound so it schema only put.
+    desk_made c.in_ok-set_seat.ensures.updates.call refl (λ s sound so it. tt) (λ s sound so it schema only put.
     leaves s sound c.args.ticket g.P.Versioned.version g.P.Places.represents g.met.P.Places.shows_same _ _ it schema only c.args.seat so put)

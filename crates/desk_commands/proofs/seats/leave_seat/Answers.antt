@@ -1,5 +1,6 @@
 use Rattle.std.proofs.Common.{◌∙◌}
-use Rattle.desk_commands.proofs.Common.{desk_passed, does_then, holder_shown, is_refused, tables}
+use Rattle.desk_commands.proofs.Common.{holder_shown, tables}
+use Rattle.desk_commands.proofs.Spared.{desk_passed, does_then, is_refused}
 use Rattle.desk_commands.proofs.Seated.{may_leave, must_stay}
 use Rattle.desk_commands.proofs.seats.leave_seat.Goals as goal
 

@@ -1,5 +1,6 @@
 use Rattle.std.proofs.Common.{◌∙◌}
-use Rattle.desk_commands.proofs.Common.{desk_passed, does_then, is_refused, tables}
+use Rattle.desk_commands.proofs.Common.{tables}
+use Rattle.desk_commands.proofs.Spared.{desk_passed, does_then, is_refused}
 use Rattle.desk_commands.proofs.Seated.{may_sit, must_stand, numbers_told}
 use Rattle.desk_commands.proofs.seats.sit_down.Goals as goal
 

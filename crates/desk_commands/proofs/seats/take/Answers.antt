@@ -1,3 +1,4 @@
+use Rattle.std.proofs.Common.{refl}
 use Rattle.desk_commands.proofs.OneStep.{desk_failed, desk_made}
 use Rattle.desk_commands.proofs.Seated.{sits, may_take}
 use Rattle.desk_commands.proofs.seats.take.Goals as goal
@@ -9,5 +10,5 @@ returns-in_err-set_seat g c =
 
 pub returns : goal.returns
 returns g c =
-    desk_made c.in_ok-set_seat.ensures.updates.call (λ s sound so it. may_take s sound c.args.ticket g.P.Versioned.version c.args.seat so) (λ s sound so it schema only put.
+    desk_made c.in_ok-set_seat.ensures.updates.call refl (λ s sound so it. may_take s sound c.args.ticket g.P.Versioned.version c.args.seat so) (λ s sound so it schema only put.
     sits s sound c.args.ticket g.P.Versioned.version g.P.Places.represents g.met.P.Places.shows_same _ _ it schema only c.args.seat so put)

@@ -1,5 +1,6 @@
 use Rattle.std.proofs.Common.{◌∙◌}
-use Rattle.desk_commands.proofs.Common.{desk_passed, does_then, holder_shown, tables}
+use Rattle.desk_commands.proofs.Common.{holder_shown, tables}
+use Rattle.desk_commands.proofs.Spared.{desk_passed, does_then}
 use Rattle.desk_commands.proofs.seats.take_seat.Goals as goal
 
 pub returns-in_err-who : goal.returns-in_err-who

@@ -1,5 +1,6 @@
 use Rattle.std.proofs.Common.{◌∙◌}
-use Rattle.desk_commands.proofs.Common.{desk_passed, does_then, is_refused, tables}
+use Rattle.desk_commands.proofs.Common.{tables}
+use Rattle.desk_commands.proofs.Spared.{desk_passed, does_then, is_refused}
 use Rattle.desk_commands.proofs.Reshelved.{idle_told, nothing_idle}
 use Rattle.desk_commands.proofs.shelf_return.reshelve.Goals as goal
 

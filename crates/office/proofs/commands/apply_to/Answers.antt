@@ -1,5 +1,5 @@
 use Rattle.std.proofs.Common.{refl, subst, sym}
-use Rattle.office.proofs.Common.{IsOk}
+use Rattle.std.specs.Prelude.{IsOk}
 use Rattle.office.proofs.Applied.{applies, refused_whole}
 use Rattle.office.proofs.Sights.{name_check_refuses}
 use Rattle.office.proofs.commands.apply_to.Goals as goal

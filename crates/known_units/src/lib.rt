@@ -1,0 +1,7 @@
+//! What a forest that is known in memory tells of the units of a catalogue: the marks of a path and of a branch, and
+//! the units right below one. The crate knows no table.
+#![tactic(auto)]
+
+mod units;
+
+pub use units::{branch_marks, path_marks, units_below};

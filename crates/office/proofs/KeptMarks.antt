@@ -1,0 +1,131 @@
+-- The marks that an office keeps: how many they are, and when they stay those of its tables.
+use Rattle.std.proofs.Common.{◌≡◌, ◌≤◌, ◌&&◌, ℕ, Bool, true, false, cond, not, IsTrue, List, Option, None, Result, Ok}
+use Rattle.std.proofs.Common.{Err, length, refl, sym, ap, subst, ◌∙◌, arith}
+use Rattle.std.specs.Prelude.{IsOk, OnOk}
+use Rattle.sqlite.specs.State.{State}
+use Rattle.sqlite_trees.specs.declared.store.Store as trees
+use Rattle.isad_core.specs.Limits.{most_units}
+use Rattle.tree_core.proofs.EachLemmas.{size-each}
+use Rattle.catalogue_core.proofs.NodeLemmas.{length-nodes}
+use Rattle.catalogue_core.specs.Bounds.{IsKept}
+use Rattle.catalogue_core.specs.CatalogueMerge.{Catalogue}
+use Rattle.catalogue_core.specs.UnitMarks.{AreWalkMarks, mark_of, without_number}
+use Rattle.catalogue_core.specs.Units.{Unit}
+use Rattle.office_tables.specs.Schema as tables
+use Rattle.office_core.specs.Rules as machine
+use Rattle.office_core.specs.State as office
+use Rattle.office_core.specs.declared.machine.Reply.{Reply}
+use Rattle.refinement.proofs.Frames.{catalogue_kept}
+use Rattle.refinement.specs.QueryAnswers.{AnswersQuery}
+use Rattle.public_queries.specs.InformedAnswers.{AnswersKnowing}
+use Rattle.office.specs.CallTransactions.{Applies}
+use Rattle.office.proofs.Common.{Answer, AreKept, AreOfTables, Command, Database, Forest, HasCleanDisk, Held}
+use Rattle.office.proofs.Common.{IsAsBefore, IsAtRest, IsErr, IsOffice, LeavesUnchanged, Mark, OnlyTouches, Query}
+use Rattle.office.proofs.Common.{Represents, RepresentsState, Shows, StoreFault, TellOf, Trees, Version, early, is_ok}
+use Rattle.office.proofs.Common.{kept_after, office_of, on_ok_then, reading_room_trees, size, spares_catalogue, state}
+
+-- ---- how many they are
+
+pub few_marks : (c : Catalogue) (marks : List Mark) → IsKept c → AreWalkMarks c.forest marks
+    → length marks ≤ most_units
+few_marks c marks kept it =
+    let few = kept.places.few in
+    let ids = size-each (λ (u : Unit). u.id) c.forest in
+    let same = sym (size-each without_number it.forest) ∙ ap size it.theirs ∙ size-each mark_of c.forest in
+    let long = ap length it.walked ∙ length-nodes it.forest in
+    omega (arith, few, ids, same, long)
+
+-- ---- they stay
+
+module _ (places : Trees → Forest ℕ → Type 0) (version : Version) (kept : Option (List Mark)) where
+  -- where nothing is changed
+  pub kept_as_before : (a z : State) → (HasCleanDisk z → HasCleanDisk a) → (HasCleanDisk z → IsAsBefore a z)
+      → AreKept places version a kept → AreKept places version z kept
+  kept_as_before a z before same it clean opened =
+      subst (λ (db : Database). AreOfTables places version db kept) (sym ((same clean).now opened)) (it (before clean) ((same clean).was_open opened))
+
+  -- where a command touched the tables of the reading room alone
+  pub kept_spared : ((old new : Trees) (f : Forest ℕ) → new tables.link.tree ≡ old tables.link.tree → places old f → places new f)
+      → (a z : State) → (HasCleanDisk z → HasCleanDisk a)
+      → (HasCleanDisk z → IsTrue z.is_open → IsTrue a.is_open)
+      → (HasCleanDisk a → IsAtRest version a) → (HasCleanDisk z → IsAtRest version z)
+      → (HasCleanDisk z → OnlyTouches reading_room_trees a.now z.now)
+      → AreKept places version a kept → AreKept places version z kept
+  kept_spared same a z before was_open rest_a rest_z only it clean opened row c shown =
+      let at_a = before clean in
+      let open_a = was_open clean opened in
+      let schema = (rest_a at_a).schema_is open_a ∙ sym ((rest_z clean).schema_is opened) in
+      it at_a open_a row c
+      (catalogue_kept z.now a.now reading_room_trees (λ tree table other. sym (only clean tree table other)) places same version row c refl schema shown)
+
+-- after a command
+module _ {S : Type 0} (g : trees.Ghosts S) (before after : Held S) where
+  abbrev a : State
+  a = state g before
+
+  abbrev z : State
+  z = state g after
+
+  pub kept_on : {places : Trees → Forest ℕ → Type 0} {version : Version} (kept : Option (List Mark))
+      → ((old new : Trees) (f : Forest ℕ) → new tables.link.tree ≡ old tables.link.tree → places old f → places new f)
+      → (asked : Command) (r : Result Reply StoreFault) → IsOffice version a
+      → Applies places version g before after asked r → AreKept places version a kept
+      → AreKept places version z (kept_after asked r kept)
+  kept_on {places} {version} kept same asked (Err e) rest does it =
+      kept_as_before places version kept a z (λ clean. early does.crash clean) does.busy it
+  kept_on {places} {version} kept same asked (Ok reply) rest does it = at reply.done refl (spares_catalogue asked) refl
+    where
+      at : (done : machine.Reply) → reply.done ≡ done → (b : Bool) → spares_catalogue asked ≡ b
+          → AreKept places version z (cond (is_ok done && not b) None kept)
+      at (Err why) e b s =
+          kept_as_before places version kept a z (λ clean. early does.crash clean) (λ clean. does.refused clean (subst IsErr (sym e) refl)) it
+      at (Ok d) e true s =
+          kept_spared places version kept same a z (λ clean. early does.crash clean) does.was_open rest.rests does.office.rests
+          (λ clean. does.only s clean (subst IsOk (sym e) refl)) it
+      at (Ok d) e false s = λ clean opened row c shown. tt
+
+-- ---- what a call touches that reads first
+
+pub read_alone : (a b : State) → LeavesUnchanged a b → HasCleanDisk b → OnlyTouches reading_room_trees a.now b.now
+read_alone a b looked clean tree table other = ap (λ (db : Database). db.trees tree) (looked.same clean)
+
+pub touches_after : {X : Type 0} (a b c : State) (r : Result X StoreFault) → LeavesUnchanged a b → HasCleanDisk b
+    → OnOk r (OnlyTouches reading_room_trees b.now c.now) → OnOk r (OnlyTouches reading_room_trees a.now c.now)
+touches_after a b c r looked at_b only =
+    on_ok_then r (OnlyTouches reading_room_trees b.now c.now) (OnlyTouches reading_room_trees a.now c.now)
+    (λ it tree table other. it tree table other ∙ ap (λ (db : Database). db.trees tree) (looked.same at_b)) only
+
+-- ---- a question that is asked of the tables whose marks are kept
+
+-- it was rolled back
+pub kept_asked : (places : Trees → Forest ℕ → Type 0) (version : Version) (a b m z : State)
+    → (HasCleanDisk b → HasCleanDisk a) → (HasCleanDisk m → HasCleanDisk b) → (HasCleanDisk z → HasCleanDisk m)
+    → (HasCleanDisk b → Shows a b a.now a.committed true) → (HasCleanDisk z → IsAsBefore a z)
+    → (kept last : Option (List Mark))
+    → (HasCleanDisk m → AreOfTables places version b.now kept → AreOfTables places version b.now last)
+    → AreKept places version a kept → AreKept places version z last
+kept_asked places version a b m z clean_a clean_b clean_m begins same kept last stays it clean opened =
+    let at_m = clean_m clean in
+    let at_b = clean_b at_m in
+    let begun = begins at_b in
+    let before = it (clean_a at_b) ((same clean).was_open opened) in
+    let after = stays at_m (subst (λ (db : Database). AreOfTables places version db kept) (sym begun.now_is) before) in
+    subst (λ (db : Database). AreOfTables places version db last) (begun.now_is ∙ sym ((same clean).now opened)) after
+
+pub answers_known : {places : Trees → Forest ℕ → Type 0} {version : Version} (kept : Option (List Mark)) {asked : Query} {a b m : State} {r : Result Answer StoreFault}
+    → (HasCleanDisk m → HasCleanDisk b) → (HasCleanDisk b → HasCleanDisk a)
+    → (HasCleanDisk b → Shows a b a.now a.committed true)
+    → AreKept places version a kept
+    → AnswersKnowing places version (λ (s : office.State). TellOf s.catalogue kept) asked b m r
+    → AnswersQuery places version asked b m r
+answers_known {places} {version} kept {asked} {a} {b} {m} {r} clean_b clean_a begins it does =
+    let tells = λ (clean : HasCleanDisk m) (s : office.State) (shown : RepresentsState places version b.now s).
+    let at_b = clean_b clean in
+    it (clean_a at_b) (begins at_b).was_open (office_of s) s.catalogue
+    (subst (λ (db : Database). Represents places version db (office_of s) s.catalogue) (begins at_b).now_is shown.catalogue) in
+    record {
+      answers = λ clean s sound shown. does.answers clean s sound (tells clean s shown) shown;
+      looks = does.looks;
+      aborts = does.aborts;
+      faults = λ s sound shown clean free. does.faults s sound (tells clean s shown) shown clean free;
+    }
