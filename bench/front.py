@@ -1,19 +1,17 @@
 """Measures the built program behind the front of front/server, and prints rows of markdown:
 
-    ./run bench.front [--program PROGRAM] [--room DIRECTORY] [--store STORE] [UNITS]
+    ./run bench.front [--program PROGRAM] [--room DIRECTORY] [UNITS]
 
-UNITS is 2000, 20000 (the default) or 200000. STORE is an existing store of this many units, which is copied. Eight
-clients with kept connections ask for pages of units one after the other: undisturbed, while the program ends after
-every 10,000 answers of its only connection, and while it is killed. The limits by address are taken out, since all
-clients have the same address. An answer other than 200 counts as lost. Then readers are registered at the desk, next to
-eight such clients and a kill: all tickets must be there, each once. Nothing else may use the program. The script needs
-nginx and HAProxy, and ends with 1 if anything is lost.
+UNITS is 2000, 20000 (the default) or 200000. Eight clients with kept connections ask for pages of units one after the
+other: undisturbed, while the program ends after every 10,000 answers of its only connection, and while it is killed.
+The limits by address are taken out, since all clients have the same address. An answer other than 200 counts as lost.
+Then readers are registered at the desk, next to eight such clients and a kill: all tickets must be there, each once.
+Nothing else may use the program. The script needs nginx and HAProxy, and ends with 1 if anything is lost.
 """
 
 import http.client
 import json
 import shutil
-import socket
 import sys
 import threading
 import time
@@ -167,25 +165,9 @@ class Desk:
         )
 
 
-def slow(office, units):
-    """What a page takes while a client has sent a part of a file to the desk, and then sends nothing."""
-    with socket.create_connection(("127.0.0.1", office.ports["8081"])) as held:
-        lines = "".join(f"{name}: {value}\r\n" for name, value in SIGNED_IN.items())
-        held.sendall(
-            f"POST /desk/import/a HTTP/1.1\r\nHost: 127.0.0.1\r\n{lines}Content-Length: 1048576\r\n\r\nx".encode())
-        time.sleep(0.5)
-        reader = Client(office.ports["8080"], pages(units, 0, 20))
-        began = time.perf_counter()
-        reader.run()
-        say("beside a slow sender of a file, one client", [reader], time.perf_counter() - began)
-
-
 def begin(given, room):
-    """An office of so many units, or a copy of the one that is there."""
+    """An office of so many units."""
     office = Office(given.program, room / "long", changes=NO_LIMITS)
-    if given.store:
-        shutil.copy(given.store, office.store)
-        return office
     office.init(client.LARGE | {"run": "1"}).expect_success()
     archive = Archive(given.units)
     for file in range(archive.files):
@@ -195,13 +177,12 @@ def begin(given, room):
 
 
 def measure(given, room):
-    """Prints the table: undisturbed, killed, slow, beside the desk, and while the program ends."""
+    """Prints the table: undisturbed, killed, beside the desk, and while the program ends."""
     many = 600 if given.units > 2000 else 60
     with begin(given, room) as office:
         print("| | requests | a second | p50 | p99 | longest | lost |\n|---|---|---|---|---|---|---|", flush=True)
         steady(office, given.units, many)
         kills(office, given.units, many * 2)
-        slow(office, given.units)
         desk = Desk(office, 350 if given.units > 2000 else 40)
         clients, took = crowd(office, given.units, many, desk.run)
         desk.say()
@@ -215,7 +196,6 @@ def measure(given, room):
 def main():
     """Measures as the command line says; ends with 1 if anything is lost."""
     words = client.options(__doc__, in_memory=False)
-    words.add_argument("--store", help="an office of so many units, which is copied")
     words.add_argument("units", nargs="?", type=int, default=20000, metavar="UNITS")
     given = words.parse_args()
     with client.temporary(given.room) as room:

@@ -1,6 +1,6 @@
 """Tries edits that the prover must refuse; one check of a copy of the crate tries many, each in another function.
 
-  ./run mutation.edits [--gate] [--over] [--jobs N] [--said FOLDER] [CRATE | CRATE/EDIT ..]
+  ./run mutation.edits [--gate] [--over] [--jobs N] [CRATE | CRATE/EDIT ..]
   ./run mutation.edits --dry
 
 An edit is a file of mutation/edits/CRATE (with --gate: of crates/CRATE/must-fail), written as `rt ci` reads it and records.py
@@ -131,8 +131,8 @@ class Bench:
     """A copy of a crate, with the work that its last check kept, and with what it depends on: copied, or over the
     libraries that are there linked."""
 
-    def __init__(self, crate, room, words, said, is_over):
-        self.crate, self.said, self.folder, self.is_over = crate, said, f"{room}/crates/{crate}", is_over
+    def __init__(self, crate, room, words, is_over):
+        self.crate, self.folder, self.is_over = crate, f"{room}/crates/{crate}", is_over
         self.words = [it.format(room=room, crate=crate) for it in words]
         crates = Path(TOP, "crates.txt").read_text(encoding="utf-8")
         lines = [it for it in crates.splitlines(keepends=True) if re.match(r"\w+", it)]
@@ -164,9 +164,7 @@ class Bench:
     def check(self, edits):
         """The output of a check of the crate with these edits; afterwards the texts are as they were."""
         with self.edited(edits):
-            said = self.check_functions(edits)
-            self.keep(f"=== {' '.join(it.name for it in edits)}\n{said}\n")
-            return said
+            return self.check_functions(edits)
 
     @contextlib.contextmanager
     def edited(self, edits):
@@ -207,13 +205,6 @@ class Bench:
         words = [*self.words, *[word for name in names for word in ("--only", name)]]
         ran = subprocess.run(words, cwd=self.folder, stdin=subprocess.DEVNULL, capture_output=True, text=True)
         return ran.stdout + ran.stderr
-
-    def keep(self, said):
-        """Adds what a check said to the file of the crate, if it is to be kept."""
-        if self.said:
-            os.makedirs(self.said, exist_ok=True)
-            with open(f"{self.said}/{self.crate}.said", "a", encoding="utf-8") as out:
-                out.write(said)
 
     def write(self, texts):
         """Writes texts to the files of the copy, by their paths."""
@@ -306,7 +297,6 @@ def main():
     words.add_argument("--gate", action="store_true", help="the edits of crates/CRATE/must-fail")
     words.add_argument("--over", action="store_true", help="the edited functions, over the libraries that are there")
     words.add_argument("--jobs", type=int, default=1, help="the processors of one check")
-    words.add_argument("--said", metavar="FOLDER", help="keep what each check said there")
     words.add_argument("names", nargs="*", metavar="CRATE | CRATE/EDIT", help="those of a crate, or one edit")
     given = words.parse_args()
     if given.dry:
@@ -322,7 +312,7 @@ def main():
         edits = [Edit(f"{of(crate)}/{it}", crate, f"{TOP}/crates/{crate}") for it in files]
         print(f"{crate}: {len(edits)} edits", flush=True)
         with tempfile.TemporaryDirectory(prefix="edits-") as room:
-            try_edits(Bench(crate, room, check, given.said, given.over), edits)
+            try_edits(Bench(crate, room, check, given.over), edits)
         for edit in edits:
             print(f"{verdicts.add(edit.verdict):10} {crate}/{edit.name}: {edit.why[:200]}", flush=True)
     print(verdicts.line())

@@ -23,7 +23,7 @@ class Function:
 
     def __init__(self, module, owner, name, comment, is_public):
         self.module, self.owner, self.name, self.comment, self.is_public = module, owner, name, comment, is_public
-        self.promises, self.labels = False, []
+        self.promises = False
 
     def path(self):
         """The path of the function in its crate, parted by `::`."""
@@ -69,7 +69,6 @@ def functions(path, module):
             yield last
         elif last and words.startswith("ensures"):
             last.promises = True
-            last.labels += re.findall(r"^ensures (\w+)", words)
         if words == "{" or found and words.endswith("{"):
             last = None  # its body begins
         if not words.startswith("#["):
@@ -118,12 +117,6 @@ def in_columns(head, text, margin):
         head = ""
     for number, line in enumerate(lines):
         yield f"{INDENT}{'' if number else head:<{margin}}{line}"
-
-
-def describe(top, crate):
-    """A line for each public function of a crate: its path, its sentence, and the names of its clauses."""
-    for it in public_functions(top, crate):
-        yield f"{it.path()}: {it.sentence()}" + (f" [{' '.join(it.labels)}]" if it.labels else "")
 
 
 def with_laws(top, text):

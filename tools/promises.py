@@ -1,11 +1,10 @@
 """Looks whether the documents agree with the code: names and lines of PROMISES, excerpts, and all links.
 
-    ./run tools.promises [--write] [--list CRATE] [TREE]
+    ./run tools.promises [--write] [TREE]
 
 What PROMISES has between `<!-- laws: CRATE .. -->` and `<!-- end -->` must be what the comments of the code give
 (code_rows.py); `--write` writes it. The excerpts of WALK and HEADLINE must be lines of their files, and each link of a
 page must lead to a file and a heading (document_links.py). What makes want of memory must be listed (made_faults.py).
-`--list` prints each public function of a crate with its sentence and its clauses.
 
 In the column "Clause" `crate::module::function`: `clause` names a clause of that function; a function that follows
 without a path is in the same module, or of the same type; names in parentheses are definitions. Each function must be
@@ -173,11 +172,7 @@ def main():
     words = argparse.ArgumentParser(description=__doc__.split("\n")[0])
     words.add_argument("top", nargs="?", default=TOP, help="the tree; without it the one of this script")
     words.add_argument("--write", action="store_true", help="write what PROMISES has from the code")
-    words.add_argument("--list", metavar="CRATE", help="print the public functions of a crate, and look at nothing")
     given = words.parse_args()
-    if given.list:
-        print(*code_rows.describe(given.top, given.list), sep="\n")
-        return 0
     pages = document_links.pages(given.top)
     if given.write:
         pages[PROMISES] = code_rows.with_laws(given.top, pages[PROMISES])
