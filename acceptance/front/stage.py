@@ -165,7 +165,8 @@ class Stage:
         """A request as WSGI has it."""
         path, _, query = target.partition("?")
         given = {"REQUEST_METHOD": method, "PATH_INFO": path, "QUERY_STRING": query, "REMOTE_ADDR": ADDRESS,
-                 "HTTP_HOST": "archive.example.org", "wsgi.url_scheme": "https", "wsgi.input": io.BytesIO(body),
+                 "HTTP_HOST": "archive.example.org", "HTTP_RECORD_OFFICE_SITE": "https://archive.example.org",
+                 "wsgi.url_scheme": "https", "wsgi.input": io.BytesIO(body),
                  "CONTENT_LENGTH": str(len(body)), **{f"HTTP_{name.upper()}": value for name, value in headers.items()}}
         return {name: value for name, value in given.items() if value is not None}
 

@@ -39,7 +39,7 @@ UNTOLD = {"date", "connection", "content-length", "transfer-encoding", "etag", "
           "content-type", "cache-control", "strict-transport-security", *POLICY}
 # What every request has that comes to one of those behind.
 READERS_SERVICE = ["host: SITE", "x-forwarded-proto: http", "x-forwarded-for: READER", "record-office-room: 0",
-                   "record-office-since: NOW"]
+                   "record-office-since: NOW"]  # and its own name where it has one
 USUAL = {"program": ["host: office"], "trials": ["host: office"], **dict.fromkeys(KINDS, READERS_SERVICE)}
 
 

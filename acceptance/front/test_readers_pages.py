@@ -138,7 +138,7 @@ def test_units_whose_index_says_otherwise_than_the_office(stage, approved):
 
 def wide_levels(stage, pages, unit, above):
     """Levels and contents as wide as they are shown, and by one wider; and no index at all."""
-    more_units(pages, 1000 - 121, HAR, LETTERS, above, f"{above}/above")  # a level of a thousand, and of one more
+    more_units(pages, 2000 - 121, HAR, LETTERS, above, f"{above}/above")  # a level of two thousand, and of one more
     more_units(pages, 1, HAR, LETTERS, above, f"{above}/above")
     stage.sql("DELETE FROM unit WHERE n >= 500000")
     more_units(pages, 500 - DEEP, D, D, f"/unit/{D}?only=contents")  # contents of five hundred, and of one more
@@ -221,7 +221,10 @@ def orders_of_list(stage, pages, note, first):
 def test_pages_that_are_not_of_a_unit(stage, approved):
     """The pages that are not of a unit, what is no page, and languages."""
     pages, words = Pages(stage, "/search?q=plans+dock"), stage.words
-    for target in ("/", "/index.html", "/help", "/ordered", "/sitemap.xml", "/robots.txt", "/?lang=de", "/?lang=xx",
+    words.with_name("old-addresses.csv").write_text("/hull-dock,GB 0999 HUL\n/index.php/odd,x\n", "utf-8")
+    for target in ("/hull-dock", "/index.php/odd", "/ref/GB/0999/HUL", "/ref/GB/0999/HUL/1", "/ref/GB/0999/HULL",
+                   "/unit/41/?x=1", "/", "/index.html", "/help", "/ordered", "/sitemap.xml", "/robots.txt", "/?lang=de",
+                   "/?lang=xx",
                    "/?lang=en&a=%26&b=", "/?" + "&".join(f"a{n}=1" for n in range(9)), "/?q=%ff", "/?q=\u00c3\u00bc",
                    "/no/such/page", "/unit/1/", "/help/", "/search/", "/public/aid/4711", "/public/unit/1"):
         pages.ask(target)
@@ -240,7 +243,12 @@ def test_pages_that_are_not_of_a_unit(stage, approved):
         pages.ask("/help")
     pages.ask("/help", accept_language="de")
     pages.ask("/help", accept_language="fr")
+    words.write_text(json.dumps({"language": "fr", "site": "https://example.org/"}))
+    for wish in (None, "de", "xx"):
+        pages.ask("/help", accept_language=wish)
     words.unlink()
+    stage.played.answers["/public/units/41"] = client.reply(404, b"")
+    pages.ask("/ref/GB/0999/HUL")
     pages.ask("/", record_office_crawler="1")
     pages.ask("/robots.txt", host=None)
     pages.ask("/search?q=quarterdeck", record_office_crawler="1", record_office_room="1")
@@ -250,6 +258,7 @@ def test_pages_that_are_not_of_a_unit(stage, approved):
             for target in ("/", "/sitemap.xml", "/search?q=sills", "/public/search?q=sills"):
                 pages.ask(target)
     stage.played.answers.clear()
+    pages.ask("/help", host="evil.example.org")
     approved("readers/others", pages.lines)
 
 

@@ -16,7 +16,7 @@ from acceptance.front.waits import until
 SOON, AT_ONCE = 8, 3  # seconds in which a reader is told, and in which help comes: with some to spare on a busy machine
 AWAY, AGAIN = "Das Archiv antwortet nicht", "Bitte versuchen Sie es in einer Minute noch einmal."
 TOLD = {"/unit/1": AWAY, "/": AWAY, "/search?q=dock": AGAIN}
-ALONE = ("/help", "/ordered", "/search", "/robots.txt")  # for these nobody asks the office
+ALONE = ("/help", "/accessibility", "/ordered", "/search", "/robots.txt")  # for these nobody asks the office
 MANY = 30 * (os.cpu_count() or 1)  # readers, more than there are threads for pages
 SEARCHES = 45
 

@@ -112,7 +112,8 @@ readers | TimeoutStartSec=10min | there is time until it can be asked
 program | SocketBindDeny=any | it listens at its port alone
 program | RestartPreventExitStatus=2 | a bad command line is not begun again
 try | Environment=PYTHONPATH=/usr/share/record-office/look | the look at a file
-readers | BindReadOnlyPaths=-/etc/record-office/office.json:/run/record-office-readers/office.json | the office's own words
+readers | BindReadOnlyPaths=-/etc/record-office/office.json:/run/record-office-readers/office.json & \
+-/etc/record-office/old-addresses.csv:/run/record-office-readers/old-addresses.csv | the office's own words
 readers | ExecStartPost=+/bin/sh -c 'cd ${RUNTIME_DIRECTORY} && until test -S orders.sock; do sleep 0.2; done; \
 chgrp -h www-data ./*.sock' | nginx can ask it, and nobody else
 """

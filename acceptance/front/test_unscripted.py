@@ -100,14 +100,15 @@ def test_in_another_language_what_was_asked_for_stays(asks, path, kept):
 
 
 def test_a_large_fonds_is_shown_without_its_finding_aid(asks, office):
-    """And a unit of it without the page of a parent with thousands below, which one level up leads to."""
+    """And a unit of it with what it is part of, among more than a thousand."""
     top = next(int(line.split()[0]) for line in asks.text("/public/fonds").splitlines() if "WIDE [" in line)
     before, first = requests_and_bytes(office)
     page = [asks.text(f"/unit/{number}") for number in (top, top + 700)][1]
     asked, size = requests_and_bytes(office)
-    assert asked - before <= 4, "each takes two questions"
+    assert asked - before <= 5, "two questions for the one, three for the other"
     assert size - first < len(asks.text(f"/public/aid/{top}")) / 2, "no finding aid was asked for"
-    assert f'href="/unit/{top + 700}/above"' in page
+    for part in ("Customs House", f'href="/unit/{top + 699}" rel="prev"', f'href="/unit/{top + 701}" rel="next"'):
+        assert part in page, "what it is part of, and what is beside it"
     assert leads_to(office, f"/unit/{top + 700}/above") == (302, f"/unit/{top}")
 
 

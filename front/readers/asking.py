@@ -116,7 +116,8 @@ class Asking:
         except (OSError, http.client.HTTPException) as lost:
             raise (Slow if isinstance(lost, TimeoutError) and self.until else Unreached)(path) from lost
         self.asked, self.busy = self.asked + 1, self.busy + took
-        time.sleep(took * self.rest)
+        if self.rest:
+            time.sleep(took * self.rest)
         if status == 503 and body == BUSY:
             raise Busy(path)
         if status not in (200, 404):

@@ -319,6 +319,15 @@ def stands_above(db, number, phrase):
     return bool(rows) and db.execute(statement, [match, *rows]).fetchone() is not None
 
 
+def with_code(db, phrases):
+    """The units whose heads may begin with a reference code, of which these are the words. Those below them, whose codes go
+    on, are left out."""
+    match = " AND ".join(f'{{head}} : ^ "{" ".join(words)}"' for phrase in phrases for words in phrase.readings[:1])
+    having = "SELECT rowid % ? FROM words WHERE words MATCH ?"
+    statement = f"SELECT n FROM unit WHERE n IN ({having}) AND (parent IS NULL OR parent NOT IN ({having})) LIMIT 20"
+    return [n for n, in db.execute(statement, (ARCHIVE, match) * 2)] if match else []
+
+
 def is_in_context(query, place):
     """Whether a place is that of a unit of which some words stand above it."""
     return place[0] >= CONTEXT if query.by_date else place[0] == 2

@@ -97,8 +97,8 @@ def write(languages, folder):
         new.rename(folder / f"{one.code}.json")
 
 
-def choose(languages, header):
-    """The language that a reader prefers by an Accept-Language, else English."""
+def choose(languages, header, otherwise="en"):
+    """The language that a reader prefers by an Accept-Language, else the office's."""
     wished = []
     for place, wish in enumerate(header.split(",")[:20]):
         code, _, quality = wish.partition(";q=")
@@ -107,4 +107,4 @@ def choose(languages, header):
         except ValueError:
             continue
         wished.append((-weight, place, code.strip().lower().split("-")[0]))
-    return next((languages[code] for weight, _, code in sorted(wished) if weight and code in languages), languages["en"])
+    return next((languages[code] for weight, _, code in sorted(wished) if weight and code in languages), languages[otherwise])

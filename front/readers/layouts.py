@@ -3,6 +3,7 @@
 import contextlib
 import json
 from typing import NamedTuple
+from urllib.parse import quote
 
 import jinja2
 
@@ -12,31 +13,35 @@ from languages import HERE, Language
 from texts import AREAS, DATES, ELEMENTS, EXTENT, N_, read_head, value_of
 
 SHORT = 48  # characters of a title where it only says where something stands
-WORDS = {"name": N_("Record office"), "address": "", "hours": "",
+WORDS = {"name": N_("Record office"), "address": "", "hours": "", "site": "",
          "ordered": N_("Ask for it at the desk in the reading room.")}  # what an office says that says nothing itself
 
 
 class Request(NamedTuple):
-    """method, path and args of what came; language; site: the address of the readers' site; address: of the reader;
-    ask: asks the office; form: what was sent, in pairs."""
+    """method, path and args of what came; language; site: the address of the readers' site as it was asked for; named: the
+    same as nginx has it in its configuration, or nothing; address: of the reader; ask: asks the office; form: what was
+    sent, in pairs."""
 
     method: str
     path: str
     args: dict
     language: Language
     site: str
+    named: str
     address: str
     ask: Asking
     form: list
 
 
 class Answer(NamedTuple):
-    """status; body: a text, or pieces of one; kind of text; size: how many bytes, where the pieces are not counted."""
+    """status; body: a text, or pieces of one; kind of text; size: how many bytes, where the pieces are not counted; allow:
+    which methods a page has."""
 
     status: int
     body: object
     kind: str = "text/html"
     size: int | None = None
+    allow: str = ""
 
 
 class Layouts:
@@ -56,8 +61,8 @@ class Layouts:
     def template(self, request, name):
         """A template, and what each page has."""
         template = self.env[request.language.code].get_template(name)
-        return template, {"request": request, "here": request.site + request.path,
-                          "office": self.own_words(request.language)}
+        own = self.own_words(request.language)
+        return template, {"request": request, "office": own | {"site": own["site"].rstrip("/") or request.named}}
 
     def render(self, request, name, status=200, kind="text/html", **values):
         """A page."""
@@ -71,11 +76,23 @@ class Layouts:
         stream.enable_buffering(400)
         return stream
 
+    def own(self):
+        """What the office says of itself."""
+        with contextlib.suppress(OSError, ValueError, TypeError):
+            return dict(json.loads(self.words.read_text("utf-8")))
+        return {}
+
+    def old_addresses(self):
+        """The reference codes that addresses of an earlier catalogue lead to: lines of an address and a code."""
+        with contextlib.suppress(OSError, ValueError):
+            lines = self.words.with_name("old-addresses.csv").read_text("utf-8").splitlines()
+            return {path.strip(): code.strip(' "') for path, cut, code in (line.partition(",") for line in lines)
+                    if path.startswith("/") and ref(code.strip(' "'))}
+        return {}
+
     def own_words(self, language):
         """The office's own words: each is a text, or texts by language."""
-        own = {}
-        with contextlib.suppress(OSError, ValueError, TypeError):
-            own = dict(json.loads(self.words.read_text("utf-8")))
+        own = self.own()
         plain = {name: language.say(text) for name, text in WORDS.items()}
         chosen = {name: (text.get(language.code) or next(iter(text.values()), "")) if isinstance(text, dict) else text
                   for name, text in own.items()}
@@ -104,9 +121,15 @@ def environment(language, languages, compiled):
     env.install_gettext_translations(language.texts, newstyle=True)
     env.globals.update(say=language.say, day=language.day, number_of=language.number, language=language,
                        languages=languages.values(), AREAS=AREAS, ELEMENTS=ELEMENTS, mark=mark, read_head=read_head,
-                       facts=facts)
+                       facts=facts, ref=ref)
     env.filters.update(filled=filled, short=short)
     return env
+
+
+def ref(code):
+    """The address that a reference code has, or nothing if it has not the parts of one."""
+    parts = code.split(" ")
+    return f"/ref/{parts[0]}/{parts[1]}/{quote(parts[2])}" if len(parts) == 3 else ""
 
 
 def filled(members):

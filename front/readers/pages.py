@@ -1,9 +1,10 @@
 """The readers' pages. Each is made of what the office answers now, for this page alone: the index only proposes where to
 look, as for answers."""
 
-import contextlib
+import os
 import re
 import sqlite3
+import threading
 import time
 from typing import NamedTuple
 from urllib.parse import urlencode
@@ -14,11 +15,11 @@ import languages
 import orders
 from aids import LARGE, Aids, aid_lines, mark, size_and_head
 from asking import SOON, Asking, Idle, Unreached
-from layouts import Answer, Layouts, pieces_of_head
+from layouts import Answer, Layouts, pieces_of_head, ref
 from texts import AREAS, ELEMENTS, N_, Page, read_aid, read_fonds, read_head, read_line
 
 SHOWN = 100  # units of a level at a time
-WIDE = 1000  # units right below one: the office takes long to write its page, which is not asked for to show the way
+WIDE = 2000  # units right below one: the office takes long to write its page, which is not asked for to show the way
 FEW = 500  # units: contents that have no more show their dates, and what is further down
 KEPT = 12  # connections to the queue that a process keeps: the queue lets 500 in
 AHEAD = 8  # units above, of which the pages are asked for at once
@@ -62,7 +63,7 @@ class Pages:
     def __init__(self, queue, path, words, find, rest, a_minute):
         self.queue, self.path, self.find, self.languages = queue, path, find, languages.load()
         self.layouts, self.row = Layouts(self.languages, words), orders.Row(a_minute)
-        self.aids, self.idle = Aids(queue, path.parent, rest), Idle(queue, KEPT)
+        self.aids, self.idle, self.mine = Aids(queue, path.parent, rest), Idle(queue, KEPT), threading.local()
 
     def asking(self, crawls, left=SOON):
         """How the office is asked for a page; left: seconds after which a reader is told that it does not answer."""
@@ -72,7 +73,9 @@ class Pages:
 
     def choose(self, args, header):
         """The language that a reader wants."""
-        return self.languages.get(args.get("lang")) or languages.choose(self.languages, header)
+        own = self.layouts.own().get("language")
+        return (self.languages.get(args.get("lang"))
+                or languages.choose(self.languages, header, own if own in self.languages else "en"))
 
     def answer(self, request):
         """The answer to a request."""
@@ -88,10 +91,17 @@ class Pages:
         pages = [(found, method, page) for pattern, method, page in ROUTES if (found := pattern.fullmatch(request.path))]
         for found, method, page in pages:
             if method == request.method:
-                return page(self, request, *map(int, found.groups()[:1]), *found.groups()[1:])
-            if method == "POST":  # the address of an answer that was loaded again
+                return page(self, request, *map(whole, found.groups()[:1]), *found.groups()[1:])
+            if (method, request.method) == ("POST", "GET"):  # the address of an answer that was loaded again
                 return Answer(302, request.path.removesuffix("/order"))
-        return self.render(request, "message.html", 405 if pages else 404, texts=NO_PAGE, way=None)
+        without = request.path.rstrip("/")
+        if not pages and any(pattern.fullmatch(without) for pattern, method, _ in ROUTES if method == "GET"):
+            return Answer(301, without + (f"?{urlencode(request.args)}" if request.args else ""))
+        if not pages and (code := self.layouts.old_addresses().get(request.path)):
+            return Answer(301, ref(code))
+        methods = {method for _, method, _ in pages} | {"HEAD" for _, method, _ in pages if method == "GET"}
+        answer = self.render(request, "message.html", 405 if pages else 404, texts=NO_PAGE, way=None)
+        return answer._replace(allow=", ".join(sorted(methods)))
 
     def render(self, request, name, *status, **values):
         """A page."""
@@ -124,14 +134,25 @@ class Pages:
         """The units above, as the index has them, from the nearest on, up to one with so many right below that its page
         would keep the office for long; whether there are more; and whether the finding aid of the unit is small, which
         without the index nobody knows."""
+        def look(db):
+            """The same."""
+            above = index.above(db, number)
+            wide = (place for place, n in enumerate(above) if index.count_below(db, n, WIDE + 1) > WIDE)
+            asked = above[:min(HIGHEST, next(wide, HIGHEST))]
+            return asked, len(asked) < len(above), 1 < len(index.branch_numbers(db, number, FEW + 1)) <= FEW
+        return self.from_index(look, ([], False, False))
+
+    def from_index(self, look, otherwise):
+        """What this finds in the index, which each thread has open until the file is another one; `otherwise` if it cannot be
+        read."""
         try:
-            with contextlib.closing(index.open_index(self.path)) as db:
-                above = index.above(db, number)
-                wide = (place for place, n in enumerate(above) if index.count_below(db, n, WIDE + 1) > WIDE)
-                asked = above[:min(HIGHEST, next(wide, HIGHEST))]
-                return asked, len(asked) < len(above), 1 < len(index.branch_numbers(db, number, FEW + 1)) <= FEW
-        except sqlite3.Error:
-            return [], False, False
+            file = os.stat(self.path).st_ino
+            if getattr(self.mine, "file", None) != file:
+                self.mine.db, self.mine.file = index.open_index(self.path), file
+            return look(self.mine.db)
+        except (sqlite3.Error, OSError):
+            self.mine.__dict__.clear()
+            return otherwise
 
     def described(self, lines):
         """The lines of a page by what they are."""
@@ -187,19 +208,21 @@ class Pages:
                 if 0 <= at < len(way.beside)}
         return {"level": heads(way.beside[first:first + SHOWN]), "level_first": first + 1, "turn": turn}
 
-    def above(self, number):
-        """The units above, as the index has them."""
-        try:
-            with contextlib.closing(index.open_index(self.path)) as db:
-                return index.above(db, number)
-        except sqlite3.Error:
-            return []
-
     def up(self, request, number):
         """To the unit above, if its page names this one now."""
-        for above in self.above(number)[:1]:
+        for above in self.from_index(lambda db: index.above(db, number)[:1], []):
             if names(request.ask(f"/public/units/{above}"), number):
                 return Answer(302, f"/unit/{above}")
+        raise Missing
+
+    def ref(self, request, *parts):
+        """To the unit that has a reference code now."""
+        code = " ".join(parts)
+        words = folding.read_typed('"{}"'.format(code.replace('"', " ")))
+        for number in self.from_index(lambda db: index.with_code(db, words), []):
+            text = request.ask(f"/public/units/{number}")
+            if text and read_head(text.split("\n", 1)[0]).code == code:
+                return Answer(302, f"/unit/{number}")
         raise Missing
 
     # Orders
@@ -259,10 +282,7 @@ class Pages:
 
     def spool(self, number):
         """A finding aid in a file, or None."""
-        size = 0
-        with contextlib.suppress(sqlite3.Error), contextlib.closing(index.open_index(self.path)) as db:
-            size = index.size_of(db, number)
-        return self.aids.spool(number, size)
+        return self.aids.spool(number, self.from_index(lambda db: index.size_of(db, number), 0))
 
     def plain_aid(self, _, number):
         """A finding aid as the program answers it."""
@@ -365,9 +385,9 @@ def has_all(phrases, text):
     return all(folding.occurs(phrase._replace(begins=True), readings) for phrase in phrases)
 
 
-def whole(text, otherwise):
-    """The number that a text has."""
-    return int(text) if re.fullmatch("[1-9][0-9]{0,9}", text) else otherwise
+def whole(text, otherwise=None):
+    """The number that a text has, or else this, or the text."""
+    return int(text) if re.fullmatch("[1-9][0-9]{0,9}", text) else text if otherwise is None else otherwise
 
 
 NUMBER = "([1-9][0-9]{0,9})"
@@ -376,6 +396,7 @@ ROUTES = [(re.compile(pattern), method, page) for pattern, method, page in (
     (f"/unit/{NUMBER}/order", "POST", Pages.order), (f"/unit/{NUMBER}/above", "GET", Pages.up),
     (f"/aid/{NUMBER}", "GET", Pages.aid), (f"/public/aid/{NUMBER}", "GET", Pages.plain_aid),
     (f"/aid/{NUMBER}/((?:[1-9][0-9]{{0,9}}[.]?){{1,64}})", "GET", Pages.place),
-    ("/search", "GET", Pages.search), ("/help", "GET", Pages.help), ("/accessibility", "GET", Pages.accessibility),
+    ("/ref/([A-Z]{2})/([^/ ]+)/([!-~]+)", "GET", Pages.ref), ("/search", "GET", Pages.search),
+    ("/help", "GET", Pages.help), ("/accessibility", "GET", Pages.accessibility),
     ("/ordered", "GET", Pages.ordered), ("/ordered/order", "POST", Pages.order_list),
     ("/sitemap[.]xml", "GET", Pages.sitemap), ("/robots[.]txt", "GET", Pages.robots))]

@@ -102,6 +102,7 @@ class Service:
         language = self.pages.choose(args, environ.get("HTTP_ACCEPT_LANGUAGE", ""))
         answer = self.pages.answer(Request(
             method, path, args, language, f"{environ['wsgi.url_scheme']}://{environ.get('HTTP_HOST', 'localhost')}",
+            environ.get("HTTP_RECORD_OFFICE_SITE", ""),
             whose(environ), self.pages.asking("HTTP_RECORD_OFFICE_CRAWLER" in environ, left(environ)), form))
         headers = [] if path.startswith("/public/") else [
             ("Content-Language", language.code), ("Vary", "Accept-Language, Cookie")]
@@ -109,8 +110,10 @@ class Service:
             headers.append(("Set-Cookie", f"lang={language.code}; Path=/; SameSite=Lax; HttpOnly"))
         if answer.status == 503:
             headers.append(("Retry-After", "60"))
-        if answer.status == 302:
+        if answer.status in (301, 302):
             headers.append(("Location", answer.body))
+        if answer.status == 405:
+            headers.append(("Allow", answer.allow))
         return answer, headers
 
     def find(self, values, language, address, until=None):
