@@ -62,7 +62,10 @@ readers | User=record-office-pages | whose name is no group's
 program try | User=record-office | who owns the office, and its copies
 backup | OnFailure=record-office-resume.service record-office-alarm@%n.service | the program is begun again
 program queue readers desk try | Restart=always | what has ended is begun again
-program queue readers desk try probe | StartLimitIntervalSec=0 | however often it has ended
+probe | StartLimitIntervalSec=0 | however often it has ended
+program queue readers desk try | StartLimitIntervalSec=10min | one that cannot begin has failed, is told, and begun by the probe
+queue readers desk try | StartLimitBurst=20 | the same
+program | StartLimitBurst=100 | a restart takes it less time
 program queue readers desk try strangers | WantedBy=multi-user.target | they begin with the machine
 backup | After=record-office.service | it comes after what it asks
 desk readers | After=record-office-queue.service | the same
@@ -119,7 +122,7 @@ chgrp -h www-data ./*.sock' | nginx can ask it, and nobody else
 """
 WHEN = {"record-office-backup": {"OnCalendar": ["*-*-* 03:00"], "Persistent": ["true"]},
         "record-office-status": {"OnCalendar": ["*-*-* 07:00"], "Persistent": ["true"]},  # after the backup
-        "record-office-probe": {"OnActiveSec": ["5min"], "OnUnitActiveSec": ["5min"], "AccuracySec": ["10s"]}}
+        "record-office-probe": {"OnActiveSec": ["4min"], "OnUnitActiveSec": ["4min"], "AccuracySec": ["10s"]}}
 OFFICE = "/var/lib/record-office/office.db"
 
 
