@@ -3,6 +3,7 @@
 
 import contextlib
 import datetime
+import fnmatch
 import hashlib
 import importlib.machinery
 import importlib.util
@@ -346,26 +347,86 @@ def test_a_box_that_moves_keeps_what_its_row_leaves_blank() -> None:
             relocate.relocate(db, [(2, ["Box 1", "Room B", None], ["Box 2", "Room A", None])])
 
 
-def test_an_upgrade_leaves_what_the_operator_wrote(tmp_path: Path) -> None:
-    theirs, own = tmp_path / "etc/record-office", tmp_path / "usr/share/record-office/own"
-    for folder in (theirs, own, tmp_path / "etc/nginx/sites-available"):
-        folder.mkdir(parents=True)
-    (theirs / "rooms.conf").write_text("the operator's\n")
-    for path in (own / "rooms.conf", own / "backup.conf", own.parent / "site", own.parent / "site-tls"):
-        path.write_text("the package's\n")
-    bring = re.search(r"^bring\(\) \{.*?^\}$", (client.TOP / "debian/record-office.postinst").read_text("utf-8"), re.M | re.S)
-    assert bring
-    script = re.sub(r"(?<=[\s\"=])/(?=etc/|usr/)", f"{tmp_path}/", bring[0])
-    subprocess.run(["sh", "-e", "-c", f"{script}\nbring"], check=True, capture_output=True)
-    assert (theirs / "rooms.conf").read_text() == "the operator's\n"
-    assert (theirs / "backup.conf").read_text() == "the package's\n", "what is not there yet comes"
+SERVER = {path.name: path for path in (client.TOP / "front/server").iterdir()}
+SITES = {"nginx.conf": "site", "tls.conf": "site-tls"}
+RULES = (client.TOP / "debian/rules").read_text("utf-8")
+OWN = re.findall(r"\S+\.\S+", re.search(r"^own := (.*)$", RULES, re.M)[1])  # type: ignore[index]
+MAINTSCRIPT = (client.TOP / "debian/record-office.maintscript").read_text("utf-8")
+GIVEN_BEFORE = re.findall(r"^rm_conffile /etc/record-office/(\S+)$", MAINTSCRIPT, re.M)
+
+
+@pytest.fixture
+def machine(tmp_path: Path, monkeypatch: Any) -> Any:
+    """record-office-add over folders of its own: the package's files of this version, and what the one before gave."""
+    add = tool("record-office-add")
+    for name in ("SHARE", "BEFORE", "SETTINGS", "SITES", "UNITS"):
+        monkeypatch.setattr(add, name, tmp_path / name)
+    for folder in ("SHARE/server", "SHARE/own", "BEFORE/own", "SETTINGS/harbour", "UNITS"):
+        (tmp_path / folder).mkdir(parents=True)
+    for name, path in SERVER.items():
+        to = f"own/{name}" if name in OWN else SITES.get(name, f"server/{name}")
+        (tmp_path / "SHARE" / to).write_bytes(path.read_bytes())
+    (tmp_path / "SETTINGS/harbour/staff").touch()
+    monkeypatch.setattr(add, "port_of", lambda _: 8180)
+    monkeypatch.setattr(add, "http2_is_a_directive", lambda: False)
+    return add
+
+
+@pytest.mark.parametrize("office", [None, "harbour"])
+def test_an_upgrade_leaves_what_the_operator_wrote_and_brings_the_rest(machine: Any, office: str | None) -> None:
+    settings = machine.SETTINGS / (office or "")
+    for name in ("rooms.conf", "orders-from.conf"):
+        (machine.BEFORE / "own" / name).write_text(f"{machine.SETTINGS}/ 8080 of before\n")
+        (settings / name).write_text(machine.given(machine.BEFORE, f"own/{name}", office)[-1])
+    (settings / "rooms.conf").write_text("the operator's\n")
+    machine.configure(office)
+    machine.bring(office)
+    assert (settings / "rooms.conf").read_text() == "the operator's\n"
+    assert (settings / "orders-from.conf").read_text() == SERVER["orders-from.conf"].read_text(), "as before, so it is new"
+    assert {path.name for path in settings.iterdir()} >= set(SERVER) - set(SITES), "whatever is not there yet comes"
+    assert (settings / "common.conf").is_symlink() == (office is None), "the package's files of the first office are links"
+
+
+@pytest.mark.parametrize("name", [*SITES, "desk-nginx.conf", "desk-tls.conf", "strangers.nft"])
+def test_a_file_of_the_operator_has_what_an_operator_decides(name: str) -> None:
+    lines = re.sub(r"#.*", "", SERVER[name].read_text()).splitlines()
+    decided = r"listen |server_name |ssl_|allow |deny |define |include |server \{|http \{|\}|variables_hash_bucket_size "
+    assert [line for line in lines if line.strip() and not re.match(decided, line.strip())] == []
+    included = re.findall(r'include "?/etc/record-office/([^;"\n]+)', "\n".join(lines))
+    assert set(included) <= set(SERVER) - set(OWN) - set(SITES), "what it includes is the package's"
+
+
+def test_what_was_asked_about_before_is_the_packages_now_and_on_the_way_back_the_rest_stays() -> None:
+    assert set(GIVEN_BEFORE) <= set(SERVER) - set(OWN) - set(SITES)
+    prerm = (client.TOP / "debian/record-office.prerm").read_text("utf-8")
+    stay = re.search(r"^ +(\S.*)\) cp --remove-destination", prerm, re.M)
+    assert stay
+    for name in set(SERVER) - set(OWN) - set(SITES):
+        kept = any(fnmatch.fnmatch(name, one) for one in stay[1].split(" | "))
+        assert kept != (name in GIVEN_BEFORE), f"{name}, which an earlier version has not"
+
+
+def test_what_is_to_be_merged_is_told_by_file_and_line(tmp_path: Path, monkeypatch: Any) -> None:
+    merges = tool("merges.py")
+    monkeypatch.setattr(merges, "SITES", tmp_path / "sites-available")
+    (tmp_path / "sites-enabled").mkdir()
+    site = tmp_path / "sites-enabled/record-office"
+    office = SimpleNamespace(name=None, settings=tmp_path, unit_of=lambda part: f"record-office-{part}.service")
+    site.write_text(SERVER["nginx.conf"].read_text())
+    assert merges.merges(office) == []
+    site.write_text("server {\n    # include /etc/record-office/desk.conf;\n    include /etc/record-office/desk.conf;\n}\n")
+    (tmp_path / "common.conf.dpkg-bak").touch()
+    (tmp_path / "common.conf.dpkg-bak.diff").write_text("--- a\n+++ b\n@@ -9 +21,2 @@\n-x\n+y\n")
+    assert [" ".join(one.split()[:3]) for one in merges.merges(office)] == [
+        f"{site}, line 3,", f"{tmp_path}/common.conf.dpkg-bak, line 21,"]
 
 
 @pytest.mark.parametrize("unit", sorted(path.name for path in [*PACKAGING.glob("*[!@].service"), *PACKAGING.glob("*.timer")]))
 def test_the_units_of_an_added_office_name_nothing_of_the_first_ones(unit: str) -> None:
     made = subprocess.check_output(["sed", "-f", PACKAGING / "template.sed", PACKAGING / unit], text=True)
     lines = "\n".join(line for line in made.splitlines() if not line.startswith(("#", "Documentation=")))
-    folders = re.findall(r"(?<![\w/])/(?:var/(?:lib|backups|cache)|etc|run)/record-office[^\s'\";$]*", lines)
+    roots = "var/(?:lib|backups|cache)|etc(?:/nginx/sites-enabled)?|run"
+    folders = re.findall(rf"(?<![\w/])/(?:{roots})/record-office[^\s'\";$]*", lines)
     shared = ("/run/record-office/", "/etc/record-office")  # marks, by unit; what no service of the pages sees
     assert [one for one in folders if "%i" not in one and not one.startswith(shared[0]) and one != shared[1]] == []
     assert re.findall(r"\brecord-office(?:-[a-z]+)?\.(?:service|timer)\b", lines) == [], "units of the first office"
@@ -386,7 +447,30 @@ def package(program: client.Program, tmp_path_factory: Any) -> Path:
     return tree.parent / "unpacked"
 
 
-@pytest.mark.needs("dpkg-buildpackage", "dh", "dh_python3")
+NEEDED = pytest.mark.needs("dpkg-buildpackage", "dh", "dh_python3", "lintian")
+
+
+@NEEDED
+def test_debian_finds_nothing_wrong_with_the_package(package: Path) -> None:
+    deb, = package.parent.glob("*.deb")
+    said = subprocess.run(["lintian", "--allow-root", deb], capture_output=True, text=True, check=False)
+    assert said.stdout + said.stderr == ""
+    released = re.search(r"^## \[([0-9.]+)\]", (client.TOP / "CHANGELOG.md").read_text("utf-8"), re.M)
+    assert released and f"record-office ({released[1]}+" in (client.TOP / "debian/changelog").read_text(), "the same version"
+
+
+@NEEDED
+def test_an_installation_enables_what_begins_with_the_machine(package: Path) -> None:
+    postinst = (package / "DEBIAN/postinst").read_text("utf-8")
+    enabled = set(re.findall(r"deb-systemd-helper enable '?([\w.-]+)", postinst))
+    begins = {path.name for path in (package / "lib/systemd/system").iterdir() if "@" not in path.name and
+              "[Install]" in path.read_text() and "strangers" not in path.name}
+    assert enabled - {"record-office-strangers.service"} == begins
+    assert begins <= set(re.findall(r"try-restart (.*) >", postinst)[0].replace("'", "").split()), "an upgrade restarts it"
+    assert not (package / "DEBIAN/conffiles").exists(), "an upgrade asks nothing"
+
+
+@NEEDED
 def test_the_package_has_each_file_that_its_programs_read(package: Path) -> None:
     has = {str(path.relative_to(package)) for path in package.rglob("*")}
     share = "usr/share/record-office"

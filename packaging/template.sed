@@ -2,6 +2,7 @@
 s/^Description=Record office:/Description=Record office %i:/
 s#/var/lib/record-office\>#&-%i#g
 s#/etc/record-office/#&%i/#
+s#/etc/nginx/sites-enabled/record-office#&-%i#
 s/record_office_strangers/record_office_%i_strangers/
 s#/run/record-office-\(queue\|readers\|desk\|try\)\>#&-%i#
 s#/var/backups/record-office\>#&-%i#g

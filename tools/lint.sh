@@ -19,7 +19,7 @@ finds() {
     fi
 }
 
-mapfile -t shell < <(grep -rlE --exclude-dir={crates,.git,out} '^#!/(usr/)?bin/(env )?(ba)?sh|^# shellcheck shell' .)
+mapfile -t shell < <(grep -rlE --exclude-dir={crates,.git,out,record-office} '^#!/(usr/)?bin/(env )?(ba)?sh|^# shellcheck shell' .)
 finds . flake8 . packaging/tools/record-office-* packaging/lists/record-office-{lists,register}
 finds . mypy
 # What is installed from a folder finds its modules there; trying an import also finds those of the look at a file.

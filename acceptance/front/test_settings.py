@@ -63,10 +63,11 @@ passed.conf | | proxy_read_timeout 250s | the queue gives up first, and says wha
 passed.conf | | proxy_request_buffering on | nobody else waits for a slow sender
 passed.conf | | proxy_buffering on | nobody else waits for a slow reader
 passed.conf | | proxy_next_upstream off | nothing is sent twice
-desk-nginx.conf | | worker_processes 1 | the limits are those of all
-desk-nginx.conf | | worker_rlimit_nofile 8192 | two files for each connection
-desk-nginx.conf | | worker_connections 4000 | half of those files
-desk-nginx.conf | | error_log stderr warn | the journal has what went wrong
+desk-main.conf | | worker_processes 1 | the limits are those of all
+desk-main.conf | | worker_rlimit_nofile 8192 | two files for each connection
+desk-main.conf | | worker_connections 4000 | half of those files
+desk-main.conf | | error_log stderr warn | the journal has what went wrong
+desk-http.conf | | access_log syslog:server=unix:/dev/log,tag=record_office_desk | the journal has what staff asked
 desk.conf | | auth_delay 5s | some twenty guesses a second
 desk.conf | location @sign_in | auth_delay 0s | who has sent no password is asked for one at once
 desk.conf | location = /sign-out | auth_delay 0s | nobody waits to sign out
@@ -97,18 +98,18 @@ readers.conf | location /quietly/ { | error_log /dev/null | what readers look fo
 tls.conf | | variables_hash_bucket_size 128 | there is room for the names of several offices
 tls.conf | listen 80 | server_name archive.example.org | each office redirects its own readers
 tls.conf | listen 443 | server_name archive.example.org | the limits of all are counted by it
-tls.conf | location /.well-known/acme-challenge/ | root /var/www/html | what renews the certificate writes there
-strangers.nft | set addresses | type ipv4_addr | each address counts
-strangers.nft | set addresses | size 65535 | so many addresses are counted
-strangers.nft | set addresses | flags dynamic | the kernel adds them
-strangers.nft | set networks | type ipv6_addr | each network counts
-strangers.nft | set networks | size 65535 | so many networks are counted
-strangers.nft | set networks | flags dynamic | the kernel adds them
-strangers.nft | chain readers | type filter hook input priority filter; policy accept | what comes in is looked at
-strangers.nft | chain readers | tcp dport != $ports accept | the desk and the rest have no limit here
-strangers.nft | chain readers | ip saddr $rooms accept | a reading room has no limit here
-strangers.nft | chain readers | ip saddr ct count over 100 | as many as nginx lets one address have
-strangers.nft | chain readers | ip6 saddr & ffff:ffff:ffff:ffff:: ct count over 100 | a network as many as an address
+to-tls.conf | location /.well-known/acme-challenge/ | root /var/www/html | what renews the certificate writes there
+strangers-table.nft | set addresses | type ipv4_addr | each address counts
+strangers-table.nft | set addresses | size 65535 | so many addresses are counted
+strangers-table.nft | set addresses | flags dynamic | the kernel adds them
+strangers-table.nft | set networks | type ipv6_addr | each network counts
+strangers-table.nft | set networks | size 65535 | so many networks are counted
+strangers-table.nft | set networks | flags dynamic | the kernel adds them
+strangers-table.nft | chain readers | type filter hook input priority filter; policy accept | what comes in is looked at
+strangers-table.nft | chain readers | tcp dport != $ports accept | the desk and the rest have no limit here
+strangers-table.nft | chain readers | ip saddr $rooms accept | a reading room has no limit here
+strangers-table.nft | chain readers | ip saddr ct count over 100 | as many as nginx lets one address have
+strangers-table.nft | chain readers | ip6 saddr & ffff:ffff:ffff:ffff:: ct count over 100 | a network as many as an address
 """
 CASES = [[part.strip() for part in line.split("|")] for line in NUMBERS.splitlines()]
 
@@ -190,14 +191,6 @@ def test_what_counts_has_room_for_the_addresses_of_many_readers():
         assert found == {wanted}, f"as many {name} at once at each place"
     assert SIZES == {name: "1m" if name.startswith("room_") else "64k" if name in ("reading", "searching") else "2m"
                      for name in SIZES}
-
-
-def test_the_desk_with_tls_is_that_without():
-    """But for addresses, names and certificates."""
-    first, last = "user www-data;", "include /etc/record-office/common.conf;"
-    with_tls, without = (TEXTS[name].partition(first)[2].partition(last)[0] for name in ("desk-tls.conf", "desk-nginx.conf"))
-    assert with_tls == without
-    assert "access_log syslog:server=unix:/dev/log,tag=record_office_desk;" in without
 
 
 @pytest.mark.parametrize("name", ["nginx.conf", "tls.conf", "desk-tls.conf"])

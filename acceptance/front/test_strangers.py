@@ -135,9 +135,8 @@ def connections_from(office, source):
 
 @inside
 def test_with_the_rules_each_address_has_so_many_connections(office):
-    text = (FRONT / "server/strangers.nft").read_text().replace("8080", str(office.ports["8080"]))
     path = office.folder / "strangers.nft"
-    path.write_text(text)
+    path.write_text(path.read_text().replace("8080", str(office.ports["8080"])))
     for _ in range(2):  # a second time after a change
         subprocess.run([shutil.which("nft", path="/usr/sbin:/sbin:/usr/bin"), "-f", path], check=True)
     addresses = [f"127.0.1.{n}" for n in range(1, MANY + 1)]

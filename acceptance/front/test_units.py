@@ -97,6 +97,8 @@ readers | TasksMax=1024 | threads
 try | TasksMax=32 | threads
 readers try | Nice=10 | the program goes before them
 readers | Environment=MALLOC_ARENA_MAX=1 | memory of threads
+desk | ExecCondition=/bin/sh -c '! grep -qs "^[^#]*include /etc/record-office/desk[.]conf;" \
+/etc/nginx/sites-enabled/record-office' | a site that has the desk goes on
 desk | ExecStartPre=/usr/sbin/nginx -t -q -c /etc/record-office/desk-nginx.conf | its file is tried
 desk | ExecStart=/usr/sbin/nginx -c /etc/record-office/desk-nginx.conf | it begins
 desk | ExecReload=/usr/sbin/nginx -t -q -c /etc/record-office/desk-nginx.conf & \
@@ -224,9 +226,9 @@ def megabytes(text):
 
 
 def test_the_desk_has_two_files_for_each_connection():
-    files = re.findall(r"worker_rlimit_nofile (\d+);", SERVER["desk-nginx.conf"])
+    files = re.findall(r"worker_rlimit_nofile (\d+);", SERVER["desk-main.conf"])
     assert SERVICES["record-office-desk"].get("LimitNOFILE") == files
-    assert int(files[0]) > 2 * int(re.search(r"worker_connections (\d+);", SERVER["desk-nginx.conf"])[1])
+    assert int(files[0]) > 2 * int(re.search(r"worker_connections (\d+);", SERVER["desk-main.conf"])[1])
 
 
 def test_the_program_listens_where_the_queue_asks_it():
@@ -237,7 +239,7 @@ def test_the_program_listens_where_the_queue_asks_it():
 
 
 def test_the_rules_of_strangers_end_with_their_table():
-    table = re.search(r"^delete (table .*)$", SERVER["strangers.nft"], re.M)[1]
+    table = re.search(r"^delete (table .*)$", SERVER["strangers-table.nft"], re.M)[1]
     assert SERVICES["record-office-strangers"]["ExecStop"] == [f"/usr/sbin/nft delete {table}"]
 
 

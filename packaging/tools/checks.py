@@ -16,6 +16,7 @@ from alarms import who
 from copies import copies_in, damaged, replaced_in, sum_of
 from fronts import Site, Configuration, served, sites_of, status_of
 from levels import CRITICAL, OK, UNKNOWN, WARNING, Line, severity
+from merges import merges
 from offices import MARKS, TO_DESK, Trouble, conf_of
 from sets import last_drill
 
@@ -342,6 +343,12 @@ def days_of(office, site):
     return level, f"{site} has one for {days:.0f} days{': renew it (certbot renew)' if level else ''}"
 
 
+def files(office):
+    """What an upgrade has left for the operator to merge."""
+    found = merges(office)
+    return CRITICAL if found else OK, "; ".join(found) or "nothing is to be merged"
+
+
 def aside(office):
     """The offices that restores have put aside. They go by themselves."""
     folders = replaced_in(office.folder)
@@ -363,8 +370,8 @@ def alarm(office):
 
 
 ALL = {"program": program, "store": store, "queue": queue, "readers": readers, "desk": desk, "try": tries, "page": page,
-       "command": command, "nginx": nginx, "staff": staff, "certificate": certificate, "disk": disk, "copy": copy,
-       "copies": copies, "drill": drill, "alarm": alarm, "put aside": aside}
+       "command": command, "nginx": nginx, "staff": staff, "certificate": certificate, "files": files, "disk": disk,
+       "copy": copy, "copies": copies, "drill": drill, "alarm": alarm, "put aside": aside}
 
 
 def looked(office, name):
