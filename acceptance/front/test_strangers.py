@@ -15,7 +15,7 @@ import pytest
 
 from acceptance import client
 from acceptance.conftest import do_without
-from acceptance.front.office import ARCHIVES, FRONT, SIGNED_IN, TOP, Office
+from acceptance.front.office import ARCHIVES, SIGNED_IN, TOP, Office
 from acceptance.front.waits import until
 
 HALF = client.get("/public/fonds")[:30]  # a head that nobody finishes

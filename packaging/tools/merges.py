@@ -16,9 +16,9 @@ def desk_in_site(office):
     for found in DESK.finditer(text):
         line = text.count("\n", 0, found.start()) + 1
         unit = office.unit_of("desk")
-        yield (f"{site.resolve()}, line {line}, has the desk, so that {unit} is not started: give its names, ports and "
-               f"certificates to {office.settings / 'desk-nginx.conf'}, take its servers out of the site, and call "
-               f"`nginx -t && systemctl reload nginx && systemctl restart {unit}`")
+        yield (f"{site.resolve()}, line {line}, has the desk, so that {unit} is not started: give its names, ports "
+               f"and certificates to {office.settings / 'desk-nginx.conf'}, take its servers out of the site, and "
+               f"call `nginx -t && systemctl reload nginx && systemctl restart {unit}`")
 
 
 def edited(office):
@@ -27,8 +27,8 @@ def edited(office):
         change = mine.with_name(f"{mine.name}.diff")
         told = change.read_text(encoding="utf-8", errors="replace") if change.exists() else ""
         line = re.search(r"^@@ .*\+(\d+)", told, re.M)
-        yield (f"{mine}, line {line[1] if line else 1}, begins a change of yours ({change.name}) that is not in force: make "
-               f"it in a copy of {SETTINGS / mine.stem}, let your site include that, and remove {mine.name}")
+        yield (f"{mine}, line {line[1] if line else 1}, begins a change of yours ({change.name}) that is not in force: "
+               f"make it in a copy of {SETTINGS / mine.stem}, let your site include that, and remove {mine.name}")
 
 
 def merges(office):
