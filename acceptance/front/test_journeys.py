@@ -5,7 +5,7 @@ import json
 
 import pytest
 
-from acceptance.front.browser import TWO_FRAMES
+from acceptance.front.browser import LEAVE, TWO_FRAMES
 from acceptance.front.catalogue import archives, deep, dock_company, harbour, wide
 from acceptance.front.office import MANY_PAGES
 from acceptance.front.waits import until
@@ -215,8 +215,8 @@ def test_units_are_collected_and_ordered_together(hall, asks, ticket, logbook):
     hall.see("Your list (3)", "header")
     hall.press("Your list (3)")
     hall.see("Carton 78", "ul.units")
-    hall.js("document.querySelector('[data-drop]').click()")
-    hall.wait("document.querySelectorAll('ul.units li').length === 2")
+    hall.js(f"{LEAVE}; document.querySelector('[data-drop]').click()")
+    hall.await_page("document.querySelectorAll('ul.units li').length === 2")
     hall.fill(TICKET, str(ticket))
     hall.press("Order all of these")
     hall.see(f"Ordered: 2 of 2 containers, with ticket {ticket}.", ".outcome")
@@ -302,7 +302,7 @@ def test_a_filter_that_is_not_answered_says_so(hall, top):
 
 # What the pages have
 
-def test_a_series_is_shown_a_hundred_at_a_time_and_filtered_at_each_key(hall, office, top, logbook):
+def test_a_series_is_shown_a_hundred_at_a_time_and_filtered_at_each_key(hall, office, top):
     """Back keeps the filter; a unit names those beside it, and how to cite it."""
     hall.visit(f"/unit/{top + 1}").see("1 to 100 of 121 units.")
     assert hall.js("document.querySelectorAll('.contents .facts')[1].textContent") == "1802 \u00b7 1 bundle"
@@ -317,7 +317,7 @@ def test_a_series_is_shown_a_hundred_at_a_time_and_filtered_at_each_key(hall, of
         "Previous: GB 0999 HAR/1/76 [File] Letters of captain 76", "Next: GB 0999 HAR/1/78 [File] Letters of captain 78"]
     hall.press_starting("Cite this unit")
     assert hall.text(".citation") == ("Record office, GB 0999 HAR/1/77, Logbook of the Cafe\u0301 Zum Anker, 1877, "
-                                      f"{office.public}/unit/{logbook}")
+                                      f"{office.public}/ref/GB/0999/HAR/1/77")
     hall.js("history.back()")
     hall.see("1 to 1 of 1 unit.")
     assert hall.js("document.querySelector('.filter input').value") == "CAFE ank"

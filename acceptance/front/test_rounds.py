@@ -7,7 +7,7 @@ import time
 
 import index
 import pytest
-from answers import SHOWN, Finder, Query
+from answers import COUNTED, SHOWN, Finder, Query
 from folding import read_typed
 from rounds import Keeper, Round
 
@@ -163,7 +163,7 @@ def test_a_reader_whose_time_is_over_is_not_told_that_the_index_is_being_made(db
     assert find(db, office, .1).state == "late"
 
 
-def test_a_reader_who_goes_on_to_more_units_makes_the_office_print_no_others(db):
-    fill(db, 100)
+def test_a_reader_who_goes_on_to_more_units_makes_the_office_print_no_more_than_are_counted(db):
+    fill(db, 1000)
     more = find(db, Office(), after=(0, index.row_of(1, 20)))
-    assert (len(more.units), more.looked) == (SHOWN, SHOWN + 1)
+    assert (len(more.units), more.count, more.looked) == (SHOWN, COUNTED, COUNTED + 1)
