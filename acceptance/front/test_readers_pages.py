@@ -251,6 +251,8 @@ def test_pages_that_are_not_of_a_unit(stage, approved):
     pages.ask("/ref/GB/0999/HUL")
     pages.ask("/", record_office_crawler="1")
     pages.ask("/robots.txt", host=None)
+    for target in ("/sitemap.xml", "/robots.txt"):  # of a site that nothing names
+        pages.ask(target, record_office_site="")
     pages.ask("/search?q=quarterdeck", record_office_crawler="1", record_office_room="1")
     for path in ("/public/fonds",):
         for answer in (UNREACHED, BUSY, client.reply(404, b"{}"), client.reply(200, b"", client.TEXT)):

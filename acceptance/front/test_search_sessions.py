@@ -36,6 +36,8 @@ def test_the_search_finds_what_is_public_and_nothing_else(new_office, session_of
 
 def test_a_page_shows_what_the_office_answers_just_then(new_office, session_of):
     office = new_office(kind=Searched, more=[*MANY_PAGES, *LIMITS])
+    office.words = office.folder / "office.json"
+    office.words.write_text('{"site": "https://archive.example.org"}')  # without which there is no sitemap
     office.serve_readers("--every", ".5", "--rest", "0", "--orders", "1000000")
     told = session_of(Pages, office, 100)
     assert told["unit"] and told["aid"]

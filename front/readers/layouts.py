@@ -61,8 +61,7 @@ class Layouts:
     def template(self, request, name):
         """A template, and what each page has."""
         template = self.env[request.language.code].get_template(name)
-        own = self.own_words(request.language)
-        return template, {"request": request, "office": own | {"site": own["site"].rstrip("/") or request.named}}
+        return template, {"request": request, "office": self.office(request)}
 
     def render(self, request, name, status=200, kind="text/html", **values):
         """A page."""
@@ -75,6 +74,11 @@ class Layouts:
         stream = template.stream(**given, **values)
         stream.enable_buffering(400)
         return stream
+
+    def office(self, request):
+        """The office's own words, with the address of its site: its own, else nginx's, else nothing."""
+        own = self.own_words(request.language)
+        return own | {"site": own["site"].rstrip("/") or request.named}
 
     def own(self):
         """What the office says of itself."""

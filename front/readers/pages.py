@@ -348,7 +348,9 @@ class Pages:
         return self.render(request, "accessibility.html")
 
     def sitemap(self, request):
-        """The archives, from where links lead to all that is published."""
+        """The archives, from where links lead to all that is published. A sitemap needs whole addresses."""
+        if not self.layouts.office(request)["site"]:
+            raise Missing(NO_PAGE)
         tops = [n for n, _ in read_fonds(request.ask("/public/fonds") or "")]
         return self.render(request, "sitemap.xml", kind="application/xml", tops=tops)
 
