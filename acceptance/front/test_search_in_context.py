@@ -145,6 +145,8 @@ def test_what_the_units_have_is_counted_and_leads_to_them(office: Searched) -> N
     assert facets["level"] == [["Item", 2], ["File", 1]]
     assert facets["creator"] == [["Jane Haywood", 2], ["Edward Thackeray", 1]]
     assert facets["decade"] == [[year, 1 + (year == 1890)] for year in range(1860, 1910, 10)], facets
+    cut = answer(office, "trout", **{"from": "1865", "to": "1905"})["facets"]  # a link to a decade finds as many as it says
+    assert [year for year, _ in cut["decade"]] == [1870, 1880, 1890], cut
     page = office.ask_page("/search?" + urlencode({"q": "trout"}))
     assert "q=trout&amp;from=1890&amp;to=1899" in page and "q=trout&amp;level=File" in page
 

@@ -58,6 +58,10 @@ class Query:
             return years[0] is None
         return (self.first, self.last) == (None, None) or meet(years, (self.first or 0, self.last or EVER))
 
+    def has_all(self, years):
+        """Whether each year of a span is asked for."""
+        return (self.first or 0) <= years[0] and years[1] <= (self.last or EVER)
+
     def takes(self, page):
         """Whether a unit has the level and the creator that are asked for."""
         return (self.level in (None, read_head(page.head).level)

@@ -28,17 +28,18 @@ class Facets:
         self.counts["creator"].update(creators_of(page))
 
     def told(self, query, count):
-        """Of each kind the values that not all units have, and how many have them: decades in order, among the years that are
-        asked for, else the most frequent first. Archives only if it is certain of each unit of which it is."""
+        """Of each kind the most frequent values, if not all units have them, and how many have them: decades in order, and only
+        those of which each year is asked for, so that their links find as many. Archives only if it is certain of each unit of
+        which it is."""
         told = {}
         for kind, counts in self.counts.items():
             if kind == "archive" and counts.total() < count:
                 continue
-            order = sorted(counts.items(), key=(lambda one: one) if kind == "decade" else lambda one: (-one[1], str(one[0])))
+            order = sorted(counts.items(), key=lambda one: (-one[1], str(one[0])))[:DECADES if kind == "decade" else SHOWN]
             if kind == "decade":
-                order = [one for one in order if query.meets((one[0], one[0] + 9))]
+                order = sorted(one for one in order if query.has_all((one[0], one[0] + 9)))
             if any(many < count for _, many in order):
-                told[kind] = order[:DECADES if kind == "decade" else SHOWN]
+                told[kind] = order
         return told
 
 
