@@ -28,9 +28,9 @@ class Facets:
         self.counts["creator"].update(creators_of(page))
 
     def told(self, query, count):
-        """Of each kind the most frequent values, if not all units have them, and how many have them: decades in order, and only
-        those of which each year is asked for, so that their links find as many. Archives only if it is certain of each unit of
-        which it is."""
+        """Of each kind the most frequent values, if not all units have them, and how many have them: decades in order, and
+        only those of which each year is asked for, so that their links find as many. Archives only if it is certain of each
+        unit of which it is."""
         told = {}
         for kind, counts in self.counts.items():
             if kind == "archive" and counts.total() < count:
