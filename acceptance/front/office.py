@@ -215,6 +215,14 @@ class Office(client.Office):
             names = {"MALLOC_ARENA_MAX": "1", **({"TZ": zone} if zone else {})}  # the first as its unit has it
             self.service = subprocess.Popen([str(word) for word in words], stdout=log, stderr=log, process_group=0,
                                             env={**os.environ, **names})
+
+        def listens():
+            """Whether it takes requests of the last kind. Asking by nginx at each look would be too often."""
+            if self.service.poll() is not None:
+                raise RuntimeError(f"the readers' service has ended; see {self.folder}")
+            with socket.socket(socket.AF_UNIX) as it:
+                return it.connect_ex(str(self.folder / f"{KINDS[-1]}.sock")) == 0
+        until(listens, f"the readers' service listens; see {self.folder}")
         self.wait_for(self.public + "/help", self.service)
 
     @contextlib.contextmanager

@@ -1,11 +1,13 @@
 """Imports at the desk: a file is looked at by the service of tries before it is sent, what an import says of it, and drafts
 that are published from its report; and what the page does without the service."""
 
+import contextlib
 import json
 import os
 import signal
 import time
 from concurrent.futures import ThreadPoolExecutor
+from pathlib import Path
 
 import pytest
 
@@ -13,6 +15,7 @@ from acceptance import client
 from acceptance.front.catalogue import ODD, archives, dock_company
 from acceptance.front.files import BOX, GOOD, SHORT, csv_text, unit
 from acceptance.front.office import MANY_PAGES, SELDOM
+from acceptance.front.waits import until
 
 pytestmark = [pytest.mark.browser, pytest.mark.needs("chromium")]
 
@@ -272,12 +275,27 @@ def test_a_look_at_anything_ends_within_its_bounds(look):
     assert look(GOOD)[0] == 200
 
 
+def importing(service):
+    """The process that the service of tries has import a file, or none."""
+    with contextlib.suppress(FileNotFoundError):
+        for told in Path(f"/proc/{service.pid}/task").glob("*/children"):
+            for child in told.read_text().split():
+                if "import" in Path(f"/proc/{child}/cmdline").read_text().split("\0"):
+                    return int(child)
+    return None
+
+
 def test_looks_wait_for_no_try_and_not_long_for_one_another(look, office, program):
+    """However long a try takes: its import is held up meanwhile."""
     client.Office.create(program, office.copies / "office-2024-03-01.db")
     large = csv_text(*(unit(str(number)) for number in range(1, 3001)))
     with ThreadPoolExecutor(7) as many:
         trying = many.submit(look, large, "/try/differences/catalogue")
-        looks = [many.submit(look, GOOD) for _ in range(6)]
-        assert [one.result()[0] for one in looks] == [200] * 6
-        assert not trying.done()
+        held = until(lambda: importing(office.trying), "the import of a try begins")
+        os.kill(held, signal.SIGSTOP)
+        try:
+            assert [one.result()[0] for one in [many.submit(look, GOOD) for _ in range(6)]] == [200] * 6
+            assert not trying.done()
+        finally:
+            os.kill(held, signal.SIGCONT)
         assert trying.result()[0] == 200
