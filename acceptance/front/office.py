@@ -148,6 +148,16 @@ class Office(client.Office):
             return fetch(url)
         return until(answer, f"the front answers {url}; see {self.folder}")[0]
 
+    def wait_for_socket(self, path: pathlib.Path, process: subprocess.Popen[Any]) -> None:
+        """Returns once a connection to this socket is taken. Raises RuntimeError if the process ends before."""
+        def is_open():
+            """Whether one is taken."""
+            if process.poll() is not None:
+                raise RuntimeError(f"{process.args[:2]} has ended; see {self.folder}")
+            with socket.socket(socket.AF_UNIX) as it:
+                return it.connect_ex(str(path)) == 0
+        until(is_open, f"{path} takes connections")
+
     def wait_for_desk(self) -> None:
         """Returns once the desk's nginx takes connections."""
         def is_open():
@@ -216,13 +226,8 @@ class Office(client.Office):
             self.service = subprocess.Popen([str(word) for word in words], stdout=log, stderr=log, process_group=0,
                                             env={**os.environ, **names})
 
-        def listens():
-            """Whether it takes requests of the last kind. Asking by nginx at each look would be too often."""
-            if self.service.poll() is not None:
-                raise RuntimeError(f"the readers' service has ended; see {self.folder}")
-            with socket.socket(socket.AF_UNIX) as it:
-                return it.connect_ex(str(self.folder / f"{KINDS[-1]}.sock")) == 0
-        until(listens, f"the readers' service listens; see {self.folder}")
+        # Asking by nginx at each look would be too often.
+        self.wait_for_socket(self.folder / f"{KINDS[-1]}.sock", self.service)
         self.wait_for(self.public + "/help", self.service)
 
     @contextlib.contextmanager
@@ -251,7 +256,7 @@ class Office(client.Office):
                      place, "--program", self.program.path]
             self.trying = subprocess.Popen([str(word) for word in words], stdout=log, stderr=log,
                                            env={**os.environ, "PYTHONPATH": str(FRONT / "look")})  # as its unit has it
-        until(place.exists, "the service of tries listens")
+        self.wait_for_socket(place, self.trying)
 
     @contextlib.contextmanager
     def without_tries(self) -> Iterator[None]:
