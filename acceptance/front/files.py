@@ -2,6 +2,7 @@
 
 import csv
 import io
+import zipfile
 
 COLUMNS = tuple("""
 legacyId parentId qubitParentSlug identifier title levelOfDescription publicationStatus culture eventDates extentAndMedium
@@ -23,6 +24,15 @@ def csv_text(*rows, columns=COLUMNS, **how):
         else:
             write.writerow([row.get(column, "") for column in columns])
     return text.getvalue()
+
+
+def zipped(files):
+    """A ZIP with these files: their bytes by their names."""
+    with io.BytesIO() as made:
+        with zipfile.ZipFile(made, "w") as packed:
+            for name, data in files.items():
+                packed.writestr(zipfile.ZipInfo(name), data, zipfile.ZIP_DEFLATED)
+        return made.getvalue()
 
 
 def unit(legacy, parent="", title="Papers", **values):

@@ -7,7 +7,7 @@ import itertools
 import json
 from collections.abc import Callable, Iterable
 
-from acceptance.front.files import COLUMNS, GOOD, SHORT, TWO, csv_text, unit
+from acceptance.front.files import COLUMNS, GOOD, SHORT, TWO, csv_text, unit, zipped
 from acceptance.front.office import FRONT
 
 Named = Iterable[tuple[str, bytes]]
@@ -18,7 +18,9 @@ CODECS: dict[str, tuple[bytes, str]] = {
     "UTF-8": (b"", "utf-8"), "UTF-8 with a mark": (codecs.BOM_UTF8, "utf-8"),
     "UTF-16": (codecs.BOM_UTF16_LE, "utf-16-le"), "UTF-16, the other end first": (codecs.BOM_UTF16_BE, "utf-16-be"),
     "UTF-16 without a mark": (b"", "utf-16-le"), "the same, the other end first": (b"", "utf-16-be"),
-    "UTF-32": (codecs.BOM_UTF32_LE, "utf-32-le"), "Windows-1252": (b"", "cp1252"), "an old Mac's letters": (b"", "mac-roman")}
+    "UTF-32": (codecs.BOM_UTF32_LE, "utf-32-le"), "UTF-32, the other end first": (codecs.BOM_UTF32_BE, "utf-32-be"),
+    "UTF-8 with two marks": (codecs.BOM_UTF8 * 2, "utf-8"), "UTF-16 with two marks": (codecs.BOM_UTF16_LE * 2, "utf-16-le"),
+    "Windows-1252": (b"", "cp1252"), "an old Mac's letters": (b"", "mac-roman")}
 FEW = ("legacyId", "parentId", "identifier", "title", "publicationStatus", "culture", "eventDates", "physicalObjectName")
 ASTRAL = "\U0001d538"
 UNSEEN = "\u00a0\u00ad\u034f\u061c\u1680\u180e\u2000\u200a\u200f\u2028\u202f\u205f\u2064\u3000\ufeff"
@@ -50,6 +52,25 @@ def ways() -> Named:
         yield f"{name}, empty lines", GOOD.replace("\r\n", end * 3).encode()
         yield f"{name}, no last one", few(*TWO, lineterminator=end).rstrip("\r\n").encode()
         yield f"{name}, blanks in lines", SHORT.replace("\r\n", f" \t{end} {end}").encode()
+
+
+def zips() -> Named:
+    """ZIPs with one CSV file, in several encodings and folders; with none and several, with a password, damaged, too large;
+    and workbooks."""
+    good, large = GOOD.encode(), 32 << 20
+    files: tuple[dict[str, bytes], ...] = (
+        {"a.csv": good}, {"of/A.CSV": good, "of/": b"", "read.txt": b"x"}, {"é.csv": GOOD.encode("utf-16")},
+        {"a.csv": GOOD.replace(",", ";").encode("cp1252"), "__MACOSX/._a.csv": b"\0"}, {"a.csv": good, "b.csv": b"x"}, {},
+        {"a.txt": good}, {"a.csv": b""}, {"a.csv": zipped({"a.csv": good})}, {"a.csv": b"\0" * large},
+        {"a.csv": b"x" * (large + 1)}, {"a.csv": good, "[Content_Types].xml": b"x"}, {"a.csv": good, "mimetype": b"x"})
+    for one in files:
+        yield f"{', '.join(one) or 'nothing'}, {len(next(iter(one.values()), b'')):,} bytes", zipped(one)
+    whole = zipped({"a.csv": good})
+    entry = whole.index(b"PK\1\2")
+    for what, place, byte in (("with a password", entry + 8, 1), ("of an unknown kind", entry + 10, 99), ("no entry", entry, 0),
+                              ("another sum", entry + 16, 0), ("less than there is", entry + 24, 9), ("changed", 45, 0)):
+        yield what, whole[:place] + bytes([byte]) + whole[place + 1:]
+    yield "cut", whole[:-9]
 
 
 def beginnings() -> Named:
@@ -342,5 +363,5 @@ def converted() -> Named:
 
 
 GROUPS: dict[str, Callable[[], Named]] = {group.__name__: group for group in (
-    ways, beginnings, exports, headers, rows, limits, repeats, parents, numbers, words, boxes, values, events, quotes,
+    ways, zips, beginnings, exports, headers, rows, limits, repeats, parents, numbers, words, boxes, values, events, quotes,
     converted)}

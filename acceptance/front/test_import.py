@@ -13,7 +13,7 @@ import pytest
 
 from acceptance import client
 from acceptance.front.catalogue import ODD, archives, dock_company
-from acceptance.front.files import BOX, GOOD, SHORT, csv_text, unit
+from acceptance.front.files import BOX, GOOD, SHORT, csv_text, unit, zipped
 from acceptance.front.office import MANY_PAGES, SELDOM
 from acceptance.front.waits import until
 
@@ -128,7 +128,7 @@ def test_a_file_over_8_mib_is_not_sent_anywhere(choose):
 
 
 @pytest.mark.parametrize("data, told", [
-    (b"PK\x03\x04\x14\x00\xff\xfe[Content_Types].xml", "This is a workbook of a spreadsheet"),
+    (zipped({"[Content_Types].xml": b"<Types/>"}), "This is a workbook of a spreadsheet"),
     (GOOD + GOOD, "From row 4 (4 in the spreadsheet) on, the file repeats itself"),
     (SHORT.replace("Minutes", "Minutes, 1774"), "(5, not 4)")], ids=["a workbook", "a file twice", "a field too many"])
 def test_a_file_that_the_office_would_refuse_is_not_sent(choose, data, told):
@@ -140,16 +140,17 @@ def test_a_file_that_the_office_would_refuse_is_not_sent(choose, data, told):
 
 
 def test_what_a_file_was_taken_for_is_agreed_to_before_it_is_sent(choose, state, asks):
-    """One of semicolons in Windows-1252, as spreadsheets save it: its letters are right."""
+    """One of semicolons in Windows-1252, as spreadsheets save it, in a ZIP: its letters are right."""
     data = csv_text(unit("1", identifier="CAF", title="Café de l’Écluse; records"), delimiter=";").encode("cp1252")
-    desk = choose(data, "excel", "excel.csv")
-    desk.see("This file is taken for Windows-1252 with semicolons between the columns.", ".seen-in-file .note.warns")
+    data = zipped({"excel.csv": data})
+    desk = choose(data, "excel", "excel.zip")
+    desk.see("This file is taken for ZIP, Windows-1252 with semicolons between the columns.", ".seen-in-file .note.warns")
     desk.see("title: Café de l’Écluse; records", ".seen-in-file .note.warns")
     desk.press("Import the file")
     desk.see("The file was not sent.", ".outcome")
     assert desk.js("document.activeElement.id") == "confirmed" and desk.count_sent("POST", "/desk/import/") == 0
-    send(choose(data, "excel", "excel.csv"))
-    desk.see("excel.csv was imported from the source excel.", ".outcome")
+    send(choose(data, "excel", "excel.zip"))
+    desk.see("excel.zip was imported from the source excel.", ".outcome")
     assert "GB 0999 CAF [-] Café de l’Écluse; records" in asks.text(f"/public/units/{state.fonds('CAF')}")
 
 

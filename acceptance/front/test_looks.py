@@ -70,7 +70,7 @@ def imported(office, data):
 
 
 @pytest.mark.parametrize("name", [name for name, data in odd_files.ways() if convert(data, RULES) and not
-                                  re.search("colons|UTF-32|Mac", name)])  # which are converted to something else
+                                  re.search("colons|Mac", name)])  # which are converted to something else
 def test_a_converted_file_is_read_as_if_it_had_been_saved_rightly(program, name):
     """And is not converted again."""
     ways = dict(odd_files.ways())

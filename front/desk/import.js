@@ -52,7 +52,7 @@ async function toTry(form, reader) {
 
 function importForm() {
   const file = fileField('file', text('File'), {
-    accept: '.csv,.txt,.tsv,text/csv', hint: text('CSV, at most 8 MiB and 20,000 rows. It is looked at before it is imported.'),
+    accept: '.csv,.txt,.tsv,.zip,text/csv', hint: text('CSV, at most 8 MiB and 20,000 rows. It is looked at before it is imported.'),
   });
   const reader = fileReader(file.querySelector('input'));
   const form = commandForm({

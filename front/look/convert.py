@@ -1,10 +1,12 @@
 """Makes of a file that a program saved otherwise the file that an office reads: UTF-8, and commas between the columns."""
 
+import codecs
 import re
 from dataclasses import dataclass
 
 from csv_records import BLANK, lost_quote, records
 from look_at_values import GARBLED
+from packed import SIGN, unpack
 from wording import text
 
 SEP = re.compile("sep=([^\r\n])?(\r\n|\n|\r|$)", re.I)
@@ -29,13 +31,16 @@ class Converted:
 
 def convert(data, rules):
     """The file as an office reads it; None if it is so already, or if it is not clear what it is."""
-    decoded = decode(data)
+    is_packed = data.startswith(SIGN)
+    decoded = decode(unpack(data)[0] if is_packed else data)
     if not decoded:
         return None
-    whole, encoding = decoded
-    whole = whole.removeprefix("\ufeff")
+    marked, encoding = decoded
+    if is_packed:
+        encoding = f"ZIP, {encoding}"
+    whole = marked.lstrip("\ufeff")
     rest, separator = split_by(whole, rules)
-    if not separator or (encoding == "UTF-8" and separator == "," and rest == whole):
+    if not separator or (encoding == "UTF-8" and separator == "," and rest == marked.removeprefix("\ufeff")):
         return None
     rows, is_open = records(rest, separator)
     if not rows or is_open:
@@ -48,11 +53,15 @@ def convert(data, rules):
 
 def decode(data):
     """The text of the bytes and the name of its encoding; None if it is no text, or not clearly of one encoding."""
+    if not data:
+        return None
+    if data[:4] in (codecs.BOM_UTF32_LE, codecs.BOM_UTF32_BE):
+        return decoded_as(data, "utf-32", "UTF-32")
     first = data[:2]
     if first in (b"\xff\xfe", b"\xfe\xff") or first.count(0) == 1 < len(first):
         is_little = first == b"\xff\xfe" or first[1] == 0
         return decoded_as(data, "utf-16-le" if is_little else "utf-16-be", "UTF-16")
-    if b"\0" in data or not data:
+    if b"\0" in data:
         return None
     return decoded_as(data, "utf-8", "UTF-8") or decoded_as(data, "cp1252", "Windows-1252")
 

@@ -6,10 +6,10 @@ import re
 from csv_records import BLANK, LINE_END, Row, entries, lost_quote, place_of, records
 from look_at_units import look_at_units
 from look_at_values import look_at_values
+from packed import SIGN, unpack
 from wording import counted, joined, quoted, text
 
 FIRST_BYTES: tuple[tuple[bytes, str, dict[str, dict]], ...] = (
-    (b"PK\x03\x04", "workbook", {}),
     (b"\xd0\xcf\x11\xe0", "workbook", {}),
     (b"\xff\xfe", "utf16", {}),
     (b"\xfe\xff", "utf16", {}),
@@ -81,6 +81,9 @@ class Look:
         """The text of the file; None if it has none, and that is said."""
         if not data:
             return seen.say("empty")
+        if data.startswith(SIGN):
+            name, values = unpack(data)[1]
+            return seen.say(name, **values)
         for first, name, values in FIRST_BYTES:
             if data.startswith(first):
                 return seen.say(name, **values)

@@ -27,8 +27,8 @@ def main(arguments=None):
     )
     parser.add_argument("files", metavar="FILE", nargs="+", type=pathlib.Path)
     parser.add_argument("--convert", metavar="NEW", type=pathlib.Path,
-                        help="write what an office reads to this new file, if FILE has semicolons, tabs, UTF-16 or "
-                        "Windows-1252")
+                        help="write what an office reads to this new file, if FILE is a ZIP, or has semicolons, tabs, UTF-16, "
+                        "UTF-32 or Windows-1252")
     given = parser.parse_args(arguments)
     if given.convert and len(given.files) > 1:
         parser.error("--convert takes one FILE")
