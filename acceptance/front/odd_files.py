@@ -67,7 +67,7 @@ def zips() -> Named:
         yield f"{', '.join(one) or 'nothing'}, {len(next(iter(one.values()), b'')):,} bytes", zipped(one)
     whole = zipped({"a.csv": good})
     entry = whole.index(b"PK\1\2")
-    for what, place, byte in (("with a password", entry + 8, 1), ("of an unknown kind", entry + 10, 99), ("no entry", entry, 0),
+    for what, place, byte in (("with a password", entry + 8, 1), ("an unknown kind", entry + 10, 99), ("no entry", entry, 0),
                               ("another sum", entry + 16, 0), ("less than there is", entry + 24, 9), ("changed", 45, 0)):
         yield what, whole[:place] + bytes([byte]) + whole[place + 1:]
     yield "cut", whole[:-9]
