@@ -301,6 +301,7 @@ READERS_PATHS = """
 /ordered /ordered/order /help?x=y /robots.txt /enhance.js?1 /public.css /none.js /shared/dom.js /shared/base.css
 /shared/none.js /shared/../desk/main.js /public/ /public/fonds /public/fonds?x /public/fonds/ /public/units/1
 /public/units/01 /public/units/12345678901 /public/units/1/2 /public/aid/1 /public/aid/0 /public/orders /public/none
+/de /de/unit/1 /de/unit/1/order /de/aid/1 /de/search?q=x /gsw/help /german/help /de/public/aid/1 /de/sitemap.xml
 /desk/issued /try/differences/x /lists/a.html /texts/de.json /often.html /away.html /not-from-here.html /quietly/away.html
 /.well-known/x /index.html /a%2fb /%zz /public/../desk/x //public/fonds /Public/fonds /public/fonds%0a /caf%C3%A9
 """.split()
@@ -459,7 +460,7 @@ def test_who_asks_too_often_or_may_not_order_from_elsewhere(table, approved):
         method = "POST" if "order" in path else "GET"
         body = ("{}",) if method == "POST" else ()
         table.ask_from(f"127.0.10.{number}", method, path, *body)
-    for path in ("/public/orders", "/unit/1/order", "/ordered/order"):
+    for path in ("/public/orders", "/unit/1/order", "/ordered/order", "/de/unit/1/order"):
         table.ask_from(ELSEWHERE, "POST", path, "{}")
     approved("server/often", table.answers)
 
@@ -491,7 +492,7 @@ def test_what_stands_in_the_logs(room, approved):
     front = Front(room / "front")
     try:
         table = Table(front.begin())
-        for path in ("/unit/1", "/search?q=secret", "/public/search?q=secret", "/none.js"):
+        for path in ("/unit/1", "/search?q=secret", "/public/search?q=secret", "/de/search?q=secret", "/none.js"):
             table.ask("readers", "GET", path, {"Referer": "http://a.example/?b", "User-Agent": "Mozilla/5.0"})
         table.send("readers", b"GET / HTTP/9.0\r\n\r\n")
         for path in ("/", "/desk/issued", "/none"):

@@ -226,8 +226,12 @@ def test_pages_that_are_not_of_a_unit(stage, approved):
                    "/unit/41/?x=1", "/", "/index.html", "/help", "/ordered", "/sitemap.xml", "/robots.txt", "/?lang=de",
                    "/?lang=xx",
                    "/?lang=en&a=%26&b=", "/?" + "&".join(f"a{n}=1" for n in range(9)), "/?q=%ff", "/?q=\u00c3\u00bc",
-                   "/no/such/page", "/unit/1/", "/help/", "/search/", "/public/aid/4711", "/public/unit/1"):
+                   "/no/such/page", "/unit/1/", "/help/", "/search/", "/public/aid/4711", "/public/unit/1", "/de",
+                   "/de/hull-dock", "/de/unit/41/?x=1", "/de/ref/GB/0999/HUL", "/de/unit/42/order", "/de/de/help", "/xx/help",
+                   "/de/public/aid/41", "/de/unit/41?lang=fr&from=2", "/de/%3Cb%3E\u00c3\u00bc?lang=es",
+                   "/public/aid/4711?lang=de"):
         pages.ask(target)
+    pages.add(stage.ask("/de/unit/34", whole=True, accept_language="fr", host="evil.example.org"))
     for method, target in (("POST", "/unit/1"), ("POST", "/"), ("PUT", "/unit/1"), ("DELETE", "/ordered/order"),
                            ("HEAD", "/help"), ("PUT", "/no"), ("POST", "/public/search")):
         pages.add(stage.ask(target, [], method))

@@ -93,10 +93,22 @@ def test_each_line_of_a_finding_aid_leads_to_its_unit(asks, office):
             assert (found, asks.text(f"/public/units/{path[6:]}").split("\n")[0]) == (302, text)
 
 
-@pytest.mark.parametrize("path, kept", [("/search?q=plans&from=1800", "q=plans&from=1800&"), ("/unit/1?lang=de", "")])
-def test_in_another_language_what_was_asked_for_stays(asks, path, kept):
+@pytest.mark.parametrize("path, kept", [("/search?q=plans&from=1800", "q=plans&from=1800&"), ("/fr/unit/1", "")])
+def test_in_another_language_what_was_asked_for_stays(asks, office, path, kept):
     links = Tree(asks.text(path)).links(r"\?.*lang=.*")
     assert sorted(address for address, _ in links) == sorted(f"?{kept}lang={code}" for code in ("de", "el", "en", "es", "fr"))
+    path = path.split("?")[0]
+    assert leads_to(office, f"{path}?{kept}lang=de") == (302, f"/de{path.removeprefix('/fr')}")
+
+
+@pytest.mark.parametrize("path", ["/", "/unit/1", "/unit/3", "/unit/9999", "/aid/1", "/aid/1/9?head=0", "/search?q=dock",
+                                  "/search?q=zzz", "/help", "/ordered"])
+def test_a_page_by_an_address_with_a_language_has_it_and_leads_to_none_in_another(asks, path):
+    """Whatever the browser wishes, and was chosen before."""
+    page = asks.send("GET", f"/de{path}", fields={"Cookie": "lang=fr", "Accept-Language": "es"})[1]
+    ways = re.findall('<(?:a|form)[^>]* (?:href|action)="(/[^"]*)"', page)
+    assert '<html lang="de"' in page and "/de/" in ways
+    assert [way for way in ways if not way.startswith(("/de/", "/public/aid/"))] == []
 
 
 def test_a_large_fonds_is_shown_without_its_finding_aid(asks, office):
@@ -120,7 +132,7 @@ def test_what_is_closed_or_withdrawn_is_gone_from_the_very_next_answer(asks, uni
     for command, members, wanted in (("closure", {"until": "2099-12-31"}, 200),
                                      ("status", {"status": "draft", "branch": False}, 404)):
         asks.command(f"/desk/{command}", unit=number, **members)
-        for path in (f"/unit/{number}", f"/unit/{number}?lang=de", f"/unit/%3{str(number)[0]}{str(number)[1:]}"):
+        for path in (f"/unit/{number}", f"/de/unit/{number}", f"/unit/%3{str(number)[0]}{str(number)[1:]}"):
             found, text = asks.question(path)
             assert found == wanted and word not in text and 'content="noindex"' in text, (command, path, text[:900])
         assert f'/unit/{number}"' not in asks.text(search), f"{command}: the search"

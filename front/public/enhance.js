@@ -182,7 +182,7 @@ for (const form of all('[data-list]')) {
   keep(kept().map((entry) => ({ ...entry, ...told.get(keyOf(entry)) })));
   const rowOf = (entry) => {
     const row = one('template', form).content.firstElementChild.cloneNode(true);
-    one('[data-head]', row).href = `/unit/${entry.unit}`;
+    one('[data-head]', row).href += entry.unit;
     one('[data-head]', row).textContent = entry.head;
     one('[data-name]', row).textContent = entry.name;
     one('[data-told]', row).textContent = entry.order ? texts.order.replace('#', entry.order) : entry.told;
@@ -193,7 +193,7 @@ for (const form of all('[data-list]')) {
     one('[data-drop]', row).hidden = false;
     one('[data-drop]', row).addEventListener('click', () => {
       keep(kept().filter((old) => keyOf(old) !== keyOf(entry)));
-      location.assign('/ordered');
+      location.assign(one('[data-listed] a').href);
     });
     return row;
   };
@@ -204,7 +204,7 @@ for (const form of all('[data-list]')) {
     one('[data-open]', form).hidden = !one('ul input', form);
     for (const tools of all('[data-tools]')) tools.hidden = !rows.length;
   });
-  one('[data-forget]').addEventListener('click', () => { keep([]); location.assign('/ordered'); });
+  one('[data-forget]').addEventListener('click', () => { keep([]); location.assign(one('[data-listed] a').href); });
   one('[data-csv]').addEventListener('click', () => save([texts.csv, ...kept().map(cells)]));
 }
 refresh();

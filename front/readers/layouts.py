@@ -18,11 +18,12 @@ WORDS = {"name": N_("Record office"), "address": "", "hours": "", "site": "",
 
 
 class Request(NamedTuple):
-    """method, path and args of what came; language; site: the address of the readers' site as it was asked for; named: the
-    same as nginx has it in its configuration, or nothing; address: of the reader; ask: asks the office; form: what was
-    sent, in pairs."""
+    """method, path and args of what came; at: `/de` if the address began with a language, which path does not; language; site:
+    the address of the readers' site as it was asked for; named: the same as nginx has it in its configuration, or nothing;
+    address: of the reader; ask: asks the office; form: what was sent, in pairs."""
 
     method: str
+    at: str
     path: str
     args: dict
     language: Language
@@ -61,7 +62,7 @@ class Layouts:
     def template(self, request, name):
         """A template, and what each page has."""
         template = self.env[request.language.code].get_template(name)
-        return template, {"request": request, "office": self.office(request)}
+        return template, {"request": request, "at": request.at, "office": self.office(request)}
 
     def render(self, request, name, status=200, kind="text/html", **values):
         """A page."""

@@ -71,11 +71,13 @@ class Pages:
         ask.until = time.monotonic() + left
         return ask
 
-    def choose(self, args, header):
-        """The language that a reader wants."""
+    def choose(self, path, header):
+        """The language of an address or that which a reader wishes; and the two parts of the address."""
+        code, _, rest = path[1:].partition("/")
+        if code in self.languages and not rest.startswith("public/"):  # which are no pages
+            return self.languages[code], f"/{code}", f"/{rest}"
         own = self.layouts.own().get("language")
-        return (self.languages.get(args.get("lang"))
-                or languages.choose(self.languages, header, own if own in self.languages else "en"))
+        return languages.choose(self.languages, header, own if own in self.languages else "en"), "", path
 
     def answer(self, request):
         """The answer to a request."""
@@ -97,7 +99,7 @@ class Pages:
         without = request.path.rstrip("/")
         if not pages and any(pattern.fullmatch(without) for pattern, method, _ in ROUTES if method == "GET"):
             return Answer(301, without + (f"?{urlencode(request.args)}" if request.args else ""))
-        if not pages and (code := self.layouts.old_addresses().get(request.path)):
+        if not pages and (code := self.layouts.old_addresses().get(request.at + request.path)):
             return Answer(301, ref(code))
         methods = {method for _, method, _ in pages} | {"HEAD" for _, method, _ in pages if method == "GET"}
         answer = self.render(request, "message.html", 405 if pages else 404, texts=NO_PAGE, way=None)

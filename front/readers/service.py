@@ -22,7 +22,7 @@ import sys
 import threading
 import time
 from http import HTTPStatus
-from urllib.parse import parse_qs, parse_qsl
+from urllib.parse import parse_qs, parse_qsl, quote, urlencode
 
 import index
 import languages
@@ -99,19 +99,22 @@ class Service:
         if method == "POST":
             size = int(environ.get("CONTENT_LENGTH") or 0)  # of a longer form nothing is read: a part may name another box
             form = fields(environ["wsgi.input"].read(size).decode("utf-8", "replace")) if size <= LONGEST else []
-        language = self.pages.choose(args, environ.get("HTTP_ACCEPT_LANGUAGE", ""))
-        answer = self.pages.answer(Request(
-            method, path, args, language, f"{environ['wsgi.url_scheme']}://{environ.get('HTTP_HOST', 'localhost')}",
-            environ.get("HTTP_RECORD_OFFICE_SITE", ""),
-            whose(environ), self.pages.asking("HTTP_RECORD_OFFICE_CRAWLER" in environ, left(environ)), form))
+        language, at, path = self.pages.choose(path, environ.get("HTTP_ACCEPT_LANGUAGE", ""))
         headers = [] if path.startswith("/public/") else [
-            ("Content-Language", language.code), ("Vary", "Accept-Language, Cookie")]
-        if args.get("lang") == language.code:
-            headers.append(("Set-Cookie", f"lang={language.code}; Path=/; SameSite=Lax; HttpOnly"))
+            ("Content-Language", language.code), *[("Vary", "Accept-Language, Cookie")] * (not at)]
+        chosen = args.pop("lang", None)
+        if headers and chosen in self.pages.languages and method == "GET":  # to the address of the page in that language
+            at, answer = f"/{chosen}", Answer(302, quote(path, encoding="latin-1") + (f"?{urlencode(args)}" if args else ""))
+            headers.append(("Set-Cookie", f"lang={chosen}; Path=/; SameSite=Lax; HttpOnly"))
+        else:
+            answer = self.pages.answer(Request(
+                method, at, path, args, language, f"{environ['wsgi.url_scheme']}://{environ.get('HTTP_HOST', 'localhost')}",
+                environ.get("HTTP_RECORD_OFFICE_SITE", ""),
+                whose(environ), self.pages.asking("HTTP_RECORD_OFFICE_CRAWLER" in environ, left(environ)), form))
         if answer.status == 503:
             headers.append(("Retry-After", "60"))
         if answer.status in (301, 302):
-            headers.append(("Location", answer.body))
+            headers.append(("Location", at + answer.body))
         if answer.status == 405:
             headers.append(("Allow", answer.allow))
         return answer, headers
