@@ -1,5 +1,5 @@
-"""The public functions of a crate, each with the first sentence of its comment; docs/PROMISES.md lists those that are
-laws.
+"""The functions of the crates, as their text has them; docs/PROMISES.md lists those that are laws, each with the first
+sentence of its comment.
 
 A public function is one that other crates can call and that promises something (an ensures). Those named worked_.. are
 left out: they are examples.
@@ -15,18 +15,23 @@ LONGEST = 44
 INDENT = "    "
 MARK = re.compile(r"(<!-- laws: ([\w ]+) -->)\n(?:(?!<!-- ).)*(<!-- end -->)", re.S)
 FUNCTION = re.compile(r"(pub )?(?:pub\([^)]*\) )?(?:const |unsafe )*fn (\w+)")
-OWNER = re.compile(r"(pub )?(impl|trait)\b(.*?)\{?$")
+BLOCK = re.compile(r"(pub )?(impl|trait)\b(.*?)\{?$")
+CLAUSE = re.compile(r"(ensures|requires)\b(?: (\w+))?")
 
 
 class Function:
-    """A function: its module, its type or trait, its comment, and whether it is public and promises something."""
+    """A function: its module, the head of the impl or trait in which it stands, its name, its comment, whether others may call
+    it, whether it promises something, the labels of its clauses, the number of its line, and the words of its body."""
 
-    def __init__(self, module, owner, name, comment, is_public):
-        self.module, self.owner, self.name, self.comment, self.is_public = module, owner, name, comment, is_public
-        self.promises = False
+    def __init__(self, module, block, name, comment, is_public, line):
+        self.module, self.block, self.name = module, block, name
+        self.comment, self.is_public, self.line = comment, is_public, line
+        self.promises, self.labels, self.words = False, set(), set()
+        plain = re.sub(r"<[^<>]*>", "", re.sub(r"<[^<>]*>", "", re.sub(r"<[^<>]*>", "", block)))
+        self.owner = re.split(r"[:\s]", plain.split(" for ")[-1].strip())[0]
 
     def path(self):
-        """The path of the function in its crate, parted by `::`."""
+        """The path of the function, parted by `::`."""
         return "::".join(it for it in (*self.module, self.owner, self.name) if it)
 
     def is_law(self):
@@ -38,41 +43,32 @@ class Function:
         return re.split(r"(?<=[.?])\s", self.comment)[0].removesuffix(".")
 
 
-def owner_of(line):
-    """The type or trait of the functions below this line, and whether each of them is public, as in a trait."""
-    found = OWNER.match(line)
-    if not found:
-        return None
-    name = re.sub(r"<[^<>]*>", "", re.sub(r"<[^<>]*>", "", re.sub(r"<[^<>]*>", "", found[3])))
-    if " for " in name:
-        return "", False  # an impl of a trait: the trait has the comments
-    return re.split(r"[:\s]", name.strip())[0], found[2] == "trait" and bool(found[1])
-
-
-def functions(path, module):
-    """The functions of a file, in its order. Code is formatted: what is public begins its line."""
-    owner, all_public, hidden, comment, last = "", False, False, [], None
-    for line in path.read_text(encoding="utf-8").splitlines():
+def functions(text, module):
+    """The functions of a text, in its order. Code is formatted: what is public begins its line, and after clauses the body
+    begins on a line of its own. An impl of a trait has no comments: the trait has them."""
+    found, block, all_public, comment, last, in_body = [], "", False, [], None, False
+    for number, line in enumerate(text.splitlines()):
         words = line.strip()
-        if not line.startswith(" ") and owner_of(line):
-            owner, all_public = owner_of(line)
-            hidden = not owner
-        elif line.startswith("}"):
-            owner, all_public, hidden = "", False, False
-        if words.startswith("///"):
-            comment.append(words.removeprefix("///").strip())
+        if not line.startswith(" "):
+            head = BLOCK.match(line)
+            block = head[3].strip() if head else "" if line.startswith("}") else block
+            all_public = head[2] == "trait" and bool(head[1]) if head else all_public and bool(block)
+        if words.startswith("//"):
+            comment += [words.removeprefix("///").strip()] if words.startswith("///") else []
             continue
-        found = FUNCTION.match(words)
-        if found:
-            is_public = not hidden and (all_public or bool(found[1]))
-            last = Function(module, owner, found[2], " ".join(comment), is_public)
-            yield last
-        elif last and words.startswith("ensures"):
-            last.promises = True
-        if words == "{" or found and words.endswith("{"):
-            last = None  # its body begins
-        if not words.startswith("#["):
-            comment = []
+        if begins := FUNCTION.match(words):
+            is_public = " for " not in block and (all_public or bool(begins[1]))
+            last = Function(module, block, begins[2], " ".join(comment), is_public, number)
+            in_body = words.endswith("{")
+            found.append(last)
+        elif last and in_body:
+            last.words |= set(re.findall(r"[A-Za-z_]\w*", re.sub(r'"[^"]*"', "", line)))
+        elif last and (clause := CLAUSE.match(words)):
+            last.promises |= clause[1] == "ensures"
+            last.labels |= {clause[2]} if clause[2] else set()
+        in_body |= words == "{" or words.endswith(") {") or words.startswith(")") and words.endswith("{")
+        comment = comment if words.startswith("#[") else []
+    return found
 
 
 def exports(source):
@@ -95,7 +91,7 @@ def public_functions(top, crate):
     modules, names = exports(source)
     for file in sorted(source.rglob("*.rt")):
         module = file.relative_to(source).with_suffix("").parts
-        for it in list(functions(file, () if module == ("lib",) else module)):
+        for it in functions(file.read_text(encoding="utf-8"), () if module == ("lib",) else module):
             is_open = module[0] in modules or (it.owner or it.name) in names
             if is_open and it.is_public and it.promises and "worked" not in it.name:
                 yield it

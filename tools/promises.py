@@ -21,7 +21,6 @@ import re
 import sys
 
 from tools import code_rows, document_links, made_faults
-from tools.clauses import Source
 
 TOP = os.path.dirname(os.path.dirname(os.path.abspath(__file__)))
 PROMISES = "docs/PROMISES.md"
@@ -45,11 +44,8 @@ class Tree:
 
     def read_code(self, module, text):
         """Notes the functions, clauses and names in the text of a module."""
-        for owner, name, clause, _ in Source(text, open_to_all=True).noted:
-            holder = re.sub(r"<[^<>]*>", "", owner).split()
-            path = "::".join([module, *holder[-1:], name])
-            label = re.match(r"(?:ensures|requires) (\w+)", clause)
-            self.clauses[path] |= {label[1]} if label else set()
+        for it in code_rows.functions(text, module.split("::")):
+            self.clauses[it.path()] |= it.labels
         self.modules |= {module, module.split("::")[0]}
         self.names |= set(re.findall(r"\w+", text))
 

@@ -24,38 +24,14 @@ PAGE, MARKS = "docs/PROMISES.md", re.compile(r"(?<=<!-- unreached -->\n).*?(?=<!
 ALWAYS = {"main", "from", "fmt", "eq", "cmp", "partial_cmp", "clone", "drop", "hash", "default", "next"}
 
 
-class Function:
-    """A function: its module, the block of a type or trait in which it stands, its name, and the words of its body."""
-
-    def __init__(self, module, owner, name):
-        self.module, self.owner, self.name, self.words = module, owner, name, set()
-        of_type = re.sub(r"<[^<>]*>", "", re.sub(r"<[^<>]*>", "", owner)).split()
-        self.path = "::".join([*module, *of_type[-1:], name])
-
-    def is_of_foreign_trait(self, traits):
-        """Whether it is a method of a trait that is none of these."""
-        return " for " in self.owner and not traits & set(re.findall(r"\w+", self.owner))
-
-    def is_law(self):
-        """Whether it is a law, whose contract is all that it has."""
-        return not self.words or any("laws" in it for it in self.module)
+def is_law(function):
+    """Whether it is a law, whose contract is all that it has."""
+    return not function.words or any("laws" in it for it in function.module)
 
 
-def functions_of(text, module):
-    """The functions of a text with the number of the line at which each begins. Code is formatted: after clauses the body
-    begins on a line of its own."""
-    owner, last, in_body = "", None, False
-    for number, line in enumerate(text.splitlines()):
-        words = line.strip()
-        if not line.startswith(" "):
-            block = re.match(r"(?:pub )?(?:impl|trait)\b(.*?)\{?$", line)
-            owner = block[1].strip() if block else "" if line.startswith("}") else owner
-        if found := code_rows.FUNCTION.match(words):
-            last, in_body = Function(module, owner, found[2]), words.endswith("{")
-            yield number, last
-        elif last and in_body and not words.startswith("//"):
-            last.words |= set(re.findall(r"[A-Za-z_]\w*", re.sub(r'"[^"]*"', "", line)))
-        in_body |= words == "{" or words.endswith(") {") or words.startswith(")") and words.endswith("{")
+def is_of_foreign_trait(function, traits):
+    """Whether it is a method of a trait that is none of these."""
+    return " for " in function.block and not traits & set(re.findall(r"\w+", function.block))
 
 
 class Program:
@@ -69,12 +45,12 @@ class Program:
             traits |= set(re.findall(r"^(?:pub )?trait (\w+)", text, re.M))
             if not crate.endswith("_tests"):
                 module = [crate, *(it for it in path if it not in ("lib", "main"))]
-                self.files[file] = list(functions_of(text, module))
-        self.all = [it for found in self.files.values() for _, it in found]
+                self.files[file] = code_rows.functions(text, module)
+        self.all = [it for found in self.files.values() for it in found]
         self.by_name = defaultdict(list)
         for it in self.all:
             self.by_name[it.name].append(it)
-        self.reached = self.reach(it for it in self.all if it.name in ALWAYS or it.is_of_foreign_trait(traits))
+        self.reached = self.reach(it for it in self.all if it.name in ALWAYS or is_of_foreign_trait(it, traits))
 
     def reach(self, first):
         """Those that these may reach."""
@@ -88,7 +64,7 @@ class Program:
 
     def for_others(self):
         """The public functions that only tests call, each with its sentence."""
-        paths = {it.path: it for it in self.all if not it.is_law() and it not in self.reached}
+        paths = {it.path(): it for it in self.all if not is_law(it) and it not in self.reached}
         for crate in sorted({it.module[0] for it in self.all}):
             for it in code_rows.public_functions(self.top, crate):
                 if f"{crate}::{it.path()}" in paths:
@@ -98,7 +74,7 @@ class Program:
         """The function in which a mutant changes something first, or none."""
         file = self.top / "crates" / crate / record.file
         line = file.read_text(encoding="utf-8").partition(record.old)[0].count("\n")
-        return next((it for number, it in reversed(self.files.get(file, [])) if number <= line), None)
+        return next((it for it in reversed(self.files.get(file, [])) if it.line <= line), None)
 
 
 def mutants(program):
@@ -117,18 +93,18 @@ def main():
     given = words.parse_args()
     program, page = Program(given.top), given.top / PAGE
     listed, text = dict(program.for_others()), page.read_text(encoding="utf-8")
-    rows = "".join(f"    {it.path}\n{textwrap.indent(textwrap.fill(why, 116), ' ' * 8)}\n" for it, why in listed.items())
+    rows = "".join(f"    {it.path()}\n{textwrap.indent(textwrap.fill(why, 116), ' ' * 8)}\n" for it, why in listed.items())
     if given.write:
         text = MARKS.sub(lambda _: f"\n{rows}\n", text)
         page.write_text(text, encoding="utf-8")
     wrong = [] if f"\n{rows}\n<!-- end -->" in text else [f"{PAGE}: other calls are not reached (--write)"]
     known, late = program.reach(listed), [it for it in mutants(program) if it[1] not in program.reached]
     for file, function in late:
-        if function in known or function.is_law():
-            print(f"{'a law' if function.is_law() else 'only tests run it'}: {file}: {function.path}")
+        if function in known or is_law(function):
+            print(f"{'a law' if is_law(function) else 'only tests run it'}: {file}: {function.path()}")
         else:
-            wrong.append(f"{file}: nobody runs {function.path}")
-    dead = [it.path for it in program.all if not (it in program.reached or it in known or it.is_law())]
+            wrong.append(f"{file}: nobody runs {function.path()}")
+    dead = [it.path() for it in program.all if not (it in program.reached or it in known or is_law(it))]
     print(*(f"nobody calls {path}" for path in dead), *wrong, sep="\n")
     print(f"{len(program.reached)} of {len(program.all)} functions are reached from main, {len(wrong)} problems")
     return 1 if wrong else 0
