@@ -269,6 +269,13 @@ class Server(Running):
 # ---- checks
 
 
+def table(path: Path) -> list[list[str]]:
+    """The rows of a table in a text file: the cells stand between bars; a line that ends with a backslash goes on in the next
+    one, and one that begins with # is a comment."""
+    lines = path.read_text("utf-8").replace("\\\n", "").splitlines()
+    return [[cell.strip() for cell in line.split(" | ")] for line in lines if line and not line.startswith("#")]
+
+
 def first_difference(found: Ended, wanted: Ended) -> str:
     """Two ends of a command from some bytes before the first difference of their outputs."""
     pairs = enumerate(zip(found.output, wanted.output))

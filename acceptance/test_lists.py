@@ -1,5 +1,7 @@
-"""The lists for the staff, over offices that the program made (listed.py), with titles and names that try to be markup or
-formulas. Each list must be to the letter as in lists.txt, and what is not there has no rows."""
+"""The lists for the staff, over the offices of listed.txt, with titles and names that try to be markup or formulas. In each
+office numbers of units, numbers in a source and the order of the catalogue differ; whatever a list leaves out is there beside
+what it has: a day sooner or later, of another archive, source, reader or state.
+ Each list must be to the letter as in lists.txt, and what is not there has no rows."""
 
 import csv
 import html
@@ -13,13 +15,14 @@ import subprocess
 
 import pytest
 
-from acceptance import client, listed
+from acceptance import client
 
 LISTS = client.TOP / "packaging" / "lists"
-TEXTS = pathlib.Path(__file__).with_name("lists.txt")
 SETTINGS = client.SETTINGS | {"seats": "12", "daily": "12", "hands": "2", "run": "20"}
 WITH_NAMES = {"permits", "waiting", "readers", "long-waiting", "visits", "handed"}
 MOST_SHOWN = 1000  # rows of a page
+TAKEN_IN = 22  # lines of the log, by the register
+NAMES = ("Ann", "Ben", "Cid")  # of readers, whatever stands around them
 OWN = f"""-- list: long
 -- title: Long
 -- about: Numbers.
@@ -57,19 +60,39 @@ class Shown(html.parser.HTMLParser):
             self.rows[-1][-1] += text.strip("\n")
 
 
-def play(office, commands):
-    """Gives an office these commands, each of which must have the status that it is written with."""
-    ended = office.talk(*(client.post(client.path_of(word), body) for word, body, _ in commands))
-    found = [(word, body, reply.status) for (word, body, _), reply in zip(commands, client.replies(ended.output), strict=True)]
-    assert not [one for one in found if one not in commands]
+def sections(name):
+    """The parts of a text of this folder by their names, without comments."""
+    text = re.sub("^#.*\n", "", pathlib.Path(__file__).with_name(name).read_text(encoding="utf-8"), flags=re.M)
+    parts = re.split(r"^== (.*)\n", text, flags=re.M)[1:]
+    return dict(zip(parts[::2], parts[1::2]))
+
+
+GIVEN, WANTED = sections("listed.txt"), sections("lists.txt")
+
+
+def text_of(lines):
+    """A text whose lines stand behind bars."""
+    return re.sub(r"^\| ?", "", lines.strip() + "\n", flags=re.M)
+
+
+NEWEST = text_of(GIVEN["newest"])
+
+
+def play(office, name):
+    """Gives an office the commands of a section, each of which must be done, or refused where it says so."""
+    commands = re.findall(r"^(refused )?(\S+) ?(.*)\n((?:\|.*\n)*)", GIVEN[name], re.M)
+    asked = [client.post(client.path_of(word), body or (text_of(lines) if lines else "")) for _, word, body, lines in commands]
+    found = [reply.status for reply in client.replies(office.talk(*asked).output)]
+    wanted = [409 if refused else 200 for refused, *_ in commands]
+    assert [(one, status) for one, status, right in zip(commands, found, wanted, strict=True) if status != right] == []
     assert office.check() == client.SOUND
 
 
 @pytest.fixture(scope="module")
 def first(program, module_room):
     """The first office."""
-    office = client.Office.create(program, module_room / "first.db", SETTINGS | {"day": listed.FIRST_DAY})
-    play(office, listed.FIRST)
+    office = client.Office.create(program, module_room / "first.db", SETTINGS | {"day": "2024-01-31"})
+    play(office, "first")
     return office
 
 
@@ -77,7 +100,7 @@ def first(program, module_room):
 def newest(module_room):
     """The newest file of a source of the first office."""
     file = module_room / "newest.csv"
-    file.write_text(listed.NEWEST, encoding="utf-8-sig")
+    file.write_text(NEWEST, encoding="utf-8-sig")
     return file
 
 
@@ -97,12 +120,12 @@ def old_folder(program, module_room):
     """The lists of the second office, with the last files of its sources and its register."""
     office = client.Office.create(program, module_room / "old.db", SETTINGS)
     folder, files = module_room / "old", module_room / "files"
-    play(office, listed.OLD_DAYS)
+    play(office, "old")
     take_in_log(module_room / "register.db")
     folder.mkdir()
     files.mkdir()
-    for source, text in listed.LAST_FILES.items():
-        (files / f"{source}.csv").write_text(text)
+    for source in "abc":
+        (files / f"{source}.csv").write_text(text_of(GIVEN[f"last {source}"]))
     (files / ".d.new").write_bytes(b"\xff")  # no file of a source, and not whole
     make_lists(office.store, folder, "--files", files, "--register", module_room / "register.db")
     return folder
@@ -112,10 +135,11 @@ def take_in_log(register):
     """The register takes in each line of the log once, and no line that is of no command that was done."""
     lines = [json.dumps({"id": f"{number:032x}", "at": f"{1709000000 + number}.5", "time": f"{time}:00+00:00", "staff": staff,
                          "path": f"/desk/{command}", "asked": asked, "status": status})
-             for number, (time, command, asked, status, staff) in enumerate(listed.LOG)]
+             for number, (time, command, asked, status, staff) in enumerate(
+                 line.split(" | ") for line in GIVEN["log"].splitlines())]
     wrong = [lines[0].replace(f"{0:032x}", "0"), lines[0][:50], "", "no JSON", "[]"]
     said = "\n".join([*lines, *wrong]).encode()
-    for wanted in (f"{listed.TAKEN_IN} new\n", "0 new\n"):
+    for wanted in (f"{TAKEN_IN} new\n", "0 new\n"):
         ended = subprocess.run([LISTS / "record-office-register", register], input=said, capture_output=True, check=True)
         assert ended.stdout.decode() == wanted
 
@@ -137,16 +161,9 @@ def rows_of(path):
         return list(csv.DictReader(lines))
 
 
-def wanted_lists(office):
-    """What the lists of an office must be, by their names."""
-    parts = re.split(r"^== (.*)\n", TEXTS.read_text(encoding="utf-8"), flags=re.M)[1:]
-    named = [(*name.split("/"), text) for name, text in zip(parts[::2], parts[1::2])]
-    return {name: text for whose, name, text in named if whose == office}
-
-
 def check_lists(office, folder):
     """Each list of an office to the letter. Those of which nothing is written have no rows."""
-    wanted = wanted_lists(office)
+    wanted = {name.split("/")[1]: text for name, text in WANTED.items() if name.startswith(f"{office}/")}
     for path in sorted(folder.glob("*.csv")):
         found, text = path.read_bytes().decode(), wanted.pop(path.stem, None)
         if text is None:
@@ -170,7 +187,7 @@ def test_orders_that_no_run_can_fetch_are_those_that_runs_leave(first, folder, r
     later = client.Office(first.program, room / "later.db")
     for end in ("", "-wal"):
         shutil.copy(f"{first.store}{end}", f"{later.store}{end}")
-    play(later, listed.REST)
+    play(later, "rest")
     ended = later.talk(*(client.get(f"/desk/queue/{container}") for container in range(1, 13)))
     waiting = sorted(line["order"] for queue in client.replies(ended.output) for line in queue.json()["waiting"])
     assert [int(row["Order"]) for row in rows_of(folder / "waiting.csv")] == waiting
@@ -190,7 +207,7 @@ def test_a_page_shows_the_rows_of_its_csv_file_as_text_and_names_no_reader_witho
             assert shown.rows[1:] == marked, page.name
         assert "As of the copy of " in text, page.name
         if page.stem not in WITH_NAMES:
-            assert not [name for name in listed.NAMES if re.search(f"{name}[<&]", text)], page.name
+            assert not [name for name in NAMES if re.search(f"{name}[<&]", text)], page.name
 
 
 def test_the_index_has_how_many_rows_each_list_has_and_what_was_made_by_hand(folder):
@@ -222,8 +239,8 @@ NO_OFFICE = "{room}/{copy} is no copy of an office, or it is damaged: "
     ("none.db", "a", "newest.csv", NO_OFFICE),
 ])
 def test_what_cannot_be_read_is_told_in_a_sentence(copy, source, file, sentence, first, room):
-    for name, content in {"utf16.csv": listed.NEWEST.encode("utf-16"), "other.csv": b"a,b\n1,2\n",
-                          "newest.csv": listed.NEWEST.encode(), "text.db": b"no office " * 500, "empty.db": b""}.items():
+    for name, content in {"utf16.csv": NEWEST.encode("utf-16"), "other.csv": b"a,b\n1,2\n",
+                          "newest.csv": NEWEST.encode(), "text.db": b"no office " * 500, "empty.db": b""}.items():
         (room / name).write_bytes(content)
     store = first.store if copy == "first.db" else room / copy
     ended = run_lists(store, room, "--source", source, "--file", room / file)

@@ -4,9 +4,11 @@ another, to the configurations and to the files that they name. `packaging/try.s
 import json
 import re
 import subprocess
+from pathlib import Path
 
 import pytest
 
+from acceptance.client import table
 from acceptance.front.office import FRONT, KINDS, TOP
 
 UNITS = FRONT / "units" if (FRONT / "units").is_dir() else TOP / "packaging"  # mutation/front.py has copies of them there
@@ -36,92 +38,6 @@ SHUT = {"record-office-backup": {"NoNewPrivileges", "PrivateTmp", "ProtectContro
 UNSEEN = {"record-office-readers": {"/var/lib/record-office", "/etc/record-office"},
           "record-office-try": {"/var/lib/record-office", "/etc/record-office"},
           "record-office-desk": {"/var/lib/record-office"}}
-# The units, without `record-office-` (`program` is record-office itself); a directive with all its values, which have ` & `
-# between them; and why.
-DIRECTIVES = r"""
-strangers | PrivateTmp=yes | systemd-analyze does not ask that of a unit that comes before the network
-strangers | ProtectHome=yes | the same
-strangers | ProtectSystem=strict | the same
-strangers | CapabilityBoundingSet=CAP_NET_ADMIN | it sets rules of nftables, and no more
-strangers | DefaultDependencies=no | it comes before the network
-strangers | Before=network-pre.target shutdown.target | the same
-strangers | Wants=network-pre.target | the same
-strangers | Conflicts=shutdown.target | the same
-strangers | Type=oneshot | the rules stay
-strangers | RemainAfterExit=yes | the same
-program | SystemCallFilter=@system-service & ~@privileged @resources & @chown | of these lists systemd-analyze sees a part
-queue | SystemCallFilter=@system-service & ~@privileged & @chown | the same
-readers | SystemCallFilter=@system-service & ~@privileged @resources | the same
-try | SystemCallFilter=@system-service & ~@privileged | the same
-desk | SystemCallFilter=@system-service | the same
-program queue | IPAddressAllow=localhost | they are reached from this machine alone
-program queue | IPAddressDeny=any | the same
-program queue readers try | SystemCallErrorNumber=EPERM | what is called in vain is an error, and no end
-readers queue | DynamicUser=yes | each has a user of its own
-readers | User=record-office-pages | whose name is no group's
-program try | User=record-office | who owns the office, and its copies
-backup | OnFailure=record-office-resume.service record-office-alarm@%n.service | the program is begun again
-program queue readers desk try | Restart=always | what has ended is begun again
-probe | StartLimitIntervalSec=0 | however often it has ended
-program queue readers desk try | StartLimitIntervalSec=10min | what cannot begin has failed, is told, and begun by the probe
-queue readers desk try | StartLimitBurst=20 | the same
-program | StartLimitBurst=100 | a restart takes it less time
-program queue readers desk try strangers | WantedBy=multi-user.target | they begin with the machine
-backup | After=record-office.service | it comes after what it asks
-desk readers | After=record-office-queue.service | the same
-backup | TimeoutStartSec=2h | it ends by then
-status probe alarm@ | TimeoutStartSec=10min | they end by then
-backup status probe alarm@ resume | Type=oneshot | and go on no longer
-resume | ConditionPathExists=/run/record-office/resume-record-office.service | a tool that stops it leaves this mark
-resume | ExecStart=/bin/sh -c 'flock -n /var/lib/record-office true || exit 0; systemctl start record-office.service && \
-rm -f /run/record-office/resume-record-office.service' | who finds it starts the program, if no tool has locked the folder
-backup | ExecStopPost=-/bin/systemctl start record-office-resume.service | after each backup
-probe | ExecStartPre=-/bin/sh -c 'test ! -e /run/record-office/resume-record-office.service || \
-systemctl start record-office-resume.service' | with each probe
-program | ExecStartPost=-+/bin/sh -c 'rm /run/record-office/queue-of-record-office.service 2>/dev/null && \
-systemctl start record-office-queue.service; true' | what stopped the queue begins it
-program | ExecStopPost=+/usr/bin/python3 -B /usr/share/record-office/tools/ended.py %n | as root, tells why the program ended
-program | SuccessExitStatus=3 | a full disk is told by ended.py
-queue | SuccessExitStatus=143 | a stop is no failure
-backup | ExecStartPre=-/bin/systemctl kill --kill-who=main --signal=USR1 record-office-desk.service | logrotate moved the log
-backup | EnvironmentFile=-/etc/record-office/backup.conf | the operator's own settings
-program try | StateDirectory=OWN | what it keeps
-program try | StateDirectoryMode=0700 | is its own
-readers | CacheDirectory=OWN | what it keeps
-readers | CacheDirectoryMode=0700 | is its own
-queue readers try desk | RuntimeDirectory=OWN | the configurations name these folders
-program | WorkingDirectory=/var/lib/record-office | where the office is
-program | UMask=0077 | which nobody else can read
-desk | ReadWritePaths=/var/log/nginx | the log of who was here
-readers | TasksMax=1024 | threads
-try | TasksMax=32 | threads
-readers try | Nice=10 | the program goes before them
-readers | Environment=MALLOC_ARENA_MAX=1 | memory of threads
-desk | ExecCondition=/bin/sh -c '! grep -qs "^[^#]*include /etc/record-office/desk[.]conf;" \
-/etc/nginx/sites-enabled/record-office' | a site that has the desk goes on
-desk | ExecStartPre=/usr/sbin/nginx -t -q -c /etc/record-office/desk-nginx.conf | its file is tried
-desk | ExecStart=/usr/sbin/nginx -c /etc/record-office/desk-nginx.conf | it begins
-desk | ExecReload=/usr/sbin/nginx -t -q -c /etc/record-office/desk-nginx.conf & \
-/bin/sh -c 'kill -HUP $MAINPID' | and reads it anew
-queue | ExecStartPre=/usr/sbin/haproxy -c -q -f /etc/record-office/haproxy.cfg | its file is tried
-queue | ExecStart=/usr/sbin/haproxy -Ws -f /etc/record-office/haproxy.cfg | it begins
-queue | ExecReload=/usr/sbin/haproxy -c -q -f /etc/record-office/haproxy.cfg & \
-/bin/sh -c 'kill -USR2 $MAINPID' | and reads it anew
-desk queue | KillMode=mixed | what it began ends with it
-strangers | ExecStart=/usr/sbin/nft -f /etc/record-office/strangers.nft | the limits of connections
-strangers | ExecReload=/usr/sbin/nft -f /etc/record-office/strangers.nft | the same
-desk | KillSignal=SIGQUIT | it ends what it has begun to answer
-desk | TimeoutStopSec=10 | and soon
-queue | Type=notify | it is ready when it says so
-readers | TimeoutStartSec=10min | there is time until it can be asked
-program | SocketBindDeny=any | it listens at its port alone
-program | RestartPreventExitStatus=2 | a bad command line is not begun again
-try | Environment=PYTHONPATH=/usr/share/record-office/look | the look at a file
-readers | BindReadOnlyPaths=-/etc/record-office/office.json:/run/record-office-readers/office.json & \
--/etc/record-office/old-addresses.csv:/run/record-office-readers/old-addresses.csv | the office's own words
-readers | ExecStartPost=+/bin/sh -c 'cd ${RUNTIME_DIRECTORY} && until test -S orders.sock; do sleep 0.2; done; \
-chgrp -h www-data ./*.sock' | nginx can ask it, and nobody else
-"""
 WHEN = {"record-office-backup": {"OnCalendar": ["*-*-* 03:00"], "Persistent": ["true"]},
         "record-office-status": {"OnCalendar": ["*-*-* 07:00"], "Persistent": ["true"]},  # after the backup
         "record-office-probe": {"OnActiveSec": ["4min"], "OnUnitActiveSec": ["4min"], "AccuracySec": ["10s"]}}
@@ -129,9 +45,8 @@ OFFICE = "/var/lib/record-office/office.db"
 
 
 def directives():
-    """The rows of the table, one for each unit."""
-    for line in DIRECTIVES.replace("\\\n", "").strip().splitlines():
-        units, directive, why = line.rsplit(" | ", 1)[0].split(" | ", 1) + [line.rsplit(" | ", 1)[1]]
+    """The rows of directives.txt, one for each unit."""
+    for units, directive, why in table(Path(__file__).with_name("directives.txt")):
         name, values = directive.split("=", 1)
         for unit in units.split():
             full = "record-office" if unit == "program" else f"record-office-{unit}"
