@@ -1,7 +1,7 @@
 """The lists for the staff, over the offices of listed.txt, with titles and names that try to be markup or formulas. In each
 office numbers of units, numbers in a source and the order of the catalogue differ; whatever a list leaves out is there beside
 what it has: a day sooner or later, of another archive, source, reader or state.
- Each list must be to the letter as in lists.txt, and what is not there has no rows."""
+Each list must be to the letter as in lists.txt, and what is not there has no rows."""
 
 import csv
 import html
