@@ -59,7 +59,6 @@ def request(method: str, path: str, body: Body | None = None, host: str = "x", f
 
 
 def get(path: str) -> bytes:
-    """A question."""
     return request("GET", path)
 
 
@@ -90,7 +89,6 @@ class Reply(NamedTuple):
     body: bytes
 
     def json(self) -> Any:
-        """What the body tells as JSON."""
         return json.loads(self.body)
 
 
@@ -204,7 +202,6 @@ class Office:
         return self.perform("talk", said=b"".join(requests), **how)
 
     def session(self) -> "Session":
-        """A running session."""
         return Session(self)
 
     def serve(self, connections: int, port: int | None = None, **environment: str) -> "Server":
@@ -257,7 +254,6 @@ class Server(Running):
         self.port, self.said = port, self.process.stdout.readline()
 
     def connect(self, patience: float = PATIENCE) -> socket.socket:
-        """A connection to the server."""
         return socket.create_connection((HOST, self.port), patience)
 
     def wait_for_end(self, timeout: float = PATIENCE) -> Ended:

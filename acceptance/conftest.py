@@ -53,7 +53,6 @@ def is_here(name: str) -> bool:
 
 
 def _has_module(name: str) -> bool:
-    """Whether Python finds a module of this name."""
     import importlib.util
     return importlib.util.find_spec(name) is not None
 
@@ -75,7 +74,6 @@ def pytest_runtest_setup(item: pytest.Item) -> None:
 
 @pytest.fixture(scope="session")
 def program(request: pytest.FixtureRequest) -> client.Program:
-    """The built program."""
     path = request.config.getoption("--program")
     if not path.exists():
         do_without(f"the program {path} (`rt ci` builds it)")

@@ -32,13 +32,11 @@ def literal(text):
 
 
 def part_of(it):
-    """A scenario in the text."""
     parts = it.name.encode(), it.said, it.answered, it.told.strip()
     return "\\x1f\\\n    ".join(map(literal, parts))
 
 
 def usual_scenarios():
-    """The scenarios with the usual settings."""
     return [it for it in map(Scenario.of, names()) if it.settings == client.SETTINGS]
 
 

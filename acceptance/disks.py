@@ -8,6 +8,8 @@ import tempfile
 from pathlib import Path
 from typing import Any
 
+import pytest
+
 from acceptance import client
 from acceptance.client import Ended, Office, get, post
 
@@ -20,11 +22,14 @@ ANN, BEN = (post("/desk/register", f'{{"name":"{name}","until":"2024-12-31"}}') 
 READER = get("/desk/readers/1")
 
 
-def build_shim(source: Path, room: Path) -> str:
-    """Compiles one of them in a room; returns the path of the library."""
-    library = room / f"{source.stem}.so"
-    subprocess.run(["cc", "-shared", "-fPIC", "-O2", "-o", library, source, "-ldl"], check=True)
-    return str(library)
+def compiled(source: Path) -> Any:
+    """A fixture of tests: the path of one of these libraries, compiled."""
+    def shim(module_room: Path) -> str:
+        library = module_room / f"{source.stem}.so"
+        subprocess.run(["cc", "-shared", "-fPIC", "-O2", "-o", library, source, "-ldl"], check=True)
+        return str(library)
+
+    return pytest.fixture(scope="module", name="shim")(shim)
 
 
 def copy_office(office: Office, room: Path) -> Office:

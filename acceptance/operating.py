@@ -141,7 +141,6 @@ def is_expected(said, expected):
 
 
 def places_of(block):
-    """The places that a block belongs to."""
     marked = [place for place in block.mark.split(", ") if place in PLACES]
     return marked or ["here"]
 

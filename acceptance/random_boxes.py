@@ -30,7 +30,6 @@ ENDED = ["2024-02-29", "2030-01-01"]
 
 
 def walk(office):
-    """The units of an office in walk order."""
     return [unit for top in office.tops for unit in office.branch(top)]
 
 

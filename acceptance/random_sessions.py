@@ -396,7 +396,6 @@ class Session:
             return
 
         def pairs_of(asked: list[Asked]) -> list[tuple[bytes, bytes]]:
-            """These requests alone, with the answers of the reference model."""
             office = reference_model.Office(**self.settings)
             return [answer_of(office, it) for it in asked]
 

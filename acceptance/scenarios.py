@@ -53,7 +53,6 @@ class Scenario:
 
     @classmethod
     def of(cls, name: str, folder: Path = FOLDER) -> "Scenario":
-        """The scenario in the file of this name."""
         return cls(name, (folder / f"{name}.scenario").read_text().splitlines(), folder)
 
     def read(self, line: str, *text: str) -> None:
@@ -126,7 +125,6 @@ class Scenario:
         ours, theirs = socket.socketpair(socket.AF_UNIX, socket.SOCK_SEQPACKET)
 
         def feed() -> None:
-            """Sends the bytes one after the other."""
             with ours, contextlib.suppress(BrokenPipeError, ConnectionResetError):
                 for byte in self.said:
                     ours.send(bytes([byte]))
@@ -141,6 +139,17 @@ class Scenario:
         return Ended(running.returncode, printed, told)
 
 
+def text_of(lines: str) -> str:
+    """A text whose lines stand behind bars."""
+    return re.sub(r"^\| ?", "", lines.strip() + "\n", flags=re.M) if lines else ""
+
+
+def commands(text: str) -> list[tuple[str, str, str]]:
+    """Commands, one on a line: the number of the refusal that it meets, or `refused`; its word; and its body, which stands
+    there or on the lines behind bars that follow."""
+    found = re.findall(r"^(refused |\d+ )?([a-z/]+) ?(.*)\n((?:\|.*\n)*)", text, re.M)
+    return [(mark.strip(), word, body or text_of(lines)) for mark, word, body, lines in found]
+
+
 def names() -> list[str]:
-    """The names of the scenarios in files."""
     return sorted(it.stem for it in FOLDER.glob("*.scenario"))

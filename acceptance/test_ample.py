@@ -32,20 +32,17 @@ def file():
 
 
 def held(unit, margin):
-    """The lines of a unit's containers."""
     return "".join(f"{margin}  Container {box}: Box {box:06}\n" for box in boxes(unit))
 
 
 @cache
 def aid():
-    """The finding aid of the top."""
     lines = ["GB 0999 I1 [-] T1\n", held(1, "")]
     lines += [f"  GB 0999 I1/I{unit} [-] T{unit}\n{held(unit, '  ')}" for unit in range(2, UNITS + 1)]
     return "".join(lines).encode()
 
 
 def page(unit):
-    """The page of a unit below the top."""
     return f"GB 0999 I1/I{unit} [-] T{unit}\n{held(unit, '')}".encode()
 
 
@@ -59,7 +56,6 @@ QUESTIONS = [client.get("/public/aid/1"), client.get(f"/public/units/{UNITS}")]
 
 
 def answers():
-    """The answers to the questions."""
     return client.reply(200, aid(), client.TEXT) + client.reply(200, page(UNITS), client.TEXT)
 
 

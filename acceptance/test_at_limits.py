@@ -45,7 +45,6 @@ def permits():
     lines += [f'POST /desk/register {{"name":"Ann","until":"{EVER}"}}', '200 {"ticket":1}']
 
     def permit(unit, until, answer=None):
-        """Adds a permit, and its answer."""
         lines.append(f'POST /desk/permit {{"ticket":1,"unit":{unit},"until":"{until}"}}')
         lines.append(answer or f'200 {{"ticket":1,"unit":{unit},"until":"{until}"}}')
 
@@ -72,7 +71,6 @@ def boxes(number):
 
 
 def order(ticket, container, answer):
-    """The lines of an order, with its answer."""
     return [f'POST /public/orders {{"ticket":{ticket},"container":{container}}}', answer]
 
 
@@ -109,7 +107,6 @@ def a_run():
     lines, past = [f"with seats 1 daily {DAILY} hands 1 run {RUN}", *boxes(RUN + 1)], RUN + 2
 
     def ticket(number):
-        """The ticket that gives an order."""
         return (number + DAILY - 1) // DAILY
 
     for number in range(1, RUN + 2):

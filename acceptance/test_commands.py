@@ -48,33 +48,6 @@ NO_COMMAND = {
     "trial --country GB --repo 0999 --seats 4294967296 --daily 3 --hands 1 --run 2 --day today":
         "invalid value '4294967296' for '--seats <NUMBER>': 4294967296 is not in 0..=4294967295",
 }  # fmt: skip
-REFUSED_WORDS = (
-    "check --store",
-    "check --store f g",
-    "talk",
-    "init --store f",
-    "import --store f --source a",
-    "serve --store f --port 0 --connections 1",
-    "serve --store f --port 65536 --connections 1",
-    "serve --store f --port 8080 --connections 0",
-    "serve --store f --port 8080 --connections 10001",
-    "serve --store f --port 8080",
-    "migrate f",
-    "help",
-    "--version",
-    "preview",
-    "preview --country GB",
-    "preview --country --repo 0999",
-    "preview --country GB --country FR --repo 0999",
-    "preview --count GB --repo 0999",
-    "preview --country GB --repo 0999 a b",
-    "-- preview --country GB --repo 0999",
-    "trial --country GB --repo 0999",
-    "trial --country GB --repo 0999 --seats 2 --daily 3 --hands 1 --run 2",
-    "trial --country GB --repo 0999 --seats -1 --daily 3 --hands 1 --run 2 --day 2024-03-01",
-    "trial --country GB --repo 0999 --seats 2 --daily 3 --hands 1 --run 2 --day 2024-03-01 a.csv",
-    "trial --country GB --repo 0999 --seats 2 --seats 2 --daily 3 --hands 1 --run 2 --day 2024-03-01",
-)
 # settings that differ from the usual ones, and how they are refused; the day is judged first
 SETTINGS_SAID = [
     *(({name: value}, BAD_SETTINGS) for name, values in BEYOND.items() for value in values),
@@ -84,16 +57,9 @@ SETTINGS_SAID = [
     (client.LARGE | {"day": "9999-12-31"}, DONE),
     ({"repo": "r", "seats": "+1", "daily": "01", "run": "001", "day": "1900-01-01"}, DONE),
 ]
-OF_AN_OFFICE = "--seats 2 --daily 3 --hands 1 --run 2 --day"
-FIRST_FAULTS = {
-    f"init --store /none/none --country gb --repo 0999 {OF_AN_OFFICE} 2024-03-01": BAD_SETTINGS,
-    f"init --store /none/none --country gb --repo 0999 {OF_AN_OFFICE} today": BAD_DATE,
-    "preview --country gb --repo 0999 /none/none": BAD_SETTINGS,
-    "preview --country GB --repo é /none/none": BAD_SETTINGS,
-    "preview --country GB --repo 0999 /none/none": FILE_FAULT,
-    "import --store /none/none --source a /none/none": FILE_FAULT,
-    "serve --store /none/none --port 1 --connections 1": FILE_FAULT,
-}
+# words that are refused, with the message; `error` is what clap says of words that it does not take
+REFUSED_WORDS = client.table(HERE / "command_lines.txt")
+FIRST_FAULTS = {"bad settings": BAD_SETTINGS, "bad date": BAD_DATE, "file fault": FILE_FAULT}
 # files, and words of a preview with the codes and the file that they name
 PREVIEWED = "a.csv", "-h", "-"
 PREVIEWS = {
@@ -117,7 +83,6 @@ def printed(text: str) -> Ended:
 
 
 def sqlite3(store: Path, *words: str) -> str:
-    """What SQLite's own tool prints."""
     return subprocess.run(["sqlite3", store, *words], check=True, capture_output=True, text=True).stdout
 
 
@@ -128,7 +93,6 @@ def curl(*words: str) -> str:
 
 @pytest.fixture
 def fonds(room: Path) -> Path:
-    """A file of two units."""
     file = room / "fonds.csv"
     file.write_text(FONDS)
     return file
@@ -136,7 +100,6 @@ def fonds(room: Path) -> Path:
 
 @pytest.fixture
 def office(program: Program, room: Path) -> Office:
-    """A new office."""
     return Office.create(program, room / "office.db")
 
 
@@ -177,7 +140,7 @@ def test_words_that_name_no_command_are_told_what_clap_says(words: str, unread: 
     assert unread(words) == refused(f"error: {NO_COMMAND[words]}\n\nFor more information, try '--help'.")
 
 
-@pytest.mark.parametrize("words", [*REFUSED_WORDS, [b"preview", b"\xff"]])
+@pytest.mark.parametrize("words", [*(words for words, message in REFUSED_WORDS if message == "error"), [b"preview", b"\xff"]])
 def test_words_that_are_refused(words: str | list[bytes], unread: Unread) -> None:
     status, output, message = unread(words)
     assert (status, output, message[:7], message[-1:]) == (2, b"", b"error: ", b"\n")
@@ -189,9 +152,10 @@ def test_settings_at_limits_and_beyond(changed: client.Settings, wanted: Ended, 
     assert (program.run(*words) if wanted == DONE else unread(words)) == wanted
 
 
-@pytest.mark.parametrize("words", FIRST_FAULTS)
-def test_settings_are_judged_before_a_file_is_read_and_that_before_a_store_is_opened(words: str, unread: Unread) -> None:
-    assert unread(words) == FIRST_FAULTS[words]
+@pytest.mark.parametrize("words, message", [row for row in REFUSED_WORDS if row[1] != "error"])
+def test_settings_are_judged_before_a_file_is_read_and_that_before_a_store_is_opened(
+        words: str, message: str, unread: Unread) -> None:
+    assert unread(words) == FIRST_FAULTS[message]
 
 
 @pytest.mark.parametrize("words", PREVIEWS)
@@ -373,7 +337,6 @@ def test_backup_of_a_server_that_was_stopped(office: Office) -> None:
             assert server.wait_for_end() == Ended(-signal.SIGTERM, b"", b"")
 
     def readers(it: Office) -> list[str]:
-        """The names on the first two tickets."""
         ended = it.talk(client.get("/desk/readers/1"), client.get("/desk/readers/2"))
         return [reply.json()["name"] for reply in client.replies(ended.output) if reply.status == 200]
 
@@ -461,7 +424,6 @@ def test_no_row_comes_after_the_last_number_until_somebody_lowers_it(table: str,
 
 @pytest.fixture
 def old(program: Program, room: Path) -> Office:
-    """A copy of it."""
     shutil.copyfile(HERE / "version1.db", room / "old.db")
     return Office(program, room / "old.db")
 

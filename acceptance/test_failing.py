@@ -25,6 +25,7 @@ from acceptance.disks import ANN, BEN, FAULT, KEPT, LONGEST, READER, copy_office
 from acceptance.scenarios import Scenario
 
 pytestmark = pytest.mark.needs("sqlite3", "cc")
+shim = disks.compiled(disks.STOP)
 USUAL = ["broken:all", "once:none", "full:odd"]
 PAIRS = [f"{how}:{kept}" for how in ("broken", "once", "late", "full") for kept in KEPT] + ["unread:all"]
 TAKEN = b"net fault\n"
@@ -90,7 +91,6 @@ class Commands(Tries):
         assert self.whole.status == 0 and self.left[0][:2] == SOUND, (name, self.whole, self.left)
 
     def perform(self, office, **disk):
-        """Runs the command."""
         return office.perform(self.name, *self.words, timeout=LONGEST, **disk)
 
     def run(self, office, **disk):
@@ -218,7 +218,6 @@ class Kinds:
 
     @cache
     def make(self, name):
-        """The kind of this name."""
         if name == "init":
             settings = client.option_words(client.SETTINGS)
             return Commands(name, Office(self.program, self.room / "none.db"), self.room, *settings)
@@ -244,14 +243,7 @@ RUNS = [(name, pair) for pair in PAIRS for name in SHORT + LONG if name in SHORT
 
 @pytest.fixture(scope="module")
 def kinds(program: client.Program, module_room: Path) -> Kinds:
-    """The kinds of runs."""
     return Kinds(program, module_room)
-
-
-@pytest.fixture(scope="module")
-def shim(module_room: Path) -> str:
-    """The library that makes the disk fail."""
-    return disks.build_shim(disks.STOP, module_room)
 
 
 @pytest.mark.parametrize("name, pair", [

@@ -16,6 +16,7 @@ import subprocess
 import pytest
 
 from acceptance import client
+from acceptance.scenarios import commands, text_of
 
 LISTS = client.TOP / "packaging" / "lists"
 SETTINGS = client.SETTINGS | {"seats": "12", "daily": "12", "hands": "2", "run": "20"}
@@ -55,7 +56,6 @@ class Shown(html.parser.HTMLParser):
             self.rows[-1].append("")
 
     def handle_data(self, text):
-        """Adds text to the cell that is open."""
         if self.rows and self.rows[-1]:
             self.rows[-1][-1] += text.strip("\n")
 
@@ -70,27 +70,21 @@ def sections(name):
 GIVEN, WANTED = sections("listed.txt"), sections("lists.txt")
 
 
-def text_of(lines):
-    """A text whose lines stand behind bars."""
-    return re.sub(r"^\| ?", "", lines.strip() + "\n", flags=re.M)
-
-
 NEWEST = text_of(GIVEN["newest"])
 
 
 def play(office, name):
     """Gives an office the commands of a section, each of which must be done, or refused where it says so."""
-    commands = re.findall(r"^(refused )?(\S+) ?(.*)\n((?:\|.*\n)*)", GIVEN[name], re.M)
-    asked = [client.post(client.path_of(word), body or (text_of(lines) if lines else "")) for _, word, body, lines in commands]
+    given = commands(GIVEN[name])
+    asked = [client.post(client.path_of(word), body) for _, word, body in given]
     found = [reply.status for reply in client.replies(office.talk(*asked).output)]
-    wanted = [409 if refused else 200 for refused, *_ in commands]
-    assert [(one, status) for one, status, right in zip(commands, found, wanted, strict=True) if status != right] == []
+    wanted = [409 if refused else 200 for refused, *_ in given]
+    assert [(one, status) for one, status, right in zip(given, found, wanted, strict=True) if status != right] == []
     assert office.check() == client.SOUND
 
 
 @pytest.fixture(scope="module")
 def first(program, module_room):
-    """The first office."""
     office = client.Office.create(program, module_room / "first.db", SETTINGS | {"day": "2024-01-31"})
     play(office, "first")
     return office

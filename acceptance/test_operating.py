@@ -33,7 +33,6 @@ def test_document(document: Path, program: client.Program, room: Path) -> None:
     blocks = operating.blocks(document.read_text(encoding="utf-8"), have_blank_lines=document == operating.README)
 
     def ours(text: str) -> str:
-        """A text of the document with free ports."""
         return re.sub(r"\b80[89]\d\b", lambda it: ports[it[0]], text)
 
     lines = list(operating.run(blocks, "here", shell, ours))

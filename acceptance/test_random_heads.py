@@ -51,7 +51,6 @@ class Input:
         return not self.is_calm and self.happens(chance)
 
     def one_of(self, pool):
-        """A random one of a pool."""
         return self.random.choice(pool)
 
     def request(self):

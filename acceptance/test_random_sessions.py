@@ -41,7 +41,6 @@ def test_a_session_that_differs_is_told_by_its_few_requests() -> None:
     session = Session(0)
 
     def differs(asked: list) -> bool:
-        """Whether the faulty model answers otherwise."""
         right, wrong = reference_model.Office(**session.settings), NoSeats(**session.settings)
         return [answer_of(right, it) for it in asked] != [answer_of(wrong, it) for it in asked]
 

@@ -30,6 +30,7 @@ from acceptance.disks import ANN, BEN, copy_office
 from acceptance.scenarios import Scenario
 
 pytestmark = pytest.mark.needs("sqlite3", "cc")
+shim = disks.compiled(disks.REFUSE)
 HERE = Path(__file__).resolve().parent
 SCENARIOS = {"issues": "first_come", "runs": "runs", "moves": "moves"}
 NAMES = ["preview", "file", "init", "check", "import", "migrate", "trial", "talk", "refusals", "serve", *SCENARIOS]
@@ -103,7 +104,6 @@ def run_talk(office, sessions, **memory):
 
 
 def run_trial(office, sessions, **memory):
-    """The same of `trial`."""
     words = client.option_words(client.SETTINGS)
     ended = office.program.run("trial", *words, said=b"".join(sessions[0]), **memory)
     return ended._replace(output=[ended.output])
@@ -160,7 +160,6 @@ class Kinds:
         self.old = Office(program, HERE / "version1.db")
 
     def make(self, name):
-        """The command or the session of that name."""
         each = Scenario.of("every_request").requests
         sessions = {
             "trial": (self.none, run_trial, [ANN, BEN]),
@@ -209,14 +208,7 @@ def refuse(it, shim, each=EACH, offset=0):
 
 @pytest.fixture(scope="module")
 def kinds(program: client.Program, module_room: Path) -> Kinds:
-    """What is tried."""
     return Kinds(program, module_room)
-
-
-@pytest.fixture(scope="module")
-def shim(module_room: Path) -> str:
-    """The library that refuses memory."""
-    return disks.build_shim(disks.REFUSE, module_room)
 
 
 @pytest.mark.slow

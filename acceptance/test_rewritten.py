@@ -43,7 +43,6 @@ def copy_and(statement):
     """A way to write a file again: a statement on a copy of it."""
 
     def way(old, new):
-        """Copies the file, and does the statement to the copy."""
         shutil.copyfile(old, new)
         sqlite3(new, statement)
 

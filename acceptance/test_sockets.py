@@ -50,11 +50,9 @@ class Talk:
         self.connection.close()
 
     def send(self, said):
-        """Sends bytes to the server."""
         self.connection.sendall(said)
 
     def ask(self, request):
-        """Sends a request; returns its reply."""
         self.send(request)
         return client.read_reply(self.answers)
 
@@ -68,7 +66,6 @@ def serve(program: Program, room: Path) -> Serve:
 
     @contextlib.contextmanager
     def serving(connections: int, units: int = 1) -> Iterator[Server]:
-        """A server that is running."""
         office, file = Office.create(program, room / "office.db"), room / "file.csv"
         file.write_text(rows(units))
         office.import_file("a", file).expect_success()
@@ -80,7 +77,6 @@ def serve(program: Program, room: Path) -> Serve:
 
 
 def expect_end(server: Server) -> None:
-    """Waits until the server ends by itself."""
     assert server.wait_for_end() == Ended(0, b"", b"")
 
 

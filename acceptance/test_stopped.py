@@ -14,13 +14,13 @@ from acceptance.client import Ended, Office, post
 from acceptance.disks import KEPT, LONGEST, copy_office, look
 
 pytestmark = pytest.mark.needs("sqlite3", "cc")
+shim = disks.compiled(disks.STOP)
 VERSION_1 = Path(__file__).with_name("version1.db")
 KILLED = -9
 UNMADE = 3, b"store fault\n", None
 
 
 def session_of(path: str, body: str = "") -> tuple[list[str], bytes]:
-    """A session of one command."""
     return ["talk"], post(path, body)
 
 
@@ -51,7 +51,6 @@ class Stops:
         assert self.whole.status == 0, (name, self.whole)
 
     def perform(self, office: Office, **environment: str) -> Ended:
-        """Runs the command to its end."""
         words, said = STEPS[self.name]
         return office.perform(*words, said=said, timeout=LONGEST, room=self.room, **environment)
 
@@ -79,7 +78,6 @@ class Stops:
 
 @pytest.fixture(scope="module")
 def stops(program: client.Program, module_room: Path) -> dict[str, Stops]:
-    """The commands by their names."""
     (module_room / "units.csv").write_text(disks.file_of_units())
     made: dict[str, Stops] = {}
     office = Office(program, module_room / "none.db")
@@ -87,12 +85,6 @@ def stops(program: client.Program, module_room: Path) -> dict[str, Stops]:
         made[name] = Stops(name, Office(program, VERSION_1) if name == "migrate" else office, module_room)
         office = made[name].after
     return made
-
-
-@pytest.fixture(scope="module")
-def shim(module_room: Path) -> str:
-    """The library that stops the program."""
-    return disks.build_shim(disks.STOP, module_room)
 
 
 @pytest.mark.parametrize("kept", [*KEPT[:2], *(pytest.param(it, marks=pytest.mark.thorough) for it in KEPT[2:])])

@@ -39,7 +39,6 @@ def beside() -> Iterator[None]:
 
 
 def tool(name: str) -> Any:
-    """A tool as a module."""
     loader = importlib.machinery.SourceFileLoader(name.removesuffix(".py").replace("-", "_"), str(TOOLS / name))
     spec = importlib.util.spec_from_loader(loader.name, loader)
     assert spec
@@ -140,7 +139,6 @@ def office_with(path: Path, names: list[str], day: int = 20_000) -> None:
 
 
 def names_in(path: Path) -> list[str]:
-    """The readers of an office in a file."""
     with contextlib.closing(sqlite3.connect(path)) as db:
         return [name for (name,) in db.execute("SELECT name FROM reader ORDER BY ticket")]
 

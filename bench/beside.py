@@ -54,7 +54,6 @@ class Bench:
 
 
 def file_of(archive, file, room):
-    """The request that brings a file."""
     name = room / "rows.csv"
     archive.write(file, name)
     return client.post(f"/desk/import/s{file}", name.read_bytes())

@@ -70,7 +70,6 @@ def crowd(office, units, many, beside=None):
 
 
 def say(what, clients, took, more=""):
-    """Prints a row of the table."""
     times = sorted(t for one in clients for t in one.times)
     lost = [kind for one in clients for kind in one.lost]
     LOST.extend(lost)
@@ -84,7 +83,6 @@ def say(what, clients, took, more=""):
 
 
 def steady(office, units, many):
-    """Eight clients, undisturbed."""
     say("no restart", *crowd(office, units, many))
 
 
@@ -100,7 +98,6 @@ def kills(office, units, many):
     starts = office.starts
 
     def kill():
-        """Kills the program three times."""
         for _ in range(3):
             time.sleep(2.5)
             office.kill_program()
@@ -128,7 +125,6 @@ class Desk:
         return answer.status, json.loads(text) if text.startswith((b"{", b"[")) else {}
 
     def register(self, number):
-        """Registers a reader, once."""
         began = time.perf_counter()
         status, told = self.ask("POST", "/desk/register",
                                 json.dumps({"name": f"Reader {number}", "until": "2030-01-01"}))
@@ -152,7 +148,6 @@ class Desk:
             self.register(number)
 
     def say(self):
-        """Prints a row of the table."""
         times = sorted(self.times)
         wrong = self.tickets != list(range(1, self.many + 1))
         LOST.extend(["a ticket"] * wrong)
@@ -166,7 +161,6 @@ class Desk:
 
 
 def begin(given, room):
-    """An office of so many units."""
     office = Office(given.program, room / "long", changes=NO_LIMITS)
     office.init(client.LARGE | {"run": "1"}).expect_success()
     archive = Archive(given.units)

@@ -146,21 +146,17 @@ class Side:
 
 
 def post(path, **members):
-    """A command with these members."""
     return client.post(path, members)
 
 
 def milliseconds(seconds):
-    """Seconds as a text of milliseconds."""
     return f"{1000 * seconds:.2f} ms"
 
 
 def say(*cells):
-    """Prints a line of a table."""
     print("| " + " | ".join(cells) + " |", flush=True)
 
 
 def say_titles(*cells):
-    """Prints the titles of a table."""
     say(*cells)
     say(*["---"] * len(cells))

@@ -122,7 +122,6 @@ def aid(ask, number):
 def rounds(office, ask, db, units):
     """Prints a row for each kind of round."""
     def row(name, work):
-        """Prints a row of the table."""
         ask.asked, ask.busy = 0, 0
         took, (desk, reader) = beside(office, work)
         print(f"| {name} | {took:.2f} | {ask.asked} | {ask.busy:.2f} | {desk} | {reader} |", flush=True)
@@ -180,7 +179,6 @@ def crowd(office, units, pause):
     turns, over, chance = Turns(), threading.Event(), random.Random(3)
 
     def worst():
-        """Asks it again and again."""
         while not over.is_set():
             search(office, turns, "192.0.2.1", WORST)
 
@@ -205,7 +203,6 @@ def crowd(office, units, pause):
 
 
 def measure(given, office):
-    """Fills an office, and measures rounds and questions."""
     lines = list(rows(given.units, given.fonds))
     for at in range(0, given.units, 20_000):
         (office.folder / "part.csv").write_text(HEADER + "".join(lines[at:at + 20_000]))
@@ -222,7 +219,6 @@ def measure(given, office):
 
 
 def main():
-    """Measures as the command line says."""
     words = client.options(__doc__)
     words.add_argument("--units", type=int, default=20_000, metavar="N")
     words.add_argument("--fonds", type=int, default=2_000, metavar="N", help="units of a fonds")

@@ -54,7 +54,6 @@ class Edit:
 
 
 def copy_sources(tree, edit):
-    """Copies the sources, with the mutant."""
     shutil.copytree(TOP / "crates", tree / "crates", ignore=shutil.ignore_patterns("out"))
     for name in ("crates.txt", "HANDLES"):
         shutil.copy(TOP / name, tree)

@@ -49,7 +49,6 @@ class Change:
         return f"it changes nothing in {self.file}: {self.old}" if self.old == self.new else ""
 
     def made_in(self, text: str) -> str:
-        """The text of its file with the change."""
         return text.replace(self.old, self.new, 1)
 
 
@@ -67,17 +66,14 @@ class Record:
 
     @property
     def file(self) -> str:
-        """The file of the first change."""
         return self.changes[0].file
 
     @property
     def old(self) -> str:
-        """The old text of the first change."""
         return self.changes[0].old
 
     @property
     def new(self) -> str:
-        """The new text of the first change."""
         return self.changes[0].new
 
     def why_not(self, folder: Path) -> str:
@@ -113,7 +109,6 @@ def of_file(path: Path, folder: str, file: str = "") -> Iterator[Record]:
 
 
 def of_edit(path: Path) -> Record:
-    """The record of a file NAME.edit."""
     fields = fields_of(path.read_text(encoding="utf-8").splitlines(), path)
     return make_record([("fault", path.stem), *fields], path.parent.name, "", path)
 

@@ -45,12 +45,10 @@ class Modules:
                 self.users[it].add(name)
 
     def add(self, name, path):
-        """Adds the module of a file."""
         self.path[name] = path
         self.text[name] = NODE.sub("", Path(path).read_text(encoding="utf-8"))
 
     def make(self, name, text):
-        """Adds a module that no file has."""
         if name not in self.path:
             self.path[name], self.text[name] = "", text
             self.names[name], self.users[name] = self.modules_in(text), set()
@@ -67,7 +65,6 @@ class Modules:
         return None
 
     def modules_in(self, text):
-        """The modules that a text names."""
         return {it for it in map(self.longest, (at[0] for at in NAME.finditer(text))) if it}
 
     def reach(self, starts, edges):
@@ -99,7 +96,6 @@ class Modules:
 
 
 def flat_name(name):
-    """The name of a copy in its folder."""
     _, crate, _, *inner = name.split(".")
     return "_".join([crate, *inner])
 
@@ -115,7 +111,6 @@ class Bench:
         self.cases, self.said = [], ""
 
     def write(self, path, text):
-        """Writes a text to a file of the crate, and makes its folder."""
         os.makedirs(os.path.dirname(f"{self.folder}/{path}"), exist_ok=True)
         with open(f"{self.folder}/{path}", "w", encoding="utf-8") as out:
             out.write(text)
@@ -146,7 +141,6 @@ class Bench:
     def rename(self, text, case, copies):
         """A text that names the copies of a case in place of the modules that were copied."""
         def new(at):
-            """The name of a module in the copies."""
             module = self.modules.longest(at[0])
             if module not in copies:
                 return at[0]

@@ -26,7 +26,6 @@ EDIT = "noticed by: the compiler\nfile: a.rt\nold: one\nnew: two\nold: three\nne
 
 
 def written(path: Path, text: str) -> Path:
-    """A file with this text."""
     path.parent.mkdir(exist_ok=True)
     path.write_text(text, "utf-8")
     return path
@@ -80,14 +79,3 @@ def test_verdicts() -> None:
 def test_what_cannot_be_tried_is_printed_and_counted(capsys: pytest.CaptureFixture[str]) -> None:
     assert trials.cannot_be_tried([1, 2, 3], lambda it: "it is even" if it % 2 == 0 else "", str) == 1
     assert capsys.readouterr().out == "cannot be tried: 2: it is even\n"
-
-
-def test_each_job_has_ports_of_its_own_and_what_is_raised_comes_back() -> None:
-    def do(thing: int, ports: int) -> int:
-        """Fails for one of them."""
-        if thing == 2:
-            raise trials.Late("late")
-        return thing * ports
-
-    came = dict(trials.Jobs(1, 1000).outcomes(do, [1, 2, 3]))
-    assert (came[1], came[3]) == (1000, 3000) and isinstance(came[2], trials.Late)

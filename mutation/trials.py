@@ -22,12 +22,10 @@ class Verdicts:
         self.good, self.counts = good, collections.Counter(dict.fromkeys(good, 0))
 
     def add(self, verdict: str) -> str:
-        """Counts a verdict, and returns it."""
         self.counts[verdict] += 1
         return verdict
 
     def line(self) -> str:
-        """How many mistakes have each verdict."""
         return ", ".join(f"{number} {verdict}" for verdict, number in self.counts.items())
 
     def status(self) -> int:
@@ -64,14 +62,12 @@ def run_test(test: str, program: Path, seconds: float, *more: str, **around: str
 
 @functools.cache
 def names_of_tests() -> list[str]:
-    """The names of all tests of acceptance."""
     words = ["pytest", "acceptance", "--collect-only", "-q", "-p", "no:cacheprovider"]
     done = subprocess.run(words, cwd=TOP, capture_output=True, text=True, check=False)
     return [line for line in done.stdout.splitlines() if "::" in line]
 
 
 def is_test(test: str) -> bool:
-    """Whether pytest finds a test."""
     place, *more = test.split(" -k ")
     return any(name.startswith(place) and all(word in name for word in more) for name in names_of_tests())
 
@@ -93,7 +89,6 @@ class Jobs:
     def outcomes(self, what: Callable[[Thing, int], Any], things: Iterable[Thing]) -> Iterator[tuple[Thing, Any]]:
         """Yields each thing, and what came of it: a value, or what was raised."""
         def do(thing: Thing) -> tuple[Thing, Any]:
-            """Does it with ports that nobody else has."""
             ports = self.ports.get()
             try:
                 return thing, what(thing, ports)

@@ -33,7 +33,6 @@ OF_CAUSES = re.compile(r"state_encoding|office_tables|/(Desk|Catalogue)Causes\.a
 
 
 def path_of(record):
-    """The file that a rule changes."""
     return f"crates/{record.folder}/{record.file}"
 
 

@@ -12,12 +12,10 @@ TOP = Path(__file__).resolve().parents[1]
 
 
 def text_of(crate: str, file: str) -> str:
-    """The text of a file of a crate."""
     return Path(TOP, "crates", crate, file).read_text(encoding="utf-8")
 
 
 def made(name: str, crate: str, file: str, old: str, new: str, refuser: str) -> Record:
-    """A rule with one change."""
     return Record(name, crate, (Change(file, old, new),), refused_by=refuser)
 
 
@@ -64,5 +62,4 @@ def of_routes() -> Iterator[Record]:
 
 
 def make_rules() -> list[Record]:
-    """All of them."""
     return [*of_limits(), *of_refusals(), *of_members(), *of_routes()]

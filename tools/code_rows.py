@@ -31,7 +31,6 @@ class Function:
         self.owner = re.split(r"[:\s]", plain.split(" for ")[-1].strip())[0]
 
     def path(self):
-        """The path of the function, parted by `::`."""
         return "::".join(it for it in (*self.module, self.owner, self.name) if it)
 
     def is_law(self):
@@ -39,7 +38,6 @@ class Function:
         return any(it.startswith("laws") for it in self.module)
 
     def sentence(self):
-        """The first sentence of the comment."""
         return re.split(r"(?<=[.?])\s", self.comment)[0].removesuffix(".")
 
 
@@ -119,7 +117,6 @@ def with_laws(top, text):
     """The text of a page, with the lines between each mark and its end as the code gives them. A mark names crates."""
 
     def block(found):
-        """The rows of the crates that a mark names."""
         lines = [line for crate in found[2].split() for line in (f"`{crate}`", "", *laws(top, crate), "")]
         return "\n".join([found[1], "", *lines, found[3]])
 

@@ -54,7 +54,6 @@ def telling(what: str) -> Iterator[None]:
 
 
 def show(program: client.Program, folder: Path) -> None:
-    """Runs an office with the examples until Ctrl-C."""
     office = Office.create(program, folder / "office", SETTINGS | {"day": datetime.date.today().isoformat()})
     office.import_file("examples", ARCHIVES).expect_success()
     with office:
@@ -66,7 +65,6 @@ def show(program: client.Program, folder: Path) -> None:
 
 
 def main() -> int:
-    """Shows the office; returns the exit status."""
     words = argparse.ArgumentParser(description=__doc__, formatter_class=argparse.RawDescriptionHelpFormatter)
     words.add_argument("--program", type=Path, default=client.BUILT, help="the built program; else that of `rt ci`")
     given, missing = words.parse_args(), lacking()

@@ -32,7 +32,6 @@ ANY_USE = re.compile(r"(?P<start> *(?:pub )?(?:ghost )?)use (?P<module>[^{}]+?)\
 
 
 def crates_in_order():
-    """The crates of the repository, lowest first."""
     lines = (TOP / "crates.txt").read_text(encoding="utf-8").split("\n")
     return [it.split(":")[0].split()[0] for it in lines if it and not it.startswith("#")]
 
@@ -90,7 +89,6 @@ class Proof:
                 self.imports.append((passed[name] if module == common else module, name))
 
     def unfolded(self):
-        """The names that it unfolds."""
         return {name for names in UNFOLDS.findall(self.text) for name in " ".join(names).split()}
 
     def names(self):
@@ -186,7 +184,6 @@ def write(path, text):
 
 
 def main():
-    """Writes what has changed, or lists it."""
     parser = argparse.ArgumentParser(description=__doc__.split("\n", maxsplit=1)[0])
     parser.add_argument("--check", action="store_true", help="write nothing; end with 1 if something would change")
     parser.add_argument("crates", nargs="*", metavar="CRATE", help="only these")

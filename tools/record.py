@@ -24,7 +24,6 @@ ADDITIONS = "total = 0\nfor number in range(20_000_000): total += number"
 
 
 def read_cells(line: str) -> list[str]:
-    """The cells of a row of markdown."""
     return [cell.strip() for cell in line.strip().strip("|").split("|")]
 
 

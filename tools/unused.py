@@ -103,7 +103,6 @@ def declarations(path: str, text: str) -> Iterator[Declaration]:
 
 
 def names_of(lines: list[str]) -> list[str]:
-    """The names that a declaration gives."""
     head, rest = lines[0].strip() if lines else "", "\n".join(lines[1:])
     if found := TYPE.match(head):
         return [found["names"], *filter(None, sum(CASE.findall("\n".join(lines)), ()))]
@@ -193,7 +192,6 @@ class Repository:
 
 
 def main() -> int:
-    """Prints what is unused; returns the exit status."""
     it = Repository()
     found = [*it.unnamed(), *it.unnamed_code(), *it.copies(), *it.unused_imports()]
     told = [line for path, name, line in found if (path, name) not in EXPLAINED]

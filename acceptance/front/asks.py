@@ -117,7 +117,6 @@ def statuses(answers: bytes) -> list[int]:
 
 
 def body_of(answer: bytes) -> bytes:
-    """The body of an answer's bytes."""
     return answer.split(b"\r\n\r\n", 1)[1]
 
 

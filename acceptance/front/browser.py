@@ -140,7 +140,6 @@ class Page:
         return self.browser.call(method, self.session, **params)
 
     def size(self, width: int, height: int, scale: float = 1, mobile: bool = False) -> None:
-        """Gives the window this size in pixels."""
         self.call("Emulation.setDeviceMetricsOverride", width=width, height=height, deviceScaleFactor=scale,
                   mobile=mobile)
 
@@ -152,7 +151,6 @@ class Page:
         return got["result"].get("value")
 
     def wait(self, condition: str, minutes: float = .5) -> None:
-        """Waits until the condition holds."""
         try:
             until(lambda: self.holds(condition), condition, minutes)
         except AssertionError as late:
@@ -185,7 +183,6 @@ class Page:
         return self
 
     def reload(self, condition: str = "document.querySelector('main h1')") -> None:
-        """Loads the page again."""
         self.js(LEAVE)
         self.call("Page.reload")
         self.await_page(condition)
@@ -200,7 +197,6 @@ class Page:
         self.wait(condition)
 
     def quote(self, text: str) -> str:
-        """A text as a string of JavaScript."""
         return json.dumps(text)
 
     def text(self, selector: str = "main") -> str:
@@ -229,7 +225,6 @@ class Page:
     def insist(self, button: str, words: str, selector: str = "main", card: str | None = None) -> None:
         """Presses a button again and again until the page says this: forms pass over what looks like a second click."""
         def said():
-            """Whether the page says it; presses the button if not."""
             return words in self.text(selector) or self.press(button, card)
         until(said, f"{button} leads to: {words}")
 
@@ -249,7 +244,6 @@ class Page:
         self.js(WATCH_CLICK)
 
         def clicked():  # a page that moves just then takes none
-            """Sends the click; says whether it was received."""
             place = self.js(f"({PLACE})({json.dumps(button)})")
             for kind in ("mousePressed", "mouseReleased"):
                 self.call("Input.dispatchMouseEvent", type=kind, button="left", clickCount=2, x=place[0], y=place[1])
@@ -300,7 +294,6 @@ class Page:
         self.call("Input.dispatchKeyEvent", type="keyUp", key=key, code=key, windowsVirtualKeyCode=code)
 
     def type(self, text: str) -> None:
-        """Types a text where the focus is."""
         self.call("Input.insertText", text=text)
 
     def focus_name(self) -> str:

@@ -49,7 +49,6 @@ def values_of_call(tokens, place):
 
 
 def codes_in(literal):
-    """The codes in a template literal."""
     for piece in literal.split("${")[1:]:
         depth = 1
         for end, letter in enumerate(piece):
@@ -119,7 +118,6 @@ def add(catalog, path, texts):
 
 
 def catalogs(folder):
-    """The catalog of each language."""
     return {path.stem: read_po(io.BytesIO(path.read_bytes()), path.stem) for path in sorted(folder.glob("*.po"))}
 
 
@@ -140,7 +138,6 @@ def faults(code, catalog, wanted):
 
 
 def problems(message, catalog):
-    """What is wrong with a translation."""
     translated = forms(message.string)
     many = catalog.num_plurals if isinstance(message.id, (tuple, list)) else 1
     if message.fuzzy:

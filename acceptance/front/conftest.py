@@ -86,7 +86,6 @@ def approved(request: pytest.FixtureRequest) -> Callable[[str, Iterable[str]], N
     With --approve the lines become the file: read `git diff acceptance/front/approved` before a commit. What differs from run
     to run (ports, days, times) has to be put in one form before."""
     def same(name: str, lines: Iterable[str]) -> None:
-        """Fails with the first lines that differ."""
         path, found = APPROVED / f"{name}.txt", [line.rstrip() for line in lines]
         if request.config.getoption("--approve"):
             path.parent.mkdir(parents=True, exist_ok=True)
@@ -101,7 +100,6 @@ def approved(request: pytest.FixtureRequest) -> Callable[[str, Iterable[str]], N
 
 @pytest.fixture(scope="session")
 def browser(session_room: Path) -> Iterator[Browser]:
-    """A running Chromium."""
     if not is_here("chromium"):
         do_without("chromium")
     running = Browser(session_room / "profile")

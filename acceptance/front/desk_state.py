@@ -56,7 +56,6 @@ class DeskState:
         return [known.get(name) or self.register(name) for name in READERS]
 
     def register(self, name):
-        """Registers a reader; returns the ticket."""
         return self.asks.command("/desk/register", name=name, until=FAR)["ticket"]
 
     def order(self, ticket, container):

@@ -28,12 +28,10 @@ SEEN = "\u00a1\u00ac\u034e\u167f\u1fff\u2010\u2027\u2030\u205e\u2065\u3001"  # e
 
 
 def few(*rows, columns=FEW, **how):
-    """A short file with a few columns."""
     return csv_text(*rows, columns=columns, **how)
 
 
 def bare(*lines, header="legacyId,parentId,title,publicationStatus"):
-    """A file of these lines, as they stand."""
     return "".join(f"{line}\r\n" for line in (header, *lines))
 
 

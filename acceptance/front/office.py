@@ -115,12 +115,10 @@ class Office(client.Office):
 
     @property
     def public(self) -> str:
-        """The address of the readers' site."""
         return f"http://127.0.0.1:{self.ports['8080']}"
 
     @property
     def staff(self) -> str:
-        """The address of the desk's site."""
         return f"http://127.0.0.1:{self.ports['8081']}"
 
     def begin(self) -> Self:
@@ -151,7 +149,6 @@ class Office(client.Office):
     def wait_for_socket(self, path: pathlib.Path, process: subprocess.Popen[Any]) -> None:
         """Returns once a connection to this socket is taken. Raises RuntimeError if the process ends before."""
         def is_open():
-            """Whether one is taken."""
             if process.poll() is not None:
                 raise RuntimeError(f"{process.args[:2]} has ended; see {self.folder}")
             with socket.socket(socket.AF_UNIX) as it:
@@ -159,9 +156,7 @@ class Office(client.Office):
         until(is_open, f"{path} takes connections")
 
     def wait_for_desk(self) -> None:
-        """Returns once the desk's nginx takes connections."""
         def is_open():
-            """Whether a connection is taken."""
             with socket.socket() as it:
                 return it.connect_ex(("127.0.0.1", self.ports["8081"])) == 0
         until(is_open, f"the desk takes connections; see {self.folder}")
@@ -176,14 +171,12 @@ class Office(client.Office):
         return dict(zip(names, next(row for row in rows if row[:2] == [side, name])))
 
     def tell_queue(self, words: str) -> str:
-        """What HAProxy answers to a command."""
         with socket.socket(socket.AF_UNIX) as it:
             it.connect(str(self.folder / "stats.sock"))
             it.sendall(f"{words}\n".encode())
             return b"".join(iter(lambda: it.recv(65536), b"")).decode()
 
     def count_queued(self) -> int:
-        """How many requests wait in the queue."""
         return sum(int(self.queue_state(name=name)["qcur"]) for name in ("BACKEND", "gate"))
 
     def count_connections(self) -> int:
@@ -191,7 +184,6 @@ class Office(client.Office):
         return int(self.queue_state()["connect"])
 
     def end(self) -> None:
-        """Ends all that was started."""
         with self.beginning:
             self.running = False
         self.waiting.set()
@@ -268,7 +260,6 @@ class Office(client.Office):
             self.serve_tries()
 
     def kill_tries(self) -> None:
-        """Kills the service of tries."""
         self.trying.kill()
         self.trying.wait()
 
@@ -278,7 +269,6 @@ class Office(client.Office):
         last, ended = self.count_rounds(), 0
 
         def are_over():
-            """Whether so many have ended."""
             nonlocal last, ended
             now = self.count_rounds()
             if None not in (now, last):
@@ -329,14 +319,12 @@ class Office(client.Office):
             nginx.send_signal(signal.SIGHUP)
 
             def is_anew() -> bool:
-                """Whether only new workers take requests."""
                 now = self.workers(nginx)
                 return bool(now) and not now & old
             until(is_anew, "nginx has read its files anew")
 
     @staticmethod
     def workers(nginx):
-        """The workers of an nginx that take requests."""
         own = pathlib.Path(f"/proc/{nginx.pid}/task/{nginx.pid}/children").read_text().split()
         titles = {}
         for worker in own:
@@ -368,7 +356,6 @@ class Office(client.Office):
             self.wait_for(self.public + "/public/fonds")
 
     def _begin_queue(self):
-        """Starts HAProxy."""
         self.haproxy = self._run("haproxy", "-f", "haproxy.cfg")
 
     def _run(self, *words, told=None):
@@ -407,7 +394,6 @@ class Office(client.Office):
     def adapt(self, text: str) -> str:
         """Returns a file of the configuration with our ports, names and folders."""
         def ours(found: re.Match[str]) -> str:
-            """An address with our port."""
             return f"{found[1]}{self.ports[found[2]]}"
 
         text = re.sub(LISTEN, r"listen 127.0.0.1:\1", text)
@@ -438,12 +424,10 @@ LISTEN = r"\blisten (\d{4,5})\b"
 
 
 def user_name() -> str:
-    """The name of the user who plays."""
     return pwd.getpwuid(os.getuid()).pw_name
 
 
 def program_path(name: str) -> str | None:
-    """The path of a server's program."""
     return shutil.which(name, path=os.environ["PATH"] + ":/usr/sbin:/usr/local/sbin")
 
 

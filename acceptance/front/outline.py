@@ -29,7 +29,6 @@ class Outline(html.parser.HTMLParser):
         self.flush()
 
     def flush(self, prefix=""):
-        """Ends a line."""
         line = re.sub(r"\s+", " ", self.line).strip()
         if line and line not in ("(open)", "(status)"):
             self.lines.append(self.prefix + line)
@@ -37,7 +36,6 @@ class Outline(html.parser.HTMLParser):
         self.line, self.prefix = "", prefix or self.prefix
 
     def handle_starttag(self, tag, attrs):
-        """Begins an element."""
         has = dict(attrs)
         if self.whole and tag in ("html", "meta", "link", "script"):
             self.lines.append(" ".join([tag, *(f"{name}={value}" for name, value in attrs)]))
@@ -66,7 +64,6 @@ class Outline(html.parser.HTMLParser):
             self.open.append((tag, has))
 
     def handle_endtag(self, tag):
-        """Ends an element."""
         if self.skips:
             self.skips -= 1
             return
@@ -95,7 +92,6 @@ class Outline(html.parser.HTMLParser):
         return ""
 
     def handle_data(self, data):
-        """A text."""
         if not self.skips:
             self.line += data
 

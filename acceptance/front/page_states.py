@@ -1,6 +1,7 @@
 """The pages of both sites, each in the state that has most on it: for access, translations and pictures."""
 
 import json
+from pathlib import Path
 from types import SimpleNamespace
 from typing import Any, NamedTuple
 
@@ -8,14 +9,6 @@ from acceptance.front.asks import Asks
 from acceptance.front.catalogue import ODD
 
 DESK, FAR = (1280, 800), "2030-12-31"
-BUSY = b'{"error":"busy"}'
-OLD_ORDERS = (b"Order,Ordered on,Days,Ticket,Reader,Container,Name,Location,Where,Last ordered on,Orders that wait,"
-              b"Newest order\r\n"
-              b"1,2024-03-01,40,1,Ann,1,Box 1,Room 1,at the desk,2024-03-01,1,1\r\n")
-DIFFERENCES = json.dumps({
-    "copy": "2024-03-01, 03:00", "answer": {"new": 0, "changed": 1, "same": 0}, "refused": None,
-    "differences": [["changed", 2, "1", 1, "Docks", "Title", "Docks", "Quays", 0]],
-}).encode()
 
 
 def settle(asks: Asks) -> SimpleNamespace:
@@ -44,44 +37,14 @@ def settle(asks: Asks) -> SimpleNamespace:
                            few=few)
 
 
-# What is done on a page before it is looked at: methods of the tab with their values, one after the other.
-Steps = tuple[tuple[Any, ...], ...]
-OPEN_ALL: Steps = (("js", "document.querySelectorAll('details').forEach((one) => { one.open = true; })"),)
-ORDER_NOTHING: Steps = (
-    ("press_starting", "Order"), ("fill", "Number of your reader\u2019s ticket", "99"), ("press", "Order these containers"),
-    ("see", "No container is chosen."), ("wait", "document.readyState === 'complete'"))
-COLLECT: Steps = (("visit", "/unit/{plans}"), ("press", "Collect it, to order later"), ("visit", "/ordered"),
-                  ("see", "Box 2", "ul.units"))
-MEET_REFUSAL: Steps = (
-    ("fill", "Ticket", "1", "Issue"), ("js", "document.querySelector('[name=ticket]').dispatchEvent(new Event('change'))"),
-    ("see", "Ready at the desk", ".about"), ("fill", "Container", "999", "Issue"), ("press", "Issue", "Issue"),
-    ("see", "There is no container with this number."))
-FIND_READERS: Steps = (("fill", "Name or ticket number", "n"), ("press", "Find"), ("see", "2 readers with", ".told"))
-AWAIT_LIST: Steps = (("see", "2 orders wait."),)
-LIST_PERMITS: Steps = (("press", "Who has a permit for it?"), ("see", "1 permit."))
-ASK_TO_REMOVE: Steps = (("press", "Remove \u2026", "Remove"), ("see", "for good?", "dialog"))
-HOLD_FORM: Steps = (  # a reader is registered, and nobody is told whether it was done
-    ("answer_with", "*/desk/register", 503, BUSY), ("fill", "Name", "Cid", "Register a reader"),
-    ("fill", "Last day of the ticket", FAR, "Register a reader"), ("press", "Register", "Register a reader"),
-    ("see", "Look before you repeat it."), ("answer_with", None, 0, b""), ("press", "Look now"),
-    ("see", "The newest tickets:"))
-SCAN_WRONGLY: Steps = (("scan", "0"), ("see", "digits alone", ".wrong"))
-SHOW_OLD_ORDERS: Steps = (  # by the lists of a night
-    ("answer_with", "*/lists/*.csv", 200, OLD_ORDERS), ("js", "location.hash = '#/orders'"), ("see", "What waits"),
-    ("js", "location.hash = '#/orders/old'"), ("see", "Orders that wait long: 1"), ("answer_with", None, 0, b""))
-CHOOSE_FILE: Steps = (("file", "{few}"), ("see", "will be emptied", ".seen-in-file"))
-TRY_FILE: Steps = (
-    *CHOOSE_FILE, ("answer_with", "*/try/differences/*", 200, DIFFERENCES), ("press", "Show what would change"),
-    ("see", "1 difference:"), ("answer_with", None, 0, b""))
-
-
 class State(NamedTuple):
-    """A page of a site at this address, which may name what `settle` returns, and what is done there first."""
+    """A page of a site at this address, which may name what `settle` returns, and what is done there first: methods of the tab
+    with their values, one after the other."""
 
     site: str
     name: str
     address: str
-    steps: Steps = ()
+    steps: list[list[Any]]
 
     def show(self, page: Any, office: SimpleNamespace | None) -> None:
         """Loads the page in a tab of its site, and prepares it."""
@@ -90,30 +53,12 @@ class State(NamedTuple):
         (page.at if self.site == "desk" else page.visit)(self.address.format(**names))
         page.wait("!document.querySelector('.waiting')")
         for name, *values in self.steps:
+            if name == "answer_with":  # the last value is a body
+                values = [*values[:-1], values[-1].encode()]
             getattr(page, name)(*(value.format(**names) if name in ("visit", "file") else value for value in values))
 
     def __str__(self) -> str:
         return f"{self.site}-{self.name}".replace(" ", "_")
 
 
-STATES = [
-    State("readers", "archives", "/"), State("readers", "fonds", "/unit/{fonds}", OPEN_ALL),
-    State("readers", "order", "/unit/{plans}", ORDER_NOTHING),
-    State("readers", "text from right to left", "/unit/{hebrew}", OPEN_ALL), State("readers", "closed", "/unit/{closed}"),
-    State("readers", "finding aid", "/aid/{fonds}"), State("readers", "file", "/unit/{file}", OPEN_ALL),
-    State("readers", "changed", "/aid/{fonds}/9.9"), State("readers", "help", "/help"),
-    State("readers", "accessibility", "/accessibility"),
-    State("readers", "not found", "/unit/9999"), State("readers", "no page", "/no/such/page"),
-    State("readers", "list of orders", "/ordered", COLLECT), State("readers", "found", "/search?q=dock&from=1700"),
-    State("readers", "nothing found", "/search?q=zzz"),
-    State("desk", "today", "/"), State("desk", "counter", "/counter", MEET_REFUSAL),
-    State("desk", "container", "/counter/{box}"), State("desk", "label", "/counter/{box}/label"),
-    State("desk", "readers", "/readers", FIND_READERS), State("desk", "card", "/readers/1"),
-    State("desk", "ticket", "/readers/1/ticket"), State("desk", "orders", "/orders", AWAIT_LIST),
-    State("desk", "runs", "/runs"), State("desk", "slip", "/runs/1", OPEN_ALL), State("desk", "call slips", "/runs/1/slips"),
-    State("desk", "out", "/out"), State("desk", "units", "/units"), State("desk", "unit", "/units/{minutes}", LIST_PERMITS),
-    State("desk", "question", "/units/{minutes}", ASK_TO_REMOVE), State("desk", "held", "/readers", HOLD_FORM),
-    State("desk", "wrong scan", "/counter", SCAN_WRONGLY), State("desk", "old orders", "/orders/old", SHOW_OLD_ORDERS),
-    State("desk", "import", "/import", CHOOSE_FILE), State("desk", "differences", "/import", TRY_FILE),
-    State("desk", "no page", "/none"),
-]
+STATES = [State(*one[:3], one[3:]) for one in json.loads(Path(__file__).with_suffix(".json").read_text("utf-8"))]

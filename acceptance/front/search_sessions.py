@@ -149,7 +149,6 @@ class Session:
     # Commands
 
     def text(self):
-        """A random text."""
         choice = self.random.choice
         if self.random.random() < .25:
             return choice(ODD)
@@ -371,7 +370,6 @@ class Session:
         assert way is None or [(step["unit"], step["head"]) for step in way] == wanted, (unit, one.above)
 
     def count(self, name, by):
-        """Adds to a count."""
         self.told[name] = self.told.get(name, 0) + by
 
     def play(self, steps):

@@ -23,7 +23,6 @@ class Sender(threading.Thread):
         self.port, self.requests, self.got = port, requests, []
 
     def run(self):
-        """Sends all requests."""
         connection = http.client.HTTPConnection("127.0.0.1", self.port, timeout=90)
         for method, path, body, headers in self.requests:
             try:
@@ -37,7 +36,6 @@ class Sender(threading.Thread):
         """Returns the answer. If the front says that this address asks too often, it asks again."""
 
         def put():
-            """The answer, or None if there were too many questions."""
             connection.request(method, path, body, headers)
             answer = connection.getresponse()
             got = answer.status, answer.read()

@@ -15,7 +15,6 @@ class Site:
         self.port = office.ports["8080"]
 
     def ask(self, path, method="GET", body=None, **headers):
-        """Status, headers and text of an answer."""
         it = http.client.HTTPConnection("127.0.0.1", self.port, timeout=300)
         it.request(method, path, body, headers)
         answer = it.getresponse()
@@ -39,7 +38,6 @@ class Tree(html.parser.HTMLParser):
         self.feed(DAY.sub(r"\1", text))
 
     def handle_starttag(self, tag, attrs):
-        """Opens an element."""
         if any(name.startswith("on") for name, _ in attrs) or tag in ("img", "b", "i", "iframe") and self.is_in_archive():
             self.odd.append((tag, attrs))
         if tag not in self.VOID:
@@ -50,12 +48,10 @@ class Tree(html.parser.HTMLParser):
         return any("words" in (one[1].get("class") or "") for one in self.open)
 
     def handle_data(self, data):
-        """Adds a text to each open element."""
         for one in self.open:
             one[2] += data
 
     def handle_endtag(self, tag):
-        """Closes an element."""
         if not self.open:
             self.odd.append((tag,))
             return

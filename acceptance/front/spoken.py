@@ -49,7 +49,6 @@ class Spoken:
         page.visit(f"/?lang={texts.code}")
 
     def at(self, hash_: str) -> "Spoken":
-        """Loads a page of the desk."""
         self.page.at(hash_)
         return self
 

@@ -38,12 +38,10 @@ class Clock:
         self.now, self.step, self.tick, self.rested = 1000.0, 0.0, 0.0, []
 
     def monotonic(self):
-        """The seconds."""
         self.now += self.tick
         return self.now
 
     def sleep(self, seconds):
-        """Goes on at once."""
         self.now += seconds
         if seconds:
             self.rested.append(round(seconds, 3))
@@ -59,7 +57,6 @@ class Played:
         self.office, self.clock, self.answers, self.asked, self.connections = office, clock, {}, [], 0
 
     def socket(self, family):
-        """A connection."""
         self.connections += 1
         return Connection(self, family)
 
@@ -87,7 +84,6 @@ class Connection:
         self.played, self.family, self.patience, self.path, self.data = played, family, None, None, b""
 
     def settimeout(self, seconds):
-        """How long anything is waited for."""
         self.patience = seconds
 
     def connect(self, path):
@@ -96,7 +92,6 @@ class Connection:
             raise ConnectionRefusedError(path)
 
     def sendall(self, data):
-        """Takes in a request."""
         self.data += data
 
     def makefile(self, _):
@@ -144,12 +139,10 @@ class Stage:
         return told if status == 200 else None
 
     def round(self, **values):
-        """Makes a round."""
         with contextlib.closing(index.open_or_make(str(self.path), False)) as db:
             Round(db, self.ask_plainly, **{"sweep": FOREVER, **values}).run()
 
     def sql(self, *statements):
-        """Does these statements to the index."""
         with contextlib.closing(index.open_index(str(self.path))) as db:
             for statement in statements:
                 db.execute(statement)
@@ -200,11 +193,9 @@ class Pages:
         self.known = {target.split("?")[0]: [("it is in another file", stage.ask(target)[1:])] for target in plain}
 
     def ask(self, target, *form, **headers):
-        """Asks for a page."""
         self.add(self.stage.ask(target, *form, **headers))
 
     def add(self, lines):
-        """Adds an answer."""
         (head, *lines), path = lines, re.sub("/order$", "", lines[0].split(" ")[1].split("?")[0])
         self.number += 1
         self.lines.append(f"=== {self.number}. {head}")

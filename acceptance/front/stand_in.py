@@ -33,7 +33,6 @@ class StandIn:
 
     @property
     def paths(self):
-        """The paths of the requests that came."""
         return [head.split(" ", 2)[1] for head, _ in self.requests]
 
     def run(self):
@@ -69,7 +68,6 @@ class StandIn:
         return self.answers.get(head.split(" ", 2)[1]) or client.reply(200, self.body, client.TEXT)
 
     def end(self):
-        """Closes all connections."""
         self.over = True
         with contextlib.suppress(OSError):
             self.listener.shutdown(socket.SHUT_RDWR)

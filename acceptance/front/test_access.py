@@ -6,16 +6,15 @@ import pytest
 from acceptance.front.catalogue import archives, dock_company
 from acceptance.front.measured import ZOOMED, Measured
 from acceptance.front.office import FRONT, MANY_PAGES
-from acceptance.front.page_states import DESK, OPEN_ALL, STATES, settle
+from acceptance.front.page_states import DESK, STATES, settle
 
 pytestmark = [pytest.mark.browser, pytest.mark.needs("chromium")]
 
-UNSCRIPTED = [one for one in STATES if one.site == "readers" and one.steps in ((), OPEN_ALL)]
+UNSCRIPTED = [one for one in STATES if one.site == "readers" and all(name == "js" for name, *_ in one.steps)]
 
 
 @pytest.fixture(scope="module")
 def office(new_office, module_room):
-    """An office with archives."""
     office = new_office(readers=True, tries=True, files=archives(module_room, catalogue=dock_company()), changes=MANY_PAGES)
     office.await_rounds(1)
     return office

@@ -90,11 +90,9 @@ class Front(Office):
         subprocess.run(words, check=True, capture_output=True)
 
     def sites(self):
-        """The configurations of the four nginx."""
         return [self.folder / f"{name}.conf" for name in ("main", "desk-nginx", "main-tls", "desk-tls")]
 
     def begin(self):
-        """Starts the front and what stands behind it."""
         self.configure()
         self.running = True
         for name in ("cache/lists/a.html", "cache/lists/a.csv", "cache/lists/a.json", "cache/lists/a.txt", "texts/de.json"):
@@ -110,7 +108,6 @@ class Front(Office):
         return self
 
     def is_open(self, name):
-        """Whether a port takes connections."""
         for process in (self.haproxy, *self.nginx):
             if process.poll() is not None:
                 raise AssertionError(f"{process.args} has ended: {(self.folder / 'haproxy.told').read_text()[-200:]}")
@@ -139,7 +136,6 @@ class Table:
         self.ports = re.compile(f":({'|'.join(self.names)})\\b")
 
     def source(self):
-        """An address of this machine."""
         self.many += 1
         return f"127.{1 + self.many // 250}.0.{1 + self.many % 250}"
 
@@ -193,7 +189,6 @@ class Table:
         return len(found)
 
     def keep(self, head, answer):
-        """Keeps an answer in a line."""
         self.answers.append(self.line(head, answer))
 
     def line(self, head, answer):
@@ -255,7 +250,6 @@ class Table:
 
 @pytest.fixture(scope="module")
 def front(module_room):
-    """All sites and the queue, running."""
     front = Front(module_room / "front")
     yield front.begin()
     front.end()
@@ -282,7 +276,6 @@ def whole(connection, sent):
 
 
 def chunks(body):
-    """The pieces of a body in chunks."""
     while body:
         size, _, rest = body.partition(b"\r\n")
         many = int(size, 16)
@@ -291,7 +284,6 @@ def chunks(body):
 
 
 def short(text, most=100):
-    """A text that fits on a line."""
     text = repr(text)[1:-1]
     return text if len(text) <= most else f"{text[:most]} .. {len(text)}"
 
@@ -467,7 +459,6 @@ def test_who_asks_too_often_or_may_not_order_from_elsewhere(table, approved):
 
 @pytest.fixture
 def alone(room):
-    """All sites, with nothing behind them."""
     front = Front(room / "front")
     front.begin()
     front.end_all_behind()

@@ -320,7 +320,6 @@ def test_the_next_day_is_opened_once_the_question_is_answered(desk, state):
 
 
 def open_day(desk, day):
-    """Presses both buttons that open a day."""
     desk.press("Open the day")
     desk.see("A day that has been opened cannot be taken back", "dialog")
     desk.press(f"Open {day}", "dialog")
@@ -335,7 +334,6 @@ def test_today_shows_what_is_red_on_the_machine_and_that_nobody_has_looked_for_l
     seconds = iter(range(3))
 
     def shown(age, many):
-        """What the page shows of so many lines, written so many seconds ago."""
         status.write_text(json.dumps({"at": time.time() - age, "made": "2024-03-01 07:00", "lines": lines[:many]}), "utf-8")
         second = next(seconds)
         os.utime(status, (second, second))  # browsers know a file by its second and its size

@@ -26,7 +26,6 @@ BARE = ("/", "/counter", "/orders", "/runs", "/out", "/units", "/orders/old")  #
 
 @pytest.fixture(scope="module")
 def office(new_office, module_room):
-    """An office with archives."""
     return new_office(readers=SELDOM, tries=True, files=archives(module_room, catalogue=dock_company()), changes=MANY_PAGES)
 
 
@@ -38,7 +37,6 @@ def numbers(asks):
 
 @pytest.fixture(scope="module")
 def empty(new_office):
-    """An office without descriptions, readers and orders."""
     return new_office()
 
 

@@ -18,7 +18,6 @@ BUSY = b'{"error":"busy"}'
 
 @pytest.fixture(scope="module")
 def office(new_office, module_room):
-    """An office with archives."""
     return new_office(readers=SELDOM, files=archives(module_room, catalogue=dock_company()), changes=MANY_PAGES)
 
 
@@ -94,6 +93,7 @@ def test_a_form_that_was_not_answered_is_shut_until_somebody_has_looked(desk, st
         desk.fill(label, value.format(**names), card)
     desk.press(button, card)
     desk.see(LOOK_FIRST)
+    assert desk.count_sent("POST", f"/{route}") == 1, "a command of which nobody knows is not sent a second time"
     desk.answer_with(None, 0, b"")
     desk.press("Look now", card)
     desk.wait("document.querySelector('.seen')?.innerText.length > 10")

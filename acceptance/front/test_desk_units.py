@@ -17,7 +17,6 @@ COUNTED = """(() => { const send = window.fetch; let now = 0; window.most = 0;
 
 @pytest.fixture(scope="module")
 def office(new_office, module_room):
-    """An office with archives."""
     return new_office(readers=SELDOM, files=archives(module_room, catalogue=dock_company()), changes=MANY_PAGES)
 
 
@@ -53,7 +52,6 @@ def test_a_closed_unit_is_closed_on_both_sites_and_a_permit_opens_it_to_one_read
 
 
 def order_at_the_card(desk, ticket, container):
-    """Orders a container at a reader's card."""
     desk.at(f"/readers/{ticket}").fill("Container", container, "Order a container")
     desk.press("Order", "Order a container")
 

@@ -52,7 +52,6 @@ def office(new_office, module_room):
 
 @pytest.fixture
 def ticket(state):
-    """The ticket of a new reader."""
     return state.register("Ann")
 
 
@@ -63,7 +62,6 @@ def number_of(asks, words):
 
 @pytest.fixture(scope="module")
 def top(asks):
-    """The number of the harbour board's archive."""
     return number_of(asks, "HAR")
 
 

@@ -122,7 +122,6 @@ class Crowd:
             one.sendall(sent)
 
     def count_answered(self):
-        """How many have an answer."""
         return len(select.select(self.sockets, [], [], 0)[0])
 
     def statuses(self):

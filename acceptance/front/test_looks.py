@@ -80,7 +80,6 @@ def test_a_converted_file_is_read_as_if_it_had_been_saved_rightly(program, name)
 
 
 def preview(program, data):
-    """What `preview` prints of a file."""
     ended = program.run("preview", "--country", "GB", "--repo", "0999", said=data)
     return ended.output, ended.message
 
@@ -185,7 +184,6 @@ def fault_parts(values):
 
 
 def printable(text):
-    """A text on one line."""
     return "".join(letter if letter.isprintable() else repr(letter)[1:-1] for letter in str(text))
 
 
@@ -201,7 +199,6 @@ def plain(text):
 def command(room):
     """A function that runs record-office-look over files of a folder: its status, and what it printed."""
     def run(*words, **how):
-        """Runs it with these words; files go by their names."""
         done = subprocess.run([PYTHON, FRONT / "look/record_office_look.py", *words], cwd=room, capture_output=True, text=True,
                               check=False, **how)
         return done.returncode, done.stdout + done.stderr

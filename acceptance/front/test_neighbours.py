@@ -32,7 +32,6 @@ class Numbered(Office):
 
     @classmethod
     def create(cls, program, folder, settings=None, **how):
-        """A new one in this folder."""
         office = super().create(program, folder, settings, **how)
         with sqlite3.connect(office.store) as db:
             db.execute("UPDATE office SET next_unit = ?", (FIRST,))

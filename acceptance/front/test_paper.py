@@ -32,7 +32,6 @@ BUTTONS = """[...document.querySelectorAll('dialog button')].map((one) => one.ge
 
 @pytest.fixture(scope="module")
 def office(new_office, module_room):
-    """An office with one archive."""
     boxes = [unit(str(2 + box), "1", f"Registers of incoming letters, part {box}", identifier=str(box),
                   levelOfDescription="Series", physicalObjectName=f"Deed box with iron bands, number {box}",
                   physicalObjectLocation=f"Strongroom below the north tower, bay {box}") for box in range(1, BOXES + 1)]

@@ -136,7 +136,6 @@ def ask(office, path, port="8080", headers=None):
 
 
 def send(office, port, request):
-    """Sends a request; returns its connection."""
     connection = socket.create_connection((client.HOST, office.ports[port]), 90)
     connection.sendall(request)
     return connection

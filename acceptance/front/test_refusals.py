@@ -32,7 +32,6 @@ UNREACHED = {26}  # the program answers an unknown run with 404, which has words
 
 
 def read_list():
-    """The refusals of docs/RULES.md, by number."""
     text = (TOP / "docs/RULES.md").read_text().split("### Refusals\n", 1)[1].split("\n### ", 1)[0]
     return {int(number): name for number, name in re.findall(r"^\| (\d+) \| ([A-Z][A-Za-z]+) \|", text, re.M)}
 
@@ -80,12 +79,10 @@ Command = tuple[str, dict[str, Any]]
 
 
 def order(who: str, container: int) -> Command:
-    """The command that orders a container."""
     return "/public/orders", {"ticket": who, "container": container}
 
 
 def seat(who: str) -> Command:
-    """The command that gives a seat."""
     return "/desk/seat", {"ticket": who}
 
 

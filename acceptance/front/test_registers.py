@@ -69,7 +69,6 @@ def test_who_was_here_is_what_the_desks_site_logs(new_desk):
 
 @pytest.fixture(scope="module")
 def office(new_desk):
-    """An office with old orders."""
     office = new_desk()
     make_old(office)
     return office
@@ -105,7 +104,6 @@ def make_old(office):
 
 
 def waiting(asks):
-    """The orders that wait, by their containers."""
     return {box: [one["order"] for one in asks.read(f"/desk/queue/{box}")["waiting"]] for box in range(1, BOXES + 1)}
 
 

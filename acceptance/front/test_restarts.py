@@ -16,7 +16,6 @@ AWAY = 6  # seconds: longer than a queue that tries three or four times to reach
 
 @pytest.fixture(scope="module")
 def office(new_office):
-    """An office with archives, without the readers' service."""
     return new_office(files=[("archives", ARCHIVES)], changes=MANY_PAGES)
 
 

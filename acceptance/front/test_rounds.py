@@ -34,25 +34,21 @@ class Office:
         return "".join(f"{line}\n" for line in lines[kind](int(number or 0)))
 
     def page(self, number):
-        """The lines of a unit's page."""
         head = self.heads.get(number, f"GB 0999 A/{number} [File] Dock")
         return [head, *(f"  Unit {one}: {self.heads[one]}" for one in self.below.get(number, ()))]
 
     def aid(self, number, indent=""):
-        """The lines of a finding aid."""
         below = [line for one in self.below.get(number, ()) for line in self.aid(one, indent + "  ")]
         return [indent + self.heads[number], *below]
 
 
 @pytest.fixture
 def db(room):
-    """An index without anything."""
     with contextlib.closing(index.open_or_make(str(room / "index.db"), check=False)) as made:
         yield made
 
 
 def known(db):
-    """The units that an index has."""
     return [number for number, in db.execute("SELECT n FROM unit ORDER BY n")]
 
 

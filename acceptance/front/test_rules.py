@@ -117,7 +117,6 @@ def serve(html):
         """Answers with the page, and logs nothing."""
 
         def do_GET(self):
-            """Sends the page."""
             self.send_response(200)
             self.send_header("Content-Type", "text/html")
             self.end_headers()

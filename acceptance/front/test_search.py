@@ -59,7 +59,6 @@ class FakeOffice(threading.Thread):
         self.listener.listen()
 
     def run(self):
-        """Answers one connection after the other."""
         while True:
             with self.listener.accept()[0] as it:
                 while b"\r\n\r\n" in (head := it.recv(4096)):
@@ -76,7 +75,6 @@ def turns_taken(who, each, begin=0):
     began = []
 
     def search():
-        """One of them."""
         with who[0].turn(*who[1:]):
             began.append(time.monotonic() - begin)
             time.sleep(.2)
@@ -156,7 +154,6 @@ def test_if_too_many_wait_one_of_whom_has_most_of_them_is_refused():
     it, refused, answered = Turns(), [], []
 
     def search(who):
-        """Searches once."""
         try:
             with it.turn(who):
                 answered.append(who)
@@ -281,19 +278,15 @@ def row(number):
 
 
 def find_numbers(office, typed, **how):
-    """The numbers of the units that are found."""
     return numbers_of(office.find(typed, **how))
 
 
 def numbers_of(finder):
-    """The numbers of the units of an answer."""
     return [unit["unit"] for unit in finder.units]
 
 
 def with_sql(*statements):
-    """Does these statements to a file."""
     def harmed(path):
-        """Does them to this file."""
         with contextlib.closing(sqlite3.connect(path, isolation_level=None)) as db:
             for statement in statements:
                 db.execute(statement)

@@ -58,7 +58,6 @@ def found(office: Searched, typed: str, **more: str) -> list[str]:
 
 
 def answer(office: Searched, typed: str, **more: str) -> dict[str, Any]:
-    """What the search answers."""
     status, body = office.ask_service(urlencode({"q": typed, "lang": "en", **more}))
     assert status == 200, body
     told: dict[str, Any] = json.loads(body)

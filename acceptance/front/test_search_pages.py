@@ -28,7 +28,6 @@ def office(new_office, module_room):
 
 
 def search(hall, words, more=""):
-    """What is found for these words."""
     return hall.visit(f"/search?q={urllib.parse.quote(words)}{more}")
 
 

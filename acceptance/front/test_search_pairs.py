@@ -111,7 +111,6 @@ class Side:
         self.office.import_file("a", path).expect_success()
 
     def begin(self):
-        """Begins to serve."""
         self.office.begin()
         self.service = Service(self.office.queue, self.office.index, self.hear)
         self.forget_answers()
@@ -125,17 +124,14 @@ class Side:
         self.ask = self.service.mine.ask = Remembering(self.office.ask)
 
     def publish(self, roots):
-        """Publishes these units and all below them."""
         for n in sorted(roots):
             self.tell("/desk/status", unit=n, status="published", branch=True)
 
     def close(self, roots):
-        """Closes these units."""
         for n in sorted(roots):
             self.tell("/desk/closure", unit=n, until=FAR)
 
     def withdraw(self, roots):
-        """Makes drafts of these units."""
         for n in sorted(roots):
             self.tell("/desk/status", unit=n, status="draft", branch=False)
 
@@ -260,7 +256,6 @@ class Pair:
 
 
 def pages_of(numbers):
-    """The paths of the pages of these units."""
     return {f"/public/units/{n}" for n in numbers}
 
 

@@ -89,7 +89,6 @@ class Pages(Session):
             assert shown in heads, (path, address, shown)
 
     def unit(self):
-        """A unit's page."""
         number = self.number()
         path = f"/unit/{number}"
         text = self.load(path, 200 if number in self.now else 404)
@@ -105,14 +104,12 @@ class Pages(Session):
             assert all(inner.endswith(value) for inner, value in zip(shown, values)), (path, shown, values)
 
     def aid(self):
-        """A finding aid."""
         number = self.number()
         text = self.load(f"/aid/{number}", 200 if number in self.now else 404)
         if number in self.now:
             assert aid_of(text) == self.office.ask(f"/public/aid/{number}"), number
 
     def filter(self):
-        """Contents with a filter."""
         number, word = self.number(), self.random.choice(WORDS)
         if number in self.now:
             path = f"/unit/{number}?has={urllib.parse.quote(word)}&only=contents"
@@ -131,7 +128,6 @@ class Pages(Session):
         self.check_links(path, self.load(path))
 
     def fonds(self):
-        """The list of archives."""
         text = self.load("/")
         self.check_links("/", text)
         shown = [int(address[6:]) for address, _ in Tree(text).links("/unit/[0-9]+")]

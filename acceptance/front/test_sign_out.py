@@ -9,7 +9,6 @@ pytestmark = [pytest.mark.browser, pytest.mark.needs("chromium")]
 
 @pytest.fixture(scope="module")
 def office(new_office):
-    """An office without descriptions."""
     return new_office()
 
 

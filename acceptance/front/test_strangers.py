@@ -112,7 +112,6 @@ def test_without_the_rules_the_desk_is_not_shut_out(office):
 @inside
 def test_nginx_counts_the_addresses_of_a_network_together(office):
     def row(source):
-        """How many of a row of searches are let through."""
         with contextlib.closing(http.client.HTTPConnection("::1", office.ports["8080"], 30, source_address=(source, 0))) as it:
             statuses = []
             for _ in range(24):
@@ -126,7 +125,6 @@ def test_nginx_counts_the_addresses_of_a_network_together(office):
 
 
 def connections_from(office, source):
-    """Whether this address gets a connection."""
     it = office.connect(source)
     if it:
         it.close()

@@ -56,7 +56,6 @@ def office(new_office, module_room):
 
 @pytest.fixture(scope="module")
 def numbers(asks):
-    """What is where in the office."""
     return settle(asks)
 
 
@@ -65,7 +64,6 @@ def speak(hall, desk, office):
     """A function that gives both tabs, in a language: a reader's and the desk's."""
 
     def both(code):
-        """Their words are given in English."""
         texts = Texts(office, code)
         return Spoken(hall, texts), Spoken(desk, texts)
 

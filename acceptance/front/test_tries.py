@@ -143,7 +143,6 @@ def post(asks):
 def differences(post):
     """A function that tells what a file would change, as the service does."""
     def tell(text, source=SOURCE):
-        """Tries it."""
         status, told = post(f"/try/differences/{source}", text)
         assert status == 200, told
         return told

@@ -20,12 +20,10 @@ BELOW = {1: (2, 3), 3: (4,)}
 
 
 def aid_of(number, indent=""):
-    """The lines of a finding aid."""
     return [indent + HEADS[number], *(line for one in BELOW.get(number, ()) for line in aid_of(one, indent + "  "))]
 
 
 def text(*lines):
-    """The reply that has these lines."""
     return client.reply(200, "".join(f"{line}\n" for line in lines).encode(), client.TEXT)
 
 
@@ -55,7 +53,6 @@ class Beside:
         return said.getvalue()
 
     def known(self):
-        """The units that the index has."""
         with contextlib.closing(index.open_index(str(self.index))) as db:
             return [number for number, in db.execute("SELECT n FROM unit ORDER BY n")]
 

@@ -45,7 +45,6 @@ OFFICE = "/var/lib/record-office/office.db"
 
 
 def directives():
-    """The rows of directives.txt, one for each unit."""
     for units, directive, why in table(Path(__file__).with_name("directives.txt")):
         name, values = directive.split("=", 1)
         for unit in units.split():
@@ -71,7 +70,6 @@ def test_each_directive_that_nothing_else_shows(unit, name, values):
 
 
 def left_open(unit):
-    """What systemd-analyze says that a unit leaves open."""
     words = ["systemd-analyze", "security", "--offline=true", "--no-pager", "--json=short", UNITS / f"{unit}.service"]
     found = json.loads(subprocess.run(words, capture_output=True, check=True).stdout)
     return {one["json_field"] for one in found if not one["set"] and one["exposure"]}
@@ -136,7 +134,6 @@ def test_the_program_refuses_a_request_before_it_is_killed():
 
 
 def megabytes(text):
-    """A size as systemd writes it."""
     return int(text[:-1]) * {"M": 1, "G": 1024}[text[-1]]
 
 

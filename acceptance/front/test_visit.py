@@ -32,7 +32,6 @@ def office(new_office, module_room):
 
 @pytest.fixture
 def top(state):
-    """The number of the dock company's archive."""
     return state.fonds()
 
 

@@ -38,7 +38,6 @@ class Office(Catalogue, Desk, Shown):
         return it.status, it.told
 
     def post(self, path: str, body: bytes) -> tuple[int, Any]:
-        """The status and the answer to a command."""
         it = answer(self, "POST", path, len(body), body)
         return it.status, it.told
 

@@ -42,11 +42,9 @@ class Desk:
         return [n for n in self.waiting if self.orders[n].container == container]
 
     def seat_of(self, ticket):
-        """The seat of a ticket, or None."""
         return next((seat for seat, it in self.seated.items() if it == ticket), None)
 
     def out(self):
-        """The containers that are out, and with whom."""
         return {c: self.orders[place].ticket for c, place in sorted(self.places.items()) if place != "desk"}
 
     def open_day(self, day):
@@ -69,7 +67,6 @@ class Desk:
         return {"ticket": ticket}
 
     def renew(self, ticket, until):
-        """Sets the last day of a ticket."""
         self.reader(ticket).until = until
         return {"ticket": ticket}
 
@@ -115,7 +112,6 @@ class Desk:
         return {it: self.orders[it] for it in numbers}
 
     def cancel(self, order):
-        """Cancels an order that still waits."""
         refuse(12, order not in self.orders)
         refuse(13, order not in self.waiting)
         self.waiting.remove(order)
@@ -183,7 +179,6 @@ class Desk:
         return {"ticket": ticket, "unit": unit, "until": self.permits[ticket, unit]}
 
     def permits_of(self, ticket):
-        """How many permits a ticket has."""
         return sum(it == ticket for it, _ in self.permits)
 
     def revoke(self, ticket, unit):

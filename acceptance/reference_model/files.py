@@ -52,7 +52,6 @@ def boxes_of(fields):
 
 
 def is_blank(record):
-    """Whether all fields of a record are empty."""
     return not any(record)
 
 

@@ -104,13 +104,11 @@ def is_target(word):
 
 
 def check(holds):
-    """Raises Unreadable if the condition does not hold."""
     if not holds:
         raise Unreadable
 
 
 def read_head(block):
-    """The head that is this block."""
     first, *others = lines_of(block)
     words = first.split(" ")
     check(len(words) == 3)

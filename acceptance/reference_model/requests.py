@@ -48,7 +48,6 @@ def is_status(value):
 
 
 def is_truth(value):
-    """Whether a value is true or false."""
     return isinstance(value, bool)
 
 
@@ -121,7 +120,6 @@ def question_of(path):
 
 
 def is_import(path):
-    """Whether a path is that of an import."""
     return re.fullmatch("/desk/import/[^/]+", path)
 
 
