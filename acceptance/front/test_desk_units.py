@@ -27,6 +27,7 @@ def test_a_closed_unit_is_closed_on_both_sites_and_a_permit_opens_it_to_one_read
     desk.at(f"/units/{archive.series}").fill("Closed until", "2030-01-01", "Closure")
     desk.press("Set the closure", "Closure")
     desk.see("Closed until 2030-01-01.")
+    desk.see("closed until 1 January 2030", "main .head")  # in words, so that no clerk takes it for a part of the title
     assert desk.js("document.querySelector('pre.page').textContent") == asks.text(f"/public/units/{archive.series}")
     hall.visit(f"/unit/{archive.series}").see("closed until 1 January 2030", "h1")
     hall.see("This unit is closed until 1 January 2030.")
