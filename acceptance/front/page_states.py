@@ -61,4 +61,5 @@ class State(NamedTuple):
         return f"{self.site}-{self.name}".replace(" ", "_")
 
 
-STATES = [State(*one[:3], steps=one[3:]) for one in json.loads(Path(__file__).with_suffix(".json").read_text("utf-8"))]
+STATES = [State(site, name, address, steps)
+          for site, name, address, *steps in json.loads(Path(__file__).with_suffix(".json").read_text("utf-8"))]
