@@ -131,7 +131,8 @@ def test_a_past_day_is_asked_about(desk, state, hash_, card, label, button, ques
 
 def test_cards_are_asked_for_four_at_a_time(desk, state):
     """By two clicks too: other desks wait behind them."""
-    state.readers()
+    for place in range(2 * len(state.readers())):
+        state.register(f"Reader {place}")
     desk.at(f"/units/{state.unit('Plans of the locks')}").see("Nobody has a permit")  # few cards are asked for unasked
     desk.js(COUNTED)
     desk.press("Who has a permit for it?")

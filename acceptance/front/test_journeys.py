@@ -239,18 +239,8 @@ def test_units_are_collected_and_ordered_together(hall, asks, ticket, logbook):
     assert hall.js("getComputedStyle(document.querySelector('[data-list] ul.units')).borderTopWidth") == "0px"
 
 
-def test_two_clicks_order_once(hall, ticket, logbook):
-    """Else the reader would be told that it is ordered already."""
-    hall.visit(f"/unit/{logbook}").js("document.querySelector('details.order').open = true")
-    hall.choose("Carton 77a")
-    hall.fill(TICKET, str(ticket))
-    hall.js("for (const _ of [1, 2]) document.querySelector('details.order form').requestSubmit()")
-    hall.see(ORDERED, ".outcome")
-    assert hall.count_sent("POST", "/unit/") == 1
-
-
-def test_a_reader_who_comes_back_to_where_an_order_was_sent_can_order_there_again(hall, logbook):
-    """Where the browser shows the page as it was left; until then a second click orders nothing."""
+def test_a_second_click_orders_nothing_until_a_reader_comes_back_to_where_the_order_was_sent(hall, logbook):
+    """Else the reader would be told that it is ordered already. Who comes back to the page as it was left can order again."""
     kept_back = hall.visit(f"/unit/{logbook}").js("""(() => {
       const form = document.querySelector('details.order form'), kept = [];
       form.addEventListener('submit', (event) => { kept.push(event.defaultPrevented); event.preventDefault(); });
