@@ -138,7 +138,7 @@ def test_cards_are_asked_for_four_at_a_time(desk, state):
     desk.press("Who has a permit for it?")
     desk.press("Who has a permit for it?")
     desk.see("Nobody has a permit")
-    assert desk.js("window.most") == 4
+    assert desk.js("window.most") == 4, "other desks wait behind more"
 
 
 def test_who_comes_back_to_a_long_page_finds_the_place_again(desk):

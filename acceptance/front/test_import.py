@@ -106,14 +106,13 @@ def test_what_is_seen_is_told_in_the_language_of_the_page(desk, room):
     desk.choose("Trotzdem aufnehmen")
 
 
-def test_the_file_that_was_chosen_last_is_shown(choose, office, desk):
-    """However late the answer about another one comes."""
-    os.kill(office.trying.pid, signal.SIGSTOP)
-    choose(GOOD + "x")
+def test_the_file_that_was_chosen_last_is_shown(choose, desk):
+    """However late the answer about another one comes: one that takes long to look at."""
+    choose(csv_text(*(unit(str(number)) for number in range(1, 20001))) + "x")
     desk.see("Reading the file", ".seen-in-file")
     choose(GOOD, "late", "good.csv", stays=True)
-    os.kill(office.trying.pid, signal.SIGCONT)
-    assert advice(desk) == []
+    desk.wait("performance.getEntriesByType('resource').filter((one) => one.name.endsWith('/try/look')).length === 2", 2)
+    assert advice(desk) == [], "what is told is of the file that was chosen last"
     desk.press("Import the file")
     desk.see("good.csv was imported from the source late.")
 
