@@ -271,7 +271,7 @@ def test_a_look_at_anything_ends_within_its_bounds(look):
     status, told = look(large)
     print(f"a look at {len(large):,} bytes took {time.monotonic() - began:.1f} s")
     assert (status, json.loads(told)["counts"]["units"]) == (200, 20000)
-    assert look(b"legacyId\n" + b"1\n" * 4_000_000) == (500, '{"error": "failed"}')
+    assert look(b"legacyId\n" + b"1\n" * 2_500_000) == (500, '{"error": "failed"}'), "a look takes all memory"
     assert look(GOOD)[0] == 200
 
 
