@@ -193,7 +193,7 @@ is "$case: all is answered after that" waits all_answered
 rm -f /etc/record-office/*.pem
 is "$case: purge" dpkg --purge record-office
 rm -f $sites/record-office*
-same "$case: nothing stays but the offices" "$(find / -xdev -name '*record-office*' ! -path '/proc/*' ! -path '/root/*' ! -path '/var/lib/record-office*' \
+same "$case: nothing stays but the offices" "$(find / -xdev -path '*record-office*' ! -path '/proc/*' ! -path '/root/*' ! -path '/var/lib/record-office*' \
     ! -path '/var/backups/*' ! -path '/var/log/*' ! -path '/tmp/*')" ''
 rm -rf /var/lib/record-office* /var/backups/record-office* /var/log/nginx/record-office*
 systemctl reset-failed
