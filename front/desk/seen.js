@@ -62,7 +62,7 @@ async function read(reader, file, how = {}) {
   reader.panel.replaceChildren(el('p', { class: 'waiting' }, text('Reading the file …')));
   const bytes = await bytesOf(file);
   const answer = bytes && await lookAt(bytes, how);
-  if (reader.chosen !== file || reader.how !== how) return null; // another one was chosen meanwhile, or another way to read it
+  if (reader.how !== how) return null; // another one was chosen meanwhile, or another way to read it
   Object.assign(reader, { seen: answer?.ok ? answer.value : null, problem: answer?.ok === false ? answer.kind : null });
   return reader.panel.replaceChildren(...(answer ? panelParts(reader) : []));
 }
