@@ -1,10 +1,9 @@
 // A reader's card: seat, orders, permits, and what can be done for the reader.
 
 import { el, link, table, words } from '../shared/dom.js';
-import { dayField, numberField } from '../shared/fields.js';
+import { dayField } from '../shared/fields.js';
 import { commandForm, note } from '../shared/form.js';
 import { phrase, text, textAs } from '../shared/language.js';
-import { numberOf } from '../shared/numbers.js';
 import { deskWords } from '../shared/refusals.js';
 import * as routes from '../shared/routes.js';
 import { askIfPast } from './days.js';
@@ -12,6 +11,7 @@ import { lookAtPermits, lookAtReader } from './looks.js';
 import { boxLink, readCard } from './names.js';
 import { card, heldContainer, notDone, problem, said, unitLink } from './parts.js';
 import { boxField, boxOf } from './scans.js';
+import { NO_UNIT, unitField, unitNamed } from './unit_field.js';
 
 const STATES = { waiting: text('waiting'), out: text('out') };
 const PERMIT = text('A permit opens a closed unit to this reader, with the closed units above and below it. It does not open drafts.');
@@ -112,11 +112,12 @@ const renewForm = (view) => command(view, 'renewal of', text('Renew'), ({ until 
   (value, { until }) => phrase('Good until {until}.', { until }), {
     fields: [dayField('until', text('New last day'))], before: ({ until }) => askIfPast(until, text('The ticket then has expired.')) });
 
-const permitForm = (view) => command(view, 'permit of', text('Give a permit'), ({ unit, until }) => routes.permit(view.ticket, numberOf(unit), until),
+const permitForm = (view) => command(view, 'permit of', text('Give a permit'), ({ until }) => routes.permit(view.ticket, view.unit, until),
   (value) => phrase('Permit for {unit} until {until}.', { unit: unitLink(value.unit), until: value.until }), {
-    fields: [numberField('unit', text('Unit')),
+    fields: [unitField('unit', text('Unit')),
       dayField('until', text('Last day of the permit'), { hint: text('If there is a permit already, the later day counts.') })],
-    before: ({ until }) => askIfPast(until, text('A permit that ends on a past day opens nothing.')),
+    before: async ({ unit, until }) => ((view.unit = await unitNamed(unit)) === null ? NO_UNIT
+      : askIfPast(until, text('A permit that ends on a past day opens nothing.'))),
     explain: (answer) => notDone(answer, 'permit'), look: () => lookAtPermits(view.ticket),
   });
 

@@ -23,7 +23,7 @@ export function counterPage() {
     card(text('Take back'), returnForm()),
     card(text('A reader arrives'), seatForm()),
     card(text('A reader leaves'), leaveForm()),
-    card(text('Where is a container?'), lookUp(boxField(), text('Look it up'), (number) => go(`#/counter/${number}`))));
+    card(text('Where is a container?'), lookUp(boxField(), text('Look it up'), (typed) => go(`#/counter/${boxOf(typed)}`))));
   const input = ticket.querySelector('input');
   counter.addEventListener('keydown', (event) => digitsGoTo(event));
   return { title: text('Counter'), focus: input, content: [el('h1', {}, text('Counter')), counter] };

@@ -15,10 +15,13 @@ import { oldPage } from './old.js';
 import { outPage } from './out.js';
 import { unitsPage } from './units.js';
 import { importPage } from './import.js';
+import { findPage, startField } from './find.js';
 import { forgetReaders } from './kept.js';
 
 translatePage();
 document.querySelector('.languages').append(...languageLinks());
+
+startField(document.querySelector('form.in-hand'));
 
 const NUMBER = '([1-9][0-9]{0,9})';
 const at = (path) => new RegExp(`^#/${path}$`);
@@ -39,6 +42,7 @@ start([
   [at('out'), outPage],
   [at(`units(?:/${NUMBER})?`), unitsPage],
   [at('import'), importPage],
+  [at('find/(.+)'), findPage],
 ], text('The desk'));
 
 /** Who signs out leaves no readers in the tab. */

@@ -1,5 +1,5 @@
-// The service that looks at files, tries imports on the copy of the night, and keeps the last file of each source. It may be
-// away: then these pages do without it.
+// The service that finds what somebody has in hand, looks at files, tries imports on the copy of the night, and keeps the last
+// file of each source. It may be away: then these pages do without it.
 
 /** { ok: true, value: { advice, counts, units, boxes, encoding, text } } as look_for_page.py says, or { ok: false, kind }: `away` or `failed`.
  * encoding: one of Windows' that was chosen; fillsDates: whether eventDates is filled from the other two columns. */
@@ -14,8 +14,13 @@ export async function lookAt(bytes, { encoding, fillsDates }) {
 }
 
 /** { ok: true, value: { copy, answer, refused, kinds, differences } }, or { ok: false, kind }: `away`, `no copy` or `failed`. */
-export async function differencesFrom(source, file) {
-  const response = await post(`differences/${encodeURIComponent(source)}`, file);
+export const differencesFrom = (source, file) => fromCopy(`differences/${encodeURIComponent(source)}`, file);
+
+/** What may be meant by what was typed: { ok: true, value: { copy, units, boxes, readers, more, last } }, or as differencesFrom. */
+export const findInCopy = (typed) => fromCopy('find', typed);
+
+async function fromCopy(what, body) {
+  const response = await post(what, body);
   if (isAway(response)) return { ok: false, kind: 'away' };
   if (response.status === 409) return { ok: false, kind: 'no copy' };
   return response.ok ? { ok: true, value: await response.json() } : { ok: false, kind: 'failed' };

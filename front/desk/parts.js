@@ -3,7 +3,6 @@
 import { el, link } from '../shared/dom.js';
 import { note } from '../shared/form.js';
 import { phrase, text } from '../shared/language.js';
-import { numberOf } from '../shared/numbers.js';
 import { deskWords } from '../shared/refusals.js';
 import { STAYED } from './sure.js';
 
@@ -36,13 +35,13 @@ export function heldContainer(answer) {
     ? el('p', {}, phrase('Its page at the counter: {container}.', { container: containerLink(answer.container) })) : null;
 }
 
-/** A form that looks something up by its number: it changes nothing, so it may be sent any number of times. */
+/** A form that looks something up: it changes nothing, so it may be sent any number of times. */
 export function lookUp(field, button, then) {
   const form = el('form', { class: 'look' }, field,
     el('p', { class: 'buttons' }, el('button', { type: 'submit', class: 'plain' }, button)));
   form.addEventListener('submit', (event) => {
     event.preventDefault();
-    then(numberOf(form.querySelector('input').value.replace(/^\s*[BT]/i, '')));
+    then(form.querySelector('input').value);
   });
   return form;
 }

@@ -5,6 +5,7 @@ import { lastNumber } from '../shared/asking.js';
 import { numberField } from '../shared/fields.js';
 import { commandForm } from '../shared/form.js';
 import { phrase, text } from '../shared/language.js';
+import { numberOf } from '../shared/numbers.js';
 import { deskWords } from '../shared/refusals.js';
 import { go } from '../shared/router.js';
 import { fetchRun, slip } from '../shared/routes.js';
@@ -23,7 +24,7 @@ export async function runsPage() {
         el('p', {}, text('A run fetches the containers that readers have waited for longest, as many as one run takes. '
           + 'It leaves what is not open to its reader: closed, a draft, or no longer in any unit. Its slip says where they are.')),
         runForm()),
-      card(text('Slips'), latest(newest), lookUp(numberField('run', text('Run')), text('Show the slip'), (number) => go(`#/runs/${number}`)))),
+      card(text('Slips'), latest(newest), lookUp(numberField('run', text('Run')), text('Show the slip'), (typed) => go(`#/runs/${numberOf(typed)}`)))),
   ] };
 }
 

@@ -1,7 +1,7 @@
 // Units: what the public sees of one, its status, closure and place, permits for it, and its removal.
 
 import { el, link } from '../shared/dom.js';
-import { checkField, choiceField, dayField, numberField } from '../shared/fields.js';
+import { checkField, choiceField, dayField, textField } from '../shared/fields.js';
 import { commandForm } from '../shared/form.js';
 import { numberOf } from '../shared/numbers.js';
 import { go } from '../shared/router.js';
@@ -14,12 +14,11 @@ import { lookAtUnit } from './looks.js';
 import { card, heldContainer, lookUp, notDone, problem, said, unitLink } from './parts.js';
 import { permitForm, permitList } from './permits.js';
 import { removeForm } from './removal.js';
+import { NO_UNIT, unitField, unitLine, unitNamed } from './unit_field.js';
 
 export async function unitsPage(number) {
-  const field = numberField('unit', text('Unit'), {
-    hint: text('The number at the end of the address of its public page. A draft is found by its number alone.'),
-  });
-  const look = lookUp(field, text('Open the unit'), (typed) => go(`#/units/${typed}`));
+  const field = textField('unit', text('Unit'), { hint: text('Its reference code, its number, or words of its title.'), maxlength: 200 });
+  const look = lookUp(field, text('Open the unit'), (typed) => go(numberOf(typed) ? `#/units/${numberOf(typed)}` : `#/find/${encodeURIComponent(typed.trim())}`));
   if (!number) return { title: text('Units'), focus: field.querySelector('input'), content: [el('h1', {}, text('Units')), look, await tops()] };
   const page = el('div', { role: 'region', 'aria-label': text('What the public sees'), tabindex: 0 });
   const view = { number, head: el('div', {}), page };
@@ -39,6 +38,7 @@ export async function unitsPage(number) {
 async function show(view) {
   const answer = await askUnit(view.number);
   view.head.replaceChildren(...(answer.ok ? [headLine(readPage(answer.value).head, 'p'), stateOf(answer.value)] : [nothing(answer)]));
+  if (answer.kind === 'missing') view.head.append(...await unitLine(view.number));
   view.page.replaceChildren(answer.ok
     ? el('pre', { class: 'page' }, pageLines(answer.value)) : el('p', { class: 'quiet' }, text('Nothing.')));
 }
@@ -116,10 +116,12 @@ const endForm = (view) => change(view, {
 
 function moveForm(view) {
   return change(view, {
-    fields: [numberField('parent', text('Below which unit'), { hint: text('It becomes the last one there, with everything below it.') })],
+    fields: unitField('parent', text('Below which unit'),
+      text('Its reference code or its number. The unit becomes the last one there, with everything below it.')),
     key: 'move of', button: text('Move'),
-    send: ({ parent }) => move(view.number, numberOf(parent)),
-    done: (value, { parent }) => phrase('It is now the last below {unit}.', { unit: unitLink(numberOf(parent)) }),
+    before: async ({ parent }) => ((view.parent = await unitNamed(parent)) === null ? NO_UNIT : null),
+    send: () => move(view.number, view.parent),
+    done: () => phrase('It is now the last below {unit}.', { unit: unitLink(view.parent) }),
   });
 }
 

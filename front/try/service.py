@@ -1,7 +1,8 @@
-"""What is to be seen in a file and what its import would change, for the desk's page: answers for nginx.
+"""What is to be seen in a file and what its import would change, and what a colleague has in hand: answers for nginx.
 
     service.py --copies FOLDER --files FOLDER --listen SOCKET [--program PROGRAM]
 
+POST /try/find, with what somebody typed as its body, is answered with the JSON of finding.py and the time of the copy.
 POST /try/look, with a file as its body, is answered with the JSON of look_for_page.py, which runs by itself, within bounds;
 /try/look/Windows-1253/dates chooses an encoding, and has dates filled in.
 POST /try/differences/SOURCE, with a file as its body, is answered with JSON: copy, answer, refused, differences.
@@ -12,6 +13,7 @@ import json
 import pathlib
 import re
 import signal
+import sqlite3
 import subprocess
 import sys
 import threading
@@ -20,11 +22,13 @@ import time
 import waitress
 
 from differences import Trial
+from finding import find
 from kept_files import NoCopy, is_source, keep_file, last_file, newest_copy
 from wording import read_rules
 
 LARGEST_FILE = 8 * 1024 * 1024
-PATH = re.compile("/try/(?:(look)(/Windows-125[0-4])?(/dates)?|(differences|imported)/([^/]+))")
+LONGEST_TYPED = 1000  # bytes
+PATH = re.compile("/try/(?:(find|look)(/Windows-125[0-4])?(/dates)?|(differences|imported)/([^/]+))")
 LOOK = pathlib.Path(__file__).resolve().parents[1] / "look/look_for_page.py"
 LOOKS, LONGEST_LOOK = 2, 100  # at a time; seconds
 
@@ -55,6 +59,8 @@ class Service:
             return "405 Method Not Allowed", {"error": "method not allowed"}
         data = environ["wsgi.input"].read()
         try:
+            if found[1] == "find":
+                return "200 OK", self.found(data[:LONGEST_TYPED].decode(errors="replace"))
             if found[1]:
                 with self.looks:
                     return "200 OK", look(data, found[2], found[3])
@@ -63,7 +69,7 @@ class Service:
         except NoCopy as missing:
             print(f"{missing.filename}: {missing.strerror}", flush=True)
             return "409 Conflict", {"error": "no copy"}
-        except (OSError, subprocess.SubprocessError, ValueError) as wrong:
+        except (OSError, subprocess.SubprocessError, ValueError, sqlite3.Error) as wrong:
             print(f"{type(wrong).__name__} {wrong}", flush=True)
             return "500 Internal Server Error", {"error": "failed"}
 
@@ -71,14 +77,23 @@ class Service:
         """What an import of these bytes would change."""
         copy, last = newest_copy(self.copies), last_file(self.files, source)
         tried = Trial(self.program, copy, self.rules, last and last.read_bytes()).of(source, data)
-        made = time.strftime("%Y-%m-%d, %H:%M", time.localtime(copy.stat().st_mtime))
-        return {"copy": made, "answer": tried.answer, "refused": tried.refused, "differences": tried.differences}
+        return {"copy": made(copy), "answer": tried.answer, "refused": tried.refused, "differences": tried.differences}
+
+    def found(self, typed):
+        """What may be meant by what was typed."""
+        copy = newest_copy(self.copies)
+        return {"copy": made(copy), **find(copy, typed)}
 
     def kept(self, source, data):
         """Keeps the file, if the office can read it."""
         data.decode("utf-8")
         keep_file(self.files, source, data)
         return {"kept": source}
+
+
+def made(copy):
+    """When a copy was made."""
+    return time.strftime("%Y-%m-%d, %H:%M", time.localtime(copy.stat().st_mtime))
 
 
 def look(data, encoding, dates):

@@ -1,0 +1,120 @@
+"""What a colleague has in hand: the field in the head of each page of the desk, and fields that take reference codes."""
+
+import json
+import subprocess
+
+import pytest
+
+from acceptance.front.asks import Asks
+from acceptance.front.catalogue import dock_company
+from acceptance.front.desk_state import FAR
+from acceptance.front.office import MANY_PAGES
+
+pytestmark = pytest.mark.needs("sqlite3")
+
+READERS = ("Nuala Ó Súilleabháin", "Γιώργος Παπαδόπουλος", "Антон Чехов", "Łukasz Wójcik", "Ann Smith", "Ann Smithers")
+DOCKS, MINUTES, PLANS, LETTERS, BOARD = "GB 0999 HUL", "GB 0999 HUL/1", "GB 0999 HUL/2", "GB 0999 HUL/3", "GB 0999 HUL/1/1"
+CLOSED = "2030-01-01"
+
+
+@pytest.fixture(scope="module")
+def office(new_office, module_room):
+    """An office with an archive, of which unit 3 is closed, with readers, and with the night's copy of all that."""
+    (module_room / "docks.csv").write_text(dock_company())
+    office = new_office(tries=True, files=[("docks", module_room / "docks.csv")], changes=MANY_PAGES)
+    asks = Asks(office)
+    for name in READERS:
+        asks.command("/desk/register", name=name, until=FAR)
+    asks.command("/desk/closure", unit=3, until=CLOSED)
+    with office.without_program():
+        subprocess.run(["sqlite3", office.store, f".backup {office.copies / 'office-2024-03-01.db'}"], check=True)
+    office.wait_for(office.public + "/public/fonds")
+    return office
+
+
+@pytest.fixture
+def find(asks):
+    """A function that gives what the service finds: the codes of units, and the names of boxes and readers."""
+    def found(typed):
+        """Posts it at the desk."""
+        status, told = asks.send("POST", "/try/find", typed, True)
+        assert status == 200, told
+        told = json.loads(told)
+        return [one["code"] for one in told["units"]], [one["name"] for one in told["boxes"] + told["readers"]]
+    return found
+
+
+@pytest.mark.parametrize("typed, units", [
+    ("HUL/3", [LETTERS]), ("GB 0999 HUL/3", [LETTERS]), ("gb0999hul/3", [LETTERS]), (" hul / 1 ", [MINUTES]), ("HUL", [DOCKS]),
+    ("1/1", [BOARD]), ("secretary letters", [LETTERS]), ("4", [LETTERS]), ("HUL/9", []), ("GB 0999", []), ("", [])])
+def test_a_unit_is_found_by_its_reference_code_its_number_or_its_title_also_a_draft(find, typed, units):
+    assert find(typed)[0][:max(1, len(units))] == units, "what has the whole code comes first"
+
+
+@pytest.mark.parametrize("typed, names", [
+    ("Smith", READERS[4:]), ("smithers", READERS[5:]), ("ann smith", READERS[4:]), ("suilleabhain", READERS[:1]), ("sullivan", READERS[:1]),
+    ("papadopoulos", READERS[1:2]), ("ΠΑΠΑΔΟΠΟΥΛΟΣ", READERS[1:2]), ("chekhov", READERS[2:3]), ("Lukasz wojcik", READERS[3:4]),
+    ("roll 7", ["Roll 7"]), ("2", ["Box 2", READERS[1]]), ("nobody", []), ("", [])])
+def test_readers_and_boxes_are_found_in_any_script_with_and_without_accents(find, typed, names):
+    assert find(typed)[1] == list(names)
+
+
+def test_staff_see_what_the_public_does_not(asks):
+    told = [json.loads(asks.send("POST", "/try/find", code, True)[1])["units"][0] for code in ("HUL/3", "HUL/2", "HUL/2/1", "HUL/1")]
+    assert [(one["draft"], one["belowDraft"], one["until"]) for one in told] == [
+        (True, False, None), (False, False, CLOSED), (False, False, CLOSED), (False, False, None)]
+    assert (told[1]["title"], told[1]["level"], told[1]["dates"]) == ("Plans of the locks", "Series", "1803-1829")
+    assert asks.send("POST", "/try/find", "HUL") == asks.send("POST", "/try/none", "HUL"), "readers reach nothing of it"
+
+
+@pytest.mark.browser
+@pytest.mark.needs("chromium")
+def test_the_field_in_the_head_leads_to_what_one_has_in_hand(desk):
+    """To its page if it is one thing; else what there may be is listed."""
+    for typed, address in (("T5", "#/readers/5"), ("b2", "#/counter/2"), ("hul/3", "#/units/4"), ("sullivan", "#/readers/1"),
+                           ("roll 7", "#/counter/3")):
+        desk.at("/runs").fill("Reference code, barcode, number, name or words", typed)
+        desk.press("Open")
+        desk.wait(f"location.hash === '{address}'")
+    desk.at("/find/2")
+    desk.see("ticket 2")
+    desk.see("Plans")
+    desk.at("/find/ann%20smith").see("Ann Smithers")
+    desk.at("/find/HUL%2F9%2F9").see("Nothing has this code, number or name: HUL/9/9.")
+
+
+@pytest.mark.browser
+@pytest.mark.needs("chromium")
+def test_a_reader_of_today_is_found_though_the_copy_is_of_last_night(desk, asks):
+    ticket = asks.command("/desk/register", name="Zita Neumann", until=FAR)["ticket"]
+    desk.at("/counter").fill("Reference code, barcode, number, name or words", "neumann")
+    desk.press("Open")
+    desk.wait(f"location.hash === '#/readers/{ticket}'")
+
+
+@pytest.mark.browser
+@pytest.mark.needs("chromium")
+def test_a_permit_is_given_and_a_unit_moved_by_reference_codes_and_staff_see_what_they_decide_on(desk, asks):
+    desk.at("/readers/5").fill("Unit", "HUL/2", "Give a permit")
+    desk.fill("Last day of the permit", "2029-01-01", "Give a permit")
+    desk.see("GB 0999 HUL/2, Plans of the locks, 1803-1829 Closed until 2030-01-01.")
+    desk.press("Give a permit", "Give a permit")
+    desk.see("Permit for unit 3 until 2029-01-01.")
+    desk.at("/readers/5").fill("Unit", "HUL/99", "Give a permit")
+    desk.fill("Last day of the permit", "2029-01-01", "Give a permit")
+    desk.press("Give a permit", "Give a permit")
+    desk.see("There is no unit with this number")
+    desk.at("/units/4").see("GB 0999 HUL/3, Letters of the secretary Draft")
+    desk.fill("Below which unit", "HUL/1", "Move")
+    desk.press("Move", "Move")
+    desk.see("It is now the last below unit 2.")
+    asks.command("/desk/move", unit=4, parent=1)
+
+
+@pytest.mark.browser
+@pytest.mark.needs("chromium")
+def test_without_the_service_scanned_codes_and_numbers_still_lead_to_their_pages(desk, office):
+    with office.without_tries():
+        desk.at("/find/T5").wait("location.hash === '#/readers/5'")
+        desk.at("/find/HUL").see("The service that finds units, boxes and readers is not running.")
+        desk.at("/find/2").see("ticket 2")
