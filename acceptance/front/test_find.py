@@ -52,7 +52,8 @@ def test_a_unit_is_found_by_its_reference_code_its_number_or_its_title_also_a_dr
 
 
 @pytest.mark.parametrize("typed, names", [
-    ("Smith", READERS[4:]), ("smithers", READERS[5:]), ("ann smith", READERS[4:]), ("suilleabhain", READERS[:1]), ("sullivan", READERS[:1]),
+    ("Smith", READERS[4:]), ("smithers", READERS[5:]), ("ann smith", READERS[4:]), ("suilleabhain", READERS[:1]),
+    ("sullivan", READERS[:1]),
     ("papadopoulos", READERS[1:2]), ("ΠΑΠΑΔΟΠΟΥΛΟΣ", READERS[1:2]), ("chekhov", READERS[2:3]), ("Lukasz wojcik", READERS[3:4]),
     ("roll 7", ["Roll 7"]), ("2", ["Box 2", READERS[1]]), ("nobody", []), ("", [])])
 def test_readers_and_boxes_are_found_in_any_script_with_and_without_accents(find, typed, names):
@@ -60,7 +61,8 @@ def test_readers_and_boxes_are_found_in_any_script_with_and_without_accents(find
 
 
 def test_staff_see_what_the_public_does_not(asks):
-    told = [json.loads(asks.send("POST", "/try/find", code, True)[1])["units"][0] for code in ("HUL/3", "HUL/2", "HUL/2/1", "HUL/1")]
+    told = [json.loads(asks.send("POST", "/try/find", code, True)[1])["units"][0]
+            for code in ("HUL/3", "HUL/2", "HUL/2/1", "HUL/1")]
     assert [(one["draft"], one["belowDraft"], one["until"]) for one in told] == [
         (True, False, None), (False, False, CLOSED), (False, False, CLOSED), (False, False, None)]
     assert (told[1]["title"], told[1]["level"], told[1]["dates"]) == ("Plans of the locks", "Series", "1803-1829")

@@ -13,7 +13,8 @@ MOST = 20  # of each kind
 FIRST_DAY = datetime.date(1970, 1, 1)
 LATIN = str.maketrans({
     **dict(zip("αβγδεζηθικλμνξοπρσςτυφχψω", "a v g d e z i th i k l m n x o p r s s t y f ch ps o".split())),
-    **dict(zip("абвгдежзийклмнопрстуфхцчшщыэюя", "a b v g d e zh z i i k l m n o p r s t u f kh ts ch sh shch y e yu ya".split())),
+    **dict(zip("абвгдежзийклмнопрстуфхцчшщыэюя",
+               "a b v g d e zh z i i k l m n o p r s t u f kh ts ch sh shch y e yu ya".split())),
     **dict(zip("ъьøłđðþæœı", ("", "", "o", "l", "d", "d", "th", "ae", "oe", "i"))), "ґ": "g", "є": "e", "і": "i"})
 ALIKE = (("ου", "ou"), ("γγ", "ng"), ("μπ", "b"), ("ντ", "d"))
 # What sounds alike, in turn: letters that are written otherwise, vowels behind the first letter, and what is doubled
@@ -109,10 +110,11 @@ def walk(store):
 
 def told(store, rank, seen):
     """What staff see of a unit, and how it was meant."""
-    country, repo, level = store.execute("SELECT country, repo, level FROM office, unit WHERE id = ?", (seen.number,)).fetchone()
-    dates = store.execute("SELECT value FROM element WHERE unit = ? AND k = 3", (seen.number,)).fetchone()
-    return {"unit": seen.number, "rank": rank, "code": f"{country} {repo} {seen.code}".strip(), "level": level, "title": seen.title,
-            "dates": dates[0] if dates else "", "draft": seen.is_draft, "belowDraft": seen.is_below_draft,
+    country, repo, level, dates = store.execute("""
+        SELECT country, repo, level, coalesce(value, '') FROM office, unit LEFT JOIN element ON unit = unit.id AND k = 3
+        WHERE unit.id = ?""", (seen.number,)).fetchone()
+    return {"unit": seen.number, "rank": rank, "code": f"{country} {repo} {seen.code}".strip(), "level": level,
+            "title": seen.title, "dates": dates, "draft": seen.is_draft, "belowDraft": seen.is_below_draft,
             "until": day_text(seen.closed) if seen.closed else None}
 
 
