@@ -90,7 +90,7 @@ def test_nothing_of_a_file_becomes_markup(choose):
     """Neither what stands in it nor its name."""
     row = unit(MARKUP, MARKUP, MARKUP, culture=MARKUP, publicationStatus=MARKUP, **{**BOX, "physicalObjectName": MARKUP})
     desk = choose(csv_text(row, delimiter=";").encode("cp1252"), name="<b>a&b.csv")
-    assert ["warns", ["converted", "odd_culture"]] in advice(desk)
+    assert ["warns", ["converted", "odd_culture", "markup"]] in advice(desk)
     desk.see(f"title: {MARKUP}", ".seen-in-file")
     desk = choose(csv_text({MARKUP: "x"}, columns=[MARKUP]))
     desk.see(f"The header has no column legacyId. It begins: {MARKUP}.", ".seen-in-file")
