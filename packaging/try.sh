@@ -8,11 +8,7 @@
 # needs root, git, debhelper, dh-python, mmdebstrap, lintian and the network for Debian's packages. It changes nothing outside its folder except a control group of its own, which it removes.
 # Its last line is `N passed, M failed`; if systemd cannot be started, it says so and counts that as failed.
 set -euo pipefail
-here=$(cd "$(dirname "$0")" && pwd)
-[ $# -ge 1 ] || { echo "usage: packaging/try.sh PROGRAM [ROOT.tar [SUITE]]" >&2; exit 2; }
-program=$(realpath "$1")
-. "$here/try_boot.sh"
-tar=${2:-$room/root.tar}
+. "$(dirname "$0")/try_boot.sh"
 mkdir "$room/one" "$room/two" "$room/three"
 tree "$room/one/tree"
 deb=$(build "$room/one/tree")
@@ -33,10 +29,7 @@ for page in "$here"/*.[18]; do
     is "man finds nothing wrong with ${page##*/}${said:+: $said}" "$how"
 done
 
-[ -s "$tar" ] || mmdebstrap --quiet --variant=minbase --include=systemd-sysv,dbus,curl,iproute2,ca-certificates "${3:-bookworm}" "$tar"
-root=$room/root
-mkdir "$root"
-tar -C "$root" -xf "$tar" --exclude='./dev/*'
+root_with ''
 cp /etc/resolv.conf "$root/etc/resolv.conf"
 cp "$deb" "$root/root/record-office.deb"
 cp "$here/../acceptance/version1.db" "$here"/{try_back.sh,try_alarms.sh,try_registers.sh,try_limits.sh,try_checks.sh,try_inside.sh,try_readers.sh,try_busy.py} "$root/root"

@@ -1,9 +1,14 @@
 # shellcheck shell=bash
-# What try.sh and try_upgrades.sh share: a folder that is removed at the end, counts, packages of trees, and a Debian that is booted.
-# They set `here` and `program`, and later `root`, and source this file.
-# shellcheck disable=SC2154
+# What try.sh and try_upgrades.sh share, and source with their words, PROGRAM [ROOT.tar [SUITE ..]]: a folder that is removed at the
+# end, counts, packages of trees, and a Debian that is booted.
 
+here=$(cd "$(dirname "$0")" && pwd)
+[ $# -ge 1 ] || { echo "usage: packaging/${0##*/} PROGRAM [ROOT.tar [SUITE]]" >&2; exit 2; }
+program=$(realpath "$1")
 room=$(mktemp -d)
+tar=${2:-$room/root.tar}
+suite=${3:-bookworm}
+root=$room/root
 chmod 755 "$room"
 group=/sys/fs/cgroup/unified/record-office-try.$$
 booted=
@@ -43,6 +48,13 @@ tree() {
 build() {
     (cd "$1" && PROGRAM=$program dpkg-buildpackage -b -us -uc) >"$1.log" 2>&1 || tail -20 "$1.log" >&2
     ls "${1%/*}"/*.deb
+}
+
+# root_with PACKAGES: a Debian with these packages as $root, from $tar, which is made if it is not there
+root_with() {
+    [ -s "$tar" ] || mmdebstrap --quiet --variant=minbase --include="systemd-sysv,dbus,curl,iproute2,ca-certificates$1" "$suite" "$tar"
+    mkdir "$root"
+    tar -C "$root" -xf "$tar" --exclude='./dev/*'
 }
 
 # systemd as the first process of its own namespaces, in a control group of its own. Its network is loopback and a bridge to

@@ -8,21 +8,12 @@
 # trixie. OLD is a folder for the old packages, which are made from the history if they are not there. CASES names the cases, if
 # not all. It needs what try.sh needs. Its last line is `N passed, M failed`.
 set -euo pipefail
-here=$(cd "$(dirname "$0")" && pwd)
-[ $# -ge 1 ] || { echo "usage: packaging/try_upgrades.sh PROGRAM [ROOT.tar [SUITE [OLD]]]" >&2; exit 2; }
-program=$(realpath "$1")
-. "$here/try_boot.sh"
-tar=${2:-$room/root.tar}
+. "$(dirname "$0")/try_boot.sh"
 old=${4:-$room/old}
-packages=systemd-sysv,dbus,curl,iproute2,ca-certificates,adduser,python3,sqlite3,haproxy,nftables,nginx,openssl,procps
-packages+=,python3-babel,python3-jinja2,python3-snowballstemmer,python3-waitress
-[ -s "$tar" ] || mmdebstrap --quiet --variant=minbase --include="$packages" "${3:-bookworm}" "$tar"
 "$here/old_packages.sh" "$program" "$old"
 mkdir "$room/one"
 tree "$room/one/tree"
-root=$room/root
-mkdir "$root"
-tar -C "$root" -xf "$tar" --exclude='./dev/*'
+root_with ,adduser,python3,sqlite3,haproxy,nftables,nginx,openssl,procps,python3-babel,python3-jinja2,python3-snowballstemmer,python3-waitress
 cp "$(build "$room/one/tree")" "$root/root/new.deb"
 dpkg-deb -R "$root/root/new.deb" "$room/broken"
 echo 'nonsense;' >>"$room/broken/usr/share/record-office/server/common.conf"

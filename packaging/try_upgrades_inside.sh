@@ -107,7 +107,7 @@ runs() {
 }
 
 # red: the line of the status on what is to be merged
-red() { record-office-status | grep -o '^[A-Z]*: files'; }
+red() { record-office-status | sed -n 's/^\([A-Z]*\): files: .*/\1/p'; }
 
 # The desk stays in the operator's own site of the old form, until the operator moves it.
 in_site=
@@ -123,14 +123,14 @@ upgraded() {
     systemctl restart nginx
     systemctl try-restart record-office-desk
     is "$case: $1: after the servers began again all is answered" waits all_answered
-    same "$case: $1: the status tells of what is to be merged" "$(red)" "$is_red: files"
+    same "$case: $1: the status tells of what is to be merged" "$(red)" "$is_red"
     [ "$files" = given ] || is "$case: $1: what the operator wrote stays" grep -q 'Our own office' /etc/record-office/office.json
 }
 
 # What the status says to merge, and then it is not red.
 merges() {
     local told
-    told=$(record-office-status | grep '^CRITICAL: files')
+    told=$(record-office-status | grep '^CRITICAL: files: ')
     is "$case: the status names file and line: $told" grep -qE '/etc/[a-z/.-]+, line [0-9]+' <<<"$told"
     rm -f /etc/record-office/*.dpkg-bak
     if [ -n "$in_site" ] && [ "$site" = plain ]; then
@@ -144,7 +144,7 @@ merges() {
     systemctl reload nginx && systemctl restart record-office-desk
     is "$case: and all is answered" waits all_answered
     same "$case: by the desk's own nginx" "$(runs '')" ''
-    same "$case: and nothing is red" "$(red)" 'OK: files'
+    same "$case: and nothing is red" "$(red)" OK
 }
 
 # What is refused before anything is touched, and what fails: the old version serves on.
@@ -193,7 +193,7 @@ is "$case: all is answered after that" waits all_answered
 rm -f /etc/record-office/*.pem
 is "$case: purge" dpkg --purge record-office
 rm -f $sites/record-office*
-same "$case: nothing stays but the offices" "$(find / -xdev -name '*record-office*' ! -path '/proc/*' ! -path '/root/*' ! -path '/var/lib/record-office*' \
+same "$case: nothing stays but the offices" "$(find / -xdev -path '*record-office*' ! -path '/proc/*' ! -path '/root/*' ! -path '/var/lib/record-office*' \
     ! -path '/var/backups/*' ! -path '/var/log/*' ! -path '/tmp/*')" ''
 rm -rf /var/lib/record-office* /var/backups/record-office* /var/log/nginx/record-office*
 systemctl reset-failed

@@ -71,6 +71,28 @@ def zips() -> Named:
     yield "cut", whole[:-9]
 
 
+# By encoding, a title as archives have it
+TITLES = {"cp1250": ("Spisy města Třebíče, šťastný rok", "Księgi miejskie Łodzi, żołnierze", "Győri levéltár, őrök könyve"),
+          "cp1251": ("Дело о народном просвещении", "Указы, 1799 г."),
+          "cp1253": ("Αρχείο του Δήμου Αθηναίων", "«ΑΘΗΝΑ», έγγραφα"),
+          "cp1254": ("Köy işleri, ağaç ve çiftlik", "Mülkiye dergisi, sayı 3"),
+          "cp1252": ("Procès-verbaux à l’Écluse, où l’été", "Größe und Maß", "Ação, São João, opções", "Úthlíð, ævi", "Señor")}
+
+
+def encodings() -> Named:
+    """Files in encodings of Windows, with few letters beyond ASCII and with many; dates that stand in other columns."""
+    for codec, titles in TITLES.items():
+        for title in titles:
+            yield f"{title} in {codec}", few(unit("1", title=title)).encode(codec)
+    columns = ("legacyId", "title", "eventStartDates", "eventEndDates")
+    spans = (("1774-01-01", "1893-12-31"), ("1774", "1893"), ("1774-03-01", "1774-03-01"), ("1774-03-00", "1775-00-00"),
+             ("1774-01-01", ""), ("", "1893"), ("1774-03-01|1780", "1775-01-01|"), ("NULL|1780", "|1781"), ("", ""))
+    for start, end in spans:
+        for has in (("eventDates", ""), ("eventDates", "1800"), ("other", "x")):
+            row = {"eventStartDates": start, "eventEndDates": end, has[0]: has[1]}
+            yield f"{start!r} to {end!r}, {has}", csv_text(unit("1", **row), unit("2"), columns=(*columns, has[0])).encode()
+
+
 def beginnings() -> Named:
     """Signatures, whole and cut, at the beginning and after blanks; NUL and bytes that are not UTF-8 at many places."""
     signs = (b"PK\x03\x04", b"\xd0\xcf\x11\xe0", b"\xff\xfe", b"\xfe\xff", b"%PDF", b"{\\rtf", b"<ead>", codecs.BOM_UTF8)
@@ -168,6 +190,8 @@ def limits() -> Named:
         data = bare(f"1,{text}", header="legacyId,title").encode()
         yield f"a field of {len(text)} letters {text[0]!r}", data
         yield f"the same in a column that is not read: {len(text)} {text[0]!r}", data.replace(b"title", b"other")
+    for many in (0, 1):
+        yield f"8 MiB and {many} bytes", bare("1,A," + "x" * ((8 << 20) - 28 + many), header="legacyId,title,other").encode()
     two = bare("1,en,A", f"1,fr,{'x' * 65536}", header="legacyId,culture,title")
     yield "a long field of a translation", two.encode()
     yield "a long field of two, and both too long", bare(f"1,{'y' * 65536},{'x' * 65536}", header="legacyId,x,title").encode()
@@ -238,6 +262,13 @@ def numbers() -> Named:
                         ("HUL", "HUL é"), ("HUL", "HULé"), ("1", "1/2"), ("1", "1.2"), ("1", "12"), ("HUL", "X/HUL"),
                         ("HUL", "")):
         yield f"{code!r} below {above!r}", few(unit("1", identifier=above), unit("2", "1", identifier=code)).encode()
+    for code in ("GB 0999 HUL", "GB-0999-HUL/1", "GB 0999", "GB 0999 HUL/1", "FR AD75 1 J", "MS 12", "ms 1 2", "DE0999 1"):
+        yield f"a whole code {code!r}", few(unit("1", identifier="H"), unit("2", "1", identifier=code)).encode()
+    for line in ("Note: exported by Ann,,", "Total,,,,7", "Total,,Total,", "12,,", "Total", ",,Total", "x,,,Published"):
+        line += "," * (4 - line.count(","))
+        header = "legacyId,parentId,title,publicationStatus,extentAndMedium"
+        yield f"a row that is no unit {line!r}", bare("1,,Docks,Published,", line, header=header).encode()
+    yield "a note alone", few("Note,,,,,,,\r\n").encode()
     yield "three such", few(unit("1", identifier="H"), *(unit(str(n), "1", identifier=f"H/{n}") for n in (2, 3, 4))).encode()
 
 
@@ -274,6 +305,8 @@ def boxes() -> Named:
         for location, kind in (("", ""), ("R|S", ""), ("R", "T|U|V"), ("NULL|S", "|U")):
             values = {"physicalObjectName": name, "physicalObjectLocation": location, "physicalObjectType": kind}
             yield f"{name!r}, {location!r}, {kind!r}", few(unit("1", **values), columns=BOX_COLUMNS).encode()
+    for name in ("Box 1; Box 2", "Boxes 1-4", "1, 2", "Box 1 & 2", "Boîtes 1 à 3", "Box 1974-3", "Box 1/2", "Plan 1, a"):
+        yield f"several {name!r}", few(unit("1", physicalObjectName=name), columns=BOX_COLUMNS).encode()
     for places in itertools.product(("", "1", "2", "9"), repeat=2):
         lines = (unit("1", physicalObjectName="A"), unit("2", places[0], physicalObjectName="A|B"),
                  unit("3", places[1], physicalObjectName="B"))
@@ -291,8 +324,17 @@ def values() -> Named:
     for text in ("3/1/74", "13/12/1774", "3/1/7", "123/1/74", "3-Jan", "03-Jan", "3-Jan-74", "3-Jan-1774", "Jan-74", "Jan-7",
                  "jan-74", "3-Feb", "Mar-1774", "May-12", "12-Sep", "Dec-99", "1E+5", "1.2E+05", "1,2e+10", "1E5", "1.E+5",
                  "#NAME?", "#REF!", "#VALUE!", "#N/A", "#DIV/0!", "#NUM!", "#NULL!", "##", "###", "####x", "x 3/1/74",
-                 "3/1/74 x", "1774|3/1/74", "NULL|Jan-74", "1774|1775", " 3/1/74 ", "3/1/74|4-Mar"):
+                 "3/1/74 x", "1774|3/1/74", "NULL|Jan-74", "1774|1775", " 3/1/74 ", "3/1/74|4-Mar",
+                 "3/1/1974", "01.03.1974", "01-03-1974", "3/3/1974", "13/3/1974", "1-mars", "01. Mrz", "Mrz 74", "1-Μαρ",
+                 "μαρ-74", "1 mars 1974", "27089", "27089,5", "1974", "270890", "#¿NOMBRE?", "#WERT!", "#VALEUR!", "#ΤΙΜΗ!",
+                 "#NV", "#N/D", "#Δ/Υ", "Err:502", "#1", "#tag!", "TRUE", "True", "WAHR", "FAUX", "ΨΕΥΔΗΣ", "\\N", "nan",
+                 "Nan", "NULL", "<NA>"):
         yield f"reshaped {text!r}", few(unit("1", eventDates=text), unit("2", identifier=text, title=text)).encode()
+    for text in ("<p>Docks</p>", "a<br/>b", "&nbsp;", "&eacute;", "&#8217;", "a < b > c", "<Box 1>", "R&D; x", "<a href='x'>"):
+        yield f"marks {text!r}", few(unit("1"), unit("2", title=text)).encode()
+    for many in (32760, 32761, 32768, 32769):
+        yield f"{many} letters", few(unit("1", title="é" * (many - 9) + "the end, ")).encode()
+        yield f"{many} letters, of two each", few(unit("1", title=ASTRAL * (many // 2) + "x" * (many % 2))).encode()
     yield "reshaped numbers alone", few(unit("3-Jan"), unit("4-Jan", "3-Jan")).encode()
     for letter in UNSEEN + SEEN:
         yield f"hidden {ord(letter):04x} after", few(unit(f"1{letter}"), unit("2", "1", culture=f"en{letter}")).encode()
@@ -361,5 +403,5 @@ def converted() -> Named:
 
 
 GROUPS: dict[str, Callable[[], Named]] = {group.__name__: group for group in (
-    ways, zips, beginnings, exports, headers, rows, limits, repeats, parents, numbers, words, boxes, values, events, quotes,
-    converted)}
+    ways, zips, encodings, beginnings, exports, headers, rows, limits, repeats, parents, numbers, words, boxes, values, events,
+    quotes, converted)}

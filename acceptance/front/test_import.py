@@ -153,6 +153,26 @@ def test_what_a_file_was_taken_for_is_agreed_to_before_it_is_sent(choose, state,
     assert "GB 0999 CAF [-] Café de l’Écluse; records" in asks.text(f"/public/units/{state.fonds('CAF')}")
 
 
+def test_another_encoding_is_chosen_and_dates_are_filled_in_before_a_file_is_sent(choose, state, asks):
+    """What the letters say is proposed; the office gets what the page shows."""
+    columns = ("legacyId", "identifier", "title", "publicationStatus", "eventStartDates", "eventEndDates", "eventDates")
+    row = unit("1", identifier="ATH", title="Αρχείο του Δήμου", eventStartDates="1835-01-01", eventEndDates="1914-12-31")
+    desk = choose(csv_text(row, columns=columns).encode("cp1253"), "greek")
+    desk.see("title: Αρχείο του Δήμου", ".seen-in-file .note.warns")
+    for encoding, title in (("1251", "БсчеЯп фпх ДЮмпх"), ("1253", "Αρχείο του Δήμου")):
+        desk.js(f"(() => {{ const one = document.querySelector('.seen-in-file select'); one.value = 'Windows-{encoding}';"
+                " one.dispatchEvent(new Event('change')); })()")
+        desk.see(f"title: {title}", ".seen-in-file .note.warns")
+    desk.see("which would become “1835-1914”", ".seen-in-file")
+    desk.press("Fill in eventDates")
+    desk.see("eventDates is filled in from eventStartDates and eventEndDates", ".seen-in-file")
+    assert "undated" not in str(advice(desk))
+    send(desk)
+    desk.see("was imported from the source greek.", ".outcome")
+    page = asks.text(f"/public/units/{state.fonds('ATH')}")
+    assert "Αρχείο του Δήμου" in page and "1835-1914" in page
+
+
 def test_containers_that_another_archive_names_too_are_told(choose):
     box = {"physicalObjectName": "Box 2", "physicalObjectLocation": "Strongroom 1"}
     desk = choose(csv_text(unit("1", title="Another archive", **box)))
@@ -271,7 +291,7 @@ def test_a_look_at_anything_ends_within_its_bounds(look):
     status, told = look(large)
     print(f"a look at {len(large):,} bytes took {time.monotonic() - began:.1f} s")
     assert (status, json.loads(told)["counts"]["units"]) == (200, 20000)
-    assert look(b"legacyId\n" + b"1\n" * 4_000_000) == (500, '{"error": "failed"}')
+    assert look(b"legacyId\n" + b"1\n" * 2_500_000) == (500, '{"error": "failed"}'), "a look takes all memory"
     assert look(GOOD)[0] == 200
 
 

@@ -240,6 +240,23 @@ def test_what_a_file_is_taken_for_is_told_before_it_is_converted(command, room):
     assert (status, "there is nothing to convert" in told, (room / "other.csv").exists()) == (0, True, False)
 
 
+def test_an_encoding_is_chosen_and_dates_are_filled_in(command, room):
+    """Dates in a column that is there, or is added; a row that has its own keeps them, as does one of too few fields."""
+    told = command("--convert", "greek.csv", "--encoding", "Windows-1253", "old.csv")[1]
+    assert "is taken for Windows-1253 with semicolons" in told
+    assert "12 plan ι".encode() in (room / "greek.csv").read_bytes()
+    for name, header, rows, wanted in (
+            ("one", "legacyId,eventDates,eventStartDates,eventEndDates",
+             ("1,,1774-01-01,1893-12-31", "2,1800,1774,", "3,", "4,,,"),
+             ("1,1774-1893,1774-01-01,1893-12-31", "2,1800,1774,", "3,", "4,,,")),
+            ("other", "legacyId,eventStartDates", ("1,1774|NULL", "2"), ("1,1774|NULL,1774-|", "2"))):
+        (room / f"{name}.csv").write_text("\n".join((header, *rows)))
+        assert command(f"{name}.csv")[1].count("eventDates is blank") == 1
+        command("--convert", f"{name}-new.csv", "--dates", f"{name}.csv")
+        found = (room / f"{name}-new.csv").read_text().splitlines()
+        assert (found[0], found[1:]) == (header if "eventDates" in header else f"{header},eventDates", list(wanted))
+
+
 def test_whoever_has_read_enough_ends_the_command(room):
     (room / "many.csv").write_text(SHORT)
     words = f"{PYTHON} {FRONT}/look/record_office_look.py {'many.csv ' * 3000} | head -1"

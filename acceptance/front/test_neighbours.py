@@ -103,6 +103,7 @@ def test_a_day_is_that_day_wherever_the_server_is(asks, office, closed, zone):
 def test_a_day_is_that_day_wherever_the_desks_computer_is(desk, closed, zone):
     desk.call("Emulation.setTimezoneOverride", timezoneId=zone)
     desk.at(f"/units/{SERIES}").see("Published, and closed until 2030-01-01.", ".state")
+    desk.see("closed until 1 January 2030", "main .head")
     told = desk.js("import('./days.js').then(({ dayOfThisComputer }) => dayOfThisComputer())")
     assert told == desk.js("new Intl.DateTimeFormat('sv').format(new Date())")
 

@@ -1,9 +1,10 @@
 // The service that looks at files, tries imports on the copy of the night, and keeps the last file of each source. It may be
 // away: then these pages do without it.
 
-/** { ok: true, value: { advice, counts, units, boxes, text } } as look_for_page.py says, or { ok: false, kind }: `away` or `failed`. */
-export async function lookAt(bytes) {
-  const response = await post('look', bytes);
+/** { ok: true, value: { advice, counts, units, boxes, encoding, text } } as look_for_page.py says, or { ok: false, kind }: `away` or `failed`.
+ * encoding: one of Windows' that was chosen; fillsDates: whether eventDates is filled from the other two columns. */
+export async function lookAt(bytes, { encoding, fillsDates }) {
+  const response = await post(`look${encoding ? `/${encoding}` : ''}${fillsDates ? '/dates' : ''}`, bytes);
   if (isAway(response)) return { ok: false, kind: 'away' };
   try {
     return response.ok ? { ok: true, value: await response.json() } : { ok: false, kind: 'failed' };

@@ -3,6 +3,7 @@
 // take the file in unseen.
 
 import { el, table } from '../shared/dom.js';
+import { selectField } from '../shared/fields.js';
 import { note } from '../shared/form.js';
 import { counted, quoted, text, written } from '../shared/language.js';
 import { LARGEST_FILE } from '../shared/limits.js';
@@ -15,6 +16,11 @@ const COUNTS = {
   rows: text('Rows'), units: text('Units'), drafts: text('Drafts'), translations: text('Translations'),
   tops: text('Top units'), containers: text('Containers'),
 };
+const ENCODINGS = [
+  ['Windows-1252', text('Windows-1252 (Western Europe)')], ['Windows-1250', text('Windows-1250 (Central Europe)')],
+  ['Windows-1251', text('Windows-1251 (Cyrillic)')], ['Windows-1253', text('Windows-1253 (Greek)')],
+  ['Windows-1254', text('Windows-1254 (Turkish)')],
+];
 const UNREAD = { ok: false, kind: 'unread here' };
 const STOPPED = { ok: false, kind: 'stopped' };
 const UNCONFIRMED = { ok: false, kind: 'unconfirmed' };
@@ -37,7 +43,7 @@ const PROBLEMS = {
 export function fileReader(input) {
   const reader = {
     panel: el('div', { class: 'seen-in-file', role: 'status' }), reading: Promise.resolve(),
-    seen: null, problem: null, newest: null, chosen: null,
+    seen: null, problem: null, newest: null, chosen: null, how: {},
     toSend: (file) => (typeof reader.seen?.text === 'string' ? new File([reader.seen.text], file.name) : file),
     objection: (file) => objectionTo(reader, file),
     words: (answer) => WORDS[answer.kind] ?? refusalOfRow(reader, answer),
@@ -49,14 +55,14 @@ export function fileReader(input) {
   return reader;
 }
 
-async function read(reader, file) {
-  Object.assign(reader, { seen: null, problem: null, chosen: file });
+async function read(reader, file, how = {}) {
+  Object.assign(reader, { seen: null, problem: null, chosen: file, how });
   reader.panel.replaceChildren();
   if (!file || file.size > LARGEST_FILE) return reader.panel.replaceChildren(...(file ? [tooLarge()] : []));
   reader.panel.replaceChildren(el('p', { class: 'waiting' }, text('Reading the file …')));
   const bytes = await bytesOf(file);
-  const answer = bytes && await lookAt(bytes);
-  if (reader.chosen !== file) return null; // another one was chosen meanwhile
+  const answer = bytes && await lookAt(bytes, how);
+  if (reader.how !== how) return null; // another one was chosen meanwhile, or another way to read it
   Object.assign(reader, { seen: answer?.ok ? answer.value : null, problem: answer?.ok === false ? answer.kind : null });
   return reader.panel.replaceChildren(...(answer ? panelParts(reader) : []));
 }
@@ -89,13 +95,27 @@ function told(one) {
 
 const hasLevel = ({ advice }, wanted) => advice.some(([, level]) => level === wanted);
 
-function panelParts({ seen, problem }) {
+/** What may be read otherwise: the letters of one of Windows' encodings, and dates that stand in two other columns. */
+function otherwise(reader) {
+  const { seen, how } = reader;
+  const again = (change) => { reader.reading = read(reader, reader.chosen, { ...how, ...change }); };
+  const encoding = selectField('', text('Encoding'), seen.encoding ? ENCODINGS : [['', text('None of these')], ...ENCODINGS]);
+  const select = encoding.querySelector('select');
+  select.value = seen.encoding ?? '';
+  select.addEventListener('change', () => again({ encoding: select.value }));
+  const fill = el('button', { type: 'button', click: () => again({ fillsDates: true }) }, text('Fill in eventDates'));
+  return [seen.encoding !== null && encoding, seen.advice.some(([name]) => name === 'undated') && el('p', { class: 'buttons' }, fill),
+    how.fillsDates && el('p', { class: 'hint' }, text('In what the office gets, eventDates is filled in from eventStartDates and eventEndDates.'))];
+}
+
+function panelParts(reader) {
+  const { seen, problem } = reader;
   if (problem) {
     const [means, todo] = PROBLEMS[problem];
     return [note('warns', el('p', { 'data-advice': problem }, el('strong', {}, means), ' ', todo)), confirmation(text('Take it in unseen'))];
   }
   const parts = Object.keys(LEVELS).map((level) => noteOf(level, seen.advice.filter(([, one]) => one === level)));
-  return [...parts, hasLevel(seen, 'ask') && !hasLevel(seen, 'stop') && confirmation(text('Take it in all the same')),
+  return [...parts, ...otherwise(reader), hasLevel(seen, 'ask') && !hasLevel(seen, 'stop') && confirmation(text('Take it in all the same')),
     seen.counts && countTable(seen.counts), seen.boxes.length > 0 && sameBoxes(seen)].flat().filter(Boolean);
 }
 

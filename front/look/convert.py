@@ -5,13 +5,14 @@ import re
 from dataclasses import dataclass
 
 from csv_records import BLANK, lost_quote, records
+from dates import fill
 from look_at_values import GARBLED
 from packed import SIGN, unpack
+from windows_encodings import codec, is_utf8_with_faults, proposed
 from wording import text
 
 SEP = re.compile("sep=([^\r\n])?(\r\n|\n|\r|$)", re.I)
 QUOTED = re.compile('[",\r\n]')
-UNDEFINED = re.compile("[\u0081\u008d\u008f\u0090\u009d]")  # not used by Windows-1252
 FOREIGN = re.compile("[^ \t\r\n\";,|]*[^\x00-\x7f][^ \t\r\n\";,|]*")
 SHOWN = 5
 
@@ -29,10 +30,11 @@ class Converted:
     data: bytes
 
 
-def convert(data, rules):
-    """The file as an office reads it; None if it is so already, or if it is not clear what it is."""
+def convert(data, rules, chosen=None, fills_dates=False):
+    """The file as an office reads it; None if it is so already, or if it is not clear what it is. chosen: its encoding, if
+    not one of Unicode; fills_dates: whether eventDates is filled from the other two columns."""
     is_packed = data.startswith(SIGN)
-    decoded = decode(unpack(data)[0] if is_packed else data)
+    decoded = decode(unpack(data)[0] if is_packed else data, chosen)
     if not decoded:
         return None
     marked, encoding = decoded
@@ -40,19 +42,22 @@ def convert(data, rules):
         encoding = f"ZIP, {encoding}"
     whole = marked.lstrip("\ufeff")
     rest, separator = split_by(whole, rules)
-    if not separator or (encoding == "UTF-8" and separator == "," and rest == marked.removeprefix("\ufeff")):
+    is_right = encoding == "UTF-8" and separator == "," and rest == marked.removeprefix("\ufeff")
+    if not separator or (is_right and not fills_dates):
         return None
     rows, is_open = records(rest, separator)
     if not rows or is_open:
         return None
+    if fills_dates:
+        fill(rows)
     mark = rules["separators"].get(separator)
     name = text(mark) if mark else text("commas")
     return Converted(encoding, name, first_values(rows), foreign_words(rest), lost_quote(rest, separator),
                      write(rows).encode())
 
 
-def decode(data):
-    """The text of the bytes and the name of its encoding; None if it is no text, or not clearly of one encoding."""
+def decode(data, chosen=None):
+    """The text of the bytes and the name of its encoding, which may be chosen; None if it is no text, or not clear."""
     if not data:
         return None
     if data[:4] in (codecs.BOM_UTF32_LE, codecs.BOM_UTF32_BE):
@@ -63,19 +68,23 @@ def decode(data):
         return decoded_as(data, "utf-16-le" if is_little else "utf-16-be", "UTF-16")
     if b"\0" in data:
         return None
-    return decoded_as(data, "utf-8", "UTF-8") or decoded_as(data, "cp1252", "Windows-1252")
+    if found := decoded_as(data, "utf-8", "UTF-8"):
+        return found
+    if not chosen and (GARBLED.search(data.decode("cp1252", "ignore")) or is_utf8_with_faults(data)):
+        return None
+    name = chosen or proposed(data)
+    return decoded_as(data, codec(name), name)
 
 
 def decoded_as(data, codec, name):
-    """The text and the name; None if the bytes do not fit. UTF-8 with a fault in it does not count as Windows-1252."""
+    """The text and the name; None if the bytes do not fit."""
     try:
         file = data.decode(codec)
     except UnicodeDecodeError:
         return None
     if file.lstrip(BLANK).startswith(("<", "PK\x03\x04", "%PDF", "{\\rtf")):
         return None
-    is_mixed = name == "Windows-1252" and (UNDEFINED.search(file) or GARBLED.search(file))
-    return None if is_mixed else (file, name)
+    return file, name
 
 
 def split_by(whole, rules):

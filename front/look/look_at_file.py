@@ -4,6 +4,7 @@ from dataclasses import dataclass, field
 import re
 
 from csv_records import BLANK, LINE_END, Row, entries, lost_quote, place_of, records
+from dates import dates_of
 from look_at_units import look_at_units
 from look_at_values import look_at_values
 from packed import SIGN, unpack
@@ -60,6 +61,8 @@ class Look:
     def at(self, data):
         """Returns what is seen of a file with these bytes."""
         seen = Seen()
+        if len(data) > self.limits["bytes"]:
+            seen.say("large", size=self.limits["bytes"] >> 20)
         file = self.text_of(data, seen)
         if file is None:
             return seen
@@ -189,6 +192,10 @@ class Look:
         if not reader.faults:
             look_at_units(reader, "publicationStatus" in header, self.limits["depth"], seen)
         look_at_values(filled, reader, seen)
+        undated = [(row, dates) for row in filled if (dates := dates_of(row, reader.header))]
+        if undated:
+            row, dates = undated[0]
+            seen.say("undated", rows=len(undated), row=row.number, sheet=row.sheet, found=dates)
         seen.units = list(reader.units.values())
         seen.counts = {
             "rows": sum(any(row.fields) for row in filled),

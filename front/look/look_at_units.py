@@ -9,6 +9,9 @@ DECIMALS = re.compile(r"([0-9]+)[.,]0+")
 LONGEST_CIRCLE = 200
 UNSEEN = "\u00a0\u00ad\u034f\u061c\u1680\u180e\u2000-\u200f\u2028-\u202f\u205f-\u2064\u3000\ufeff"
 AT_END = re.compile(f"^[{UNSEEN}]+|[{UNSEEN}]+$")
+WHOLE_CODE = re.compile("[A-Z]{2}[ -][0-9A-Za-z]{1,16}[ /-].+")  # country, repository, and more
+SEVERAL = re.compile(r"[0-9][ ]*(?:[;,&+]|\b(?:a|and|bis|et|to|und|y|à|έως|και)\b)[^0-9]{0,12}[0-9]")
+RANGE = re.compile(r"(?<![0-9])([0-9]{1,4})[ ]*[-–][ ]*([0-9]{1,4})$")
 CULTURE = re.compile("[a-z]{2,3}([_@-][0-9A-Za-z_@-]+)?")
 
 
@@ -25,6 +28,7 @@ def look_at_units(reader, has_status, depth, seen):
     look_at_numbers(units, seen)
     look_at_zeros(units, seen)
     look_at_codes(units, seen)
+    look_at_notes(reader, seen)
     look_at_lengths(units, reader.limits["code"], seen)
     look_at_cultures(reader, seen)
     look_at_boxes(units, seen)
@@ -145,6 +149,18 @@ def look_at_codes(units, seen):
     ]
     if again:
         seen.say("full_codes", **first_of(again), code=f"{units[again[0].parent].identifier}/{again[0].identifier}")
+    if whole := [unit for unit in units.values() if WHOLE_CODE.fullmatch(unit.identifier)]:
+        seen.say("whole_codes", **first_of(whole), found=whole[0].identifier)
+
+
+def look_at_notes(reader, seen):
+    """Says which rows are no units: without a title, and with a word where others have numbers, or with nothing else."""
+    units = list(reader.units.values())
+    has_numbers = 2 * sum(unit.legacy.isdecimal() for unit in units) >= len(units)
+    notes = [unit for unit in units if unit.title in ("", unit.legacy) and not unit.legacy.isdecimal()
+             and (has_numbers or sum(map(bool, unit.row.fields)) == 1)]
+    if notes and "title" in reader.place:
+        seen.say("notes", **first_of(notes), found=notes[0].legacy[:40])
 
 
 def look_at_lengths(units, most, seen):
@@ -191,6 +207,18 @@ def look_at_boxes(units, seen):
     shared = [box_words(box) for box, some in archives.items() if len(some) > 1]
     if shared:
         seen.say("boxes_shared", boxes=shared)
+    several = [box_words(box) for box in archives if has_several(box[0])]
+    if several:
+        seen.say("boxes_several", boxes=several)
+    partly = [unit for unit in units.values() if len({bool(box[1]) for box in unit.boxes}) == 2]
+    if partly:
+        seen.say("boxes_unplaced", **first_of(partly), found=next(box[0] for box in partly[0].boxes if not box[1]))
+
+
+def has_several(name):
+    """Whether a container's name seems to be that of several."""
+    found = RANGE.search(name)
+    return SEVERAL.search(name) is not None or (found is not None and int(found[1]) < int(found[2]))
 
 
 def box_words(box):

@@ -13,6 +13,7 @@ import sys
 
 from convert import convert
 from look_at_file import Look
+from windows_encodings import LETTERS
 from wording import advice, in_english, read_rules
 
 LEVELS = {"stop": "refused: ", "ask": "look first: ", "note": "note: "}
@@ -29,20 +30,23 @@ def main(arguments=None):
     parser.add_argument("--convert", metavar="NEW", type=pathlib.Path,
                         help="write what an office reads to this new file, if FILE is a ZIP, or has semicolons, tabs, UTF-16, "
                         "UTF-32 or Windows-1252")
+    parser.add_argument("--encoding", choices=LETTERS, help="the encoding of FILE, for NEW (default: what its letters say)")
+    parser.add_argument("--dates", action="store_true", help="fill eventDates from eventStartDates and eventEndDates in NEW")
     given = parser.parse_args(arguments)
     if given.convert and len(given.files) > 1:
         parser.error("--convert takes one FILE")
     rules = read_rules()
-    statuses = [look_at(path, given.convert, rules) for path in given.files]
+    how = given.encoding, given.dates
+    statuses = [look_at(path, given.convert, how, rules) for path in given.files]
     return max(statuses)
 
 
-def look_at(path, new, rules):
-    """Looks at one file, and converts it if NEW is given; the exit status."""
+def look_at(path, new, how, rules):
+    """Looks at one file, and converts it if NEW is given, in that way; the exit status."""
     try:
         data, lost = path.read_bytes(), False
         if new:
-            data, lost = write_converted(path, data, new, rules)
+            data, lost = write_converted(path, data, new, how, rules)
     except OSError as fault:
         print(f"{fault.filename or path}: {fault.strerror}", file=sys.stderr)
         return 3
@@ -50,10 +54,10 @@ def look_at(path, new, rules):
     return 1 if lost or {"stop", "ask"} & levels else 0
 
 
-def write_converted(path, data, new, rules):
+def write_converted(path, data, new, how, rules):
     """Says what the file was taken for, writes what it becomes, and returns that, and whether a quotation mark is lost in
     it; the bytes as they are if nothing is to be converted."""
-    found = convert(data, rules)
+    found = convert(data, rules, *how)
     if not found:
         print(f"{path}: there is nothing to convert, and {new} is not written")
         return data, False

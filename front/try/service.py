@@ -2,7 +2,8 @@
 
     service.py --copies FOLDER --files FOLDER --listen SOCKET [--program PROGRAM]
 
-POST /try/look, with a file as its body, is answered with the JSON of look_for_page.py, which runs by itself, within bounds.
+POST /try/look, with a file as its body, is answered with the JSON of look_for_page.py, which runs by itself, within bounds;
+/try/look/Windows-1253/dates chooses an encoding, and has dates filled in.
 POST /try/differences/SOURCE, with a file as its body, is answered with JSON: copy, answer, refused, differences.
 POST /try/imported/SOURCE keeps the file, which was imported, as the last one of its source."""
 
@@ -23,7 +24,7 @@ from kept_files import NoCopy, is_source, keep_file, last_file, newest_copy
 from wording import read_rules
 
 LARGEST_FILE = 8 * 1024 * 1024
-PATH = re.compile("/try/(?:(look)|(differences|imported)/([^/]+))")
+PATH = re.compile("/try/(?:(look)(/Windows-125[0-4])?(/dates)?|(differences|imported)/([^/]+))")
 LOOK = pathlib.Path(__file__).resolve().parents[1] / "look/look_for_page.py"
 LOOKS, LONGEST_LOOK = 2, 100  # at a time; seconds
 
@@ -48,7 +49,7 @@ class Service:
     def answer(self, environ):
         """The status and the answer."""
         found = PATH.fullmatch(environ.get("PATH_INFO", ""))
-        if not found or not (found[1] or is_source(found[3])):
+        if not found or not (found[1] or is_source(found[5])):
             return "404 Not Found", {"error": "not found"}
         if environ["REQUEST_METHOD"] != "POST":
             return "405 Method Not Allowed", {"error": "method not allowed"}
@@ -56,9 +57,9 @@ class Service:
         try:
             if found[1]:
                 with self.looks:
-                    return "200 OK", look(data)
+                    return "200 OK", look(data, found[2], found[3])
             with self.one:
-                return "200 OK", self.tried(found[3], data) if found[2] == "differences" else self.kept(found[3], data)
+                return "200 OK", self.tried(found[5], data) if found[4] == "differences" else self.kept(found[5], data)
         except NoCopy as missing:
             print(f"{missing.filename}: {missing.strerror}", flush=True)
             return "409 Conflict", {"error": "no copy"}
@@ -80,9 +81,10 @@ class Service:
         return {"kept": source}
 
 
-def look(data):
-    """What is to be seen in these bytes."""
-    words = [sys.executable, "-B", "-s", LOOK]
+def look(data, encoding, dates):
+    """What is to be seen in these bytes, if they are read so."""
+    how = [*(["--encoding", encoding[1:]] if encoding else []), *(["--dates"] if dates else [])]
+    words = [sys.executable, "-B", "-s", LOOK, *how]
     done = subprocess.run(words, input=data, capture_output=True, timeout=LONGEST_LOOK, check=False)
     if done.returncode:
         raise ValueError(f"the look has ended with {done.returncode}: {done.stderr.decode(errors='replace').strip()[-200:]}")
