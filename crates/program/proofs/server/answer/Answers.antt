@@ -37,5 +37,5 @@ returns-clause-answered g c =
       flushed = ends.flushed c.new-sink.ensures.uncalled.none_waits;
       calls = no_more_calls _ _ _ ends.calls.1 c.new-source.ensures.uncalled.none_made;
     } in
-    let told = ap₂ (λ r w. after_leaving (g.P.Port.history c.args.port.now) r w c.talk-ended.result) (ap₂ spent left c.reads-reads.ensures) (ap₂ spent held c.writes-writes.ensures) in
+    let told = ap₂ (λ r w. after_leaving (g.P.Port.history c.args.port.now) r w c.talk-ended.result) (ap₂ spent left c.told-reads.ensures) (ap₂ spent held c.told-writes.ensures) in
     (it, refl, refl, heard, c.leave.ensures ∙ told, through)
