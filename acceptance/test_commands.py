@@ -244,7 +244,7 @@ def test_a_file_that_is_no_store_stays_with_an_empty_log(content: bytes, program
     assert office.store.read_bytes() == content
 
 
-@pytest.mark.parametrize("length", [252, 255, 256])
+@pytest.mark.parametrize("length", [248, 251, 252, 255, 256])
 def test_no_office_is_made_whose_files_would_have_too_long_names(length: int, program: Program, room: Path) -> None:
     assert Office(program, room / ("a" * 247)).init() == DONE
     assert Office(program, room / ("b" * length)).init() == FILE_FAULT

@@ -82,8 +82,8 @@ def noticed_by_acceptance(tree, edit, seconds):
 def noticed_by_compiler(tree, edit, seconds):
     """Whether the crate with the mutant does not compile, for an error in the edited file."""
     copy_sources(tree, edit)
-    words = ["rt", "try", "--test"]
-    ran = subprocess.run(words, cwd=tree / "crates" / "model_tests", capture_output=True, text=True, timeout=seconds)
+    words, tests = ["rt", "try", "--test"], "program_tests" if edit.crate == "program" else "model_tests"
+    ran = subprocess.run(words, cwd=tree / "crates" / tests, capture_output=True, text=True, timeout=seconds)
     told = ran.stdout + ran.stderr
     return any(f"{edit.record.file}:" in line and " error" in line for line in told.splitlines()), told
 

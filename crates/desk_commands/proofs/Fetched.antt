@@ -1,9 +1,9 @@
 -- What a run takes, by the rows of the desk and in the state: its lines, its containers and its number.
-use Rattle.std.proofs.Common.{◌≡◌, ℕ, zero, suc, ◌+◌, ◌-◌, ◌<◌, ◌≤◌, drop, Bool, true, false, cond, ◌&&◌, ◌||◌, nat_eq}
-use Rattle.std.proofs.Common.{List, [], ◌∷◌, ◌++◌, length, map, filter, take, Option, Some, None, inl, inr, refl, sym}
-use Rattle.std.proofs.Common.{ap, ap₂, subst, ◌∙◌, arith}
+use Rattle.std.proofs.Common.{◌≡◌, ℕ, zero, suc, ◌+◌, ◌<◌, ◌≤◌, drop, get_or, Bool, true, false, cond, ◌&&◌, ◌||◌}
+use Rattle.std.proofs.Common.{nat_eq, List, [], ◌∷◌, ◌++◌, length, map, filter, take, Option, Some, None, inl, inr}
+use Rattle.std.proofs.Common.{refl, sym, ap, ap₂, subst, ◌∙◌, arith}
 use Rattle.std.proofs.lemmas.List.{append-nil}
-use Rattle.std.proofs.lemmas.List.Elements.{filter-append}
+use Rattle.std.proofs.lemmas.List.Elements.{filter-append, filter_more}
 use Rattle.std.specs.List.{IsDistinct}
 use Rattle.desk_core.proofs.OrderLemmas.{in_order-permutation}
 use Rattle.desk_core.specs.Orders.{in_order}
@@ -51,31 +51,18 @@ enough_with [] test most i xs low = enough test most i xs low
 enough_with (x ∷ first) test zero i xs low = refl
 enough_with (x ∷ first) test (suc most) i xs low = ap (λ l. x ∷ l) (enough_with first test most i xs (omega (arith, low)))
 
-nothing_taken : {X : Type 0} (n : ℕ) (xs : List X) → xs ≡ [] → take n xs ≡ []
-nothing_taken zero xs e = refl
-nothing_taken (suc n) xs e = rw e refl
-
-split_at : {X : Type 0} (xs : List X) (i j : ℕ) → i ≤ j → take i xs ++ take (j - i) (drop i xs) ≡ take j xs
-split_at xs zero j low = let e : j - 0 ≡ j = omega arith in ap (λ n. take n xs) e
-split_at xs (suc i) zero low = absurd (omega (arith, low))
-split_at [] (suc i) (suc j) low = nothing_taken (suc j - suc i) [] refl
-split_at (x ∷ xs) (suc i) (suc j) low =
-    let e : suc j - suc i ≡ j - i = omega arith in
-    ap (λ l. x ∷ l) (ap (λ n. take i xs ++ take n (drop i xs)) e ∙ split_at xs i j (omega (arith, low)))
-
--- those of one more part
-part_more : {X : Type 0} (test : X → Bool) (xs : List X) (i j : ℕ) → i ≤ j
-    → filter test (take i xs) ++ filter test (take (j - i) (drop i xs)) ≡ filter test (take j xs)
-part_more test xs i j low =
-    sym (filter-append test (take i xs) (take (j - i) (drop i xs))) ∙ ap (filter test) (split_at xs i j low)
-
--- so they are found after the others
-pub part_found : (s : State) (first waiting : List ContainerOrder) (i j : ℕ) {due found more : List ContainerOrder} → i ≤ j
-    → due ≡ first ++ open_ones s (take i waiting) → found ≡ open_ones s (take (j - i) (drop i waiting)) → more ≡ due ++ found
-    → more ≡ first ++ open_ones s (take j waiting)
-part_found s first waiting i j {found = found} low due_is found_is more_is =
-    more_is ∙ ap₂ ◌++◌ due_is found_is ∙ append_assoc first (open_ones s (take i waiting)) (open_ones s (take (j - i) (drop i waiting)))
-    ∙ ap (λ l. first ++ l) (part_more (λ (o : ContainerOrder). opens s o.ticket o.container) waiting i j low)
+-- one more of these orders was looked at
+pub one_found : (s : State) (first waiting : List ContainerOrder) (i : ℕ) (order : ContainerOrder) → i < length waiting
+    → order ≡ get_or waiting i order → (answer : Bool) → answer ≡ opens s order.ticket order.container
+    → {due more : List ContainerOrder} → due ≡ first ++ open_ones s (take i waiting) → more ≡ due ++ cond answer (order ∷ []) []
+    → more ≡ first ++ open_ones s (take (i + 1) waiting)
+one_found s first waiting i order low is answer opened due_is more_is =
+    let test : ContainerOrder → Bool = λ o. opens s o.ticket o.container in
+    let x = get_or waiting i order in
+    more_is
+    ∙ ap₂ ◌++◌ due_is (ap (λ b. cond b (order ∷ []) []) opened ∙ ap (λ (o : ContainerOrder). cond (test o) (o ∷ []) []) is)
+    ∙ append_assoc first (open_ones s (take i waiting)) (cond (test x) (x ∷ []) [])
+    ∙ ap (λ l. first ++ l) (sym (filter_more test waiting i order low))
 
 -- those of the first that pass both tests are as many as are sought
 pub head_enough : {X : Type 0} (opened shelved : X → Bool) (most i : ℕ) (xs : List X) → length (filter opened (filter shelved (take i xs))) ≡ most

@@ -2,6 +2,7 @@
 
 ghost use Rattle.std.specs.Prelude.{◌≡◌, None, Some, IfOk, option_map};
 ghost use Rattle.std.specs.Result.{result_err};
+ghost use Rattle.catalogue_core.specs.UnitMarks.{AreWalkMarks};
 ghost use Rattle.desk_core.specs.Checks.{issue_checks};
 ghost use Rattle.desk_core.specs.Decisions.{issue_facts};
 ghost use Rattle.desk_core.specs.Refusals.{first_that_holds};
@@ -14,11 +15,12 @@ ghost use Rattle.desk_commands.specs.Issuance.{IsQueuedFor, asked_for};
 ghost use Rattle.desk_commands.specs.SparedCatalogue.{PerformsSparing};
 
 use crate::container_moves::hand_over;
-use access::is_open_to;
 use catalogue_store::Places;
 use desk_core::{AtDesk, Limits, Place, Reader, known_container, may_issue};
 use desk_store::{OrderState, QueueHead, WaitingOrder, queue_head, ticket_holder};
 use isad_core::{Day, Number};
+use known_access::is_open_today;
+use known_forest::KnownForest;
 use office_core::{Done, Refusal};
 use office_tables::{StoreFault, Tables};
 use sqlite::Alter;
@@ -74,9 +76,11 @@ fn lend<P: Places, S: Alter>(
 }
 
 /// Issues a container to a reader if no rule forbids it. The container is known, and `head` is the head of its queue.
+/// `known` must be the marks of all units.
 fn issue_known<P: Places, S: Alter>(
     alloc: Global,
     tables: &mut Tables<P, S>,
+    known: &KnownForest,
     today: Day,
     limits: &Limits,
     container: Number,
@@ -84,11 +88,12 @@ fn issue_known<P: Places, S: Alter>(
     head: QueueHead,
 ) -> Result<Result<Done, Refusal>, StoreFault>
     ensures { PerformsSparing P.represents P.version S.Store
-        (λ s. (today ≡ s.day) × (limits.now ≡ limits_of s) × IsQueuedFor s container head.place head.first)
+        (λ s. (today ≡ s.day) × (limits.now ≡ limits_of s) × IsQueuedFor s container head.place head.first
+        × AreWalkMarks s.catalogue.forest known.now)
         (command.Issue container ticket) tables.old tables.new result }
 {
     let who = ticket_holder(alloc, tables, ticket)?;
-    let is_open = is_open_to(alloc, tables, container, ticket, today)?;
+    let is_open = is_open_today(alloc, tables, known, container, ticket, today)?;
     match decide(head, is_open, ticket, who, today, limits) {
         Ok(order) => lend(tables, container, ticket, order),
         Err(why) => Ok(Err(why)),
@@ -99,21 +104,23 @@ fn issue_known<P: Places, S: Alter>(
 /// reader, the reader's order the first in its queue. The reader must have a valid ticket and a seat, and may hold one
 /// more container. Otherwise, also if the container is not known, the command is refused, by the first of
 /// `issue_checks` that does not hold. After a refusal the caller must roll the transaction back. `today` and `limits`
-/// must be the office's.
+/// must be the office's, and `known` the marks of all its units.
 pub fn issue<P: Places, S: Alter>(
     alloc: Global,
     tables: &mut Tables<P, S>,
+    known: &KnownForest,
     today: Day,
     limits: &Limits,
     container: Number,
     ticket: Number,
 ) -> Result<Result<Done, Refusal>, StoreFault>
-    ensures { PerformsSparing P.represents P.version S.Store (λ s. (today ≡ s.day) × (limits.now ≡ limits_of s))
+    ensures { PerformsSparing P.represents P.version S.Store
+        (λ s. (today ≡ s.day) × (limits.now ≡ limits_of s) × AreWalkMarks s.catalogue.forest known.now)
         (command.Issue container ticket) tables.old tables.new result }
 {
     let found = queue_head(alloc, tables, container)?;
     match known_container(found) {
-        Ok(head) => issue_known(alloc, tables, today, limits, container, ticket, head),
+        Ok(head) => issue_known(alloc, tables, known, today, limits, container, ticket, head),
         Err(why) => Ok(Err(why)),
     }
 }

@@ -2,6 +2,7 @@
 
 ghost use Rattle.std.specs.Prelude.{◌≡◌, nat_eq};
 ghost use Rattle.std.specs.List.{list_any};
+ghost use Rattle.catalogue_core.specs.UnitMarks.{AreWalkMarks};
 ghost use Rattle.desk_store.specs.declared.reader_summary.LiveOrder.{LiveOrder as Live};
 ghost use Rattle.office_core.specs.State.{opens};
 ghost use Rattle.office_core.specs.declared.command.Command.TheVariants as command;
@@ -9,11 +10,12 @@ ghost use Rattle.refinement.specs.ReadingRoomLimits.{limits_of};
 ghost use Rattle.desk_commands.specs.OrderPlacement.{IsCardOf, MayPlaceOrder, ask_of};
 ghost use Rattle.desk_commands.specs.SparedCatalogue.{PerformsSparing};
 
-use access::is_open_to;
 use catalogue_store::Places;
 use desk_core::{Ask, Limits, may_order};
 use desk_store::{LiveOrder, ReaderCard, append_order, reader};
 use isad_core::{Day, Number};
+use known_access::is_open_today;
+use known_forest::KnownForest;
 use office_core::{Done, Refusal};
 use office_tables::{StoreFault, Tables};
 use sqlite::Alter;
@@ -84,10 +86,11 @@ fn decide<P: Places, S: Alter>(
     }
 }
 
-/// Places an order of the reader with this card, if the reader may place it.
+/// Places an order of the reader with this card, if the reader may place it. `known` must be the marks of all units.
 fn order_by<P: Places, S: Alter>(
     alloc: Global,
     tables: &mut Tables<P, S>,
+    known: &KnownForest,
     today: Day,
     limits: &Limits,
     card: &ReaderCard,
@@ -95,10 +98,11 @@ fn order_by<P: Places, S: Alter>(
     container: Number,
 ) -> Result<Result<Done, Refusal>, StoreFault>
     ensures { PerformsSparing P.represents P.version S.Store
-        (λ s. (today ≡ s.day) × (limits.now ≡ limits_of s) × IsCardOf P.version s ticket card.now)
+        (λ s. (today ≡ s.day) × (limits.now ≡ limits_of s) × IsCardOf P.version s ticket card.now
+        × AreWalkMarks s.catalogue.forest known.now)
         (command.Order ticket container) tables.old tables.new result }
 {
-    let is_open = is_open_to(alloc, tables, container, ticket, today)?;
+    let is_open = is_open_today(alloc, tables, known, container, ticket, today)?;
     decide(tables, today, limits, card, ticket, container, is_open)
 }
 
@@ -106,20 +110,24 @@ fn order_by<P: Places, S: Alter>(
 /// open to its reader: one that is not known is refused as not open. No order of the ticket for it may wait or be out.
 /// The ticket's orders of the day, cancelled ones too, and all orders so far must be below their limits. Otherwise the
 /// command is refused. After a refusal the caller must roll the transaction back. `today` and `limits` must be the
-/// office's.
+/// office's, and `known` the marks of all its units.
 pub fn order<P: Places, S: Alter>(
     alloc: Global,
     tables: &mut Tables<P, S>,
+    known: &KnownForest,
     today: Day,
     limits: &Limits,
     ticket: Number,
     container: Number,
 ) -> Result<Result<Done, Refusal>, StoreFault>
-    ensures { PerformsSparing P.represents P.version S.Store (λ s. (today ≡ s.day) × (limits.now ≡ limits_of s))
+    ensures { PerformsSparing P.represents P.version S.Store
+        (λ s. (today ≡ s.day) × (limits.now ≡ limits_of s) × AreWalkMarks s.catalogue.forest known.now)
         (command.Order ticket container) tables.old tables.new result }
 {
     let Some(card) = reader(alloc, tables, ticket, today)? else {
         return Ok(Err(Refusal::UnknownTicket));
     };
-    order_by(alloc, tables, today, limits, &card, ticket, container)
+    order_by(
+        alloc, tables, known, today, limits, &card, ticket, container,
+    )
 }

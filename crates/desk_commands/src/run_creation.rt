@@ -1,6 +1,7 @@
 //! Making runs, which bring containers to the desk.
 
 ghost use Rattle.std.specs.Prelude.{◌≡◌, ◌++◌, false, map, take, IfOk};
+ghost use Rattle.catalogue_core.specs.UnitMarks.{AreWalkMarks};
 ghost use Rattle.desk_store.specs.Holdings.{on_shelf as those_on_shelf};
 ghost use Rattle.desk_store.specs.declared.container_orders.ContainerOrder.{ContainerOrder as Taken};
 ghost use Rattle.office_core.specs.Words.{is_empty};
@@ -8,7 +9,7 @@ ghost use Rattle.office_core.specs.declared.command.Command.TheVariants as comma
 ghost use Rattle.office_tables.specs.Calls.{Answers};
 ghost use Rattle.office_tables.specs.Premises.{◌within◌gives◌};
 ghost use Rattle.state_encoding.specs.OfficeRows.{tables as rows_of};
-ghost use Rattle.access.specs.KnownUnits.{AreTold, open_ones};
+ghost use Rattle.access.specs.KnownUnits.{open_ones};
 ghost use Rattle.refinement.specs.ReadingRoomLimits.{limits_of};
 ghost use Rattle.refinement.specs.AccessConditions.{CanBeJudged, RepresentsWhole};
 ghost use Rattle.desk_commands.specs.RunCreation.{open_orders, taken_by};
@@ -16,68 +17,67 @@ ghost use Rattle.desk_commands.specs.SparedCatalogue.{PerformsSparing};
 
 use crate::container_moves::move_all;
 use crate::emptiness::are_none;
-use access::{OpenOrders, open_among};
 use catalogue_store::Places;
 use desk_core::{Limits, Place};
 use desk_store::{ContainerOrder, first_orders, on_shelf, record_run};
 use isad_core::{Day, Number};
+use known_access::{is_open_today, open_today};
+use known_forest::KnownForest;
 use office_core::{Done, Refusal};
 use office_tables::{StoreFault, Tables};
 use sqlite::Alter;
 use std::alloc::{AllocError, Global};
-use std::collections::BTreeMap;
 
 /// The first `most` of the orders that were found first and of those of `waiting` whose containers are open to their
-/// readers. They are judged in parts, each in one walk and twice as long as the one before.
+/// readers. `known` must be the marks of all units.
 fn found_and_open<P: Places, S: Alter>(
     alloc: Global,
     tables: &mut Tables<P, S>,
+    known: &KnownForest,
     today: Day,
     most: u32,
-    first: OpenOrders,
+    first: Vec<ContainerOrder>,
     waiting: &[ContainerOrder],
 ) -> Result<Vec<ContainerOrder>, StoreFault>
     ensures answers { Answers S.Store (RepresentsWhole P.represents P.version) tables.old tables.new result
-        within CanBeJudged gives λ _ s due. CanBeJudged s → today ≡ s.day → AreTold today s.catalogue.forest first.known
-        → due.items ≡ take most (first.orders.items ++ open_ones s waiting.now) }
+        within CanBeJudged gives λ _ s due. CanBeJudged s → today ≡ s.day → AreWalkMarks s.catalogue.forest known.now
+        → due.items ≡ take most (first.items ++ open_ones s waiting.now) }
 {
-    let mut due = first.orders;
-    let mut known = first.known;
+    let mut due = first;
     let mut place = 0;
-    let mut part = (most as usize).saturating_mul(2);
     while place < waiting.len() && due.len() < most as usize {
-        let end = waiting.len().min(place.saturating_add(part));
-        let found = open_among(alloc, tables, &waiting[place..end], known, today)?;
-        due.extend_from_slice(&found.orders)?;
-        known = found.known;
-        place = end;
-        part = part.saturating_mul(2);
+        let order = waiting[place];
+        if is_open_today(alloc, tables, known, order.container, order.ticket, today)? {
+            due.push(order)?;
+        }
+        place += 1;
     }
     due.truncate(most as usize);
     Ok(due)
 }
 
 /// The first `most` of these orders whose containers are on the shelf and open to their readers. As many orders as a
-/// run takes are looked at first: often they are enough.
+/// run takes are looked at first: often they are enough. `known` must be the marks of all units.
 fn first_open<P: Places, S: Alter>(
     alloc: Global,
     tables: &mut Tables<P, S>,
+    known: &KnownForest,
     today: Day,
     most: u32,
     waiting: &[ContainerOrder],
 ) -> Result<Vec<ContainerOrder>, StoreFault>
     ensures answers { Answers S.Store (RepresentsWhole P.represents P.version) tables.old tables.new result
-        within CanBeJudged gives λ _ s due. CanBeJudged s → today ≡ s.day
+        within CanBeJudged gives λ _ s due. CanBeJudged s → today ≡ s.day → AreWalkMarks s.catalogue.forest known.now
         → due.items ≡ open_orders s most (those_on_shelf (rows_of P.version s).desk waiting.now) }
 {
     let end = waiting.len().min(most as usize);
     let near = on_shelf(alloc, tables, &waiting[..end])?;
-    let found = open_among(alloc, tables, &near, BTreeMap::new(alloc), today)?;
-    if found.orders.len() == most as usize {
-        return Ok(found.orders);
+    let found = open_today(alloc, tables, known, &near, today)?;
+    if found.len() == most as usize {
+        return Ok(found);
     }
     let far = on_shelf(alloc, tables, &waiting[end..])?;
-    let due = found_and_open(alloc, tables, today, most, found, &far)?;
+    let due = found_and_open(alloc, tables, known, today, most, found, &far)?;
     Ok(due)
 }
 
@@ -128,18 +128,21 @@ fn bring_due<P: Places, S: Alter>(
 /// Makes a run, and tells its number and how many containers it fetches. It takes the first order for each container on
 /// the shelf if the container is open to the order's reader, the earliest orders first and no more than a run takes,
 /// and brings their containers to the desk. The command is refused if no order is due, or if no number is left for a
-/// run. After a refusal the caller must roll the transaction back. `today` and `limits` must be the office's.
+/// run. After a refusal the caller must roll the transaction back. `today` and `limits` must be the office's, and
+/// `known` the marks of all its units.
 pub fn fetch<P: Places, S: Alter>(
     alloc: Global,
     tables: &mut Tables<P, S>,
+    known: &KnownForest,
     today: Day,
     limits: &Limits,
 ) -> Result<Result<Done, Refusal>, StoreFault>
-    ensures { PerformsSparing P.represents P.version S.Store (λ s. (today ≡ s.day) × (limits.now ≡ limits_of s))
+    ensures { PerformsSparing P.represents P.version S.Store
+        (λ s. (today ≡ s.day) × (limits.now ≡ limits_of s) × AreWalkMarks s.catalogue.forest known.now)
         command.Run tables.old tables.new result }
 {
     let waiting = first_orders(alloc, tables)?;
-    let due = first_open(alloc, tables, today, limits.run, &waiting)?;
+    let due = first_open(alloc, tables, known, today, limits.run, &waiting)?;
     if are_none(&due) {
         return Ok(Err(Refusal::NothingToMove));
     }

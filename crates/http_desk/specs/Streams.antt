@@ -3,6 +3,7 @@ use Rattle.std.specs.Prelude.{◌≡◌, ℕ, ◌+◌, min, Bool, true, false, O
 use Rattle.isad_core.specs.Texts.{Bytes}
 use Rattle.http_messages.specs.Heads.{longest_body}
 use Rattle.http_desk.specs.Messages.{longest_head}
+use Rattle.http_desk.specs.declared.streams.Calls.{Calls}
 use Rattle.http_desk.specs.declared.streams.Undone.{Undone}
 use Rattle.http_desk.specs.declared.streams.Undone.TheVariants.{Failed, Interrupted}
 
@@ -23,6 +24,30 @@ pub record IsUncalled (stream : Stream) : Type 0 where
   pub none_interrupted : stream.interrupted ≡ false
   pub none_made : stream.calls ≡ 0
   pub none_waits : stream.flushed ≡ true
+
+-- how its calls went
+abbrev pub calls_of : Stream → Calls
+calls_of stream = record {
+  failed = stream.failed;
+  interrupted = stream.interrupted;
+  made = stream.calls;
+  given = stream.given;
+  turns = stream.turns;
+  flushed = stream.flushed;
+}
+
+-- a stream whose calls went so, when nobody can call it any more: it needs no name
+abbrev pub spent : Option Bytes → Calls → Stream
+spent bytes calls = record {
+  name = 0;
+  bytes = bytes;
+  failed = calls.failed;
+  interrupted = calls.interrupted;
+  calls = calls.made;
+  given = calls.given;
+  turns = calls.turns;
+  flushed = calls.flushed;
+}
 
 -- the number of calls after one more; the count stops at 2^64 - 1
 abbrev pub one_more_call : ℕ → ℕ

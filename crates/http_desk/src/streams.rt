@@ -2,9 +2,8 @@
 ghost use Rattle.std.specs.Prelude.{◌≡◌, ◌≢◌, ◌+◌, ◌<◌, ◌≤◌, ◌||◌, ◌^◌, [], length, take, nat_lt, IfOk, OnErr};
 ghost use Rattle.std.specs.Io.KnownBytes.{Appends, ReadConsumes};
 ghost use Rattle.std.specs.Io.{ReadsAtMost};
-ghost use Rattle.http_desk.specs.Streams.{IsUncalled, after_flush, after_write, has_failed, most_calls, most_reads};
-ghost use Rattle.http_desk.specs.Streams.{more_writes};
-ghost use Rattle.http_desk.specs.Streams.{one_more_call, was_interrupted};
+ghost use Rattle.http_desk.specs.Streams.{IsUncalled, after_flush, after_write, calls_of, has_failed, most_calls};
+ghost use Rattle.http_desk.specs.Streams.{more_writes, most_reads, one_more_call, was_interrupted};
 
 use crate::message_input::HEAD_LIMIT;
 use http_messages::head_verdict::LONGEST;
@@ -18,6 +17,23 @@ pub enum Undone {
     Failed,
     /// It was interrupted.
     Interrupted,
+}
+
+/// How the calls of a reader or a writer went.
+#[derive(Clone, Copy, Debug, Drop)]
+pub struct Calls {
+    /// A call has failed, or a write has taken nothing.
+    pub failed: bool,
+    /// A call was interrupted.
+    pub interrupted: bool,
+    /// So many were made. The count stops at 2^64 - 1.
+    pub made: u64,
+    /// So many might be made for the last message, or for the last text, in all.
+    pub given: u64,
+    /// So many of them were left.
+    pub turns: u64,
+    /// All that was written was flushed, as of a reader, which writes nothing.
+    pub flushed: bool,
 }
 
 /// How many reads a message may take: one for each byte of the longest message, and one more.
@@ -120,6 +136,20 @@ impl<'a, R: Read> Source<'a, R> {
         ensures { result ≡ self.now.interrupted }
     {
         self.interrupted
+    }
+
+    /// How the reads went.
+    pub fn told(&self) -> Calls
+        ensures { result ≡ calls_of self.now }
+    {
+        Calls {
+            failed: self.failed,
+            interrupted: self.interrupted,
+            made: self.calls,
+            given: self.given as u64,
+            turns: self.turns as u64,
+            flushed: true,
+        }
     }
 
     /// How many reads were made, interrupted ones too. The count stops at 2^64 - 1.
@@ -260,6 +290,20 @@ impl<'a, W: Write> Sink<'a, W> {
         ensures { result ≡ self.now.flushed }
     {
         self.flushed
+    }
+
+    /// How the writes and flushes went.
+    pub fn told(&self) -> Calls
+        ensures { result ≡ calls_of self.now }
+    {
+        Calls {
+            failed: self.failed,
+            interrupted: self.interrupted,
+            made: self.calls,
+            given: self.given,
+            turns: self.turns,
+            flushed: self.flushed,
+        }
     }
 
     /// How many writes and flushes were made, interrupted ones too. The count stops at 2^64 - 1.

@@ -12,14 +12,13 @@ use Rattle.office_core.specs.Json.{reply_text}
 use Rattle.office_core.specs.Rules as machine
 use Rattle.office_core.specs.State as office
 use Rattle.office_core.specs.declared.machine.Reply.{Reply}
-use Rattle.refinement.proofs.Doings.{refused}
 use Rattle.refinement.specs.CommandSteps.{CarriesOutStep}
 use Rattle.office.specs.CallTransactions.{Applies, Replies}
 use Rattle.office.specs.Transactions.{Settles}
 use Rattle.office.proofs.Common.{Command, Database, Forest, Goes, GoesOn, HasCleanDisk, Held, IfErr, IfOk, IsAsBefore}
 use Rattle.office.proofs.Common.{IsAtRest, IsErr, IsIn, IsOffice, IsSoundOffice, MayFind, OnlyTouches, Refusal}
 use Rattle.office.proofs.Common.{RepresentsState, Shows, StoreFault, Survives, TakesStep, Trees, Version, after, decide}
-use Rattle.office.proofs.Common.{early, reading_room_trees, refusal, result_of, spares_catalogue, state, step}
+use Rattle.office.proofs.Common.{early, reading_room_trees, refusal, refused, result_of, spares_catalogue, state, step}
 use Rattle.office.proofs.Common.{survives_then, went}
 use Rattle.office.proofs.States.{found_committed, shown_begun}
 

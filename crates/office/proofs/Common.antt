@@ -26,6 +26,7 @@ pub use Rattle.office_core.specs.declared.command.Command.{Command}
 pub use Rattle.office_core.specs.declared.query.Answer.{Answer}
 pub use Rattle.office_core.specs.declared.query.Query.{Query}
 pub use Rattle.refinement.proofs.Crashes.{continued, went}
+pub use Rattle.refinement.proofs.Doings.{does_pass, does_then, is_refused, refused}
 pub use Rattle.refinement.proofs.Tellings.{looked_crash}
 pub use Rattle.refinement.specs.Representation.{RepresentsState, office_of}
 pub use Rattle.adoption.specs.Verdicts.{IsVerdict}
@@ -33,7 +34,7 @@ pub use Rattle.desk_commands.specs.SparedCatalogue.{reading_room_trees, spares_c
 pub use Rattle.office.specs.Adoption.{HasAdoptCause, IsAdopted, fault_for_verdict, state_in}
 pub use Rattle.office.specs.IdleOffice.{IsAsBefore, IsAtRest, IsIn, IsOffice, has_clean_disk, is_shown, is_still_open}
 pub use Rattle.office.specs.Inspection.{ConfirmsOpen, Inspects}
-pub use Rattle.office.specs.KeptMarks.{AreKept, AreOfTables, KnowsKept, TellOf, kept_after}
+pub use Rattle.office.specs.KeptMarks.{AreKept, AreOfLent, AreOfTables, KnowsKept, TellOf, asks_access, kept_after}
 pub use Rattle.office.specs.NamedNumbers.{asks_named, named, of_named}
 pub use Rattle.office.specs.NewOffice.{MakesTables, RepresentsNew, new_desk, open_fault_of}
 pub use Rattle.office.specs.OfficeCall.{MayFind, TakesStep}

@@ -19,7 +19,7 @@ use Rattle.refinement.proofs.Frames.{catalogue_kept}
 use Rattle.refinement.specs.QueryAnswers.{AnswersQuery}
 use Rattle.public_queries.specs.InformedAnswers.{AnswersKnowing}
 use Rattle.office.specs.CallTransactions.{Applies}
-use Rattle.office.proofs.Common.{Answer, AreKept, AreOfTables, Command, Database, Forest, HasCleanDisk, Held}
+use Rattle.office.proofs.Common.{Answer, AreKept, AreOfLent, AreOfTables, Command, Database, Forest, HasCleanDisk, Held}
 use Rattle.office.proofs.Common.{IsAsBefore, IsAtRest, IsErr, IsOffice, LeavesUnchanged, Mark, OnlyTouches, Query}
 use Rattle.office.proofs.Common.{Represents, RepresentsState, Shows, StoreFault, TellOf, Trees, Version, early, is_ok}
 use Rattle.office.proofs.Common.{kept_after, office_of, on_ok_then, reading_room_trees, size, spares_catalogue, state}
@@ -40,9 +40,9 @@ few_marks c marks kept it =
 module _ (places : Trees → Forest ℕ → Type 0) (version : Version) (kept : Option (List Mark)) where
   -- where nothing is changed
   pub kept_as_before : (a z : State) → (HasCleanDisk z → HasCleanDisk a) → (HasCleanDisk z → IsAsBefore a z)
-      → AreKept places version a kept → AreKept places version z kept
+      → (HasCleanDisk z → AreKept places version a kept) → AreKept places version z kept
   kept_as_before a z before same it clean opened =
-      subst (λ (db : Database). AreOfTables places version db kept) (sym ((same clean).now opened)) (it (before clean) ((same clean).was_open opened))
+      subst (λ (db : Database). AreOfTables places version db kept) (sym ((same clean).now opened)) (it clean (before clean) ((same clean).was_open opened))
 
   -- where a command touched the tables of the reading room alone
   pub kept_spared : ((old new : Trees) (f : Forest ℕ) → new tables.link.tree ≡ old tables.link.tree → places old f → places new f)
@@ -50,12 +50,12 @@ module _ (places : Trees → Forest ℕ → Type 0) (version : Version) (kept : 
       → (HasCleanDisk z → IsTrue z.is_open → IsTrue a.is_open)
       → (HasCleanDisk a → IsAtRest version a) → (HasCleanDisk z → IsAtRest version z)
       → (HasCleanDisk z → OnlyTouches reading_room_trees a.now z.now)
-      → AreKept places version a kept → AreKept places version z kept
+      → (HasCleanDisk z → AreKept places version a kept) → AreKept places version z kept
   kept_spared same a z before was_open rest_a rest_z only it clean opened row c shown =
       let at_a = before clean in
       let open_a = was_open clean opened in
       let schema = (rest_a at_a).schema_is open_a ∙ sym ((rest_z clean).schema_is opened) in
-      it at_a open_a row c
+      it clean at_a open_a row c
       (catalogue_kept z.now a.now reading_room_trees (λ tree table other. sym (only clean tree table other)) places same version row c refl schema shown)
 
 -- after a command
@@ -69,7 +69,7 @@ module _ {S : Type 0} (g : trees.Ghosts S) (before after : Held S) where
   pub kept_on : {places : Trees → Forest ℕ → Type 0} {version : Version} (kept : Option (List Mark))
       → ((old new : Trees) (f : Forest ℕ) → new tables.link.tree ≡ old tables.link.tree → places old f → places new f)
       → (asked : Command) (r : Result Reply StoreFault) → IsOffice version a
-      → Applies places version g before after asked r → AreKept places version a kept
+      → Applies places version g before after asked r → (HasCleanDisk z → AreKept places version a kept)
       → AreKept places version z (kept_after asked r kept)
   kept_on {places} {version} kept same asked (Err e) rest does it =
       kept_as_before places version kept a z (λ clean. early does.crash clean) does.busy it
@@ -95,22 +95,34 @@ touches_after a b c r looked at_b only =
     on_ok_then r (OnlyTouches reading_room_trees b.now c.now) (OnlyTouches reading_room_trees a.now c.now)
     (λ it tree table other. it tree table other ∙ ap (λ (db : Database). db.trees tree) (looked.same at_b)) only
 
--- ---- a question that is asked of the tables whose marks are kept
+-- ---- in a transaction over the tables whose marks are kept
 
--- it was rolled back
-pub kept_asked : (places : Trees → Forest ℕ → Type 0) (version : Version) (a b m z : State)
-    → (HasCleanDisk b → HasCleanDisk a) → (HasCleanDisk m → HasCleanDisk b) → (HasCleanDisk z → HasCleanDisk m)
-    → (HasCleanDisk b → Shows a b a.now a.committed true) → (HasCleanDisk z → IsAsBefore a z)
+-- what is kept is right of the tables that are lent
+pub kept_lent : (places : Trees → Forest ℕ → Type 0) (version : Version) (a b : State) → (HasCleanDisk b → HasCleanDisk a)
+    → (HasCleanDisk b → Shows a b a.now a.committed true) → (kept : Option (List Mark)) → AreKept places version a kept
+    → AreOfLent places version b kept
+kept_lent places version a b clean_a begins kept it clean =
+    let begun = begins clean in
+    subst (λ (db : Database). AreOfTables places version db kept) (sym begun.now_is) (it (clean_a clean) begun.was_open)
+
+-- also after a look
+pub still_lent : (places : Trees → Forest ℕ → Type 0) (version : Version) (a b : State) → LeavesUnchanged a b
+    → (kept : Option (List Mark)) → AreOfLent places version a kept → AreOfLent places version b kept
+still_lent places version a b looked kept it clean =
+    subst (λ (db : Database). AreOfTables places version db kept) (sym (looked.same clean)) (it (early looked.goes.on.crash clean))
+
+-- what is kept then is right of the tables before
+pub kept_within : (places : Trees → Forest ℕ → Type 0) (version : Version) (a b m : State)
+    → (HasCleanDisk m → HasCleanDisk b) → (HasCleanDisk b → Shows a b a.now a.committed true)
     → (kept last : Option (List Mark))
     → (HasCleanDisk m → AreOfTables places version b.now kept → AreOfTables places version b.now last)
-    → AreKept places version a kept → AreKept places version z last
-kept_asked places version a b m z clean_a clean_b clean_m begins same kept last stays it clean opened =
-    let at_m = clean_m clean in
-    let at_b = clean_b at_m in
-    let begun = begins at_b in
-    let before = it (clean_a at_b) ((same clean).was_open opened) in
-    let after = stays at_m (subst (λ (db : Database). AreOfTables places version db kept) (sym begun.now_is) before) in
-    subst (λ (db : Database). AreOfTables places version db last) (begun.now_is ∙ sym ((same clean).now opened)) after
+    → AreKept places version a kept → HasCleanDisk m → AreKept places version a last
+kept_within places version a b m clean_b begins kept last stays it at_m at_a opened =
+    let begun = begins (clean_b at_m) in
+    let before = subst (λ (db : Database). AreOfTables places version db kept) (sym begun.now_is) (it at_a opened) in
+    subst (λ (db : Database). AreOfTables places version db last) begun.now_is (stays at_m before)
+
+-- ---- a question that is asked of the tables whose marks are kept
 
 pub answers_known : {places : Trees → Forest ℕ → Type 0} {version : Version} (kept : Option (List Mark)) {asked : Query} {a b m : State} {r : Result Answer StoreFault}
     → (HasCleanDisk m → HasCleanDisk b) → (HasCleanDisk b → HasCleanDisk a)

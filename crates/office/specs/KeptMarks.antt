@@ -1,5 +1,6 @@
 -- The marks of all units that an office keeps in memory, and when they are those of its tables.
-use Rattle.std.specs.Prelude.{◌≡◌, ◌&&◌, ℕ, IsTrue, List, None, Option, Ok, Err, Result, IfSome, cond, is_ok, not}
+use Rattle.std.specs.Prelude.{◌≡◌, ◌&&◌, ℕ, Bool, true, false, IsTrue, List, None, Option, Ok, Err, Result, IfSome}
+use Rattle.std.specs.Prelude.{cond, is_ok, not}
 use Rattle.sqlite.specs.Effect.{Database}
 use Rattle.sqlite.specs.State as store
 use Rattle.sqlite.specs.State.{HasCleanDisk}
@@ -13,6 +14,7 @@ use Rattle.catalogue_statements.specs.Representation.{Represents}
 use Rattle.catalogue_statements.specs.declared.office.OfficeRow.{OfficeRow}
 use Rattle.office_core.specs.State.{State}
 use Rattle.office_core.specs.declared.command.Command.{Command}
+use Rattle.office_core.specs.declared.command.Command.TheVariants as command
 use Rattle.office_core.specs.declared.machine.Reply.{Reply}
 use Rattle.office_tables.specs.declared.fault.StoreFault.{StoreFault}
 use Rattle.desk_commands.specs.SparedCatalogue.{spares_catalogue}
@@ -29,6 +31,17 @@ AreOfTables places version db kept = (row : OfficeRow) (c : Catalogue) → Repre
 -- the same of the tables of a connection, unless a failure of the disk has shut it
 abbrev pub AreKept : (Trees → Forest ℕ → Type 0) → Version → store.State → Option (List Mark) → Type 0
 AreKept places version at kept = HasCleanDisk at → IsTrue at.is_open → AreOfTables places version at.now kept
+
+-- the same of the tables that a call is lent
+abbrev pub AreOfLent : (Trees → Forest ℕ → Type 0) → Version → store.State → Option (List Mark) → Type 0
+AreOfLent places version at kept = HasCleanDisk at → AreOfTables places version at.now kept
+
+-- whether a command asks who may have which container, which the marks of all units decide
+abbrev pub asks_access : Command → Bool
+asks_access (command.Order ticket container) = true
+asks_access command.Run = true
+asks_access (command.Issue container ticket) = true
+asks_access _ = false
 
 -- the marks that are kept after a command with this outcome: an accepted one may have changed the catalogue
 abbrev pub kept_after : Command → Result Reply StoreFault → Option (List Mark) → Option (List Mark)

@@ -1,6 +1,6 @@
-//! Commands: each is one transaction and one step.
+//! Commands: each is one transaction and one step. Who may have which container is decided from marks in memory.
 
-ghost use Rattle.std.specs.Prelude.{◌≡◌, None, true, IfErr, IfOk, OnOk};
+ghost use Rattle.std.specs.Prelude.{◌≡◌, None, false, true, IfErr, IfOk, OnOk};
 ghost use Rattle.sqlite.specs.Held.{state};
 ghost use Rattle.sqlite.specs.State.{HasCleanDisk};
 ghost use Rattle.office_core.specs.Json.{reply_text};
@@ -9,14 +9,15 @@ ghost use Rattle.office_tables.specs.Step.{OnlyTouches};
 ghost use Rattle.office_tables.specs.declared.fault.StoreFault.TheVariants as fault;
 ghost use Rattle.office.specs.CallTransactions.{Applies, Replies};
 ghost use Rattle.office.specs.IdleOffice.{IsOffice};
-ghost use Rattle.office.specs.KeptMarks.{AreKept};
+ghost use Rattle.office.specs.KeptMarks.{AreKept, AreOfLent, AreOfTables, asks_access as asks_who_may_see};
 ghost use Rattle.office.specs.NamedNumbers.{of_named};
 ghost use Rattle.office.specs.Sight.{day_check, name_check};
 ghost use Rattle.desk_commands.specs.SparedCatalogue.{reading_room_trees, spares_catalogue};
+ghost use Rattle.public_queries.specs.KnownPaths.{RepresentsKnown};
 ghost use Rattle.refinement.specs.CommandSteps.{Performs, PerformsKnowing};
 ghost use Rattle.refinement.specs.Representation.{office_of};
 
-use crate::kept_marks::let_go;
+use crate::kept_marks::{asks_access, kept_or_read, let_go};
 use crate::named_numbers::named;
 use crate::names::{refused_by_day, refused_by_name};
 use crate::office_row::{limits_in, own_row};
@@ -36,18 +37,87 @@ use replies::json_of;
 use sqlite::Alter;
 use std::alloc::Global;
 
-/// Carries out a command whose names and day were checked.
+/// Carries out a command that asks who may have which container, from the marks of all units and the tables.
+fn perform_knowing<P: Places, S: Alter>(
+    alloc: Global,
+    tables: &mut Tables<P, S>,
+    row: &OfficeRow,
+    forest: &KnownForest,
+    command: &Command,
+) -> Result<Result<Done, Refusal>, StoreFault>
+    requires asks { asks_who_may_see command.now ≡ true }
+    ensures performs { PerformsKnowing P.represents P.version S.Store (RepresentsKnown row.now forest.now)
+        (of_named command.now) tables.old tables.new result }
+    ensures only { HasCleanDisk (state S.Store tables.new)
+        → OnOk result (OnlyTouches reading_room_trees (state S.Store tables.old).now (state S.Store tables.new).now) }
+{
+    let today = row.day;
+    let limits = limits_in(row);
+    match command {
+        Command::Order { ticket, container } => {
+            order(
+                alloc,
+                tables,
+                forest,
+                today,
+                &limits,
+                named(*ticket),
+                named(*container),
+            )
+        }
+        Command::Run => fetch(alloc, tables, forest, today, &limits),
+        Command::Issue { container, ticket } => {
+            issue(
+                alloc,
+                tables,
+                forest,
+                today,
+                &limits,
+                named(*container),
+                named(*ticket),
+            )
+        }
+        _ => Err(StoreFault::Schema),
+    }
+}
+
+/// The same. The marks that are kept must be those of the tables. If none are kept, they are read first, and kept.
+fn perform_keeping<P: Places, S: Alter>(
+    alloc: Global,
+    tables: &mut Tables<P, S>,
+    row: &OfficeRow,
+    kept: &mut Option<KnownForest>,
+    command: &Command,
+) -> Result<Result<Done, Refusal>, StoreFault>
+    requires asks { asks_who_may_see command.now ≡ true }
+    requires marks { AreOfLent P.represents P.version (state S.Store tables.old) kept.old }
+    ensures performs { PerformsKnowing P.represents P.version S.Store (λ s. row.now ≡ office_of s)
+        (of_named command.now) tables.old tables.new result }
+    ensures only { HasCleanDisk (state S.Store tables.new)
+        → OnOk result (OnlyTouches reading_room_trees (state S.Store tables.old).now (state S.Store tables.new).now) }
+    ensures stays { HasCleanDisk (state S.Store tables.new)
+        → AreOfTables P.represents P.version (state S.Store tables.old).now kept.old
+        → AreOfTables P.represents P.version (state S.Store tables.old).now kept.new }
+{
+    let forest = kept_or_read(alloc, tables, kept.take())?;
+    let done = perform_knowing(alloc, tables, row, &forest, command);
+    *kept = Some(forest);
+    done
+}
+
+/// Carries out another command whose names and day were checked.
 fn perform<P: Places, S: Alter>(
     alloc: Global,
     tables: &mut Tables<P, S>,
     row: &OfficeRow,
     command: &Command,
 ) -> Result<Result<Done, Refusal>, StoreFault>
+    requires asks { asks_who_may_see command.now ≡ false }
     requires named { name_check command.now ≡ None }
     requires dated { day_check row.now.day command.now ≡ None }
     requires texts { NamesTexts command.now }
-    ensures performs { PerformsKnowing P.represents P.version S.Store (λ s. row.now ≡ office_of s) (of_named command.now)
-        tables.old tables.new result }
+    ensures performs { PerformsKnowing P.represents P.version S.Store (λ s. row.now ≡ office_of s)
+        (of_named command.now) tables.old tables.new result }
     ensures only { spares_catalogue (of_named command.now) ≡ true → HasCleanDisk (state S.Store tables.new)
         → OnOk result (OnlyTouches reading_room_trees (state S.Store tables.old).now (state S.Store tables.new).now) }
 {
@@ -78,29 +148,8 @@ fn perform<P: Places, S: Alter>(
         Command::Renew { ticket, until } => renew_ticket(alloc, tables, named(*ticket), *until),
         Command::TakeSeat { ticket } => take_seat(alloc, tables, today, &limits, named(*ticket)),
         Command::LeaveSeat { ticket } => leave_seat(alloc, tables, named(*ticket)),
-        Command::Order { ticket, container } => {
-            order(
-                alloc,
-                tables,
-                today,
-                &limits,
-                named(*ticket),
-                named(*container),
-            )
-        }
         Command::Cancel { order } => cancel(alloc, tables, named(*order)),
-        Command::Run => fetch(alloc, tables, today, &limits),
         Command::Reshelve => reshelve(alloc, tables),
-        Command::Issue { container, ticket } => {
-            issue(
-                alloc,
-                tables,
-                today,
-                &limits,
-                named(*container),
-                named(*ticket),
-            )
-        }
         Command::Return { container } => return_container(alloc, tables, named(*container)),
         Command::Permit {
             ticket,
@@ -110,24 +159,34 @@ fn perform<P: Places, S: Alter>(
         Command::Revoke { ticket, unit } => {
             revoke_permit(alloc, tables, today, named(*ticket), named(*unit))
         }
+        Command::Order { .. } | Command::Run | Command::Issue { .. } => Err(StoreFault::Schema),
     }
 }
 
-/// Carries out a command on the day of the office, within its settings.
+/// Carries out a command on the day of the office, within its settings. The marks that are kept must be those of the
+/// tables.
 fn carry_out<P: Places, S: Alter>(
     alloc: Global,
     tables: &mut Tables<P, S>,
+    kept: &mut Option<KnownForest>,
     command: &Command,
 ) -> Result<Result<Done, Refusal>, StoreFault>
     requires named { name_check command.now ≡ None }
     requires texts { NamesTexts command.now }
+    requires marks { AreOfLent P.represents P.version (state S.Store tables.old) kept.old }
     ensures performs { Performs P.represents P.version S.Store command.now tables.old tables.new result }
     ensures only { spares_catalogue command.now ≡ true → HasCleanDisk (state S.Store tables.new)
         → OnOk result (OnlyTouches reading_room_trees (state S.Store tables.old).now (state S.Store tables.new).now) }
+    ensures stays { HasCleanDisk (state S.Store tables.new)
+        → AreOfTables P.represents P.version (state S.Store tables.old).now kept.old
+        → AreOfTables P.represents P.version (state S.Store tables.old).now kept.new }
 {
     let row = own_row(alloc, tables)?;
     if let Some(why) = refused_by_day(row.day, command) {
         return Ok(Err(why));
+    }
+    if asks_access(command) {
+        return perform_keeping(alloc, tables, &row, kept, command);
     }
     perform(alloc, tables, &row, command)
 }
@@ -142,37 +201,46 @@ fn reply_of(alloc: Global, done: Result<Done, Refusal>) -> Result<Reply, StoreFa
     Ok(Reply { done, json })
 }
 
-/// Carries out a command, and makes the bytes of the reply.
+/// Carries out a command, and makes the bytes of the reply. The marks that are kept must be those of the tables.
 fn reply_to<P: Places, S: Alter>(
     alloc: Global,
     tables: &mut Tables<P, S>,
+    kept: &mut Option<KnownForest>,
     command: &Command,
 ) -> Result<Reply, StoreFault>
     requires named { name_check command.now ≡ None }
     requires texts { NamesTexts command.now }
-    ensures { Replies P.represents P.version S.Store tables.old tables.new command.now result }
+    requires marks { AreOfLent P.represents P.version (state S.Store tables.old) kept.old }
+    ensures replies { Replies P.represents P.version S.Store tables.old tables.new command.now result }
+    ensures stays { HasCleanDisk (state S.Store tables.new)
+        → AreOfTables P.represents P.version (state S.Store tables.old).now kept.old
+        → AreOfTables P.represents P.version (state S.Store tables.old).now kept.new }
 {
-    let done = carry_out(alloc, tables, command)?;
+    let done = carry_out(alloc, tables, kept, command)?;
     reply_of(alloc, done)
 }
 
 /// Carries out a command in a transaction of its own, which is committed if the command is accepted, and rolled back
 /// after a refusal or a fault. The reply's bytes are made before the commit. A malformed name is refused before any
-/// statement.
+/// statement. The marks that are kept must be those of the tables; afterwards they are those of the tables before.
 fn apply_to<P: Places, S: Alter>(
     alloc: Global,
     closed: &mut Closed<P, S>,
+    kept: &mut Option<KnownForest>,
     command: &Command,
 ) -> Result<Reply, StoreFault>
     requires office { IsOffice P.version (state S.Store closed.old) }
     requires texts { NamesTexts command.now }
-    ensures { Applies P.represents P.version S.Store closed.old closed.new command.now result }
+    requires marks { AreKept P.represents P.version (state S.Store closed.old) kept.old }
+    ensures applies { Applies P.represents P.version S.Store closed.old closed.new command.now result }
+    ensures stays { HasCleanDisk (state S.Store closed.new)
+        → AreKept P.represents P.version (state S.Store closed.old) kept.new }
 {
     if let Some(why) = refused_by_name(command) {
         return reply_of(alloc, Err(why));
     }
     let tables = closed.begin()?;
-    let outcome = reply_to(alloc, tables, command);
+    let outcome = reply_to(alloc, tables, kept, command);
     settle(closed, outcome)
 }
 
@@ -190,7 +258,7 @@ pub(crate) fn apply_keeping<P: Places, S: Alter>(
     ensures applies { Applies P.represents P.version S.Store closed.old closed.new command.now result }
     ensures marks { AreKept P.represents P.version (state S.Store closed.new) kept.new }
 {
-    let outcome = apply_to(alloc, closed, command);
+    let outcome = apply_to(alloc, closed, kept, command);
     let_go(kept, command, &outcome);
     outcome
 }

@@ -1,4 +1,4 @@
-//! The marks of all units, which an office keeps in memory once a question needed them.
+//! The marks of all units, which an office keeps in memory once a question or a command needed them.
 
 ghost use Rattle.std.specs.Prelude.{◌≡◌};
 ghost use Rattle.catalogue_core.specs.Bounds.{IsKept};
@@ -7,7 +7,7 @@ ghost use Rattle.office_tables.specs.Calls.{Answers};
 ghost use Rattle.office_tables.specs.Premises.{◌within◌gives◌};
 ghost use Rattle.catalogue_statements.specs.Representation.{Represents};
 ghost use Rattle.desk_commands.specs.SparedCatalogue.{spares_catalogue};
-ghost use Rattle.office.specs.KeptMarks.{TellOf, kept_after};
+ghost use Rattle.office.specs.KeptMarks.{TellOf, asks_access as asks_who_may_see, kept_after};
 
 use catalogue_store::{Places, branch_marks};
 use known_forest::KnownForest;
@@ -47,6 +47,16 @@ pub(crate) fn kept_or_read<P: Places, S: Alter>(
         Some(forest) => Ok(forest),
         None => all_marks(alloc, tables),
     }
+}
+
+/// Whether a command asks who may have which container. The marks of all units decide it.
+pub(crate) fn asks_access(command: &Command) -> bool
+    ensures { result ≡ asks_who_may_see command.now }
+{
+    matches!(
+        command,
+        Command::Order { .. } | Command::Run | Command::Issue { .. }
+    )
 }
 
 /// Whether a command leaves the tables of the catalogue and the office's own row as they are.

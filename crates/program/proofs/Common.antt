@@ -2,7 +2,7 @@
 pub use Rattle.std.proofs.KnownBytes.{Appends-trans, Consumes-kept, Consumes-trans}
 pub use Rattle.std.proofs.lemmas.Bool.{both_ways, cases_Bool, cases_lt}
 pub use Rattle.std.proofs.lemmas.Result.{IfErr-weaker, IfOk-weaker, on_ok_weaker}
-pub use Rattle.std.specs.Io.KnownBytes.{Appends, Consumes}
+pub use Rattle.std.specs.Io.KnownBytes.{Appends, Consumes, IsAtEnd}
 pub use Rattle.std.specs.List.{AllByRecursion, AllZip}
 pub use Rattle.std.specs.Prelude.{IsErr, IsErrAnd, IsOk, MatchBool}
 pub use Rattle.std.specs.String.{string_bytes}
@@ -24,7 +24,7 @@ pub use Rattle.office_core.specs.Rules.{state_after, step}
 pub use Rattle.office_core.specs.SoundOffice.{IsSoundOffice}
 pub use Rattle.office_core.specs.declared.command.Command.{Command}
 pub use Rattle.http_desk.specs.Exchanges.{Keeps, Through}
-pub use Rattle.http_desk.specs.Streams.{Stream, one_more_call}
+pub use Rattle.http_desk.specs.Streams.{Stream, calls_of, one_more_call, spent}
 pub use Rattle.refinement.specs.Representation.{RepresentsState}
 pub use Rattle.office.specs.IdleOffice.{IsAtRest, IsIn, has_clean_disk, is_shown, is_still_open}
 pub use Rattle.office.specs.InitialSettings.{AreTaken, Founding, IsTaken, founded, settings_fault}
@@ -39,7 +39,7 @@ pub use Rattle.program.specs.CommandEffects.{ReplyFails, ReplyPrinted, ServeDone
 pub use Rattle.program.specs.CommandEffects.{Talked, Tells, TrialDone, TrialFails, channels, complaint_of, ended_by}
 pub use Rattle.program.specs.CommandEffects.{line_feed, preview_result}
 pub use Rattle.program.specs.Connections.{AreSessions, Connection, History, IsHeard, SessionsLeaveOpen, StaysFoundOrAny}
-pub use Rattle.program.specs.Connections.{WereBusyWith, after_failing, after_listening, after_one}
+pub use Rattle.program.specs.Connections.{WereBusyWith, after_failing, after_leaving, after_listening, after_one}
 pub use Rattle.program.specs.KeptOffices.{AreTablesAfter, AreTablesOf, IsAmong, IsRecovered, KeepsCommits}
 pub use Rattle.program.specs.OpenedFiles.{AreHeld, HoldsOffice, IsFound, IsInTheStateThatWasLeft}
 pub use Rattle.program.specs.Stores.{HasNoOffice, HasServed, HasTakenIn, IsBroughtOver, IsMade, IsNotBroughtOver}

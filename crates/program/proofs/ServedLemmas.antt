@@ -14,8 +14,8 @@ failed_so new true old is none = is
 failed_so new false old is none = is ∙ none
 
 -- the calls on what was not called before
-pub calls_of : (now before most : ℕ) → now ≤ before + most → before ≡ 0 → now ≤ most
-calls_of now before most within none = omega (arith, within, none)
+pub no_more_calls : (now before most : ℕ) → now ≤ before + most → before ≡ 0 → now ≤ most
+no_more_calls now before most within none = omega (arith, within, none)
 
 all_weaker : (P Q : Command → Type 0) → ((command : Command) → P command → Q command) → (commands : List Command)
     → AllByRecursion P commands → AllByRecursion Q commands

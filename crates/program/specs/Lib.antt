@@ -1,3 +1,4 @@
+pub mod ReadFiles
 pub mod Rows
 pub mod Busy
 pub mod ClosedFiles

@@ -13,11 +13,13 @@ ghost use Rattle.program.specs.Streams.{Prints};
 
 use crate::durable_office::DurableOffice;
 use crate::faults::Fault;
-use crate::files::{Outcome, StoreOutcome, close, find};
+use crate::files::{
+    Finding, Making, Openings, Outcome, Reading, StoreOutcome, close, file_bytes, find,
+};
 use crate::imports::{take_in, tell_reply};
 use crate::integrity::{judge_file, tell_judgment};
 use crate::ports::Port;
-use crate::previews::{file_bytes, print_preview};
+use crate::previews::print_preview;
 use crate::server::serve;
 use crate::sessions::{talk_with, try_office};
 use crate::stores::{close_office, make_office, open_office};
@@ -33,17 +35,12 @@ use std::alloc::Global;
 use std::io::{Read, Write};
 
 /// Makes a new office in a file.
-fn init<S: Start>(
-    rt: &HostRuntime,
-    store: &Text,
-    settings: Settings,
-    start: S,
-) -> (Result<(), Fault>, Outcome<S>)
+fn init<S: Start>(making: Making<'_, S>, settings: Settings) -> (Result<(), Fault>, Outcome<S>)
     ensures done { OnOk result.0 (IsClosedAnd result.1
         (IsMade ⟦<FileFrom<S> as Disk>⟧ (image_at S.Start) settings)) }
     ensures fault { IfErr result.0 (InitFails ⟦<FileFrom<S> as Disk>⟧ (image_at S.Start) settings result.1) }
 {
-    match make_office(rt, store, settings, start) {
+    match make_office(making, settings) {
         Ok(office) => (Ok(()), StoreOutcome::Closed(close_office(office))),
         Err((fault, outcome)) => (Err(fault), outcome),
     }
@@ -51,24 +48,25 @@ fn init<S: Start>(
 
 /// Imports a file of descriptions into the office in a file. The descriptions are read before the office is opened.
 fn import<S: Start, W: Write>(
-    rt: &HostRuntime,
     alloc: Global,
-    store: &Text,
+    reading: Reading<'_>,
+    finding: Finding<'_, S>,
     source: Text,
-    file: &Text,
     out: &mut Sink<'_, W>,
-    start: S,
 ) -> (Result<(), Fault>, Outcome<S>)
     ensures done { OnOk result.0 (ImportDone ⟦<FileFrom<S> as Disk>⟧ (image_at S.Start) source
         out.old out.new result.1) }
     ensures fault { IfErr result.0 (ImportFails ⟦<FileFrom<S> as Disk>⟧ (image_at S.Start) source
         out.old out.new result.1) }
 {
-    let bytes = match file_bytes(rt, alloc, file) {
+    let bytes = match file_bytes(reading, alloc) {
         Ok(bytes) => bytes,
-        Err(fault) => return (Err(Fault::from(fault)), StoreOutcome::Untouched(start)),
+        Err(fault) => return (
+            Err(Fault::from(fault)),
+            StoreOutcome::Untouched(finding.unused()),
+        ),
     };
-    let mut office = match open_office(rt, alloc, store, start) {
+    let mut office = match open_office(alloc, finding) {
         Ok(office) => office,
         Err((fault, outcome)) => return (Err(fault), outcome),
     };
@@ -82,19 +80,17 @@ fn import<S: Start, W: Write>(
 
 /// Answers requests on the office in a file.
 fn talk<S: Start, R: Read, W: Write>(
-    rt: &HostRuntime,
     alloc: Global,
-    store: &Text,
+    finding: Finding<'_, S>,
     reader: &mut Source<'_, R>,
     out: &mut Sink<'_, W>,
-    start: S,
 ) -> (Result<(), Fault>, Outcome<S>)
     ensures done { OnOk result.0 (TalkDone ⟦<FileFrom<S> as Disk>⟧ (image_at S.Start)
         reader.old reader.new out.old out.new result.1) }
     ensures fault { IfErr result.0 (TalkFails ⟦<FileFrom<S> as Disk>⟧ (image_at S.Start)
         reader.old reader.new out.old out.new result.1) }
 {
-    let mut kept = match open_office(rt, alloc, store, start) {
+    let mut kept = match open_office(alloc, finding) {
         Ok(office) => DurableOffice { office },
         Err((fault, outcome)) => return (Err(fault), outcome),
     };
@@ -105,7 +101,6 @@ fn talk<S: Start, R: Read, W: Write>(
 
 /// Listens on the port of this number, and prints that it does.
 fn listen<P: Port, W: Write>(
-    rt: &HostRuntime,
     alloc: Global,
     number: u16,
     port: &mut P,
@@ -115,7 +110,7 @@ fn listen<P: Port, W: Write>(
         × (P.history port.new ≡ after_listening (P.history port.old) number)) }
     ensures fault { IfErr result (ListeningFails number out.old out.new (P.history port.old) (P.history port.new)) }
 {
-    if !port.listen(rt, number) {
+    if !port.listen(number) {
         return Err(Fault::Net);
     }
     let line = format!(in alloc; "listening {number}\n")?;
@@ -125,7 +120,6 @@ fn listen<P: Port, W: Write>(
 
 /// Serves an office on the port of this number. Prints that it listens as soon as the port is bound.
 fn serve_on_port<P: Port, M: Machine, W: Write>(
-    rt: &HostRuntime,
     alloc: Global,
     number: u16,
     connections: u32,
@@ -145,7 +139,7 @@ fn serve_on_port<P: Port, M: Machine, W: Write>(
         (after_listening (P.history port.old) number) (P.history port.new) office.old office.new false)) }
     ensures intact { M.is_intact office.new → M.is_intact office.old }
 {
-    listen(rt, alloc, number, port, out)?;
+    listen(alloc, number, port, out)?;
     if serve(alloc, port, connections, office) {
         Ok(())
     } else {
@@ -155,43 +149,39 @@ fn serve_on_port<P: Port, M: Machine, W: Write>(
 
 /// Serves the office in a file.
 fn serve_store<S: Start, P: Port, W: Write>(
-    rt: &HostRuntime,
     alloc: Global,
-    store: &Text,
+    finding: Finding<'_, S>,
     number: u16,
     connections: u32,
     port: &mut P,
     out: &mut Sink<'_, W>,
-    start: S,
 ) -> (Result<(), Fault>, Outcome<S>)
     ensures done { OnOk result.0 (ServeDone ⟦<FileFrom<S> as Disk>⟧ (image_at S.Start) number connections
         out.old out.new (P.history port.old) (P.history port.new) result.1) }
     ensures fault { IfErr result.0 (ServeFails ⟦<FileFrom<S> as Disk>⟧ (image_at S.Start) number connections
         out.old out.new (P.history port.old) (P.history port.new) result.1) }
 {
-    let mut kept = match open_office(rt, alloc, store, start) {
+    let mut kept = match open_office(alloc, finding) {
         Ok(office) => DurableOffice { office },
         Err((fault, outcome)) => return (Err(fault), outcome),
     };
-    let served = serve_on_port(rt, alloc, number, connections, port, &mut kept, out);
+    let served = serve_on_port(alloc, number, connections, port, &mut kept, out);
     let DurableOffice { office } = kept;
     (served, StoreOutcome::Closed(close_office(office)))
 }
 
 /// Checks whether the office in a file is sound, and prints the verdict.
 fn check<S: Start, W: Write>(
-    rt: &HostRuntime,
     alloc: Global,
-    store: &Text,
+    finding: Finding<'_, S>,
     out: &mut Sink<'_, W>,
-    start: S,
 ) -> (Result<(), Fault>, Outcome<S>)
     ensures done { OnOk result.0 (CheckDone ⟦<FileFrom<S> as Disk>⟧ (image_at S.Start)
         out.old out.new result.1) }
     ensures fault { IfErr result.0 (CheckFails ⟦<FileFrom<S> as Disk>⟧ (image_at S.Start)
         out.old out.new result.1) }
 {
-    match judge_file(rt, alloc, store, start) {
+    match judge_file(alloc, finding) {
         Ok((judged, files)) => (
             tell_judgment(alloc, judged, out),
             StoreOutcome::Closed(files),
@@ -214,18 +204,16 @@ fn tell_migration<W: Write>(out: &mut Sink<'_, W>) -> Result<(), Fault>
 
 /// Migrates the office in a file from version 1 to version 2.
 fn migrate<S: Start, W: Write>(
-    rt: &HostRuntime,
     alloc: Global,
-    store: &Text,
+    finding: Finding<'_, S>,
     out: &mut Sink<'_, W>,
-    start: S,
 ) -> (Result<(), Fault>, Outcome<S>)
     ensures done { OnOk result.0 (MigrateDone ⟦<FileFrom<S> as Disk>⟧ (image_at S.Start)
         out.old out.new result.1) }
     ensures fault { IfErr result.0 (MigrateFails ⟦<FileFrom<S> as Disk>⟧ (image_at S.Start)
         out.old out.new result.1) }
 {
-    let mut conn = match find(rt, store.as_str(), start) {
+    let mut conn = match find(finding) {
         Ok(conn) => conn,
         Err(failed) => return (
             Err(Fault::from(failed.why())),
@@ -242,13 +230,12 @@ fn migrate<S: Start, W: Write>(
 
 /// Performs a task.
 fn do_task<S: Start, R: Read, W: Write, P: Port>(
-    rt: &HostRuntime,
+    openings: Openings<'_, S>,
     alloc: Global,
     task: Task,
     reader: &mut Source<'_, R>,
     out: &mut Sink<'_, W>,
     port: &mut P,
-    start: S,
 ) -> (Result<(), Fault>, Outcome<S>)
     ensures done { OnOk result.0 (Does ⟦<FileFrom<S> as Disk>⟧ (image_at S.Start) task
         (channels reader.old out.old (P.history port.old)) (channels reader.new out.new (P.history port.new))
@@ -262,28 +249,35 @@ fn do_task<S: Start, R: Read, W: Write, P: Port>(
             country,
             repo,
             file,
-        } => (
-            print_preview(rt, alloc, &country, &repo, file.as_ref(), reader, out),
-            StoreOutcome::Untouched(start),
-        ),
-        Task::Init { store, settings } => init(rt, &store, settings, start),
+        } => {
+            let input = openings.input(file.as_ref());
+            let printed = print_preview(alloc, &country, &repo, input, reader, out);
+            (printed, StoreOutcome::Untouched(openings.unused()))
+        }
+        Task::Init { store, settings } => init(openings.making(&store), settings),
         Task::Trial { settings } => (
             try_office(alloc, settings, reader, out),
-            StoreOutcome::Untouched(start),
+            StoreOutcome::Untouched(openings.unused()),
         ),
         Task::Import {
             store,
             source,
             file,
-        } => import(rt, alloc, &store, source, &file, out, start),
-        Task::Talk { store } => talk(rt, alloc, &store, reader, out, start),
+        } => {
+            let reading = openings.reading(&file);
+            import(alloc, reading, openings.finding(&store), source, out)
+        }
+        Task::Talk { store } => talk(alloc, openings.finding(&store), reader, out),
         Task::Serve {
             store,
             port: number,
             connections,
-        } => serve_store(rt, alloc, &store, number, connections, port, out, start),
-        Task::Check { store } => check(rt, alloc, &store, out, start),
-        Task::Migrate { store } => migrate(rt, alloc, &store, out, start),
+        } => {
+            let finding = openings.finding(&store);
+            serve_store(alloc, finding, number, connections, port, out)
+        }
+        Task::Check { store } => check(alloc, openings.finding(&store), out),
+        Task::Migrate { store } => migrate(alloc, openings.finding(&store), out),
     }
 }
 
@@ -292,13 +286,12 @@ fn do_task<S: Start, R: Read, W: Write, P: Port>(
 /// its text may have been printed. Only `serve` uses the port. `S` gives what the files held before. Returns what
 /// became of the store: a store that was opened is closed.
 pub fn run<S: Start, R: Read, W: Write, P: Port>(
-    rt: &HostRuntime,
+    openings: Openings<'_, S>,
     alloc: Global,
     words: &[String],
     reader: &mut Source<'_, R>,
     out: &mut Sink<'_, W>,
     port: &mut P,
-    start: S,
 ) -> (Result<(), Fault>, Outcome<S>)
     ensures done { OnOk result.0 (IsDone ⟦<FileFrom<S> as Disk>⟧ (image_at S.Start) (map string_bytes words.now)
         (channels reader.old out.old (P.history port.old)) (channels reader.new out.new (P.history port.new))
@@ -308,7 +301,10 @@ pub fn run<S: Start, R: Read, W: Write, P: Port>(
         result.1) }
 {
     match task(alloc, words) {
-        Ok(task) => do_task(rt, alloc, task, reader, out, port, start),
-        Err(fault) => (Err(Fault::from(fault)), StoreOutcome::Untouched(start)),
+        Ok(task) => do_task(openings, alloc, task, reader, out, port),
+        Err(fault) => (
+            Err(Fault::from(fault)),
+            StoreOutcome::Untouched(openings.unused()),
+        ),
     }
 }

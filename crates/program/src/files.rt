@@ -1,5 +1,9 @@
-//! A connection to the file of an office.
-ghost use Rattle.std.specs.Prelude.{◌≡◌, IfErr, IfOk, false};
+//! The files of a run: a connection to that of an office, and a file that is read.
+//!
+//! Only this module opens files. A command gets leave to open one, which it uses up.
+ghost use Rattle.std.specs.Prelude.{◌≡◌, ◌++◌, IfErr, IfOk, false};
+ghost use Rattle.std.specs.Option.{option_copied};
+ghost use Rattle.std.specs.String.{string_bytes};
 ghost use Rattle.sqlite.specs.WalFiles.{image_at};
 ghost use Rattle.sqlite.specs.Files.{IsOpened, file_state};
 ghost use Rattle.sqlite.specs.Held.{IsNew};
@@ -7,13 +11,18 @@ ghost use Rattle.sqlite.specs.Start.{FindsIn};
 ghost use Rattle.sqlite.specs.State.{HasCleanDisk};
 ghost use Rattle.program.specs.ClosedFiles.{HasLeft};
 ghost use Rattle.program.specs.FailedOpenings.{CouldNotOpen, reason_of, reason_of_error};
+ghost use Rattle.program.specs.ReadFiles.{AreAllOf, path_of};
 ghost use Rattle.program.specs.Rows.{StandInOrder};
 
+use crate::streams::{ReadFault, read_to_end};
+use http_desk::streams::Source;
+use isad_core::Text;
 use sqlite::{Connection, Error, ErrorCode, FileFrom, FileStore, Files, Leftover, Start};
 use sqlite_disk::Disk;
-use std::alloc::AllocError;
+use std::alloc::{AllocError, Global};
 use std::fs;
 use std::fs::File;
+use std::io::Read;
 use std::marker::{Model, PhantomData};
 
 /// Why no store was opened.
@@ -86,6 +95,113 @@ pub type FileStoreFrom<S> = FileStore<FileFrom<S>>;
 /// Why a store in a file could not be opened. `S` gives what the file held before.
 pub type FailedOpeningFrom<S> = FailedOpening<S, FileFrom<S>>;
 
+/// Leave to open the files of a run: one that is read, and one store, which `S` opens.
+#[derive(Drop)]
+pub struct Openings<'r, S: Start> {
+    rt: &'r HostRuntime,
+    start: S,
+}
+
+/// Leave to read the file at a path, once.
+#[derive(Drop)]
+pub struct Reading<'r> {
+    rt: &'r HostRuntime,
+    path: &'r Text,
+}
+
+/// Leave to open the store that is at a path, once.
+#[derive(Drop)]
+pub struct Finding<'r, S: Start> {
+    rt: &'r HostRuntime,
+    path: &'r Text,
+    start: S,
+}
+
+/// Leave to make a store at a path and to open it, once.
+#[derive(Drop)]
+pub struct Making<'r, S: Start> {
+    rt: &'r HostRuntime,
+    path: &'r Text,
+    start: S,
+}
+
+/// Leave to delete the store at a path, once. Only `make` gives it, for the store that it made.
+#[derive(Drop)]
+pub struct Unmaking<'r> {
+    rt: &'r HostRuntime,
+    path: &'r Text,
+}
+
+impl<'r, S: Start> Openings<'r, S> {
+    /// Leave to open files of this machine.
+    pub fn new(rt: &'r HostRuntime, start: S) -> Openings<'r, S> {
+        Openings { rt, start }
+    }
+
+    /// Opens nothing, and returns what would open the store.
+    pub fn unused(self) -> S {
+        self.start
+    }
+
+    /// Leave to read the file at this path.
+    pub fn reading(&self, path: &'r Text) -> Reading<'r>
+        ensures { path_of (Some result) ≡ Some path.now }
+    {
+        Reading { rt: self.rt, path }
+    }
+
+    /// Leave to read the file at this path, if there is one.
+    pub fn input(&self, path: Option<&'r Text>) -> Option<Reading<'r>>
+        ensures { path_of result ≡ option_copied path.entry }
+    {
+        match path {
+            Some(path) => Some(self.reading(path)),
+            None => None,
+        }
+    }
+
+    /// Leave to open the store at this path.
+    pub fn finding(self, path: &'r Text) -> Finding<'r, S> {
+        Finding {
+            rt: self.rt,
+            path,
+            start: self.start,
+        }
+    }
+
+    /// Leave to make a store at this path.
+    pub fn making(self, path: &'r Text) -> Making<'r, S> {
+        Making {
+            rt: self.rt,
+            path,
+            start: self.start,
+        }
+    }
+}
+
+impl<S: Start> Finding<'_, S> {
+    /// Opens nothing, and returns what would open the store.
+    pub fn unused(self) -> S {
+        self.start
+    }
+}
+
+/// Reads a file that was opened to its end.
+fn whole<R: Read + Drop>(alloc: Global, mut file: R) -> Result<Vec<u8>, ReadFault>
+    ensures { IfOk result (λ v. AreAllOf (R.remaining file) v.items) }
+{
+    read_to_end(alloc, &mut Source::new(&mut file))
+}
+
+/// Reads a file to its end. The fault is `Memory`, or `Failed` if it cannot be opened or read. What a file of the
+/// system has, no contract says.
+pub fn file_bytes(reading: Reading<'_>, alloc: Global) -> Result<Vec<u8>, ReadFault> {
+    match File::open(reading.rt, reading.path.as_str()) {
+        Ok(file) => whole(alloc, file),
+        Err(_) => Err(ReadFault::Failed),
+    }
+}
+
 /// The reason that an error gives.
 fn reason_of(error: &Error) -> FileFault
     ensures { result ≡ reason_of_error error.now }
@@ -119,44 +235,61 @@ fn open<S: Start>(
     }
 }
 
-/// The path of the log that lies beside a file.
-fn log_of(rt: &HostRuntime, path: &str) -> Result<String, AllocError> {
-    format!(in rt.alloc(); "{path}-wal")
+/// The path of a file that lies beside another, with this ending.
+fn beside(rt: &HostRuntime, path: &str, ending: &str) -> Result<String, AllocError>
+    ensures { IfOk result (λ text. string_bytes text ≡ path.now ++ ending.now) }
+{
+    format!(in rt.alloc(); "{path}{ending}")
 }
 
-/// Makes a new file and opens a store on it. Fails with `Absent` if the file or its log exists, or if another process
-/// makes the file at the same time. If no store can be opened on the file, it is deleted again. The contract tells the
-/// tables only by what `S` says that the file holds: that a new file is empty is the system's part.
-pub fn make<S: Start>(
-    rt: &HostRuntime,
-    path: &str,
-    start: S,
-) -> Result<Connection<FileStoreFrom<S>>, FailedOpeningFrom<S>>
-    ensures opened { IfOk result (λ conn. HasCleanDisk (file_state conn) → IsOpened conn) }
-    ensures found { IfOk result (λ conn. HasCleanDisk (file_state conn)
-        → FindsIn (image_at S.Start) (file_state conn)) }
-    ensures ordered { IfOk result (λ conn. HasCleanDisk (file_state conn) → StandInOrder (file_state conn).now) }
-    ensures fresh { IfOk result IsNew }
+/// Whether a file can be made here, with the files beside it: it has no log, which may contain the last changes of
+/// another office, and the name of the journal for which the engine looks is not too long.
+fn has_room(rt: &HostRuntime, path: &str) -> Result<bool, AllocError> {
+    let log = beside(rt, path, "-wal")?;
+    let journal = beside(rt, path, "-journal")?;
+    Ok(
+        matches!(fs::exists(rt, log.as_str()), Ok(false))
+            && fs::exists(rt, journal.as_str()).is_ok(),
+    )
+}
+
+/// Makes a new file and opens a store on it, with leave to delete it again. Fails with `Absent` if the file or its log
+/// exists, if the names of the files beside it are too long, or if another process makes the file at the same time. If
+/// no store can be opened on the file, it is deleted again. The contract tells the tables only by what `S` says that
+/// the file holds: that a new file is empty is the system's part.
+pub fn make<'r, S: Start>(
+    making: Making<'r, S>,
+) -> Result<(Connection<FileStoreFrom<S>>, Unmaking<'r>), FailedOpeningFrom<S>>
+    ensures opened { IfOk result (λ made. HasCleanDisk (file_state made.0) → IsOpened made.0) }
+    ensures found { IfOk result (λ made. HasCleanDisk (file_state made.0)
+        → FindsIn (image_at S.Start) (file_state made.0)) }
+    ensures ordered { IfOk result (λ made. HasCleanDisk (file_state made.0)
+        → StandInOrder (file_state made.0).now) }
+    ensures fresh { IfOk result (λ made. IsNew made.0) }
     ensures fails { IfErr result (CouldNotOpen ⟦<FileFrom<S> as Disk>⟧ (image_at S.Start)) }
 {
-    // A log without its file may contain the last changes of another office.
-    let Ok(log) = log_of(rt, path) else {
+    let Making { rt, path, start } = making;
+    let Ok(has_room) = has_room(rt, path.as_str()) else {
         return Err(FailedOpening::Untried(FileFault::Memory, start));
     };
-    if !matches!(fs::exists(rt, log.as_str()), Ok(false)) || File::create_new(rt, path).is_err() {
+    if !has_room || File::create_new(rt, path.as_str()).is_err() {
         return Err(FailedOpening::Untried(FileFault::Absent, start));
     }
-    let opened = open(rt, path, start);
-    if opened.is_err() {
-        unmake(rt, path);
+    let unmaking = Unmaking { rt, path };
+    match open(rt, path.as_str(), start) {
+        Ok(conn) => Ok((conn, unmaking)),
+        Err(failed) => {
+            unmake(unmaking);
+            Err(failed)
+        }
     }
-    opened
 }
 
 /// Deletes a file that was made and is closed, and its log, so that it can be made again. Failures are ignored.
-pub fn unmake(rt: &HostRuntime, path: &str) {
-    let _ = fs::remove_file(rt, path);
-    if let Ok(log) = log_of(rt, path) {
+pub fn unmake(unmaking: Unmaking<'_>) {
+    let Unmaking { rt, path } = unmaking;
+    let _ = fs::remove_file(rt, path.as_str());
+    if let Ok(log) = beside(rt, path.as_str(), "-wal") {
         let _ = fs::remove_file(rt, log.as_str());
     }
 }
@@ -167,9 +300,7 @@ const FEWEST_BYTES: u64 = 512;
 /// Opens an existing file, with the store in it. Fails with `Absent` if nothing is found at the path. A file of fewer
 /// than 512 bytes is too short for a store, and stays as it is, with its log.
 pub fn find<S: Start>(
-    rt: &HostRuntime,
-    path: &str,
-    start: S,
+    finding: Finding<'_, S>,
 ) -> Result<Connection<FileStoreFrom<S>>, FailedOpeningFrom<S>>
     ensures opened { IfOk result (λ conn. HasCleanDisk (file_state conn) → IsOpened conn) }
     ensures found { IfOk result (λ conn. HasCleanDisk (file_state conn)
@@ -178,11 +309,12 @@ pub fn find<S: Start>(
     ensures fresh { IfOk result IsNew }
     ensures fails { IfErr result (CouldNotOpen ⟦<FileFrom<S> as Disk>⟧ (image_at S.Start)) }
 {
-    match fs::metadata(rt, path) {
+    let Finding { rt, path, start } = finding;
+    match fs::metadata(rt, path.as_str()) {
         Ok(found) if found.is_file() && found.len() < FEWEST_BYTES => {
             Err(FailedOpening::TooShort(start))
         }
-        Ok(_) => open(rt, path, start),
+        Ok(_) => open(rt, path.as_str(), start),
         Err(_) => Err(FailedOpening::Untried(FileFault::Absent, start)),
     }
 }

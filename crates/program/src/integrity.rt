@@ -13,10 +13,9 @@ ghost use Rattle.program.specs.CommandEffects.{JudgmentFails, JudgmentPrinted};
 ghost use Rattle.program.specs.FailedOpenings.{CouldNotOpen};
 
 use crate::faults::Fault;
-use crate::files::{ClosedFiles, FailedOpeningFrom, close, find};
+use crate::files::{ClosedFiles, FailedOpeningFrom, Finding, close, find};
 use crate::streams::write_whole;
 use http_desk::streams::Sink;
-use isad_core::Text;
 use nested_sets::SpanPlaces;
 use office::{Office, OpenFault};
 use sqlite::{Alter, Connection, FileFrom, Start};
@@ -49,15 +48,13 @@ pub fn judge<S: Alter>(alloc: Global, conn: Connection<S>) -> (Option<OpenFault>
 /// tables, or none if they are those of a sound office of version 2, with the closed files. If the store cannot be
 /// opened, the error has why.
 pub fn judge_file<S: Start>(
-    rt: &HostRuntime,
     alloc: Global,
-    store: &Text,
-    start: S,
+    finding: Finding<'_, S>,
 ) -> Result<(Option<OpenFault>, ClosedFiles<S>), FailedOpeningFrom<S>>
     ensures judged { IfOk result (λ r. WasJudgedAsFound ⟦<FileFrom<S> as Disk>⟧ (image_at S.Start) r.0 r.1) }
     ensures fails { IfErr result (CouldNotOpen ⟦<FileFrom<S> as Disk>⟧ (image_at S.Start)) }
 {
-    let conn = find(rt, store.as_str(), start)?;
+    let conn = find(finding)?;
     let (judged, conn) = judge(alloc, conn);
     Ok((judged, close(conn)))
 }

@@ -8,6 +8,7 @@ pub mod files;
 pub mod imports;
 pub mod integrity;
 pub mod laws;
+pub mod loopback;
 pub mod perform;
 pub mod ports;
 pub mod previews;

@@ -7,7 +7,7 @@ ghost use Rattle.program.specs.CommandEffects.{IsPerformed, Tells, channels};
 
 use crate::commands::run;
 use crate::faults::Fault;
-use crate::files::Outcome;
+use crate::files::{Openings, Outcome};
 use crate::ports::Port;
 use crate::streams::write_whole;
 use http_desk::streams::{Sink, Source};
@@ -21,21 +21,20 @@ use std::io::{Read, Write};
 /// its log are closed. The two may have held anything before: `S` gives their content. The status is 0 if the command
 /// was done; otherwise it is 1 to 3, by the fault, whose message is written on standard error as far as that takes it.
 pub fn perform<S: Start, R: Read, W: Write, E: Write, P: Port>(
-    rt: &HostRuntime,
+    openings: Openings<'_, S>,
     alloc: Global,
     words: &[String],
     reader: &mut Source<'_, R>,
     out: &mut Sink<'_, W>,
     err: &mut Sink<'_, E>,
     port: &mut P,
-    start: S,
 ) -> (u8, Outcome<S>)
     ensures performs { IsPerformed ⟦<FileFrom<S> as Disk>⟧ (image_at S.Start) (map string_bytes words.now)
         (channels reader.old out.old (P.history port.old)) (channels reader.new out.new (P.history port.new))
         err.old err.new result.1 result.0 }
     ensures status { result.0 ≤ 3 }
 {
-    let (done, outcome) = run(rt, alloc, words, reader, out, port, start);
+    let (done, outcome) = run(openings, alloc, words, reader, out, port);
     let status = match done {
         Ok(()) => 0,
         Err(fault) => tell(&fault, err),

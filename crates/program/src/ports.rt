@@ -1,11 +1,13 @@
 //! Ports that clients connect to.
 ghost use Rattle.std.specs.Prelude.{◌≡◌, IfNone, IfSome, None, Option};
-ghost use Rattle.program.specs.Connections.{History, IsHere, after_binding, after_failing, after_leaving, after_taking};
+ghost use Rattle.http_desk.specs.Streams.{spent};
+ghost use Rattle.program.specs.Connections.{History, after_binding, after_failing, after_leaving, after_taking};
 
+use crate::loopback::{Loopback, here};
 use http_desk::session_end::Ended;
-use http_desk::streams::{Sink, Source};
+use http_desk::streams::Calls;
 use std::io::{ErrorKind, Read, Write};
-use std::net::{Ipv4Addr, Shutdown, SocketAddr, SocketAddrV4, TcpListener, TcpStream};
+use std::net::{Shutdown, TcpListener, TcpStream};
 use std::time::Duration;
 
 /// A port that clients connect to, one after the other.
@@ -20,7 +22,7 @@ pub trait Port {
     ghost history: { Self → Option History } = { λ _. None };
 
     /// Binds it to this number, and listens. Returns false if that fails; what is known of it then stays the same.
-    fn listen(&mut self, rt: &HostRuntime, number: u16) -> bool
+    fn listen(&mut self, number: u16) -> bool
         ensures { history self.new ≡ after_binding result (history self.old) number };
 
     /// Takes the next connection. Returns none if that fails, which is counted.
@@ -29,14 +31,18 @@ pub trait Port {
         ensures taken { IfSome result (λ it. history self.new
             ≡ after_taking (history self.old) (Self.Reader.remaining it.0) (Self.Writer.contents it.1)) };
 
-    /// Leaves the connection after a session over this reader and this writer.
-    fn leave<R: Read, W: Write>(
+    /// Leaves the connection after a session. Its reader and its writer are given away, so that nothing is written to
+    /// the client afterwards; this is how their calls went, and how the session ended.
+    fn leave<R: Read + Drop, W: Write + Drop>(
         &mut self,
-        reader: &Source<'_, R>,
-        writer: &Sink<'_, W>,
+        reader: R,
+        writer: W,
+        reads: Calls,
+        writes: Calls,
         ended: Ended,
     )
-        ensures { history self.new ≡ after_leaving (history self.old) reader.now writer.now ended };
+        ensures { history self.new ≡ after_leaving (history self.old) (spent (R.remaining reader) reads)
+            (spent (W.contents writer) writes) ended };
 
     /// Closes the port. What is known of it stays the same.
     fn shut(&mut self)
@@ -60,35 +66,30 @@ const LAST_CHUNK: usize = 65_536;
 
 /// A port of this machine that no other machine can reach, with the client that is being served.
 #[derive(Drop)]
-pub struct LocalPort {
+pub struct LocalPort<'r> {
+    loopback: Loopback<'r>,
     listener: Option<TcpListener>,
     client: Option<TcpStream>,
 }
 
-/// The address that a server listens on.
-fn here(port: u16) -> SocketAddr
-    ensures { IsHere port result }
-{
-    SocketAddr::V4(SocketAddrV4::new(Ipv4Addr::new(127, 0, 0, 1), port))
-}
-
-impl LocalPort {
+impl<'r> LocalPort<'r> {
     /// A port that does not listen yet.
-    pub fn new() -> LocalPort {
+    pub fn new(loopback: Loopback<'r>) -> LocalPort<'r> {
         LocalPort {
+            loopback,
             listener: None,
             client: None,
         }
     }
 }
 
-impl Port for LocalPort {
+impl Port for LocalPort<'_> {
     type Reader = TcpStream;
 
     type Writer = TcpStream;
 
-    fn listen(&mut self, rt: &HostRuntime, number: u16) -> bool {
-        let Ok(listener) = TcpListener::bind(rt, here(number)) else {
+    fn listen(&mut self, number: u16) -> bool {
+        let Ok(listener) = self.loopback.bind(here(number)) else {
             return false;
         };
         self.listener = Some(listener);
@@ -110,10 +111,12 @@ impl Port for LocalPort {
         Some((reader, writer))
     }
 
-    fn leave<R: Read, W: Write>(
+    fn leave<R: Read + Drop, W: Write + Drop>(
         &mut self,
-        _reader: &Source<'_, R>,
-        _writer: &Sink<'_, W>,
+        _reader: R,
+        _writer: W,
+        _reads: Calls,
+        _writes: Calls,
         ended: Ended,
     ) {
         if let Some(stream) = &self.client

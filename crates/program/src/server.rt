@@ -7,7 +7,7 @@ use http_desk::streams::{Sink, Source};
 use office::Machine;
 use std::alloc::Global;
 
-/// Holds a session with the client of a connection, and leaves the connection.
+/// Holds a session with the client of a connection, and gives the connection away.
 fn answer<P: Port, M: Machine>(
     alloc: Global,
     port: &mut P,
@@ -23,7 +23,10 @@ fn answer<P: Port, M: Machine>(
     let mut source = Source::new(&mut reader);
     let mut sink = Sink::new(&mut writer);
     let ended = talk(alloc, &mut source, &mut sink, office);
-    port.leave(&source, &sink, ended);
+    let (reads, writes) = (source.told(), sink.told());
+    let _reader = source.into_reader();
+    let _writer = sink.into_writer();
+    port.leave(reader, writer, reads, writes, ended);
 }
 
 /// Serves one connection, which counts however it ends. Returns false if none could be taken. If it is the last, the

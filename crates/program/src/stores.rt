@@ -18,9 +18,9 @@ ghost use Rattle.program.specs.Stores.{HasNoOffice, MakesNone};
 
 use crate::faults::Fault;
 use crate::files::{
-    ClosedFiles, FailedOpeningFrom, FileStoreFrom, Outcome, StoreOutcome, close, find, make, unmake,
+    ClosedFiles, FailedOpeningFrom, FileStoreFrom, Finding, Making, Outcome, StoreOutcome, close,
+    find, make, unmake,
 };
-use isad_core::Text;
 use memory_disk::MemoryDisk;
 use nested_sets::SpanPlaces;
 use office::{Office, Settings};
@@ -50,43 +50,39 @@ fn open_fault<S: Start>(failed: FailedOpeningFrom<S>) -> (Fault, Outcome<S>)
 /// file cannot be made, for example because it exists, `Memory`, or else `Store`. If it fails, a file that was made is
 /// deleted again.
 pub fn make_office<S: Start>(
-    rt: &HostRuntime,
-    store: &Text,
+    making: Making<'_, S>,
     settings: Settings,
-    start: S,
 ) -> Result<KeptOffice<S>, (Fault, Outcome<S>)>
     ensures founded { IfOk result (λ office. HasCleanDisk (file_state office)
         → IsIn RepresentsSpanRows Second (founded settings) (file_state office)) }
     ensures kept { IfOk result (λ office. HasCleanDisk (file_state office) → IsTrue (file_state office).is_open) }
     ensures fault { IfErr result (λ e. MakesNone ⟦<FileFrom<S> as Disk>⟧ (image_at S.Start) e.1 settings e.0) }
 {
-    let conn = match make(rt, store.as_str(), start) {
-        Ok(conn) => conn,
+    let (conn, unmaking) = match make(making) {
+        Ok(made) => made,
         Err(failed) => return Err(open_fault(failed)),
     };
     match KeptOffice::<S>::create(conn, settings) {
         Ok(office) => Ok(office),
         Err((fault, conn)) => {
             let files = close(conn);
-            unmake(rt, store.as_str());
+            unmake(unmaking);
             Err((Fault::from(fault), StoreOutcome::Closed(files)))
         }
     }
 }
 
-/// Opens the sound office of version 2 in the file at the path `store`, whose content `S` gives. The fault is `File` if
+/// Opens the sound office of version 2 in the file of this leave, whose content `S` gives. The fault is `File` if
 /// nothing is found there, `Memory`, or else `Store`. If it fails, a file that was opened is closed as it was found.
 pub fn open_office<S: Start>(
-    rt: &HostRuntime,
     alloc: Global,
-    store: &Text,
-    start: S,
+    finding: Finding<'_, S>,
 ) -> Result<KeptOffice<S>, (Fault, Outcome<S>)>
     ensures found { IfOk result (λ office. HasCleanDisk (file_state office)
         → IsFound (image_at S.Start) (file_state office)) }
     ensures fault { IfErr result (λ e. HasNoOffice ⟦<FileFrom<S> as Disk>⟧ (image_at S.Start) e.1 e.0) }
 {
-    let conn = match find(rt, store.as_str(), start) {
+    let conn = match find(finding) {
         Ok(conn) => conn,
         Err(failed) => return Err(open_fault(failed)),
     };

@@ -2,7 +2,7 @@
 ghost use Rattle.std.specs.Prelude.{IsErr};
 
 use http_desk::session_end::Ended;
-use http_desk::streams::{Sink, Source};
+use http_desk::streams::Calls;
 use program::ports::Port;
 use std::io::{self, ErrorKind, PipeWriter, Read, Write};
 
@@ -211,7 +211,7 @@ impl<'a> Port for Queue<'a> {
 
     type Writer = PipeWriter;
 
-    fn listen(&mut self, _rt: &HostRuntime, number: u16) -> bool {
+    fn listen(&mut self, number: u16) -> bool {
         if self.binds {
             self.number = Some(number);
         }
@@ -229,10 +229,12 @@ impl<'a> Port for Queue<'a> {
         Some((Pieces::of(client.as_bytes()), writer))
     }
 
-    fn leave<R: Read, W: Write>(
+    fn leave<R: Read + Drop, W: Write + Drop>(
         &mut self,
-        _reader: &Source<'_, R>,
-        _writer: &Sink<'_, W>,
+        _reader: R,
+        _writer: W,
+        _reads: Calls,
+        _writes: Calls,
         _ended: Ended,
     ) {
         self.left = self.left.saturating_add(1);

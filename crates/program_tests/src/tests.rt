@@ -2,6 +2,7 @@
 
 use crate::fakes::{Page, Pieces, Queue};
 use http_desk::streams::{Sink, Source};
+use program::files::Openings;
 use program::perform::perform;
 use sqlite::Wary;
 use std::alloc::Global;
@@ -67,14 +68,13 @@ pub fn expect_over<R: Abort + Host>(
     let mut err = Page::new(Vec::new(alloc));
     let said = words_of(alloc, words)?;
     let (status, _outcome) = perform(
-        rt.host(),
+        Openings::new(rt.host(), Wary),
         alloc,
         said.as_slice(),
         &mut Source::new(&mut reader),
         &mut Sink::new(&mut out),
         &mut Sink::new(&mut err),
         port,
-        Wary,
     );
     let (wanted_status, wanted_out, wanted_err) = wanted;
     assert_eq!(rt; status, wanted_status, "status of {words}");
@@ -133,14 +133,13 @@ fn a_status_stands_without_its_text(rt: HostRuntime) -> Result<(), Fail> {
         let mut err = Page::narrow(Vec::new(alloc), n);
         let mut reader = Pieces::of(b"");
         let (status, _outcome) = perform(
-            &rt,
+            Openings::new(&rt, Wary),
             alloc,
             words.as_slice(),
             &mut Source::new(&mut reader),
             &mut Sink::new(&mut out),
             &mut Sink::new(&mut err),
             &mut port,
-            Wary,
         );
         assert_eq!(rt; status, 1);
         assert_eq!(rt; err.held.as_slice(), &told[..n]);

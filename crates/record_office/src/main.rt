@@ -2,6 +2,8 @@
 #![tactic(auto)]
 
 use http_desk::streams::{Sink, Source};
+use program::files::Openings;
+use program::loopback::Loopback;
 use program::ports::LocalPort;
 use program::{perform, words};
 use sqlite::Wary;
@@ -13,14 +15,13 @@ fn main(rt: HostRuntime) -> ExitCode {
     let status = match words::arguments(&rt, rt.alloc()) {
         Ok(words) => {
             let (status, _outcome) = perform::perform(
-                &rt,
+                Openings::new(&rt, Wary),
                 rt.alloc(),
                 words.as_slice(),
                 &mut Source::new(&mut rt.stdin()),
                 &mut Sink::new(&mut rt.stdout()),
                 &mut err,
-                &mut LocalPort::new(),
-                Wary,
+                &mut LocalPort::new(Loopback::new(&rt)),
             );
             status
         }

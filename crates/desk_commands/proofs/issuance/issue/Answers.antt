@@ -24,4 +24,4 @@ returns-in-Ok g c =
     let told = c.in_ok-found.ensures.answers in
     does_then told.looks c.issue_known.ensures (λ clean s sound so it.
     let headed = told.answers clean tt (storage_of v s) (shows_storage v s g.P.Places.represents _ sound it) in
-    (so.0, so.1, queued_at s c.args.container v sound c.in-Ok.head headed c.in-Ok.ensures.found))
+    (so.0, so.1, queued_at s c.args.container v sound c.in-Ok.head headed c.in-Ok.ensures.found, so.2))

@@ -19,7 +19,7 @@ returns-in-Err g c =
     let opened = c.in_ok-is_open.ensures.answers in
     is_refused (looks_then who.looks opened.looks) (λ clean s sound so it.
     let told = both_told who opened clean s it in
-    sym (c.in-Err.ensures.refused ∙ decided_as g.P.Versioned.version c.args.ticket sound so.0 so.1 so.2 told.0 (told.1 (judged_now s sound) so.0)))
+    sym (c.in-Err.ensures.refused ∙ decided_as g.P.Versioned.version c.args.ticket sound so.0 so.1 so.2 told.0 (told.1 (judged_now s sound) so.0 so.3)))
 
 pub returns-in-Ok : goal.returns-in-Ok
 returns-in-Ok g c =
@@ -27,6 +27,6 @@ returns-in-Ok g c =
     let opened = c.in_ok-is_open.ensures.answers in
     does_then (looks_then who.looks opened.looks) c.lend.ensures (λ clean s sound so it.
     let told = both_told who opened clean s it in (
-      sym (c.in-Ok.ensures.refused ∙ decided_as g.P.Versioned.version c.args.ticket sound so.0 so.1 so.2 told.0 (told.1 (judged_now s sound) so.0)),
+      sym (c.in-Ok.ensures.refused ∙ decided_as g.P.Versioned.version c.args.ticket sound so.0 so.1 so.2 told.0 (told.1 (judged_now s sound) so.0 so.3)),
       first_order s c.args.container c.in-Ok.order (ap (option_map (λ (x : WaitingOrder). x.order)) (sym so.2.is_first) ∙ c.in-Ok.ensures.order),
     ))

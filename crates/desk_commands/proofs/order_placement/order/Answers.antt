@@ -21,4 +21,5 @@ returns g c =
       so.0,
       so.1,
       ap (λ day. card_of c.args.ticket day (tables g.P.Versioned.version s).desk) (sym so.0) ∙ sym (told.answers clean tt (tables g.P.Versioned.version s).desk it.desk) ∙ c.in-Some.is,
+      so.2,
     ))

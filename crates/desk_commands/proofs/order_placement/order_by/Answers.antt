@@ -9,4 +9,4 @@ pub returns : goal.returns
 returns g c =
     let told = c.in_ok-is_open.ensures.answers in
     does_then told.looks c.decide.ensures
-    (λ clean s sound so it. (so.0, so.1, so.2, told.answers clean tt s it (judged_now s sound) so.0))
+    (λ clean s sound so it. (so.0, so.1, so.2, told.answers clean tt s it (judged_now s sound) so.0 so.3))

@@ -20,7 +20,7 @@ returns-then-are_none g c =
     let told = c.in_ok-due.ensures.answers in
     is_refused (looks_then first.looks told.looks) (λ clean s sound so it.
     let both = both_told first told clean s it in
-    let is = due_taken v s (both.1 (judged_now s sound) so.0) so.1 (c.deref.ensures.value ∙ both.0) in
+    let is = due_taken v s (both.1 (judged_now s sound) so.0 so.2) so.1 (c.deref.ensures.value ∙ both.0) in
     nothing_due v s sound (ap is_empty (sym (c.deref-2.ensures.value ∙ is)) ∙ sym c.are_none.ensures ∙ c.if-are_none.true))
 
 pub returns : goal.returns
@@ -30,5 +30,5 @@ returns g c =
     let told = c.in_ok-due.ensures.answers in
     does_then (looks_then first.looks told.looks) c.bring_due.ensures (λ clean s sound so it.
     let both = both_told first told clean s it in
-    let is = due_taken v s (both.1 (judged_now s sound) so.0) so.1 (c.deref.ensures.value ∙ both.0) in
+    let is = due_taken v s (both.1 (judged_now s sound) so.0 so.2) so.1 (c.deref.ensures.value ∙ both.0) in
     (so.0, c.deref-3.ensures.value ∙ is, ap is_empty (c.deref-3.ensures.value ∙ sym c.deref-2.ensures.value) ∙ sym c.are_none.ensures ∙ c.if-are_none.false))

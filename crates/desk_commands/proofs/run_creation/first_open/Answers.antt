@@ -1,6 +1,5 @@
 use Rattle.std.proofs.Common.{◌≡◌, ap, arith, length, ◌∙◌}
 use Rattle.desk_store.proofs.ToldCalls.{ends_well, shown_on}
-use Rattle.access.proofs.TellingUnits.{nothing_told}
 use Rattle.desk_commands.proofs.Common.{RepresentsWhole, early, is_on_shelf, looks_nowhere, looks_then, on_shelf}
 use Rattle.desk_commands.proofs.Common.{tables, take_rest, tells_passed_later}
 use Rattle.desk_commands.proofs.Fetched.{found_enough, found_later}
@@ -31,11 +30,11 @@ returns-then-len-most g c =
     let shelved = c.in_ok-near.ensures.answers.call in
     let told = c.in_ok-found.ensures.answers in
     record {
-      answers = ends_well (looks_then shelved.looks told.looks) _ (λ clean s it judged day.
+      answers = ends_well (looks_then shelved.looks told.looks) _ (λ clean s it judged day known.
           let first = both_told shelved told clean s it in
-          let found = first.1 judged day (nothing_told c.args.today s.catalogue.forest c.new.result c.new.ensures.empty) in
-          let many : length c.in_ok-found.found.orders.items ≡ c.args.most = omega (arith, c.if-len-most.true) in
-          found_enough s (λ o. is_on_shelf (tables v s).desk o.container) c.args.most c.min-end.result c.args.waiting.now (c.deref.ensures.value ∙ first.0) found.0 many);
+          let found = first.1 judged day known in
+          let many : length c.in_ok-found.found.items ≡ c.args.most = omega (arith, c.if-len-most.true) in
+          found_enough s (λ o. is_on_shelf (tables v s).desk o.container) c.args.most c.min-end.result c.args.waiting.now (c.deref.ensures.value ∙ first.0) found many);
     }
 
 pub returns-in_err-due : goal.returns-in_err-due
@@ -53,11 +52,11 @@ returns g c =
     let last = c.in_ok-due.ensures.answers in
     let until_d = looks_then shelved.looks told.looks in
     record {
-      answers = ends_well (looks_then (looks_then until_d others.looks) last.looks) _ (λ clean s it judged day.
+      answers = ends_well (looks_then (looks_then until_d others.looks) last.looks) _ (λ clean s it judged day known.
           let at_d = early others.looks.goes.on.crash (early last.looks.goes.on.crash clean) in
           let first = both_told shelved told at_d s it in
           let later = both_told others last clean s (shown_on (RepresentsWhole g.P.Places.represents v) until_d at_d s it) in
           let far = c.deref-2.ensures.value ∙ later.0 ∙ ap (on_shelf (tables v s).desk) (take_rest c.args.waiting.now c.min-end.result) in
-          let found = first.1 judged day (nothing_told c.args.today s.catalogue.forest c.new.result c.new.ensures.empty) in
-          found_later s (λ o. is_on_shelf (tables v s).desk o.container) c.args.most c.min-end.result c.args.waiting.now (c.deref.ensures.value ∙ first.0) found.0 far (later.1 judged day found.1));
+          let found = first.1 judged day known in
+          found_later s (λ o. is_on_shelf (tables v s).desk o.container) c.args.most c.min-end.result c.args.waiting.now (c.deref.ensures.value ∙ first.0) found far (later.1 judged day known));
     }

@@ -1,6 +1,6 @@
 use Rattle.std.proofs.Common.{IsOk, refl, rules, subst, sym}
 use Rattle.office.proofs.Common.{HasCleanDisk, IsAsBefore, Survives, early, looked_crash, state}
-use Rattle.office.proofs.KeptMarks.{answers_known, kept_as_before, kept_asked}
+use Rattle.office.proofs.KeptMarks.{answers_known, kept_as_before, kept_within}
 use Rattle.office.proofs.queries.ask_in.Goals as goal
 
 pub returns-clause-asks : goal.returns-clause-asks
@@ -17,7 +17,7 @@ returns-in_err-tables-clause-marks g c =
     let z = state g.S.Store c.begin.follows.lender-at-none in
     let crash : Survives a z (λ _. ⊥) = search rules in
     let same : HasCleanDisk z → IsAsBefore a z = search rules in
-    kept_as_before g.P.Places.represents g.P.Versioned.version c.args.kept.now a z (early crash) same c.requires.marks
+    kept_as_before g.P.Places.represents g.P.Versioned.version c.args.kept.now a z (early crash) same (λ clean. c.requires.marks)
 
 pub returns-clause-marks : goal.returns-clause-marks
 returns-clause-marks g c =
@@ -29,5 +29,8 @@ returns-clause-marks g c =
     let given_back = c.begin.follows.holds c.answer_to-outcome.new.tables (subst IsOk (sym c.in_ok-tables.was) refl) in
     let crash : Survives m z (λ _. ⊥) = rw given_back at c.roll_back.ensures.crash in
     let same : HasCleanDisk z → IsAsBefore a z = search rules in
-    kept_asked g.P.Places.represents g.P.Versioned.version a b m z (early c.in_ok-tables.ensures.crash) (early (looked_crash c.answer_to-outcome.result b m told.looks told.aborts)) (early crash)
-    c.in_ok-tables.ensures.begun same c.args.kept.now c.answer_to-outcome.new.kept c.answer_to-outcome.ensures.stays c.requires.marks
+    let clean_b : HasCleanDisk m → HasCleanDisk b = early (looked_crash c.answer_to-outcome.result b m told.looks told.aborts) in
+    kept_as_before g.P.Places.represents g.P.Versioned.version c.answer_to-outcome.new.kept a z
+    (λ clean. early c.in_ok-tables.ensures.crash (clean_b (early crash clean))) same
+    (λ clean. kept_within g.P.Places.represents g.P.Versioned.version a b m clean_b c.in_ok-tables.ensures.begun c.args.kept.now
+    c.answer_to-outcome.new.kept c.answer_to-outcome.ensures.stays c.requires.marks (early crash clean))

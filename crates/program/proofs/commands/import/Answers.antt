@@ -32,7 +32,7 @@ returns-in-Ok-taken-clause-done g c =
       crash = c.take_in-taken.ensures.crash;
       closed = c.close_office-files.ensures;
     } in
-    import_done _ _ c.args.start c.close_office-files.result _ _ c.args.source _ taken c.tell_reply.result c.tell_reply.ensures.done
+    import_done _ _ c.args.finding.start c.close_office-files.result _ _ c.args.source _ taken c.tell_reply.result c.tell_reply.ensures.done
 
 pub returns-in-Ok-taken-clause-fault : goal.returns-in-Ok-taken-clause-fault
 returns-in-Ok-taken-clause-fault g c =
@@ -46,4 +46,4 @@ returns-in-Ok-taken-clause-fault g c =
       crash = c.take_in-taken.ensures.crash;
       closed = c.close_office-files.ensures;
     } in
-    import_failed _ _ c.args.start c.close_office-files.result _ _ c.args.source _ taken c.tell_reply.result c.tell_reply.ensures.fault
+    import_failed _ _ c.args.finding.start c.close_office-files.result _ _ c.args.source _ taken c.tell_reply.result c.tell_reply.ensures.fault

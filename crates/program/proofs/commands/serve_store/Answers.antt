@@ -15,7 +15,7 @@ returns-clause-done g c =
     let after = served.new.office.office in
     let told = g.P.Port.history c.args.port.now in
     let told_after = g.P.Port.history served.new.port in
-    serve_done _ _ c.args.start c.close_office.result c.args.out.now served.new.out c.args.number c.args.connections told told_after office after c.in-Ok.ensures.found
+    serve_done _ _ c.args.finding.start c.close_office.result c.args.out.now served.new.out c.args.number c.args.connections told told_after office after c.in-Ok.ensures.found
     served.ensures.intact c.close_office.ensures served.result
     (on_ok_weaker served.result (λ (listens, it).
     (listens, seen_as {told = after_listening told c.args.number} {told_after = told_after} (is_shown over_files RepresentsSpanRows Second) (has_clean_disk over_files) (is_still_open over_files) (IsRecovered over_files) office after it it.sessions))
@@ -28,7 +28,7 @@ returns-clause-fault g c =
     let after = served.new.office.office in
     let told = g.P.Port.history c.args.port.now in
     let told_after = g.P.Port.history served.new.port in
-    serve_failed _ _ c.args.start c.close_office.result c.args.out.now served.new.out c.args.number c.args.connections told told_after office after c.in-Ok.ensures.found
+    serve_failed _ _ c.args.finding.start c.close_office.result c.args.out.now served.new.out c.args.number c.args.connections told told_after office after c.in-Ok.ensures.found
     served.ensures.intact c.close_office.ensures served.result
     (IfErr-weaker served.result _ _ (λ f why. either_so
     (λ (fails, it). (fails, seen_as {told = told_after} {told_after = told_after} (is_shown over_files RepresentsSpanRows Second) (has_clean_disk over_files) (is_still_open over_files) (IsRecovered over_files) office after it it.sessions))

@@ -1,0 +1,4 @@
+pub mod Common
+mod Unpermitted
+mod ReadersMarks
+mod OpenByUnits
