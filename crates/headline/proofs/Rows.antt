@@ -1,7 +1,7 @@
 -- The rows of orders that are out name different containers.
-use Rattle.std.proofs.Common.{◌≡◌, ◌∙◌, ℕ, Option, Some, None, ap, ap₂, inl, inr, nat_eq, option_map, refl, subst, sym, true}
+use Rattle.std.proofs.Common.{◌≡◌, ◌∙◌, ℕ, Option, Some, None, ap, ap₂, inl, inr, nat_eq, option_map, refl, subst, sym}
+use Rattle.std.proofs.Common.{true}
 use Rattle.std.proofs.lemmas.Bool.{cases_Bool, eqb-true}
-use Rattle.tree_core.specs.Members.{StandsIn}
 use Rattle.desk_core.specs.DeskRows.{OrderRow}
 use Rattle.office_core.proofs.OrderLaws.{out_apart}
 use Rattle.office_core.proofs.Words.{same_number}

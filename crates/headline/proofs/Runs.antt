@@ -1,9 +1,11 @@
 -- Visits to an office over nested sets, one after the other, are the machine's.
-use Rattle.std.proofs.Common.{◌≡◌, ◌<◌, ◌≤◌, ◌+◌, ◌∙◌, ◌++◌, ℕ, List, [], ◌∷◌, Option, Some, Result, Ok, Err, ap, arith, drop, get_or, length, refl, set, subst, sym, take}
+use Rattle.std.proofs.Common.{◌≡◌, ◌<◌, ◌≤◌, ◌+◌, ◌∙◌, ◌++◌, ℕ, List, [], ◌∷◌, Option, Some, Result, Ok, Err, ap, arith}
+use Rattle.std.proofs.Common.{drop, get_or, length, refl, set, subst, sym, take}
 use Rattle.std.proofs.lemmas.List.{drop-set-lt, drop_more, take_all, take_more, take_more_set}
 use Rattle.std.specs.List.{AllByRecursion}
+use Rattle.sqlite.specs.Held.{Held}
+use Rattle.sqlite_trees.specs.declared.store.Store as trees
 use Rattle.isad_core.specs.Texts.{Bytes}
-use Rattle.office_core.specs.MixedRuns.{ToDo, ToTell, next_state}
 use Rattle.office_core.specs.Rules.{state_after}
 use Rattle.office_core.specs.SoundOffice.{IsSoundOffice}
 use Rattle.office_core.specs.State.{State}
@@ -15,20 +17,16 @@ use Rattle.office_core.specs.declared.query.Query.{Query}
 use Rattle.http_desk.proofs.OneRun.{the_headline}
 use Rattle.http_desk.proofs.PublicAsks.{sessions_show_only_published}
 use Rattle.http_desk.specs.Headline.{IsOneRun}
-use Rattle.http_desk.specs.Runs.{AllHappen, AreVisits, ByHttp, CallsNameDays, CallsNameTexts, Directly, IsVisited, Visit}
-use Rattle.http_desk.specs.Runs.{Answered, Heard, Replied, VisitsLeaveOpen}
-use Rattle.nested_sets.specs.Representation.{RepresentsSpanRows}
-use Rattle.office.specs.IdleOffice.{has_clean_disk, is_shown, is_still_open}
-use Rattle.office.specs.Runs as office
-use Rattle.office.specs.Runs.{IsAcceptance, IsCall, Returned, command_call, question_call}
-use Rattle.office_tables.specs.Versions.{Second}
-use Rattle.sqlite.specs.Held.{Held}
-use Rattle.sqlite_trees.specs.declared.store.Store as trees
 use Rattle.state_encoding.specs.DeskEncoding.{order_rows}
-use Rattle.headline.proofs.Rows.{orders_apart}
+use Rattle.office.specs.Runs.{IsAcceptance, IsCall, Returned, command_call, question_call}
+use Rattle.office.specs.Runs as office
 use Rattle.headline.specs.Headline.{AllAnsweredInPublic, AreMachines}
-use Rattle.headline.specs.Visits.{AreMade, IsMade, WereMade, heard_answer, heard_reply}
 use Rattle.headline.specs.declared.visits.Visit.{Visit as Asked}
+use Rattle.headline.proofs.Common.{AllHappen, Answered, AreMade, AreVisits, ByHttp, CallsNameDays, CallsNameTexts}
+use Rattle.headline.proofs.Common.{Directly, Heard, IsMade, IsVisited, Replied, RepresentsSpanRows, Second, ToDo}
+use Rattle.headline.proofs.Common.{ToTell, Visit, VisitsLeaveOpen, WereMade, has_clean_disk, heard_answer, heard_reply}
+use Rattle.headline.proofs.Common.{is_shown, is_still_open, next_state}
+use Rattle.headline.proofs.Rows.{orders_apart}
 
 -- one visit more
 pub one_more_visit : {M : Type 0} (represents : M → State → Type 0) (is_intact is_open : M → Type 0) (visits : List Visit)

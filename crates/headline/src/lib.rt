@@ -2,8 +2,4 @@
 #![tactic(auto)]
 
 mod names;
-#[cfg(test)]
-mod tests;
-mod visits;
-
-pub use visits::{CommandVisit, QuestionVisit, SessionVisit, Visit, make_visits};
+pub mod visits;

@@ -21,3 +21,5 @@ mod offices;
 mod places;
 #[cfg(test)]
 mod rounds;
+#[cfg(test)]
+mod visits;

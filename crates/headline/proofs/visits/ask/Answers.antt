@@ -1,10 +1,6 @@
 use Rattle.std.proofs.Common.{refl}
-use Rattle.nested_sets.specs.Representation.{RepresentsSpanRows}
-use Rattle.office.specs.IdleOffice.{has_clean_disk, is_shown, is_still_open}
-use Rattle.office_core.specs.MixedRuns.{ToTell}
-use Rattle.office_tables.specs.Versions.{Second}
-use Rattle.http_desk.specs.Runs.{Directly}
-use Rattle.headline.specs.Visits.{heard_answer}
+use Rattle.headline.proofs.Common.{Directly, RepresentsSpanRows, Second, ToTell, has_clean_disk, heard_answer, is_shown}
+use Rattle.headline.proofs.Common.{is_still_open}
 use Rattle.headline.proofs.Runs.{of_question}
 use Rattle.headline.proofs.visits.ask.Goals as goal
 

@@ -1,9 +1,7 @@
 use Rattle.std.proofs.Common.{[], ◌∙◌, refl}
 use Rattle.std.proofs.lemmas.List.{length-set}
+use Rattle.headline.proofs.Common.{RepresentsSpanRows, Second, has_clean_disk, is_shown, is_still_open}
 use Rattle.headline.proofs.Runs.{all_made, and_one, not_yet}
-use Rattle.nested_sets.specs.Representation.{RepresentsSpanRows}
-use Rattle.office.specs.IdleOffice.{has_clean_disk, is_shown, is_still_open}
-use Rattle.office_tables.specs.Versions.{Second}
 use Rattle.headline.proofs.visits.make_all.Goals as goal
 
 pub loop-visit-init : goal.loop-visit-init

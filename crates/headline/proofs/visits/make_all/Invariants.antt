@@ -1,9 +1,6 @@
 -- the visits before this one were made, and the others wait
 use Rattle.std.proofs.Common.{◌≡◌, drop, length, take}
-use Rattle.headline.specs.Visits.{WereMade}
-use Rattle.nested_sets.specs.Representation.{RepresentsSpanRows}
-use Rattle.office.specs.IdleOffice.{has_clean_disk, is_shown, is_still_open}
-use Rattle.office_tables.specs.Versions.{Second}
+use Rattle.headline.proofs.Common.{RepresentsSpanRows, Second, WereMade, has_clean_disk, is_shown, is_still_open}
 use Rattle.headline.proofs.visits.make_all.Given as goal
 
 abbrev pub invariant-loop-visit : goal.invariant-loop-visit

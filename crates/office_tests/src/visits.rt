@@ -1,38 +1,19 @@
 //! A command, a session and a question, as a caller makes them one after the other.
 
-use crate::{CommandVisit, QuestionVisit, SessionVisit, Visit, make_visits};
+use crate::offices::{day_after, in_memory};
+use headline::visits::{CommandVisit, QuestionVisit, SessionVisit, Visit, make_visits};
 use http_desk::session_end::Ended;
-use isad_core::{Day, Text};
+use isad_core::Text;
 use nested_sets::SpanPlaces;
-use office::{Answer, Command, Office, Query, Settings};
-use sqlite::{Connection, MemStore};
+use office_core::{Answer, Command, Query};
 use std::alloc::Global;
 use std::process::Abort;
 use std::test::Fail;
 
 const REQUEST: &str = "GET /desk/readers/1 HTTP/1.1\r\nHost: x\r\nConnection: close\r\n\r\n";
-
-const ANN: &str =
-    "{\"name\":\"Ann\",\"orders\":[],\"seat\":null,\"ticket\":1,\"until\":\"2024-03-31\"}";
+const ANN: &str = "{\"name\":\"Ann\",\"orders\":[],\"seat\":null,\"ticket\":1,\"until\":\"2024-03-31\"}";
 
 type Peer<'a> = Visit<&'a [u8], Vec<u8>>;
-
-/// The day that is `days` days after the first of March 2024.
-fn day_after(days: u8) -> Result<Day, Fail> {
-    match Day::from_number(19783 + i32::from(days)) {
-        Some(day) => Ok(day),
-        None => Err(Fail::new("no day")),
-    }
-}
-
-/// A new office in memory.
-fn new_office(alloc: Global) -> Result<Office<SpanPlaces, MemStore>, Fail> {
-    let settings = Settings::new(alloc, "GB", "0999", 2, 3, 1, 2, day_after(0)?)?;
-    match Office::create(Connection::open_in_memory(alloc)?, settings) {
-        Ok(office) => Ok(office),
-        Err((fault, _)) => Err(Fail::from(fault)),
-    }
-}
 
 /// Ann is registered, looked up by HTTP, and asked for.
 fn visits_of_ann<'a>(alloc: Global) -> Result<Vec<Peer<'a>>, Fail> {
@@ -75,7 +56,7 @@ fn is_told(visit: &Peer<'_>) -> bool {
 fn a_command_a_session_and_a_question(rt: HostRuntime) -> Result<(), Fail> {
     let alloc = rt.alloc();
     let mut visits = visits_of_ann(alloc)?;
-    let mut office = new_office(alloc)?;
+    let mut office = in_memory::<SpanPlaces>(alloc)?;
     make_visits(alloc, &mut office, visits.as_mut_slice());
     let _ = office.into_connection();
     for visit in visits.as_slice() {
