@@ -11,7 +11,9 @@ use std::process::Abort;
 use std::test::Fail;
 
 const REQUEST: &str = "GET /desk/readers/1 HTTP/1.1\r\nHost: x\r\nConnection: close\r\n\r\n";
-const ANN: &str = "{\"name\":\"Ann\",\"orders\":[],\"seat\":null,\"ticket\":1,\"until\":\"2024-03-31\"}";
+
+const ANN: &str =
+    "{\"name\":\"Ann\",\"orders\":[],\"seat\":null,\"ticket\":1,\"until\":\"2024-03-31\"}";
 
 type Peer<'a> = Visit<&'a [u8], Vec<u8>>;
 
