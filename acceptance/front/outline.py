@@ -39,7 +39,7 @@ class Outline(html.parser.HTMLParser):
         has = dict(attrs)
         if self.whole and tag in ("html", "meta", "link", "script"):
             self.lines.append(" ".join([tag, *(f"{name}={value}" for name, value in attrs)]))
-        is_around = tag in ("header", "footer") and has.get("class") == "site" and not self.whole
+        is_around = has.get("class") in ("site", "imprint") and not self.whole
         if self.skips or is_around or tag == "script" and not self.whole or tag == "a" and has.get("class") == "skip":
             self.skips += tag not in EMPTY
             return

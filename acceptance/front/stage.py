@@ -14,6 +14,7 @@ import answers
 import asking
 import index
 import jinja2
+import layouts
 import offers
 import orders
 import pages
@@ -114,10 +115,12 @@ class Stage:
             patch.setattr(module, "time", self.clock)
         self.played = Played(office, self.clock)
         patch.setattr(asking, "socket", self.played)
+        patch.setattr(layouts, "today", lambda: "2024-03-02")
         self.service = service.Service(folder / "office.sock", self.path, self.told.append)
         self.turn, self.service.turns.turn = self.service.turns.turn, self.note_turn
         self.words = folder / "office.json"
-        self.service.pages = pages.Pages(folder / "office.sock", self.path, self.words, self.service.find, 4, 6)
+        self.service.pages = pages.Pages(folder / "office.sock", self.path, self.words, self.service.find, self.service.turn,
+                                         4, 6)
         for env in self.service.pages.layouts.env.values():  # which are compiled once
             env.bytecode_cache = jinja2.FileSystemBytecodeCache()
 
@@ -162,6 +165,10 @@ class Stage:
                  "wsgi.url_scheme": "https", "wsgi.input": io.BytesIO(body),
                  "CONTENT_LENGTH": str(len(body)), **{f"HTTP_{name.upper()}": value for name, value in headers.items()}}
         return {name: value for name, value in given.items() if value is not None}
+
+    def text(self, target):
+        """The body of the answer to a question."""
+        return b"".join(self.service.app(self.environ(target), lambda *_: None)).decode()
 
     def ask(self, target, form=None, method=None, whole=False, **headers):
         """The lines of an answer: what was asked for, what is unusual in its head, what the office was asked, and the outline

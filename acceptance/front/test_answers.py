@@ -293,7 +293,8 @@ READERS_PATHS = """
 /ordered /ordered/order /help?x=y /robots.txt /enhance.js?1 /public.css /none.js /shared/dom.js /shared/base.css
 /shared/none.js /shared/../desk/main.js /public/ /public/fonds /public/fonds?x /public/fonds/ /public/units/1
 /public/units/01 /public/units/12345678901 /public/units/1/2 /public/aid/1 /public/aid/0 /public/orders /public/none
-/de /de/unit/1 /de/unit/1/order /de/aid/1 /de/search?q=x /gsw/help /german/help /de/public/aid/1 /de/sitemap.xml
+/de /de/unit/1 /de/unit/1/order /de/aid/1 /de/search?q=x /gsw/help /german/help
+/sitemap.xml /sitemap/1.xml /a-z /de/a-z /unit/1/dates
 /desk/issued /try/differences/x /lists/a.html /texts/de.json /often.html /away.html /not-from-here.html /quietly/away.html
 /.well-known/x /index.html /a%2fb /%zz /public/../desk/x //public/fonds /Public/fonds /public/fonds%0a /caf%C3%A9
 """.split()

@@ -314,6 +314,16 @@ def test_a_series_is_shown_a_hundred_at_a_time_and_filtered_at_each_key(hall, of
     hall.see("No unit here has these words.")
 
 
+def test_a_list_of_more_than_five_hundred_gets_its_dates_and_those_of_what_is_filtered(hall, asks):
+    hall.visit(f"/unit/{number_of(asks, 'WIDE')}")
+    hall.wait("document.querySelectorAll('.contents .facts').length === 100")
+    assert hall.js("document.querySelectorAll('.contents .facts')[1].textContent") == "1702 \u00b7 1 bundle"
+    hall.fill("Show only units with", "ship 117")
+    hall.js(TYPED)
+    hall.wait("document.querySelectorAll('.contents .facts').length < 100")
+    hall.see("1817 \u00b7 1 bundle", "#contents")
+
+
 def test_the_branch_below_a_unit_opens_without_one_more_request(hall, top, logbook):
     """A line of it leads to its unit, which is marked among the others."""
     asked = "performance.getEntriesByType('resource').filter((one) => /fetch|request/.test(one.initiatorType)).length"

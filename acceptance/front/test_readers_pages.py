@@ -1,10 +1,14 @@
 """The readers' pages as they were approved: each kind of address over one office, with what its service says besides, and
 what the office is asked for it. `outline.py` says how a page is written down, `stage.py` how the service is played."""
 
+import html
 import json
 import pickle
+import re
 
+import alphabet
 import asking
+import pages as module
 import pytest
 import turns
 
@@ -145,7 +149,7 @@ def wide_levels(stage, pages, unit, above):
     more_units(pages, 1, D, D, f"/unit/{D}?only=contents")
     stage.sql("DELETE FROM unit WHERE n >= 500000")
     stage.path.rename(stage.folder / "kept.db")
-    for target in (unit, f"{unit}/above", "/search?q=dock", "/public/search?q=dock"):
+    for target in (unit, f"{unit}/above", "/search?q=dock", "/public/search?q=dock", "/sitemap.xml", "/sitemap/1.xml"):
         pages.ask(target)
     (stage.folder / "kept.db").rename(stage.path)
 
@@ -223,13 +227,16 @@ def test_pages_that_are_not_of_a_unit(stage, approved):
     pages, words = Pages(stage, "/search?q=plans+dock"), stage.words
     words.with_name("old-addresses.csv").write_text("/hull-dock,GB 0999 HUL\n/index.php/odd,x\n", "utf-8")
     for target in ("/hull-dock", "/index.php/odd", "/ref/GB/0999/HUL", "/ref/GB/0999/HUL/1", "/ref/GB/0999/HULL",
-                   "/unit/41/?x=1", "/", "/index.html", "/help", "/ordered", "/sitemap.xml", "/robots.txt", "/?lang=de",
+                   "/unit/41/?x=1", "/", "/index.html", "/help", "/ordered", "/sitemap.xml", "/sitemap/1.xml",
+                   "/sitemap/2.xml", "/sitemap/0.xml", "/robots.txt", "/?lang=de",
                    "/?lang=xx",
                    "/?lang=en&a=%26&b=", "/?" + "&".join(f"a{n}=1" for n in range(9)), "/?q=%ff", "/?q=\u00c3\u00bc",
                    "/no/such/page", "/unit/1/", "/help/", "/search/", "/public/aid/4711", "/public/unit/1", "/de",
                    "/de/hull-dock", "/de/unit/41/?x=1", "/de/ref/GB/0999/HUL", "/de/unit/42/order", "/de/de/help", "/xx/help",
                    "/de/public/aid/41", "/de/unit/41?lang=fr&from=2", "/de/%3Cb%3E\u00c3\u00bc?lang=es",
-                   "/public/aid/4711?lang=de"):
+                   "/public/aid/4711?lang=de", "/a-z", "/a-z?from=H", "/de/a-z?from=p", "/a-z?from=zzz",
+                   f"/unit/{LETTERS}/dates", f"/de/unit/{LETTERS}/dates?has=captain+11&from=1", "/unit/4711/dates",
+                   f"/unit/{LETTERS + 1}/dates"):
         pages.ask(target)
     pages.add(stage.ask("/de/unit/34", whole=True, accept_language="fr", host="evil.example.org"))
     for method, target in (("POST", "/unit/1"), ("POST", "/"), ("PUT", "/unit/1"), ("DELETE", "/ordered/order"),
@@ -255,17 +262,65 @@ def test_pages_that_are_not_of_a_unit(stage, approved):
     pages.ask("/ref/GB/0999/HUL")
     pages.ask("/", record_office_crawler="1")
     pages.ask("/robots.txt", host=None)
-    for target in ("/sitemap.xml", "/robots.txt"):  # of a site that nothing names
+    for target in ("/sitemap.xml", "/sitemap/1.xml", "/robots.txt"):  # of a site that nothing names
         pages.ask(target, record_office_site="")
     pages.ask("/search?q=quarterdeck", record_office_crawler="1", record_office_room="1")
     for path in ("/public/fonds",):
         for answer in (UNREACHED, BUSY, client.reply(404, b"{}"), client.reply(200, b"", client.TEXT)):
             stage.played.answers[path] = answer
-            for target in ("/", "/sitemap.xml", "/search?q=sills", "/public/search?q=sills"):
+            for target in ("/", "/sitemap/1.xml", "/search?q=sills", "/public/search?q=sills"):
                 pages.ask(target)
     stage.played.answers.clear()
     pages.ask("/help", host="evil.example.org")
     approved("readers/others", pages.lines)
+
+
+def test_a_creator_stands_in_the_alphabet_as_long_as_the_public_sees_a_unit_of_its(stage):
+    """Also while the index still has it; each hundred leads on."""
+    assert "Crowe, Thomas" in stage.text("/a-z?from=c") and "Rennie, John" in stage.text("/a-z?from=r")
+    stage.command("status", unit=PHO + 1, status="draft", branch=False)
+    assert "Crowe, Thomas" not in stage.text("/a-z?from=c")
+    with pytest.MonkeyPatch.context() as patch:
+        patch.setattr(alphabet, "SHOWN", 3)
+        seen, way = [], "/a-z"
+        while way:
+            page = stage.text(way)
+            seen += map(html.unescape, re.findall('<li><a (?:href="/unit|rel="nofollow)[^>]*><span[^>]*>([^<]*)', page))
+            way = next(iter(re.findall('rel="next" href="([^"]*)', page)), None)
+    assert seen == sorted(set(seen), key=alphabet.key_of) and len(seen) > 20
+
+
+@pytest.mark.parametrize("query, own", [("?from=101", "?from=101"), ("?from=2", ""), ("?from=101&has=captain", ""), ("", "")])
+def test_each_hundred_of_a_list_has_its_own_canonical_address(stage, query, own):
+    assert f'rel="canonical" href="https://archive.example.org/unit/{LETTERS}{own}">' in stage.text(f"/unit/{LETTERS}{query}")
+
+
+def test_a_search_engine_is_led_to_each_unit_that_is_open_and_to_no_other(stage, monkeypatch):
+    """By sitemaps of fifty numbers each: to a withdrawn archive at once no more, to what was closed after a round."""
+    monkeypatch.setattr(module, "MAPPED", 50)
+    office = stage.played.office
+
+    def places(target, pattern):
+        """What the addresses of a sitemap have there."""
+        return re.findall(f"<loc>https://archive.example.org{pattern}</loc>", stage.text(target))
+
+    def led_to():
+        """The units in all sitemaps."""
+        return [int(n) for part in places("/sitemap.xml", "(/sitemap/[0-9]+.xml)") for n in places(part, "/unit/([0-9]+)")]
+
+    def are_open():
+        """The units that have a page which does not say that they are closed, by the model."""
+        texts = {n: stage.ask_plainly(f"/public/units/{n}") for n in sorted(office.units)}
+        return [n for n, text in texts.items() if text and not re.fullmatch(r".*\] closed until [0-9-]+\n", text)]
+    assert led_to() == are_open() and len(led_to()) > 200
+    stage.command("status", unit=HUL, status="draft", branch=False)
+    assert led_to() == are_open() and HUL + 1 not in led_to()
+    stage.command("closure", unit=LETTERS + 1, until=FAR)
+    stage.round()
+    assert led_to() == are_open() and LETTERS + 1 not in led_to()
+    stage.command("status", unit=HUL, status="published", branch=False)
+    stage.command("closure", unit=LETTERS + 1, until=None)
+    stage.round()
 
 
 def test_finding_aids(stage, approved):

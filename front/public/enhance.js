@@ -11,6 +11,7 @@ window.addEventListener('hashchange', leaveOldAddress);
 const KEY = 'list'; // kept until the tab is closed, and nowhere else
 const PART = 10; // blocks of a large finding aid that are printed at a time: as a whole it takes longer than anybody waits
 const PAUSE = 200; // milliseconds without a key before the office is asked
+const REST = 800; // milliseconds before it is asked for what nobody waits for
 const FEW = 5; // units that stay open on a small screen
 const one = (selector, within = document) => within.querySelector(selector);
 const all = (selector, within = document) => [...within.querySelectorAll(selector)];
@@ -44,6 +45,12 @@ for (const aid of all('.aid[data-large]')) {
 // The contents of a unit
 
 const contents = one('details.contents');
+const level = one('details.level');
+if (level && !contents && matchMedia('(min-width: 60rem)').matches) { // the column has room
+  level.open = true;
+  const [list, here] = [one('.units', level), one('[aria-current]', level)];
+  list.scrollTop = here.offsetTop - list.offsetTop - list.clientHeight / 2;
+}
 if (contents && !matchMedia('(min-width: 60rem)').matches && !location.hash && !location.search) {
   contents.open = all('[data-shown] > ul > li', contents).length <= FEW; // else the description is far below them
 }
@@ -68,7 +75,23 @@ function showFound(page) {
   told.textContent = now.textContent;
   for (const shown of before) shown.remove();
   told.after(...found);
+  addDates();
 }
+
+let rest = 0;
+/** The dates of a long list come when the reader rests: for them the office is asked as much as for a search. */
+function addDates() {
+  clearTimeout(rest);
+  for (const place of all('[data-dates]')) {
+    place.hidden = true;
+    rest = setTimeout(() => ask(one('a', place).href, (page) => {
+      for (const facts of all('.facts', page)) {
+        one(`[data-shown] a[href="${facts.previousElementSibling.getAttribute('href')}"]`)?.after(facts);
+      }
+    }, () => { place.hidden = false; }), REST);
+  }
+}
+addDates();
 
 for (const form of all('[data-filter]')) {
   const input = one('input', form);

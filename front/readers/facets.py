@@ -4,10 +4,9 @@ All of it is of pages that the office has just given."""
 import collections
 import datetime
 
-from texts import read_head, read_line
+from texts import CREATORS, creators_in, read_head, read_line
 
 SHOWN, DECADES = 8, 30  # values of one kind
-CREATOR = "3.2.1 "
 
 
 class Facets:
@@ -50,4 +49,5 @@ def decades_of(years):
 
 def creators_of(page):
     """Whom the page of a unit names as its creators, with those that are found above it."""
-    return {read_line(line, page.head).text for line in page.lines if line.startswith(CREATOR)}
+    lines = [line for line in page.lines if line.startswith(CREATORS)]
+    return creators_in(line.removesuffix(read_line(line, page.head).mark) for line in lines)

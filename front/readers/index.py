@@ -5,11 +5,11 @@ import contextlib
 import os
 import sqlite3
 
-from folding import SHORTEST_STEM, is_kin, readings_of
+from folding import SHORTEST_STEM, folded_words, is_kin, readings_of
 from spellings import sound
-from texts import may_be_from_above, read_head, value_of, years_of
+from texts import creators_in, may_be_from_above, read_head, value_of, years_of
 
-VERSION = 4
+VERSION = 5
 BETWEEN = " \ue000 "  # a word that no text has, between two readings or values: no phrase reaches from one into the next
 ARCHIVE = 10**10  # a row of `words` has the number of its archive times this, and its own: archives come one by one
 LAST_ARCHIVE = 2**63 // ARCHIVE - 1  # and those after it together
@@ -19,9 +19,10 @@ UNDATED = 10**5  # in order of dates, units without a year come last
 CONTEXT = 2 * 10**5  # is added to the year of a unit of which some words stand above it: it comes after the others
 # round: changed: 1 if words have come, 2 if some were forgotten, which may still be somewhere in the file.
 # words: with lists of their own for what begins with one, two or three letters, which thousands of words may do.
+# creator: the folded names of the creators that a unit names itself.
 # vocabulary: each word of the index, from the end of the round that has read it.
-# unit: own and branch are digests; odd has the own lines that look as if they were found above; gone is set within a
-# round.
+# unit: own and branch are digests; odd has the own lines that look as if they were found above; closed: only its head is
+# shown; gone is set within a round.
 # part: a finding aid that was read as one, or a large unit whose parts were (then without digest); size: its units.
 TABLES = """
 CREATE TABLE round(finished INTEGER NOT NULL, done INTEGER NOT NULL, tops INTEGER NOT NULL, swept INTEGER NOT NULL,
@@ -29,9 +30,11 @@ CREATE TABLE round(finished INTEGER NOT NULL, done INTEGER NOT NULL, tops INTEGE
 INSERT INTO round VALUES (0, 0, 0, 0, 0);
 CREATE TABLE part(n INTEGER PRIMARY KEY, digest BLOB, size INTEGER NOT NULL);
 CREATE TABLE unit(n INTEGER PRIMARY KEY, top INTEGER, parent INTEGER, pos INTEGER, own BLOB, branch BLOB, first INTEGER,
-  last INTEGER, level TEXT, odd TEXT, gone INTEGER NOT NULL DEFAULT 0);
+  last INTEGER, level TEXT, odd TEXT, closed INTEGER, gone INTEGER NOT NULL DEFAULT 0);
 CREATE INDEX unit_top ON unit(top);
 CREATE INDEX unit_parent ON unit(parent, pos);
+CREATE TABLE creator(name TEXT, n INTEGER, PRIMARY KEY(name, n)) WITHOUT ROWID;
+CREATE INDEX creator_n ON creator(n);
 CREATE VIRTUAL TABLE words USING fts5(head, body, tokenize = 'ascii', columnsize = 0, prefix = '1 2 3');
 CREATE VIRTUAL TABLE counted USING fts5vocab(words, row);
 CREATE TABLE vocabulary(word TEXT PRIMARY KEY, sound TEXT NOT NULL) WITHOUT ROWID;
@@ -48,6 +51,7 @@ FOLLOWED = "UNION SELECT unit.n FROM unit JOIN below ON unit.parent = below.n) S
 AT_OR_BELOW_MATCHING = f"WITH RECURSIVE below(n) AS (SELECT rowid % ? FROM words WHERE words MATCH ? {FOLLOWED}"
 BELOW_MATCHING = ("WITH RECURSIVE below(n) AS (SELECT n FROM unit WHERE parent IN "
                   f"(SELECT rowid % ? FROM words WHERE words MATCH ?) {FOLLOWED}")
+OPEN = "own IS NOT NULL AND NOT closed AND NOT gone"
 MEETS = "unit.last >= ? AND unit.first <= ?"
 
 
@@ -111,12 +115,16 @@ def put(db, top, number, parent, pos, node, branch):
     if before != [top, parent] and not gone:
         look_again_above(db, number)
     odd = "\n".join(line for line in node.lines if may_be_from_above(line, node.head)) or None
-    db.execute("INSERT OR REPLACE INTO unit VALUES (?, ?, ?, ?, ?, ?, ?, ?, ?, ?, 0)",
-               (number, top, parent, pos, node.own, branch, *years_of(node.lines), read_head(node.head).level, odd))
+    head = read_head(node.head)
+    closed = bool(head.until) and not node.lines and not node.units
+    db.execute("INSERT OR REPLACE INTO unit VALUES (?, ?, ?, ?, ?, ?, ?, ?, ?, ?, ?, 0)",
+               (number, top, parent, pos, node.own, branch, *years_of(node.lines), head.level, odd, closed))
     if own != node.own or before[0] != top:
         forget_words(db, [(before[0], number)] if own else [])
         db.execute("INSERT INTO words(rowid, head, body) VALUES (?, ?, ?)",
                    (row_of(top, number), words(node.head), body(node.lines)))
+        db.executemany("INSERT OR IGNORE INTO creator VALUES (?, ?)",
+                       ((" ".join(folded_words(name)), number) for name in creators_in(node.lines)))
         db.execute("UPDATE round SET changed = 1 WHERE changed = 0")
 
 
@@ -139,6 +147,7 @@ def forget_words(db, units):
     """The words of these units, pairs of archive and number, go."""
     if units:
         db.executemany("DELETE FROM words WHERE rowid = ?", [(row_of(*unit),) for unit in units])
+        db.executemany("DELETE FROM creator WHERE n = ?", [(number,) for _, number in units])
         db.execute("UPDATE round SET changed = 2")
 
 
@@ -196,6 +205,25 @@ def branch(db, number):
 def count_below(db, number, most):
     """How many units are right below one, up to so many."""
     return db.execute("SELECT count(*) FROM (SELECT 1 FROM unit WHERE parent = ? LIMIT ?)", (number, most)).fetchone()[0]
+
+
+def stretches(db, size):
+    """Which stretches of so many numbers each, from 1 on, have units that are open."""
+    return [place for place, in db.execute(f"SELECT DISTINCT (n - 1) / ? + 1 FROM unit WHERE {OPEN} ORDER BY 1", (size,))]
+
+
+def open_units(db, stretch, size):
+    """The units of a stretch that are open, with their archives."""
+    wanted = f"SELECT n, top FROM unit WHERE n BETWEEN ? AND ? AND {OPEN} ORDER BY n"
+    return db.execute(wanted, ((stretch - 1) * size + 1, stretch * size)).fetchall()
+
+
+def creators_from(db, name):
+    """The folded names of creators from this one on, each with a few of the units that name it."""
+    after = ">="
+    while found := db.execute(f"SELECT name FROM creator WHERE name {after} ? ORDER BY name LIMIT 1", (name,)).fetchone():
+        (name,), after = found, ">"
+        yield name, [n for n, in db.execute("SELECT n FROM creator WHERE name = ? ORDER BY n LIMIT 5", (name,))]
 
 
 def size_of(db, number):

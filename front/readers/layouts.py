@@ -2,6 +2,7 @@
 
 import contextlib
 import json
+from datetime import date
 from typing import NamedTuple
 from urllib.parse import quote
 
@@ -126,9 +127,14 @@ def environment(language, languages, compiled):
     env.install_gettext_translations(language.texts, newstyle=True)
     env.globals.update(say=language.say, day=language.day, number_of=language.number, language=language,
                        languages=languages.values(), AREAS=AREAS, ELEMENTS=ELEMENTS, mark=mark, read_head=read_head,
-                       facts=facts, ref=ref)
+                       facts=facts, ref=ref, today=today)
     env.filters.update(filled=filled, short=short)
     return env
+
+
+def today():
+    """The day on which a page is made."""
+    return date.today().isoformat()
 
 
 def ref(code):

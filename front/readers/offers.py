@@ -51,13 +51,16 @@ def instead_of(answer, pieces, place, language, end):
 
 def near(db, word):
     """The words of the index that are spelled much like this one or sound so, then those that begin so, the shortest first,
-    then those that end so."""
+    then those that end so, then those that have half of it."""
     longer = sorted(index.words_from(db, word, POOL, (len(word) + 1, len(word) + LONGER)), key=lambda one: (len(one), one))
     spelled = index.words_from(db, word[:1], POOL, (max(SHORTEST, len(word) - 2), len(word) + 2))
     close = difflib.get_close_matches(word, spelled, TRIED, ALIKE)
     heard = difflib.get_close_matches(word, set(index.alike(db, word, TRIED)) - {word}, TRIED, HEARD)
     ends = index.words_with_end(db, word, TRIED) if len(word) >= COMPOUND else []
-    return list(dict.fromkeys([*sorted([*close, *heard], key=lambda one: -ratio(word, one)), *longer[:TRIED], *ends]))
+    half = len(word) // 2  # of a word that may be made of two
+    halves = [*index.words_from(db, word[:half], TRIED),
+              *index.words_with_end(db, word[half:], TRIED)] if half >= COMPOUND else []
+    return list(dict.fromkeys([*sorted([*close, *heard], key=lambda one: -ratio(word, one)), *longer[:TRIED], *ends, *halves]))
 
 
 def ratio(one, other):

@@ -1,6 +1,7 @@
 """The readers' pages. Each is made of what the office answers now, for this page alone: the index only proposes where to
 look, as for answers."""
 
+import contextlib
 import os
 import re
 import sqlite3
@@ -9,18 +10,21 @@ import time
 from typing import NamedTuple
 from urllib.parse import urlencode
 
+import alphabet
 import folding
 import index
 import languages
 import orders
 from aids import LARGE, Aids, aid_lines, mark, size_and_head
-from asking import SOON, Asking, Idle, Unreached
+from asking import SOON, Asking, Idle, Slow, Unreached
 from layouts import Answer, Layouts, pieces_of_head, ref
-from texts import AREAS, ELEMENTS, N_, Page, read_aid, read_fonds, read_head, read_line
+from texts import AREAS, ELEMENTS, N_, Node, Page, read_aid, read_fonds, read_head, read_line
+from turns import Late
 
 SHOWN = 100  # units of a level at a time
 WIDE = 2000  # units right below one: the office takes long to write its page, which is not asked for to show the way
 FEW = 500  # units: contents that have no more show their dates, and what is further down
+MAPPED = 49_000  # numbers of units for which there is one sitemap, which may have 50,000 addresses
 KEPT = 12  # connections to the queue that a process keeps: the queue lets 500 in
 AHEAD = 8  # units above, of which the pages are asked for at once
 HIGHEST = 32  # units above that are asked for
@@ -57,11 +61,11 @@ class Way(NamedTuple):
 
 class Pages:
     """queue: the socket of the queue; path: the index, in whose folder finding aids are kept while they are sent; words:
-    the file of the office's own words; find: answers a search; rest: how many times as long as an aid took the next one
-    waits; a_minute: orders that an address may give."""
+    the file of the office's own words; find: answers a search; turn: of an address among searches; rest: how many times as
+    long as an aid took the next one waits; a_minute: orders that an address may give."""
 
-    def __init__(self, queue, path, words, find, rest, a_minute):
-        self.queue, self.path, self.find, self.languages = queue, path, find, languages.load()
+    def __init__(self, queue, path, words, find, turn, rest, a_minute):
+        self.queue, self.path, self.find, self.turn, self.languages = queue, path, find, turn, languages.load()
         self.layouts, self.row = Layouts(self.languages, words), orders.Row(a_minute)
         self.aids, self.idle, self.mine = Aids(queue, path.parent, rest), Idle(queue, KEPT), threading.local()
 
@@ -177,7 +181,22 @@ class Pages:
                  for place, n, text in found[first - 1:first - 1 + SHOWN]]
         turns = {turn: at for turn, at in (("prev", first - SHOWN), ("next", first + SHOWN)) if 0 < at <= len(found)}
         return {"units": units, "many": len(page.units), "found": len(found), "first": first, "has": wanted,
-                "turns": turns, "shown": SHOWN}
+                "turns": turns, "shown": SHOWN, "undated": bool(units) and not nodes}
+
+    def dated(self, request, number):
+        """The same hundred of a long list with their dates and extents, each as its page has it now."""
+        text = request.ask(f"/public/units/{number}")
+        if text is None:
+            raise Missing
+        page, nodes = Page(text), {}
+        contents = self.contents(request, number, page, False)
+        with self.in_turn(request) as ask, contextlib.suppress(Slow):  # then the others have none
+            for n, *_ in contents["units"]:
+                its = Page(ask(f"/public/units/{n}") or "-\n")
+                nodes[n] = Node(its.head, its.lines)
+        units = [(n, head, nodes.get(n), place) for n, head, _, place in contents["units"]]
+        return self.render(request, "dates.html", number=number, head=read_head(page.head),
+                           **contents | {"units": units, "undated": False})
 
     def nodes(self, request, number, page):
         """The units right below as the finding aid has them, or None if page and aid do not agree."""
@@ -314,6 +333,26 @@ class Pages:
         """The list of fonds."""
         return self.render(request, "fonds.html", tops=heads(read_fonds(request.ask("/public/fonds") or "")))
 
+    @contextlib.contextmanager
+    def in_turn(self, request):
+        """How the office is asked many questions for a page: as for a search, behind other pages."""
+        try:
+            with self.turn(request.address):
+                ask = Asking(self.queue, idle=self.idle)
+                ask.until = request.ask.until
+                yield ask
+        except Late as late:
+            raise Unreached(request.path) from late
+
+    def alphabet(self, request):
+        """Archives and creators from A to Z, from some letter on."""
+        begin = alphabet.key_of(request.args.get("from", ""))
+        with self.in_turn(request) as ask:
+            fonds = read_fonds(ask("/public/fonds") or "")
+            entries = self.from_index(lambda db: alphabet.entries(db, ask, fonds, begin), None)
+        return self.render(request, "alphabet.html", begin=begin, shown=alphabet.SHOWN, letters=alphabet.letters(fonds),
+                           entries=entries or alphabet.entries(None, None, fonds, begin))
+
     def search(self, request):
         """What was found. The office is asked for the list of fonds, and for the page of each candidate."""
         told, fonds = self.find(request.args, request.language.code, request.address, request.ask.until)
@@ -349,12 +388,20 @@ class Pages:
         """For whom the pages work, and whom to tell where they do not."""
         return self.render(request, "accessibility.html")
 
-    def sitemap(self, request):
-        """The archives, from where links lead to all that is published. A sitemap needs whole addresses."""
+    def sitemap(self, request, part=None):
+        """The list of sitemaps, or one: the units that the last round has seen open, in archives that there are now. A sitemap
+        needs whole addresses."""
         if not self.layouts.office(request)["site"]:
             raise Missing(NO_PAGE)
-        tops = [n for n, _ in read_fonds(request.ask("/public/fonds") or "")]
-        return self.render(request, "sitemap.xml", kind="application/xml", tops=tops)
+        if part is None:
+            parts = self.from_index(lambda db: index.stretches(db, MAPPED), [])
+            return self.render(request, "sitemap.xml", kind="application/xml", parts=sorted({1, *parts}))
+        tops = {n for n, _ in read_fonds(request.ask("/public/fonds") or "")}
+        units = self.from_index(lambda db: index.open_units(db, part, MAPPED), [])
+        units = [number for number, top in units if top in tops]
+        if not units and part > 1:
+            raise Missing(NO_PAGE)
+        return self.render(request, "sitemap.xml", kind="application/xml", part=part, units=units)
 
     def robots(self, request):
         """What crawlers should leave out."""
@@ -398,9 +445,11 @@ NUMBER = "([1-9][0-9]{0,9})"
 ROUTES = [(re.compile(pattern), method, page) for pattern, method, page in (
     ("/(?:index[.]html)?", "GET", Pages.fonds), (f"/unit/{NUMBER}", "GET", Pages.unit),
     (f"/unit/{NUMBER}/order", "POST", Pages.order), (f"/unit/{NUMBER}/above", "GET", Pages.up),
+    (f"/unit/{NUMBER}/dates", "GET", Pages.dated),
     (f"/aid/{NUMBER}", "GET", Pages.aid), (f"/public/aid/{NUMBER}", "GET", Pages.plain_aid),
     (f"/aid/{NUMBER}/((?:[1-9][0-9]{{0,9}}[.]?){{1,64}})", "GET", Pages.place),
     ("/ref/([A-Z]{2})/([^/ ]+)/([!-~]+)", "GET", Pages.ref), ("/search", "GET", Pages.search),
-    ("/help", "GET", Pages.help), ("/accessibility", "GET", Pages.accessibility),
+    ("/a-z", "GET", Pages.alphabet), ("/help", "GET", Pages.help), ("/accessibility", "GET", Pages.accessibility),
     ("/ordered", "GET", Pages.ordered), ("/ordered/order", "POST", Pages.order_list),
-    ("/sitemap[.]xml", "GET", Pages.sitemap), ("/robots[.]txt", "GET", Pages.robots))]
+    ("/sitemap[.]xml", "GET", Pages.sitemap), ("/sitemap/([1-9][0-9]{0,4})[.]xml", "GET", Pages.sitemap),
+    ("/robots[.]txt", "GET", Pages.robots))]

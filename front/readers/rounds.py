@@ -80,8 +80,7 @@ class Round:
         page = self.page(number)
         if page is None:
             return 0
-        node = Node(page.head)
-        node.lines = page.own_lines()
+        node = Node(page.head, page.own_lines())
         node.close()
         now = {n for n, _ in page.units}
         with index.transaction(self.db):

@@ -125,10 +125,14 @@ class Service:
         if unread:
             return {"state": "unread", **NOTHING, "unread": unread}, []
         try:
-            with self.turns.turn(address, isinstance(address, Room), is_costly(query.phrases)) as is_awaited:
+            with self.turn(address, is_costly(query.phrases)) as is_awaited:
                 return self.found(values, language, query, is_awaited, until)
         except Late:
             return {"state": "late", **NOTHING, "after": "{}-{}".format(*query.after)}, []
+
+    def turn(self, address, costly=False):
+        """A context that begins when it is this reader's turn."""
+        return self.turns.turn(address, isinstance(address, Room), costly)
 
     def found(self, values, language, query, is_awaited, until):
         """What was found, and the list of fonds. While the first round goes on, the answer says how far it is."""
@@ -237,7 +241,7 @@ def main():
     tell, told = socket.socketpair(socket.AF_UNIX, socket.SOCK_SEQPACKET)
     tell.setblocking(False)
     service = Service(given.queue, given.index, lambda number: say(tell, number))
-    service.pages = Pages(given.queue, given.index, given.words, service.find, given.rest, given.orders)
+    service.pages = Pages(given.queue, given.index, given.words, service.find, service.turn, given.rest, given.orders)
     if given.texts:
         languages.write(service.pages.languages, given.texts)
     service.pages.layouts.prepare()

@@ -27,7 +27,7 @@ def read_shared(name):
 HEAD = re.compile(r"[A-Z]{2} ")
 NUMBERED = re.compile(r"(?:Unit )?([1-9][0-9]{0,9}):? (.*)", re.DOTALL)
 FOUND_ABOVE = re.compile(r"(?:3\.2\.[1-4]|3\.4\.[1-3]|3\.7\.2|Container) ")
-DATES, EXTENT = "3.1.3 ", "3.1.5 "
+DATES, EXTENT, CREATORS = "3.1.3 ", "3.1.5 ", "3.2.1 "
 CLOSED = re.compile(r"closed until ([0-9]{4}-[0-9]{2}-[0-9]{2})")
 CODE = re.compile(r"[A-Z]{2} [!-~]+")
 # The areas and elements of ISAD(G), second edition, as the program names them. A catalog has the standard's own names in
@@ -157,8 +157,8 @@ class Node:
     """A unit of a finding aid: its head, its own lines, and the units right below it. own and branch are digests of its
     own text and of all of its branch; size is the number of units in its branch."""
 
-    def __init__(self, head):
-        self.head, self.lines, self.units = head, [], []
+    def __init__(self, head, lines=()):
+        self.head, self.lines, self.units = head, list(lines), []
 
     def close(self):
         """Makes the digests and the size, once all below the unit was read."""
@@ -205,6 +205,11 @@ def name_of(line):
 def value_of(line):
     """`1774-1893` of `3.1.3 Date(s): 1774-1893`."""
     return line.split(": ", 1)[-1]
+
+
+def creators_in(lines):
+    """The names of creators in lines without marks: the program joins those of a unit by `; `."""
+    return {name for line in lines if line.startswith(CREATORS) for name in value_of(line).split("; ")}
 
 
 def years_of(lines):
