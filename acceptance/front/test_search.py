@@ -370,14 +370,26 @@ def test_what_is_offered_for_a_word_that_finds_nothing(small):
                 "3,1,2,Harbours and docks,File,Published,,")
     [draft] = find_numbers(small, "harbinger")
     small.tell("/desk/status", {"unit": draft, "status": "draft", "branch": False})
-    for typed, wanted in (("harb", ["h\u00e4rbour", "harbours"]), ("harbuor plans", ["h\u00e4rbour plans", "harbours plans"]),
+
+    def offered(typed, language=None):
+        """What is offered in place of what was typed."""
+        with contextlib.closing(index.open_index(str(small.index))) as db:
+            answer = Finder(db, Asking(small.queue), Query(read_typed(typed, language))).find()
+            return offers.offers(answer, typed, language)
+    for typed, wanted in (("harb", ["harb*", "h\u00e4rbour", "harbours"]),
+                          ("harbuor plans", ["h\u00e4rbour plans", "harbours plans"]),
                           ("hrbour plans", ["h\u00e4rbour plans", "harbours plans"]),
                           ("harrbour plans", ["h\u00e4rbour plans", "harbours plans"]),
                           ("Plans harbuor 12a", []), ("docks plans", []), ("harbinger", []), ("zzz", []),
                           ('"h\u00e4rbuor plans"', [])):
-        with contextlib.closing(index.open_index(str(small.index))) as db:
-            answer = Finder(db, Asking(small.queue), Query(read_typed(typed))).find()
-            assert offers.offers(answer, typed, None) == wanted, typed
+        assert offered(typed) == wanted, typed
+    import_rows(small, "w", "1,,W,Stadtrat,Fonds,Published,,", "2,1,1,Juden: Schutzbriefe,File,Published,,",
+                "3,1,2,Tramcar at the depot,File,Published,,", "4,1,3,Glasplattennegative,File,Published,,",
+                "5,1,4,Trauungsbuch,File,Published,,")
+    for typed, wanted in (("Judenschutzbrief", ["juden schutzbrief", "juden"]), ("tram car", ["tram* car*", "tramcar"]),
+                          ("Glasnegative", ["glasplattennegative"]), ("Heiratsbuch", ["trauungsbuch"]),
+                          ("Stadtratschutzbriefe 1750", ["schutzbriefe"])):
+        assert offered(typed, "de") == wanted, typed
 
 
 def test_a_unit_is_found_by_values_that_look_as_if_they_came_from_above(small):

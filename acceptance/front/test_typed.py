@@ -46,7 +46,10 @@ def test_years_as_archives_write_them(text, wanted):
 @pytest.mark.parametrize("typed, texts, span", [
     ("wedding 1890s", ["wedding", "1890s"], (1890, 1899)), ("Karte um 1850 Köln", ["Karte", "um 1850", "Köln"], (1845, 1855)),
     ("plans since 1850", ["plans", "since 1850"], (1850, 9999)), ("letters of 1850", ["letters", "of", "1850"], (1850, 1850)),
-    ("between 1850 and 1860", ["between 1850 and 1860"], (1850, 1860)), ("HDC/1850/3", ["HDC/1850/3"], None),
+    ("between 1850 and 1860", ["between 1850 and 1860"], (1850, 1860)),
+    ("naissances an V", ["naissances", "an V"], (1796, 1797)),
+    ("Belgian refugees First World War", ["Belgian", "refugees", "First World War"], (1914, 1918)),
+    ("Glocken im 1. Weltkrieg", ["Glocken", "im", "1. Weltkrieg"], (1914, 1918)), ("HDC/1850/3", ["HDC/1850/3"], None),
     ('"1890s" dock', ['"1890s"', "dock"], None), ("GB 0999", ["GB", "0999"], None), ("dock 12", ["dock", "12"], None)])
 def test_years_among_the_words_that_were_typed(typed, texts, span):
     read = questions.read(typed)

@@ -24,16 +24,19 @@ from texts import read_shared
 LONGEST = 1000  # characters that are read of what was typed
 MOST = 64  # words or phrases
 SHORTEST_STEM = 3  # letters
-STEMMERS = {"da": "danish", "de": "german", "el": "greek", "en": "english", "es": "spanish", "fi": "finnish",
+STEMMERS = {"ar": "arabic", "da": "danish", "de": "german", "el": "greek", "en": "english", "es": "spanish", "fi": "finnish",
             "fr": "french", "it": "italian", "nl": "dutch", "no": "norwegian", "pt": "portuguese", "ru": "russian",
             "sv": "swedish"}
+SCRIPTS = (("\u0370", "\u03ff", "el"), ("\u0400", "\u04ff", "ru"), ("\u0590", "\u05ff", "he"), ("\u0600", "\u06ff", "ar"))
+LEFT = {"el": ("ι", "γι", "ατ"), "ru": ("ов", "ев")}  # what a stemmer leaves at some forms of a word
+ENDINGS = {"el": re.compile("(?<=[αηιο])ν$"), "he": re.compile("(?:ים|יות|ות|ה|ת)$")}  # what goes before, or without one
 
 TABLES = read_shared("words.json")
 LETTERS = str.maketrans(TABLES["letters"] | dict(zip(TABLES["traditional"], TABLES["simplified"]))
                         | {chr(katakana): chr(katakana - 0x60) for katakana in range(0x30a1, 0x30f7)})
 OTHER = str.maketrans(TABLES["other"])
 MARKS, UNSEEN, APOSTROPHES, PAIRED = (TABLES[name] for name in ("marks", "unseen", "apostrophes", "paired"))
-QUOTES = re.compile("[\"“”„‟«»＂]")
+QUOTES = re.compile("(?<![א-ת])[\"“”„‟«»＂]|[\"“”„‟«»＂](?![א-ת])")  # within a Hebrew word it is a sign of a short form
 SPACES = re.compile(r"[\s\x00-\x1f\x85\ufeff]+")
 
 
@@ -237,7 +240,13 @@ def phrase_of(text, quoted, language):
     begins = kinds[-1] == "last" and not cut or text.endswith("*") and not quoted
     if not begins and not quoted:
         readings |= dict.fromkeys(tuple(other) for reading in [*readings] for other in spellings.others(reading, language))
-    return Phrase(tuple(readings), begins, language if kinds == ["letters"] and not begins and not quoted else None)
+    has_forms = kinds == ["letters"] and not begins and not quoted and language
+    return Phrase(tuple(readings), begins, tongue(next(iter(readings))[0], language) if has_forms else None)
+
+
+def tongue(word, language):
+    """The language whose forms a word has: that of its script, or else the reader's."""
+    return next((its for first, last, its in SCRIPTS if first <= word[0] <= last), language)
 
 
 def is_cut(typed):
@@ -274,12 +283,16 @@ def stem(word, language):
 @functools.lru_cache(20_000)
 def _stem(word, language):
     """As the stemmer of the language has it. A stemmer keeps its place in the word, so each has its own."""
+    word = ENDINGS[language].sub("", word) if language in ENDINGS else word
     return snowballstemmer.stemmer(STEMMERS[language]).stemWord(word) if language in STEMMERS else word
 
 
 def is_kin(word, other, language):
     """Whether two words are forms of one."""
-    return word[:SHORTEST_STEM] == other[:SHORTEST_STEM] and stem(word, language) == stem(other, language)
+    if word[:SHORTEST_STEM] != other[:SHORTEST_STEM]:
+        return False
+    short, long = sorted((stem(word, language), stem(other, language)), key=len)
+    return long == short or long in (short + end for end in LEFT.get(language, ()))
 
 
 def stands(phrase, words, at):

@@ -7,6 +7,7 @@ from typing import NamedTuple
 from urllib.parse import quote
 
 import jinja2
+from markupsafe import Markup, escape
 
 from aids import mark
 from asking import Asking
@@ -127,9 +128,40 @@ def environment(language, languages, compiled):
     env.install_gettext_translations(language.texts, newstyle=True)
     env.globals.update(say=language.say, day=language.day, number_of=language.number, language=language,
                        languages=languages.values(), AREAS=AREAS, ELEMENTS=ELEMENTS, mark=mark, read_head=read_head,
-                       facts=facts, ref=ref, today=today)
-    env.filters.update(filled=filled, short=short)
+                       ref=ref, today=today)
+    env.filters.update(heads(language), words=words, facts=facts, filled=filled, short=short)
     return env
+
+
+def words(text, tag="span", kind=""):
+    """A text of the archive as an element: it has its own direction, and a language that nobody knows."""
+    return Markup(f'<{tag} class="words{kind and f" {kind}"}" dir="auto" lang="">{escape(text)}</{tag}>')
+
+
+def facts(node):
+    """Dates and extent of a unit in a finding aid, as an element."""
+    found = " · ".join(words(value_of(line)) for line in node.lines if line.startswith((DATES, EXTENT)))
+    return Markup(f'<p class="facts">{found}</p>' if found else "")
+
+
+def heads(language):
+    """How templates write heads in a language. A page has hundreds, for which macros would take most of its time."""
+    def dated(day):
+        """A day."""
+        return Markup(f'<time datetime="{escape(day)}">{escape(language.day(day))}</time>')
+
+    def titled(head):
+        """The title, or until when there is none."""
+        closed = Markup(language.say(N_("closed until %(day)s")))
+        return closed % {"day": dated(head.until)} if head.until else Markup(f'<span lang="">{escape(head.title)}</span>')
+
+    def headed(head, tag="span"):
+        """The parts of a head line, or the line if they are not known."""
+        return Markup(f'<{tag} class="head words"><span class="code" dir="auto" lang="">{escape(head.code)}</span>'
+                      f'<span class="level" lang=""> [<bdi>{escape(head.level)}</bdi>] </span>'
+                      f'<span class="title" dir="auto">{titled(head)}</span></{tag}>'
+                      ) if head.code else words(head.text, tag, "head")
+    return {"dated": dated, "titled": titled, "headed": headed}
 
 
 def today():
@@ -151,11 +183,6 @@ def filled(members):
 def short(text):
     """The beginning of a text."""
     return text if len(text) <= SHORT else text[:SHORT - 1].rstrip() + "…"
-
-
-def facts(node):
-    """Dates and extent of a unit in a finding aid."""
-    return [value_of(line) for line in node.lines if line.startswith((DATES, EXTENT))]
 
 
 def pieces_of_head(pieces):

@@ -9,10 +9,12 @@ WAYS = {
           "doctor dr; reverend rev revd; captain capt; lieutenant lieut lt; sergeant sgt serjeant; general gen; colonel col;"
           "professor prof; mount mt; volume vol; department dept; association assoc assn; society soc;"
           "committee cttee; government govt; harbour harbor; labour labor; neighbour neighbor; parlour parlor; centre center;"
-          "theatre theater; defence defense; gaol jail; plough plow; photographs photos photographies; photograph photo",
+          "theatre theater; defence defense; gaol jail; plough plow; enclosure inclosure; enclosed inclosed;"
+          "photographs photos photographies; photograph photo",
     "de": "sankt st; strasse str; nummer nr; doktor dr; professor prof; gebruder gebr; band bd; jahrhundert jh jhd jahrh;"
           "bezirk bez; abteilung abt; gesellschaft ges; friedrich fr friedr; johann joh johannes;"
-          "wilhelm wilh; heinrich heinr; fotografien fotos photographien photos; fotografie foto photographie photo",
+          "wilhelm wilh; heinrich heinr; witwe wwe;"
+          "fotografien fotos photographien photos; fotografie foto photographie photo",
     "fr": "saint st; sainte ste; compagnie cie; numero no; madame mme; mademoiselle mlle; docteur dr; freres frs;"
           "boulevard bd bvd; avenue av; departement dep dept; notre_dame nd; proces_verbal proces_verbaux pv;"
           "photographies photos; photographie photo",

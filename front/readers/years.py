@@ -37,6 +37,18 @@ WORDS = {
     "mid": r"mid|middle|mitte|milieu|mediados|μεσα",
     "late": r"late|end|ende|spate[sn]?|ausgehende[sn]?|fin|finales|fines|τελη|τελοσ|ultimos"}
 PART_WORDS = "|".join(WORDS.values())
+FIRST = r"(?:first|1st|erste[nrs]?|1\.|premiere|1ere|1re|primera|1a|πρωτο[συ]|α'?)"
+SECOND = r"(?:second|2nd|zweite[nrs]?|2\.|seconde|deuxieme|2e|2eme|segunda|2a|δευτερο[συ]|β'?)"
+OF_WORLD = r"(?:world war|weltkriege?s?|guerre mondiale|guerra mundial|παγκοσμι\w+ πολεμ\w+)"
+WARS = {  # by which readers name years
+    rf"{FIRST} {OF_WORLD}|world war (?:i|1|one)|ww ?[1i]|great war|grande guerre|guerre (?:de )?14-18": (1914, 1918),
+    rf"{SECOND} {OF_WORLD}|world war (?:ii|2|two)|ww ?(?:2|ii)|guerre (?:de )?39-45": (1939, 1945),
+    r"thirty years['’]? war|(?:drei(?:ss|ß)ig|30-?)jahrige[nrs]? krieg(?:e?s)?|guerre de trente ans|"
+    r"guerra de los treinta anos": (1618, 1648),
+    r"seven years['’]? war|siebenjahrige[nrs]? krieg(?:e?s)?|guerre de sept ans|guerra de los siete anos": (1756, 1763),
+    r"napoleonic wars?|napoleonische[nr]? kriege?n?|befreiungskriege?n?|guerres napoleoniennes": (1803, 1815),
+    r"franco-prussian war|deutsch-franzosische[nrs]? krieg(?:e?s)?|guerre franco-(?:prussienne|allemande)": (1870, 1871),
+    r"guerra civil(?: espanola)?|spanish civil war": (1936, 1939), r"guerra de (?:la )?independencia": (1808, 1814)}
 NUMBER = rf"(?:[0-9]{{1,2}}|[ivx]+|{'|'.join(CENTURIES)})"
 NTH = r"(?:\s?(?:st|nd|rd|th|eme|ere?|er|e|[oº]|οσ|ου|ο|ων|ουσ)\b|\.?º)?\.?"
 CENTURY = (r"(?:centur(?:y|ies)\b|cents?\b\.?|jahrhundert(?:e[ns]?|s)?\b|jhd?ts?\b\.?|jhs?\b\.?|jahrh\b\.?|siecles?\b|"
@@ -46,7 +58,7 @@ ITEM = re.compile(
     rf"|(?<![\w.])(?P<one>{NUMBER}){NTH}(?:{TO}(?P<other>{NUMBER}){NTH})?[\s-]{{0,3}}{CENTURY}"
     rf"|(?<![\w.])(?P<short>{NUMBER})(?:th|e|eme)\s{{1,3}}[cs]\b\.?"
     rf"|(?<!\w)(?:siglos?|ss?\.|saec\b\.?|αιωνασ|αι\.)\s{{0,3}}(?P<after>{NUMBER})(?:{TO}(?P<last>{NUMBER}))?(?:{NTH})(?!\w)"
-    r"|(?<![0-9])(?P<decade>[0-9]{3}0)(?:\s?['’]?s\b|\s?-?(?:er[ns]?|ern|ies)\b(?:\s+jahren?\b)?)"
+    r"|(?<![0-9])(?P<decade>[0-9]{3}0)(?:\s?['’]?s\b|\s?-?(?:er[ns]?|ern|ies|е|х)\b(?:\s+jahren?\b)?)"
     r"|(?:annees|decennies?|decadas? de(?: los)?(?: anos)?|(?:los )?anos|δεκαετια[σ]?(?: του)?|δεκ\.(?: του)?|"
     r"decade of(?: the)?)\s{1,3}(?P<ten>[0-9]{3}0)(?![0-9])"
     r"|(?<![0-9])(?P<some>[0-9]{2}(?:[0-9x_?-][x_?-](?![0-9x])|\.\.|[0-9]\.(?=\s?(?:[\])]|$))))"
@@ -56,9 +68,10 @@ ITEM = re.compile(
     r"|(?<![0-9])(?P<begin>[0-9]{4})\s?[-\u2010-\u2015/]\s?(?P<end>[0-9]{1,2})(?![0-9.]*[0-9])"
     r"|(?<![0-9])(?P<year>[0-9]{4})(?![0-9])"
     r"|(?<!\w)(?P<roman>m[mdclxvi]{3,})(?!\w)"
-    r"|(?<!\w)an (?P<republic>[ivx]+)(?!\w)")
+    r"|(?<!\w)an (?P<republic>[ivx]+)(?!\w)"
+    rf"|(?<!\w)(?P<war>{'|'.join(WARS)})(?!\w)")
 CENTURY_GROUPS = ("lead", "one", "short", "after", "era", "age")
-ONLY_IN_DATES = ("some", "republic", "era", "age")
+ONLY_IN_DATES = ("some", "era", "age")
 PART = re.compile(rf"(?<!\w)(?:(?P<part>{PART_WORDS})"
                   rf"|(?P<nth>{'|'.join('|'.join(words.split()) for words in ORDINALS[1:])}|{LAST})\.?\s{{0,3}}"
                   rf"(?P<piece>{'|'.join('|'.join(words.split()) for words in PIECES.values())})){OF}\Z")
@@ -156,6 +169,8 @@ def years_of_item(item):
         return int(text), max(int(text), end)
     if name == "turn":
         return 1890, 1910
+    if name == "war":
+        return next(years for words, years in WARS.items() if re.fullmatch(words, text))
     if name == "republic":
         number = number_of(text)
         return (1791 + number, 1792 + number) if 0 < number < 15 else None
