@@ -54,7 +54,7 @@ def run(asks):
 
 @pytest.mark.parametrize("hash_, words, most", [
     ("/runs/1", [NAME.format(9), "What to fetch, and for whom"], 1),
-    ("/runs/1/slips", [NAME.format(9), "Call slips of run 1"], 2),
+    ("/runs/1/slips", [NAME.format(9), "Call slips of run 1", "GB 0999 HUL/9"], 2),
     ("/readers/3/ticket", ["Wilhelmina"], 1), ("/counter/3/label", ["Deed box"], 1)])
 def test_what_is_printed_fits_on_its_sheets(desk, room, hash_, words, most):
     """Slip, nine call slips, a ticket and a label; nothing runs over, and each code stands below its bars."""

@@ -1,6 +1,7 @@
 // Reference codes of containers, from the public finding aids: an aid names a container below the unit that lies in it.
 // Reading all aids of a large office takes a while, so they are kept in this page.
 
+import { el } from '../shared/dom.js';
 import { counted } from '../shared/language.js';
 import { aid, fonds } from '../shared/routes.js';
 import { containersOfAid, readFonds, readHead } from '../shared/texts.js';
@@ -13,6 +14,12 @@ export function codesOf(container) {
   const heads = known.get(String(container)) ?? [];
   const codes = heads.slice(0, SHOWN).map((head) => readHead(head)?.code ?? head);
   return heads.length > SHOWN ? [...codes, counted(heads.length - SHOWN, 'and {number} more', 'and {number} more')] : codes;
+}
+
+/** The same as a list; nothing if none is known. */
+export function codeList(container) {
+  const codes = codesOf(container);
+  return codes.length === 0 ? '' : el('ul', { class: 'codes' }, codes.map((code) => el('li', {}, el('bdi', {}, code))));
 }
 
 /** Reads the aids of all fonds if one of these containers is not known yet. Returns how many are still not known. */

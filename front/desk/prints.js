@@ -6,6 +6,7 @@ import { phrase, text } from '../shared/language.js';
 import { queue, reader, slip } from '../shared/routes.js';
 import { locationIn, readRun } from '../shared/texts.js';
 import { barcode } from './barcode.js';
+import { codeList, findCodes } from './codes.js';
 import { readerWords } from './names.js';
 import { problem } from './parts.js';
 import { boxCode, ticketCode } from './scans.js';
@@ -18,11 +19,13 @@ export async function callSlipsPage(run) {
   const names = await namesOf(lines);
   const print = printButton(text('Print the call slips'));
   const title = text('Call slips of run {run}', { run });
+  const slips = el('div', { class: 'call-slips' });
+  const show = () => slips.replaceChildren(...lines.map((line) => callSlip(line, names.get(line.container), run, day)));
+  show();
+  findCodes(lines.map((line) => line.container)).then(show);
   return { title, focus: print, content: [
     el('h1', { class: 'no-print' }, title),
-    el('p', { class: 'buttons no-print' }, print, link(`#/runs/${run}`, text('Back to the run'))),
-    el('div', { class: 'call-slips' }, lines.map((line) => callSlip(line, names.get(line.container), run, day))),
-  ] };
+    el('p', { class: 'buttons no-print' }, print, link(`#/runs/${run}`, text('Back to the run'))), slips] };
 }
 
 async function namesOf(lines) {
@@ -39,6 +42,7 @@ function callSlip(line, name, run, day) {
     location === null ? words(line.place, 'p', { class: 'from-where' })
       : [words(location || '-', 'p', { class: 'from-where' }),
         el('p', { class: 'what' }, words(name), el('small', {}, ' ', text('container {number}', { number: line.container })))],
+    codeList(line.container),
     el('p', {}, phrase('{reader}, ticket {ticket}', { reader: readerWords(line.ticket, 'strong'), ticket: line.ticket })),
     el('p', { class: 'quiet' }, phrase('Order {order}, run {run}, {day}', { order: line.order, run, day })),
     el('div', { class: 'codes-of' }, barcode(boxCode(line.container)), barcode(ticketCode(line.ticket))));

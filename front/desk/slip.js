@@ -5,7 +5,7 @@ import { el, link, printButton, table, words } from '../shared/dom.js';
 import { text, textAs } from '../shared/language.js';
 import { slip } from '../shared/routes.js';
 import { locationIn, readRun } from '../shared/texts.js';
-import { codesOf, findCodes } from './codes.js';
+import { codeList, findCodes } from './codes.js';
 import { boxLink, containerName, readerLink } from './names.js';
 import { problem } from './parts.js';
 import { waitingList } from './waiting.js';
@@ -36,7 +36,7 @@ function beside(lines) {
   const told = el('p', { class: 'told no-print', role: 'status' });
   const show = () => place.replaceChildren(table(text('What to fetch, and for whom'),
     [text('Location'), text('Container'), textAs('noun', 'Order'), text('Reader'), text('Reference code')], lines.map((line) =>
-      [words(locationOf(line)), boxLink(line.container), line.order, readerLink(line.ticket), codes(line.container)])));
+      [words(locationOf(line)), boxLink(line.container), line.order, readerLink(line.ticket), codeList(line.container)])));
   show();
   lookForCodes(lines, told, show);
   return el('section', { class: 'beside' }, place, told);
@@ -44,11 +44,6 @@ function beside(lines) {
 
 /** The location, or the whole beginning of the line where the name of the container is not known. */
 const locationOf = (line) => (line.name === null ? null : locationIn(line.place, line.name)) ?? line.place;
-
-function codes(container) {
-  const known = codesOf(container);
-  return known.length === 0 ? '' : el('ul', { class: 'codes' }, known.map((code) => el('li', {}, el('bdi', {}, code))));
-}
 
 async function lookForCodes(lines, told, show) {
   told.textContent = text('Reading the public finding aids …');

@@ -81,6 +81,7 @@ _INITIALS = re.compile(r"\. ?")
 _INITIAL = re.compile(r"[^\W\d_]\.")
 _MAY_JOIN = re.compile(r"[a-z][-'`][a-z]|(?<![a-z])[a-z]\. ?[a-z](?![a-z])|(?<![a-z])ma?c[a-z ]|[0-9][,.'][0-9]{3}(?![0-9])")
 MAC = ("mac", "mc")
+ELIDED = re.compile(r"(?i)\A(?:[cdjlmnst]|qu|jusqu|lorsqu)['\u2019](?=\w)")  # before a word, in French
 _THOUSANDS = re.compile("[,.'\u2019\u00a0\u202f]")
 _ARTICLE = re.compile(f"(?:{'|'.join(TABLES['articles'])})(?=...)")
 
@@ -234,9 +235,10 @@ def read_typed(typed, language=None):
 def phrase_of(text, quoted, language):
     """One phrase, which stood between quotation marks or not. Of a script without spaces its last letter is not by itself in
     a text where it goes on."""
-    kinds = [word.kind for word in words_of(text)]
+    core = ELIDED.sub("", text) if language == "fr" and not quoted else text
+    kinds = [word.kind for word in words_of(core)]
     cut = kinds[-2:] == ["paired", "last"]
-    readings = dict.fromkeys(tuple(reading[:-1] if cut else reading) for reading in readings_of(text))
+    readings = dict.fromkeys(tuple(reading[:-1] if cut else reading) for one in (text, core) for reading in readings_of(one))
     begins = kinds[-1] == "last" and not cut or text.endswith("*") and not quoted
     if not begins and not quoted:
         readings |= dict.fromkeys(tuple(other) for reading in [*readings] for other in spellings.others(reading, language))

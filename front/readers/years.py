@@ -39,7 +39,7 @@ WORDS = {
 PART_WORDS = "|".join(WORDS.values())
 FIRST = r"(?:first|1st|erste[nrs]?|1\.|premiere|1ere|1re|primera|1a|πρωτο[συ]|α'?)"
 SECOND = r"(?:second|2nd|zweite[nrs]?|2\.|seconde|deuxieme|2e|2eme|segunda|2a|δευτερο[συ]|β'?)"
-OF_WORLD = r"(?:world war|weltkriege?s?|guerre mondiale|guerra mundial|παγκοσμι\w+ πολεμ\w+)"
+OF_WORLD = r"(?:world war|weltkriege?s?|wk|guerre mondiale|guerra mundial|παγκοσμι\w+ πολεμ\w+)"
 WARS = {  # by which readers name years
     rf"{FIRST} {OF_WORLD}|world war (?:i|1|one)|ww ?[1i]|great war|grande guerre|guerre (?:de )?14-18": (1914, 1918),
     rf"{SECOND} {OF_WORLD}|world war (?:ii|2|two)|ww ?(?:2|ii)|guerre (?:de )?39-45": (1939, 1945),
