@@ -19,7 +19,7 @@ class Searched(Office):
     """An office whose front takes more searches in a row. `more`: further changes of its configuration."""
 
     def __init__(self, program, folder, more=(), **how):
-        changes = [("searches:2m rate=2r/s", "searches:2m rate=30r/s"), *more]
+        changes = [("searches:2m rate=2r/s", "searches:2m rate=300r/s"), *more]
         super().__init__(program, folder, changes=changes, **how)
         self.desk, self.public_ask = None, None
 

@@ -335,8 +335,7 @@ def test_the_branch_below_a_unit_opens_without_one_more_request(hall, top, logbo
     hall.js("document.querySelectorAll('details.branch a')[77].click()")
     hall.see("Cafe\u0301", "h1")
     assert hall.js("location.pathname") == f"/unit/{logbook}"
-    hall.press("Its place in the tree")
-    assert "Logbook" in hall.text("details.level [aria-current=page]")
+    hall.see("Logbook", "details.level [aria-current=page]")
 
 
 def test_contents_begin_in_the_first_window(hall, top):

@@ -380,15 +380,15 @@ def test_what_is_offered_for_a_word_that_finds_nothing(small):
                           ("harbuor plans", ["h\u00e4rbour plans", "harbours plans"]),
                           ("hrbour plans", ["h\u00e4rbour plans", "harbours plans"]),
                           ("harrbour plans", ["h\u00e4rbour plans", "harbours plans"]),
-                          ("Plans harbuor 12a", []), ("docks plans", []), ("harbinger", []), ("zzz", []),
-                          ('"h\u00e4rbuor plans"', [])):
+                          ("Plans harbuor 12a", ["h\u00e4rbour", "harbours"]), ("docks plans", ["docks* plans*"]),
+                          ("harbinger", []), ("zzz", []), ('"h\u00e4rbuor plans"', [])):
         assert offered(typed) == wanted, typed
     import_rows(small, "w", "1,,W,Stadtrat,Fonds,Published,,", "2,1,1,Juden: Schutzbriefe,File,Published,,",
                 "3,1,2,Tramcar at the depot,File,Published,,", "4,1,3,Glasplattennegative,File,Published,,",
                 "5,1,4,Trauungsbuch,File,Published,,")
-    for typed, wanted in (("Judenschutzbrief", ["juden schutzbrief", "juden"]), ("tram car", ["tram* car*", "tramcar"]),
+    for typed, wanted in (("Judenschutzbrief", ["juden schutzbrief", "juden"]), ("tram car", ["tramcar"]),
                           ("Glasnegative", ["glasplattennegative"]), ("Heiratsbuch", ["trauungsbuch"]),
-                          ("Stadtratschutzbriefe 1750", ["schutzbriefe"])):
+                          ("Stadtratschutzbriefe 1750", ["stadtrat schutzbriefe", "schutzbriefe"])):
         assert offered(typed, "de") == wanted, typed
 
 
