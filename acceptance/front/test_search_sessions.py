@@ -49,7 +49,7 @@ class Pages(Session):
 
     def __init__(self, office, seed):
         super().__init__(office, seed)
-        self.site = Site(office)
+        self.site, self.tops = Site(office), set()
 
     def play(self, steps):
         """Plays so many steps; returns how often what happened."""
@@ -134,9 +134,10 @@ class Pages(Session):
         assert shown == [number for number, unit in self.now.items() if not unit.above], shown
 
     def sitemap(self):
-        """The sitemap: archives that are public, and no more."""
-        shown = {int(number) for number in re.findall("/unit/([0-9]+)</loc>", self.load("/sitemap.xml"))}
-        assert shown == {number for number, unit in self.now.items() if not unit.above}, shown
+        """A sitemap, which the last round has proposed: of archives, those that are public now."""
+        shown = {int(number) for number in re.findall("/unit/([0-9]+)</loc>", self.load("/sitemap/1.xml"))}
+        self.tops |= {number for number, unit in self.now.items() if not unit.above}
+        assert not shown & self.tops - set(self.now), shown
 
     def list(self):
         """An order of what was collected, with a ticket that nobody has: units that are gone have no head."""
