@@ -1,6 +1,8 @@
 //! The check of the places, for each way to store them.
 
+ghost use Rattle.std.specs.Prelude.{◌≡◌, ℕ};
 ghost use Rattle.sqlite.specs.Tree.{Trees};
+ghost use Rattle.tree_core.specs.Forest.{Forest};
 ghost use Rattle.office_tables.specs.Versions.{encoding};
 ghost use Rattle.row_completeness.specs.WholePlaces.{RepresentsWhatItDescribes};
 ghost use Rattle.row_decoding.specs.Examinations.{Examines};
@@ -33,4 +35,7 @@ pub trait CheckedPlaces: Places {
 
     /// Rows that are complete, and that an office can have, represent the forest that they describe.
     ghost shows_said: { (db : Trees) → RepresentsWhatItDescribes Self.represents (encoding Self.version) db };
+
+    /// Rows represent one forest at most.
+    ghost tells_one: { (db : Trees) (f g : Forest ℕ) → Self.represents db f → Self.represents db g → f ≡ g };
 }

@@ -14,15 +14,15 @@ use Rattle.known_units.specs.KnownUnits.{KnowsUnits}
 
 -- ---- other things in the nodes
 
-each-each : {A B C : Type 0} (g : B → C) (h : A → B) (f : Forest A) → each g (each h f) ≡ each (λ a. g (h a)) f
+pub each-each : {A B C : Type 0} (g : B → C) (h : A → B) (f : Forest A) → each g (each h f) ≡ each (λ a. g (h a)) f
 each-each g h Empty = refl
 each-each g h (Node a c o) =
     ap (λ x. Node (g (h a)) x (each g (each h o))) (each-each g h c) ∙ ap (λ x. Node (g (h a)) (each (λ a. g (h a)) c) x) (each-each g h o)
 
-abbrev mark_id : Mark → ℕ
+abbrev pub mark_id : Mark → ℕ
 mark_id mark = mark.id
 
-abbrev unit_id : Unit → ℕ
+abbrev pub unit_id : Unit → ℕ
 unit_id unit = unit.id
 
 -- the marks have the units' ids

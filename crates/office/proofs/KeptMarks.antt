@@ -1,28 +1,21 @@
 -- The marks that an office keeps: how many they are, and when they stay those of its tables.
-use Rattle.std.proofs.Common.{◌≡◌, ◌≤◌, ◌&&◌, ℕ, Bool, true, false, cond, not, IsTrue, List, Option, None, Result, Ok}
-use Rattle.std.proofs.Common.{Err, length, refl, sym, ap, subst, ◌∙◌, arith}
-use Rattle.std.specs.Prelude.{IsOk, OnOk}
+use Rattle.std.proofs.Common.{◌≡◌, ◌≤◌, ℕ, true, IsTrue, List, Option, Result, length, refl, sym, ap, subst, ◌∙◌, arith}
+use Rattle.std.specs.Prelude.{OnOk}
 use Rattle.sqlite.specs.State.{State}
 use Rattle.sqlite_trees.specs.declared.store.Store as trees
 use Rattle.isad_core.specs.Limits.{most_units}
 use Rattle.tree_core.proofs.EachLemmas.{size-each}
 use Rattle.catalogue_core.proofs.NodeLemmas.{length-nodes}
 use Rattle.catalogue_core.specs.Bounds.{IsKept}
-use Rattle.catalogue_core.specs.CatalogueMerge.{Catalogue}
-use Rattle.catalogue_core.specs.UnitMarks.{AreWalkMarks, mark_of, without_number}
-use Rattle.catalogue_core.specs.Units.{Unit}
 use Rattle.office_tables.specs.Schema as tables
-use Rattle.office_core.specs.Rules as machine
 use Rattle.office_core.specs.State as office
-use Rattle.office_core.specs.declared.machine.Reply.{Reply}
 use Rattle.refinement.proofs.Frames.{catalogue_kept}
 use Rattle.refinement.specs.QueryAnswers.{AnswersQuery}
 use Rattle.public_queries.specs.InformedAnswers.{AnswersKnowing}
-use Rattle.office.specs.CallTransactions.{Applies}
-use Rattle.office.proofs.Common.{Answer, AreKept, AreOfLent, AreOfTables, Command, Database, Forest, HasCleanDisk, Held}
-use Rattle.office.proofs.Common.{IsAsBefore, IsAtRest, IsErr, IsOffice, LeavesUnchanged, Mark, OnlyTouches, Query}
-use Rattle.office.proofs.Common.{Represents, RepresentsState, Shows, StoreFault, TellOf, Trees, Version, early, is_ok}
-use Rattle.office.proofs.Common.{kept_after, office_of, on_ok_then, reading_room_trees, size, spares_catalogue, state}
+use Rattle.office.proofs.Common.{Answer, AreKept, AreOfLent, AreOfTables, AreWalkMarks, Catalogue, Database, Forest}
+use Rattle.office.proofs.Common.{HasCleanDisk, IsAsBefore, IsAtRest, LeavesUnchanged, Mark, OnlyTouches, Query}
+use Rattle.office.proofs.Common.{Represents, RepresentsState, Shows, StoreFault, TellOf, Trees, Unit, Version, early}
+use Rattle.office.proofs.Common.{mark_of, office_of, on_ok_then, reading_room_trees, size, without_number}
 
 -- ---- how many they are
 
@@ -57,32 +50,6 @@ module _ (places : Trees → Forest ℕ → Type 0) (version : Version) (kept : 
       let schema = (rest_a at_a).schema_is open_a ∙ sym ((rest_z clean).schema_is opened) in
       it clean at_a open_a row c
       (catalogue_kept z.now a.now reading_room_trees (λ tree table other. sym (only clean tree table other)) places same version row c refl schema shown)
-
--- after a command
-module _ {S : Type 0} (g : trees.Ghosts S) (before after : Held S) where
-  abbrev a : State
-  a = state g before
-
-  abbrev z : State
-  z = state g after
-
-  pub kept_on : {places : Trees → Forest ℕ → Type 0} {version : Version} (kept : Option (List Mark))
-      → ((old new : Trees) (f : Forest ℕ) → new tables.link.tree ≡ old tables.link.tree → places old f → places new f)
-      → (asked : Command) (r : Result Reply StoreFault) → IsOffice version a
-      → Applies places version g before after asked r → (HasCleanDisk z → AreKept places version a kept)
-      → AreKept places version z (kept_after asked r kept)
-  kept_on {places} {version} kept same asked (Err e) rest does it =
-      kept_as_before places version kept a z (λ clean. early does.crash clean) does.busy it
-  kept_on {places} {version} kept same asked (Ok reply) rest does it = at reply.done refl (spares_catalogue asked) refl
-    where
-      at : (done : machine.Reply) → reply.done ≡ done → (b : Bool) → spares_catalogue asked ≡ b
-          → AreKept places version z (cond (is_ok done && not b) None kept)
-      at (Err why) e b s =
-          kept_as_before places version kept a z (λ clean. early does.crash clean) (λ clean. does.refused clean (subst IsErr (sym e) refl)) it
-      at (Ok d) e true s =
-          kept_spared places version kept same a z (λ clean. early does.crash clean) does.was_open rest.rests does.office.rests
-          (λ clean. does.only s clean (subst IsOk (sym e) refl)) it
-      at (Ok d) e false s = λ clean opened row c shown. tt
 
 -- ---- what a call touches that reads first
 

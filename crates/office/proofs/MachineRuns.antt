@@ -2,7 +2,8 @@
 use Rattle.std.proofs.Common.{◌≡◌, List, [], ◌∷◌, map, Option, Some, None, refl, sym, ap, subst, ◌∙◌}
 use Rattle.office_core.specs.MixedRuns.{next_state, told_of, state_after_all, all_told}
 use Rattle.office_core.specs.State.{State}
-use Rattle.office.proofs.Common.{AreCalls, Call, Follows, IsAcceptance, IsMachinesRun, LeaveOpen, Returned, all_heard}
+use Rattle.office.specs.Runs.{Follows}
+use Rattle.office.proofs.Common.{AreCalls, Call, IsAcceptance, IsMachinesRun, LeaveOpen, Returned, all_heard}
 use Rattle.office.proofs.Common.{as_returned, heard, with_first, with_heard}
 
 module _ {M : Type 0} (represents : M → State → Type 0) (is_intact is_open : M → Type 0) where

@@ -2,14 +2,12 @@
 use Rattle.std.proofs.Common.{◌≡◌, ℕ, ◌≤◌, ◌<◌, ◌^◌, Bool, true, false, cond, List, ◌∷◌, length, Option, Some, None}
 use Rattle.std.proofs.Common.{Err, [], ◌||◌, refl, sym, ap, subst, ◌∙◌, arith, inl, inr}
 use Rattle.std.proofs.lemmas.Result.{IfOk-weaker}
-use Rattle.std.specs.List.{AllByRecursion, list_any}
-use Rattle.std.specs.Prelude.{Result, map}
+use Rattle.std.specs.Prelude.{Result, map, nat_eq}
 use Rattle.sqlite.specs.State as store
 use Rattle.desk_core.specs.Decisions.{is_desk}
 use Rattle.desk_core.specs.Refusals.{Check, first_that_holds, known_container, unless, when}
 use Rattle.desk_core.specs.declared.refusal.Refusal.TheVariants as refusal
 use Rattle.catalogue_core.specs.UnitLookup.{has_unit}
-use Rattle.catalogue_core.specs.Units.{Unit, has_id}
 use Rattle.catalogue_store.specs.Heads.{head_of}
 use Rattle.office_core.proofs.Words.{numbered_within}
 use Rattle.office_core.specs.Rules.{Reply}
@@ -24,11 +22,12 @@ use Rattle.public_queries.proofs.PageAnswers.{hidden}
 use Rattle.public_queries.proofs.Standing.{nowhere}
 use Rattle.public_queries.specs.HeadLines.{shows_last}
 use Rattle.public_queries.specs.InformedAnswers.{AnswersKnowing}
-use Rattle.office.proofs.Common.{Answer, Command, Database, Forest, IsSoundOffice, Order, Query, Refusal}
-use Rattle.office.proofs.Common.{RepresentsState, Run, StoreFault, Trees, Version, after, answer, asks_named}
-use Rattle.office.proofs.Common.{cases_Bool, checks, container_of, decide, eqb-true, false≢true, is_by, is_container}
-use Rattle.office.proofs.Common.{is_expired, is_some, is_ticket, known_json, ltb-false, named, nat_eq, nat_lt, nodes}
-use Rattle.office.proofs.Common.{of_named, opens, option_map, result_of, run_answer, spares_catalogue, step}
+use Rattle.office.proofs.Common.{AllByRecursion, Answer, Command, Database, Forest, IsSoundOffice, Order, Query}
+use Rattle.office.proofs.Common.{Refusal, RepresentsState, Run, StoreFault, Trees, Unit, Version, after, answer}
+use Rattle.office.proofs.Common.{asks_named, cases_Bool, checks, container_of, decide, eqb-true, false≢true, has_id}
+use Rattle.office.proofs.Common.{is_by, is_container, is_expired, is_some, is_ticket, known_json, list_any, ltb-false}
+use Rattle.office.proofs.Common.{named, nat_lt, nodes, of_named, opens, option_map, result_of, run_answer}
+use Rattle.office.proofs.Common.{spares_catalogue, step}
 
 -- What does the same with each number that names nothing does the same with what stands for it.
 named_same : {X : Type 0} (names : ℕ → Bool) (f : ℕ → X) (refused : X) → ((n : ℕ) → names n ≡ false → f n ≡ refused)

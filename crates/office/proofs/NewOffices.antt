@@ -2,12 +2,11 @@
 use Rattle.std.proofs.Common.{◌≡◌, ℕ, List, sym, ap, subst}
 use Rattle.desk_core.specs.DeskRows.{SeatRow}
 use Rattle.desk_store.specs.Representation.{RepresentsDesk}
-use Rattle.office_core.proofs.Texts.{starts_sound_office}
 use Rattle.state_encoding.specs.OfficeRows.{tables}
 use Rattle.refinement.proofs.EmptySeats.{none_seated}
 use Rattle.office.specs.InitialSettings.{Founding, IsGood, founded}
 use Rattle.office.proofs.Common.{Database, Forest, IsSoundOffice, RepresentsNew, RepresentsState, Trees, Version}
-use Rattle.office.proofs.Common.{new_desk, office_of}
+use Rattle.office.proofs.Common.{new_desk, office_of, starts_sound_office}
 
 pub founded_sound : (f : Founding) → IsGood f → IsSoundOffice (founded f)
 founded_sound f good = starts_sound_office f.settings f.day good.settings good.day

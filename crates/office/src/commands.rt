@@ -5,11 +5,12 @@ ghost use Rattle.sqlite.specs.Held.{state};
 ghost use Rattle.sqlite.specs.State.{HasCleanDisk};
 ghost use Rattle.office_core.specs.Json.{reply_text};
 ghost use Rattle.office_core.specs.SoundOffice.{NamesTexts};
+ghost use Rattle.office_core.specs.Soundness.{NamesDays};
 ghost use Rattle.office_tables.specs.Step.{OnlyTouches};
 ghost use Rattle.office_tables.specs.declared.fault.StoreFault.TheVariants as fault;
 ghost use Rattle.office.specs.CallTransactions.{Applies, Replies};
 ghost use Rattle.office.specs.IdleOffice.{IsOffice};
-ghost use Rattle.office.specs.KeptMarks.{AreKept, AreOfLent, AreOfTables, asks_access as asks_who_may_see};
+ghost use Rattle.office.specs.KeptMarks.{AreSoundIf, AreKept, AreOfLent, AreOfTables, asks_access as asks_who_may_see};
 ghost use Rattle.office.specs.NamedNumbers.{of_named};
 ghost use Rattle.office.specs.Sight.{day_check, name_check};
 ghost use Rattle.desk_commands.specs.SparedCatalogue.{reading_room_trees, spares_catalogue};
@@ -17,7 +18,7 @@ ghost use Rattle.public_queries.specs.KnownPaths.{RepresentsKnown};
 ghost use Rattle.refinement.specs.CommandSteps.{Performs, PerformsKnowing};
 ghost use Rattle.refinement.specs.Representation.{office_of};
 
-use crate::kept_marks::{asks_access, kept_or_read, let_go};
+use crate::kept_marks::{asks_access, follow, kept_or_read};
 use crate::named_numbers::named;
 use crate::names::{refused_by_day, refused_by_name};
 use crate::office_row::{limits_in, own_row};
@@ -244,21 +245,26 @@ fn apply_to<P: Places, S: Alter>(
     settle(closed, outcome)
 }
 
-/// The same. The marks that are kept must be those of the tables, and are so afterwards: they are let go if the command
-/// was accepted and may have changed the catalogue.
+/// The same. The marks that are kept must be those of the tables, and are so afterwards: with a status and a closure they
+/// are changed, and let go if another command was accepted that may have changed the catalogue. They are let go also if
+/// it is not known that the tables are a sound office's.
 pub(crate) fn apply_keeping<P: Places, S: Alter>(
     alloc: Global,
     closed: &mut Closed<P, S>,
     kept: &mut Option<KnownForest>,
+    is_sound: bool,
     command: &Command,
 ) -> Result<Reply, StoreFault>
     requires office { IsOffice P.version (state S.Store closed.old) }
+    requires days { NamesDays command.now }
     requires texts { NamesTexts command.now }
     requires marks { AreKept P.represents P.version (state S.Store closed.old) kept.old }
+    requires known { AreSoundIf is_sound P.represents P.version (state S.Store closed.old) }
     ensures applies { Applies P.represents P.version S.Store closed.old closed.new command.now result }
     ensures marks { AreKept P.represents P.version (state S.Store closed.new) kept.new }
+    ensures known { AreSoundIf is_sound P.represents P.version (state S.Store closed.new) }
 {
     let outcome = apply_to(alloc, closed, kept, command);
-    let_go(kept, command, &outcome);
+    follow(kept, is_sound, command, &outcome);
     outcome
 }

@@ -1,16 +1,22 @@
-//! The marks of all units, which an office keeps in memory once a question or a command needed them.
+//! The marks of all units, which an office keeps in memory once a question or a command needed them, and changes with
+//! the units.
 
-ghost use Rattle.std.specs.Prelude.{◌≡◌};
+ghost use Rattle.std.specs.Prelude.{◌≡◌, true};
 ghost use Rattle.catalogue_core.specs.Bounds.{IsKept};
 ghost use Rattle.catalogue_core.specs.UnitMarks.{AreWalkMarks};
 ghost use Rattle.office_tables.specs.Calls.{Answers};
 ghost use Rattle.office_tables.specs.Premises.{◌within◌gives◌};
 ghost use Rattle.catalogue_statements.specs.Representation.{Represents};
 ghost use Rattle.desk_commands.specs.SparedCatalogue.{spares_catalogue};
-ghost use Rattle.office.specs.KeptMarks.{TellOf, asks_access as asks_who_may_see, kept_after};
+ghost use Rattle.catalogue_core.specs.CatalogueMerge.{Catalogue};
+ghost use Rattle.catalogue_core.specs.Statuses.{chosen, with_closure, with_status};
+ghost use Rattle.office.specs.KeptMarks.{Follows, FollowsChange, KnowsIf, TellOf, asks_access as asks_who_may_see};
 
+use crate::named_numbers::named;
 use catalogue_store::{Places, branch_marks};
+use isad_core::{Day, Number};
 use known_forest::KnownForest;
+use known_units::{set_closure, set_status};
 use office_core::{Command, Reply};
 use office_tables::{StoreFault, Tables};
 use sqlite::Alter;
@@ -74,17 +80,60 @@ fn spares(command: &Command) -> bool
     }
 }
 
-/// Lets the marks go if the command was accepted and may have changed them.
-pub(crate) fn let_go(
+/// Changes the marks, if there are any, as a status changed the units.
+fn follow_status(kept: &mut Option<KnownForest>, unit: Number, draft: bool, whole: bool)
+    ensures { (c : Catalogue) → KnowsIf c kept.old → KnowsIf (with_status (chosen whole unit c) draft c) kept.new }
+{
+    if let Some(mut forest) = kept.take() {
+        set_status(&mut forest, unit, draft, whole);
+        *kept = Some(forest);
+    }
+}
+
+/// Changes the marks, if there are any, as a closure changed the unit.
+fn follow_closure(kept: &mut Option<KnownForest>, unit: Number, until: Option<Day>)
+    ensures { (c : Catalogue) → KnowsIf c kept.old → KnowsIf (with_closure unit until c) kept.new }
+{
+    if let Some(mut forest) = kept.take() {
+        set_closure(&mut forest, unit, until);
+        *kept = Some(forest);
+    }
+}
+
+/// Changes the marks as an accepted command changed the units, or lets them go.
+fn follow_change(kept: &mut Option<KnownForest>, command: &Command)
+    ensures { FollowsChange true command.now kept.old kept.new }
+{
+    match command {
+        Command::SetStatus {
+            unit,
+            draft,
+            branch,
+        } => follow_status(kept, named(*unit), *draft, *branch),
+        Command::SetClosure { unit, until } => follow_closure(kept, named(*unit), *until),
+        _ => *kept = None,
+    }
+}
+
+/// Brings the marks up to a command that was accepted: they are changed as the units were, or let go. If it is not
+/// known that the tables are a sound office's, they are let go.
+pub(crate) fn follow(
     kept: &mut Option<KnownForest>,
+    is_sound: bool,
     command: &Command,
     outcome: &Result<Reply, StoreFault>,
 )
-    ensures { kept.new ≡ kept_after command.now outcome.now kept.old }
+    ensures { Follows is_sound command.now outcome.now kept.old kept.new }
 {
-    if let Ok(reply) = outcome {
-        if reply.done.is_ok() && !spares(command) {
-            *kept = None;
-        }
+    let Ok(reply) = outcome else {
+        return;
+    };
+    if reply.done.is_err() || spares(command) {
+        return;
+    }
+    if is_sound {
+        follow_change(kept, command);
+    } else {
+        *kept = None;
     }
 }

@@ -37,17 +37,20 @@ use std::alloc::Global;
 use std::marker::Model;
 
 /// An office over its tables, which stores the places of its units as `P` does. Between its calls no transaction is
-/// open, and the connection has the tables of an office, as they were committed. Once the public asked something, the
-/// marks of all units are kept in memory, until a command changes the catalogue.
+/// open, and the connection has the tables of an office, as they were committed. Once a question or a command needed
+/// them, the marks of all units are kept in memory: a status and a closure change them, and another command that changes
+/// the catalogue lets them go.
 pub struct Office<P: Places, S: Alter> {
     closed: Closed<P, S>,
     kept: Option<KnownForest>,
+    /// It is known that the tables are a sound office's. Otherwise a status and a closure let the marks go, too.
+    is_sound: bool,
 }
 
 impl<P: Places, S: Alter> Model for Office<P, S> {
     ghost use Rattle.sqlite.specs.Held.{Held, held_code, state};
     ghost use Rattle.office.specs.IdleOffice.{IsOffice};
-    ghost use Rattle.office.specs.KeptMarks.{AreKept};
+    ghost use Rattle.office.specs.KeptMarks.{AreSoundIf, AreKept};
 
     ghost Value = { Held S };
 
@@ -56,7 +59,8 @@ impl<P: Places, S: Alter> Model for Office<P, S> {
     ghost view = { λ o. o.closed };
 
     ghost invariant = { λ o. IsOffice P.version (state S.Store o.closed)
-        × AreKept P.represents P.version (state S.Store o.closed) o.kept };
+        × AreKept P.represents P.version (state S.Store o.closed) o.kept
+        × AreSoundIf o.is_sound P.represents P.version (state S.Store o.closed) };
 }
 
 impl<P: Places, S: Alter> Office<P, S> {
@@ -99,6 +103,7 @@ impl<P: Places, S: Alter> Office<P, S> {
             Ok(()) => Ok(Office {
                 closed: Closed::of(conn),
                 kept: None,
+                is_sound: false,
             }),
             Err(fault) => Err((OpenFault::from(fault), conn)),
         }
@@ -133,7 +138,13 @@ impl<P: Places, S: Alter> Office<P, S> {
             self.old self.new (command_call command.now result) }
     {
         names_days_and_texts(command);
-        match apply_keeping(alloc, &mut self.closed, &mut self.kept, command) {
+        match apply_keeping(
+            alloc,
+            &mut self.closed,
+            &mut self.kept,
+            self.is_sound,
+            command,
+        ) {
             Ok(reply) => Ok(reply),
             Err(fault) => Err(busy(fault)),
         }
@@ -166,7 +177,11 @@ impl<P: Places, S: Alter> Office<P, S> {
         ensures ended { HasCleanDisk (state S.Store result) → (state S.Store result).in_transaction ≡ false }
         ensures unlimited { IsUnlimited (state S.Store result) }
     {
-        let Office { closed, kept: _ } = self;
+        let Office {
+            closed,
+            kept: _,
+            is_sound: _,
+        } = self;
         closed.into_connection()
     }
 }
@@ -212,7 +227,27 @@ impl<P: CheckedPlaces, S: Alter> Office<P, S> {
             None => Ok(Office {
                 closed: Closed::of(conn),
                 kept: None,
+                is_sound: false,
             }),
+        }
+    }
+
+    /// Notes that the tables are those of a sound office, as `create` and `adopt` tell. From then on a status and a
+    /// closure change the marks in memory; otherwise these are read again.
+    pub fn known_sound(self) -> Office<P, S>
+        requires sound { HasCleanDisk (state S.Store self)
+            → (s : State) × is_shown S.Store P.represents P.version self s }
+        ensures same { result ≡ self }
+    {
+        let Office {
+            closed,
+            kept,
+            is_sound: _,
+        } = self;
+        Office {
+            closed,
+            kept,
+            is_sound: true,
         }
     }
 }

@@ -63,7 +63,7 @@ pub fn make_office<S: Start>(
         Err(failed) => return Err(open_fault(failed)),
     };
     match KeptOffice::<S>::create(conn, settings) {
-        Ok(office) => Ok(office),
+        Ok(office) => Ok(office.known_sound()),
         Err((fault, conn)) => {
             let files = close(conn);
             unmake(unmaking);
@@ -87,7 +87,7 @@ pub fn open_office<S: Start>(
         Err(failed) => return Err(open_fault(failed)),
     };
     match KeptOffice::<S>::adopt(alloc, conn) {
-        Ok(office) => Ok(office),
+        Ok(office) => Ok(office.known_sound()),
         Err((fault, conn)) => Err((Fault::from(fault), StoreOutcome::Closed(close(conn)))),
     }
 }
@@ -115,7 +115,7 @@ pub fn make_trial_office(alloc: Global, settings: Settings) -> Result<TrialOffic
         Err(_) => return Err(AllocError),
     };
     match TrialOffice::create(conn, settings) {
-        Ok(office) => Ok(office),
+        Ok(office) => Ok(office.known_sound()),
         Err(_) => Err(AllocError),
     }
 }

@@ -4,3 +4,4 @@ pub mod KeptRows
 pub mod KeptPlaces
 pub mod UniqueRows
 pub mod Said
+pub mod OneForest

@@ -1,6 +1,5 @@
 use Rattle.std.proofs.Common.{subst, sym, arith}
-use Rattle.catalogue_core.specs.UnitMarks.{AreWalkMarks}
-use Rattle.office.proofs.Common.{cut_after, tells_well}
+use Rattle.office.proofs.Common.{AreWalkMarks, cut_after, tells_well}
 use Rattle.office.proofs.KeptMarks.{few_marks}
 use Rattle.office.proofs.kept_marks.all_marks.Goals as goal
 

@@ -1,9 +1,9 @@
 use Rattle.std.proofs.Common.{[], ◌∷◌, Result, subst, sym}
-use Rattle.office_core.proofs.Texts.{always_sound_office}
 use Rattle.office_core.specs.declared.machine.Busy.{Busy}
 use Rattle.office_core.specs.declared.machine.Reply.{Reply}
-use Rattle.office.proofs.Common.{Call, HasCleanDisk, IfOk, IsAtRest, IsCall, IsIn, StoreFault, TakesStep, command_call}
-use Rattle.office.proofs.Common.{early, has_clean_disk, is_shown, is_still_open, state}
+use Rattle.office.proofs.Common.{Call, HasCleanDisk, IfOk, IsAtRest, IsCall, IsIn, StoreFault, TakesStep}
+use Rattle.office.proofs.Common.{always_sound_office, command_call, early, has_clean_disk, is_shown, is_still_open}
+use Rattle.office.proofs.Common.{state}
 use Rattle.office.proofs.Machines.{applied_call}
 use Rattle.office.proofs.offices.Office.apply.Goals as goal
 use Rattle.office.proofs.offices.Office.apply.Goals.{in-Ok, in-Err}
