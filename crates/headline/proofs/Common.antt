@@ -5,4 +5,4 @@ pub use Rattle.office_core.specs.MixedRuns.{ToDo, ToTell, next_state}
 pub use Rattle.http_desk.specs.Runs.{AllHappen, Answered, AreVisits, ByHttp, CallsNameDays, CallsNameTexts, Directly}
 pub use Rattle.http_desk.specs.Runs.{Heard, IsVisited, Replied, Visit, VisitsLeaveOpen}
 pub use Rattle.office.specs.IdleOffice.{has_clean_disk, is_shown, is_still_open}
-pub use Rattle.headline.specs.Visits.{AreMade, IsMade, WereMade, heard_answer, heard_reply}
+pub use Rattle.headline.specs.Visits.{AreMade, IsConversation, IsMade, WereMade, heard_answer, heard_reply}

@@ -2,6 +2,7 @@
 use Rattle.std.proofs.Common.{◌≡◌, ◌<◌, ◌≤◌, ◌+◌, ◌∙◌, ◌++◌, ℕ, List, [], ◌∷◌, Option, Some, Result, Ok, Err, ap, arith}
 use Rattle.std.proofs.Common.{drop, get_or, length, refl, set, subst, sym, take}
 use Rattle.std.proofs.lemmas.List.{drop-set-lt, drop_more, take_all, take_more, take_more_set}
+use Rattle.std.specs.Io.KnownBytes.{Appends, Consumes}
 use Rattle.std.specs.List.{AllByRecursion}
 use Rattle.sqlite.specs.Held.{Held}
 use Rattle.sqlite_trees.specs.declared.store.Store as trees
@@ -16,17 +17,21 @@ use Rattle.office_core.specs.declared.query.Answer.{Answer}
 use Rattle.office_core.specs.declared.query.Query.{Query}
 use Rattle.http_desk.proofs.OneRun.{the_headline}
 use Rattle.http_desk.proofs.PublicAsks.{sessions_show_only_published}
+use Rattle.http_desk.specs.Exchanges.{AtEndIf, StaysFailed, Talks}
 use Rattle.http_desk.specs.Headline.{IsOneRun}
-use Rattle.state_encoding.specs.DeskEncoding.{order_rows}
+use Rattle.http_desk.specs.Streams.{Stream}
+use Rattle.http_desk.specs.declared.session_end.Ended.{Ended}
+use Rattle.http_desk.specs.declared.session_end.Next.TheVariants.{Ends}
+use Rattle.state_encoding.specs.DeskEncoding.{holding_rows, order_rows}
 use Rattle.office.specs.Runs.{IsAcceptance, IsCall, Returned, command_call, question_call}
 use Rattle.office.specs.Runs as office
 use Rattle.headline.specs.Headline.{AllAnsweredInPublic, AreMachines}
 use Rattle.headline.specs.declared.visits.Visit.{Visit as Asked}
 use Rattle.headline.proofs.Common.{AllHappen, Answered, AreMade, AreVisits, ByHttp, CallsNameDays, CallsNameTexts}
-use Rattle.headline.proofs.Common.{Directly, Heard, IsMade, IsVisited, Replied, RepresentsSpanRows, Second, ToDo}
-use Rattle.headline.proofs.Common.{ToTell, Visit, VisitsLeaveOpen, WereMade, has_clean_disk, heard_answer, heard_reply}
-use Rattle.headline.proofs.Common.{is_shown, is_still_open, next_state}
-use Rattle.headline.proofs.Rows.{orders_apart}
+use Rattle.headline.proofs.Common.{Directly, Heard, IsConversation, IsMade, IsVisited, Replied, RepresentsSpanRows}
+use Rattle.headline.proofs.Common.{Second, ToDo, ToTell, Visit, VisitsLeaveOpen, WereMade, has_clean_disk, heard_answer}
+use Rattle.headline.proofs.Common.{heard_reply, is_shown, is_still_open, next_state}
+use Rattle.headline.proofs.Rows.{orders_apart, places_apart}
 
 -- one visit more
 pub one_more_visit : {M : Type 0} (represents : M → State → Type 0) (is_intact is_open : M → Type 0) (visits : List Visit)
@@ -115,12 +120,39 @@ pub machines_work : {M : Type 0} (represents : M → State → Type 0) (is_intac
     → (visits : List Visit) (old new : M) → AreVisits represents is_intact is_open old new visits
     → AllByRecursion CallsNameDays visits → AllByRecursion CallsNameTexts visits → is_intact new
     → (s : State) → represents old s
-    → (t : State) × represents new t × ((run : IsOneRun s visits t) × ((before later : List Command) → run.commands ≡ before ++ later → IsSoundOffice (state_after s before)))
-    × ((all : AllHappen s visits t) × AllAnsweredInPublic s visits t all × (VisitsLeaveOpen (is_open old) s visits t all → is_open new))
+    → (t : State) × represents new t × (happen : AllHappen s visits t) × (run : IsOneRun s visits t happen)
+    × ((before later : List Command) → run.commands ≡ before ++ later → IsSoundOffice (state_after s before))
+    × AllAnsweredInPublic s visits t happen × (VisitsLeaveOpen (is_open old) s visits t happen → is_open new)
 machines_work represents is_intact is_open sound visits old new are days texts intact s is =
     let good = sound old s is in
-    let (t, shown, run, all) = the_headline represents is_intact is_open visits old new are days intact s is good.sound in
-    (t, shown, (run, run.office texts good), (all.0, all_in_public s visits t all.0, all.1))
+    let (t, shown, happen, run, leaves) = the_headline represents is_intact is_open visits old new are days intact s is good.sound in
+    (t, shown, happen, run, run.office texts good, all_in_public s visits t happen, leaves)
+
+-- ---- a session over streams is a visit
+
+-- what `talk` promises of a new source and a new sink, whose reader and writer are had back
+pub of_talk : {R W M : Type 0} (remaining : R → Option Bytes) (contents : W → Option Bytes)
+    (represents : M → State → Type 0) (is_intact is_open : M → Type 0) (recovers : M → List Command → State → Type 0)
+    (reader reader_after : R) (writer writer_after : W) (source source_after sink sink_after : Stream) (end : Ended)
+    (old new : M)
+    → Talks represents is_intact is_open recovers source.bytes source_after.bytes sink.bytes sink_after.bytes old end new
+    → AtEndIf source_after.bytes (Ends end) → StaysFailed is_intact is_open old new
+    → source.bytes ≡ remaining reader → sink.bytes ≡ contents writer
+    → remaining reader_after ≡ source_after.bytes → contents writer_after ≡ sink_after.bytes
+    → IsConversation remaining contents represents is_intact is_open reader reader_after writer writer_after end old new
+of_talk remaining contents represents is_intact is_open recovers reader reader_after writer writer_after source source_after sink sink_after end old new session at_end store read written left held =
+    let (input, output, gone, put, through) = session in (
+      input,
+      output,
+      subst (λ bytes. Consumes bytes (remaining reader_after) input) read (subst (λ bytes. Consumes source.bytes bytes input) (sym left) gone),
+      subst (λ bytes. Appends bytes (contents writer_after) output) written (subst (λ bytes. Appends sink.bytes bytes output) (sym held) put),
+      subst (λ bytes. AtEndIf bytes (Ends end)) (sym left) at_end,
+      record {
+        intact = store.intact;
+        was_open = store.was_open;
+        happens = λ intact s is. let (t, shown, kept) = through intact s is in (t, shown, (kept.0, kept.1));
+      },
+    )
 
 -- ---- a call of an office is a visit
 
@@ -165,15 +197,17 @@ pub the_work : {S : Type 0} (g : trees.Ghosts S) (visits : List Visit) (old new 
     → AllByRecursion CallsNameDays visits → AllByRecursion CallsNameTexts visits → has_clean_disk g new
     → (s : State) → is_shown g RepresentsSpanRows Second old s → AreMachines g old new s visits
 the_work g visits old new are days texts clean s is =
-    let (t, shown, (run, sound), (all, public, leaves)) =
+    let (t, shown, happen, run, sound, public, leaves) =
     machines_work (is_shown g RepresentsSpanRows Second) (has_clean_disk g) (is_still_open g) (λ office t it. it.0) visits old new are days texts clean s is in
     record {
       state_then = t;
       shown = shown;
+      happen = happen;
       run = run;
-      happen = all;
       sound = sound;
       public = public;
-      rows = λ opened. (order_rows t, (shown.1 opened).desk.orders, orders_apart t);
+      rows = λ opened.
+          let desk = (shown.1 opened).desk in
+          record { orders = (order_rows t, desk.orders, orders_apart t); places = (holding_rows t, desk.holdings, places_apart t) };
       is_open = leaves;
     }

@@ -13,7 +13,7 @@ use Rattle.office_tables.specs.Versions.{Second}
 use Rattle.http_desk.specs.Headline.{IsOneRun}
 use Rattle.http_desk.specs.PublicSessions.{AreAnsweredInPublic}
 use Rattle.http_desk.specs.Runs.{AllHappen, ByHttp, Directly, IsVisited, Visit, VisitsLeaveOpen, all_messages}
-use Rattle.headline.specs.Rows.{HasOrdersApart}
+use Rattle.headline.specs.Rows.{HasRowsApart}
 use Rattle.headline.specs.Visits.{AreMade}
 use Rattle.headline.specs.declared.visits.Visit.{Visit as Asked}
 
@@ -34,11 +34,11 @@ module _ {S : Type 0} (g : trees.Ghosts S) where
   pub record AreMachines (old new : Held S) (s : State) (visits : List Visit) : Type 0 where
     pub state_then : State
     pub shown : is_shown g RepresentsSpanRows Second new state_then  -- its rows are those of this state
-    pub run : IsOneRun s visits state_then  -- which the machine reaches by the visits' commands, and keeps the rules
     pub happen : AllHappen s visits state_then  -- each session and call is answered as the machine does, to the byte
+    pub run : IsOneRun s visits state_then happen  -- the machine reaches it by their commands, and keeps the rules
     pub sound : (before later : List Command) → run.commands ≡ before ++ later → IsSoundOffice (machine.state_after s before)
     pub public : AllAnsweredInPublic s visits state_then happen  -- below /public/ only what is published is told
-    pub rows : is_still_open g new → HasOrdersApart (state g new).now.trees  -- no container is with two readers
+    pub rows : is_still_open g new → HasRowsApart (state g new).now.trees  -- no container is with two readers
     pub is_open : VisitsLeaveOpen (is_still_open g old) s visits state_then happen → is_still_open g new
 
   -- The visits were made, one by one. If the office was in a state, and its disk has returned what was written to it,

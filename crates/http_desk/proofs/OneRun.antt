@@ -32,42 +32,44 @@ record HasRun (Bring : List Command → Type 0) (CallsAreNamed : Type 0) (s new 
   texts : CallsAreNamed → AllByRecursion NamesTexts commands
   leaves : new ≡ state_after s commands
 
-one_visit : (s new : State) (visit : Visit) → CallsNameDays visit → Happens s visit new
-    → HasRun (λ commands. VisitBrings s visit commands new) (CallsNameTexts visit) s new
+one_visit : (s new : State) (visit : Visit) → CallsNameDays visit → (happens : Happens s visit new)
+    → HasRun (VisitBrings s visit new happens) (CallsNameTexts visit) s new
 one_visit s new (ByHttp input output end) named session =
     let it = runs_the_machine s new input output end session in
-    record { commands = it.0; bring = (session, it.1); days = it.1.days; texts = λ _. it.1.texts; leaves = it.1.leaves }
+    record { commands = it.0; bring = it.1; days = it.1.days; texts = λ _. it.1.texts; leaves = it.1.leaves }
 one_visit s new (Directly (ToDo command) (Some told)) named h =
-    record { commands = command ∷ []; bring = (refl, h); days = (named, tt); texts = λ text. (text, tt); leaves = h.1 }
-one_visit s new (Directly (ToTell query) (Some told)) named h = record { commands = []; bring = (refl, h); days = tt; texts = λ _. tt; leaves = h.1 }
-one_visit s new (Directly (ToDo command) None) named h = record { commands = []; bring = (refl, h); days = tt; texts = λ _. tt; leaves = h }
-one_visit s new (Directly (ToTell query) None) named h = record { commands = []; bring = (refl, h); days = tt; texts = λ _. tt; leaves = h }
+    record { commands = command ∷ []; bring = refl; days = (named, tt); texts = λ text. (text, tt); leaves = h.1 }
+one_visit s new (Directly (ToTell query) (Some told)) named h = record { commands = []; bring = refl; days = tt; texts = λ _. tt; leaves = h.1 }
+one_visit s new (Directly (ToDo command) None) named h = record { commands = []; bring = refl; days = tt; texts = λ _. tt; leaves = h }
+one_visit s new (Directly (ToTell query) None) named h = record { commands = []; bring = refl; days = tt; texts = λ _. tt; leaves = h }
 
 after_both : (first others : List Command) (s : State)
     → state_after s (first ++ others) ≡ state_after (state_after s first) others
 after_both [] others s = refl
 after_both (asked ∷ first) others s = after_both first others (step s asked).0
 
-two_runs : (s mid new : State) (visit : Visit) (later : List Visit)
-    → HasRun (λ commands. VisitBrings s visit commands mid) (CallsNameTexts visit) s mid
-    → HasRun (λ commands. AllBring mid later commands new) (AllByRecursion CallsNameTexts later) mid new
-    → HasRun (λ commands. AllBring s (visit ∷ later) commands new) (AllByRecursion CallsNameTexts (visit ∷ later)) s new
-two_runs s mid new visit later one more = record {
+two_runs : (s mid new : State) (visit : Visit) (later : List Visit) (happens : Happens s visit mid)
+    (others : AllHappen mid later new)
+    → HasRun (VisitBrings s visit mid happens) (CallsNameTexts visit) s mid
+    → HasRun (AllBring mid later new others) (AllByRecursion CallsNameTexts later) mid new
+    → HasRun (AllBring s (visit ∷ later) new (mid, happens, others)) (AllByRecursion CallsNameTexts (visit ∷ later)) s new
+two_runs s mid new visit later happens others one more = record {
   commands = one.commands ++ more.commands;
-  bring = (one.commands, more.commands, mid, refl, one.bring, more.bring);
+  bring = (one.commands, more.commands, refl, one.bring, more.bring);
   days = all_append NamesDays one.commands more.commands one.days more.days;
   texts = λ named. all_append NamesTexts one.commands more.commands (one.texts named.0) (more.texts named.1);
   leaves = more.leaves ∙ ap (λ x. state_after x more.commands) one.leaves ∙ sym (after_both one.commands more.commands s);
 }
 
-all_visits : (s new : State) (visits : List Visit) → AllHappen s visits new → AllByRecursion CallsNameDays visits
-    → HasRun (λ commands. AllBring s visits commands new) (AllByRecursion CallsNameTexts visits) s new
-all_visits s new [] same named = record { commands = []; bring = (refl, same); days = tt; texts = λ _. tt; leaves = same }
+all_visits : (s new : State) (visits : List Visit) (happen : AllHappen s visits new)
+    → AllByRecursion CallsNameDays visits
+    → HasRun (AllBring s visits new happen) (AllByRecursion CallsNameTexts visits) s new
+all_visits s new [] same named = record { commands = []; bring = refl; days = tt; texts = λ _. tt; leaves = same }
 all_visits s new (visit ∷ later) (mid, happens, more) named =
-    two_runs s mid new visit later (one_visit s mid visit named.0 happens) (all_visits mid new later more named.1)
+    two_runs s mid new visit later happens more (one_visit s mid visit named.0 happens) (all_visits mid new later more named.1)
 
-pub one_run : (s new : State) (visits : List Visit) → AllHappen s visits new → AllByRecursion CallsNameDays visits
-    → IsSound s → IsOneRun s visits new
+pub one_run : (s new : State) (visits : List Visit) (happen : AllHappen s visits new)
+    → AllByRecursion CallsNameDays visits → IsSound s → IsOneRun s visits new happen
 one_run s new visits happen named sound =
     let run = all_visits s new visits happen named in
     record {
@@ -105,10 +107,10 @@ module _ {M : Type 0} (represents : M → State → Type 0) (is_intact is_open :
   pub the_headline : (visits : List Visit) (old new : M) → AreVisits represents is_intact is_open old new visits
       → AllByRecursion CallsNameDays visits → is_intact new
       → (s : State) → represents old s → IsSound s
-      → (t : State) × represents new t × IsOneRun s visits t × ((all : AllHappen s visits t) × (VisitsLeaveOpen (is_open old) s visits t all → is_open new))
+      → (t : State) × represents new t × (happen : AllHappen s visits t) × IsOneRun s visits t happen × (VisitsLeaveOpen (is_open old) s visits t happen → is_open new)
   the_headline visits old new are named intact s is sound =
       let (t, shown, all) = all_happen visits old new are intact s is in
-      (t, shown, one_run s t visits all.0 named sound, all)
+      (t, shown, all.0, one_run s t visits all.0 named sound, all.1)
 
   pub make_visits : (recovers : M → List Command → State → Type 0) → MakeVisits represents is_intact is_open recovers
   make_visits recovers = record {

@@ -66,11 +66,11 @@ pub record KeepsTheRules (s : State) : Type 0 where
   pub open_to_holders : OpenToHolders s  -- what is out is open, on that day, to the reader who has it
   pub shown : ShowsOnlyPublished s  -- what the public is shown is printed from published units alone
 
--- Visits make one run of the machine, and the rules are kept at each point of it. If the office was sound at first and
--- its texts and those of the calls are UTF-8, it is so at each point.
-pub record IsOneRun (s : State) (visits : List Visit) (new : State) : Type 0 where
+-- Visits, as they happened, make one run of the machine, and the rules are kept at each point of it. If the office was
+-- sound at first and its texts and those of the calls are UTF-8, it is so at each point.
+pub record IsOneRun (s : State) (visits : List Visit) (new : State) (happen : AllHappen s visits new) : Type 0 where
   pub commands : List Command
-  pub bring : AllBring s visits commands new
+  pub bring : AllBring s visits new happen commands
   pub days : AllByRecursion NamesDays commands
   pub texts : AllByRecursion CallsNameTexts visits → AllByRecursion NamesTexts commands
   pub leaves : new ≡ machine.state_after s commands
@@ -81,8 +81,8 @@ pub record IsOneRun (s : State) (visits : List Visit) (new : State) : Type 0 whe
 -- Sessions, and calls whose commands name days of the calendar, that lead from a sound state to another are one run.
 abbrev pub VisitsRunTheMachine : Type 0
 VisitsRunTheMachine =
-    (s new : State) (visits : List Visit) → AllHappen s visits new → AllByRecursion CallsNameDays visits → IsSound s
-    → IsOneRun s visits new
+    (s new : State) (visits : List Visit) (happen : AllHappen s visits new) → AllByRecursion CallsNameDays visits
+    → IsSound s → IsOneRun s visits new happen
 
 -- After any sessions, and any calls whose commands name days of the calendar, from a sound state on, the office
 -- represents the machine's state. If the last message or call was a command that was accepted, or if there was none and
@@ -91,5 +91,5 @@ abbrev pub TheHeadline : {M : Type 0} → (M → State → Type 0) → (M → Ty
 TheHeadline {M} represents is_intact is_open =
     (visits : List Visit) (old new : M) → AreVisits represents is_intact is_open old new visits
     → AllByRecursion CallsNameDays visits → is_intact new → (s : State) → represents old s → IsSound s
-    → (t : State) × represents new t × IsOneRun s visits t
-    × ((all : AllHappen s visits t) × (VisitsLeaveOpen (is_open old) s visits t all → is_open new))
+    → (t : State) × represents new t × (happen : AllHappen s visits t) × IsOneRun s visits t happen
+    × (VisitsLeaveOpen (is_open old) s visits t happen → is_open new)

@@ -158,19 +158,16 @@ module _ {M : Type 0} (represents : M → State → Type 0) (is_intact is_open :
 
 -- ---- their commands
 
--- the commands of one visit: those of a session; or the one of a call, unless the office was busy
-abbrev pub VisitBrings : State → Visit → List Command → State → Type 0
-VisitBrings s (ByHttp input output end) commands new =
-    (session : Session s input output end new) × HasCarriedOut session commands
-VisitBrings s (Directly (ToDo command) (Some told)) commands new =
-    (commands ≡ command ∷ []) × Happens s (Directly (ToDo command) (Some told)) new
-VisitBrings s (Directly (ToTell query) (Some told)) commands new =
-    (commands ≡ []) × Happens s (Directly (ToTell query) (Some told)) new
-VisitBrings s (Directly asked None) commands new = (commands ≡ []) × (new ≡ s)
+-- The commands of a visit that has happened: those of a session; or the one of a call, unless the office was busy.
+abbrev pub VisitBrings : (s : State) (visit : Visit) (new : State) → Happens s visit new → List Command → Type 0
+VisitBrings s (ByHttp input output end) new session commands = HasCarriedOut session commands
+VisitBrings s (Directly (ToDo command) (Some told)) new happens commands = commands ≡ command ∷ []
+VisitBrings s (Directly (ToTell query) (Some told)) new happens commands = commands ≡ []
+VisitBrings s (Directly asked None) new happens commands = commands ≡ []
 
--- the commands of all visits, in order
-abbrev pub AllBring : State → List Visit → List Command → State → Type 0
-AllBring s [] commands new = (commands ≡ []) × (new ≡ s)
-AllBring s (visit ∷ later) commands new =
-    (first others : List Command) × (mid : State) × (commands ≡ first ++ others)
-    × VisitBrings s visit first mid × AllBring mid later others new
+-- the commands of all of them, in order
+abbrev pub AllBring : (s : State) (visits : List Visit) (new : State) → AllHappen s visits new → List Command → Type 0
+AllBring s [] new same commands = commands ≡ []
+AllBring s (visit ∷ later) new (mid, happens, more) commands =
+    (first others : List Command) × (commands ≡ first ++ others) × VisitBrings s visit mid happens first
+    × AllBring mid later new more others

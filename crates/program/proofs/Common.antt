@@ -17,6 +17,7 @@ pub use Rattle.sqlite_disk.specs.declared.Disk.{Ghosts}
 pub use Rattle.sqlite_disk.specs.declared.Files.{Files}
 pub use Rattle.sqlite_store.specs.declared.store.FileStore.{FileStore}
 pub use Rattle.clap.specs.Walk.{Row, Text, rows_of}
+pub use Rattle.isad_core.specs.Texts.{Bytes}
 pub use Rattle.office_tables.proofs.Calls.{early}
 pub use Rattle.office_tables.specs.Versions.{Second, Version}
 pub use Rattle.nested_sets.specs.Representation.{RepresentsSpanRows}
@@ -25,6 +26,7 @@ pub use Rattle.office_core.specs.SoundOffice.{IsSoundOffice}
 pub use Rattle.office_core.specs.declared.command.Command.{Command}
 pub use Rattle.http_desk.specs.Exchanges.{Keeps, Through}
 pub use Rattle.http_desk.specs.Streams.{Stream, calls_of, one_more_call, spent}
+pub use Rattle.http_desk.specs.declared.session_end.Ended.{Ended}
 pub use Rattle.refinement.specs.Representation.{RepresentsState}
 pub use Rattle.office.specs.IdleOffice.{IsAtRest, IsIn, has_clean_disk, is_shown, is_still_open}
 pub use Rattle.office.specs.InitialSettings.{AreTaken, Founding, IsTaken, founded, settings_fault}

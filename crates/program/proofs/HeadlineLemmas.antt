@@ -21,16 +21,16 @@ all_intact represents is_intact is_open (visit ∷ later) old new (mid, first, r
 
 pub in_memory : TheHeadlineInMemory
 in_memory founding visits old new shown are days =
-    let (t, after, run, all) =
+    let (t, after, happen, run, leaves) =
     law.the_headline (is_shown over_memory RepresentsSpanRows Second) (has_clean_disk over_memory) (is_still_open over_memory) visits old new are days (memory_is_clean new) _ shown shown.0.sound in
-    (t, after, run)
+    (t, after, happen, run)
 
 pub of_a_trial : {D : Type 0} (g : Ghosts D) → ((office : Held (FileStore D g)) → HasCleanDisk (file_state office))
     → TheHeadlineOfATrial g
 of_a_trial g clean founding visits old new shown are days =
-    let (t, after, run, all) =
+    let (t, after, happen, run, leaves) =
     law.the_headline (is_shown (over_files {g = g}) RepresentsSpanRows Second) (has_clean_disk (over_files {g = g})) (is_still_open (over_files {g = g})) visits old new are days (clean new) _ shown shown.0.sound in
-    (t, after, run, (all.0, λ leaves. after.1 (all.1 leaves)))
+    (t, after, happen, run, λ opened. after.1 (leaves opened))
 
 -- the tables that show a state are of our schema
 pub shows : (db : Database) (s : State) → RepresentsState RepresentsSpanRows Second db s
@@ -52,8 +52,8 @@ module _ {D : Type 0} (g : Ghosts D) (image : Image) where
       let intact = has_clean_disk (over_files {g = g}) in
       let stays = is_still_open (over_files {g = g}) in
       let first = (found (all_intact shown intact stays visits old new are clean)).left s holds in
-      let (t, after, run, all) =
+      let (t, after, happen, run, leaves) =
       law.the_headline shown intact stays visits old new are days clean s (sound, first) sound.sound in
       let held : IsTrue (file_state new).is_open → HoldState g files t =
       λ opened. held_so new files t left honest (after.1 opened) opened in
-      (t, run, (all.0, λ either. elim either as (λ _. HoldState g files t) [ inl leaves ↦ held (all.1 leaves) | inr opened ↦ held opened ]))
+      (t, happen, run, λ either. elim either as (λ _. HoldState g files t) [ inl last ↦ held (leaves last) | inr opened ↦ held opened ])

@@ -1,20 +1,24 @@
--- Each run on a store goes on where the runs before it ended.
-use Rattle.std.proofs.Common.{◌≡◌, ◌∙◌, ◌++◌, List, [], ◌∷◌, ap, inl, inr, refl, subst, subst₂, sym}
+-- Each run on a store goes on where the runs before it ended, and makes visits to the office.
+use Rattle.std.proofs.Common.{◌≡◌, ◌∙◌, ◌++◌, IsTrue, List, [], ◌∷◌, ap, inl, inr, refl, subst, subst₂, sym}
 use Rattle.std.proofs.Math.Logic.{∥∥₁_elim}
+use Rattle.std.proofs.lemmas.List.{append-nil}
 use Rattle.sqlite.specs.Closing.{HoldsAlone, IsCopied}
 use Rattle.sqlite.specs.State as store
 use Rattle.sqlite_trees.specs.Props.{Trees-set}
-use Rattle.office_core.proofs.Texts.{always_sound_office}
+use Rattle.office_tables.specs.Schema.{schema}
+use Rattle.office_core.specs.Json.{reply_text}
 use Rattle.office_core.specs.State.{State}
 use Rattle.office_core.specs.declared.command.Command.TheVariants.{Import}
-use Rattle.http_desk.proofs.Meanings.{runs_the_machine}
+use Rattle.http_desk.proofs.OneRun.{one_run}
+use Rattle.http_desk.specs.Runs.{AllBring, AllHappen, ByHttp, CallsNameDays, CallsNameTexts, Happens, Replied, Visit}
 use Rattle.office.proofs.NewOffices.{founded_sound}
-use Rattle.program.specs.NextRuns.{BeginsAsBroughtOver, BeginsAsFound, BeginsAsMade, ConnectionsBring, FailsToMigrate}
-use Rattle.program.specs.NextRuns.{RunGoesOn, IsAfter, IsBusy, IsFoundNext, Judges, ProgramRun, RunBrings, Serves}
-use Rattle.program.specs.NextRuns.{TakesIn, Talks, closed_by}
-use Rattle.program.proofs.Common.{AreHeld, AreSessions, Command, Connection, Database, FileStore, Files, Ghosts}
-use Rattle.program.proofs.Common.{HasLeft, Held, HoldsDatabase, Image, IsFound, IsIn, IsSoundOffice, RepresentsSpanRows}
-use Rattle.program.proofs.Common.{RepresentsState, Second, Trees, early, file_state, state_after, step}
+use Rattle.program.specs.NextRuns.{BeginsAsBroughtOver, BeginsAsFound, BeginsAsMade, FailsToMigrate, IsAfter, IsBusy}
+use Rattle.program.specs.NextRuns.{IsFoundNext, Judges, ProgramRun, RunGoesOn, RunMakesVisits, Serves, TakesIn, Talks}
+use Rattle.program.specs.NextRuns.{closed_by, sessions_with, visits_in}
+use Rattle.program.proofs.Common.{AllByRecursion, AreHeld, AreSessions, Bytes, Command, Connection, Database, Ended}
+use Rattle.program.proofs.Common.{FileStore, Files, Ghosts, HasCleanDisk, HasLeft, Held, HoldsDatabase, Image, IsFound}
+use Rattle.program.proofs.Common.{IsIn, IsSoundOffice, RepresentsSpanRows, RepresentsState, Second, Trees, early}
+use Rattle.program.proofs.Common.{file_state, state_after, step}
 use Rattle.program.proofs.HeadlineLemmas.{shows}
 
 -- more commands after some are all of them
@@ -40,6 +44,10 @@ finds image at s found was opened =
 
 -- ---- what is left
 
+-- the tables of our schema that have these rows are those of a state
+abbrev Shows : Trees → State → Type 0
+Shows tables s = RepresentsState RepresentsSpanRows Second (record { schema = schema Second; trees = tables }) s
+
 module _ {D : Type 0} {g : Ghosts D} (conn : Held (FileStore D g)) (files : Files D) (next : Image) (left : HasLeft conn files) (copied : IsCopied conn files) (found : IsFoundNext g files next) where
   is_next : ∥ HoldsDatabase next (file_state conn).now.trees ∥₁
   is_next =
@@ -50,89 +58,141 @@ module _ {D : Type 0} {g : Ghosts D} (conn : Held (FileStore D g)) (files : File
       subst (λ (db : Database). ∥ HoldsDatabase next db.trees ∥₁) (sym (left.settled copied.was_clean copied.was_open)) there.both
 
   -- the next run finds the office in the state that the connection showed
-  holds_next : (s : State) → RepresentsState RepresentsSpanRows Second (file_state conn).now s → IsSoundOffice s
-      → IsAfter next s []
-  holds_next s is sound = record { tables = (file_state conn).now.trees; holds = is_next; represents = shows (file_state conn).now s is; sound = sound }
+  holds_next : (s : State) → Shows (file_state conn).now.trees s → IsSoundOffice s → IsAfter next s []
+  holds_next s is sound = record { tables = (file_state conn).now.trees; holds = is_next; represents = is; sound = sound }
 
-  -- or as it was, where the connection has the tables that were found
-  stays_next : (image : Image) (s : State) (at : Database) → AreHeld image at.trees → (file_state conn).now ≡ at
-      → IsAfter image s [] → IsAfter next s []
-  stays_next image s at held same was = record {
-    tables = was.tables;
-    holds = subst (λ t. ∥ HoldsDatabase next t ∥₁) (ap (λ (db : Database). db.trees) same ∙ one_database image at.trees was.tables held was.holds) is_next;
-    represents = was.represents;
-    sound = was.sound;
-  }
+-- the tables of a run that changed nothing
+as_they_were : (image : Image) (s : State) (at now : Database) → AreHeld image at.trees → now ≡ at → IsAfter image s []
+    → Shows now.trees s
+as_they_were image s at now held same was =
+    let trees = ap (λ (db : Database). db.trees) same ∙ one_database image at.trees was.tables held was.holds in
+    subst (λ tables. Shows tables s) (sym trees) was.represents
 
--- ---- the commands of a run
+-- a store that holds an office in a sound state
+pub as_found : (image : Image) (s : State) → BeginsAsFound image s
+as_found image s (tables, holds, represents) sound =
+    record { tables = tables; holds = ∣ holds ∣₁; represents = represents; sound = sound }
 
-bring_all : (s t : State) (connections : List Connection) → AreSessions connections s t
-    → (commands : List Command) × ConnectionsBring s connections commands t × (t ≡ state_after s commands)
-bring_all s t [] same = ([], (refl, sym same), sym same)
-bring_all s t (it ∷ earlier) (mid, before, session) =
-    let (first, bring, leaves) = bring_all s mid earlier before in
-    let (others, out) = runs_the_machine mid t it.input it.output it.end session in
-    (first ++ others, (first, others, mid, refl, bring, (session, out)), out.leaves ∙ ap (λ x. state_after x others) leaves ∙ after_more s first others)
+-- ---- the visits of a run
+
+-- one more visit
+and_then : (s mid t : State) (visits : List Visit) (visit : Visit) → AllHappen s visits mid → Happens mid visit t
+    → AllHappen s (visits ++ visit ∷ []) t
+and_then s mid t [] visit same it = (t, subst (λ x. Happens x visit t) same it, refl)
+and_then s mid t (first ∷ visits) visit (between, one, more) it =
+    (between, one, and_then between mid t visits visit more it)
+
+all_sessions : (s t : State) (connections : List Connection) → AreSessions connections s t
+    → AllHappen s (sessions_with connections) t
+all_sessions s t [] same = sym same
+all_sessions s t (it ∷ earlier) (mid, before, session) =
+    and_then s mid t (sessions_with earlier) (ByHttp it.input it.output it.end) (all_sessions s mid earlier before) session
+
+and_such : (P : Visit → Type 0) (visits : List Visit) (visit : Visit) → AllByRecursion P visits → P visit
+    → AllByRecursion P (visits ++ visit ∷ [])
+and_such P [] visit all it = (it, tt)
+and_such P (first ∷ visits) visit all it = (all.0, and_such P visits visit all.1 it)
+
+-- what holds for each session
+for_sessions : (P : Visit → Type 0) → ((input output : Bytes) (end : Ended) → P (ByHttp input output end))
+    → (connections : List Connection) → AllByRecursion P (sessions_with connections)
+for_sessions P so [] = tt
+for_sessions P so (it ∷ earlier) =
+    and_such P (sessions_with earlier) (ByHttp it.input it.output it.end) (for_sessions P so earlier) (so it.input it.output it.end)
+
+module _ {D : Type 0} {g : Ghosts D} {image : Image} {files : Files D} where
+  left_by : (run : ProgramRun g image files) → HasLeft (closed_by run) files
+  left_by (TakesIn source reply it) = it.closed
+  left_by (IsBusy source fault it) = it.closed
+  left_by (Talks reader reader_after out out_after end it) = it.closed
+  left_by (Serves connections all told told_after it) = it.closed
+  left_by (Judges judged it) = it.left
+  left_by (FailsToMigrate fault it) = it.closed
+
+  name_days : (run : ProgramRun g image files) → AllByRecursion CallsNameDays (visits_in run)
+  name_days (TakesIn source reply it) = (tt, tt)
+  name_days (IsBusy source fault it) = (tt, tt)
+  name_days (Talks reader reader_after out out_after end it) = (tt, tt)
+  name_days (Serves connections all told told_after it) = for_sessions CallsNameDays (λ input output end. tt) it.sessions.connections
+  name_days (Judges judged it) = tt
+  name_days (FailsToMigrate fault it) = tt
+
+  name_texts : (run : ProgramRun g image files) → AllByRecursion CallsNameTexts (visits_in run)
+  name_texts (TakesIn source reply it) = (tt, tt)
+  name_texts (IsBusy source fault it) = (tt, tt)
+  name_texts (Talks reader reader_after out out_after end it) = (tt, tt)
+  name_texts (Serves connections all told told_after it) = for_sessions CallsNameTexts (λ input output end. tt) it.sessions.connections
+  name_texts (Judges judged it) = tt
+  name_texts (FailsToMigrate fault it) = tt
+
+  -- the visits of a run on a store that holds an office in a sound state happen
+  visits_happen : (s : State) → IsAfter image s [] → (run : ProgramRun g image files)
+      → HasCleanDisk (file_state (closed_by run))
+      → (t : State) × (happen : AllHappen s (visits_in run) t)
+      × (IsTrue (file_state (closed_by run)).is_open → Shows (file_state (closed_by run)).now.trees t)
+  visits_happen s was (TakesIn source reply it) clean =
+      let opened = it.opened (early it.crash clean) in
+      let took = it.step clean s was.sound (finds image _ s opened was) in
+      let t = (step s (Import source it.file)).0 in
+      (t, (t, (ap (λ r. Replied r (reply_text r)) took.0, refl), refl), λ stays. shows _ t (took.1 stays))
+  visits_happen s was (IsBusy source fault it) clean =
+      let opened = it.opened (early it.crash clean) in
+      let same = it.same clean in (
+        s,
+        (s, refl, refl),
+        λ stays.
+            let there = finds image _ s opened was (same.was_open stays) in
+            shows _ s (subst (λ (db : Database). RepresentsState RepresentsSpanRows Second db s) (sym (same.now stays)) there),
+      )
+  visits_happen s was (Talks reader reader_after out out_after end it) clean =
+      let opened = it.opened (it.intact clean) in
+      let (t, kept, talked) = it.session clean s (was.sound, finds image _ s opened was) in
+      (t, (t, talked.0, refl), λ stays. shows _ t (kept.1 stays))
+  visits_happen s was (Serves connections all told told_after it) clean =
+      let opened = it.opened (it.intact clean) in
+      let (t, kept, served) = it.sessions.sessions clean s (was.sound, finds image _ s opened was) in
+      (t, all_sessions s t it.sessions.connections served.0, λ stays. shows _ t (kept.1 stays))
+  visits_happen s was (Judges judged it) clean =
+      (s, refl, λ stays. as_they_were image s _ _ (it.is_store (early it.crash clean)).0 (it.same clean stays) was)
+  visits_happen s was (FailsToMigrate fault it) clean =
+      (s, refl, λ stays. as_they_were image s _ _ (it.is_store (early it.crash clean)).0 ((it.back clean).now stays) was)
 
 module _ {D : Type 0} (g : Ghosts D) (image : Image) where
+  pub make_visits : RunMakesVisits g image
+  make_visits s holds sound files run honest =
+      let (t, happen, shown) = visits_happen s (as_found image s holds sound) run ((left_by run).clean honest) in
+      (t, happen, one_run s t (visits_in run) happen (name_days run) sound.sound, λ opened. ((file_state (closed_by run)).now.trees, (left_by run).hold honest opened, shown opened))
+
   -- a run from the state in which it finds the office
   goes : (files : Files D) (next : Image) (s : State) → IsAfter image s [] → (run : ProgramRun g image files)
       → IsCopied (closed_by run) files → IsFoundNext g files next
-      → (more : List Command) × (t : State) × RunBrings s run more t × (t ≡ state_after s more) × IsAfter next t []
-  goes files next s was (TakesIn source reply it) copied found =
-      let clean = copied.was_clean in
-      let before = early it.crash clean in
-      let asked = Import source it.file in
-      let took = it.step clean s was.sound (finds image _ s (it.opened before) was) in
-      (asked ∷ [], (step s asked).0, (refl, (took.0, refl)), refl, holds_next it.after files next it.closed copied found _ (took.1 copied.was_open) (always_sound_office s (asked ∷ []) (tt, tt) (tt, tt) was.sound))
-  goes files next s was (IsBusy source fault it) copied found =
-      let clean = copied.was_clean in
-      let before = early it.crash clean in
-      let same = it.same clean in
-      let there = finds image _ s (it.opened before) was (same.was_open copied.was_open) in
-      ([], s, (refl, refl), refl, holds_next it.after files next it.closed copied found s (subst (λ (db : Database). RepresentsState RepresentsSpanRows Second db s) (sym (same.now copied.was_open)) there) was.sound)
-  goes files next s was (Talks reader reader_after out out_after end it) copied found =
-      let clean = copied.was_clean in
-      let opened = it.opened (it.intact clean) in
-      let (t, kept, talked) = it.session clean s (was.sound, finds image _ s opened was) in
-      let (commands, done) = runs_the_machine s t it.input it.output end talked.0 in
-      (commands, t, (talked.0, done), done.leaves, holds_next it.after files next it.closed copied found t (kept.1 copied.was_open) kept.0)
-  goes files next s was (Serves connections all told told_after it) copied found =
-      let clean = copied.was_clean in
-      let opened = it.opened (it.intact clean) in
-      let (t, kept, served) = it.sessions.sessions clean s (was.sound, finds image _ s opened was) in
-      let (commands, bring, leaves) = bring_all s t it.sessions.connections served.0 in
-      (commands, t, bring, leaves, holds_next it.after files next it.closed copied found t (kept.1 copied.was_open) kept.0)
-  goes files next s was (Judges judged it) copied found =
-      let clean = copied.was_clean in
-      let before = early it.crash clean in
-      ([], s, (refl, refl), refl, stays_next it.after files next it.left copied found image s (file_state it.found).now (it.is_store before).0 (it.same clean copied.was_open) was)
-  goes files next s was (FailsToMigrate fault it) copied found =
-      let clean = copied.was_clean in
-      let before = early it.crash clean in
-      ([], s, (refl, refl), refl, stays_next it.after files next it.closed copied found image s (file_state it.found).now (it.is_store before).0 ((it.back clean).now copied.was_open) was)
+      → (more : List Command) × (t : State) × (happen : AllHappen s (visits_in run) t)
+      × AllBring s (visits_in run) t happen more × (t ≡ state_after s more) × IsAfter next t []
+  goes files next s was run copied found =
+      let (t, happen, shown) = visits_happen s was run copied.was_clean in
+      let one = one_run s t (visits_in run) happen (name_days run) was.sound.sound in
+      let stays = one.office (name_texts run) was.sound one.commands [] (sym (append-nil one.commands)) in
+      let sound : IsSoundOffice t = subst IsSoundOffice (sym one.leaves) stays in
+      (one.commands, t, happen, one.bring, one.leaves, holds_next (closed_by run) files next (left_by run) copied found t (shown copied.was_open) sound)
 
   pub goes_on : RunGoesOn g image
   goes_on start commands was files run copied next found =
-      let here : IsAfter image (state_after start commands) [] =
+      let before = state_after start commands in
+      let here : IsAfter image before [] =
       record { tables = was.tables; holds = was.holds; represents = was.represents; sound = was.sound } in
-      let (more, t, bring, leaves, there) = goes files next (state_after start commands) here run copied found in
+      let (more, t, happen, bring, leaves, there) = goes files next before here run copied found in
       let all : t ≡ state_after start (commands ++ more) = leaves ∙ after_more start commands more in
       let is_next : IsAfter next (state_after start (commands ++ more)) [] = subst (λ x. IsAfter next x []) all there in
-      (more, subst (RunBrings (state_after start commands) run more) all bring, record { tables = is_next.tables; holds = is_next.holds; represents = is_next.represents; sound = is_next.sound })
+      let did = subst (λ x. (happen : AllHappen before (visits_in run) x) × AllBring before (visits_in run) x happen more) all (happen, bring) in
+      (more, did.0, did.1, record { tables = is_next.tables; holds = is_next.holds; represents = is_next.represents; sound = is_next.sound })
 
   pub as_made : BeginsAsMade g image
   as_made founding files it good copied next found =
-      holds_next it.office files next it.left copied found _ (it.represents copied.was_clean copied.was_open) (founded_sound founding good)
+      holds_next it.office files next it.left copied found _ (shows _ _ (it.represents copied.was_clean copied.was_open)) (founded_sound founding good)
 
   pub as_brought_over : BeginsAsBroughtOver g image
   as_brought_over files it copied next found =
       let before = early it.crash copied.was_clean in
       let ordered = (it.is_store before).1 in
       let same = it.same copied.was_clean in
-      holds_next it.after files next it.closed copied found _ (same.represents ordered) (same.sound ordered)
-
--- a store that holds an office in a sound state
-pub as_found : (image : Image) (s : State) → BeginsAsFound image s
-as_found image s (tables, holds, represents) sound =
-    record { tables = tables; holds = ∣ holds ∣₁; represents = represents; sound = sound }
+      holds_next it.after files next it.closed copied found _ (shows _ _ (same.represents ordered)) (same.sound ordered)

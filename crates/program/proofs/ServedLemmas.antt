@@ -1,12 +1,14 @@
 -- Connections that were served, one after the other.
 use Rattle.std.proofs.Common.{◌≡◌, ◌∙◌, ◌||◌, ◌⊎◌, ◌+◌, ◌≤◌, ◌++◌, ℕ, Bool, true, false, inl, inr, List, [], ◌∷◌}
-use Rattle.std.proofs.Common.{Option, ap, refl, sym, subst, arith}
+use Rattle.std.proofs.Common.{Option, ap, ap₂, refl, sym, subst, arith}
 use Rattle.office_core.specs.State.{State}
 use Rattle.http_desk.proofs.Openings.{session_open}
 use Rattle.http_desk.specs.BusyMessages.{WasBusyWith}
+use Rattle.http_desk.specs.declared.streams.Calls.{Calls}
 use Rattle.program.specs.Connections.{Serves}
-use Rattle.program.proofs.Common.{AllByRecursion, AreSessions, Command, Connection, History, IsHeard, Keeps}
-use Rattle.program.proofs.Common.{SessionsLeaveOpen, StaysFoundOrAny, Through, WereBusyWith, after_failing, after_one}
+use Rattle.program.proofs.Common.{AllByRecursion, AreSessions, Bytes, Command, Connection, Ended, History, IsHeard}
+use Rattle.program.proofs.Common.{Keeps, SessionsLeaveOpen, StaysFoundOrAny, Stream, Through, WereBusyWith}
+use Rattle.program.proofs.Common.{after_failing, after_leaving, after_one, calls_of, spent}
 
 -- what has not failed before has failed where this call did
 pub failed_so : (new fault old : Bool) → new ≡ (fault || old) → old ≡ false → new ≡ fault
@@ -16,6 +18,14 @@ failed_so new false old is none = is ∙ none
 -- the calls on what was not called before
 pub no_more_calls : (now before most : ℕ) → now ≤ before + most → before ≡ 0 → now ≤ most
 no_more_calls now before most within none = omega (arith, within, none)
+
+-- a port is left with a reader and a writer, as their streams then are
+pub left_so : (told told_after : Option History) (left held : Option Bytes) (reads writes : Calls) (reader writer : Stream)
+    (end : Ended) → told_after ≡ after_leaving told (spent left reads) (spent held writes) end
+    → left ≡ reader.bytes → held ≡ writer.bytes → reads ≡ calls_of reader → writes ≡ calls_of writer
+    → told_after ≡ after_leaving told (spent reader.bytes (calls_of reader)) (spent writer.bytes (calls_of writer)) end
+left_so told told_after left held reads writes reader writer end was gone put read written =
+    was ∙ ap₂ (λ r w. after_leaving told r w end) (ap₂ spent gone read) (ap₂ spent put written)
 
 all_weaker : (P Q : Command → Type 0) → ((command : Command) → P command → Q command) → (commands : List Command)
     → AllByRecursion P commands → AllByRecursion Q commands

@@ -2,10 +2,8 @@
 use Rattle.std.proofs.Common.{◌≡◌, ℕ, Bool, true, false, Option, Some, None, Result, Ok, Err, IfErr, OnOk, inl, inr}
 use Rattle.std.proofs.Common.{refl, subst, sym, ◌⊎◌}
 use Rattle.sqlite.specs.State as store
-use Rattle.isad_core.specs.Texts.{Bytes}
 use Rattle.office_core.specs.Rules.{Reply}
 use Rattle.http_desk.specs.Exchanges.{Talks}
-use Rattle.http_desk.specs.declared.session_end.Ended.{Ended}
 use Rattle.program.specs.Connections.{Serves}
 use Rattle.program.specs.Outcomes.{IsClosedAnd}
 use Rattle.program.specs.declared.faults.Break.{Break}
@@ -13,14 +11,15 @@ use Rattle.program.specs.declared.files.StoreOutcome.{StoreOutcome}
 use Rattle.program.specs.declared.files.StoreOutcome.TheVariants.{Closed}
 use Rattle.program.specs.declared.tasks.Task.{Task}
 use Rattle.program.specs.declared.tasks.Task.TheVariants.{Import, Init, Migrate}
-use Rattle.program.proofs.Common.{AgreesWithCalls, AreHeld, Channels, CheckDone, CheckFails, Database, Does, EndsWell}
-use Rattle.program.proofs.Common.{FailsWith, Fault, FileStore, Files, FindsIn, Founding, Ghosts, HasCleanDisk, HasLeft}
-use Rattle.program.proofs.Common.{HasServed, HasTakenIn, Held, History, Image, ImportDone, ImportFails, InitFails}
-use Rattle.program.proofs.Common.{IsErrAnd, IsMade, IsOpened, IsRecovered, IsTalkedWith, JudgmentFails, JudgmentPrinted}
-use Rattle.program.proofs.Common.{ListeningFails, Listens, MigrateFails, Net, OnlyPrints, OpenFault, Opens, ReplyFails}
-use Rattle.program.proofs.Common.{ReplyPrinted, RepresentsSpanRows, Second, ServeDone, ServeFails, Session, Stream}
-use Rattle.program.proofs.Common.{TalkDone, TalkFails, WasJudgedAsFound, after_listening, ended_by, file_state}
-use Rattle.program.proofs.Common.{has_clean_disk, is_shown, is_still_open, over_files}
+use Rattle.program.proofs.Common.{AgreesWithCalls, AreHeld, Bytes, Channels, CheckDone, CheckFails, Database, Does}
+use Rattle.program.proofs.Common.{Ended, EndsWell, FailsWith, Fault, FileStore, Files, FindsIn, Founding, Ghosts}
+use Rattle.program.proofs.Common.{HasCleanDisk, HasLeft, HasServed, HasTakenIn, Held, History, Image, ImportDone}
+use Rattle.program.proofs.Common.{ImportFails, InitFails, IsErrAnd, IsMade, IsOpened, IsRecovered, IsTalkedWith}
+use Rattle.program.proofs.Common.{JudgmentFails, JudgmentPrinted, ListeningFails, Listens, MigrateFails, Net}
+use Rattle.program.proofs.Common.{OnlyPrints, OpenFault, Opens, ReplyFails, ReplyPrinted, RepresentsSpanRows, Second}
+use Rattle.program.proofs.Common.{ServeDone, ServeFails, Session, Stream, TalkDone, TalkFails, WasJudgedAsFound}
+use Rattle.program.proofs.Common.{after_listening, ended_by, file_state, has_clean_disk, is_shown, is_still_open}
+use Rattle.program.proofs.Common.{over_files}
 
 -- the tables of a store as it was found are those of its image
 pub held_in : (image : Image) (at : store.State) → Opens at → FindsIn image at → AreHeld image at.now.trees

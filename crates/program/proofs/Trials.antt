@@ -6,12 +6,11 @@ use Rattle.sqlite_trees.proofs.Doubt.{no_doubt}
 use Rattle.sqlite_wal.specs.Reads.{AreClean}
 use Rattle.tree_core.specs.Forest.{Forest}
 use Rattle.http_desk.specs.Exchanges.{Talks}
-use Rattle.http_desk.specs.declared.session_end.Ended.{Ended}
 use Rattle.program.specs.declared.faults.Break.{Break}
 use Rattle.program.specs.declared.faults.Fault.TheVariants as fault
-use Rattle.program.proofs.Common.{AgreesWithCalls, EndsWell, Fault, FileStore, Founding, Ghosts, HasCleanDisk, Held}
-use Rattle.program.proofs.Common.{IsIn, IsSoundOffice, Stream, Talked, Trees, TrialDone, TrialFails, Version, ended_by}
-use Rattle.program.proofs.Common.{file_state, founded, has_clean_disk, is_shown, is_still_open, over_files}
+use Rattle.program.proofs.Common.{AgreesWithCalls, Ended, EndsWell, Fault, FileStore, Founding, Ghosts, HasCleanDisk}
+use Rattle.program.proofs.Common.{Held, IsIn, IsSoundOffice, Stream, Talked, Trees, TrialDone, TrialFails, Version}
+use Rattle.program.proofs.Common.{ended_by, file_state, founded, has_clean_disk, is_shown, is_still_open, over_files}
 
 -- an office over disks that always return what was written
 pub always_clean : {D : Type 0} {g : Ghosts D} → ((log db : D) → AreClean g log db) → (office : Held (FileStore D g))

@@ -32,7 +32,8 @@ TheHeadlineInMemory =
     → AreVisits (is_shown over_memory RepresentsSpanRows Second) (has_clean_disk over_memory) (is_still_open over_memory)
     old new visits
     → AllByRecursion CallsNameDays visits
-    → (t : State) × is_shown over_memory RepresentsSpanRows Second new t × IsOneRun (founded founding) visits t
+    → (t : State) × is_shown over_memory RepresentsSpanRows Second new t
+    × (happen : AllHappen (founded founding) visits t) × IsOneRun (founded founding) visits t happen
 
 module _ {D : Type 0} (g : Ghosts D) where
   -- The same for a new office in the store of files. If the last message or call was a command that was accepted, or if
@@ -45,10 +46,10 @@ module _ {D : Type 0} (g : Ghosts D) where
       → AreVisits (is_shown (over_files {g = g}) RepresentsSpanRows Second) (has_clean_disk (over_files {g = g}))
       (is_still_open (over_files {g = g})) old new visits
       → AllByRecursion CallsNameDays visits
-      → (t : State) × is_shown (over_files {g = g}) RepresentsSpanRows Second new t × IsOneRun (founded founding) visits t
-      × ((all : AllHappen (founded founding) visits t)
-      × (VisitsLeaveOpen (IsTrue (file_state old).is_open) (founded founding) visits t all
-      → RepresentsState RepresentsSpanRows Second (file_state new).now t))
+      → (t : State) × is_shown (over_files {g = g}) RepresentsSpanRows Second new t
+      × (happen : AllHappen (founded founding) visits t) × IsOneRun (founded founding) visits t happen
+      × (VisitsLeaveOpen (IsTrue (file_state old).is_open) (founded founding) visits t happen
+      → RepresentsState RepresentsSpanRows Second (file_state new).now t)
 
 module _ {D : Type 0} (g : Ghosts D) (image : Image) where
   -- The same for a sound office that a file held when it was opened, and that is closed again, if the disk has returned
@@ -63,6 +64,6 @@ module _ {D : Type 0} (g : Ghosts D) (image : Image) where
       old new visits
       → AllByRecursion CallsNameDays visits
       → HasLeft new files → HaveCleanDisk g files
-      → (t : State) × IsOneRun s visits t × ((all : AllHappen s visits t)
-      × (VisitsLeaveOpen (IsTrue (file_state old).is_open) s visits t all ⊎ IsTrue (file_state new).is_open
-      → HoldState g files t))
+      → (t : State) × (happen : AllHappen s visits t) × IsOneRun s visits t happen
+      × (VisitsLeaveOpen (IsTrue (file_state old).is_open) s visits t happen ⊎ IsTrue (file_state new).is_open
+      → HoldState g files t)

@@ -1,6 +1,6 @@
 -- From one run of the program on a store to the next. The commands that the runs carry out, one run after the other, are
 -- one list of commands to one machine.
-use Rattle.std.specs.Prelude.{◌≡◌, ◌⊎◌, ◌++◌, ℕ, Bool, List, [], ◌∷◌, Option}
+use Rattle.std.specs.Prelude.{◌≡◌, ◌⊎◌, ◌++◌, IsTrue, ℕ, Bool, List, [], ◌∷◌, Option, Some, None}
 use Rattle.sqlite.specs.Closing.{IsCopied}
 use Rattle.sqlite.specs.Files.{HoldsDatabase, file_state, image_of}
 use Rattle.sqlite.specs.Held.{Held}
@@ -13,7 +13,9 @@ use Rattle.sqlite_wal.specs.Files.{outcomes}
 use Rattle.isad_core.specs.Texts.{Bytes}
 use Rattle.office_tables.specs.Versions.{First, Second}
 use Rattle.nested_sets.specs.Representation.{RepresentsSpanRows}
-use Rattle.office_core.specs.Rules.{Reply, state_after, step}
+use Rattle.office_core.specs.Json.{reply_text}
+use Rattle.office_core.specs.MixedRuns.{ToDo}
+use Rattle.office_core.specs.Rules.{Reply, state_after}
 use Rattle.office_core.specs.SoundOffice.{IsSoundOffice}
 use Rattle.office_core.specs.State.{State}
 use Rattle.office_core.specs.declared.command.Command.{Command}
@@ -23,10 +25,11 @@ use Rattle.refinement.specs.Representation.{RepresentsState}
 use Rattle.office.specs.Adoption.{state_in}
 use Rattle.office.specs.InitialSettings.{Founding, IsGood, founded}
 use Rattle.office.specs.declared.faults.OpenFault.{OpenFault}
-use Rattle.http_desk.specs.Runs.{VisitBrings, ByHttp}
+use Rattle.http_desk.specs.Headline.{IsOneRun}
+use Rattle.http_desk.specs.Runs.{AllBring, AllHappen, ByHttp, Directly, Replied, Visit}
 use Rattle.http_desk.specs.Streams.{Stream}
 use Rattle.http_desk.specs.declared.session_end.Ended.{Ended}
-use Rattle.program.specs.ClosedFiles.{WasJudgedAsFound}
+use Rattle.program.specs.ClosedFiles.{HaveCleanDisk, HoldState, WasJudgedAsFound}
 use Rattle.program.specs.Connections.{Connection, History}
 use Rattle.program.specs.OpenedFiles.{HoldsOffice}
 use Rattle.program.specs.Stores.{HasServed, HasTakenIn, IsBroughtOver, IsMade, IsNotBroughtOver, IsTalkedWith, WasBusy}
@@ -47,16 +50,10 @@ pub record IsAfter (image : Image) (start : State) (commands : List Command) : T
 abbrev pub IsFoundNext : {D : Type 0} → Ghosts D → Files D → Image → Type 0
 IsFoundNext g files next = (next ≡ image_of g files) ⊎ outcomes g files.log files.db next
 
--- no command was carried out
-abbrev pub BringsNothing : State → List Command → State → Type 0
-BringsNothing s commands new = (commands ≡ []) × (new ≡ s)
-
--- the commands of connections, one session after the other; the last connection is the first of the list
-abbrev pub ConnectionsBring : State → List Connection → List Command → State → Type 0
-ConnectionsBring s [] commands new = BringsNothing s commands new
-ConnectionsBring s (it ∷ earlier) commands new =
-    (first others : List Command) × (mid : State) × (commands ≡ first ++ others)
-    × ConnectionsBring s earlier first mid × VisitBrings mid (ByHttp it.input it.output it.end) others new
+-- the sessions of connections, one after the other; the last connection is the first of the list
+abbrev pub sessions_with : List Connection → List Visit
+sessions_with [] = []
+sessions_with (it ∷ earlier) = sessions_with earlier ++ ByHttp it.input it.output it.end ∷ []
 
 module _ {D : Type 0} (g : Ghosts D) (image : Image) (files : Files D) where
   -- A run that opened a store with these bytes, and left these files. It imported a file, which was accepted or refused;
@@ -82,18 +79,14 @@ module _ {D : Type 0} {g : Ghosts D} {image : Image} {files : Files D} where
   closed_by (Judges judged it) = it.after
   closed_by (FailsToMigrate fault it) = it.after
 
-  -- the commands that were carried out in it, from one state to another: its import, or those of its sessions
-  abbrev pub RunBrings : State → ProgramRun g image files → List Command → State → Type 0
-  RunBrings s (TakesIn source reply it) commands new =
-      (commands ≡ Import source it.file ∷ []) × ((reply ≡ (step s (Import source it.file)).1)
-      × (new ≡ (step s (Import source it.file)).0))
-  RunBrings s (IsBusy source fault it) commands new = BringsNothing s commands new
-  RunBrings s (Talks reader reader_after out out_after end it) commands new =
-      VisitBrings s (ByHttp it.input it.output end) commands new
-  RunBrings s (Serves connections all told told_after it) commands new =
-      ConnectionsBring s it.sessions.connections commands new
-  RunBrings s (Judges judged it) commands new = BringsNothing s commands new
-  RunBrings s (FailsToMigrate fault it) commands new = BringsNothing s commands new
+  -- the visits of which the headline speaks: its import is a call, and what it talks with and serves are sessions
+  abbrev pub visits_in : ProgramRun g image files → List Visit
+  visits_in (TakesIn source reply it) = Directly (ToDo (Import source it.file)) (Some (Replied reply (reply_text reply))) ∷ []
+  visits_in (IsBusy source fault it) = Directly (ToDo (Import source it.file)) None ∷ []
+  visits_in (Talks reader reader_after out out_after end it) = ByHttp it.input it.output end ∷ []
+  visits_in (Serves connections all told told_after it) = sessions_with it.sessions.connections
+  visits_in (Judges judged it) = []
+  visits_in (FailsToMigrate fault it) = []
 
 -- ---- in one sentence each
 
@@ -121,5 +114,17 @@ module _ {D : Type 0} (g : Ghosts D) (image : Image) where
       (start : State) (commands : List Command) → IsAfter image start commands
       → (files : Files D) (run : ProgramRun g image files) → IsCopied (closed_by run) files
       → (next : Image) → IsFoundNext g files next
-      → (more : List Command) × RunBrings (state_after start commands) run more (state_after start (commands ++ more))
+      → (more : List Command)
+      × (happen : AllHappen (state_after start commands) (visits_in run) (state_after start (commands ++ more)))
+      × AllBring (state_after start commands) (visits_in run) (state_after start (commands ++ more)) happen more
       × IsAfter next start (commands ++ more)
+
+  -- What a run does is a list of visits to the office that its file held, in a sound state: each happens as the machine
+  -- answers it, and together they are one run of the machine, which keeps the rules. If no failure of the disk had shut
+  -- the office, the file and its log then hold it in the state after them.
+  abbrev pub RunMakesVisits : Type 0
+  RunMakesVisits =
+      (s : State) → HoldsOffice image s → IsSoundOffice s
+      → (files : Files D) (run : ProgramRun g image files) → HaveCleanDisk g files
+      → (t : State) × (happen : AllHappen s (visits_in run) t) × IsOneRun s (visits_in run) t happen
+      × (IsTrue (file_state (closed_by run)).is_open → HoldState g files t)

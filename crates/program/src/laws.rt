@@ -6,7 +6,7 @@ ghost use Rattle.sqlite.specs.WalFiles.{image_at};
 ghost use Rattle.office_core.specs.State.{State};
 ghost use Rattle.program.specs.ClosedFiles.{ACheckChangesNothing};
 ghost use Rattle.program.specs.Headline.{TheHeadlineInAFile, TheHeadlineInMemory, TheHeadlineOfATrial};
-ghost use Rattle.program.specs.NextRuns.{BeginsAsBroughtOver, BeginsAsFound, BeginsAsMade, RunGoesOn};
+ghost use Rattle.program.specs.NextRuns.{BeginsAsBroughtOver, BeginsAsFound, BeginsAsMade, RunGoesOn, RunMakesVisits};
 ghost use Rattle.program.specs.OpenedFiles.{IsInTheStateThatWasLeft};
 ghost use Rattle.program.specs.Stores.{WhatWasBroughtOverIsHeld, WhatWasMadeIsHeld, WhatWasNotMadeIsLeft};
 ghost use Rattle.program.specs.Stores.{WhatWasSaidIsHeld, WhatWasServedIsHeld, WhatWasTakenInIsHeld};
@@ -74,4 +74,12 @@ pub fn runs_are_one_machine<S: Start>()
     ensures made { BeginsAsMade ⟦<FileFrom<S> as Disk>⟧ (image_at S.Start) }
     ensures brought_over { BeginsAsBroughtOver ⟦<FileFrom<S> as Disk>⟧ (image_at S.Start) }
     ensures goes_on { RunGoesOn ⟦<FileFrom<S> as Disk>⟧ (image_at S.Start) }
+{}
+
+/// What a run of the program does with the office that its file held is a list of visits, as the headline has them: an
+/// import is a call, and what it talks with and each connection that it serves is a session. Each is answered as by the
+/// machine, and together they are one run of it, which keeps the rules. The premises are that the disk has returned what
+/// was written, and that the office was sound.
+pub fn runs_make_visits<S: Start>()
+    ensures { RunMakesVisits ⟦<FileFrom<S> as Disk>⟧ (image_at S.Start) }
 {}

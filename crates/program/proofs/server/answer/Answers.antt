@@ -1,7 +1,7 @@
-use Rattle.std.proofs.Common.{◌∙◌, ap, ap₂, refl, subst, sym}
+use Rattle.std.proofs.Common.{ap, refl, rules, subst}
 use Rattle.http_desk.specs.declared.session_end.Next.TheVariants.{Ends}
-use Rattle.program.proofs.Common.{Appends, Connection, Consumes, IsHeard, after_leaving, calls_of, spent}
-use Rattle.program.proofs.ServedLemmas.{failed_so, no_more_calls}
+use Rattle.program.proofs.Common.{Appends, Connection, Consumes, IsHeard, calls_of, spent}
+use Rattle.program.proofs.ServedLemmas.{failed_so, left_so, no_more_calls}
 use Rattle.program.proofs.server.answer.Goals as goal
 
 pub returns-clause-intact : goal.returns-clause-intact
@@ -13,10 +13,6 @@ returns-clause-answered g c =
     let ends = c.talk-ended.ensures.streams in
     let reader = c.talk-ended.new.reader in
     let writer = c.talk-ended.new.writer in
-    let same_reader = c.reader-2-1.given.1 (sym (c.into_reader-reader.ensures.same ∙ (ends.calls.0 ∙ c.new-source.ensures.same))) in
-    let same_writer = c.writer-2-1.given.1 (sym (c.into_writer-writer.ensures.same ∙ (ends.same ∙ c.new-sink.ensures.same))) in
-    let left = ap g.P.Reader.Read.remaining same_reader ∙ c.into_reader-reader.ensures.bytes in
-    let held = ap g.P.Writer.Write.contents same_writer ∙ c.into_writer-writer.ensures.bytes in
     let it : Connection = record {
       left = g.P.Reader.Read.remaining c.args.connection.0;
       held = g.P.Writer.Write.contents c.args.connection.1;
@@ -37,5 +33,6 @@ returns-clause-answered g c =
       flushed = ends.flushed c.new-sink.ensures.uncalled.none_waits;
       calls = no_more_calls _ _ _ ends.calls.1 c.new-source.ensures.uncalled.none_made;
     } in
-    let told = ap₂ (λ r w. after_leaving (g.P.Port.history c.args.port.now) r w c.talk-ended.result) (ap₂ spent left c.told-reads.ensures) (ap₂ spent held c.told-writes.ensures) in
-    (it, refl, refl, heard, c.leave.ensures ∙ told, through)
+    let told =
+    left_so _ _ _ _ _ _ reader writer _ c.leave.ensures (search (rules, ends.calls.0)) (search (rules, ends.same)) c.told-reads.ensures c.told-writes.ensures in
+    (it, refl, refl, heard, told, through)
