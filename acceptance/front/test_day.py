@@ -316,7 +316,36 @@ def test_the_next_day_is_opened_once_the_question_is_answered(desk, state):
     open_day(desk, day)
     desk.see(f"{day} is open.")
     assert desk.js(suggested) == ""
-    desk.see(f"The day opened last in this browser is {day}.")
+    desk.see(f"{day} is open.", ".which-day")
+
+
+def test_each_page_says_which_day_is_open_whoever_opened_it(desk, state, asks):
+    """The answer to the last opening that was not refused counts."""
+    state.empty()
+    first, second = next(DAYS), next(DAYS)
+    asks.command("/desk/day", day=first)
+    desk.at("/counter").see(f"{first} is open, which is not today.", "header")
+    asks.command("/desk/day", day=second)
+    assert asks.try_command("/desk/day", {"day": first})[0] == 409
+    desk.go("#/runs")
+    desk.see(f"{second} is open, which is not today.", "header")
+    desk.press(f"{second} is open, which is not today.")
+    desk.see(f"{second} is open.", ".which-day")
+
+
+def test_a_day_after_tomorrow_asks_how_much_later_it_is_and_one_after_a_week_asks_twice(desk):
+    later = [desk.js(f"new Date(Date.now() + {days} * 86400000).toLocaleDateString('sv')") for days in (2, 60)]
+    for day, words in zip(later, ("2 days later.", "60 days later.")):
+        desk.at("/").fill("The new day", day)
+        desk.press("Open the day")
+        desk.see(f"{day} is {words}", "dialog")
+        if day == later[1]:
+            desk.pass_pause()
+            desk.press(f"Open {day}", "dialog")
+            desk.see(f"No day before {day} can be opened then", "dialog")
+        desk.press("Open no day", "dialog")
+        desk.see("No day was opened.")
+    assert desk.count_sent("POST", "/desk/day") == 0
 
 
 def open_day(desk, day):

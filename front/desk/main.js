@@ -17,11 +17,15 @@ import { unitsPage } from './units.js';
 import { importPage } from './import.js';
 import { findPage, startField } from './find.js';
 import { forgetReaders } from './kept.js';
+import { tellOpenDay } from './open_day.js';
 
 translatePage();
 document.querySelector('.languages').append(...languageLinks());
 
 startField(document.querySelector('form.in-hand'));
+
+tellOpenDay();
+window.addEventListener('hashchange', tellOpenDay); // somebody at another computer may have opened a day since
 
 const NUMBER = '([1-9][0-9]{0,9})';
 const at = (path) => new RegExp(`^#/${path}$`);

@@ -8,18 +8,19 @@ import { deskWords } from '../shared/refusals.js';
 import { issued, openDay } from '../shared/routes.js';
 import { onceMore } from './looks.js';
 import { asOf, dayOfThisComputer, newestRun } from './days.js';
+import { dayThatIsOpen, tellOpenDay } from './open_day.js';
 import { card, problem, runLink, said } from './parts.js';
 import { redCard } from './red.js';
 import { isSure, STAYED } from './sure.js';
 
-const KEPT = 'last day opened here';
+const WEEK = 7;
 
 export async function todayPage() {
   return { title: text('Today'), content: [
     el('h1', {}, text('Today')),
     el('div', { class: 'cards' },
       await redCard(),
-      card(text('Open a new day'), await whichDay(), lastDay(), dayForm()),
+      card(text('Open a new day'), await whichDay(), dayForm()),
       card(text('Still out'), await stillOut()),
       card(text('The course of a day'), course())),
   ] };
@@ -39,37 +40,38 @@ function dayForm() {
   });
 }
 
-/** The opening of a day cannot be undone, so the page asks before it opens a day that is not today by the clock. */
+/** The opening of a day cannot be undone, so the page asks before it opens a day that is not today by the clock, and once more
+ * before one that is over a week later. */
 async function askFirst(day) {
   const today = dayOfThisComputer();
   if (day === today) return null;
-  const question = {
-    title: text('Open {day}?', { day }), stay: text('Open no day'), go: text('Open {day}', { day }),
-    content: el('p', {}, text('By the clock of this computer today is {today}.', { today }), ' ', text('A day that has been opened cannot '
-      + 'be taken back: tickets that end before it expire, and what is closed until then opens.')),
-  };
-  return await isSure(question) ? null : STAYED;
+  const later = (Date.parse(day) - Date.parse(today)) / 86_400_000;
+  const title = text('Open {day}?', { day });
+  const choice = { stay: text('Open no day'), go: text('Open {day}', { day }) };
+  const isMeant = await isSure({ ...choice, title, content: el('p', {}, text('By the clock of this computer today is {today}.', { today }), ' ',
+    later > 1 && [el('strong', {}, counted(later, '{day} is {number} day later.', '{day} is {number} days later.', { day })), ' '],
+    text('A day that has been opened cannot be taken back: tickets that end before it expire, and what is closed until then opens.')) });
+  const content = el('p', {}, text('No day before {day} can be opened then: not today, and none of the days between.', { day }));
+  return isMeant && (later <= WEEK || await isSure({ ...choice, title, content })) ? null : STAYED;
 }
 
 function opened({ day }) {
-  localStorage.setItem(KEPT, day);
-  document.querySelector('.last-day')?.replaceWith(lastDay());
+  tellOpenDay();
+  document.querySelector('.which-day')?.replaceChildren(text('{day} is open.', { day }));
   return said(text('{day} is open.', { day }));
 }
 
-/** The program does not say which day is open; the newest run shows that no earlier day is. */
+/** Where nobody has told the day, the newest run shows that no earlier one is open. */
 async function whichDay() {
-  const newest = await newestRun();
-  if (!newest?.day) return el('p', { class: 'quiet' }, text('These pages cannot know which day is open: there has been no run yet.'));
-  return el('p', { class: 'quiet' },
-    phrase('The newest is {run} of {day}: this day is open, or a later one.', { run: runLink(newest.run), day: newest.day }));
+  return el('p', { class: 'which-day quiet' }, await whichDayWords());
 }
 
-/** This browser knows the days that were opened in it. */
-function lastDay() {
-  const day = localStorage.getItem(KEPT);
-  return el('p', { class: 'last-day quiet' },
-    day ? phrase('The day opened last in this browser is {day}.', { day }) : text('No day has been opened in this browser yet.'));
+async function whichDayWords() {
+  const day = await dayThatIsOpen();
+  if (day !== null) return text('{day} is open.', { day });
+  const newest = await newestRun();
+  if (!newest?.day) return text('These pages cannot know which day is open: there has been no run yet.');
+  return phrase('The newest is {run} of {day}: this day is open, or a later one.', { run: runLink(newest.run), day: newest.day });
 }
 
 async function stillOut() {
