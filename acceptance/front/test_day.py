@@ -80,6 +80,26 @@ def test_a_known_name_a_past_day_and_spaces_are_not_registered_unasked(desk, sta
     desk.see("Registered: Eve Black, ticket", ".outcome")
 
 
+def test_readers_are_registered_one_after_the_other_by_names_alone(desk, office, asks):
+    """The last day is suggested as the operator has set it, in months or as a day of the year."""
+    ticket, this_year = asks.next_ticket(), int(desk.at("/readers").js("new Date().getFullYear()"))
+    last_day = "document.querySelector('input[type=date]').value"
+    assert desk.js(f"import('/new_ticket.js').then((it) => [it.lastDayBy(12, '{this_year}-02-01'), it.lastDayBy(1, '2024-01-31'),"
+                   "it.lastDayBy('12-31', '2024-12-31'), it.lastDayBy('06-30', '2024-12-31'), it.lastDayBy(0, '2024-12-31')])") == [
+                       f"{this_year + 1}-02-01", "2024-02-29", "2024-12-31", "2025-06-30", ""]
+    assert desk.js(last_day) == desk.js("import('/new_ticket.js').then((it) => it.lastDayBy(12, new Date().toLocaleDateString('sv')))")
+    (office.folder / "office.json").write_text('{"ticket": "12-31"}')
+    desk.at("/readers").fill("Name", "Nora Quist", "Register a reader")
+    desk.key("Enter")
+    desk.see(f"Registered: Nora Quist, ticket {ticket}, good until {this_year}-12-31.")
+    desk.wait("document.activeElement.name === 'name' && document.activeElement.value === ''")
+    desk.pass_pause()
+    desk.type("Olaf Quist")
+    desk.key("Enter")
+    desk.see("Registered: Olaf Quist, ticket")
+    assert asks.read(f"/desk/readers/{ticket + 1}")["until"] == f"{this_year}-12-31"
+
+
 def test_a_ticket_is_renewed_by_keys_alone(desk, state, asks):
     """From the top of the page, only with Tab, letters and Enter."""
     zoe = state.start()[2]

@@ -12,6 +12,7 @@ import { register } from '../shared/routes.js';
 import { asOf, askIfPast, sureOrStayed } from './days.js';
 import { lookAtNewestTicket } from './looks.js';
 import { knownCards, newestTicket, readCards, readerLink } from './names.js';
+import { suggestedLastDay } from './new_ticket.js';
 import { paced, progress } from './pace.js';
 import { card, notDone, said } from './parts.js';
 
@@ -19,11 +20,12 @@ const SHOWN = 50; // the most readers that are listed
 const LOOKED_AT = 400; // the most cards that are read before a reader is registered
 const MOST = 20000; // the most cards that are asked for before somebody must say to go on
 
-export function readersPage() {
+export async function readersPage() {
+  const until = await suggestedLastDay();
   const field = textField('who', text('Name or ticket number'), { maxlength: LONGEST_NAME, hint: text('Any part of the name will do.') });
   return { title: text('Readers'), focus: field.querySelector('input'), content: [
     el('h1', {}, text('Readers')),
-    el('div', { class: 'cards' }, card(text('Find a reader'), findForm(field)), card(text('Register a reader'), registerForm())),
+    el('div', { class: 'cards' }, card(text('Find a reader'), findForm(field)), card(text('Register a reader'), registerForm(until))),
   ] };
 }
 
@@ -82,12 +84,12 @@ function matching(who) {
     .sort((a, b) => a[1].localeCompare(b[1]) || a[0] - b[0]);
 }
 
-function registerForm() {
+function registerForm(suggested) {
   return commandForm({
     key: 'register',
     fields: [
       textField('name', text('Name'), { maxlength: LONGEST_NAME }),
-      dayField('until', text('Last day of the ticket'), { hint: text('The ticket is good on that day too.') }),
+      dayField('until', text('Last day of the ticket'), { value: suggested, hint: text('The ticket is good on that day too.') }),
     ],
     button: text('Register'),
     before: askFirst,
@@ -95,7 +97,14 @@ function registerForm() {
     done: ({ ticket }, { until }) => said(phrase('Registered: {reader}, good until {until}.', { reader: readerLink(ticket), until })),
     explain: notDone,
     look: lookAtNewestTicket,
+    focus: toName,
   });
+}
+
+function toName(form) {
+  const name = form.querySelector('input');
+  name.focus();
+  name.select();
 }
 
 /** A name without spaces around it, and with one space between its parts. */
