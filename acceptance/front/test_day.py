@@ -205,6 +205,23 @@ def test_the_desk_says_why_a_run_passed_an_order_over(desk, state, asks):
     asks.command("/desk/closure", unit=unit, until=None)
 
 
+def test_what_waits_is_cancelled_in_its_row(desk, state):
+    ann, ben, *_ = state.start()
+    box = state.container("Box 1")
+    first, second = state.order(ann, box), state.order(ben, box)
+    desk.at("/orders").see("on its shelf, for another reader first")
+    desk.press(f"Cancel order {first}")
+    desk.see(f"Order {first} is cancelled.")
+    desk.wait(f"document.activeElement.innerText.includes('Order {first} is cancelled.')")
+    desk.see("1 order waits.")
+    assert "for another reader first" not in desk.text(), "who waits next is told anew"
+    assert (state.orders_of(ann), state.orders_of(ben)) == ({}, {second: "waiting"})
+    desk.go("#/out")
+    desk.go("#/orders")
+    desk.see(f"Cancel order {second}")
+    assert f"Cancel order {first}" not in desk.text()
+
+
 # The counter, by keyboard and barcode reader alone
 
 def test_a_container_is_issued_by_scans_and_keys(desk, state, asks):

@@ -4,12 +4,11 @@ import { el, link, table, words } from '../shared/dom.js';
 import { dayField } from '../shared/fields.js';
 import { commandForm, note } from '../shared/form.js';
 import { phrase, text, textAs } from '../shared/language.js';
-import { deskWords } from '../shared/refusals.js';
 import * as routes from '../shared/routes.js';
 import { askIfPast } from './days.js';
 import { lookAtPermits, lookAtReader } from './looks.js';
 import { boxLink, readCard } from './names.js';
-import { card, heldContainer, notDone, problem, said, unitLink } from './parts.js';
+import { card, heldContainer, notDone, problem, rowForm, said, unitLink } from './parts.js';
 import { boxField, boxOf } from './scans.js';
 import { NO_UNIT, unitField, unitNamed } from './unit_field.js';
 
@@ -65,17 +64,16 @@ function orderTable(view, orders) {
 }
 
 function cancelForm(view, order) {
-  return rowForm(view, {
+  return inRow(view, {
     key: `cancel ${order}`, button: text('Cancel'), what: text('order {order}', { order }), send: () => routes.cancel(order),
     sentence: [text('Order {order} is cancelled.', { order })], look: () => lookAtReader(view.ticket),
   });
 }
 
-/** A button in a row of a table. The command removes the row, so its result is shown above the tables. */
-function rowForm(view, { key, button, what, send, sentence, look }) {
-  return commandForm({
-    key, button: [`${button} `, el('span', { class: 'unseen' }, what)], kind: 'plain small',
-    send, look, help: heldContainer, explain: deskWords,
+/** The command removes the row, so its result is shown above the tables. */
+function inRow(view, { sentence, ...parts }) {
+  return rowForm({
+    ...parts, help: heldContainer,
     done: async () => {
       view.told.replaceChildren(note('done', await after(view, ...sentence)));
       view.name.tabIndex = -1;
@@ -127,7 +125,7 @@ function permitTable(view, permits) {
 }
 
 function revokeForm(view, unit) {
-  return rowForm(view, {
+  return inRow(view, {
     key: `revoke ${view.ticket} ${unit}`, button: text('Take away'), what: text('the permit for unit {unit}', { unit }),
     send: () => routes.revoke(view.ticket, unit), sentence: phrase('The permit for {unit} is taken away.', { unit: unitLink(unit) }),
     look: () => lookAtPermits(view.ticket),

@@ -1,7 +1,7 @@
 // What several pages of the desk use.
 
 import { el, link } from '../shared/dom.js';
-import { note } from '../shared/form.js';
+import { commandForm, note } from '../shared/form.js';
 import { phrase, text } from '../shared/language.js';
 import { deskWords } from '../shared/refusals.js';
 import { STAYED } from './sure.js';
@@ -34,6 +34,10 @@ export function heldContainer(answer) {
   return answer.refused === 'WithReader'
     ? el('p', {}, phrase('Its page at the counter: {container}.', { container: containerLink(answer.container) })) : null;
 }
+
+/** A button in a row of a table: `what` is what it is for, which only a screen reader says. */
+export const rowForm = ({ button, what, ...parts }) => commandForm({
+  ...parts, button: [`${button} `, el('span', { class: 'unseen' }, what)], kind: 'plain small', explain: deskWords });
 
 /** A form that looks something up: it changes nothing, so it may be sent any number of times. */
 export function lookUp(field, button, then) {

@@ -3,13 +3,15 @@
 
 import { el, printButton, table } from '../shared/dom.js';
 import { askEach } from '../shared/asking.js';
+import { note } from '../shared/form.js';
 import { counted, phrase, text, textAs, written } from '../shared/language.js';
-import { queue } from '../shared/routes.js';
+import { cancel, queue } from '../shared/routes.js';
 import { asOf, newestRun } from './days.js';
 import { keep, kept } from './kept.js';
+import { lookAtReader } from './looks.js';
 import { boxLink, knownCards, newestTicket, readCard, readerLink, saveCards } from './names.js';
 import { paced, progress } from './pace.js';
-import { card, runLink } from './parts.js';
+import { card, rowForm, runLink, said } from './parts.js';
 
 const FEW = 200; // up to so many cards are asked for without a press of the button
 
@@ -36,14 +38,14 @@ export function forgetWaiting() {
 export function waitingList() {
   const told = el('p', { class: 'told', role: 'status' });
   const list = el('div', {});
-  const view = { told, list, buttons: [] };
+  const view = { told, list, buttons: [], done: el('div', { role: 'status', tabindex: -1 }) };
   const button = (name, all) =>
     el('button', { type: 'button', class: 'plain', click: () => gather(view, Infinity, all) }, name);
   view.buttons = [button(text('Show what waits now'), false), button(text('Read every card again'), true)];
   if (last) showGathered(view, last);
   if (!last || isOld) gather(view, FEW, false);
   return card(text('What waits'), el('p', { class: 'quiet' }, text('Gathered from the readers’ cards.')),
-    el('p', { class: 'buttons no-print' }, view.buttons), told, list);
+    el('p', { class: 'buttons no-print' }, view.buttons), view.done, told, list);
 }
 
 async function gather(view, most, all) {
@@ -115,10 +117,30 @@ function showGathered(view, { orders, places, run, moment, skipped }) {
 
 function showOrders(view, orders, places, run) {
   const rows = orders.map((order) => [String(order.order), boxLink(order.container), readerLink(order.ticket),
-    whereFor(order, places.get(order.container), run)]);
+    whereFor(order, places.get(order.container), run), places.size > 0 && cancelForm(view, order)]);
   view.list.replaceChildren(...(rows.length === 0 ? [] : [
-    table(text('Orders that wait, the oldest first'), [textAs('noun', 'Order'), text('Container'), text('Reader'), text('Where it is')], rows),
+    table(text('Orders that wait, the oldest first'), [textAs('noun', 'Order'), text('Container'), text('Reader'), text('Where it is'),
+      text('Cancel')], rows),
     el('p', {}, printButton(text('Print this list')))]));
+}
+
+/** An order that is cancelled leaves the list, and the next one may be the first for its container. */
+function cancelForm(view, { order, ticket, container }) {
+  return rowForm({
+    key: `cancel ${order}`, button: text('Cancel'), what: text('order {order}', { order }),
+    send: () => cancel(order), look: () => lookAtReader(ticket),
+    done: async () => {
+      await readCard(ticket);
+      const box = await queue(container);
+      if (box.ok) last.places.set(container, box.value);
+      last.orders = last.orders.filter((one) => one.order !== order);
+      saveCards();
+      saveList();
+      showGathered(view, last);
+      view.done.replaceChildren(note('done', said(text('Order {order} is cancelled.', { order }))));
+      view.done.focus();
+    },
+  });
 }
 
 function whereFor(order, box, run) {
