@@ -8,6 +8,7 @@ import pytest
 from acceptance.front.asks import Asks
 from acceptance.front.catalogue import dock_company
 from acceptance.front.desk_state import FAR
+from acceptance.front.files import csv_text, unit
 from acceptance.front.office import MANY_PAGES
 
 pytestmark = pytest.mark.needs("sqlite3")
@@ -21,7 +22,9 @@ CLOSED = "2030-01-01"
 def office(new_office, module_room):
     """An office with an archive, of which unit 3 is closed, with readers, and with the night's copy of all that."""
     (module_room / "docks.csv").write_text(dock_company())
-    office = new_office(tries=True, files=[("docks", module_room / "docks.csv")], changes=MANY_PAGES)
+    (module_room / "shelves.csv").write_text(shelved("Tall|Low", "Shelf 10|Shelf 9"))
+    office = new_office(tries=True, files=[(source, module_room / f"{source}.csv") for source in ("docks", "shelves")],
+                        changes=MANY_PAGES)
     asks = Asks(office)
     for name in READERS:
         asks.command("/desk/register", name=name, until=FAR)
@@ -30,6 +33,12 @@ def office(new_office, module_room):
         subprocess.run(["sqlite3", office.store, f".backup {office.copies / 'office-2024-03-01.db'}"], check=True)
     office.wait_for(office.public + "/public/fonds")
     return office
+
+
+def shelved(names, locations):
+    """A fonds with these boxes."""
+    return csv_text(unit(names, "", "Ledgers", identifier="LED", levelOfDescription="Fonds", physicalObjectName=names,
+                         physicalObjectLocation=locations))
 
 
 @pytest.fixture
@@ -120,3 +129,39 @@ def test_without_the_service_scanned_codes_and_numbers_still_lead_to_their_pages
         desk.at("/find/T5").wait("location.hash === '#/readers/5'")
         desk.at("/find/HUL").see("The service that finds units, boxes and readers is not running.")
         desk.at("/find/2").see("ticket 2")
+
+
+def test_boxes_are_told_with_their_places_and_what_in_them_is_not_open_to_all(asks):
+    told = json.loads(asks.send("POST", "/try/boxes", "[1, 2, 4, 999]", True)[1])["boxes"]
+    assert [(one["name"], one["location"], [unit["code"] for unit in one["withheld"]]) for one in told] == [
+        ("Box 1", "Strongroom 2", []), ("Box 2", "Strongroom 1", ["GB 0999 HUL/2", "GB 0999 HUL/2/1"]),
+        ("Box 3", "Strongroom 1", [LETTERS])]
+
+
+@pytest.mark.browser
+@pytest.mark.needs("chromium")
+def test_what_goes_back_is_listed_in_the_order_of_the_shelves(desk, asks, state):
+    """A box that is newer than the copy comes last."""
+    asks.import_text("new", shelved("Newest", "Shelf 1"))
+    state.empty()
+    boxes = {name: state.container(name) for name in ("Tall", "Newest", "Low")}
+    for order in state.fetch(*((5, box) for box in boxes.values())):
+        asks.command("/desk/cancel", order=order)
+    desk.at("/out").press("Reshelve")
+    desk.see("Take these back to their shelves:")
+    desk.see("The last ones are newer than the copy of")
+    rows = "[...document.querySelectorAll('.shelf-list tr:has(td)')].map((row) => [row.cells[0].innerText, row.querySelector('a').hash])"
+    assert desk.js(rows) == [["Shelf 9", f"#/counter/{boxes['Low']}"], ["Shelf 10", f"#/counter/{boxes['Tall']}"],
+                             ["not known", f"#/counter/{boxes['Newest']}"]]
+
+
+@pytest.mark.browser
+@pytest.mark.needs("chromium")
+def test_a_draft_in_a_box_is_told_before_the_box_is_ordered(desk):
+    for address, card in (("/orders", "Place an order"), ("/readers/5", "Order a container")):
+        desk.at(address).fill("Container", "", card)
+        desk.type("B4")
+        desk.key("Tab")
+        desk.see("Not open to everybody in this box:")
+        desk.see("GB 0999 HUL/3, Letters of the secretary Draft")
+    desk.at("/counter/2").see("GB 0999 HUL/2, Plans of the locks, 1803-1829 Closed until 2030-01-01.")

@@ -8,8 +8,9 @@ import * as routes from '../shared/routes.js';
 import { askIfPast } from './days.js';
 import { lookAtPermits, lookAtReader } from './looks.js';
 import { boxLink, readCard } from './names.js';
+import { orderedBoxField } from './ordered_box.js';
 import { card, heldContainer, notDone, problem, rowForm, said, unitLink } from './parts.js';
-import { boxField, boxOf } from './scans.js';
+import { boxOf } from './scans.js';
 import { NO_UNIT, unitField, unitNamed } from './unit_field.js';
 
 const STATES = { waiting: text('waiting'), out: text('out') };
@@ -104,7 +105,7 @@ const leaveForm = (view) => command(view, 'leave of', text('Free the seat'), () 
   ({ seat }) => [text('Seat {seat} is free.', { seat })], { kind: 'plain' });
 
 const orderForm = (view) => command(view, 'order of', text('Order'), ({ container }) => routes.order(view.ticket, boxOf(container)),
-  ({ order }, { container }) => phrase('Order {order} for {container}.', { order, container: boxLink(boxOf(container)) }), { fields: [boxField()] });
+  ({ order }, { container }) => phrase('Order {order} for {container}.', { order, container: boxLink(boxOf(container)) }), { fields: orderedBoxField() });
 
 const renewForm = (view) => command(view, 'renewal of', text('Renew'), ({ until }) => routes.renew(view.ticket, until),
   (value, { until }) => phrase('Good until {until}.', { until }), {

@@ -7,17 +7,20 @@ import { deskWords } from '../shared/refusals.js';
 import { giveBack, issue, issued, order, queue } from '../shared/routes.js';
 import { lookAtContainer, lookAtReader } from './looks.js';
 import { readerLink } from './names.js';
+import { notOpenIn } from './ordered_box.js';
 import { card, problem, said } from './parts.js';
 import { ticketField, ticketOf } from './scans.js';
 
 export async function containerPage(number) {
   const view = { number, told: el('div', { role: 'status' }), panel: el('div', { class: 'panel' }) };
   const isThere = await show(view);
+  const withheld = el('div', {});
+  notOpenIn(number).then((lines) => withheld.replaceChildren(...lines));
   return { title: text('Container {number}', { number }), content: [
     el('h1', {}, text('Container {number}', { number })),
     el('p', { class: 'links no-print' }, link('#/counter', text('Back to the counter')), ' ',
       isThere && link(`#/counter/${number}/label`, text('A label to print'))),
-    view.told, view.panel,
+    view.told, view.panel, withheld,
     isThere && card(text('Order it for a reader'), orderForm(view)),
   ] };
 }

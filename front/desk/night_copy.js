@@ -19,6 +19,9 @@ export const differencesFrom = (source, file) => fromCopy(`differences/${encodeU
 /** What may be meant by what was typed: { ok: true, value: { copy, units, boxes, readers, more, last } }, or as differencesFrom. */
 export const findInCopy = (typed) => fromCopy('find', typed);
 
+/** Where these boxes belong, and what in them is not open to everybody: { ok: true, value: { copy, boxes } }, or as differencesFrom. */
+export const boxesInCopy = (containers) => fromCopy('boxes', JSON.stringify(containers.map(Number)));
+
 async function fromCopy(what, body) {
   const response = await post(what, body);
   if (isAway(response)) return { ok: false, kind: 'away' };

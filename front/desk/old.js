@@ -10,9 +10,9 @@ import { deskWords } from '../shared/refusals.js';
 import { cancel, queue, reshelve } from '../shared/routes.js';
 import { asOf } from './days.js';
 import { onceMore } from './looks.js';
-import { boxLink } from './names.js';
 import { nightList } from './night_lists.js';
 import { card, notDone } from './parts.js';
+import { shelfList } from './shelf_list.js';
 import { isSure, STAYED } from './sure.js';
 import { forgetWaiting } from './waiting.js';
 
@@ -130,8 +130,7 @@ async function takeBackEach(boxes, view) {
   }
   const answer = await reshelve();
   if (!answer.ok && answer.refused !== NOTHING_TO_MOVE) return answer;
-  const back = answer.ok ? answer.value.containers.map((box) => el('li', {}, boxLink(box))) : [el('li', {}, text('Nothing goes back.'))];
-  return { ok: true, value: [...lines, el('strong', {}, text('Take these back to their shelves:')), el('ul', {}, back)] };
+  return { ok: true, value: [...lines, answer.ok ? await shelfList(answer.value.containers) : text('Nothing goes back.')] };
 }
 
 /** Cancels the orders that wait for a box, up to the newest that the night knew. The value says why a box stays, if it does. */

@@ -9,8 +9,9 @@ import { deskWords } from '../shared/refusals.js';
 import { cancel, order } from '../shared/routes.js';
 import { lookAtReader, onceMore } from './looks.js';
 import { boxLink, readerLink } from './names.js';
+import { orderedBoxField } from './ordered_box.js';
 import { card, said } from './parts.js';
-import { boxField, boxOf, ticketField, ticketOf } from './scans.js';
+import { boxOf, ticketField, ticketOf } from './scans.js';
 import { waitingList } from './waiting.js';
 
 export function ordersPage() {
@@ -24,7 +25,7 @@ export function ordersPage() {
 
 function placeForm() {
   return commandForm({
-    key: 'order', fields: [ticketField(), boxField()],
+    key: 'order', fields: [ticketField(), orderedBoxField()],
     button: text('Order'),
     send: ({ ticket, container }) => order(ticketOf(ticket), boxOf(container)),
     done: (value, { ticket, container }) =>

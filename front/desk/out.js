@@ -1,6 +1,6 @@
 // What is out, and what goes back to its shelf.
 
-import { el, printButton, table } from '../shared/dom.js';
+import { el, table } from '../shared/dom.js';
 import { commandForm } from '../shared/form.js';
 import { text, textAs } from '../shared/language.js';
 import { deskWords } from '../shared/refusals.js';
@@ -9,6 +9,7 @@ import { onceMore } from './looks.js';
 import { asOf } from './days.js';
 import { boxLink, readerLink } from './names.js';
 import { card, problem } from './parts.js';
+import { shelfList } from './shelf_list.js';
 
 export async function outPage() {
   const answer = await issued();
@@ -37,12 +38,4 @@ function reshelveForm() {
     look: onceMore(text('“nothing to take back” means that it was done. Its list is lost then: carry back every container at the desk '
       + 'for which the counter shows that nobody is waiting.')),
   });
-}
-
-function shelfList(containers) {
-  return [
-    el('p', {}, el('strong', {}, text('Take these back to their shelves:'))),
-    el('ul', {}, containers.map((container) => el('li', {}, boxLink(container)))),
-    el('p', { class: 'buttons' }, printButton(text('Print this list'))),
-  ];
 }

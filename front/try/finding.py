@@ -4,6 +4,7 @@ does the script of a Greek or Russian name; a name that sounds alike is found wh
 
 import contextlib
 import datetime
+import json
 import re
 import sqlite3
 import unicodedata
@@ -43,13 +44,46 @@ def find(path, typed):
     """What may be meant in the copy at this path: lists of `units`, `boxes` and `readers`, how many `more` of each there are,
     and the last ticket that the copy has."""
     number = int(typed) if re.fullmatch(r"\s*[0-9]{1,10}\s*", typed) else None
-    with contextlib.closing(sqlite3.connect(f"{path.resolve().as_uri()}?immutable=1", uri=True)) as store:
+    with opened(path) as store:
         found = {"units": units(store, number, typed), "boxes": boxes(store, number, plain(typed).split()),
                  "readers": readers(store, number, plain(typed).split())}
         more = {kind: max(0, len(them) - MOST) for kind, them in found.items()}
         found["units"] = [told(store, rank, seen) for rank, seen in found["units"][:MOST]]
         [last] = store.execute("SELECT coalesce(max(ticket), 0) FROM reader").fetchone()
     return {**{kind: them[:MOST] for kind, them in found.items()}, "more": more, "last": last}
+
+
+def opened(path):
+    """A context with a connection to the copy at this path."""
+    return contextlib.closing(sqlite3.connect(f"{path.resolve().as_uri()}?immutable=1", uri=True))
+
+
+def boxes_of(path, numbers):
+    """Boxes by their numbers, as far as the copy has them: their places, and the units in them that are not open to all."""
+    with opened(path) as store:
+        rows = store.execute("SELECT id, name, location FROM container WHERE id IN (SELECT value FROM json_each(?))",
+                             (json.dumps(numbers),))
+        found = {box: {"container": box, "name": name, "location": location} for box, name, location in rows}
+        withheld = {box: [] for box in found}
+        for seen, boxes in housed(store) if found else ():
+            if seen.is_draft or seen.is_below_draft or seen.closed:
+                for box in withheld.keys() & boxes:
+                    withheld[box].append(seen)
+        for box, units in withheld.items():
+            found[box] |= {"withheld": [told(store, 0, seen) for seen in units[:MOST]], "more": max(0, len(units) - MOST)}
+    return list(found.values())
+
+
+def housed(store):
+    """All units, each with its boxes: its own or, if it has none, those of the nearest unit above that has some."""
+    own, way = {}, []
+    for unit, box in store.execute("SELECT unit, container FROM housing"):
+        own.setdefault(unit, set()).add(box)
+    for seen in walk(store):
+        while way and way[-1][0] < seen.last:
+            way.pop()
+        way.append((seen.last, own.get(seen.number) or (way[-1][1] if way else set())))
+        yield seen, way[-1][1]
 
 
 def plain(text):

@@ -3,6 +3,7 @@
     service.py --copies FOLDER --files FOLDER --listen SOCKET [--program PROGRAM]
 
 POST /try/find, with what somebody typed as its body, is answered with the JSON of finding.py and the time of the copy.
+POST /try/boxes, with a list of numbers as JSON, is answered with where these boxes belong, and what in them is not open to all.
 POST /try/look, with a file as its body, is answered with the JSON of look_for_page.py, which runs by itself, within bounds;
 /try/look/Windows-1253/dates chooses an encoding, and has dates filled in.
 POST /try/differences/SOURCE, with a file as its body, is answered with JSON: copy, answer, refused, differences.
@@ -22,13 +23,13 @@ import time
 import waitress
 
 from differences import Trial
-from finding import find
+from finding import boxes_of, find
 from kept_files import NoCopy, is_source, keep_file, last_file, newest_copy
 from wording import read_rules
 
 LARGEST_FILE = 8 * 1024 * 1024
 LONGEST_TYPED = 1000  # bytes
-PATH = re.compile("/try/(?:(find|look)(/Windows-125[0-4])?(/dates)?|(differences|imported)/([^/]+))")
+PATH = re.compile("/try/(?:(find|boxes|look)(/Windows-125[0-4])?(/dates)?|(differences|imported)/([^/]+))")
 LOOK = pathlib.Path(__file__).resolve().parents[1] / "look/look_for_page.py"
 LOOKS, LONGEST_LOOK = 2, 100  # at a time; seconds
 
@@ -61,6 +62,9 @@ class Service:
         try:
             if found[1] == "find":
                 return "200 OK", self.found(data[:LONGEST_TYPED].decode(errors="replace"))
+            if found[1] == "boxes":
+                copy = newest_copy(self.copies)
+                return "200 OK", {"copy": made(copy), "boxes": boxes_of(copy, [int(number) for number in json.loads(data)])}
             if found[1]:
                 with self.looks:
                     return "200 OK", look(data, found[2], found[3])
