@@ -144,15 +144,16 @@ def test_what_goes_back_is_listed_in_the_order_of_the_shelves(desk, asks, state)
     """A box that is newer than the copy comes last."""
     asks.import_text("new", shelved("Newest", "Shelf 1"))
     state.empty()
-    boxes = {name: state.container(name) for name in ("Tall", "Newest", "Low")}
-    for order in state.fetch(*((5, box) for box in boxes.values())):
+    tall = json.loads(asks.send("POST", "/try/find", "Tall", True)[1])["boxes"][0]["container"]
+    low, newest = tall + 1, tall + 2
+    for order in state.fetch((5, tall), (5, newest), (5, low)):
         asks.command("/desk/cancel", order=order)
     desk.at("/out").press("Reshelve")
     desk.see("Take these back to their shelves:")
     desk.see("The last ones are newer than the copy of")
-    rows = "[...document.querySelectorAll('.shelf-list tr:has(td)')].map((row) => [row.cells[0].innerText, row.querySelector('a').hash])"
-    assert desk.js(rows) == [["Shelf 9", f"#/counter/{boxes['Low']}"], ["Shelf 10", f"#/counter/{boxes['Tall']}"],
-                             ["not known", f"#/counter/{boxes['Newest']}"]]
+    rows = "[...document.querySelectorAll('.shelf-list tbody tr')]"
+    assert desk.js(f"{rows}.map((row) => [row.cells[0].innerText, row.querySelector('a').hash])") == [
+        ["Shelf 9", f"#/counter/{low}"], ["Shelf 10", f"#/counter/{tall}"], ["not known", f"#/counter/{newest}"]]
 
 
 @pytest.mark.browser

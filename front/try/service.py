@@ -3,7 +3,7 @@
     service.py --copies FOLDER --files FOLDER --listen SOCKET [--program PROGRAM]
 
 POST /try/find, with what somebody typed as its body, is answered with the JSON of finding.py and the time of the copy.
-POST /try/boxes, with a list of numbers as JSON, is answered with where these boxes belong, and what in them is not open to all.
+POST /try/boxes, with numbers as JSON, is answered with where these boxes belong, and what in them is not open to all.
 POST /try/look, with a file as its body, is answered with the JSON of look_for_page.py, which runs by itself, within bounds;
 /try/look/Windows-1253/dates chooses an encoding, and has dates filled in.
 POST /try/differences/SOURCE, with a file as its body, is answered with JSON: copy, answer, refused, differences.
