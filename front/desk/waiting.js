@@ -38,7 +38,7 @@ export function forgetWaiting() {
 export function waitingList() {
   const told = el('p', { class: 'told', role: 'status' });
   const list = el('div', {});
-  const view = { told, list, buttons: [], done: el('div', { role: 'status', tabindex: -1 }) };
+  const view = { told, list, buttons: [], done: el('div', { role: 'status' }) };
   const button = (name, all) =>
     el('button', { type: 'button', class: 'plain', click: () => gather(view, Infinity, all) }, name);
   view.buttons = [button(text('Show what waits now'), false), button(text('Read every card again'), true)];
@@ -137,8 +137,9 @@ function cancelForm(view, { order, ticket, container }) {
       saveCards();
       saveList();
       showGathered(view, last);
-      view.done.replaceChildren(note('done', said(text('Order {order} is cancelled.', { order }))));
-      view.done.focus();
+      const told = el('div', { tabindex: -1 }, note('done', said(text('Order {order} is cancelled.', { order }))));
+      view.done.replaceChildren(told);
+      told.focus();
     },
   });
 }
