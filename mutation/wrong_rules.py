@@ -1,74 +1,77 @@
 """Changes the rules of the model, one definition at a time: a test vector or a law must refuse each change.
 
-    ./run mutation.wrong_rules [--dry] [--jobs N] [--cases N] [--over CHECKOUT] [WORD ..]
+    ./run mutation.wrong_rules [--dry] [--jobs N] [WORD ..]
 
 The changes are the records of wrong_rules/CRATE/SUBJECT.rules (records.py says how they are written), and those that
-wrong_rules_made.py makes; with WORD, those whose name has one of the words. Each with `refused by` is made in copies of
-the modules between the definition and the test vectors or the law that it names (side_by_side.py). Test vectors are
-lemmas there, one for each row (row_lemmas.py): where a row is named, that row or a lemma before the rows must fail. Only
-what the same copies prove without the change counts. The libraries are those in crates/*/out/rlib of --over, or of this
-checkout, as `rt check` and `rt ci` leave them. --jobs checks run at once, each of --cases rules.
+wrong_rules_made.py makes; with WORD, those whose name has one of the words. Each with `refused by` is made in a copy of the
+crates. There the prover checks the law or the test vectors that are named, with what they rest on of all crates. A row that
+follows the name is the vector that was written for the rule.
 
-A line says for each rule that it is `refused`, with the rows or lemmas that fail; `LET THROUGH`; `unreadable`, if the
-wrong text does not parse; or `no verdict`. The last line has the counts; it ends with 1 if a rule was not refused.
+A line says of each rule that it is `refused`, with what is no longer proved; `LET THROUGH`; `unreadable`, if the wrong text is
+no definition; or `no verdict`. The last line has the counts; it ends with 1 if a rule was not refused.
 
-With --dry it only looks for the old texts, also of the records with `seen in`, which the prover does not try, and for
-the row, the law or the scenario that is named there, and counts them."""
+With --dry it only looks for the old texts, also of the records with `seen in`, which the prover does not try, and for the
+row, the law or the scenario that is named there, and counts them."""
 
 import argparse
 import re
+import shutil
+import subprocess
 import sys
 import tempfile
 from collections import Counter
-from concurrent.futures import ThreadPoolExecutor
+from collections.abc import Iterator
 from pathlib import Path
 
 from acceptance import scenarios, test_at_limits, test_heads
-from mutation import records, row_lemmas, side_by_side, trials, wrong_rules_made
-from mutation.records import TOP
+from mutation import records, trials, wrong_rules_made
+from mutation.records import TOP, Record
 
-# Over whose libraries the rules are tried that name something of these crates; those of the causes over state_encoding.
-CRATES = ("tree_core", "command_line", "state_encoding", "http_messages", "http_desk", "program_tests", "model_tests")
-OF_CAUSES = re.compile(r"state_encoding|office_tables|/(Desk|Catalogue)Causes\.antt")
-
-
-def path_of(record):
-    return f"crates/{record.folder}/{record.file}"
+KIT = Path("/opt/rattle")
+LONGEST = 3600  # seconds for one rule
+ERROR = re.compile(r"^(\S+?):[\d:]+ error(?:\[[\w-]+\])?: (.*)$", re.M)
 
 
-class Rule:
-    """A wrong rule, the modules that must refuse it, and its verdict."""
-
-    def __init__(self, modules, record):
-        path, named = path_of(record), record.refused_by.split("::")[0]
-        self.name, self.verdict, self.why = record.name, "no verdict", "the check did not end"
-        self.module, text = modules.of_path(path), Path(TOP, path).read_text(encoding="utf-8")
-        self.text = modules.text[self.module].replace(record.old, with_whole_names(record.new, text), 1)
-        self.crate = "state_encoding" if OF_CAUSES.search(path) else named if named in CRATES else "office_core"
-        function, _, self.row = record.refused_by.partition(" ")
-        self.asked = () if self.row else tuple(modules_of(function))
-        if not self.asked:
-            crate, *inner = function.split("::")
-            name = f"Rattle.{crate}.proofs.{'.'.join(inner)}.Rows"
-            self.asked = (modules.make(name, row_lemmas.rows(function)[0]),)
-
-    def judge(self, errors, is_clean):
-        """Takes the verdict from the errors of its case; `is_clean`: without the change, what is asked is proved."""
-        wrong = [f"{it[1]}:{it[2]} {it[3]}" for it in errors if it[0] == "specs"]
-        fails = [f"{it[1].rsplit('_', 1)[-1]}.{it[3].split('`')[1]}" for it in errors if it[3].startswith("`")]
-        told = ", ".join(dict.fromkeys(fails))
-        if not is_clean:
-            self.verdict, self.why = "no verdict", "what is asked is not proved with nothing turned"
-        elif wrong:
-            self.verdict, self.why = "unreadable", wrong[0][:300]
-        elif not errors or self.row and all(it.startswith("Rows.") for it in fails) and f"Rows.row_{self.row}" not in fails:
-            self.verdict, self.why = "LET THROUGH", f"but for other rows: {told}" if errors else "nothing fails"
-        else:
-            self.verdict, self.why = "refused", told or errors[0][3][:200]
-        print(f"{self.verdict} | {self.name} | {self.why}", flush=True)
+def needs() -> dict[str, list[str]]:
+    """What each crate stands on, of this repository and of the kit."""
+    lines = [line.split(":") for line in (TOP / "crates.txt").read_text(encoding="utf-8").splitlines() if line[:1].isalpha()]
+    return {name.split()[0]: named.split() for name, named in lines}
 
 
-def with_whole_names(new, text):
+def libraries(crate: str) -> Iterator[str]:
+    """The words by which the prover finds all that a crate stands on: crates of the repository by their sources."""
+    known, below = needs(), [crate]
+    for it in below:
+        below += [name for name in known.get(it, []) if name not in below]
+    for it in below[1:]:
+        yield from ("--lib", f"{it}=../{it}/src/lib.rt") if it in known else ("--extern", f"{it}={KIT}/rlibs/{it}.rlib")
+
+
+def check(room: Path, function: str) -> str:
+    """What the prover says of a function of the crates in a room, and of what it rests on."""
+    crate, _, path = function.partition("::")
+    words = [f"{KIT}/bin/rattle", "check", "--crate-name", crate, "src/lib.rt", "--only", path, "--links", f"{crate}=",
+             "--extern", f"std={KIT}/rlibs/std.rlib", "-L", f"dependency={KIT}/rlibs", *libraries(crate),
+             "--antt-project", f"{KIT}/rattle/logic/antt-project.json", "--logic-built", f"{KIT}/logic_built",
+             "--incremental", str(room / "kept"), "--jobs", "1"]
+    (room / "kept").mkdir(exist_ok=True)
+    ran = subprocess.run(words, cwd=room / "crates" / crate, stdin=subprocess.DEVNULL, capture_output=True, text=True,
+                         timeout=LONGEST, check=False)
+    return ran.stdout + ran.stderr
+
+
+def verdict(said: str) -> tuple[str, str]:
+    """Whether a rule was refused, and why it is said."""
+    errors = ERROR.findall(said)
+    told = next((f"{place}: {text[:200]}" for place, text in errors), "")
+    if not re.search(r"^only=\d+ proved=\d+$", said, re.M):
+        return "no verdict", " ".join(said.split()[-30:])
+    if unread := [text for place, text in errors if "specs/" in place]:
+        return "unreadable", unread[0][:300]
+    return ("LET THROUGH", "nothing fails") if re.search(r"^only=(\d+) proved=\1$", said, re.M) else ("refused", told)
+
+
+def with_whole_names(new: str, text: str) -> str:
     """The new text; truth values have their whole names if the file does not import them."""
     imports = "\n".join(it for it in text.split("\n") if it.startswith("use "))
     for word in ("true", "false"):
@@ -77,57 +80,23 @@ def with_whole_names(new, text):
     return new
 
 
-def modules_of(function):
-    """The modules of the lemmas that prove the rows of a function, or its law."""
-    crate, *path = function.split("::")
-    answers = Path(TOP, "crates", crate, "proofs", *path, "Answers.antt")
-    text = answers.read_text(encoding="utf-8") if answers.is_file() else ""
-    named = re.findall(r"^use (Rattle\.(?:\w+\.)+)(?:\{| as )", text.replace(" as ", ". as "), re.M)
-    return [it.rstrip(".") for it in named if ".proofs." in it and not re.search(r"\.std\.|\.Goals\.$", it)]
-
-
-class Run:
-    """The checks of some rules in a room, over the libraries of a checkout."""
-
-    def __init__(self, modules, given, room):
-        self.modules, self.given, self.room, self.clean = modules, given, room, {}
-
-    def try_rules(self, rules):
-        """Gives each rule a verdict: first what is asked is checked with nothing turned."""
-        grounds = dict.fromkeys((rule.crate, rule.module, rule.asked) for rule in rules)
-        self.run_all("clean", [(None, crate, module, self.modules.text[module], asked) for crate, module, asked in grounds])
-        self.run_all("turned", [(rule, rule.crate, rule.module, rule.text, rule.asked) for rule in rules])
-
-    def run_all(self, sign, cases):
-        """Runs the checks of some cases: each of one crate, and of as many cases as one check may have."""
-        parts = []
-        for crate in sorted({it[1] for it in cases}):
-            mine = [it for it in cases if it[1] == crate]
-            parts += [(crate, mine[at:at + self.given.cases]) for at in range(0, len(mine), self.given.cases)]
-        with ThreadPoolExecutor(self.given.jobs) as pool:
-            list(pool.map(lambda it: self.run_one(f"{sign}{it[0]}", *it[1]), enumerate(parts)))
-
-    def run_one(self, sign, crate, cases):
-        """One check of some cases: what is proved without a change, or the verdicts of rules."""
-        bench = side_by_side.Bench(self.modules, f"{self.room}/{sign}", self.given.over, crate)
-        names = [f"{sign}_{number}" for number in range(len(cases))]
-        for name, (_, _, *case) in zip(names, cases):
-            bench.add(name, *case)
-        told = bench.check()
-        if told is None:
-            print(f"  (no verdict over {crate}: {bench.said.strip().splitlines()[-1:]})", flush=True)
-        for name, (rule, _, module, _, asked) in zip(names, cases) if told else ():
-            if rule:
-                rule.judge(told[name], self.clean.get((crate, module, asked)))
-            else:
-                self.clean[crate, module, asked] = not told[name]
-                print(*(f"  NOT PROVED with nothing turned: {module} {it[:2]} {it[3][:200]}\n" for it in told[name]), end="")
+def try_rule(room: Path, record: Record) -> tuple[str, str]:
+    """Changes the copy of the crates in a room, and changes it back."""
+    if not (room / "crates").exists():
+        shutil.copytree(TOP / "crates", room / "crates", ignore=shutil.ignore_patterns("out"))
+    path = room / "crates" / record.folder / record.file
+    text = path.read_text(encoding="utf-8")
+    path.write_text(text.replace(record.old, with_whole_names(record.new, text), 1), encoding="utf-8")
+    try:
+        return verdict(check(room, record.refused_by.partition(" ")[0]))
+    finally:
+        path.write_text(text, encoding="utf-8")
 
 
 # ---- whether they can be tried
 
 
-def read_rules(words):
+def read_rules(words: list[str]) -> list[Record]:
     """All rules, or those with one of these words in their names."""
     every = records.read(TOP / "mutation" / "wrong_rules") + wrong_rules_made.make_rules()
     for it in every:
@@ -136,7 +105,7 @@ def read_rules(words):
     return [it for it in every if not words or any(word in it.name for word in words)]
 
 
-def why_not(record):
+def why_not(record: Record) -> str:
     """Why a rule cannot be tried, or nothing: its old text is there, and the scenario, the row or the law that it names."""
     if why := record.why_not(TOP / "crates" / record.folder):
         return why
@@ -146,18 +115,18 @@ def why_not(record):
     else:
         function, _, row = record.refused_by.partition(" ")
         crate, *path = function.split("::")
-        is_there = row_lemmas.rows(function)[1].count(row) == 1 if row else (
-            Path(TOP, "crates", crate, "proofs", *path).is_dir() or function in row_lemmas.functions(crate))
+        source = Path(TOP, "crates", crate, "src", *path[:-1]).with_suffix(".rt")
+        clauses = source.read_text(encoding="utf-8").partition(f"pub fn {path[-1]}(")[2].partition("\n}")[0]
+        stated = [clauses, *(it.read_text(encoding="utf-8") for it in Path(TOP, "crates", crate, "specs").glob("Worked*"))]
+        is_there = bool(clauses) and any(re.search(rf"\b{row}\b", it) for it in stated)
     return "" if is_there else f"no {record.refused_by or record.seen_in}"
 
 
-def main():
+def main() -> int:
     """Tries the rules that are wanted, and returns 1 if one was not refused; --dry only looks whether they can be tried."""
     words = argparse.ArgumentParser(description=__doc__, formatter_class=argparse.RawDescriptionHelpFormatter)
     words.add_argument("--dry", action="store_true", help="only look whether each can be tried")
-    words.add_argument("--jobs", type=int, default=1, help="checks at once")
-    words.add_argument("--cases", type=int, default=24, help="rules in one check")
-    words.add_argument("--over", default=TOP, help="the checkout whose libraries are used")
+    words.add_argument("--jobs", type=int, default=1, help="checks at once, of some 2 GB each")
     words.add_argument("words", nargs="*", metavar="WORD")
     given = words.parse_args()
     found = read_rules(given.words)
@@ -166,12 +135,13 @@ def main():
     print(f"{len(found)} rules ({', '.join(f'{many} by a {kind}' for kind, many in kinds.items())}), {wrong} cannot be tried")
     if given.dry or wrong or not found:
         return 1 if wrong or not found else 0
-    modules = side_by_side.Modules(TOP)
-    rules, verdicts = [Rule(modules, it) for it in found if it.refused_by], trials.Verdicts("refused")
-    with tempfile.TemporaryDirectory(prefix="rules-") as room:
-        Run(modules, given, room).try_rules(rules)
-    for it in rules:
-        verdicts.add(it.verdict)
+    verdicts = trials.Verdicts("refused")
+    with tempfile.TemporaryDirectory(prefix="rules-") as rooms:
+        tried = trials.Jobs(given.jobs, 0).outcomes(lambda it, job: try_rule(Path(rooms, str(job)), it),
+                                                    [it for it in found if it.refused_by])
+        for record, came in tried:
+            what, why = came if isinstance(came, tuple) else ("no verdict", str(came))
+            print(f"{verdicts.add(what)} | {record.name} | {why}", flush=True)
     print(verdicts.line())
     return verdicts.status()
 
