@@ -3,35 +3,31 @@
     ./run bench.front [--program PROGRAM] [--room DIRECTORY] [UNITS]
 
 UNITS is 2000, 20000 (the default) or 200000. Eight clients with kept connections ask for pages of units one after the
-other: undisturbed, while the program ends after every 10,000 answers of its only connection, and while it is killed.
-The limits by address are taken out, since all clients have the same address. An answer other than 200 counts as lost.
-Then readers are registered at the desk, next to eight such clients and a kill: all tickets must be there, each once.
-Nothing else may use the program. The script needs nginx and HAProxy, and ends with 1 if anything is lost.
+other: undisturbed, and while the program is killed. The limits by address are taken out, since all clients have the same
+address. An answer other than 200 counts as lost. Nothing else may use the program. The script needs nginx and HAProxy, and
+ends with 1 if anything is lost.
 """
 
 import http.client
-import json
-import shutil
 import sys
 import threading
 import time
 
 from acceptance import client
-from acceptance.front.office import SIGNED_IN, Office
+from acceptance.front.office import Office
 from bench.measure import Archive
 
 CLIENTS = 8
-NO_LIMITS = [("limit_req zone=record_office_readers burst=200 nodelay;", ""),
-             ("limit_conn record_office_visits 100;", "")]
+NO_LIMITS = [("limit_req zone=record_office_readers burst=200 nodelay;", ""), ("limit_conn record_office_visits 100;", "")]
 LOST = []
 
 
 class Client(threading.Thread):
     """Asks for these paths, one after the other, on a connection that it keeps."""
 
-    def __init__(self, port, paths, headers=None):
+    def __init__(self, port, paths):
         super().__init__(daemon=True)
-        self.port, self.paths, self.headers = port, paths, headers or {}
+        self.port, self.paths = port, paths
         self.times, self.lost = [], []
 
     def run(self):
@@ -40,7 +36,7 @@ class Client(threading.Thread):
         for path in self.paths:
             began = time.perf_counter()
             try:
-                connection.request("GET", path, headers=self.headers)
+                connection.request("GET", path)
                 answer = connection.getresponse()
                 answer.read()
                 if answer.status != 200:
@@ -74,23 +70,9 @@ def say(what, clients, took, more=""):
     lost = [kind for one in clients for kind in one.lost]
     LOST.extend(lost)
     kinds = ", ".join(f"{kind} {lost.count(kind)} times" for kind in sorted(set(lost), key=str))
-    print(
-        f"| {what} | {len(times)} | {len(times) / took:.0f} | {times[len(times) // 2] * 1e3:.1f} ms | "
-        f"{times[int(len(times) * 0.99)] * 1e3:.1f} ms | {times[-1]:.2f} s | "
-        f"{len(lost)}{kinds and ' (' + kinds + ')'}{more} |",
-        flush=True,
-    )
-
-
-def steady(office, units, many):
-    say("no restart", *crowd(office, units, many))
-
-
-def ends(office, units, many):
-    """A server of one connection ends after its 10,000th answer."""
-    starts = office.starts
-    clients, took = crowd(office, units, many)
-    say("restarts at the end of `--connections`", clients, took, f"; {office.starts - starts} restarts")
+    print(f"| {what} | {len(times)} | {len(times) / took:.0f} | {times[len(times) // 2] * 1e3:.1f} ms | "
+          f"{times[int(len(times) * 0.99)] * 1e3:.1f} ms | {times[-1]:.2f} s | "
+          f"{len(lost)}{kinds and ' (' + kinds + ')'}{more} |", flush=True)
 
 
 def kills(office, units, many):
@@ -108,58 +90,6 @@ def kills(office, units, many):
     say("killed three times", clients, took, f"; {office.starts - starts} restarts")
 
 
-class Desk:
-    """Registers readers at the desk, one after the other. An uncertain command is looked up, as OPERATING says, not
-    sent again."""
-
-    def __init__(self, office, many):
-        self.office, self.many = office, many
-        self.connection = http.client.HTTPConnection("127.0.0.1", office.ports["8081"], timeout=200)
-        self.tickets, self.times, self.uncertain = [], [], 0
-
-    def ask(self, method, path, body=None):
-        """The status and the members of an answer."""
-        self.connection.request(method, path, body, SIGNED_IN)
-        answer = self.connection.getresponse()
-        text = answer.read()
-        return answer.status, json.loads(text) if text.startswith((b"{", b"[")) else {}
-
-    def register(self, number):
-        began = time.perf_counter()
-        status, told = self.ask("POST", "/desk/register",
-                                json.dumps({"name": f"Reader {number}", "until": "2030-01-01"}))
-        self.times.append(time.perf_counter() - began)
-        if status == 200:
-            self.tickets.append(told["ticket"])
-            return
-        self.uncertain += 1
-        next_ticket = self.tickets[-1] + 1 if self.tickets else 1
-        status, told = self.ask("GET", f"/desk/readers/{next_ticket}")
-        if status == 200 and told["name"] == f"Reader {number}":
-            self.tickets.append(next_ticket)
-        else:
-            self.register(number)
-
-    def run(self):
-        """Registers all readers, with a kill of the program half-way."""
-        for number in range(self.many):
-            if number == self.many // 2:
-                threading.Timer(0.003, self.office.kill_program).start()
-            self.register(number)
-
-    def say(self):
-        times = sorted(self.times)
-        wrong = self.tickets != list(range(1, self.many + 1))
-        LOST.extend(["a ticket"] * wrong)
-        print(
-            f"| {self.many} registrations at the desk beside eight readers, one kill | {len(times)} | | "
-            f"{times[len(times) // 2] * 1e3:.1f} ms | "
-            f"{times[int(len(times) * 0.99)] * 1e3:.1f} ms | {times[-1]:.2f} s | "
-            f"{'tickets are not 1, 2, ..' if wrong else '0'}; {self.uncertain} told as uncertain |",
-            flush=True,
-        )
-
-
 def begin(given, room):
     office = Office(given.program, room / "long", changes=NO_LIMITS)
     office.init(client.LARGE | {"run": "1"}).expect_success()
@@ -171,20 +101,12 @@ def begin(given, room):
 
 
 def measure(given, room):
-    """Prints the table: undisturbed, killed, beside the desk, and while the program ends."""
+    """Prints the table: undisturbed, and killed."""
     many = 600 if given.units > 2000 else 60
     with begin(given, room) as office:
         print("| | requests | a second | p50 | p99 | longest | lost |\n|---|---|---|---|---|---|---|", flush=True)
-        steady(office, given.units, many)
+        say("undisturbed", *crowd(office, given.units, many))
         kills(office, given.units, many * 2)
-        desk = Desk(office, 350 if given.units > 2000 else 40)
-        clients, took = crowd(office, given.units, many, desk.run)
-        desk.say()
-        say("the eight readers beside the desk", clients, took)
-    ending = Office(given.program, room / "short", connections=1, changes=NO_LIMITS)
-    shutil.copy(office.store, ending.store)
-    with ending:
-        ends(ending, given.units, 2600 if given.units > 2000 else 1300)
 
 
 def main():

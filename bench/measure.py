@@ -69,7 +69,6 @@ class Archive:
         return file * self.rows + first + place + 1
 
     def unit(self, nth, count):
-        """The nth of `count` units, spread over all."""
         return self.spread(nth, count, 0, self.rows)
 
     def unit_with_nine_below(self, nth, count):
@@ -87,11 +86,9 @@ class Archive:
         return unit if self.box_of(unit) % self.boxes_apart != 1 else unit - 2
 
     def box_of(self, unit):
-        """The number of the box in which a unit lies."""
         return (unit + 1) // 2
 
     def ordered_box(self, nth):
-        """The number of the nth box that is ordered."""
         return nth * self.boxes_apart + 1
 
 

@@ -21,17 +21,23 @@ CLAUSE = re.compile(r"(ensures|requires)\b(?: (\w+))?")
 
 class Function:
     """A function: its module, the head of the impl or trait in which it stands, its name, its comment, whether others may call
-    it, whether it promises something, the labels of its clauses, the number of its line, and the words of its body."""
+    it, the texts of its clauses, the number of its line, and the words of its body."""
 
     def __init__(self, module, block, name, comment, is_public, line):
         self.module, self.block, self.name = module, block, name
         self.comment, self.is_public, self.line = comment, is_public, line
-        self.promises, self.labels, self.words = False, set(), set()
+        self.clauses, self.words = [], set()
         plain = re.sub(r"<[^<>]*>", "", re.sub(r"<[^<>]*>", "", re.sub(r"<[^<>]*>", "", block)))
         self.owner = re.split(r"[:\s]", plain.split(" for ")[-1].strip())[0]
 
     def path(self):
         return "::".join(it for it in (*self.module, self.owner, self.name) if it)
+
+    def promises(self):
+        return any(it.startswith("ensures") for it in self.clauses)
+
+    def labels(self):
+        return {it[2] for it in map(CLAUSE.match, self.clauses) if it[2]}
 
     def is_law(self):
         """Whether the function stands in a module of laws."""
@@ -61,9 +67,10 @@ def functions(text, module):
             found.append(last)
         elif last and in_body:
             last.words |= set(re.findall(r"[A-Za-z_]\w*", re.sub(r'"[^"]*"', "", line)))
-        elif last and (clause := CLAUSE.match(words)):
-            last.promises |= clause[1] == "ensures"
-            last.labels |= {clause[2]} if clause[2] else set()
+        elif last and CLAUSE.match(words):
+            last.clauses.append(words)
+        elif last and last.clauses and words != "{" and words != "{}":
+            last.clauses[-1] += f" {words}"
         in_body |= words == "{" or words.endswith(") {") or words.startswith(")") and words.endswith("{")
         comment = comment if words.startswith("#[") else []
     return found
@@ -91,7 +98,7 @@ def public_functions(top, crate):
         module = file.relative_to(source).with_suffix("").parts
         for it in functions(file.read_text(encoding="utf-8"), () if module == ("lib",) else module):
             is_open = module[0] in modules or (it.owner or it.name) in names
-            if is_open and it.is_public and it.promises and "worked" not in it.name:
+            if is_open and it.is_public and it.promises() and "worked" not in it.name:
                 yield it
 
 
@@ -104,7 +111,6 @@ def laws(top, crate):
 
 
 def in_columns(head, text, margin):
-    """The text in lines, right of the head."""
     lines = textwrap.wrap(text, WIDTH - len(INDENT) - margin)
     if len(head) > margin - 2:
         yield INDENT + head

@@ -45,7 +45,7 @@ class Tree:
     def read_code(self, module, text):
         """Notes the functions, clauses and names in the text of a module."""
         for it in code_rows.functions(text, module.split("::")):
-            self.clauses[it.path()] |= it.labels
+            self.clauses[it.path()] |= it.labels()
         self.modules |= {module, module.split("::")[0]}
         self.names |= set(re.findall(r"\w+", text))
 

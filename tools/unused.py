@@ -135,7 +135,6 @@ class Repository:
             self.counts.update([*(token for head in heads for token in TOKEN.findall(head)), *renamed])
 
     def unnamed(self) -> Iterator[tuple[str, str, str]]:
-        """Declarations that nothing names."""
         for file in self.files:
             for it in file.declarations:
                 own = set(TOKEN.findall(it.text))
