@@ -53,7 +53,6 @@ def known(db):
 
 
 def find(db, office, seconds=100, **how):
-    """An answer to who looks for docks."""
     return Finder(db, office, Query(read_typed("dock"), **how)).find(seconds)
 
 
@@ -109,6 +108,15 @@ def test_a_unit_that_was_written_anew_is_found_by_what_it_says_now(db):
     assert [len(find(db, office, **one).units) for one in bounds] == [1, 0, 1, 0], "it is of another year now"
     now[0] = "GB 0999 A/1 [File] Quay"
     assert find(db, office).units == [], "it has no word of dock any more"
+
+
+def test_a_file_is_not_found_by_the_name_that_its_archive_had(db):
+    """Though the archive has the other word now: a reader would look for the first in vain."""
+    office, typed = Office(), Query(read_typed("docks buoys"))
+    read(db, office)
+    assert [unit["unit"] for unit in Finder(db, office, typed).find(100).units] == [3]
+    office.heads[1] = "GB 0999 A [Fonds] Buoys and beacons"
+    assert Finder(db, office, typed).find(100).units == []
 
 
 def test_of_an_archive_only_the_pages_of_what_changed_are_asked_for(db):
