@@ -68,7 +68,10 @@ def verdict(said: str) -> tuple[str, str]:
         return "no verdict", " ".join(said.split()[-30:])
     if unread := [text for place, text in errors if "specs/" in place]:
         return "unreadable", unread[0][:300]
-    return ("LET THROUGH", "nothing fails") if re.search(r"^only=(\d+) proved=\1$", said, re.M) else ("refused", told)
+    if re.search(r"^only=(\d+) proved=\1$", said, re.M):
+        return "LET THROUGH", "nothing fails"
+    lost = re.search(r"^fn \S+: (?:not proved|no proof)", said, re.M)  # and not that the prover could not tell
+    return ("refused", told or lost[0]) if lost else ("no verdict", " ".join(said.split()[-30:]))
 
 
 def with_whole_names(new: str, text: str) -> str:
