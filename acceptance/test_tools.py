@@ -60,7 +60,8 @@ def place(tmp_path: Path) -> Any:
     (tmp_path / "office/office.db").write_bytes(b"an office")
     return SimpleNamespace(
         folder=tmp_path / "office", store=tmp_path / "office/office.db", copies=tmp_path / "copies", settings=tmp_path,
-        index=tmp_path / "cache/index.db", told=lambda name: tmp_path / f"run/told-record-office.service-{name}", name=None,
+        index=tmp_path / "cache/index.db", day=tmp_path / "open-day.json",
+        told=lambda name: tmp_path / f"run/told-record-office.service-{name}", name=None,
         unit="record-office.service", unit_of=lambda part: f"record-office-{part}.service", as_owner=as_owner,
         make_folder=lambda path: path.mkdir(exist_ok=True), register=tmp_path / "office/register.db", files=tmp_path / "files",
         owner=SimpleNamespace(pw_uid=os.getuid(), pw_gid=os.getgid(), pw_name="root"), check=lambda path: None)
@@ -214,11 +215,12 @@ def test_what_belongs_to_a_copy_comes_back_with_it(place: Any, monkeypatch: Any)
     assert as_owner("sqlite3", place.register, "SELECT count(*) FROM event") == "2", "visits of before and after the copy"
 
 
-def test_after_a_restore_the_search_does_not_go_on_with_the_index_of_another_office(place: Any, monkeypatch: Any) -> None:
+def test_after_a_restore_nothing_goes_on_with_the_index_or_the_day_of_another_office(place: Any, monkeypatch: Any) -> None:
     restore, copy = tool("record-office-restore"), copy_of(place, DAY)
     new = place.folder / "restored.db"
     new.write_bytes(b"the copy")
     place.index.write_bytes(b"an index")
+    place.day.write_bytes(b"a day")
     monkeypatch.setattr(restore, "stopped", lambda _: contextlib.nullcontext(True))
     for name in ("tell_numbers", "last_numbers"):
         monkeypatch.setattr(restore, name, lambda *_: None)
@@ -226,6 +228,7 @@ def test_after_a_restore_the_search_does_not_go_on_with_the_index_of_another_off
     assert place.store.read_bytes() == b"the copy"
     assert [path.read_bytes() for path in place.folder.glob("replaced-*/office.db")] == [b"an office"], "it is put aside"
     assert not place.index.exists(), "the index is that of the office before"
+    assert not place.day.exists(), "the day that is shown is that of the office before"
 
 
 @pytest.fixture
