@@ -487,6 +487,9 @@ def test_what_stands_in_the_logs(room, approved):
         for path in ("/unit/1", "/search?q=secret", "/public/search?q=secret", "/de/search?q=secret", "/none.js"):
             table.ask("readers", "GET", path, {"Referer": "http://a.example/?b", "User-Agent": "Mozilla/5.0"})
         table.send("readers", b"GET / HTTP/9.0\r\n\r\n")
+        # Both sites write there, and of such a request nginx does so once the other side has closed the connection.
+        log = front.folder / "access.log"
+        until(lambda: "HTTP/9.0" in log.read_text("utf-8"), "the readers' lines are in the log")
         for path in ("/", "/desk/issued", "/none"):
             table.ask("desk", "GET", path)
         for name in ("run", "seat", "leave", "issue", "return", "day"):

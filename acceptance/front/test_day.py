@@ -356,13 +356,16 @@ def test_the_next_day_is_opened_once_the_question_is_answered(desk, state):
     desk.see(f"{day} is open.", ".which-day")
 
 
-def test_each_page_says_which_day_is_open_whoever_opened_it(desk, state, asks):
-    """The answer to the last opening that was not refused counts."""
+def test_each_page_says_which_day_is_open_whoever_opened_it(desk, state, asks, office):
+    """The answer to the last opening that was not refused counts, if it came within the same second as the one before too."""
+    kept = office.folder / "desk/proxy/open-day.json"
     state.empty()
     first, second = next(DAYS), next(DAYS)
     asks.command("/desk/day", day=first)
     desk.at("/counter").see(f"{first} is open, which is not today.", "header")
+    second_of_first = kept.stat().st_mtime
     asks.command("/desk/day", day=second)
+    os.utime(kept, (second_of_first, second_of_first))
     assert asks.try_command("/desk/day", {"day": first})[0] == 409
     desk.go("#/runs")
     desk.see(f"{second} is open, which is not today.", "header")

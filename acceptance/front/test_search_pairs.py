@@ -12,6 +12,7 @@ import collections
 import contextlib
 import json
 import random
+import time
 from typing import NamedTuple
 
 import answers
@@ -144,7 +145,7 @@ class Side:
     def answer(self, values, language):
         """An answer as bytes, and what the office was asked for it."""
         self.ask.paths = []
-        told = self.service.find(values, language, "192.0.2.1")[0]
+        told = self.service.find(values, language, "192.0.2.1", time.monotonic() + PATIENT)[0]
         return json.dumps(told).encode(), self.ask.paths
 
     def indexed(self):
@@ -275,7 +276,6 @@ def without_haste(monkeypatch):
     monkeypatch.setattr(offers, "SECONDS", PATIENT)
     monkeypatch.setattr(fewer, "SECONDS", PATIENT)
     monkeypatch.setattr(counts, "SECONDS", PATIENT)
-    monkeypatch.setattr(answers.Finder.find, "__defaults__", (PATIENT,))
 
 
 @pytest.mark.needs("nginx", "haproxy", "readers")

@@ -7,7 +7,8 @@ import { dayOfThisComputer } from './days.js';
 /** The day, or null: none was opened since this machine began, or the front server does not answer. */
 export async function dayThatIsOpen() {
   try {
-    const response = await fetch('/open-day.json', { cache: 'no-cache', redirect: 'error' });
+    // By its length and the second of its change nginx cannot tell two days that were opened within one: never a kept answer.
+    const response = await fetch('/open-day.json', { cache: 'no-store', redirect: 'error' });
     return response.status === 200 ? (await response.json()).day : null;
   } catch {
     return null;
