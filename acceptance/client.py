@@ -51,8 +51,7 @@ def request(method: str, path: str, body: Body | None = None, host: str = "x", f
         body = json.dumps(body)
     if isinstance(body, str):
         body = body.encode()
-    lines = [f"{method} {path} HTTP/1.1", f"Host: {host}",
-             *(f"{name}: {value}" for name, value in dict(fields).items())]
+    lines = [f"{method} {path} HTTP/1.1", f"Host: {host}", *(f"{name}: {value}" for name, value in dict(fields).items())]
     if body is not None:
         lines.append(f"Content-Length: {len(body)}")
     return "".join(f"{line}\r\n" for line in [*lines, ""]).encode() + (body or b"")
@@ -194,7 +193,6 @@ class Office:
         return self.perform("check", **how)
 
     def import_file(self, source: str, file: str | Path, **how: Any) -> Ended:
-        """Takes in a file of this source."""
         return self.perform("import", "--source", source, str(file), **how)
 
     def talk(self, *requests: bytes, **how: Any) -> Ended:

@@ -19,7 +19,6 @@ MODULES = {"readers": ("babel", "jinja2", "snowballstemmer", "waitress")}  # wha
 
 
 def pytest_addoption(parser: pytest.Parser) -> None:
-    """The options of this suite."""
     group = parser.getgroup("record_office")
     group.addoption("--program", type=Path, default=client.BUILT, help="the built program; else that of `rt ci`")
     group.addoption("--thorough", action="store_true", help="plays also what takes many minutes and seldom finds something")

@@ -41,7 +41,6 @@ def usual_scenarios():
 
 
 def whole(found):
-    """The file with these scenarios."""
     text = "\\x1e\\\n    ".join(map(part_of, found))
     return f'{HEAD}pub(crate) const DAYS: &str = "\\\n    {text}";\n'
 

@@ -146,7 +146,6 @@ def places_of(block):
 
 
 def write_file(block, shell):
-    """Writes the lines of a block to the file that it names, by the shell."""
     name = shlex.quote(block.mark.removeprefix("file "))
     shell.run("\n".join([f"cat >{name} <<'END-OF-FILE'", *block.lines, "END-OF-FILE"]))
 

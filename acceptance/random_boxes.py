@@ -3,8 +3,7 @@
 A session begins with twenty to sixty units that share a few boxes: side by side, in turns or anyhow, below one fonds, in
 series or in a deep tree. In one of forty sessions there are thousands of units without a box between them. Then boxes are
 ordered, fetched and issued, while units in and above them are closed, withdrawn, moved, removed, imported again and opened to
-readers. As many sessions again have more boxes, most of which go out at once: neighbours lie in different units, and readers
-have permits that are valid, that are for other units or that are no longer valid."""
+readers."""
 
 import functools
 import json
@@ -26,7 +25,6 @@ ORDERS = ["side by side", "in turns", "anyhow"]
 TICKETS = range(1, 4)
 WIDE, BETWEEN = 40, 2100
 FAR = ["2024-03-04", "2030-01-01", "2030-01-01", "2030-01-01"]
-ENDED = ["2024-02-29", "2030-01-01"]
 
 
 def walk(office):
@@ -72,7 +70,6 @@ class BoxSession(Session):
         return reference_model.text(["legacyId,parentId,publicationStatus,physicalObjectName", *rows])
 
     def parent(self, shape, unit):
-        """The parent of the unit in this place of a file."""
         if shape == "flat" or unit <= 4:
             return 1
         if shape == "series":
@@ -156,45 +153,3 @@ class BoxSession(Session):
         Session.cancel: 1, Session.run: 4, Session.reshelve: 1, Session.issue: 14, Session.give_back: 3, Session.next_day: 2,
         Session.status: 9, closure: 14, move: 12, remove: 2, permit: 12, revoke: 6,
     }
-
-
-class CrowdSession(BoxSession):
-    """The requests of a session in which many boxes are out at once."""
-
-    def some_settings(self):
-        """Settings with which ten boxes may be out with each reader."""
-        return super().some_settings() | {"hands": "10"}
-
-    def beginning(self):
-        """A catalogue, readers with permits, and boxes that go out, most to the reader of the one before."""
-        boxes = self.random.randint(6, 16)
-        yield "/desk/import/a", self.boxes_in_turns(boxes)
-        for ticket in TICKETS:
-            yield "/desk/register", json.dumps({"name": f"Reader {ticket}", "until": "2030-01-01"})
-            yield "/desk/seat", json.dumps({"ticket": ticket})
-            for unit in self.random.sample(range(1, 13), self.random.choice([0, 1, 2, 4])):
-                yield "/desk/permit", json.dumps({"ticket": ticket, "unit": unit, "until": self.random.choice(ENDED)})
-        for unit in self.random.sample(range(1, 13), self.random.choice([0, 0, 1, 2])):
-            yield "/desk/closure", json.dumps({"unit": unit, "until": "2030-01-01"})
-        loans = [json.dumps({"ticket": self.random.choice(TICKETS), "container": box + 1}) for box in range(boxes)]
-        yield from (("/public/orders", loan) for loan in loans)
-        yield from [("/desk/run", "")] * self.random.choice([2, 6, boxes])
-        yield from (("/desk/issue", loan) for loan in loans)
-
-    def boxes_in_turns(self, boxes):
-        """A file of units that name some of the boxes in turns, at the same depth or below one another."""
-        rows = ["1,,Published,"]
-        for unit in range(2, self.random.randint(2 * boxes, 3 * boxes)):
-            parent = self.random.choice([1, 1, max(1, unit - boxes), self.random.randint(1, min(unit - 1, 12))])
-            named = {unit % boxes + 1, self.random.choice([unit % boxes, (unit + boxes // 2) % boxes]) + 1}
-            named = [] if self.happens(0.3) else [f"Box {box}" for box in sorted(named)]
-            rows.append(f"{unit},{parent},Published,{'|'.join(named)}")
-        return reference_model.text(["legacyId,parentId,publicationStatus,physicalObjectName", *rows])
-
-    def permit(self):
-        """A permit as in the other sessions; one of two ended before the day."""
-        path, body = super().permit()
-        return path, body | {"until": self.random.choice(ENDED)}
-
-    OFTEN = BoxSession.OFTEN | {permit: 12}
-    del OFTEN[BoxSession.permit]

@@ -4,7 +4,6 @@ A seed chooses the settings, what rows may say, and how often each command comes
 that many are accepted and most refusals come, and three questions after each. Some sessions begin with a chain of units, with
 a ticket that has all its permits, or with a file that is not text."""
 
-import collections
 import json
 import random
 from collections.abc import Callable
@@ -44,14 +43,6 @@ FEW = {"seats": [1, 1, 2, 3], "daily": [1, 2, 3, 3], "hands": [1, 1, 2, 3], "run
 SEATS, DAILY, HANDS, RUN = ([*few, HIGHEST[name]] for name, few in FEW.items())
 # The seeds that once found what few seeds find.
 KEPT = [int(it.split()[0]) for it in Path(__file__).with_name("seeds.txt").read_text().splitlines() if it[0] != "#"]
-# What must come in a hundred sessions: refusals, causes and remarks by number, places of a container, kinds of permits.
-MUST_COME = {
-    "refusal": range(1, 29),
-    "cause": [1, 2, 3, 4, 5, 6, 7, 8, 11, 12],
-    "remark": [1, 2],
-    "container": ["shelf", "desk", "out"],
-    "permit": ["new", "longer", "as it was", "expired", "revoked", "gone with its unit", "opens a closure", "below a closure"],
-}
 Asked = tuple[str, bytes | None]  # a path, and the body of a command
 
 
@@ -76,7 +67,7 @@ class Session:
     def __init__(self, seed):
         self.seed, self.random = seed, random.Random(seed)
         self.settings = self.some_settings()
-        self.office, self.seen = reference_model.Office(**self.settings), collections.Counter()
+        self.office = reference_model.Office(**self.settings)
         self.numbers = self.random.choice([8, 25, 25, 60])
         self.pools = {name: pool and self.part_of(pool) for name, pool in COLUMNS.items()}
         self.weights = [often * self.random.choice([0.5, 1, 1, 2]) for often in self.OFTEN.values()]
@@ -94,7 +85,6 @@ class Session:
         return client.SETTINGS | {name: str(self.random.choice(pool)) for name, pool in chosen.items()}
 
     def part_of(self, pool):
-        """A part of a pool, or all of it."""
         return self.random.sample(pool, self.random.randint((len(pool) + 1) // 2, len(pool)))
 
     # ---- how a session may begin
@@ -140,18 +130,13 @@ class Session:
     def exchange(self):
         """Adds a command and three questions."""
         path, body = self.first.pop(0) if self.first else self.command()
-        body, permits = body if isinstance(body, bytes) else body.encode(), dict(self.office.permits)
-        told = self.ask(path, body)
-        self.seen_command(path, body, told, permits)
+        self.ask(path, body if isinstance(body, bytes) else body.encode())
         for path in self.random.sample(self.questions(), 3):
-            self.seen_question(path, self.ask(path, None))
+            self.ask(path, None)
 
     def ask(self, path, body):
-        """Adds a request with its answer; returns what is told, if that is JSON."""
         self.asked.append((path, body))
         self.pairs.append(answer_of(self.office, self.asked[-1]))
-        [told] = client.replies(self.pairs[-1][1])
-        return told.json() if b"application/json" in self.pairs[-1][1] else {}
 
     # ---- files
 
@@ -351,33 +336,6 @@ class Session:
             paths.append(self.random.choice([f"/desk/readers/{ticket}", f"/desk/permits/{ticket}"]))
         paths.append(f"/desk/queue/{self.random.randint(1, len(office.containers) + 1)}")
         return [*paths, f"/desk/runs/{self.random.randint(1, len(office.runs) + 1)}"]
-
-    # ---- what came
-
-    def seen_command(self, path, body, told, permits):
-        """Counts a command's refusal, its cause or its remarks, and what it did to permits, which were these before."""
-        office = self.office
-        self.seen.update((kind, told[name]) for kind, name in (("refusal", "code"), ("cause", "cause")) if name in told)
-        self.seen.update(("remark", it["kind"]) for it in told.get("remarks", []))
-        if path == "/public/orders" and "order" in told and not office.is_open(json.loads(body)["container"], 0):
-            self.seen["permit", "opens a closure"] += 1
-        if permits.keys() - office.permits.keys():
-            self.seen["permit", "revoked" if path == "/desk/revoke" else "gone with its unit"] += 1
-        if path == "/desk/permit" and "until" in told:
-            it, asked = (told["ticket"], told["unit"]), json.loads(body)["until"]
-            kind = "new" if it not in permits else "longer" if asked > permits[it] else "as it was"
-            self.seen["permit", kind] += 1
-            self.seen["permit", "below a closure"] += any(map(office.is_closed, office.path(told["unit"])[:-1]))
-
-    def seen_question(self, path, told):
-        """Counts a refused question, the place of a container, and expired permits."""
-        word = "/".join(path.split("/")[1:3])
-        if "error" in told:
-            self.seen["refusal", {"desk/runs": 26, "desk/queue": 3}.get(word, 1)] += 1
-        elif word == "desk/queue":
-            self.seen["container", told["place"]] += 1
-        elif word == "desk/permits":
-            self.seen["permit", "expired"] += sum(it["until"] < self.office.day for it in told)
 
     # ---- with the program
 

@@ -3,8 +3,13 @@ its units lies in five containers of its own, 100,000 in all. The finding aid of
 
 No contract names a cause of `Memory` or 503, so a program that gives up at some size would keep them all."""
 
+import contextlib
+import shutil
+import sqlite3
 from functools import cache
 from pathlib import Path
+
+import pytest
 
 from acceptance import client
 from acceptance.client import Ended, Office, Program, expect_end
@@ -12,6 +17,7 @@ from acceptance.reference_model.limits import LAST_ROW, LONGEST_BODY, MOST_CONTA
 
 SECONDS = 1200  # that a program without proof may take
 UNITS, IN_EACH = LAST_ROW - 1, 5
+VERSION_1 = Path(__file__).with_name("version1.db")
 PREVIEW = ["preview", "--country", client.SETTINGS["country"], "--repo", client.SETTINGS["repo"]]
 
 
@@ -72,11 +78,34 @@ def test_import_of_the_largest_body(program: Program, room: Path) -> None:
     expect_end(office.talk(client.post("/desk/import/a", file()), timeout=SECONDS), Ended(0, imported(), b""), "the import")
 
 
-def test_aid_and_page(program: Program, room: Path) -> None:
-    (room / "units.csv").write_bytes(file())
-    office = Office.create(program, room / "aid.db")
-    office.import_file("a", room / "units.csv", timeout=SECONDS).expect_success()
-    expect_end(office.talk(*QUESTIONS, timeout=SECONDS), Ended(0, answers(), b""), "the aid and a page")
+@pytest.fixture(scope="module")
+def filled(program: Program, module_room: Path) -> Office:
+    """An office with all units of the file."""
+    (module_room / "units.csv").write_bytes(file())
+    office = Office.create(program, module_room / "filled.db")
+    office.import_file("a", module_room / "units.csv", timeout=SECONDS).expect_success()
+    return office
+
+
+def test_aid_and_page(filled: Office) -> None:
+    expect_end(filled.talk(*QUESTIONS, timeout=SECONDS), Ended(0, answers(), b""), "the aid and a page")
+
+
+def test_migrate(filled: Office, room: Path) -> None:
+    """An office of version 1, which has links where the filled one has nested sets."""
+    office = Office(filled.program, room / "old.db")
+    shutil.copyfile(filled.store, office.store)
+    with contextlib.closing(sqlite3.connect(office.store)) as store, contextlib.closing(sqlite3.connect(VERSION_1)) as old:
+        store.execute("DROP TABLE span")
+        for (text,) in old.execute("SELECT sql FROM sqlite_schema WHERE tbl_name = 'link' ORDER BY rowid"):
+            store.execute(text)
+        store.execute("INSERT INTO link SELECT id, iif(id > 1, 1, NULL), max(id - 1, 1) FROM unit")
+        store.execute("UPDATE office SET version = 1")
+        store.commit()
+    assert office.check(timeout=SECONDS) == Ended(1, b"old version\n", b"")
+    assert office.perform("migrate", timeout=SECONDS) == Ended(0, b"migrated\n", b"")
+    assert office.check(timeout=SECONDS) == client.SOUND
+    expect_end(office.talk(*QUESTIONS, timeout=SECONDS), Ended(0, answers(), b""), "the aid and a page once it is migrated")
 
 
 def test_all_of_it_in_memory(program: Program) -> None:

@@ -105,7 +105,6 @@ def office(program: Program, room: Path) -> Office:
 
 @pytest.fixture
 def filled(office: Office, fonds: Path) -> Office:
-    """An office with a fonds and a unit below it."""
     assert office.import_file("a", fonds) == printed(f"{TAKEN}\n")
     return office
 
@@ -275,15 +274,6 @@ def test_a_log_with_changes_stays_if_the_store_beside_it_was_cut(office: Office)
         log.write_bytes(changes)
         assert office.check() == STORE_FAULT, size
         assert sizes_left(office.store) == (size, len(changes))
-
-
-def test_no_office_is_made_with_settings_beyond_their_limits(program: Program, room: Path) -> None:
-    office = Office(program, room / "no.db")
-    for name, values in BEYOND.items():
-        for value in values:
-            assert office.init(client.SETTINGS | {name: value}) == BAD_SETTINGS, (name, value)
-    assert office.init(client.SETTINGS | {"day": "2024-02-30"}) == BAD_DATE
-    assert office.check() == FILE_FAULT
 
 
 # ---- servers

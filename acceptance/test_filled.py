@@ -12,9 +12,7 @@ from pathlib import Path
 import pytest
 
 from acceptance import client
-from acceptance.reference_model.limits import (
-    LAST_UNIT, MOST_CONTAINERS, MOST_ORDERS, MOST_RUNS, MOST_TICKETS, MOST_UNITS,
-)
+from acceptance.reference_model.limits import (LAST_UNIT, MOST_CONTAINERS, MOST_ORDERS, MOST_RUNS, MOST_TICKETS, MOST_UNITS)
 from acceptance.scenarios import FOLDER, LONGEST, Scenario
 
 

@@ -40,7 +40,6 @@ QUESTION = head_lines(ASKED, HOST)
 
 
 def with_question(head, answered):
-    """A head with its answer, and a question after it."""
     is_closed = " close " in answered[0] or "< Connection: close" in answered
     return [*head, *answered, *QUESTION, *([] if is_closed else NOTHING)]
 

@@ -1,18 +1,19 @@
 """Random sessions are answered to the byte as by the reference model. One that is not is told by its few requests."""
 
 import collections
+import re
 
 import pytest
 
-from acceptance import client, random_boxes, reference_model
-from acceptance.random_boxes import BoxSession, CrowdSession
-from acceptance.random_sessions import KEPT, MUST_COME, Session, answer_of, fewest
+from acceptance import client, random_boxes
+from acceptance.random_boxes import BoxSession
+from acceptance.random_sessions import KEPT, Session
 
-SEEDS = {
-    Session: sorted({*range(100), *KEPT}),
-    BoxSession: sorted({*range(40), *random_boxes.KEPT}),
-    CrowdSession: range(40),
-}
+SEEDS = {Session: sorted({*range(100), *KEPT}), BoxSession: sorted({*range(40), *random_boxes.KEPT})}
+# What must come in answers: refusals, but the one of a run that there is not; causes, remarks, places of a container.
+MUST_COME = [*(f'"code":{number}' for number in range(1, 29) if number != 26), '"kind":1', '"kind":2',
+             *(f'"cause":{number}' for number in (1, 2, 3, 4, 5, 6, 7, 8, 11, 12)),
+             *(f'"place":"{place}"' for place in ("shelf", "desk", "out"))]
 LEAST = 5
 
 
@@ -23,27 +24,6 @@ def test_session(kind: type[Session], seed: int, program: client.Program) -> Non
 
 
 def test_a_hundred_sessions_meet_each_refusal() -> None:
-    came: collections.Counter[tuple[str, object]] = collections.Counter()
-    for seed in SEEDS[Session]:
-        came.update(Session(seed).seen)
-    seldom = {(kind, it): came[kind, it] for kind, which in MUST_COME.items() for it in which if came[kind, it] < LEAST}
-    assert not seldom
-
-
-class NoSeats(reference_model.Office):
-    """A model with a fault: no reader has a seat."""
-
-    def seat_of(self, ticket: int) -> None:
-        """No seat."""
-
-
-def test_a_session_that_differs_is_told_by_its_few_requests() -> None:
-    session = Session(0)
-
-    def differs(asked: list) -> bool:
-        right, wrong = reference_model.Office(**session.settings), NoSeats(**session.settings)
-        return [answer_of(right, it) for it in asked] != [answer_of(wrong, it) for it in asked]
-
-    few = [path for path, _ in fewest(session.asked, differs)]
-    assert len(session.asked) == 280 and few == [
-        "/desk/import/a", "/desk/register", "/public/orders", "/desk/run", "/desk/seat", "/desk/issue"]
+    answers = b"".join(answer for seed in SEEDS[Session] for _, answer in Session(seed).pairs)
+    came = collections.Counter(re.findall(r'"(?:code|cause|kind|place)":(?:\d+|"\w+")', answers.decode()))
+    assert {it: came[it] for it in MUST_COME if came[it] < LEAST} == {}

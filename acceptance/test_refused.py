@@ -177,7 +177,6 @@ class Kinds:
         return made
 
     def make_command(self, name):
-        """The command of that name, on the files that it needs."""
         preview, program = ["preview", "--country", "GB", "--repo", "0999"], self.program
         commands = {
             "preview": (self.none, lambda _, **memory: program.run(*preview, said=FONDS.encode(), **memory)),
@@ -218,32 +217,3 @@ def test_refused(name: str, each: int, kinds: Kinds, shim: str) -> None:
     ends = refuse(kinds.make(name), shim, each, random.randrange(each))
     assert not [it for it in ends if it.startswith("WRONG")]
     assert set(ends) - {UNTOLD}, "no run was told of a refusal"
-
-
-def changed(ended: Ended, office: Office, statement: str) -> Ended:
-    """The same end, over tables that a statement has changed."""
-    with contextlib.closing(sqlite3.connect(office.store)) as tables:
-        tables.execute(statement)
-        tables.commit()
-    return ended
-
-
-# What an import without memory must not do.
-WRONG = {
-    "another status": lambda ended, _: ended._replace(status=0 if ended.status else 3),
-    "another message": lambda ended, _: ended._replace(message=b"" if ended.message else b"no memory\n"),
-    "more is printed": lambda ended, _: ended._replace(output=ended.output + b"\n"),
-    "it is killed": lambda ended, _: ended._replace(status=-11),
-    "a reader more": lambda ended, office: changed(ended, office, "INSERT INTO reader VALUES (1, 'Eve', 20000)"),
-    "not sound": lambda ended, office: changed(ended, office, "UPDATE office SET seats = 0"),
-    "a file left": lambda ended, office: (office.store.with_name("left").touch(), ended)[1],
-}
-
-
-@pytest.mark.parametrize("wrong", WRONG)
-def test_a_wrong_end_without_memory_is_noticed(wrong: str, kinds: Kinds, shim: str) -> None:
-    it = kinds.make("import")
-    perform, half = it.perform, it.requests(shim) // 2
-    assert not it.ending(shim, half, ALONE).startswith("WRONG")
-    it.perform = lambda office, **memory: WRONG[wrong](perform(office, **memory), office)
-    assert it.ending(shim, half, ALONE).startswith("WRONG")

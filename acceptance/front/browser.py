@@ -136,12 +136,10 @@ class Page:
         return said
 
     def call(self, method: str, **params: Any) -> Any:
-        """Calls a method of the protocol for this tab."""
         return self.browser.call(method, self.session, **params)
 
     def size(self, width: int, height: int, scale: float = 1, mobile: bool = False) -> None:
-        self.call("Emulation.setDeviceMetricsOverride", width=width, height=height, deviceScaleFactor=scale,
-                  mobile=mobile)
+        self.call("Emulation.setDeviceMetricsOverride", width=width, height=height, deviceScaleFactor=scale, mobile=mobile)
 
     def js(self, code: str) -> Any:
         """Runs a script; returns its value, awaited. Raises RuntimeError if it throws."""
@@ -215,7 +213,6 @@ class Page:
                 f"{{ input.focus(); input.value = {json.dumps(value)}; }})")
 
     def choose(self, label: str, card: str | None = None) -> None:
-        """Clicks the field with this label."""
         self.js(f"({FIND})({json.dumps(label)}, {json.dumps(card)}, (input) => input.click())")
 
     def press(self, button: str, card: str | None = None) -> None:
@@ -251,7 +248,6 @@ class Page:
         until(clicked, f"{button} can be clicked")
 
     def key_in(self, label: str, key: str, card: str | None = None) -> None:
-        """Presses a key in the field with this label."""
         self.js(f"({FIND})({json.dumps(label)}, {json.dumps(card)}, (input) => input.focus())")
         self.key(key)
 
@@ -298,8 +294,7 @@ class Page:
 
     def focus_name(self) -> str:
         """What has the focus: its text, its name or its tag."""
-        return self.js(
-            "document.activeElement.innerText || document.activeElement.name || document.activeElement.tagName")
+        return self.js("document.activeElement.innerText || document.activeElement.name || document.activeElement.tagName")
 
     def file(self, path: str | pathlib.Path) -> None:
         """Chooses a file in the page's field for files."""

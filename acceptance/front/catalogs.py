@@ -122,12 +122,10 @@ def catalogs(folder):
 
 
 def forms(text):
-    """A text, or its forms, as a list."""
     return list(text) if isinstance(text, (tuple, list)) else [text]
 
 
 def faults(code, catalog, wanted):
-    """What is wrong with a catalog, in words."""
     key = lambda one: (one.id if isinstance(one.id, str) else one.id[0], one.context)  # noqa: E731
     has, wants = ({key(one): one for one in some if one.id} for some in (catalog, wanted))
     told = [f"{code}: lacks {text}" for text, _ in wants if (text, _) not in has]

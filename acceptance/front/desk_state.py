@@ -59,7 +59,6 @@ class DeskState:
         return self.asks.command("/desk/register", name=name, until=FAR)["ticket"]
 
     def order(self, ticket, container):
-        """Orders a container with a ticket; returns the number of the order."""
         return self.asks.command("/public/orders", ticket=ticket, container=container)["order"]
 
     def fetch(self, *pairs):

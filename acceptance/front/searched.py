@@ -10,6 +10,7 @@ from asking import Asking
 from folding import read_typed
 from rounds import Round
 
+from acceptance.front.asks import Asks
 from acceptance.front.office import Office
 
 FOREVER = 10**6  # a round with this sweep looks at all pages
@@ -63,14 +64,9 @@ class Searched(Office):
             db.close()
 
     def ask_service(self, args):
-        """The service's answer by nginx: status and bytes."""
-        front = http.client.HTTPConnection("127.0.0.1", self.ports["8080"], timeout=60)
-        front.request("GET", f"/public/search?{args}")
-        answer = front.getresponse()
-        return answer.status, answer.read()
+        """The service's answer by nginx: status and text."""
+        return Asks(self).question(f"/public/search?{args}")
 
     def ask_page(self, path):
         """The text of a readers' page by nginx, in English."""
-        front = http.client.HTTPConnection("127.0.0.1", self.ports["8080"], timeout=60)
-        front.request("GET", path, headers={"Accept-Language": "en"})
-        return front.getresponse().read().decode()
+        return Asks(self).send("GET", path, fields={"Accept-Language": "en"})[1]

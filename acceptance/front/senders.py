@@ -1,10 +1,8 @@
-"""Who sends requests one after the other over a connection that it keeps, or at the queue's socket; and what a port has not
-read yet."""
+"""Who sends requests one after the other over a connection that it keeps; and what a port has not read yet."""
 
 import http.client
 import json
 import pathlib
-import socket
 import threading
 
 from acceptance.front.office import SIGNED_IN
@@ -57,16 +55,3 @@ def count_unread(port):
         if local.endswith(end) and state == "01":
             found += int(queues.split(":")[1], 16)
     return found
-
-
-class Socket(http.client.HTTPConnection):
-    """The queue's socket for the readers' service."""
-
-    def __init__(self, path):
-        super().__init__("office", timeout=200)
-        self.path = str(path)
-
-    def connect(self):
-        self.sock = socket.socket(socket.AF_UNIX)
-        self.sock.settimeout(self.timeout)
-        self.sock.connect(self.path)

@@ -65,7 +65,6 @@ class Tree(html.parser.HTMLParser):
         return [(one[1]["href"], one[2]) for one in self.found if one[0] == "a" and re.fullmatch(pattern, one[1]["href"])]
 
     def text(self, tag):
-        """The text of the first element with this tag."""
         return next(one[2] for one in self.found if one[0] == tag)
 
 

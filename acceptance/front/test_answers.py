@@ -166,7 +166,6 @@ class Table:
         self.keep(f"readers {asked[0]} {asked[1]} from {source}", answer[answer.rindex(b"HTTP/1.1 "):])
 
     def ask(self, site, method, path, fields=(), body=None, host=None, by=None):
-        """Asks a site, and keeps what came of it."""
         names = {"readers by TLS": READERS, "desk by TLS": DESK}
         own = host or names.get(site) or f"{client.HOST}:{self.office.ports['8081' if site == 'desk' else '8080']}"
         given = {**(SIGNED_IN if site.startswith("desk") else {}), **dict(fields), "Connection": "close"}
@@ -192,11 +191,9 @@ class Table:
         self.answers.append(self.line(head, answer))
 
     def line(self, head, answer):
-        """What was asked, and what came of it."""
         return f"{short(self.masked(head), 70)} | {' | '.join(self.parts(head, answer))}"
 
     def parts(self, head, answer):
-        """The status with the fields, and the body."""
         first, _, body = answer.removeprefix(b"HTTP/1.1 100 Continue\r\n\r\n").partition(b"\r\n\r\n")
         status, *lines = re.sub(r"^(HTTP/1.1 \d+) [^\r\n]*", r"\1", first.decode("latin-1")).split("\r\n")
         fields = [line.partition(": ")[::2] for line in lines if ": " in line]
@@ -314,7 +311,6 @@ COMMANDS = {"readers": ("/public/orders", "/unit/1/order", "/ordered/order"),
 
 
 def test_each_path_with_each_method(table, approved):
-    """Each path with each method, at both sites."""
     for site, paths in (("readers", READERS_PATHS), ("desk", DESK_PATHS)):
         for path in paths:
             for method in METHODS if path in EVERY_METHOD else METHODS[:1]:
@@ -323,7 +319,6 @@ def test_each_path_with_each_method(table, approved):
 
 
 def test_what_somebody_may_write_into_a_head(table, approved):
-    """What a browser or somebody else may write into the head."""
     odd = {"Cookie": "a=b", "X-Forwarded-For": "192.0.2.1", "X-Forwarded-Proto": "https", "Record-Office-For": "round",
            "Record-Office-Room": "1", "Record-Office-Crawler": "yes", "Expect": "100-continue", "X": "y", "Range": "bytes=0-1",
            "Accept-Encoding": "gzip", "Transfer-Encoding": None, "Upgrade": "h2c", "Referer": "http://a.example/?b"}
@@ -335,6 +330,8 @@ def test_what_somebody_may_write_into_a_head(table, approved):
         table.ask(site, method, path, odd, b"{}" if method == "POST" else None)
     for agent in ("Mozilla/5.0", "Examplebot/1.0", "a CRAWLER", "spider", "Slurp", "archiver", ""):
         table.ask("readers", "GET", "/unit/1", {"User-Agent": agent})
+    for path in ("/aid/1", "/search?q=x", "/public/aid/1"):
+        table.ask("readers", "GET", path, {"User-Agent": "Examplebot/1.0"})
     for cookie, accepts in (("lang=fr", "de"), ("lang=FR", "de"), ("lang=fran", "de"), ("lang=f", "de"), ("lang=fra", ""),
                             ("x=y; lang=de", "fr"), ("lang=", "fr"), ("language=de", "fr")):
         table.ask("readers", "GET", "/help", {"Cookie": cookie, "Accept-Language": accepts})
@@ -365,7 +362,6 @@ def test_what_another_sites_page_sends_is_turned_away(table, approved):
 
 
 def test_other_names_no_password_and_lines_that_are_no_request(table, approved):
-    """Who asks for another name, gives no password or a wrong one, or comes by IPv6; and lines that are no request."""
     for host in ("evil.example", "127.0.0.1", "localhost", "[::1]", "office", "127.0.0.2"):
         for site, path in (("readers", "/unit/1"), ("desk", "/desk/issued"), ("desk", "/")):
             table.ask(site, "GET", path, host=host)
@@ -447,7 +443,6 @@ def test_sites_with_tls_and_where_readers_without_it_are_sent(table, approved):
 
 
 def test_who_asks_too_often_or_may_not_order_from_elsewhere(table, approved):
-    """What is told to whom asks too often, and to whom may not order from elsewhere."""
     for number, path in enumerate(("/public/orders", "/unit/1/order", "/aid/1", "/public/aid/1", "/search?q=x",
                                    "/public/search?q=x"), 1):
         method = "POST" if "order" in path else "GET"

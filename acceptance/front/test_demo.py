@@ -17,7 +17,6 @@ pytestmark = pytest.mark.needs("nginx", "haproxy", "readers")
 
 
 def page(address: str, name: str = "", password: str = "") -> str:
-    """The page at an address, for whom has this password."""
     asked = urllib.request.Request(address)
     if name:
         asked.add_header("Authorization", "Basic " + base64.b64encode(f"{name}:{password}".encode()).decode())

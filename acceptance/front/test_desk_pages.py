@@ -42,7 +42,6 @@ def empty(new_office):
 
 @pytest.fixture
 def desk(desk):
-    """A tab that counts what it asks for."""
     desk.call("Page.addScriptToEvaluateOnNewDocument", source=COUNT_ASKING)
     return desk
 

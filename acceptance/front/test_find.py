@@ -45,7 +45,6 @@ def shelved(names, locations):
 def find(asks):
     """A function that gives what the service finds: the codes of units, and the names of boxes and readers."""
     def found(typed):
-        """Posts it at the desk."""
         status, told = asks.send("POST", "/try/find", typed, True)
         assert status == 200, told
         told = json.loads(told)

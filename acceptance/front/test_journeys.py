@@ -67,7 +67,6 @@ def top(asks):
 
 @pytest.fixture(scope="module")
 def logbook(asks, top):
-    """The number of the file that is searched for."""
     lines = asks.text(f"/public/units/{top + 1}").splitlines()
     return int(next(line for line in lines if "Logbook" in line).split()[1].rstrip(":"))
 

@@ -30,7 +30,6 @@ def office(new_office):
 
 @pytest.fixture
 def many_aids(new_office):
-    """An office that takes many finding aids in a row."""
     office = new_office(files=[("archives", ARCHIVES)], changes=[("aids_in_a_row burst=9", "aids_in_a_row burst=99")])
     yield office
     office.end()
@@ -93,7 +92,6 @@ def test_orders_in_a_row(office):
 
 
 def test_of_however_many_forms_a_dozen_orders_are_passed_on(office):
-    """A form may have many orders: from one address a dozen are passed on, of however many forms."""
     office.serve_readers("--every", "100", "--rest", "0")
     Asks(office).command("/desk/register", name="Ann", until="2030-01-01")
     for place, wanted in ((0, 12), (1, 0)):
@@ -218,7 +216,6 @@ SLOW = {"head": (client.get("/")[:20], 10), "body": (client.post("/public/orders
 
 
 def test_who_sends_or_takes_no_more_is_left_after_a_time(office):
-    """Who sends no more, or takes no more, is left after a time, and nothing of it stays."""
     with in_place_of_program(office, body=b"x" * LARGE):
         clients = {what: Slow(office.ports["8080"], sent) for what, (sent, _) in SLOW.items()}
         for one in clients.values():

@@ -72,7 +72,6 @@ def imported(office, data):
 @pytest.mark.parametrize("name", [name for name, data in odd_files.ways() if convert(data, RULES) and not
                                   re.search("colons|Mac", name)])  # which are converted to something else
 def test_a_converted_file_is_read_as_if_it_had_been_saved_rightly(program, name):
-    """And is not converted again."""
     ways = dict(odd_files.ways())
     found = convert(ways[name], RULES).data
     assert convert(found, RULES) is None
@@ -98,7 +97,6 @@ def test_each_advice_says_in_words_what_to_do(approved):
 
 
 def test_elements_are_named_as_in_the_rules():
-    """The names are those of the table in docs/RULES.md."""
     rows = [line.strip("| ").split(" | ") for line in (TOP / "docs/RULES.md").read_text().splitlines()
             if line.startswith("| 3.")]
     wanted = {row[2]: row[1] for row in rows if "," not in row[2]}

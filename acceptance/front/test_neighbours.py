@@ -41,7 +41,6 @@ class Numbered(Office):
 
 @pytest.fixture(scope="module")
 def office(new_office, module_room):
-    """That office, with its service."""
     (module_room / "units.csv").write_text(UNITS, "utf-8")
     return new_office(kind=Numbered, readers=True, tries=True, files=[("catalogue", module_room / "units.csv")])
 

@@ -4,23 +4,22 @@ Where the order of requests or their bytes matter, a stand-in has the program's 
 import contextlib
 import http.client
 import os
-import re
 import signal
 import socket
 import stat
 import time
 
 import pytest
+from asking import Connection
 
 from acceptance import client
 from acceptance.front.asks import Asks, ask_once, assert_policy, body_of, status
 from acceptance.front.office import ARCHIVES, FRONT, KINDS, MANY_PAGES, SELDOM, SIGNED_IN
-from acceptance.front.senders import UNANSWERED, Sender, Socket, count_unread, registration
-from acceptance.front.stand_in import StandIn, in_place_of_program, in_place_of_service
+from acceptance.front.senders import UNANSWERED, Sender, count_unread, registration
+from acceptance.front.stand_in import StandIn, in_place_of_program
 from acceptance.front.waits import until
 
-ROUND, AID, CRAWLER, SEARCH, PAGE = ({"Record-Office-For": name} for name in ("round", "aid", "crawler", "search",
-                                                                              "page"))
+ROUND, AID, CRAWLER, SEARCH, PAGE = ({"Record-Office-For": name} for name in ("round", "aid", "crawler", "search", "page"))
 HALF = client.post("/desk/run", b" " * 100)[:-100]  # without its body
 QUESTION = client.request("GET", "/public/fonds", fields={"Connection": "close"})
 SHORT = (("timeout queue 120s", "timeout queue 2s"), ("timeout server 120s", "timeout server 5s"),
@@ -52,7 +51,7 @@ class Way:
 
     def ask_socket(self, office, method, path, heads):
         """Asks at the service's socket, and keeps the status of the answer."""
-        with contextlib.closing(Socket(office.queue)) as connection:
+        with contextlib.closing(Connection(office.queue, 200)) as connection:
             connection.request(method, path, "{}" if method == "POST" else None, heads)
             self.sender.got.append((connection.getresponse().status, b""))
 
@@ -69,8 +68,7 @@ def test_who_waits_longest_does_not_go_first(office):
         for many, way in enumerate(ways):
             way.sender.start()
             # The first is given to the gate, which waits for the program; each other one waits in the queue.
-            until(lambda: office.count_queued() == many and office.queue_state()["scur"] == "1",
-                  f"{many} requests wait")
+            until(lambda: office.count_queued() == many and office.queue_state()["scur"] == "1", f"{many} requests wait")
         with StandIn(office.ports["8090"]) as program:
             for way in ways:
                 way.sender.join(60)
@@ -81,43 +79,7 @@ def test_who_waits_longest_does_not_go_first(office):
     assert [way.sender.got[0][0] for way in ways] == [200] * len(ways), "each is answered"
 
 
-def test_nothing_that_a_client_writes_in_a_head_comes_to_the_program(office):
-    sent = {**SIGNED_IN, **ROUND, "Cookie": "a=b", "X-Forwarded-For": "192.0.2.1", "User-Agent": "x",
-            "Expect": "100-continue"}
-    with in_place_of_program(office) as program:
-        for port, method, path in (("8080", "GET", "/public/units/1"), ("8081", "GET", "/desk/issued"),
-                                   *(("8081", "POST", f"/desk/{name}") for name in ("run", "seat", "import/x")),
-                                   ("8080", "POST", "/public/orders"), ("8080", "HEAD", "/public/fonds")):
-            sender = Sender(office.ports[port], [(method, path, "{}" if method == "POST" else None, sent)])
-            sender.start()
-            sender.join(60)
-            assert sender.got[0][0] == 200, f"{method} {path} is answered"
-        lines = [head.lower().split("\r\n") for head, _ in program.requests]
-    commands = ("/desk/run", "/desk/seat", "/desk/import/x", "/public/orders")
-    assert [sorted(head) for head in lines] == [
-        ["get /public/units/1 http/1.1", "host: office"], ["get /desk/issued http/1.1", "host: office"],
-        *(["content-length: 2", "host: office", f"post {path} http/1.1"] for path in commands),
-        ["get /public/fonds http/1.1", "host: office"]]
-
-
-def test_what_the_readers_service_is_told(office):
-    """Who asks, from where, in which language, and whether it reads all pages."""
-    paths, rounds = ("/unit/1", "/aid/1", "/search?q=x", "/public/aid/1"), office.count_rounds()
-    with office.without_readers(*SELDOM), in_place_of_service(office, at_once=4) as service:
-        for path in paths:
-            for agent in ("Mozilla/5.0", "Examplebot/1.0"):
-                ask(office, path, headers={"User-Agent": agent, "Accept-Language": "de", "Cookie": "lang=fr", "X": "y"}).read()
-        told = [sorted(re.sub("since: [0-9.]{14}\\Z", "since: now", line) for line in head.lower().split("\r\n"))
-                for head, _ in service.requests]
-    until(lambda: office.count_rounds() > rounds, "the round that the service began is over")
-    lines = [f"host: 127.0.0.1:{office.ports['8080']}", "accept-language: fr", "record-office-room: 0",
-             "record-office-since: now", "x-forwarded-for: 127.0.0.1", "x-forwarded-proto: http"]
-    assert told == [sorted([*lines, f"get {path} http/1.1", *crawls])
-                    for path in paths for crawls in ((), ("record-office-crawler: yes",))]
-
-
 def test_for_whom_the_readers_service_asks(office):
-    """What the queue is told by the readers' service: who asks for a page, and who reads all pages."""
     told = []
     with office.without_queue(), StandIn(office.queue, at_once=8) as queue:
         for agent in ("Mozilla/5.0", "Examplebot/1.0"):
@@ -153,19 +115,16 @@ def test_who_has_not_sent_all_of_a_command_keeps_nobody_waiting(office):
 
 
 def test_who_takes_nothing_of_a_large_answer_keeps_nobody_waiting(office):
-    """A reader who takes nothing of a large answer keeps nobody waiting: nginx has taken it from the queue."""
+    """nginx has taken it from the queue."""
     with in_place_of_program(office, body=b"x" * LARGE) as program:
         slow = ask(office, "/public/aid/1")
         until(lambda: program.requests, "the aid is asked for")
-        connection = http.client.HTTPConnection("127.0.0.1", office.ports["8092"], timeout=60)
         program.body = b"[]"
-        connection.request("GET", "/desk/issued")
-        assert connection.getresponse().read() == b"[]", "the desk is answered meanwhile"
+        assert ask(office, "/desk/issued", "8092").read() == b"[]", "the desk is answered meanwhile"
         assert len(slow.read()) == LARGE, "and the slow reader gets all of it"
 
 
 def test_the_program_gets_all_requests_over_one_connection(office):
-    """The program gets all requests over one connection, from whichever client they come."""
     with in_place_of_program(office) as program:
         senders = [Sender(office.ports[port], [("GET", path, None, SIGNED_IN)] * 20) for port, path in
                    [("8080", "/public/units/1"), ("8081", "/desk/issued"), ("8080", "/public/aid/1")] * 4]
@@ -187,7 +146,6 @@ def connections_of_nginx(office):
 
 
 def test_an_idle_connection_is_closed_before_the_program_does(office):
-    """The queue closes a connection that is idle before the program does, and not at once."""
     with in_place_of_program(office) as program:
         ask(office, "/public/fonds").read()
         began = time.monotonic()
@@ -197,9 +155,7 @@ def test_an_idle_connection_is_closed_before_the_program_does(office):
 
 
 def test_nginx_sends_no_command_twice(office):
-    """nginx sends no command twice, even if the queue closes the connection without an answer."""
-    with office.without_queue(), StandIn(office.ports["8092"], at_once=4,
-                                         drops=lambda head: "/desk/run" in head) as queue:
+    with office.without_queue(), StandIn(office.ports["8092"], at_once=4, drops=lambda head: "/desk/run" in head) as queue:
         ask(office, "/desk/issued", "8081", SIGNED_IN).read()  # now there is a connection that is kept
         command = Sender(office.ports["8081"], [("POST", "/desk/run", "{}", SIGNED_IN)])
         command.start()
@@ -213,8 +169,7 @@ def test_nginx_sends_no_command_twice(office):
 
 
 def test_who_leaves_while_the_program_is_away_keeps_nobody_waiting(office):
-    """Who leaves while the program is away keeps nobody waiting: the backup leaves half a request and a question
-    behind, readers others. The next question is answered as soon as the program is there."""
+    """The backup leaves half a request and a question behind, readers others."""
     for leave in range(4):
         senders = [send(office, "8092", HALF), send(office, "8093", QUESTION),
                    *(send(office, "8091", QUESTION) for _ in range(3))]
@@ -226,9 +181,7 @@ def test_who_leaves_while_the_program_is_away_keeps_nobody_waiting(office):
 
 
 def test_what_each_way_into_the_queue_lets_through(office):
-    """What each way into the queue lets through, and who may come to the service's."""
-    for port, path, wanted in (("8091", "/desk/issued", 404), ("8091", "/public/fonds", 200),
-                               ("8092", "/desk/issued", 200)):
+    for port, path, wanted in (("8091", "/desk/issued", 404), ("8091", "/public/fonds", 200), ("8092", "/desk/issued", 200)):
         assert status(ask_once(office.ports[port], "GET", path)) == wanted, f"{path} at {port}"
     for method, path, wanted in (("GET", "/public/fonds", 200), ("GET", "/public/units/1", 200),
                                  ("GET", "/public/aid/1", 200), ("POST", "/public/fonds", 404),
@@ -255,7 +208,6 @@ def test_what_each_way_into_the_queue_lets_through(office):
 
 
 def test_what_readers_look_for_stands_in_no_log(office):
-    """What readers look for stands in no log, and the queue tells only what went wrong."""
     with office.without_readers(*SELDOM):
         statuses = {ask(office, f"{path}?q=nobodyelsesbusiness").status for _ in range(15) for path in SEARCHES}
     for path in SEARCHES:
@@ -263,8 +215,7 @@ def test_what_readers_look_for_stands_in_no_log(office):
                            "the search answers"))
     assert statuses == {503, 429, 200}, "searches without and with their service, and too many"
     ask(office, "/public/units/1?seen").read()
-    until(lambda: "/public/units/1?seen" in (office.folder / "access.log").read_text(),
-          "other questions are logged by nginx")
+    until(lambda: "/public/units/1?seen" in (office.folder / "access.log").read_text(), "other questions are logged by nginx")
     seen = [line for line in (office.folder / "access.log").read_text().splitlines() if "/public/units/1?seen" in line]
     assert {line.split()[0] for line in seen} == {"127.0.0.0"}, "of an address the log has the network"
     for name in ("access.log", "nginx.log", "readers.told", "haproxy.told"):
@@ -280,8 +231,6 @@ def hasty(new_office):
 
 
 def test_a_program_that_is_away_or_does_not_answer(hasty):
-    """The front's own answers where the program is away, or does not answer, for longer than it is waited for (here
-    seconds)."""
     with hasty.without_program():
         sender = registration(hasty, "Nobody")
         sender.start()

@@ -88,8 +88,7 @@ def seat(who: str) -> Command:
 
 RUN: Command = ("/desk/run", {})
 OUT = (order("a", 1), RUN, seat("a"), ("/desk/issue", {"ticket": "a", "container": 1}))  # a has container 1 in hand
-PERMITS = [("/desk/permit", {"ticket": "a", "unit": unit, "until": "2030-01-01"})
-           for unit in range(1, most.MOST_PERMITS + 1)]
+PERMITS = [("/desk/permit", {"ticket": "a", "unit": unit, "until": "2030-01-01"}) for unit in range(1, most.MOST_PERMITS + 1)]
 # Its number, what is done before, and where: page, card, fields and button. {a}, {b} and {c} are new readers' tickets, {old}
 # has expired, and {order} is the number that was given last.
 CASES: list[tuple[int, Iterable[Command], str, str | None, dict[str, Any], str]] = [
@@ -147,7 +146,6 @@ def sees_refusal(desk, code, note=".note.refused"):
 
 @pytest.mark.parametrize("code, given, hash_, card, fields, button", CASES, ids=[NAMES[case[0]] for case in CASES])
 def test_a_refusal_is_told_at_the_desk(desk, asks, names, code, given, hash_, card, fields, button):
-    """In its words."""
     for path, members in given:
         names |= asks.command(path, **{name: names.get(value, value) for name, value in members.items()})
     desk.at(hash_.format(**names))

@@ -59,15 +59,13 @@ def test_commands_that_come_while_the_program_is_away_are_held_and_done_once(ask
         assert [got for client in clients for got in client.got] == [], "nothing is answered while it is away"
     for client in clients:
         client.join(90)
-    tickets = sorted(json.loads(answer)["ticket"]
-                     for client in clients for status, answer in client.got if status == 200)
+    tickets = sorted(json.loads(answer)["ticket"] for client in clients for status, answer in client.got if status == 200)
     assert tickets == list(range(first, first + CLIENTS)), "each was done once"
     assert asks.question(f"/desk/readers/{first + CLIENTS}", True)[0] == 404, "and no other"
 
 
 def test_a_command_that_the_program_has_received_is_never_repeated(asks, office):
-    """A command that the program has received, and not answered, is not answered by the front either, and not sent
-    again: over connections that are kept, over new ones to the program, and over one that is new to the queue too."""
+    """Nor answered by the front: over connections that are kept, and over new ones to the program and to the queue."""
     first = asks.next_ticket()
     for new, port in (("nothing", "8081"), ("the program", "8081"), ("the queue", "8092")):
         if new != "nothing":
@@ -81,7 +79,6 @@ def test_a_command_that_the_program_has_received_is_never_repeated(asks, office)
 
 
 def test_a_question_that_the_program_has_received_is_put_again(asks, office):
-    """A question that the program has received, and not answered, is put again."""
     wanted = asks.question("/public/fonds")
     for kept in (True, False):
         if not kept:

@@ -1,13 +1,16 @@
-"""What rounds and answers ask the office for, and when, so that nobody waits for what nobody wants to know: an index beside an
-office that is a table of head lines."""
+"""What rounds and answers ask the office for, and when, so that nobody waits for what nobody wants to know; and what they do
+beside units that the office cannot answer for, as those whose page takes more memory than there is: an index beside an office
+that is a table of head lines."""
 
 import contextlib
+import io
 import socket
 import time
 
 import index
 import pytest
 from answers import COUNTED, SHOWN, Finder, Query
+from asking import Busy, Unreached
 from folding import read_typed
 from rounds import Keeper, Round
 
@@ -17,17 +20,19 @@ BELOW = {1: (2, 4), 2: (3,), 4: (5,)}
 
 
 class Office:
-    """Called with a path as `Asking` is. gone: paths that show nothing; paths: what was asked for; is_late: it answers when a
-    reader's time is over."""
+    """Called with a path as `Asking` is. gone: paths that show nothing; lost: what is raised for a path; paths: what was asked
+    for; is_late: it answers when a reader's time is over."""
 
     def __init__(self):
         self.heads, self.below, self.tops, self.gone = dict(HEADS), dict(BELOW), (6, 1), set()
-        self.paths, self.until, self.is_late = [], 0.0, False
+        self.lost, self.paths, self.until, self.is_late = {}, [], 0.0, False
 
     def __call__(self, path):
         self.paths.append(path)
         time.sleep(max(0, self.until - time.monotonic()) * self.is_late)
         kind, _, number = path.removeprefix("/public/").partition("/")
+        if path in self.lost:
+            raise self.lost[path](path)
         if path in self.gone:
             return None
         lines = {"fonds": lambda _: [f"{top} {self.heads[top]}" for top in self.tops], "aid": self.aid, "units": self.page}
@@ -52,8 +57,8 @@ def known(db):
     return [number for number, in db.execute("SELECT n FROM unit ORDER BY n")]
 
 
-def find(db, office, seconds=100, **how):
-    return Finder(db, office, Query(read_typed("dock"), **how)).find(seconds)
+def find(db, office, seconds=100, typed="dock", **how):
+    return Finder(db, office, Query(read_typed(typed), **how)).find(seconds)
 
 
 def find_words(db, word):
@@ -112,11 +117,11 @@ def test_a_unit_that_was_written_anew_is_found_by_what_it_says_now(db):
 
 def test_a_file_is_not_found_by_the_name_that_its_archive_had(db):
     """Though the archive has the other word now: a reader would look for the first in vain."""
-    office, typed = Office(), Query(read_typed("docks buoys"))
+    office = Office()
     read(db, office)
-    assert [unit["unit"] for unit in Finder(db, office, typed).find(100).units] == [3]
+    assert [unit["unit"] for unit in find(db, office, typed="docks buoys").units] == [3]
     office.heads[1] = "GB 0999 A [Fonds] Buoys and beacons"
-    assert Finder(db, office, typed).find(100).units == []
+    assert find(db, office, typed="docks buoys").units == []
 
 
 def test_of_an_archive_only_the_pages_of_what_changed_are_asked_for(db):
@@ -171,3 +176,63 @@ def test_a_reader_who_goes_on_to_more_units_makes_the_office_print_no_more_than_
     fill(db, 1000)
     more = find(db, Office(), after=(0, index.row_of(1, 20)))
     assert (len(more.units), more.count, more.looked) == (SHOWN, COUNTED, COUNTED + 1)
+
+
+# Beside what the office cannot answer for
+
+TOLD = "round: the office cannot answer for these units, and will be asked again: 4\n"
+
+
+@pytest.fixture
+def keeper(room):
+    return Keeper(str(room / "index.db"), Office(), None, 1)
+
+
+def round_beside(keeper, *busy):
+    """One round while the office is busy for these paths: what is said, which units are known then, and which finding aids
+    were asked for."""
+    keeper.ask.lost, keeper.ask.paths, said = dict.fromkeys(busy, Busy), [], io.StringIO()
+    with contextlib.redirect_stdout(said):
+        keeper.round()
+    aids = [int(path.rpartition("/")[2]) for path in keeper.ask.paths if "/aid/" in path]
+    with contextlib.closing(index.open_index(keeper.path)) as db:
+        return said.getvalue(), known(db), aids
+
+
+def test_a_round_goes_on_past_what_the_office_cannot_answer_for(keeper):
+    fourth, all_units = ("/public/units/4", "/public/aid/4"), [1, 2, 3, 4, 5, 6]
+    assert round_beside(keeper, *fourth) == (TOLD, [1, 2, 3, 6], [2, 4]), "all is read but that, and what is below it"
+    assert round_beside(keeper, *fourth) == ("", [1, 2, 3, 6], [6, 2]), "it is said once, and its aid is asked for once"
+    assert round_beside(keeper, "/public/aid/4")[1] == all_units, "what cannot be answered as one is read by parts"
+    round_beside(keeper)
+    assert round_beside(keeper) == ("", all_units, [6, 1]), "what can be again is read as one"
+    told = round_beside(keeper, *fourth, "/public/aid/1")
+    assert told == (TOLD, all_units, [6, 1]), "it is said again if it could be read before; what is above it is read by pages"
+
+
+def test_what_is_shown_no_more_goes_beside_what_cannot_be_answered(keeper):
+    round_beside(keeper)
+    keeper.ask.tops = (1,)
+    told = round_beside(keeper, "/public/aid/1", "/public/units/1")
+    assert told[1] == [1, 2, 3, 4, 5], "what cannot be answered stays, and what is shown no more goes"
+    keeper.ask.below = {}
+    assert round_beside(keeper)[1] == [1], "what is answered again is taken in"
+
+
+@pytest.mark.parametrize("path, lost", [("/public/fonds", Busy), ("/public/units/1", Unreached)], ids=["busy", "away"])
+def test_a_round_ends_where_it_cannot_go_on(keeper, path, lost):
+    keeper.ask.lost = {path: lost}
+    with pytest.raises(Unreached):
+        keeper.round()
+
+
+def test_an_answer_has_what_the_office_can_answer_for(db):
+    office = Office()
+    read(db, office)
+    for busy, wanted in (("", [1, 2, 3, 4, 5, 6]), ("/public/units/4", [1, 2, 3, 5, 6]), ("", [1, 2, 3, 4, 5, 6])):
+        office.lost = {busy: Busy}
+        found = find(db, office, typed="gb")
+        assert found.state == "done" and not found.gone, "a unit that cannot be answered stays in the index"
+        assert [unit["unit"] for unit in found.units] == wanted, "all but that one has the word"
+    office.lost = {"/public/fonds": Busy}
+    assert find(db, office, typed="gb").state == "unreached", "nothing while the list of fonds is not answered"

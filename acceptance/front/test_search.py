@@ -5,7 +5,6 @@ import json
 import os
 import pathlib
 import random
-import socket
 import sqlite3
 import threading
 import time
@@ -24,6 +23,7 @@ from acceptance import client
 from acceptance.front.asks import send_at_once
 from acceptance.front.office import ARCHIVES, QUICK
 from acceptance.front.searched import Searched
+from acceptance.front.stand_in import StandIn
 from acceptance.front.waits import until
 
 HEADER = "legacyId,parentId,identifier,title,levelOfDescription,publicationStatus,eventDates,scopeAndContent\n"
@@ -49,25 +49,12 @@ def patience(monkeypatch):
     monkeypatch.setattr(answers, "COUNTING", 100)
 
 
-class FakeOffice(threading.Thread):
-    """Answers at a socket: 200 to whatever is asked, but what `statuses` says of some. heads: of each request."""
+class Deliberate(StandIn):
+    """Takes a while for an answer, of which a round rests four times as long."""
 
-    def __init__(self, path, statuses):
-        super().__init__(daemon=True)
-        self.statuses, self.heads, self.listener = statuses, [], socket.socket(socket.AF_UNIX)
-        self.listener.bind(str(path))
-        self.listener.listen()
-
-    def run(self):
-        while True:
-            with self.listener.accept()[0] as it:
-                while b"\r\n\r\n" in (head := it.recv(4096)):
-                    self.heads.append(head.decode())
-                    status = self.statuses.get(head.split()[1].decode(), 200)
-                    if status is None:
-                        break
-                    time.sleep(.05)  # what an answer takes, of which a round rests four times as long
-                    it.sendall(client.reply(status, b"lines"))
+    def reply_to(self, head, body):
+        time.sleep(.05)
+        return super().reply_to(head, body)
 
 
 def turns_taken(who, each, begin=0):
@@ -170,21 +157,20 @@ def test_if_too_many_wait_one_of_whom_has_most_of_them_is_refused():
 
 def test_how_the_office_is_asked(room):
     """Rounds after everybody else, at rest for four fifths of the time; readers for so long only."""
-    fake = FakeOffice(room / "fake.sock", {"/shut": 404, "/broken": 502, "/gone": None})
-    fake.start()
-    ask = Asking(room / "fake.sock", 4)
-    began = time.monotonic()
-    assert [ask("/one"), ask("/shut")] == ["lines", None], "what is shown, and what is not"
-    assert time.monotonic() - began > 4.5 * ask.busy > .4, ("a round rests", (time.monotonic() - began, ask.busy))
-    assert all("Record-Office-For: round" in head for head in fake.heads), ("a round asks after everybody else", fake.heads)
-    for path in ("/broken", "/gone"):
-        assert failure(ask, path) == "Unreached", f"{path} is no answer"
-    reader = Asking(room / "fake.sock")
-    reader.until = time.monotonic() + 30
-    assert reader("/reader") == "lines", "a reader's question"
-    assert "Record-Office-For: search" in fake.heads[-1], ("pages go before it, and it before rounds", fake.heads[-1])
-    reader.until = time.monotonic()
-    assert failure(reader, "/late") == "Slow", "a reader's time is over"
+    odd = {"/shut": client.reply(404, b""), "/broken": client.reply(502, b""), "/busy": client.BUSY}
+    with Deliberate(room / "office.sock", b"lines", lambda head: "/gone" in head, at_once=2, answers=odd) as office:
+        ask, began = Asking(room / "office.sock", 4), time.monotonic()
+        assert [ask("/one"), ask("/shut")] == ["lines", None], "what is shown, and what is not"
+        assert time.monotonic() - began > 4.5 * ask.busy > .4, ("a round rests", (time.monotonic() - began, ask.busy))
+        assert all("Record-Office-For: round" in head for head, _ in office.requests), "a round asks after everybody else"
+        for path, raised in (("/broken", "Unreached"), ("/gone", "Unreached"), ("/busy", "Busy")):
+            assert failure(ask, path) == raised, f"{path} is no answer"
+        reader = Asking(room / "office.sock")
+        reader.until = time.monotonic() + 30
+        assert reader("/reader") == "lines", "a reader's question"
+        assert "Record-Office-For: search" in office.requests[-1][0], "pages go before it, and it before rounds"
+        reader.until = time.monotonic()
+        assert failure(reader, "/late") == "Slow", "a reader's time is over"
 
 
 def failure(ask, path):

@@ -100,13 +100,11 @@ def test_a_clerk_finds_the_names_that_a_reader_finds(desk):
 
 @pytest.mark.parametrize("text, words", EXAMPLES["words"], ids=repr)
 def test_the_words_of_a_text(text, words):
-    """To the letter."""
     assert folding.folded_words(text) == words
 
 
 @pytest.mark.parametrize("typed, phrases", EXAMPLES["typed"], ids=repr)
 def test_the_phrases_that_were_typed(typed, phrases):
-    """With their readings."""
     assert [[[list(words) for words in phrase.readings], phrase.begins] for phrase in folding.read_typed(typed)] == phrases
 
 

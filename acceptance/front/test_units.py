@@ -12,7 +12,6 @@ from acceptance.client import table
 from acceptance.front.office import FRONT, KINDS, TOP
 
 UNITS = FRONT / "units" if (FRONT / "units").is_dir() else TOP / "packaging"  # mutation/front.py has copies of them there
-GO_ON = ("record-office", "record-office-queue", "record-office-readers", "record-office-desk", "record-office-try")
 # What is left open of all that systemd-analyze looks at, and for what: of the services that go on.
 ANYWHERE = {"RootDirectoryOrRootImage", "PrivateMounts", "DeviceAllow"}
 OPEN = {
@@ -35,13 +34,9 @@ SHUT = {"record-office-backup": {"NoNewPrivileges", "PrivateTmp", "ProtectContro
                                  "ProtectKernelTunables", "UMask"},
         "record-office-strangers": {"NoNewPrivileges", "CapabilityBoundingSet_CAP_SYS_ADMIN",
                                     "CapabilityBoundingSet_CAP_SYS_PTRACE"}}
-UNSEEN = {"record-office-readers": {"/var/lib/record-office", "/etc/record-office"},
-          "record-office-try": {"/var/lib/record-office", "/etc/record-office"},
-          "record-office-desk": {"/var/lib/record-office"}}
 WHEN = {"record-office-backup": {"OnCalendar": ["*-*-* 03:00"], "Persistent": ["true"]},
         "record-office-status": {"OnCalendar": ["*-*-* 07:00"], "Persistent": ["true"]},  # after the backup
         "record-office-probe": {"OnActiveSec": ["4min"], "OnUnitActiveSec": ["4min"], "AccuracySec": ["10s"]}}
-OFFICE = "/var/lib/record-office/office.db"
 
 
 def directives():
@@ -87,23 +82,9 @@ def test_what_a_tool_of_root_cannot_do(unit):
     assert left_open(unit) & SHUT[unit] == set(), "it has not shut"
 
 
-@pytest.mark.parametrize("unit", UNSEEN)
-def test_what_a_service_does_not_see(unit):
-    found = " ".join(SERVICES[unit].get("InaccessiblePaths", [])).split()
-    assert {one.lstrip("-") for one in found} == UNSEEN[unit]
-
-
 @pytest.mark.parametrize("unit", [unit for unit in SERVICES if not unit.endswith(("alarm@", "resume"))])
 def test_somebody_is_told_that_a_service_failed(unit):
     assert "record-office-alarm@%n.service" in " ".join(SERVICES[unit].get("OnFailure", []))
-
-
-def test_services_begin_soon_and_once_there_is_an_office():
-    for unit in GO_ON:
-        assert SERVICES[unit].get("RestartSec") in (["1"], ["5"]), f"{unit} is begun again soon"
-    for unit in (*GO_ON, "record-office-backup", "record-office-probe", "record-office-status"):
-        assert OFFICE in SERVICES[unit].get("ConditionPathExists", []), unit
-    assert "/usr/lib/python3/dist-packages/waitress" in SERVICES["record-office-try"]["ConditionPathExists"]
 
 
 def test_when_timers_begin():
@@ -120,21 +101,6 @@ def test_folders_that_the_configurations_name_are_those_of_units():
     group = re.findall(r"readers\.sock mode 660 group (\S+)", SERVER["haproxy.cfg"])
     for unit in ("record-office-queue", "record-office-readers"):
         assert SERVICES[unit].get("Group") == group, f"{unit} shares the socket"
-
-
-@pytest.mark.parametrize("unit, least, most", [("record-office", 2048, 2300), ("record-office-readers", 1024, 1024),
-                                               ("record-office-try", 2048, 2048)])
-def test_memory(unit, least, most):
-    [found] = SERVICES[unit]["MemoryMax"]
-    assert least <= megabytes(found) <= most
-
-
-def test_the_program_refuses_a_request_before_it_is_killed():
-    assert [megabytes(one) for one in SERVICES["record-office"]["LimitAS"]] == [2048]
-
-
-def megabytes(text):
-    return int(text[:-1]) * {"M": 1, "G": 1024}[text[-1]]
 
 
 def test_the_desk_has_two_files_for_each_connection():

@@ -8,7 +8,7 @@ import pytest
 
 from acceptance.front.asks import ask_once, fields_of, status
 from acceptance.front.catalogue import archives, dock_company, harbour, wide
-from acceptance.front.office import MANY_PAGES, SELDOM
+from acceptance.front.office import MANY_PAGES, READERS, SELDOM
 from acceptance.front.site_pages import Tree, aid_of, elements_of
 from acceptance.front.waits import until
 
@@ -58,7 +58,6 @@ def test_each_unit_has_what_the_program_tells_and_no_markup(asks, units):
 
 
 def unit(number, text, page):
-    """A page that is there."""
     head, *lines = text.split("\n")[:-1]
     assert Tree(page).text("h1") == head, f"the head of unit {number}"
     told = {line[2:7]: line[2:] for line in lines if re.match(r"  3\.\d\.\d ", line)}
@@ -96,7 +95,8 @@ def test_each_line_of_a_finding_aid_leads_to_its_unit(asks, office):
 @pytest.mark.parametrize("path, kept", [("/search?q=plans&from=1800", "q=plans&from=1800&"), ("/fr/unit/1", "")])
 def test_in_another_language_what_was_asked_for_stays(asks, office, path, kept):
     links = Tree(asks.text(path)).links(r"\?.*lang=.*")
-    assert sorted(address for address, _ in links) == sorted(f"?{kept}lang={code}" for code in ("de", "el", "en", "es", "fr"))
+    codes = [path.stem for path in (READERS / "po").glob("*.po")]
+    assert sorted(address for address, _ in links) == sorted(f"?{kept}lang={code}" for code in codes)
     path = path.split("?")[0]
     assert leads_to(office, f"{path}?{kept}lang=de") == (302, f"/de{path.removeprefix('/fr')}")
 

@@ -1,9 +1,8 @@
 """An office by its rules, plainly and slowly, in memory: what the built program is held against by
 test_random_sessions.py.
 
-It was written from the rules, and not from the program. `talk` reads whole inputs of HTTP, `get` and `post` ask by path
-and body. What it does not know: how deep JSON may nest, a surrogate that stands alone in it, streams that fail and
-memory that runs out."""
+It was written from the rules, and not from the program. `get` and `post` ask by path and body. What it does not know: heads of
+requests, how deep JSON may nest, a surrogate that stands alone in it, streams that fail and memory that runs out."""
 import collections
 import csv
 import pickle
@@ -15,10 +14,9 @@ from .desk import Desk
 from .elements import ELEMENTS, text
 from .files import BOX
 from .refusals import Refused
-from .session import talk
 from .shown import Shown
 
-__all__ = ["BOX", "ELEMENTS", "Office", "as_json", "talk", "text"]
+__all__ = ["BOX", "ELEMENTS", "Office", "as_json", "text"]
 csv.field_size_limit(1 << 30)
 
 
@@ -34,12 +32,10 @@ class Office(Catalogue, Desk, Shown):
 
     def get(self, path: str) -> tuple[int, Any]:
         """The status and the answer to a question: a text, or what is told as JSON."""
-        it = answer(self, "GET", path, None, b"")
-        return it.status, it.told
+        return answer(self, "GET", path, b"")
 
     def post(self, path: str, body: bytes) -> tuple[int, Any]:
-        it = answer(self, "POST", path, len(body), body)
-        return it.status, it.told
+        return answer(self, "POST", path, body)
 
     def carry_out(self, name: str, /, *words: Any, **members: Any) -> Any:
         """What a command tells; one that is refused is taken back whole."""

@@ -123,9 +123,7 @@ class Desk:
         """Brings the containers of the first orders that can be fetched to the desk, as many as a run takes."""
         waiting = {self.orders[it].container for it in self.waiting}
         heads = sorted(self.queue(it)[0] for it in waiting if it not in self.places)
-        picked = [
-            it for it in heads if self.is_open(self.orders[it].container, self.orders[it].ticket)
-        ][: self.run_size]
+        picked = [it for it in heads if self.is_open(self.orders[it].container, self.orders[it].ticket)][: self.run_size]
         refuse(24, not picked)
         refuse(23, len(self.runs) >= MOST_RUNS)
         lines = [(self.orders[it].container, it, self.orders[it].ticket) for it in picked]

@@ -47,5 +47,4 @@ def one_line(text):
 
 
 def text(lines):
-    """The lines as one text, each with its end."""
     return "".join(f"{it}\n" for it in lines)

@@ -36,9 +36,7 @@ def texts_of(fields):
     """The texts of a row by the numbers of their elements; several values are joined by semicolons."""
     texts = {}
     for number, _, columns in ELEMENTS:
-        values = [
-            it for column in columns for it in (entries(fields[column]) if column in SPLIT else [fields[column]]) if it
-        ]
+        values = [it for column in columns for it in (entries(fields[column]) if column in SPLIT else [fields[column]]) if it]
         if values:
             texts[number] = "; ".join(values)
     return texts

@@ -33,17 +33,14 @@ def is_number(value):
 
 
 def is_number_or_null(value):
-    """Whether a value is such a number or null."""
     return value is None or is_number(value)
 
 
 def is_day_or_null(value):
-    """Whether a value is such a day or null."""
     return value is None or is_day(value)
 
 
 def is_status(value):
-    """Whether a value is the name of a status."""
     return value in ("published", "draft")
 
 
@@ -98,7 +95,6 @@ def refuse_constant(word):
 
 
 def members_of(body, wanted):
-    """The members that a path wants, out of a body."""
     try:
         said = json.loads(body.decode(), parse_int=whole, parse_constant=refuse_constant)
     except ValueError as it:

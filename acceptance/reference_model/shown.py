@@ -26,7 +26,6 @@ class Shown:
         refuse(1, any(self.units[it].draft for it in path) or any(map(self.is_closed, path[:-1])))
 
     def public_below(self, unit):
-        """The units right below a unit, except drafts."""
         return [it for it in self.below(unit) if not self.units[it].draft]
 
     def boxes(self, unit):
