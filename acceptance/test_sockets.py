@@ -89,6 +89,13 @@ def ask_next(server: Server, request: bytes = FONDS) -> tuple[float, Reply]:
         return time.monotonic() - begun, answer
 
 
+def trickle(it, over):
+    """Sends a byte forty times a second, until `over` is set or the connection breaks."""
+    with contextlib.suppress(OSError):
+        while not over.wait(0.025):
+            it.send(b"x")
+
+
 # ---- many requests on one connection
 
 
@@ -156,26 +163,19 @@ def test_an_answer_that_closes_reaches_a_client_that_has_sent_more(serve: Serve)
         expect_end(server)
 
 
-def test_a_client_that_is_silent_after_an_answer_that_closes_delays_nobody(serve: Serve) -> None:
-    with serve(2) as server:
-        with Talk(server.connect()) as it:
-            assert it.ask(REFUSED).line == BAD
-            taken, _ = ask_next(server)
-            assert taken < LAST_SILENCE
-        expect_end(server)
-
-
-def test_a_client_that_trickles_after_an_answer_that_closes_delays_nobody_for_long(serve: Serve) -> None:
+@pytest.mark.parametrize("sends, longest", [(lambda *_: None, LAST_SILENCE), (trickle, LAST)], ids=["is silent", "trickles"])
+def test_a_client_that_stays_after_an_answer_that_closes_delays_nobody_for_long(
+        sends: Callable[..., None], longest: int, serve: Serve) -> None:
     with serve(2) as server:
         with Talk(server.connect()) as it:
             assert it.ask(REFUSED).line == BAD
             over = threading.Event()
-            sender = threading.Thread(target=trickle, args=(it, over))
+            sender = threading.Thread(target=sends, args=(it, over))
             sender.start()
             taken, _ = ask_next(server)
             over.set()
             sender.join()
-            assert taken < LAST
+            assert taken < longest
         expect_end(server)
 
 
@@ -233,13 +233,6 @@ def ask_refused(server, more):
         except ConnectionError as error:
             rest = str(error).encode()
     return answer, rest
-
-
-def trickle(it, over):
-    """Sends a byte forty times a second, until `over` is set or the connection breaks."""
-    with contextlib.suppress(OSError):
-        while not over.wait(0.025):
-            it.send(b"x")
 
 
 def is_refused(address, port):

@@ -20,7 +20,6 @@ from folding import read_typed
 from turns import Late, Turns
 
 from acceptance import client
-from acceptance.front.asks import send_at_once
 from acceptance.front.office import ARCHIVES, QUICK
 from acceptance.front.searched import Searched
 from acceptance.front.stand_in import StandIn
@@ -439,12 +438,6 @@ def test_what_cannot_be_read_is_told(served, raw, names):
     assert (answer["state"], answer["unread"]) == ("unread", names)
 
 
-@pytest.mark.parametrize("args, wanted", [
-    ("q=company&from=2100", False), ("q=company&to=1000", False), ("q=company&from=1774&to=1800", True)])
-def test_years_bound_what_is_found(served, args, wanted):
-    assert bool(json.loads(ask_patiently(served, args)[1])["units"]) == wanted
-
-
 @pytest.mark.parametrize("typed, cut", [
     ("a " * 64, False), ("word " * 65, True), ('"' + "long title " * 30 + '"', False), ("x" * 1001, True)],
     ids=["64 words", "65 words", "a long title", "1,001 letters"])
@@ -454,11 +447,6 @@ def test_that_more_was_typed_than_is_read_is_told(served, typed, cut):
 
 def test_a_question_of_100_kb_is_refused(served):
     assert ask_patiently(served, "q=" + "a" * 100_000)[0] == 414
-
-
-def test_of_a_hundred_searches_at_once_some_are_turned_away(served):
-    at_once = send_at_once(served.ports["8080"], client.get("/public/search?q="), 100)
-    assert 429 in {one for one, _ in at_once}
 
 
 def test_after_kills_and_harm_all_is_found_again_and_never_anything_else(served):

@@ -9,6 +9,7 @@ from urllib.parse import urlencode
 import pytest
 
 from acceptance import client
+from acceptance.front.asks import Asks
 from acceptance.front.office import QUICK
 from acceptance.front.searched import Searched
 from acceptance.front.waits import until
@@ -99,17 +100,6 @@ def test_what_was_closed_after_the_round_is_gone_from_the_very_next_answer(offic
     assert found(office, "haywood mill") == ["HAY/1/2"]
 
 
-def test_by_date_what_stands_in_context_comes_after_the_others(office: Searched) -> None:
-    """The earliest first, and then the earliest of those in context."""
-    assert found(office, "haywood wedding", order="date") == ["INF/2/1", "HAY/1/1"]
-
-
-def test_a_search_in_one_archive_keeps_to_it(office: Searched) -> None:
-    """Words above count inside the archive that was chosen."""
-    inside = answer(office, "haywood")["units"][0]["unit"]
-    assert found(office, "haywood wedding", **{"in": str(inside)}) == ["HAY/1/1"]
-
-
 def test_a_question_in_words_finds_what_its_words_find(office: Searched) -> None:
     """"records about the cholera in Hull": about, the, in say nothing."""
     assert found(office, "the cholera in Hull") == found(office, "cholera Hull") == ["INF/1/1", "INF/1/2"]
@@ -132,6 +122,8 @@ def test_if_nothing_has_all_words_the_units_that_have_most_are_shown(office: Sea
     ("trout 1890s", {"undated": "1"}, ["HAY/4"], None),
     ("", {"from": "1899", "to": "1899", "level": "Item"}, ["HAY/5"], None),
     ("trout", {"creator": "Jane Haywood"}, ["HAY/4", "HAY/5"], None),
+    ("haywood wedding", {"order": "date"}, ["INF/2/1", "HAY/1/1"], None),  # what stands in context comes after the others
+    ("haywood wedding", {"in": "1"}, ["HAY/1/1"], None),  # words above count inside the archive that was chosen
 ], ids=str)
 def test_years_levels_and_creators(office: Searched, typed: str, more: dict[str, str], wanted: list[str],
                                    undated: int | None) -> None:
@@ -146,13 +138,8 @@ def test_what_the_units_have_is_counted_and_leads_to_them(office: Searched) -> N
     assert facets["decade"] == [[year, 1 + (year == 1890)] for year in range(1860, 1910, 10)], facets
     cut = answer(office, "trout", **{"from": "1865", "to": "1905"})["facets"]  # a link to a decade finds as many as it says
     assert [year for year, _ in cut["decade"]] == [1870, 1880, 1890], cut
-    page = office.ask_page("/search?" + urlencode({"q": "trout"}))
+    page = Asks(office).send("GET", "/search?q=trout", fields={"Accept-Language": "en"})[1]
     assert "q=trout&amp;from=1890&amp;to=1899" in page and "q=trout&amp;level=File" in page
-
-
-def test_the_page_names_the_words_that_are_lacking(office: Searched) -> None:
-    page = office.ask_page("/search?" + urlencode({"q": "accounts cholera"}))
-    assert "Nothing has all of these words. Without accounts:" in page and "/unit/" in page
 
 
 def test_a_minus_leaves_out_and_or_means_either(office: Searched) -> None:

@@ -102,11 +102,3 @@ def test_an_office_that_is_away_is_not_told_as_nothing_found(hall, office):
     hall.press("Try again")
     # A slow machine looks at few units in its time. Each question waits for its page, so none is one of too many.
     until(lambda: "Nothing found." in search(hall, "away").text(TOLD), "what is not there is not found")
-
-
-def test_too_many_searches_are_told(hall, office):
-    """In words."""
-    hall.visit("/")
-    with office.change_file("common.conf", "searches:2m rate=30r/s", "searches:2m rate=1r/m"):
-        until(lambda: hall.js("fetch('/search?q=away').then((answer) => answer.status)") == 429, "a search is refused")
-        search(hall, "away").see("Too many requests came from your address")

@@ -1,5 +1,5 @@
-"""The program stands still, as one that is stopped or busy: whoever needs it is told soon, in the language of who reads, all
-else goes on, and what the desk has given waits until it is done."""
+"""The program stands still, as one that is stopped or busy: whoever needs it is told soon, in the language of who reads, and
+all else goes on."""
 
 import contextlib
 import http.client
@@ -10,7 +10,6 @@ import time
 import pytest
 
 from acceptance.front.office import ARCHIVES, SELDOM
-from acceptance.front.senders import registration
 from acceptance.front.waits import until
 
 SOON, AT_ONCE = 8, 3  # seconds in which a reader is told, and in which help comes: with some to spare on a busy machine
@@ -65,13 +64,3 @@ def test_who_orders_is_told_that_nobody_knows(office):
     status, again, text, took = Reader(office, 1, "/unit/3/order", "ticket=1&container=1").told()
     assert (status, again) == (503, "60") and took < SOON + 2, (status, again, took)
     assert "Wir wissen nicht, ob Ihre Bestellung angenommen wurde." in text and 'href="/unit/3"' in text
-
-
-def test_a_command_of_the_desk_waits_until_it_is_done(office):
-    sender = registration(office, "Ann")
-    sender.start()
-    time.sleep(SOON + 1)
-    assert not sender.got
-    os.kill(office.serving.pid, signal.SIGCONT)
-    sender.join(60)
-    assert sender.got[0][0] == 200

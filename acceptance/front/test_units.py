@@ -34,9 +34,6 @@ SHUT = {"record-office-backup": {"NoNewPrivileges", "PrivateTmp", "ProtectContro
                                  "ProtectKernelTunables", "UMask"},
         "record-office-strangers": {"NoNewPrivileges", "CapabilityBoundingSet_CAP_SYS_ADMIN",
                                     "CapabilityBoundingSet_CAP_SYS_PTRACE"}}
-WHEN = {"record-office-backup": {"OnCalendar": ["*-*-* 03:00"], "Persistent": ["true"]},
-        "record-office-status": {"OnCalendar": ["*-*-* 07:00"], "Persistent": ["true"]},  # after the backup
-        "record-office-probe": {"OnActiveSec": ["4min"], "OnUnitActiveSec": ["4min"], "AccuracySec": ["10s"]}}
 
 
 def directives():
@@ -55,13 +52,14 @@ def read(path):
     return found
 
 
-SERVICES, TIMERS = ({path.stem: read(path) for path in sorted(UNITS.glob(f"*.{kind}"))} for kind in ("service", "timer"))
+SERVICES = {path.stem: read(path) for path in sorted(UNITS.glob("*.service"))}
+TIMERS = {path.name: read(path) for path in UNITS.glob("*.timer")}
 SERVER = {path.name: path.read_text("utf-8") for path in (FRONT / "server").iterdir()}
 
 
 @pytest.mark.parametrize("unit, name, values", directives())
 def test_each_directive_that_nothing_else_shows(unit, name, values):
-    assert SERVICES[unit].get(name, []) == values
+    assert (SERVICES | TIMERS)[unit].get(name, []) == values
 
 
 def left_open(unit):
@@ -85,14 +83,6 @@ def test_what_a_tool_of_root_cannot_do(unit):
 @pytest.mark.parametrize("unit", [unit for unit in SERVICES if not unit.endswith(("alarm@", "resume"))])
 def test_somebody_is_told_that_a_service_failed(unit):
     assert "record-office-alarm@%n.service" in " ".join(SERVICES[unit].get("OnFailure", []))
-
-
-def test_when_timers_begin():
-    assert set(TIMERS) == set(WHEN)
-    for unit, wanted in WHEN.items():
-        has = TIMERS[unit]
-        assert {name: has.get(name) for name in wanted} == wanted, unit
-        assert has.get("WantedBy") == ["timers.target"], f"{unit}.timer begins with the machine"
 
 
 def test_folders_that_the_configurations_name_are_those_of_units():

@@ -43,11 +43,6 @@ def requests_and_bytes(office):
     return int(told["req_tot"]), int(told["bout"])
 
 
-def test_the_list_of_archives_to_the_letter(asks):
-    links = Tree(asks.text("/")).links("/unit/[0-9]+")
-    assert [f"{address[6:]} {text}\n" for address, text in links] == asks.text("/public/fonds").splitlines(True)
-
-
 def test_each_unit_has_what_the_program_tells_and_no_markup(asks, units):
     """Its head, its elements, its containers, what is below it, and nothing that came from the archive as markup."""
     for number in range(1, max(units) + 1):
