@@ -3,9 +3,8 @@
     ./run bench.front [--program PROGRAM] [--room DIRECTORY] [UNITS]
 
 UNITS is 2000, 20000 (the default) or 200000. Eight clients with kept connections ask for pages of units one after the
-other: undisturbed, and while the program is killed. The limits by address are taken out, since all clients have the same
-address. An answer other than 200 counts as lost. Nothing else may use the program. The script needs nginx and HAProxy, and
-ends with 1 if anything is lost.
+other. The limits by address are taken out, since all clients have the same address. An answer other than 200 counts as lost.
+Nothing else may use the program. The script needs nginx and HAProxy, and ends with 1 if anything is lost.
 """
 
 import http.client
@@ -52,42 +51,25 @@ def pages(units, reader, many):
     return [f"/public/units/{1 + (i * 37 + reader * 2503) % units}" for i in range(many)]
 
 
-def crowd(office, units, many, beside=None):
-    """Runs eight clients, and something else meanwhile; returns what the clients took."""
+def crowd(office, units, many):
+    """Runs eight clients; returns them, and what they took."""
     clients = [Client(office.ports["8080"], pages(units, n, many)) for n in range(CLIENTS)]
     began = time.perf_counter()
     for one in clients:
         one.start()
-    if beside:
-        beside()
     for one in clients:
         one.join()
     return clients, time.perf_counter() - began
 
 
-def say(what, clients, took, more=""):
+def say(clients, took):
     times = sorted(t for one in clients for t in one.times)
     lost = [kind for one in clients for kind in one.lost]
     LOST.extend(lost)
     kinds = ", ".join(f"{kind} {lost.count(kind)} times" for kind in sorted(set(lost), key=str))
-    print(f"| {what} | {len(times)} | {len(times) / took:.0f} | {times[len(times) // 2] * 1e3:.1f} ms | "
+    print(f"| {len(times)} | {len(times) / took:.0f} | {times[len(times) // 2] * 1e3:.1f} ms | "
           f"{times[int(len(times) * 0.99)] * 1e3:.1f} ms | {times[-1]:.2f} s | "
-          f"{len(lost)}{kinds and ' (' + kinds + ')'}{more} |", flush=True)
-
-
-def kills(office, units, many):
-    """Kills the program three times, each time some seconds after it has answered again."""
-    starts = office.starts
-
-    def kill():
-        for _ in range(3):
-            time.sleep(2.5)
-            office.kill_program()
-            time.sleep(0.5)
-            Client(office.ports["8080"], ["/public/fonds"]).run()
-
-    clients, took = crowd(office, units, many, kill)
-    say("killed three times", clients, took, f"; {office.starts - starts} restarts")
+          f"{len(lost)}{kinds and ' (' + kinds + ')'} |", flush=True)
 
 
 def begin(given, room):
@@ -101,12 +83,11 @@ def begin(given, room):
 
 
 def measure(given, room):
-    """Prints the table: undisturbed, and killed."""
+    """Prints the table."""
     many = 600 if given.units > 2000 else 60
     with begin(given, room) as office:
-        print("| | requests | a second | p50 | p99 | longest | lost |\n|---|---|---|---|---|---|---|", flush=True)
-        say("undisturbed", *crowd(office, given.units, many))
-        kills(office, given.units, many * 2)
+        print("| requests | a second | p50 | p99 | longest | lost |\n|---|---|---|---|---|---|", flush=True)
+        say(*crowd(office, given.units, many))
 
 
 def main():
