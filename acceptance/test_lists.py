@@ -195,7 +195,7 @@ def test_a_page_shows_the_rows_of_its_csv_file_as_text_and_names_no_reader_witho
         text = page.read_text(encoding="utf-8")
         shown = Shown(text)
         assert not shown.elements - own, page.name
-        if page.name != "index.html":
+        if not page.name.startswith("index"):
             rows = [list(row.values()) for row in rows_of(page.with_suffix(".csv"))]
             marked = [[cell.removeprefix("'") if cell[1:2] in ("=", "+") else cell for cell in row] for row in rows]
             assert shown.rows[1:] == marked, page.name
@@ -210,6 +210,10 @@ def test_the_index_has_how_many_rows_each_list_has_and_what_was_made_by_hand(fol
     assert linked == {path.stem: str(len(rows_of(path))) for path in folder.glob("*.csv") if "-without-row-" not in path.stem}
     by_hand = re.findall(r"[a-z]*-without-row-a(?=\.html)", index)
     assert by_hand == ["boxes-without-row-a", "units-without-row-a"]
+    parts = dict(re.findall(r"^-- list: (.*)\n-- title: .*\n-- part: (.*)", (LISTS / "lists.sql").read_text("utf-8"), re.M))
+    for part, others in (("counter", {"counter"}), ("archivist", {"counter", "archivist"})):
+        found = re.findall(r'href="([^"]*)\.html"', (folder / f"index-{part}.html").read_text("utf-8"))
+        assert {name.removesuffix("-a") for name in found} == {name for name, one in parts.items() if one in others}, part
 
 
 def test_each_page_has_the_title_and_the_words_of_its_list(folder):

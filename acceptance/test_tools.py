@@ -60,7 +60,7 @@ def place(tmp_path: Path) -> Any:
     (tmp_path / "office/office.db").write_bytes(b"an office")
     return SimpleNamespace(
         folder=tmp_path / "office", store=tmp_path / "office/office.db", copies=tmp_path / "copies", settings=tmp_path,
-        index=tmp_path / "cache/index.db", day=tmp_path / "open-day.json",
+        index=tmp_path / "cache/index.db", day=tmp_path / "open-day.json", parts=tmp_path / "run/staff.conf",
         told=lambda name: tmp_path / f"run/told-record-office.service-{name}", name=None,
         unit="record-office.service", unit_of=lambda part: f"record-office-{part}.service", as_owner=as_owner,
         make_folder=lambda path: path.mkdir(exist_ok=True), register=tmp_path / "office/register.db", files=tmp_path / "files",
@@ -268,8 +268,11 @@ def test_what_follows_from_another_cause_is_told_once_that_is_mended(told: Any) 
 @pytest.mark.parametrize("text, level, told", [
     ("desk:$6$a$b\n", 0, "1 can sign in"), ("", 2, "has no line"), ("desk:$6$a$b\nann\n", 2, "line 2"),
     ("ann:secret\n", 2, "line 1"), (None, 2, "No such file"), ("desk:$6$a$b\n", 1, "everybody"),
+    ("desk:$6$a$b:Desk\n", 0, "1 can sign in"), ("desk:$6$a$b\nann:$6$a$b:part=clerk\n", 2, "line 2"),
+    ("desk:$6$a$b\nann:$6$a$b:part=counter\n", 2, "reload record-office-desk.service"),
 ])
-def test_the_status_is_red_when_nobody_can_sign_in(place: Any, text: str | None, level: int, told: str) -> None:
+def test_the_status_is_red_when_somebody_cannot_sign_in_or_the_desk_has_other_parts(place: Any, text: str | None, level: int,
+                                                                                    told: str) -> None:
     checks, file = tool("checks.py"), place.settings / "staff"
     checks.subprocess = SimpleNamespace(run=lambda *_, **__: SimpleNamespace(returncode=0))
     if text is not None:
@@ -277,6 +280,52 @@ def test_the_status_is_red_when_nobody_can_sign_in(place: Any, text: str | None,
         file.chmod(0o644 if level == 1 else 0o640)
     found, line = checks.staff(place)
     assert (found, told in line) == (level, True), line
+
+
+def test_parts_are_given_beside_names_and_the_desk_is_told_of_them(place: Any, monkeypatch: Any, capsys: Any) -> None:
+    command, staff, checks, told = tool("record-office-staff"), tool("staff.py"), tool("checks.py"), list[str]()
+    path, old = place.settings / "staff", "# ours\ndesk:$6$a$b\nann:$6$a$b:Ann of the counter\n"
+    path.write_text(old, "utf-8")
+    path.chmod(0o640)
+    monkeypatch.setattr(command, "Office", lambda _: place)
+    monkeypatch.setattr(command, "ask_password", lambda name: f"$6${name}$new")
+
+    def asked(words: list[str], **_: Any) -> SimpleNamespace:
+        """Stands in for systemd, which runs the desk."""
+        told.append(words[1])
+        return SimpleNamespace(returncode=0)
+
+    command.subprocess = checks.subprocess = SimpleNamespace(run=asked)
+
+    def call(*words: str) -> str:
+        """Calls the tool; returns what it prints."""
+        monkeypatch.setattr(sys, "argv", ["record-office-staff", *words])
+        command.main()
+        printed: str = capsys.readouterr().out
+        return printed
+
+    assert (staff.for_nginx(old), call()) == ("", "ann all\ndesk all\n"), "a file from before has no parts"
+    for words in (["ben", "--part", "archivist"], ["ann", "--part", "counter"], ["ben", "--password"], ["cid"]):
+        call(*words)
+    assert path.read_text("utf-8").splitlines() == [
+        "# ours", "desk:$6$a$b", "ann:$6$a$b:part=counter", "ben:$6$ben$new:part=archivist", "cid:$6$cid$new"]
+    assert told[-2:] == ["--quiet", "reload"] and path.stat().st_mode & 0o777 == 0o640
+    monkeypatch.setattr(sys, "argv", ["staff.py", str(path), str(place.parts)])
+    staff.main()
+    assert place.parts.read_text() == ('default counter;\n"~^ann\\z" counter;\n"~^ben\\z" archivist;\n"~^cid\\z" all;\n'
+                                       '"~^desk\\z" all;\n'), "whom it does not know yet has the least part"
+    assert checks.staff(place) == (0, "4 can sign in (1 counter, 1 archivist, 2 all)")
+    call("ben", "--remove")
+    assert "ben" not in path.read_text("utf-8") and call() == "ann counter\ncid all\ndesk all\n"
+    for wrong in (["ann"], ["dan:x"], ["ben", "--remove"]):
+        with pytest.raises(Exception, match="ann is there|a name is|nobody has"):
+            call(*wrong)
+
+
+@pytest.mark.parametrize("name, line", [("x.y", r'"~^x\\.y\z"'), ('a"b', r'"~^a\"b\z"'), ("a b", r'"~^a\\ b\z"'),
+                                        ("j\u00f6rg", '"~^j\u00f6rg\\z"')])
+def test_a_name_is_written_for_nginx_to_the_letter(name: str, line: str) -> None:
+    assert f"{line} counter;" in tool("staff.py").for_nginx(f"{name}:h:part=counter\n{name}:h\n").splitlines()
 
 
 @pytest.mark.parametrize("site, desks, edit, expected", [

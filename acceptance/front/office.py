@@ -43,9 +43,17 @@ MANY_PAGES = [("record_office_pages burst=60", "record_office_pages burst=6000")
               ("aids_in_a_row burst=9", "aids_in_a_row burst=9000")]
 KINDS = ("pages", "help", "searches", "aids", "orders")  # of requests: the readers' service has a socket for each
 PASSWORD = ("desk", "quiet-paper")
-SIGNED_IN = {"Authorization": "Basic " + base64.b64encode(":".join(PASSWORD).encode()).decode()}
+PARTS = {"ann": "counter", "ben": "archivist", "cid": "clerk"}  # of others with the same password; the last is none
 SETTINGS = client.SETTINGS | {"seats": "12", "daily": "50", "hands": "2", "run": "20"}
 Changes = Iterable[tuple[str, str]]
+
+
+def signed_in(name: str, password: str = PASSWORD[1]) -> dict[str, str]:
+    """The fields of a request of this member of the staff."""
+    return {"Authorization": "Basic " + base64.b64encode(f"{name}:{password}".encode()).decode()}
+
+
+SIGNED_IN = signed_in(PASSWORD[0])
 DESK_NAME = "desk.example.org"
 
 # The configuration of a system's nginx around ours, with as many connections as OPERATING tells to allow.
@@ -381,15 +389,16 @@ class Office(client.Office):
             time.sleep(0 if time.time() - began > 0.5 else 0.2)  # a program that ends at once is not begun without end
 
     def configure(self) -> None:
-        """Writes the configuration and the desk's password into the folder."""
+        """Writes the configuration and the passwords of the staff into the folder."""
         for path in self.sources:
             name = "office.conf" if path.name == "nginx.conf" else path.name
             (self.folder / name).write_bytes(self.adapt(path.read_bytes().decode()).encode())
         (self.folder / "desk").mkdir(exist_ok=True)
         (self.folder / "main.conf").write_text(NGINX.format(user=user_name(), mime=mime_types()))
-        name, password = PASSWORD
-        digest = base64.b64encode(hashlib.sha1(password.encode()).digest()).decode()
-        (self.folder / "staff").write_text(f"{name}:{{SHA}}{digest}\n")
+        digest = base64.b64encode(hashlib.sha1(PASSWORD[1].encode()).digest()).decode()
+        lines = [f"{PASSWORD[0]}:{{SHA}}{digest}", *(f"{name}:{{SHA}}{digest}:part={part}" for name, part in PARTS.items())]
+        (self.folder / "staff").write_text("\n".join(lines))
+        subprocess.run([TOP / "packaging/tools/staff.py", self.folder / "staff", self.folder / "desk/staff.conf"], check=True)
 
     def adapt(self, text: str) -> str:
         """Returns a file of the configuration with our ports, names and folders."""

@@ -301,7 +301,7 @@ DESK_PATHS = """
 /desk/days /desk/import/x /desk/import/x/y /public/fonds /public/units/1 /public/orders /public/aid/1/2/3 /try/differences/x
 /try/imported/x /try/look /try/look/x /try/other/x /try/differences/x/y
 /lists/a.csv /lists/a.html /lists/a.json /lists/a.txt /lists/none.csv
-/texts/de.json /texts/xx.json /often.html /desk/issued%0a
+/texts/de.json /texts/xx.json /often.html /desk/issued%0a /signed-in.json
 """.split()
 METHODS = ("GET", "POST", "HEAD", "PUT", "OPTIONS")
 EVERY_METHOD = set("/ /unit/1 /unit/1/order /aid/1 /search?q=x /public.css /public/fonds /public/orders /public/aid/1 "

@@ -11,6 +11,7 @@ import { boxLink, readCard } from './names.js';
 import { orderedBoxField } from './ordered_box.js';
 import { card, heldContainer, notDone, problem, rowForm, said, unitLink } from './parts.js';
 import { boxOf } from './scans.js';
+import { may } from './signed_in.js';
 import { NO_UNIT, unitField, unitNamed } from './unit_field.js';
 
 const STATES = { waiting: text('waiting'), out: text('out') };
@@ -27,7 +28,7 @@ export async function cardPage(ticket) {
       card(text('Seat'), seatForm(view), leaveForm(view)),
       card(text('Order a container'), orderForm(view)),
       card(text('Renew'), renewForm(view)),
-      card(text('Give a permit'), el('p', { class: 'quiet' }, PERMIT), permitForm(view)))
+      may('archivist') && card(text('Give a permit'), el('p', { class: 'quiet' }, PERMIT), permitForm(view)))
       : el('p', {}, link('#/readers', text('Find a reader'))),
   ] };
 }
@@ -35,7 +36,7 @@ export async function cardPage(ticket) {
 /** Whether there is such a ticket; true if the office does not answer. */
 async function show(view) {
   const reader = await readCard(view.ticket);
-  const permits = await routes.permits(view.ticket);
+  const permits = may('archivist') ? await routes.permits(view.ticket) : { ok: false };
   view.name.replaceChildren(...(reader.ok ? [words(reader.value.name)] : []));
   view.isSeated = reader.ok && reader.value.seat !== null;
   markSeatButton(view);

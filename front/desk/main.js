@@ -18,7 +18,9 @@ import { importPage } from './import.js';
 import { findPage, startField } from './find.js';
 import { forgetReaders } from './kept.js';
 import { tellOpenDay } from './open_day.js';
+import { hideOthers, pageFor } from './signed_in.js';
 
+hideOthers();
 translatePage();
 document.querySelector('.languages').append(...languageLinks());
 
@@ -45,7 +47,7 @@ start([
   [at(`runs/${NUMBER}/slips`), callSlipsPage],
   [at('out'), outPage],
   [at(`units(?:/${NUMBER})?`), unitsPage],
-  [at('import'), importPage],
+  [at('import'), pageFor('archivist', importPage)],
   [at('find/(.+)'), findPage],
 ], text('The desk'));
 

@@ -11,13 +11,14 @@ import { asOf, dayOfThisComputer, newestRun } from './days.js';
 import { dayThatIsOpen, tellOpenDay } from './open_day.js';
 import { card, problem, runLink, said } from './parts.js';
 import { redCard } from './red.js';
+import { whoIsHere } from './signed_in.js';
 import { isSure, STAYED } from './sure.js';
 
 const WEEK = 7;
 
 export async function todayPage() {
   return { title: text('Today'), content: [
-    el('h1', {}, text('Today')),
+    el('h1', {}, text('Today')), whoIsHere(),
     el('div', { class: 'cards' },
       await redCard(),
       card(text('Open a new day'), await whichDay(), dayForm()),

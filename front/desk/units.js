@@ -14,6 +14,7 @@ import { lookAtUnit } from './looks.js';
 import { card, heldContainer, lookUp, notDone, problem, said, unitLink } from './parts.js';
 import { permitForm, permitList } from './permits.js';
 import { removeForm } from './removal.js';
+import { may } from './signed_in.js';
 import { NO_UNIT, unitField, unitLine, unitNamed } from './unit_field.js';
 
 export async function unitsPage(number) {
@@ -25,15 +26,17 @@ export async function unitsPage(number) {
   await show(view);
   return { title: text('Unit {unit}', { unit: number }), content: [
     el('h1', {}, text('Unit {unit}', { unit: number })), view.head,
-    el('div', { class: 'cards' },
-      card(text('Status'), statusForm(view)), card(text('Closure'), closureForm(view), endForm(view)),
-      card(text('Move'), moveForm(view), topForm(view)),
-      card(text('Remove'), removeForm(number, () => show(view))),
-      card(text('Permits'), permitForm(number), permitList(number)),
-      card(text('Another unit'), look)),
+    el('div', { class: 'cards' }, may('archivist') && changes(view), card(text('Another unit'), look)),
     el('h2', {}, text('What the public sees')), view.page,
   ] };
 }
+
+const changes = (view) => [
+  card(text('Status'), statusForm(view)), card(text('Closure'), closureForm(view), endForm(view)),
+  card(text('Move'), moveForm(view), topForm(view)),
+  card(text('Remove'), removeForm(view.number, () => show(view))),
+  card(text('Permits'), permitForm(view.number), permitList(view.number)),
+];
 
 async function show(view) {
   const answer = await askUnit(view.number);

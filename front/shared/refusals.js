@@ -39,8 +39,14 @@ const OTHERS = {
   uncertain: [text('The office did not say whether it was done.'), text('Look before you repeat it.')],
 };
 
+const PARTS = {
+  archivist: text('This is for archivists.'),
+  all: text('This is for those who have all parts.'),
+};
+
 /** What an unsuccessful answer means at the desk, and what to do. `command` is the command, if it matters. */
 export function deskWords(answer, command) {
+  if (answer.kind === 'part') return [PARTS[answer.needs], text('Nothing was changed. Ask a colleague, or whoever runs the office.')];
   if (answer.kind !== 'refused') return OTHERS[answer.kind];
   const [means, todo] = AFTER[command]?.[answer.refused] ?? DESK[answer.refused]
     ?? [text('The office refused it ({code} {refused}).', answer), text('Tell whoever runs the office.')];

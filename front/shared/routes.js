@@ -4,6 +4,7 @@
 //   { ok: false, kind: 'missing' }               404: not there, or not shown
 //   { ok: false, kind: 'unread' | 'large' }      the request was not taken (400, 405, 411, 501; 413)
 //   { ok: false, kind: 'barred' | 'often' }      the front server did not pass it on (401, 403, 421; 429)
+//   { ok: false, kind: 'part', needs }           the same: it is for another part of the staff (403)
 //   { ok: false, kind: 'unsent' }                the front server could not give it to the program
 //   { ok: false, kind: 'silent' }                a question that was not answered
 //   { ok: false, kind: 'uncertain' }             a command, and nobody here knows whether it was done
@@ -61,6 +62,7 @@ function judge(status, body, read, lost) {
   if (status === 200) return { ok: true, value: read(body) };
   if (status === 409) return { ...JSON.parse(body), ok: false, kind: 'refused' };
   if (status === 503) return { ok: false, kind: isUnsent(body) ? 'unsent' : lost };
+  if (status === 403 && body.includes('"not your part"')) return { ok: false, kind: 'part', needs: JSON.parse(body).needs };
   return { ok: false, kind: KINDS[status] ?? lost };
 }
 

@@ -1,7 +1,8 @@
 -- The lists for the staff. record-office-lists runs each SELECT over a copy of the office, and makes a page and a CSV file.
 --
--- Before a SELECT stand its name, its title, and what is said above it. Its columns are named as the page shows them. Names of
--- readers stand only in lists that are for finding a reader. To change a list, or to add one, change a copy of this file.
+-- Before a SELECT stand its name, its title, what is said above it, and for which part of the staff it is, as in nginx's
+-- desk-parts.conf (for who has all parts, unless it is told). Its columns are named as the page shows them. Names of readers
+-- stand only in lists that are for finding a reader. To change a list, or to add one, change a copy of this file.
 --
 -- The tables of the office are: unit (draft is 0 or 1; it is closed while `until` is after today), element (k is 1 for the
 -- identifier and 2 for the title), container, housing (which unit names which container), reader, permit, orders (state is 1:
@@ -17,6 +18,7 @@
 
 -- list: drafts
 -- title: Drafts
+-- part: archivist
 -- about: Units that the public does not see. What is below a draft is not shown either, and is not in this list unless it
 --     is a draft itself.
 SELECT unit.id AS "Unit", unit.source AS "Source", unit.legacy AS "legacyId", place.code AS "Code", unit.level AS "Level",
@@ -27,6 +29,7 @@ ORDER BY place.number;
 
 -- list: closures
 -- title: Closures that end soon
+-- part: archivist
 -- about: Units that open by themselves within 90 days after the office's day. A unit stays closed while one above it is
 --     closed.
 SELECT day(unit.until) AS "Opens on", unit.id AS "Unit", place.code AS "Code", unit.level AS "Level", title(unit.id) AS "Title",
@@ -38,6 +41,7 @@ ORDER BY unit.until, place.number;
 
 -- list: permits
 -- title: Permits that end soon, with readers' names
+-- part: archivist
 -- about: Permits whose last day is within 30 days from the office's day, for units that are closed or have a closed one below.
 WITH below AS (
     SELECT above.higher AS unit, max(unit.until) AS closed FROM unit JOIN above ON above.unit = unit.id, office
@@ -51,6 +55,7 @@ ORDER BY permit.until, permit.ticket, place.number;
 
 -- list: waiting
 -- title: Orders that no run can fetch, with readers' names
+-- part: counter
 -- about: They wait until the reason ends. If the location of a box was changed by a file, the box has a new number: cancel
 --     the order, and place it again.
 WITH waiting AS (SELECT * FROM orders WHERE state = 1),
@@ -90,6 +95,7 @@ ORDER BY waiting.id;
 
 -- list: shared
 -- title: Boxes that several archives share
+-- part: archivist
 -- about: A container is known by its name, location and kind. If units of two archives name the same ones, it is one
 --     container: closing a unit of one archive withholds it from readers of the other.
 WITH named AS (SELECT DISTINCT housing.container, place.archive FROM housing JOIN place USING (unit))
@@ -101,6 +107,7 @@ ORDER BY container.id, place.number;
 
 -- list: unnamed
 -- title: Boxes that no unit names
+-- part: archivist
 -- about: A file named each of them at this place once. If the box has moved, its units name another number. Numbers are never
 --     used again; record-office-relocate, before an import, lets a box that moves keep its own.
 SELECT id AS "Container", name AS "Name", location AS "Location", kind AS "Kind",
@@ -121,6 +128,7 @@ ORDER BY orders.id DESC;
 
 -- list: months
 -- title: Figures by month
+-- part: counter
 -- about: Tickets that ordered, orders that were placed (and of these, how many were cancelled), and productions: containers
 --     that runs fetched, in the month of the run.
 WITH placed AS (
@@ -137,6 +145,7 @@ ORDER BY month DESC;
 
 -- list: archives
 -- title: Figures by month and archive
+-- part: counter
 -- about: As in the figures by month. A container counts for each archive whose units name it now, so the sum may be
 --     greater; containers that no unit names any more stand without an archive.
 WITH archives AS (
@@ -156,6 +165,7 @@ ORDER BY month DESC, place.number;
 
 -- list: long-waiting
 -- title: Orders that wait long, with readers' names
+-- part: counter
 -- about: Orders that have waited for a week or more. The desk's page of old orders cancels those that are ticked there.
 SELECT orders.id AS "Order", day(orders.day) AS "Ordered on", office.day - orders.day AS "Days", orders.ticket AS "Ticket",
     reader.name AS "Reader", orders.container AS "Container", container.name AS "Name", container.location AS "Location",
@@ -167,6 +177,7 @@ ORDER BY orders.id;
 
 -- list: idle
 -- title: Boxes at the desk that nobody has asked for lately
+-- part: counter
 -- about: Boxes that stand at the desk, and for which the newest order is a week old or older. Orders that still wait for one
 --     keep it there: the desk's page of old orders cancels them and takes the box back to its shelf.
 SELECT container.id AS "Container", container.name AS "Name", container.location AS "Location", day(max(orders.day)) AS "Last ordered on",
@@ -210,6 +221,7 @@ ORDER BY issue.at DESC;
 
 -- list: visit-months
 -- title: Visits by month
+-- part: counter
 -- about: Seats that were taken, different tickets, and containers that were issued.
 SELECT substr(time, 1, 7) AS "Month", sum(what = 'seat') AS "Visits",
     count(DISTINCT CASE what WHEN 'seat' THEN ticket END) AS "Tickets", sum(what = 'issue') AS "Issues"
@@ -219,6 +231,7 @@ ORDER BY 1 DESC;
 
 -- list: differs
 -- title: Status or place differs from the last file
+-- part: archivist
 -- about: Units whose status or place is another than in the file that was imported last from their source on the desk's page. An
 --     import changes neither of a unit that it knows: change it at the desk, or in the catalogue.
 WITH parent AS (
@@ -246,6 +259,7 @@ ORDER BY place.number, found.what;
 
 -- list: units-without-row
 -- title: Units of a source that its file does not name
+-- part: archivist
 -- about: An import removes nothing. Remove these units at the desk if they are no longer held.
 -- needs: file
 SELECT unit.id AS "Unit", unit.legacy AS "legacyId", place.code AS "Code", unit.level AS "Level", title(unit.id) AS "Title",
@@ -256,6 +270,7 @@ ORDER BY place.number;
 
 -- list: boxes-without-row
 -- title: Boxes of a source that its file does not name
+-- part: archivist
 -- about: Containers that units of this source name in the office, and that no row of the file names.
 -- needs: file
 SELECT container.id AS "Container", container.name AS "Name", container.location AS "Location", container.kind AS "Kind",

@@ -19,6 +19,7 @@ from levels import CRITICAL, OK, UNKNOWN, WARNING, Line, severity
 from merges import merges
 from offices import MARKS, TO_DESK, Trouble, conf_of
 from sets import last_drill
+from staff import NOBODY, PARTS, for_nginx, lines_of, parts_of, read
 
 LIMIT = 60  # seconds for an answer, if alarm.conf has no other: an import may hold everybody up for ten
 ROUND = 30  # minutes that the last round of the search may be old
@@ -34,7 +35,6 @@ DAY = 24 * 3600
 NO_PROGRAM = "203"  # systemd's exit status of a program that cannot be executed
 # A file that has no rows: its import writes to the store and changes nothing.
 NOTHING = ("/desk/import/probe", "legacyId\n")
-HASH = re.compile(r"\$\w+\$\S+|\{S?SHA\}\S+|[./0-9A-Za-z]{13}")  # of a password, as nginx knows it
 
 
 def worst(found):
@@ -205,24 +205,29 @@ def nginx(office):
 
 
 def staff(office):
-    """Whether the file of the staff's passwords can be read, and every line of it is one."""
+    """Whether the file of the staff's passwords can be read, every line of it is one, and the desk knows the parts in it."""
     path = office.settings / "staff"
     try:
-        lines = path.read_text(encoding="utf-8").splitlines()
+        text = path.read_text(encoding="utf-8")
         reads = subprocess.run(["runuser", "-u", "www-data", "--", "test", "-r", path], capture_output=True).returncode == 0
     except (OSError, UnicodeDecodeError) as wrong:
         return CRITICAL, f"nobody can sign in: {wrong}"
     if not reads:
         return CRITICAL, f"nobody can sign in, since nginx cannot read {path}: chgrp www-data {path}; chmod 640 {path}"
-    rows = {number: line.split(":") for number, line in enumerate(lines, 1) if line.strip() and not line.startswith("#")}
-    for number, (name, *rest) in rows.items():
-        if not name or not rest or not HASH.fullmatch(rest[0]):
-            return CRITICAL, f"line {number} of {path} is no name with the hash of a password (openssl passwd -6)"
-    if not rows:
+    for line in lines_of(text):
+        if not line.is_sound:
+            return CRITICAL, f"line {line.number} of {path} is no name with the hash of a password (openssl passwd -6)"
+        if line.part == NOBODY:
+            return CRITICAL, f"line {line.number} of {path} has a part that is none of {', '.join(PARTS)}: record-office-staff"
+    parts = parts_of(text)
+    if not parts:
         return CRITICAL, f"nobody can sign in: {path} has no line"
+    if read(office.parts) != for_nginx(text):
+        return CRITICAL, f"the desk has other parts than {path}: systemctl reload {office.unit_of('desk')}"
     if path.stat().st_mode & 0o007:
         return WARNING, f"everybody on the machine can read {path}: chmod 640 {path}"
-    return OK, f"{len(rows)} can sign in"
+    many = [f"{list(parts.values()).count(part)} {part}" for part in PARTS if part in parts.values()]
+    return OK, f"{len(parts)} can sign in" + (f" ({', '.join(many)})" if set(parts.values()) != {PARTS[-1]} else "")
 
 
 def copy(office):

@@ -36,6 +36,7 @@ class Office:
         self.log = pathlib.Path(f"/var/log/nginx/record-office-desk{f'-{name}' if name else ''}.log")
         self.files = pathlib.Path(f"/var/lib/record-office-try{f'-{name}' if name else ''}")  # the last file of each source
         self.day = pathlib.Path(f"/run/record-office-desk{f'-{name}' if name else ''}/proxy/open-day.json")
+        self.parts = self.day.parents[1] / "staff.conf"  # who of the staff has which part, for nginx
         self.unit = f"record-office@{name}.service" if name else "record-office.service"
         self.resume = MARKS / f"resume-{self.unit}"  # while it is there, a tool has stopped the program and owes its start
         if not self.folder.is_dir():
