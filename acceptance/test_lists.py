@@ -218,7 +218,7 @@ def test_the_index_has_how_many_rows_each_list_has_and_what_was_made_by_hand(fol
 
 def test_each_page_has_the_title_and_the_words_of_its_list(folder):
     told = (LISTS / "lists.sql").read_text(encoding="utf-8")
-    for name, title, about in re.findall(r"^-- list: (.*)\n-- title: (.*)\n-- about: (.*)", told, re.M):
+    for name, title, about in re.findall(r"^-- list: (.*)\n-- title: (.*)\n(?:-- part: .*\n)?-- about: (.*)", told, re.M):
         [path] = list(folder.glob(f"{name}.html")) + list(folder.glob(f"{name}-a.html"))
         text = path.read_text(encoding="utf-8")
         assert f"<h1>{html.escape(title)}</h1>" in text and html.escape(about) in text, name
